@@ -1,0 +1,5 @@
+use Rattle.simd_json_parts.proofs.ListingLaws.{listing_cancel}
+use Rattle.simd_json_parts.proofs.laws.listings_are_of_one_document.Goals as goal
+
+pub returns : goal.returns
+returns c = listing_cancel

@@ -1,0 +1,129 @@
+-- The kinds of error: their classes, their names, and what is printed of an error.
+use Rattle.std.specs.Prelude.{ℕ, List, ◌++◌, codes, Option, Some, None, string_bytes, encode_utf8}
+use Rattle.std.specs.Fmt.{decimal}
+use Rattle.simd_json_parts.specs.declared.error.Error.{Error}
+use Rattle.simd_json_parts.specs.declared.error.ErrorType.{ErrorType}
+use Rattle.simd_json_parts.specs.declared.error.ErrorType.TheVariants as errors
+use Rattle.simd_json_parts.specs.declared.node.ValueType.{ValueType}
+use Rattle.simd_json_parts.specs.declared.node.ValueType.TheVariants as kinds
+
+-- memory or the call, an input without a token, an input that is no JSON text, a value that is not what was asked for
+pub data Class : Type 0 where
+  io eof syntax shape : Class
+
+abbrev pub class_of : ErrorType → Class
+class_of errors.InputTooLarge = io
+class_of errors.InsufficientPadding = io
+class_of errors.OutOfMemory = io
+class_of errors.Eof = eof
+class_of errors.InternalError = syntax
+class_of errors.BadKeyType = syntax
+class_of errors.ExpectedArrayComma = syntax
+class_of errors.ExpectedObjectColon = syntax
+class_of errors.ExpectedMapComma = syntax
+class_of errors.ExpectedMapEnd = syntax
+class_of errors.InvalidEscape = syntax
+class_of errors.InvalidExponent = syntax
+class_of errors.InvalidNumber = syntax
+class_of errors.InvalidUtf8 = syntax
+class_of errors.InvalidUnicodeEscape = syntax
+class_of errors.InvalidUnicodeCodepoint = syntax
+class_of errors.KeyMustBeAString = syntax
+class_of errors.NoStructure = syntax
+class_of errors.Parser = syntax
+class_of errors.Syntax = syntax
+class_of errors.TrailingData = syntax
+class_of errors.UnexpectedCharacter = syntax
+class_of errors.UnterminatedString = syntax
+class_of errors.ExpectedArrayContent = syntax
+class_of errors.ExpectedObjectContent = syntax
+class_of errors.ExpectedObjectKey = syntax
+class_of errors.Overflow = syntax
+class_of errors.SimdUnsupported = syntax
+class_of errors.ExpectedArray = shape
+class_of errors.ExpectedBoolean = shape
+class_of errors.ExpectedEnum = shape
+class_of errors.ExpectedFloat = shape
+class_of errors.ExpectedInteger = shape
+class_of errors.ExpectedMap = shape
+class_of errors.ExpectedNull = shape
+class_of errors.ExpectedTrue = shape
+class_of errors.ExpectedFalse = shape
+class_of errors.ExpectedNumber = shape
+class_of errors.ExpectedSigned = shape
+class_of errors.ExpectedString = shape
+class_of errors.ExpectedUnsigned = shape
+class_of errors.DepthLimitExceeded = shape
+class_of (errors.Unexpected expected got) = shape
+class_of (errors.Serde message) = shape
+
+abbrev pub type_name : ValueType → List ℕ
+type_name kinds.Null = codes "Null"
+type_name kinds.Bool = codes "Bool"
+type_name kinds.String = codes "String"
+type_name kinds.I64 = codes "I64"
+type_name kinds.U64 = codes "U64"
+type_name kinds.I128 = codes "I128"
+type_name kinds.U128 = codes "U128"
+type_name kinds.Decimal = codes "Decimal"
+type_name kinds.Array = codes "Array"
+type_name kinds.Object = codes "Object"
+
+abbrev pub optional_name : Option ValueType → List ℕ
+optional_name None = codes "None"
+optional_name (Some kind) = codes "Some(" ++ type_name kind ++ codes ")"
+
+-- what is printed of a kind
+abbrev pub kind_text : ErrorType → List ℕ
+kind_text errors.InputTooLarge = codes "InputTooLarge"
+kind_text errors.InsufficientPadding = codes "InsufficientPadding"
+kind_text errors.OutOfMemory = codes "OutOfMemory"
+kind_text errors.Eof = codes "Eof"
+kind_text errors.InternalError = codes "InternalError"
+kind_text errors.BadKeyType = codes "BadKeyType"
+kind_text errors.ExpectedArrayComma = codes "ExpectedArrayComma"
+kind_text errors.ExpectedObjectColon = codes "ExpectedObjectColon"
+kind_text errors.ExpectedMapComma = codes "ExpectedMapComma"
+kind_text errors.ExpectedMapEnd = codes "ExpectedMapEnd"
+kind_text errors.InvalidEscape = codes "InvalidEscape"
+kind_text errors.InvalidExponent = codes "InvalidExponent"
+kind_text errors.InvalidNumber = codes "InvalidNumber"
+kind_text errors.InvalidUtf8 = codes "InvalidUtf8"
+kind_text errors.InvalidUnicodeEscape = codes "InvalidUnicodeEscape"
+kind_text errors.InvalidUnicodeCodepoint = codes "InvalidUnicodeCodepoint"
+kind_text errors.KeyMustBeAString = codes "KeyMustBeAString"
+kind_text errors.NoStructure = codes "NoStructure"
+kind_text errors.Parser = codes "Parser"
+kind_text errors.Syntax = codes "Syntax"
+kind_text errors.TrailingData = codes "TrailingData"
+kind_text errors.UnexpectedCharacter = codes "UnexpectedCharacter"
+kind_text errors.UnterminatedString = codes "UnterminatedString"
+kind_text errors.ExpectedArrayContent = codes "ExpectedArrayContent"
+kind_text errors.ExpectedObjectContent = codes "ExpectedObjectContent"
+kind_text errors.ExpectedObjectKey = codes "ExpectedObjectKey"
+kind_text errors.Overflow = codes "Overflow"
+kind_text errors.SimdUnsupported = codes "SimdUnsupported"
+kind_text errors.ExpectedArray = codes "ExpectedArray"
+kind_text errors.ExpectedBoolean = codes "ExpectedBoolean"
+kind_text errors.ExpectedEnum = codes "ExpectedEnum"
+kind_text errors.ExpectedFloat = codes "ExpectedFloat"
+kind_text errors.ExpectedInteger = codes "ExpectedInteger"
+kind_text errors.ExpectedMap = codes "ExpectedMap"
+kind_text errors.ExpectedNull = codes "ExpectedNull"
+kind_text errors.ExpectedTrue = codes "ExpectedTrue"
+kind_text errors.ExpectedFalse = codes "ExpectedFalse"
+kind_text errors.ExpectedNumber = codes "ExpectedNumber"
+kind_text errors.ExpectedSigned = codes "ExpectedSigned"
+kind_text errors.ExpectedString = codes "ExpectedString"
+kind_text errors.ExpectedUnsigned = codes "ExpectedUnsigned"
+kind_text errors.DepthLimitExceeded = codes "DepthLimitExceeded"
+kind_text (errors.Unexpected expected got) = codes "Unexpected(" ++ optional_name expected ++ codes ", " ++ optional_name got ++ codes ")"
+kind_text (errors.Serde message) = codes "Serde(" ++ string_bytes message ++ codes ")"
+
+abbrev pub with_character : List ℕ → Option ℕ → List ℕ
+with_character place None = place
+with_character place (Some c) = place ++ codes " ('" ++ encode_utf8 c ++ codes "')"
+
+-- what is printed of an error
+abbrev pub error_text : Error → List ℕ
+error_text e = with_character (kind_text e.error ++ codes " at character " ++ decimal e.index) e.character

@@ -1,0 +1,15 @@
+-- What a reader of numbers answers of the number at an index.
+use Rattle.std.specs.Prelude.{◌≡◌, ℕ, ◌+◌, List, take, drop, Bool, Ok, Err}
+use Rattle.simd_json_parts.specs.Document.{integer, decimal}
+use Rattle.simd_json_parts.specs.Integers.{integer_node}
+use Rattle.simd_json_parts.specs.NumberAt.{number_at}
+use Rattle.simd_json_parts.specs.Faults.{fault_at}
+use Rattle.simd_json_parts.specs.declared.error.ErrorType.TheVariants.{InvalidNumber}
+use Rattle.simd_json_parts.specs.declared.numberparse.Number.{Number}
+use Rattle.simd_json_parts.specs.declared.numberparse.Number.TheVariants.{Integer, Decimal, Invalid}
+
+-- the node of an integer, the length of a decimal, or how far behind the index the fault is told
+abbrev pub IsNumberAt : List ℕ → ℕ → Number → Type 0
+IsNumberAt b i (Integer node) = (minus : Bool) × (n : ℕ) × (end : ℕ) × (number_at b i ≡ Ok (integer minus n, end)) × (node ≡ integer_node minus n)
+IsNumberAt b i (Decimal len) = number_at b i ≡ Ok (decimal (take len (drop i b)), i + len)
+IsNumberAt b i (Invalid offset) = number_at b i ≡ Err (fault_at b InvalidNumber (i + offset))

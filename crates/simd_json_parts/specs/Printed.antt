@@ -1,0 +1,89 @@
+-- The two printed forms of a document: compact, and pretty with a line for each member. Both are JSON texts (RFC 8259, section 2).
+use Rattle.std.specs.Prelude.{ℕ, suc, ◌*◌, ◌/◌, ◌%◌, List, [], ◌∷◌, ◌++◌, replicate, flat_map, Bool, true, false, ◌==◌, nat_lt, if◌then◌else◌, codes}
+use Rattle.std.specs.Fmt.{signed_decimal}
+use Rattle.std.specs.Char.{digit_char}
+use Rattle.simd_json_parts.specs.Document.{Document, null, boolean, integer, decimal, text, array, object, Elements, no_elements, element, Members, no_members, member}
+use Rattle.simd_json_parts.specs.Bytes.{quote, comma, colon, left_bracket, right_bracket, left_brace, right_brace}
+use Rattle.simd_json_parts.specs.Integers.{number_of}
+
+-- a byte of a text as it is printed: a quote, a backslash and what is below 0x20 are escaped
+abbrev pub escaped_byte : ℕ → List ℕ
+escaped_byte x =
+    if x == 34 then codes "\\\""
+    else if x == 92 then codes "\\\\"
+    else if x == 8 then codes "\\b"
+    else if x == 9 then codes "\\t"
+    else if x == 10 then codes "\\n"
+    else if x == 12 then codes "\\f"
+    else if x == 13 then codes "\\r"
+    else if nat_lt x 32 then codes "\\u00" ++ digit_char (x / 16) ∷ digit_char (x % 16) ∷ []
+    else x ∷ []
+
+unfoldable pub quoted : List ℕ → List ℕ
+quoted t = quote ∷ (flat_map escaped_byte t ++ quote ∷ [])
+
+abbrev pub truth_text : Bool → List ℕ
+truth_text true = codes "true"
+truth_text false = codes "false"
+
+abbrev mutual
+  pub compact : Document → List ℕ
+  compact null = codes "null"
+  compact (boolean b) = truth_text b
+  compact (integer minus n) = signed_decimal (number_of minus n)
+  compact (decimal literal) = literal
+  compact (text t) = quoted t
+  compact (array ds) = left_bracket ∷ (compact_elements ds ++ right_bracket ∷ [])
+  compact (object ms) = left_brace ∷ (compact_members ms ++ right_brace ∷ [])
+
+  pub compact_elements : Elements → List ℕ
+  compact_elements no_elements = []
+  compact_elements (element d ds) = compact d ++ more_compact_elements ds
+
+  -- each behind a comma
+  pub more_compact_elements : Elements → List ℕ
+  more_compact_elements no_elements = []
+  more_compact_elements (element d ds) = comma ∷ (compact d ++ more_compact_elements ds)
+
+  pub compact_members : Members → List ℕ
+  compact_members no_members = []
+  compact_members (member k d ms) = quoted k ++ colon ∷ (compact d ++ more_compact_members ms)
+
+  pub more_compact_members : Members → List ℕ
+  more_compact_members no_members = []
+  more_compact_members (member k d ms) = comma ∷ (quoted k ++ colon ∷ (compact d ++ more_compact_members ms))
+
+-- a line feed, and two spaces for each open container
+abbrev pub new_line : ℕ → List ℕ
+new_line open_containers = 10 ∷ replicate (2 * open_containers) 32
+
+-- with n containers open around it
+abbrev mutual
+  pub pretty_in : Document → ℕ → List ℕ
+  pretty_in null n = codes "null"
+  pretty_in (boolean b) n = truth_text b
+  pretty_in (integer minus m) n = signed_decimal (number_of minus m)
+  pretty_in (decimal literal) n = literal
+  pretty_in (text t) n = quoted t
+  pretty_in (array ds) n = pretty_array ds n
+  pretty_in (object ms) n = pretty_object ms n
+
+  pub pretty_array : Elements → ℕ → List ℕ
+  pretty_array no_elements n = codes "[]"
+  pretty_array (element d ds) n = left_bracket ∷ (new_line (suc n) ++ pretty_in d (suc n) ++ more_pretty_elements ds (suc n) ++ new_line n ++ right_bracket ∷ [])
+
+  pub more_pretty_elements : Elements → ℕ → List ℕ
+  more_pretty_elements no_elements n = []
+  more_pretty_elements (element d ds) n = comma ∷ (new_line n ++ pretty_in d n ++ more_pretty_elements ds n)
+
+  pub pretty_object : Members → ℕ → List ℕ
+  pretty_object no_members n = codes "{}"
+  pretty_object (member k d ms) n =
+      left_brace ∷ (new_line (suc n) ++ quoted k ++ codes ": " ++ pretty_in d (suc n) ++ more_pretty_members ms (suc n) ++ new_line n ++ right_brace ∷ [])
+
+  pub more_pretty_members : Members → ℕ → List ℕ
+  more_pretty_members no_members n = []
+  more_pretty_members (member k d ms) n = comma ∷ (new_line n ++ quoted k ++ codes ": " ++ pretty_in d n ++ more_pretty_members ms n)
+
+abbrev pub pretty : Document → List ℕ
+pretty d = pretty_in d 0

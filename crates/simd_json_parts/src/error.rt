@@ -1,0 +1,262 @@
+//! What a parse refuses, where, and why.
+ghost use Rattle.std.specs.Prelude.{◌≡◌, ◌↔◌, IsTrue};
+ghost use Rattle.simd_json_parts.specs.ErrorKinds.{class_of, io, eof, syntax, shape};
+ghost use Rattle.simd_json_parts.specs.Faults.{error_of, whole_fault};
+
+use crate::node::ValueType;
+use std::alloc::{AllocError, AllocFailed};
+
+mod display;
+#[cfg(test)]
+mod tests;
+
+/// A result whose error is this crate's.
+pub type Result<T> = std::result::Result<T, Error>;
+
+/// The kinds of error.
+///
+/// Two are equal if they are the same kind and hold equal fields.
+#[derive(Debug, Drop, PartialEq, Eq)]
+pub enum ErrorType {
+    /// Another kind of value was expected than the one that was met; either may be unknown.
+    Unexpected(Option<ValueType>, Option<ValueType>),
+    /// The input has more than 4,294,967,295 bytes.
+    InputTooLarge,
+    /// The padded form was given fewer than 64 bytes behind the document.
+    InsufficientPadding,
+    /// A growth of memory was refused.
+    OutOfMemory,
+    /// The key of a map is of a type that cannot be one.
+    BadKeyType,
+    /// An array was expected.
+    ExpectedArray,
+    /// A `,` was expected in an array.
+    ExpectedArrayComma,
+    /// A truth value was expected.
+    ExpectedBoolean,
+    /// An enum was expected.
+    ExpectedEnum,
+    /// A float was expected.
+    ExpectedFloat,
+    /// An integer was expected.
+    ExpectedInteger,
+    /// A map was expected.
+    ExpectedMap,
+    /// A `:` was expected behind a key.
+    ExpectedObjectColon,
+    /// A `,` was expected in a map.
+    ExpectedMapComma,
+    /// The end of a map was expected.
+    ExpectedMapEnd,
+    /// `null` was expected.
+    ExpectedNull,
+    /// `true` was expected.
+    ExpectedTrue,
+    /// `false` was expected.
+    ExpectedFalse,
+    /// A number was expected.
+    ExpectedNumber,
+    /// A signed number was expected.
+    ExpectedSigned,
+    /// A text was expected.
+    ExpectedString,
+    /// An unsigned number was expected.
+    ExpectedUnsigned,
+    /// A value was expected, or something stands behind the root container.
+    InternalError,
+    /// A backslash in a text is followed by no letter of an escape (RFC 8259, section 7).
+    InvalidEscape,
+    /// The exponent of a number is none.
+    InvalidExponent,
+    /// A number is none, or an integer is out of range (RFC 8259, section 6).
+    InvalidNumber,
+    /// The input is not UTF-8 (RFC 3629).
+    InvalidUtf8,
+    /// A `\u` escape is none.
+    InvalidUnicodeEscape,
+    /// A `\u` escape names no character, alone or with the one behind it (RFC 8259, section 7).
+    InvalidUnicodeCodepoint,
+    /// The key of an object is no text.
+    KeyMustBeAString,
+    /// No structural character was found.
+    NoStructure,
+    /// The parser failed.
+    Parser,
+    /// The input holds no token.
+    Eof,
+    /// A message of a serializer or a deserializer.
+    Serde(String),
+    /// A text is left open or holds a byte below 0x20, or the input ends where a token is expected.
+    Syntax,
+    /// Something stands behind the root scalar.
+    TrailingData,
+    /// A character was not expected.
+    UnexpectedCharacter,
+    /// A text is left open.
+    UnterminatedString,
+    /// A `,` or a `]` was expected behind an element.
+    ExpectedArrayContent,
+    /// A key or a `}` was expected at the start of an object, or a `,` or a `}` behind a member.
+    ExpectedObjectContent,
+    /// A key was expected behind a `,` in an object.
+    ExpectedObjectKey,
+    /// A buffer of limited size is full.
+    Overflow,
+    /// A container was opened while as many were open as the limit allows.
+    DepthLimitExceeded,
+    /// The processor has no instructions that the parser needs.
+    SimdUnsupported,
+}
+
+/// What went wrong, and where.
+///
+/// Each error has exactly one of four classes: [`is_io`](Error::is_io), [`is_eof`](Error::is_eof),
+/// [`is_syntax`](Error::is_syntax) and [`is_data`](Error::is_data).
+#[derive(Debug, Drop, PartialEq, Eq)]
+pub struct Error {
+    index: usize,
+    character: Option<char>,
+    error: ErrorType,
+}
+
+impl Error {
+    /// An error of this kind at this byte of the input, with the character that stands there.
+    pub fn new(index: usize, character: Option<char>, error: ErrorType) -> Error
+        ensures { result ≡ error_of index character error }
+    {
+        Error {
+            index,
+            character,
+            error,
+        }
+    }
+
+    /// An error of this kind that has no place: index 0, no character.
+    pub fn generic(error: ErrorType) -> Error
+        ensures { result ≡ whole_fault error }
+    {
+        Error::new(0, None, error)
+    }
+
+    /// The index in bytes that the error is told at.
+    pub fn index(&self) -> usize
+        ensures { result ≡ self.now.index }
+    {
+        self.index
+    }
+
+    /// The byte that the error is told for, as the code point of its value; none where the error is of the whole input.
+    pub fn character(&self) -> Option<char>
+        ensures { result ≡ self.now.character }
+    {
+        self.character
+    }
+
+    /// The kind of the error.
+    pub fn error(&self) -> &ErrorType
+        ensures { result.now ≡ self.now.error }
+    {
+        &self.error
+    }
+
+    /// Whether memory was lacking, or the call did not allow for the input.
+    pub fn is_io(&self) -> bool
+        ensures { IsTrue result ↔ (class_of self.now.error ≡ io) }
+    {
+        matches!(
+            self.error,
+            ErrorType::InputTooLarge | ErrorType::InsufficientPadding | ErrorType::OutOfMemory
+        )
+    }
+
+    /// Whether the input ended before its first token.
+    pub fn is_eof(&self) -> bool
+        ensures { IsTrue result ↔ (class_of self.now.error ≡ eof) }
+    {
+        matches!(self.error, ErrorType::Eof)
+    }
+
+    /// Whether a value is not of the shape that was asked for.
+    pub fn is_data(&self) -> bool
+        ensures { IsTrue result ↔ (class_of self.now.error ≡ shape) }
+    {
+        matches!(
+            self.error,
+            ErrorType::Unexpected(_, _)
+                | ErrorType::ExpectedArray
+                | ErrorType::ExpectedBoolean
+                | ErrorType::ExpectedEnum
+                | ErrorType::ExpectedFloat
+                | ErrorType::ExpectedInteger
+                | ErrorType::ExpectedMap
+                | ErrorType::ExpectedNull
+                | ErrorType::ExpectedTrue
+                | ErrorType::ExpectedFalse
+                | ErrorType::ExpectedNumber
+                | ErrorType::ExpectedSigned
+                | ErrorType::ExpectedString
+                | ErrorType::ExpectedUnsigned
+                | ErrorType::Serde(_)
+                | ErrorType::DepthLimitExceeded
+        )
+    }
+
+    /// Whether the input is no JSON text.
+    pub fn is_syntax(&self) -> bool
+        ensures { IsTrue result ↔ (class_of self.now.error ≡ syntax) }
+    {
+        matches!(
+            self.error,
+            ErrorType::InternalError
+                | ErrorType::BadKeyType
+                | ErrorType::ExpectedArrayComma
+                | ErrorType::ExpectedObjectColon
+                | ErrorType::ExpectedMapComma
+                | ErrorType::ExpectedMapEnd
+                | ErrorType::InvalidEscape
+                | ErrorType::InvalidExponent
+                | ErrorType::InvalidNumber
+                | ErrorType::InvalidUtf8
+                | ErrorType::InvalidUnicodeEscape
+                | ErrorType::InvalidUnicodeCodepoint
+                | ErrorType::KeyMustBeAString
+                | ErrorType::NoStructure
+                | ErrorType::Parser
+                | ErrorType::Syntax
+                | ErrorType::TrailingData
+                | ErrorType::UnexpectedCharacter
+                | ErrorType::UnterminatedString
+                | ErrorType::ExpectedArrayContent
+                | ErrorType::ExpectedObjectContent
+                | ErrorType::ExpectedObjectKey
+                | ErrorType::Overflow
+                | ErrorType::SimdUnsupported
+        )
+    }
+}
+
+impl From<AllocError> for Error {
+    ghost use Rattle.std.specs.Prelude.{◌≡◌};
+    ghost use Rattle.simd_json_parts.specs.Faults.{whole_fault};
+    ghost use Rattle.simd_json_parts.specs.declared.error.ErrorType.TheVariants.{OutOfMemory};
+
+    ghost from_gives = { λ _ e. e ≡ whole_fault OutOfMemory };
+
+    fn from(_refused: AllocError) -> Error {
+        Error::generic(ErrorType::OutOfMemory)
+    }
+}
+
+impl<T: Drop> From<AllocFailed<T>> for Error {
+    ghost use Rattle.std.specs.Prelude.{◌≡◌};
+    ghost use Rattle.simd_json_parts.specs.Faults.{whole_fault};
+    ghost use Rattle.simd_json_parts.specs.declared.error.ErrorType.TheVariants.{OutOfMemory};
+
+    ghost from_gives = { λ _ e. e ≡ whole_fault OutOfMemory };
+
+    fn from(_refused: AllocFailed<T>) -> Error {
+        Error::from(AllocError)
+    }
+}
+
+impl std::error::Error for Error {}

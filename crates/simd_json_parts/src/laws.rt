@@ -1,0 +1,101 @@
+//! Laws of the definitions. Each function has an empty body: its contract is the law, and what it says is proved.
+ghost use Rattle.std.specs.Prelude.{◌≡◌, ◌≢◌, ◌↔◌, ◌≤◌, ◌<◌, ◌+◌, ◌++◌, ◌∷◌, [], ◌⊎◌, ℕ, suc, List, length, take, drop, IsTrue, Contains, encode_utf8_all, Option, Some, None, Ok, Err, true};
+ghost use Rattle.std.specs.Cmp.{IsEquivalence};
+ghost use Rattle.std.specs.List.Sorted.{IsStrictlyIncreasing};
+ghost use Rattle.simd_json_parts.specs.Answer.{answer};
+ghost use Rattle.simd_json_parts.specs.Bytes.{quote, is_terminator, byte_at};
+ghost use Rattle.simd_json_parts.specs.Derivatives.{matches, is_possible, longest_front};
+ghost use Rattle.simd_json_parts.specs.Descent.{descent};
+ghost use Rattle.simd_json_parts.specs.Document.{Document, integer, decimal};
+ghost use Rattle.simd_json_parts.specs.Equality.{equal, unmarked};
+ghost use Rattle.simd_json_parts.specs.Headers.{IsHeaded};
+ghost use Rattle.simd_json_parts.specs.InputFaults.{input_fault, has_bad_text};
+ghost use Rattle.simd_json_parts.specs.Integers.{max_magnitude};
+ghost use Rattle.simd_json_parts.specs.Listing.{listing};
+ghost use Rattle.simd_json_parts.specs.Nodes.{Item};
+ghost use Rattle.simd_json_parts.specs.NumberAt.{number_at};
+ghost use Rattle.simd_json_parts.specs.Numbers.{number_literal, integer_literal, decimal_literal, has_minus, magnitude};
+ghost use Rattle.simd_json_parts.specs.Patterns.{Pattern, Matches, Begins};
+ghost use Rattle.simd_json_parts.specs.Positions.{positions, is_position, is_inside};
+ghost use Rattle.simd_json_parts.specs.Text.{ArePieces};
+ghost use Rattle.simd_json_parts.specs.TextAt.{text_at};
+ghost use Rattle.simd_json_parts.specs.Tokens.{tokens};
+ghost use Rattle.simd_json_parts.specs.TokensAlong.{tokens_along};
+ghost use Rattle.simd_json_parts.specs.declared.error.Error.{Error};
+
+/// The test of a pattern is its set.
+pub fn patterns_are_sets()
+    ensures { (p : Pattern) (bs : List ℕ) → (matches p bs ≡ true) ↔ Matches p bs }
+{}
+
+/// The longest front is one that goes on to a list of the set, and no longer front does.
+pub fn longest_fronts()
+    ensures begins { (p : Pattern) (bs : List ℕ) → is_possible p ≡ true → Begins p (take (longest_front p bs) bs) }
+    ensures longest { (p : Pattern) (bs : List ℕ) (n : ℕ) → n ≤ length bs → Begins p (take n bs) → n ≤ longest_front p bs }
+{}
+
+/// A number literal is an integer's or a decimal's, and no literal is both.
+pub fn numbers_are_integers_or_decimals()
+    ensures either { (bs : List ℕ) → Matches number_literal bs ↔ (Matches integer_literal bs ⊎ Matches decimal_literal bs) }
+    ensures not_both { (bs : List ℕ) → Matches integer_literal bs → Matches decimal_literal bs → ⊥ }
+{}
+
+/// A number of the grammar that stands at an index, with a terminator or the end behind it, is read whole.
+pub fn numbers_are_read()
+    ensures integers { (b : List ℕ) (i : ℕ) (xs rest : List ℕ) → drop i b ≡ xs ++ rest → IsTrue (is_terminator (byte_at rest 0))
+        → Matches integer_literal xs → magnitude xs ≤ max_magnitude (has_minus xs) → number_at b i ≡ Ok (integer (has_minus xs) (magnitude xs), i + length xs) }
+    ensures decimals { (b : List ℕ) (i : ℕ) (xs rest : List ℕ) → drop i b ≡ xs ++ rest → IsTrue (is_terminator (byte_at rest 0))
+        → Matches decimal_literal xs → number_at b i ≡ Ok (decimal xs, i + length xs) }
+{}
+
+/// Pieces spell one text.
+pub fn pieces_spell_one_text()
+    ensures { (bs cs ds : List ℕ) → ArePieces bs cs → ArePieces bs ds → encode_utf8_all cs ≡ encode_utf8_all ds }
+{}
+
+/// A text of the grammar that stands at an index is read as its text, up to its closing quote, whatever stands before and behind.
+pub fn texts_are_read()
+    ensures { (b : List ℕ) (i : ℕ) (content rest cs : List ℕ) → drop i b ≡ quote ∷ (content ++ quote ∷ rest) → ArePieces content cs
+        → text_at b i ≡ Ok (encode_utf8_all cs, suc (suc i + length content)) }
+{}
+
+/// Positions rise, and they are the indexes that the definition picks.
+pub fn positions_rise()
+    ensures rise { (b : List ℕ) → IsStrictlyIncreasing (positions b) }
+    ensures picked { (b : List ℕ) (i : ℕ) → Contains (positions b) i ↔ ((i < length b) × IsTrue (is_position b i)) }
+{}
+
+/// Where some byte is inside a text, and so where some text is bad, there is a position. So an input without positions
+/// has no bad text, and it does not matter which of these two faults is asked for first.
+pub fn texts_have_positions()
+    ensures inside { (b : List ℕ) (i : ℕ) → i < length b → IsTrue (is_inside b i) → positions b ≢ [] }
+    ensures bad { (b : List ℕ) → IsTrue (has_bad_text b) → positions b ≢ [] }
+{}
+
+/// A listing is a first node and as many more as its `count` says, with as many members as its `len`.
+pub fn listings_are_headed()
+    ensures { (d : Document) → IsHeaded d }
+{}
+
+/// A listing is of one document, and ends where that document does.
+pub fn listings_are_of_one_document()
+    ensures { (d e : Document) (xs ys : List Item) → listing d ++ xs ≡ listing e ++ ys → (d ≡ e) × (xs ≡ ys) }
+{}
+
+/// Equality of documents is an equivalence: they are equal exactly if they are the same but for the mark of a zero.
+pub fn equality_is_an_equivalence()
+    ensures equivalence { IsEquivalence equal }
+    ensures same { (d e : Document) → (equal d e ≡ true) ↔ (unmarked d ≡ unmarked e) }
+{}
+
+/// The answer is the fault of the whole input where there is one, and else the descent's.
+pub fn input_faults_come_first()
+    ensures fault { (b : List ℕ) (limit : ℕ) (e : Error) → input_fault b ≡ Some e → answer b limit ≡ Err e }
+    ensures none { (b : List ℕ) (limit : ℕ) → input_fault b ≡ None → answer b limit ≡ descent b limit }
+{}
+
+/// Tokens stand at positions: the tokens that the descent reads, up to the first that has a fault or is stray, are those
+/// at the positions, one after another. So what lies between positions hides no token and no fault.
+pub fn tokens_stand_at_positions()
+    ensures { (b : List ℕ) → tokens b ≡ tokens_along b (positions b) }
+{}

@@ -1,0 +1,182 @@
+//! The nodes of a tape.
+ghost use Rattle.std.specs.Prelude.{◌≡◌};
+ghost use Rattle.simd_json_parts.specs.Nodes.{static_type, item_of, item_type};
+
+/// The kind of a value.
+#[derive(Clone, Copy, Debug, Drop, PartialEq, Eq)]
+pub enum ValueType {
+    /// `null`.
+    Null,
+    /// `true` or `false`.
+    Bool,
+    /// A text.
+    String,
+    /// An integer written with `-`.
+    I64,
+    /// An integer written without `-`.
+    U64,
+    /// An integer of up to 128 bits written with `-`.
+    I128,
+    /// An integer of up to 128 bits written without `-`.
+    U128,
+    /// A number with a fraction or an exponent, kept as its literal.
+    Decimal,
+    /// A list of values.
+    Array,
+    /// A list of pairs of a key and a value.
+    Object,
+}
+
+/// A value of fixed size: no text, no decimal, no container.
+///
+/// Two are equal if both are null, the same truth value, or integers of the same number, whatever their kinds.
+#[derive(Clone, Copy, Debug, Drop)]
+pub enum StaticNode {
+    /// `null`.
+    Null,
+    /// `true` or `false`.
+    Bool(bool),
+    /// An integer written with `-`; `-0` is `I64(0)`.
+    I64(i64),
+    /// An integer written without `-`.
+    U64(u64),
+}
+
+impl StaticNode {
+    /// The kind of the value.
+    pub fn value_type(&self) -> ValueType
+        ensures { result ≡ static_type self.now }
+    {
+        match self {
+            StaticNode::Null => ValueType::Null,
+            StaticNode::Bool(_) => ValueType::Bool,
+            StaticNode::I64(_) => ValueType::I64,
+            StaticNode::U64(_) => ValueType::U64,
+        }
+    }
+}
+
+impl PartialEq for StaticNode {
+    ghost use Rattle.std.specs.Cmp.Rules.{comparing};
+    ghost use Rattle.std.proofs.Common.{rules};
+    ghost use Rattle.simd_json_parts.specs.StaticNodes.{same_static};
+
+    ghost eq = { same_static };
+
+    ghost laws = { Prim.search (comparing, rules) };
+
+    fn eq(&self, other: &StaticNode) -> bool {
+        match (*self, *other) {
+            (StaticNode::Null, StaticNode::Null) => true,
+            (StaticNode::Bool(a), StaticNode::Bool(b)) => a == b,
+            (StaticNode::I64(a), StaticNode::I64(b)) => a == b,
+            (StaticNode::U64(a), StaticNode::U64(b)) => a == b,
+            (StaticNode::I64(a), StaticNode::U64(b)) | (StaticNode::U64(b), StaticNode::I64(a)) => {
+                a >= 0 && a as u64 == b
+            }
+            _ => false,
+        }
+    }
+}
+
+impl Eq for StaticNode {
+    ghost use Rattle.std.specs.Cmp.Rules.{comparing};
+    ghost use Rattle.std.proofs.Common.{rules};
+
+    ghost laws = { Prim.search (comparing, rules) };
+}
+
+impl Default for StaticNode {
+    ghost use Rattle.std.specs.Prelude.{◌≡◌};
+    ghost use Rattle.simd_json_parts.specs.declared.node.StaticNode.TheVariants as fixed;
+
+    ghost is_default = { λ value. value ≡ fixed.Null };
+
+    fn default() -> Self {
+        Self::Null
+    }
+}
+
+/// One entry of a tape: a scalar, a key, or the header of a container, whose members follow it.
+#[derive(Clone, Copy, Debug, Drop, PartialEq)]
+pub enum Node<'input> {
+    /// A text or a key, with its escapes decoded.
+    String(&'input str),
+    /// An object of `len` pairs, with `count` nodes beneath it: for each pair its key and then the value's nodes.
+    Object {
+        /// How many pairs the object has.
+        len: usize,
+        /// How many nodes follow that belong to it.
+        count: usize,
+    },
+    /// An array of `len` values, with `count` nodes beneath it.
+    Array {
+        /// How many values the array has.
+        len: usize,
+        /// How many nodes follow that belong to it.
+        count: usize,
+    },
+    /// A null, a truth value or an integer.
+    Static(StaticNode),
+    /// The literal of a number with a fraction or an exponent.
+    Decimal(&'input str),
+}
+
+impl Node<'_> {
+    /// The kind of the value that the node begins.
+    pub fn value_type(&self) -> ValueType
+        ensures { result ≡ item_type (item_of self.now) }
+    {
+        match self {
+            Node::String(_) => ValueType::String,
+            Node::Object { .. } => ValueType::Object,
+            Node::Array { .. } => ValueType::Array,
+            Node::Static(value) => value.value_type(),
+            Node::Decimal(_) => ValueType::Decimal,
+        }
+    }
+}
+
+/// A value of another kind than the one asked for.
+#[derive(Clone, Copy, Debug, Drop, PartialEq, Eq)]
+pub struct TryTypeError {
+    /// The kind that was asked for.
+    pub expected: ValueType,
+    /// The kind of the value.
+    pub got: ValueType,
+}
+
+#[cfg(test)]
+mod tests {
+    use super::*;
+
+    #[test]
+    fn integers_are_equal_by_number(rt: HostRuntime) {
+        assert!(rt; StaticNode::U64(1) == StaticNode::I64(1));
+        assert!(rt; StaticNode::I64(0) == StaticNode::U64(0));
+        assert!(rt; StaticNode::I64(-1) != StaticNode::U64(u64::MAX));
+        assert!(rt; StaticNode::Null != StaticNode::U64(0));
+        assert!(rt; StaticNode::Bool(true) != StaticNode::U64(1));
+        assert!(rt; StaticNode::Bool(true) != StaticNode::Bool(false));
+        assert!(rt; StaticNode::default() == StaticNode::Null);
+    }
+
+    #[test]
+    fn nodes_tell_their_kinds(rt: HostRuntime) {
+        let nodes = [
+            (Node::Static(StaticNode::Null), ValueType::Null),
+            (Node::Static(StaticNode::Bool(true)), ValueType::Bool),
+            (Node::Static(StaticNode::I64(-1)), ValueType::I64),
+            (Node::Static(StaticNode::U64(1)), ValueType::U64),
+            (Node::String("1"), ValueType::String),
+            (Node::Decimal("1.5"), ValueType::Decimal),
+            (Node::Array { len: 1, count: 2 }, ValueType::Array),
+            (Node::Object { len: 1, count: 2 }, ValueType::Object),
+        ];
+        for (node, kind) in &nodes {
+            assert_eq!(rt; node.value_type(), *kind);
+        }
+        assert!(rt; Node::String("1.5") != Node::Decimal("1.5"));
+        assert!(rt; Node::Array { len: 1, count: 2 } != Node::Array { len: 1, count: 1 });
+    }
+}

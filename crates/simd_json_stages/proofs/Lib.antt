@@ -1,0 +1,5 @@
+pub mod ScanLaws
+pub mod Steps
+pub mod Holding
+pub mod ScalarLaws
+pub mod BuildingSteps

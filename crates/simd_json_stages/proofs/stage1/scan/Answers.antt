@@ -1,0 +1,42 @@
+use Rattle.std.proofs.Common.{◌≡◌, sym, ◌∙◌, ap, ◌++◌, [], ◌∷◌, length, get_or, ◌||◌, true, false, rules, arith}
+use Rattle.std.specs.List.{filter, range_with_len}
+use Rattle.std.proofs.lemmas.List.{get_or_default}
+use Rattle.simd_json_parts.specs.Bytes.{byte_at}
+use Rattle.simd_json_parts.specs.Positions.{backslashes_before, real_quotes, is_position, positions, has_control_inside}
+use Rattle.simd_json_stages.specs.Carries.{carry_at}
+use Rattle.simd_json_stages.proofs.ScanLaws.{filter-next}
+use Rattle.simd_json_stages.proofs.stage1.scan.Goals as goal
+use Rattle.simd_json_stages.proofs.stage1.scan.Goals.{then-is_position+in_ok-put, else-is_position}
+
+pub loop-i-init : goal.loop-i-init
+unfolding backslashes_before real_quotes
+loop-i-init g c = search rules
+
+pub loop-i-preserved : goal.loop-i-preserved
+loop-i-preserved g c =
+    let b = c.args.input.now in
+    let i = c.loop-i.i in
+    let byte : get_or b i 0 ≡ byte_at b i = get_or_default b i 0 32 c.loop-i-test.true in
+    let stepped = c.step-is_position.ensures b i c.loop-i.invariant.carried byte in
+    record {
+      carried = stepped.0;
+      few = grind arith;
+      within = grind arith;
+      so_far = elim c.if-is_position.branch [
+        | then-is_position+in_ok-put w ↦ rw (w.list-is, w.count-is) (w.in_ok-put.ensures.stored.1 ∙ ap (λ ps. ps ++ i ∷ []) c.loop-i.invariant.so_far ∙ sym (filter-next (is_position b) i true (sym stepped.1 ∙ w.if-is_position.true)))
+        | else-is_position w ↦ rw (w.list-is, w.count-is) (c.loop-i.invariant.so_far ∙ sym (filter-next (is_position b) i false (sym stepped.1 ∙ w.if-is_position.false)))
+      ];
+      room = grind arith;
+    }
+
+pub returns-clause-bad : goal.returns-clause-bad
+unfolding has_control_inside
+returns-clause-bad g c =
+    let done : c.loop-i.i ≡ length c.args.input.now = omega arith in
+    ap (λ k. k.is_inside || k.has_control) (c.loop-i.invariant.carried ∙ ap (carry_at c.args.input.now) done)
+
+pub returns-clause-found : goal.returns-clause-found
+unfolding positions
+returns-clause-found g c =
+    let done : c.loop-i.i ≡ length c.args.input.now = omega arith in
+    (c.loop-i.invariant.within, c.loop-i.invariant.so_far ∙ ap (λ n. filter (is_position c.args.input.now) (range_with_len 0 n)) done)

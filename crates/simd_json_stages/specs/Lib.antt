@@ -1,0 +1,5 @@
+pub mod Carries
+pub mod Continued
+pub mod ScalarRead
+pub mod Building
+pub mod Refusals

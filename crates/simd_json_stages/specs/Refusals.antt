@@ -1,0 +1,45 @@
+-- The faults of tokens that the second stage tells.
+use Rattle.std.specs.Prelude.{◌≡◌, ℕ, ◌+◌, List, ◌==◌, if◌then◌else◌}
+use Rattle.simd_json_parts.specs.Bytes.{byte_at}
+use Rattle.simd_json_parts.specs.Faults.{fault_with}
+use Rattle.simd_json_parts.specs.declared.error.Error.{Error}
+use Rattle.simd_json_parts.specs.declared.error.ErrorType.{ErrorType}
+use Rattle.simd_json_parts.specs.declared.error.ErrorType.TheVariants as errors
+use Rattle.simd_json_stages.specs.declared.stage2.Fault.{Fault}
+use Rattle.simd_json_stages.specs.declared.stage2.Scalar.{Scalar}
+use Rattle.simd_json_stages.specs.declared.stage2.Scalar.TheVariants.{Invalid, Refused}
+use Rattle.simd_json_stages.specs.declared.stage2.FaultKind.{FaultKind}
+use Rattle.simd_json_stages.specs.declared.stage2.FaultKind.TheVariants as kinds
+
+abbrev pub error_type : FaultKind → ErrorType
+error_type kinds.InternalError = errors.InternalError
+error_type kinds.ExpectedArrayContent = errors.ExpectedArrayContent
+error_type kinds.ExpectedTrue = errors.ExpectedTrue
+error_type kinds.ExpectedFalse = errors.ExpectedFalse
+error_type kinds.ExpectedNull = errors.ExpectedNull
+error_type kinds.InvalidNumber = errors.InvalidNumber
+error_type kinds.Syntax = errors.Syntax
+error_type kinds.TrailingData = errors.TrailingData
+error_type kinds.DepthLimitExceeded = errors.DepthLimitExceeded
+
+-- of a first byte with which no scalar stands
+abbrev pub refused_kind : ℕ → FaultKind
+refused_kind c = if c == 116 then kinds.ExpectedTrue else if c == 102 then kinds.ExpectedFalse else if c == 110 then kinds.ExpectedNull else kinds.InternalError
+
+abbrev pub number_refusal : List ℕ → ℕ → Fault
+number_refusal b i = record { kind = kinds.InvalidNumber; index = i; byte = byte_at b i }
+
+-- how far behind its first byte the scalar is refused
+abbrev pub offset_of : Scalar → ℕ
+offset_of (Invalid offset) = offset
+offset_of _ = 0
+
+-- of the scalar at index i, whose first byte is c
+abbrev pub refusal : List ℕ → ℕ → ℕ → Scalar → Fault
+refusal b i c (Invalid offset) = number_refusal b (i + offset)
+refusal b i c Refused = record { kind = refused_kind c; index = i; byte = c }
+refusal b i c _ = record { kind = kinds.InternalError; index = i; byte = c }
+
+-- it is of one of these kinds, and carries a character
+abbrev pub IsTokenFault : Error → Type 0
+IsTokenFault e = (kind : FaultKind) × (i : ℕ) × (byte : ℕ) × (e ≡ fault_with (error_type kind) i byte)

@@ -1,0 +1,160 @@
+//! From bytes to structural positions.
+ghost use Rattle.std.specs.Prelude.{◌≡◌, ◌≤◌, ◌<◌, ◌^◌, ◌+◌, ◌⊎◌, ◌++◌, [], ◌∷◌, ℕ, List, length, take, Some, None, IfOk, IfErr, OnOk};
+ghost use Rattle.simd_json_parts.specs.Bytes.{byte_at, is_structural, is_whitespace};
+ghost use Rattle.simd_json_parts.specs.Faults.{whole_fault};
+ghost use Rattle.simd_json_parts.specs.InputFaults.{has_bad_text, scan_fault};
+ghost use Rattle.simd_json_parts.specs.Positions.{is_position, positions};
+ghost use Rattle.simd_json_parts.specs.declared.error.ErrorType.{ErrorType};
+ghost use Rattle.simd_json_stages.specs.Carries.{carry_at};
+
+use simd_json_parts::error::{Error, ErrorType, Result};
+use std::alloc::Allocator;
+
+#[cfg(test)]
+mod tests;
+
+/// A way to find the structural positions of an input.
+pub trait Stage1Parse {
+    /// Writes the structural positions of `input` to the front of the list, and answers how many there are. The list
+    /// is kept filled up to its room, and grows by what is found.
+    ///
+    /// Answers `Syntax` where a text is left open or holds a byte below 0x20, `Eof` where there is no position, and
+    /// `OutOfMemory` where a growth was refused, which happens only where the list is shorter than the input.
+    fn find_structural_bits<A: Allocator>(
+        input: &[u8],
+        structural_indexes: &mut Vec<u32, A>,
+    ) -> Result<usize>
+        requires { length input.now < 2 ^ 32 }
+        ensures found { IfOk result (λ count. (count ≤ length structural_indexes.new.items)
+            × (take count structural_indexes.new.items ≡ positions input.now) × (scan_fault input.now ≡ None)) }
+        ensures fault { IfErr result (λ e. (scan_fault input.now ≡ Some e)
+            ⊎ ((e ≡ whole_fault ErrorType.OutOfMemory) × (length structural_indexes.old.items < length input.now))) }
+        ensures room { length structural_indexes.old.items ≤ length structural_indexes.new.items };
+}
+
+/// The plain form: one byte after another.
+pub struct PlainStage1Parse;
+
+impl Stage1Parse for PlainStage1Parse {
+    fn find_structural_bits<A: Allocator>(
+        input: &[u8],
+        structural_indexes: &mut Vec<u32, A>,
+    ) -> Result<usize> {
+        let (has_bad_text, count) = scan(input, structural_indexes)?;
+        if has_bad_text {
+            return Err(Error::generic(ErrorType::Syntax));
+        }
+        if count == 0 {
+            return Err(Error::generic(ErrorType::Eof));
+        }
+        Ok(count)
+    }
+}
+
+// What is kept of the bytes before an index.
+#[derive(Clone, Copy)]
+struct Carry {
+    // The run of backslashes just before has odd length.
+    is_escaped: bool,
+    // An odd number of real quotes was read.
+    is_inside: bool,
+    // The byte before ends a token, or there is none.
+    is_fresh: bool,
+    // A byte below 0x20 was inside.
+    has_control: bool,
+}
+
+fn is_structural(byte: u8) -> bool
+    ensures { result ≡ is_structural byte }
+{
+    matches!(byte, b'[' | b']' | b'{' | b'}' | b':' | b',')
+}
+
+fn is_whitespace(byte: u8) -> bool
+    ensures { result ≡ is_whitespace byte }
+{
+    matches!(byte, b' ' | b'\t' | b'\n' | b'\r')
+}
+
+// Reads the byte at an index: what is kept behind it, and whether it is a position. By `&` and `|`, which need no
+// branch, since bytes follow no pattern.
+fn step(before: Carry, byte: u8) -> (Carry, bool)
+    ensures { (b : List ℕ) (i : ℕ) → before ≡ carry_at b i → byte ≡ byte_at b i
+        → (result.0 ≡ carry_at b (i + 1)) × (result.1 ≡ is_position b i) }
+{
+    let is_quote = (byte == b'"') & !before.is_escaped;
+    let is_inside = before.is_inside != is_quote;
+    let is_outside = !is_inside & !is_quote;
+    let is_structural = is_structural(byte);
+    let is_whitespace = is_whitespace(byte);
+    let after = Carry {
+        is_escaped: (byte == b'\\') & !before.is_escaped,
+        is_inside,
+        is_fresh: is_whitespace | (is_structural & !is_inside) | is_quote,
+        has_control: before.has_control | (is_inside & (byte < 0x20)),
+    };
+    let is_position = (is_quote & is_inside)
+        | (is_outside & (is_structural | (!is_whitespace & before.is_fresh)));
+    (after, is_position)
+}
+
+// Writes the positions of the input to the front of the list. Answers whether some text is bad, and how many positions
+// there are.
+fn scan<A: Allocator>(input: &[u8], list: &mut Vec<u32, A>) -> Result<(bool, usize)>
+    requires { length input.now < 2 ^ 32 }
+    ensures bad { IfOk result (λ r. r.0 ≡ has_bad_text input.now) }
+    ensures found { IfOk result (λ r. (r.1 ≤ length list.new.items) × (take r.1 list.new.items ≡ positions input.now)) }
+    ensures fault { IfErr result (λ e. (e ≡ whole_fault ErrorType.OutOfMemory) × (length list.old.items < length input.now)) }
+    ensures room { length list.old.items ≤ length list.new.items }
+{
+    let mut carry = Carry {
+        is_escaped: false,
+        is_inside: false,
+        is_fresh: true,
+        has_control: false,
+    };
+    let mut count = 0;
+    for (i, &byte) in input.iter().enumerate() {
+        let (after, is_position) = step(carry, byte);
+        carry = after;
+        if is_position {
+            put(list, count, i as u32, input.len())?;
+            count += 1;
+        }
+    }
+    Ok((carry.is_inside | carry.has_control, count))
+}
+
+// Stores a position behind the first `count`, in a list that may need to grow for it.
+fn put<A: Allocator>(
+    list: &mut Vec<u32, A>,
+    count: usize,
+    position: u32,
+    input_len: usize,
+) -> Result<()>
+    requires filled { count ≤ length list.old.items }
+    requires within { count < input_len }
+    ensures stored { OnOk result ((count < length list.new.items)
+        × (take (count + 1) list.new.items ≡ take count list.old.items ++ position ∷ [])) }
+    ensures fault { IfErr result (λ e. (e ≡ whole_fault ErrorType.OutOfMemory) × (length list.old.items < input_len)) }
+    ensures room { length list.old.items ≤ length list.new.items }
+{
+    if count == list.len() {
+        grow(list, input_len)?;
+    }
+    list[count] = position;
+    Ok(())
+}
+
+// Makes the list about twice as long, and at most as long as the input. What it held stays, refused or not.
+fn grow<A: Allocator>(list: &mut Vec<u32, A>, input_len: usize) -> Result<()>
+    requires { length list.old.items < input_len }
+    ensures kept { take (length list.old.items) list.new.items ≡ list.old.items }
+    ensures longer { OnOk result (length list.old.items < length list.new.items) }
+    ensures capped { length list.new.items ≤ input_len }
+    ensures fault { IfErr result (λ e. e ≡ whole_fault ErrorType.OutOfMemory) }
+{
+    let len = list.len().saturating_mul(2).max(16).min(input_len);
+    list.resize(len, 0)?;
+    Ok(())
+}
