@@ -29,13 +29,13 @@ abbrev pub is_special : ℕ → Bool
 is_special c = is_terminator c || (c == quote)
 
 -- a byte that passes a test is not one that fails it
-apart : (test : ℕ → Bool) (x n : ℕ) → test x ≡ true → test n ≡ false → (x == n) ≡ false
+pub apart : (test : ℕ → Bool) (x n : ℕ) → test x ≡ true → test n ≡ false → (x == n) ≡ false
 apart test x n good bad = elim (cases_Bool (x == n)) [ inl h ↦ absurd (false≢true (sym bad ∙ ap test (sym (eqb-true x n h)) ∙ good)) | inr h ↦ h ]
 
 is_structural-space : (x : ℕ) → is_whitespace x ≡ true → is_structural x ≡ false
 is_structural-space x h = grind (arith, nat_tests)
 
-no_real_quote : (b : List ℕ) (i : ℕ) → (byte_at b i == quote) ≡ false → is_real_quote b i ≡ false
+pub no_real_quote : (b : List ℕ) (i : ℕ) → (byte_at b i == quote) ≡ false → is_real_quote b i ≡ false
 unfolding is_real_quote
 no_real_quote b i e = and_left _ _ e
 
@@ -61,7 +61,7 @@ unfolding is_real_quote
 is_real_quote-fresh b k fresh e = and_from _ _ e (ap is_even (backslashes_before-fresh b k fresh))
 
 -- The closing quote of a text at index k is the next real quote, if there is one.
-closing_quote-next : (b : List ℕ) (k : ℕ)
+pub closing_quote-next : (b : List ℕ) (k : ℕ)
     → (k < closing_quote b k) × NoneBetween (is_real_quote b) (suc k) (closing_quote b k)
     × (closing_quote b k < length b → is_real_quote b (closing_quote b k) ≡ true)
 unfolding closing_quote
@@ -166,7 +166,7 @@ module _ (b : List ℕ) (k : ℕ) (at : Boundary b k) where
     plain-quote : is_terminator (byte_at b k) ≡ false
     plain-quote = ap is_terminator (eqb-true (byte_at b k) quote e)
 
-    closed-inside : (m : ℕ) → k < m → m ≤ close → is_closed b m ≡ false
+    pub closed-inside : (m : ℕ) → k < m → m ≤ close → is_closed b m ≡ false
     closed-inside m g h = is_closed-through b (suc k) m g (λ j i o. next.1 j i (omega arith)) ∙ open-quote plain-quote e
 
     closed-behind : is_real_quote b close ≡ true → is_closed b (suc close) ≡ true

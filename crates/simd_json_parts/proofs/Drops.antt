@@ -1,5 +1,6 @@
 -- What stands at an index, where the list from there on is known.
-use Rattle.std.proofs.Common.{◌≡◌, ap, ℕ, zero, suc, ◌<◌, List, [], ◌∷◌, length, drop, get_or, arith}
+use Rattle.std.proofs.Common.{◌≡◌, sym, ◌∙◌, ap, ℕ, zero, suc, ◌+◌, ◌<◌, List, [], ◌∷◌, ◌++◌, length, drop, get_or, arith}
+use Rattle.std.proofs.Math.Seq.{drop-drop, drop-append_seam}
 use Rattle.simd_json_parts.specs.Bytes.{byte_at}
 
 pub drop-head : (k : ℕ) (b : List ℕ) (x : ℕ) (zs : List ℕ) → drop k b ≡ x ∷ zs → byte_at b k ≡ x
@@ -19,3 +20,6 @@ drop-inside zero [] x zs e = cc
 drop-inside zero (y ∷ b) x zs e = omega arith
 drop-inside (suc k) [] x zs e = cc
 drop-inside (suc k) (y ∷ b) x zs e = let h : k < length b = drop-inside k b x zs e in omega arith
+
+pub drop-through : (k : ℕ) (b xs zs : List ℕ) → drop k b ≡ xs ++ zs → drop (k + length xs) b ≡ zs
+drop-through k b xs zs e = sym (drop-drop (length xs) k b) ∙ ap (drop (length xs)) e ∙ drop-append_seam xs zs

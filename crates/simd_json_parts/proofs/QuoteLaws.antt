@@ -1,10 +1,10 @@
 -- A text of the grammar, wherever it stands, is read as its text: pieces hold no real quote, and the quote behind them is real.
-use Rattle.std.proofs.Common.{◌≡◌, ◌≢◌, refl, sym, ◌∙◌, ap, subst, ℕ, zero, suc, ◌+◌, ◌-◌, ◌/◌, ◌<◌, ◌≤◌, ◌⊎◌, inl, inr, List, [], ◌∷◌, ◌++◌, length, take, drop, Bool, true, false, cond, not, ◌&&◌, nat_eq, nat_lt, add-zero, add_assoc, append_assoc, length-append, arith}
-use Rattle.std.specs.Prelude.{Option, Some, None, Ok, slice_range, encode_utf8_all, if◌then◌else◌}
+use Rattle.std.proofs.Common.{◌≡◌, ◌≢◌, refl, sym, ◌∙◌, ap, subst, ℕ, zero, suc, ◌+◌, ◌-◌, ◌/◌, ◌<◌, ◌≤◌, ◌⊎◌, inl, inr, List, [], ◌∷◌, ◌++◌, length, take, drop, Bool, true, false, cond, not, nat_eq, nat_lt, add-zero, add_assoc, append_assoc, length-append, arith}
+use Rattle.std.specs.Prelude.{Some, Ok, slice_range, encode_utf8_all, if◌then◌else◌}
 use Rattle.std.specs.Char.{encode_utf8, is_digit}
 use Rattle.std.specs.List.{position_or_len, range_with_len}
 use Rattle.std.proofs.Math.Seq.{take-append_seam}
-use Rattle.std.proofs.lemmas.Bool.{eqb-true, ne_eqb, cases_Bool, cases_lt, and_parts, and_right, and_left, and_from, false≢true}
+use Rattle.std.proofs.lemmas.Bool.{eqb-true, ne_eqb, cases_Bool, cases_lt, and_right, and_left, and_from, false≢true}
 use lib.Utf8.{next}
 use Rattle.simd_json_parts.specs.Bytes.{quote, backslash}
 use Rattle.simd_json_parts.specs.Text.{hex_value, IsUnit, IsPiece, ArePieces}
@@ -12,6 +12,7 @@ use Rattle.simd_json_parts.specs.Positions.{is_even, backslashes_before, is_real
 use Rattle.simd_json_parts.specs.TextAt.{closing_quote, read_pieces, text_read, text_at}
 use Rattle.simd_json_parts.proofs.Parity.{is_even-suc}
 use Rattle.simd_json_parts.proofs.Drops.{drop-head, drop-tail, drop-inside}
+use Rattle.simd_json_parts.proofs.EscapeLaws.{AreHexDigits, hex_value-digits}
 use Rattle.simd_json_parts.proofs.TextLaws.{read_pieces-pieces}
 
 -- from k up to m there is no real quote, and the run of backslashes before m is even
@@ -24,7 +25,7 @@ quiet-append : (b : List ℕ) (k m n : ℕ) → Quiet b k m → Quiet b m n → 
 quiet-append b k m n p q = record { grows = omega (arith, p.grows, q.grows); none = λ j l h. elim (cases_lt j m) [ inl s ↦ p.none j l s | inr s ↦ q.none j s h ]; even = q.even }
 
 -- a byte that is no backslash ends a run
-run_ends : (b : List ℕ) (k x : ℕ) (zs : List ℕ) → drop k b ≡ x ∷ zs → nat_eq x 92 ≡ false → backslashes_before b (suc k) ≡ 0
+pub run_ends : (b : List ℕ) (k x : ℕ) (zs : List ℕ) → drop k b ≡ x ∷ zs → nat_eq x 92 ≡ false → backslashes_before b (suc k) ≡ 0
 unfolding backslashes_before
 run_ends b k x zs e ne = ap (λ t. if t then suc (backslashes_before b k) else 0) (ap (λ y. nat_eq y 92) (drop-head k b x zs e) ∙ ne)
 
@@ -86,10 +87,6 @@ pass_append b k xs ys zs p more =
     let q : Passed b p.end ys zs = more p.end p.quiet.even p.rest in
     record { end = q.end; at = q.at ∙ ap (λ n. n + length ys) p.at ∙ add_assoc k (length xs) (length ys) ∙ ap (λ n. k + n) (sym (length-append xs ys)); quiet = quiet-append b k p.end q.end p.quiet q.quiet; rest = q.rest }
 
-is-digit-true : (t : Bool) (o : Option ℕ) (u : ℕ) → cond t o None ≡ Some u → t ≡ true
-is-digit-true true o u e = refl
-is-digit-true false o u e = cc
-
 not_byte : (a n : ℕ) → is_digit n 16 ≡ false → is_digit a 16 ≡ true → nat_eq a n ≡ false
 not_byte a n bad good = elim (cases_Bool (nat_eq a n)) [ inl h ↦ absurd (false≢true (sym bad ∙ ap (λ m. is_digit m 16) (sym (eqb-true a n h)) ∙ good)) | inr h ↦ h ]
 
@@ -104,11 +101,8 @@ pass_digits b k p q r s zs hp hq hr hs e =
 
 pass_six : (b : List ℕ) (k p q r s u : ℕ) (zs : List ℕ) → hex_value p q r s ≡ Some u → drop k b ≡ 92 ∷ 117 ∷ p ∷ q ∷ r ∷ s ∷ zs → is_even (backslashes_before b k) ≡ true → Passed b k (92 ∷ 117 ∷ p ∷ q ∷ r ∷ s ∷ []) zs
 pass_six b k p q r s u zs value e even =
-    let all : (is_digit p 16 && is_digit q 16 && is_digit r 16 && is_digit s 16) ≡ true = is-digit-true _ _ u value in
-    let last : ((is_digit p 16 && is_digit q 16 && is_digit r 16) ≡ true) × (is_digit s 16 ≡ true) = and_parts _ _ all in
-    let third : ((is_digit p 16 && is_digit q 16) ≡ true) × (is_digit r 16 ≡ true) = and_parts _ _ last.0 in
-    let first : (is_digit p 16 ≡ true) × (is_digit q 16 ≡ true) = and_parts _ _ third.0 in
-    pass_append b k (92 ∷ 117 ∷ []) (p ∷ q ∷ r ∷ s ∷ []) zs (pass_escape b k 117 (p ∷ q ∷ r ∷ s ∷ zs) e even) (λ m v f. pass_digits b m p q r s zs first.0 first.1 third.1 last.1 f)
+    let are : AreHexDigits p q r s u = hex_value-digits p q r s u value in
+    pass_append b k (92 ∷ 117 ∷ []) (p ∷ q ∷ r ∷ s ∷ []) zs (pass_escape b k 117 (p ∷ q ∷ r ∷ s ∷ zs) e even) (λ m v f. pass_digits b m p q r s zs are.first are.second are.third are.fourth f)
 
 pass_unit : (b : List ℕ) (k : ℕ) (xs zs : List ℕ) (u : ℕ) → IsUnit xs u → drop k b ≡ xs ++ zs → is_even (backslashes_before b k) ≡ true → Passed b k xs zs
 pass_unit b k xs zs u h e even = subst (λ us. Passed b k us zs) (sym h.4) (pass_six b k h.0 h.1 h.2 h.3 u zs h.5 (e ∙ ap (λ us. us ++ zs) h.4) even)
@@ -132,7 +126,7 @@ pass_plain b k c zs nq nb = go (nat_lt c 128) (nat_lt c 2048) (nat_lt c 65536)
         (λ m v f. pass_append b m (next (c / 4096) ∷ []) (next (c / 64) ∷ next c ∷ []) zs (pass_high b m (next (c / 4096)) (next (c / 64) ∷ next c ∷ zs) (omega arith) f)
         (λ m v f. pass_append b m (next (c / 64) ∷ []) (next c ∷ []) zs (pass_high b m (next (c / 64)) (next c ∷ zs) (omega arith) f) (λ m v f. pass_high b m (next c) zs (omega arith) f)))
 
-pass_piece : (b : List ℕ) (k : ℕ) (xs zs : List ℕ) (c : ℕ) → IsPiece xs c → drop k b ≡ xs ++ zs → is_even (backslashes_before b k) ≡ true → Passed b k xs zs
+pub pass_piece : (b : List ℕ) (k : ℕ) (xs zs : List ℕ) (c : ℕ) → IsPiece xs c → drop k b ≡ xs ++ zs → is_even (backslashes_before b k) ≡ true → Passed b k xs zs
 pass_piece b k xs zs c (inl (scalar, control, nq, nb, same)) e even = subst (λ us. Passed b k us zs) (sym same) (pass_plain b k c zs nq nb (e ∙ ap (λ us. us ++ zs) same))
 pass_piece b k xs zs c (inr (inl (letter, same, f))) e even = subst (λ us. Passed b k us zs) (sym same) (pass_escape b k letter zs (e ∙ ap (λ us. us ++ zs) same) even)
 pass_piece b k xs zs c (inr (inr (inl (unit, high, low)))) e even = pass_unit b k xs zs c unit e even
@@ -158,7 +152,7 @@ first-place p k (suc d) (suc n) none here l =
     let later : position_or_len p (range_with_len (k + 1) n) ≡ d = first-place p (k + 1) d n (λ j g h. none j (omega arith) (omega arith)) (ap p same ∙ here) (omega arith) in
     ap (λ t. cond (not t) (1 + position_or_len p (range_with_len (k + 1) n)) 0) (none k (omega arith) (omega arith)) ∙ omega arith
 
-real_quote : (b : List ℕ) (m : ℕ) (zs : List ℕ) → drop m b ≡ 34 ∷ zs → is_even (backslashes_before b m) ≡ true → is_real_quote b m ≡ true
+pub real_quote : (b : List ℕ) (m : ℕ) (zs : List ℕ) → drop m b ≡ 34 ∷ zs → is_even (backslashes_before b m) ≡ true → is_real_quote b m ≡ true
 unfolding is_real_quote
 real_quote b m zs e even = and_from _ _ (ap (λ y. nat_eq y 34) (drop-head m b 34 zs e)) even
 

@@ -8,11 +8,11 @@ use Rattle.simd_json_parts.specs.Bytes.{backslash}
 use Rattle.simd_json_parts.specs.Text.{escaped_character, hex_value, is_high_surrogate, is_low_surrogate, paired, IsUnit, IsPiece, ArePieces}
 use Rattle.simd_json_parts.specs.TextAt.{escape_at, unit_at, simple_piece, pair_piece, unicode_piece, piece_at, with_piece, read_pieces}
 
-abbrev Read : Type 0
+abbrev pub Read : Type 0
 Read = List ℕ × List ℕ
 
 -- a text in front of what is read
-abbrev before : List ℕ → Read → Read
+abbrev pub before : List ℕ → Read → Read
 before t r = (t ++ r.0, r.1)
 
 read_byte : (x : ℕ) (ys : List ℕ) → nat_eq x 92 ≡ false → read_pieces 0 (x ∷ ys) ≡ before (x ∷ []) (read_pieces 0 ys)
@@ -87,7 +87,7 @@ read_units xs zs ys high low first second is_high is_low =
     ap (λ us. read_pieces 0 (us ++ ys)) (ap (λ us. us ++ zs) first.4 ∙ ap (λ us. (92 ∷ 117 ∷ first.0 ∷ first.1 ∷ first.2 ∷ first.3 ∷ []) ++ us) second.4)
     ∙ read_pair first.0 first.1 first.2 first.3 second.0 second.1 second.2 second.3 high low ys first.5 second.5 is_high is_low
 
-read_piece : (xs ys : List ℕ) (c : ℕ) → IsPiece xs c → read_pieces 0 (xs ++ ys) ≡ before (encode_utf8 c) (read_pieces 0 ys)
+pub read_piece : (xs ys : List ℕ) (c : ℕ) → IsPiece xs c → read_pieces 0 (xs ++ ys) ≡ before (encode_utf8 c) (read_pieces 0 ys)
 read_piece xs ys c (inl (scalar, control, no_quote, no_backslash, e)) = ap (λ zs. read_pieces 0 (zs ++ ys)) e ∙ read_plain c ys no_backslash
 read_piece xs ys c (inr (inl (letter, e, f))) = ap (λ zs. read_pieces 0 (zs ++ ys)) e ∙ read_escape letter c ys f
 read_piece xs ys c (inr (inr (inl (unit, high, low)))) = read_unit xs ys c unit high low

@@ -28,15 +28,15 @@ use Rattle.simd_json_parts.proofs.BoundaryLaws.{Boundary, EndsBefore, is_positio
 
 -- ---- the tokens from index i on
 
-abbrev tokens_at : List ℕ → ℕ → List Token
+abbrev pub tokens_at : List ℕ → ℕ → List Token
 tokens_at b i = tokens_from b i 0 (drop i b)
 
-tokens_at-end : (b : List ℕ) (i : ℕ) → length b ≤ i → tokens_at b i ≡ []
+pub tokens_at-end : (b : List ℕ) (i : ℕ) → length b ≤ i → tokens_at b i ≡ []
 unfolding tokens_from
 tokens_at-end b i l = ap (tokens_from b i 0) (drop_all i b l)
 
 -- the bytes of a token are passed over
-tokens_from-skip : (b : List ℕ) (i n : ℕ) → tokens_from b i n (drop i b) ≡ tokens_at b (i + n)
+pub tokens_from-skip : (b : List ℕ) (i n : ℕ) → tokens_from b i n (drop i b) ≡ tokens_at b (i + n)
 unfolding tokens_from
 tokens_from-skip b i zero = ap (tokens_at b) (sym (add-zero i))
 tokens_from-skip b i (suc n) =
@@ -51,17 +51,17 @@ tokens_at-step : (b : List ℕ) (i : ℕ) → i < length b → tokens_at b i ≡
 unfolding tokens_from
 tokens_at-step b i l = ap (tokens_from b i 0) (drop-cons b i 32 l)
 
-tokens_at-space : (b : List ℕ) (i : ℕ) → i < length b → is_whitespace (byte_at b i) ≡ true → tokens_at b i ≡ tokens_at b (suc i)
+pub tokens_at-space : (b : List ℕ) (i : ℕ) → i < length b → is_whitespace (byte_at b i) ≡ true → tokens_at b i ≡ tokens_at b (suc i)
 tokens_at-space b i l space = tokens_at-step b i l ∙ cond-true _ _ _ space
 
-tokens_at-token : (b : List ℕ) (i : ℕ) → i < length b → is_whitespace (byte_at b i) ≡ false
+pub tokens_at-token : (b : List ℕ) (i : ℕ) → i < length b → is_whitespace (byte_at b i) ≡ false
     → tokens_at b i ≡ record { index = i; form = form_at b i } ∷ behind_token i (form_at b i) (λ n. tokens_from b (suc i) n (drop (suc i) b))
 tokens_at-token b i l token = tokens_at-step b i l ∙ cond-false _ _ _ token
 
 -- ---- where tokens end
 
 -- a token of this form at index k ends where the form says, if tokens go on behind it
-abbrev IsEnded : List ℕ → ℕ → Form → Type 0
+abbrev pub IsEnded : List ℕ → ℕ → Form → Type 0
 IsEnded b k (string (Ok r)) = EndsBefore b k r.1
 IsEnded b k (string (Err e)) = Unit {0}
 IsEnded b k (scalar (Ok r)) = EndsBefore b k r.1
@@ -127,7 +127,7 @@ IsEnded-number b k at =
 
 module _ (b : List ℕ) where
   -- Every form at a boundary ends where it says.
-  IsEnded-form : (k : ℕ) → Boundary b k → IsEnded b k (form_at b k)
+  pub IsEnded-form : (k : ℕ) → Boundary b k → IsEnded b k (form_at b k)
   unfolding form_at text_at
   IsEnded-form k at =
       structural 91 begin_array _ refl (λ h. h) (structural 93 end_array _ refl (λ h. h) (structural 123 begin_object _ refl (λ h. h)

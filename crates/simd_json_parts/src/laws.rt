@@ -1,5 +1,5 @@
 //! Laws of the definitions. Each function has an empty body: its contract is the law, and what it says is proved.
-ghost use Rattle.std.specs.Prelude.{◌≡◌, ◌≢◌, ◌↔◌, ◌≤◌, ◌<◌, ◌+◌, ◌++◌, ◌∷◌, [], ◌⊎◌, ℕ, suc, List, length, take, drop, IsTrue, Contains, encode_utf8_all, Option, Some, None, Ok, Err, true};
+ghost use Rattle.std.specs.Prelude.{◌≡◌, ◌≢◌, ◌↔◌, ◌≤◌, ◌<◌, ◌+◌, ◌++◌, ◌∷◌, [], ◌⊎◌, ℕ, suc, List, length, take, drop, IsTrue, Contains, IsUtf8, encode_utf8_all, Option, Some, None, Ok, Err, true};
 ghost use Rattle.std.specs.Cmp.{IsEquivalence};
 ghost use Rattle.std.specs.List.Sorted.{IsStrictlyIncreasing};
 ghost use Rattle.simd_json_parts.specs.Answer.{answer};
@@ -8,9 +8,11 @@ ghost use Rattle.simd_json_parts.specs.Derivatives.{matches, is_possible, longes
 ghost use Rattle.simd_json_parts.specs.Descent.{descent};
 ghost use Rattle.simd_json_parts.specs.Document.{Document, integer, decimal};
 ghost use Rattle.simd_json_parts.specs.Equality.{equal, unmarked};
+ghost use Rattle.simd_json_parts.specs.Grammar.{Derives};
 ghost use Rattle.simd_json_parts.specs.Headers.{IsHeaded};
 ghost use Rattle.simd_json_parts.specs.InputFaults.{input_fault, has_bad_text};
 ghost use Rattle.simd_json_parts.specs.Integers.{max_magnitude};
+ghost use Rattle.simd_json_parts.specs.Limits.{IsSpellable, WithinLimits};
 ghost use Rattle.simd_json_parts.specs.Listing.{listing};
 ghost use Rattle.simd_json_parts.specs.Nodes.{Item};
 ghost use Rattle.simd_json_parts.specs.NumberAt.{number_at};
@@ -98,4 +100,30 @@ pub fn input_faults_come_first()
 /// at the positions, one after another. So what lies between positions hides no token and no fault.
 pub fn tokens_stand_at_positions()
     ensures { (b : List ℕ) → tokens b ≡ tokens_along b (positions b) }
+{}
+
+/// An answer is a document: the whole input derives it, and its length, its nesting and its integers are within the
+/// limits. So nothing outside the grammar is ever accepted.
+pub fn answers_are_documents()
+    ensures { (b : List ℕ) (limit : ℕ) (d : Document) → answer b limit ≡ Ok d → Derives b d × WithinLimits b d limit }
+{}
+
+/// What bytes derive can be spelled: its decimals are literals, and its texts and names are UTF-8.
+pub fn documents_can_be_spelled()
+    ensures { (b : List ℕ) (d : Document) → Derives b d → IsSpellable d }
+{}
+
+/// Bytes that derive a document are UTF-8.
+pub fn documents_are_utf8()
+    ensures { (b : List ℕ) (d : Document) → Derives b d → IsUtf8 b }
+{}
+
+/// Bytes that derive a document within the limits are answered with that document.
+pub fn documents_are_answered()
+    ensures { (b : List ℕ) (d : Document) (limit : ℕ) → Derives b d → WithinLimits b d limit → answer b limit ≡ Ok d }
+{}
+
+/// Bytes derive one document at most, however deep it nests and however great its integers are: the grammar is unambiguous.
+pub fn bytes_derive_one_document()
+    ensures { (b : List ℕ) (d e : Document) → Derives b d → Derives b e → d ≡ e }
 {}

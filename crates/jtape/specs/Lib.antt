@@ -1,0 +1,3 @@
+pub mod Output
+pub mod Ports
+pub mod Runs

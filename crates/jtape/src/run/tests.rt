@@ -1,0 +1,290 @@
+use super::*;
+use crate::settings::settings;
+use linked_list_allocator::LocalHeap;
+use simd_json::{ErrorType, Node, StaticNode};
+use std::io;
+use std::test::Fail;
+
+type Tested = std::result::Result<(), Fail>;
+
+// What a run over these bytes answers and writes.
+#[derive(Drop)]
+struct Ran {
+    answer: Result<bool>,
+    has_ended: bool,
+    written: Vec<u8>,
+}
+
+fn run_over(rt: &impl AllocGlobal, input: &[u8]) -> Ran {
+    let mut reader = Port::new(input);
+    let mut writer = Port::new(Vec::new(rt.alloc()));
+    let answer = run(rt.alloc(), Mode::Tape, &mut reader, &mut writer);
+    Ran {
+        answer,
+        has_ended: reader.ended(),
+        written: writer.into_inner(),
+    }
+}
+
+#[test]
+fn documents_are_printed(rt: HostRuntime) {
+    let rows: [(&[u8], &[u8]); 8] = [
+        (
+            b"[1,[2,3],4]",
+            b"Array 3 5\nU64 1\nArray 2 2\nU64 2\nU64 3\nU64 4\n",
+        ),
+        (b" null ", b"Null\n"),
+        (b"-0", b"I64 0\n"),
+        (b"[]", b"Array 0 0\n"),
+        (b"[true,false]", b"Array 2 2\nBool true\nBool false\n"),
+        (b"-9223372036854775808", b"I64 -9223372036854775808\n"),
+        (b"18446744073709551615", b"U64 18446744073709551615\n"),
+        (
+            b"\t[ [ ] , null\r\n, [[1]] ] ",
+            b"Array 3 5\nArray 0 0\nNull\nArray 1 2\nArray 1 1\nU64 1\n",
+        ),
+    ];
+    for (input, output) in rows {
+        let ran = run_over(&rt, input);
+        assert_eq!(rt; ran.answer, Ok(true));
+        assert!(rt; ran.has_ended);
+        assert_eq!(rt; ran.written.as_slice(), output);
+    }
+}
+
+#[test]
+fn what_is_no_document_prints_nothing(rt: HostRuntime) -> Tested {
+    let rows: [(&[u8], &str); 12] = [
+        (b"", "Eof at character 0"),
+        (b" \t\r\n", "Eof at character 0"),
+        (b"[1,]", "InternalError at character 3 (']')"),
+        (b"01", "InvalidNumber at character 1 ('1')"),
+        (b"1a", "InvalidNumber at character 1 ('a')"),
+        (b"1 2", "TrailingData at character 0 ('1')"),
+        (b"[1] 2", "InternalError at character 2 (']')"),
+        (b"[1 2]", "ExpectedArrayContent at character 3 ('2')"),
+        (b"[1", "Syntax at character 1 ('1')"),
+        (b"time", "ExpectedTrue at character 0 ('t')"),
+        (b"\"a", "Syntax at character 0"),
+        (b"[\xff]", "InvalidUtf8 at character 0"),
+    ];
+    for (input, text) in rows {
+        let ran = run_over(&rt, input);
+        assert_eq!(rt; status(&ran.answer), 1);
+        assert!(rt; ran.has_ended);
+        assert_eq!(rt; ran.written.len(), 0);
+        let Err(RunFault::Refused(e)) = &ran.answer else {
+            panic!(rt; "{input:?} was printed");
+        };
+        assert_eq!(rt; format!(in rt.alloc(); "{e}")?.as_str(), text);
+    }
+    Ok(())
+}
+
+// So many opening brackets, and as many that close.
+fn nested(rt: &impl AllocGlobal, depth: usize) -> std::result::Result<Vec<u8>, Fail> {
+    let mut input = Vec::new(rt.alloc());
+    input.resize(depth, b'[')?;
+    input.resize(depth.saturating_mul(2), b']')?;
+    Ok(input)
+}
+
+#[test]
+fn depth_is_limited(rt: HostRuntime) -> Tested {
+    let shallow = run_over(&rt, nested(&rt, 1024)?.as_slice());
+    assert_eq!(rt; status(&shallow.answer), 0);
+    let first = b"Array 1 1023\nArray 1 1022\n";
+    assert!(rt; shallow.written.starts_with(first));
+    for depth in [1025, 1_000_000] {
+        let deep = run_over(&rt, nested(&rt, depth)?.as_slice());
+        assert_eq!(rt; status(&deep.answer), 1);
+        assert_eq!(rt; deep.written.len(), 0);
+    }
+    Ok(())
+}
+
+// Gives its bytes one at a time, and fails behind them if it is asked to.
+#[derive(Drop)]
+struct Slow<'a> {
+    rest: &'a [u8],
+    fails: bool,
+}
+
+impl Read for Slow<'_> {
+    fn read(&mut self, buf: &mut [u8]) -> io::Result<usize> {
+        if buf.is_empty() {
+            return Ok(0);
+        }
+        if self.rest.is_empty() && self.fails {
+            return Err(io::Error::from(io::ErrorKind::Interrupted));
+        }
+        match self.rest.split_first() {
+            Some((byte, rest)) => {
+                buf[0] = *byte;
+                self.rest = rest;
+                Ok(1)
+            }
+            None => Ok(0),
+        }
+    }
+}
+
+#[test]
+fn slow_readers_are_read_to_their_end(rt: HostRuntime) -> Tested {
+    let mut reader = Port::new(Slow {
+        rest: b"[1,2]",
+        fails: false,
+    });
+    let mut writer = Port::new(Vec::new(rt.alloc()));
+    let answer = run(rt.alloc(), Mode::Tape, &mut reader, &mut writer);
+    assert_eq!(rt; answer, Ok(true));
+    assert!(rt; reader.ended() && !reader.failed());
+    assert_eq!(rt;
+        writer.into_inner().as_slice(),
+        b"Array 2 2\nU64 1\nU64 2\n".as_slice()
+    );
+    Ok(())
+}
+
+#[test]
+fn failing_readers_print_nothing(rt: HostRuntime) -> Tested {
+    let mut reader = Port::new(Slow {
+        rest: b"[1,",
+        fails: true,
+    });
+    let mut writer = Port::new(Vec::new(rt.alloc()));
+    let answer = run(rt.alloc(), Mode::Tape, &mut reader, &mut writer);
+    assert_eq!(rt; answer, Err(RunFault::Read));
+    assert_eq!(rt; status(&answer), 3);
+    assert!(rt; reader.failed() && !reader.ended());
+    assert_eq!(rt; writer.into_inner().len(), 0);
+    Ok(())
+}
+
+// Takes a few bytes, and then none or fails.
+#[derive(Drop)]
+struct Full {
+    room: usize,
+    fails: bool,
+}
+
+impl Write for Full {
+    fn write(&mut self, buf: &[u8]) -> io::Result<usize> {
+        if self.room == 0 && self.fails {
+            return Err(io::Error::from(io::ErrorKind::Interrupted));
+        }
+        let taken = buf.len().min(self.room);
+        self.room -= taken;
+        Ok(taken)
+    }
+
+    fn flush(&mut self) -> io::Result<()> {
+        Ok(())
+    }
+}
+
+#[test]
+fn failing_writers_are_told(rt: HostRuntime) {
+    for fails in [false, true] {
+        for room in 0..6 {
+            let mut reader = Port::new(b"[1]".as_slice());
+            let mut writer = Port::new(Full { room, fails });
+            let answer = run(rt.alloc(), Mode::Tape, &mut reader, &mut writer);
+            assert_eq!(rt; answer, Err(RunFault::Write));
+            assert_eq!(rt; status(&answer), 3);
+            assert!(rt; reader.ended() && writer.failed());
+        }
+    }
+}
+
+#[test]
+fn statuses_are_told(rt: HostRuntime) {
+    assert_eq!(rt; status(&Ok(true)), 0);
+    assert_eq!(rt; status(&Ok(false)), 1);
+    assert_eq!(rt;
+        status(&Err(RunFault::Refused(Error::generic(ErrorType::Eof)))),
+        1
+    );
+    assert_eq!(rt; status(&Err(RunFault::Read)), 3);
+    assert_eq!(rt; status(&Err(RunFault::Write)), 3);
+}
+
+#[test]
+fn words_are_understood(rt: HostRuntime) -> Tested {
+    let rows: [(&[&str], bool); 6] = [
+        (&["tape"], true),
+        (&[], false),
+        (&["tree"], false),
+        (&["tape", "8"], false),
+        (&[""], false),
+        (&["Tape"], false),
+    ];
+    for (given, is_known) in rows {
+        let mut words = Vec::new(rt.alloc());
+        for word in given {
+            words.push(String::from_str(rt.alloc(), word)?)?;
+        }
+        assert_eq!(rt; settings(words.as_slice()).is_some(), is_known);
+    }
+    Ok(())
+}
+
+// A heap of each size refuses another growth of the input, and then none.
+#[test]
+fn each_growth_of_the_input_is_refused(rt: HostRuntime) -> Tested {
+    let mut refused = 0u32;
+    let mut read = 0u32;
+    for units in 0..40usize {
+        let heap = LocalHeap::new(rt.alloc(), 64 + units * 16)?;
+        let mut reader = Port::new(Slow {
+            rest: b"[1,2,3,4,5,6,7,8,9,10,11,12,13,14,15,16,17,18,19,20]",
+            fails: false,
+        });
+        match read_all(&heap, &mut reader) {
+            Ok(input) => {
+                assert_eq!(rt; input.len(), 52);
+                assert!(rt; reader.ended());
+                read = read.saturating_add(1);
+            }
+            Err(fault) => {
+                assert_eq!(rt;
+                    fault,
+                    RunFault::Refused(Error::generic(ErrorType::OutOfMemory))
+                );
+                assert!(rt; !reader.failed());
+                refused = refused.saturating_add(1);
+            }
+        }
+    }
+    assert!(rt; refused > 3, "{refused} refusals");
+    assert!(rt; read > 3, "{read} inputs");
+    Ok(())
+}
+
+// The same of the lines.
+#[test]
+fn each_growth_of_the_lines_is_refused(rt: HostRuntime) -> Tested {
+    let nodes = [
+        Node::Array { len: 3, count: 3 },
+        Node::Static(StaticNode::Bool(true)),
+        Node::String("a\n"),
+        Node::Decimal("1.5"),
+        Node::Object { len: 0, count: 0 },
+    ];
+    let mut refused = 0u32;
+    let mut written = 0u32;
+    for units in 0..40usize {
+        let heap = LocalHeap::new(rt.alloc(), 64 + units * 16)?;
+        let mut out = Vec::new(&heap);
+        if append_lines(&mut out, &nodes).is_ok() {
+            let lines = b"Array 3 3\nBool true\nString \"a\\n\"\nDecimal 1.5\nObject 0 0\n";
+            assert_eq!(rt; out.as_slice(), lines.as_slice());
+            written = written.saturating_add(1);
+        } else {
+            refused = refused.saturating_add(1);
+        }
+    }
+    assert!(rt; refused > 3, "{refused} refusals");
+    assert!(rt; written > 3, "{written} texts");
+    Ok(())
+}

@@ -1,0 +1,151 @@
+-- From what the steps of a parse find to what the definitions answer.
+use Rattle.std.proofs.Common.{◌≡◌, ◌∙◌, ap, sym, subst, ◌<◌, ◌≤◌, ℕ, List, [], length, Bool, true, false, not, Some, None, Option, Ok, Err, IsUtf8, refl, arith, cond, nat_lt, nat_eq, zero, suc, take, drop, ◌++◌, Result, map, min, ◌⊎◌, inl, inr}
+use Rattle.std.specs.Str.{is_utf8}
+use Rattle.std.specs.Result.{is_err, IsErrAnd, MatchResult, IfErr}
+use Rattle.std.proofs.lemmas.List.{length-map, length-take-le}
+use Rattle.std.proofs.Math.Seq.{take-append_seam}
+use Rattle.std.proofs.lemmas.Bool.{lt-ltb, le-ltb, true≢false, false≢true}
+use Rattle.std.proofs.lemmas.Str.{IsUtf8-from_is_utf8, is_utf8-from_IsUtf8}
+use Rattle.std.proofs.lemmas.List.Sums.{length-filter, count_by-le-length}
+use Rattle.std.proofs.lemmas.List.FromFn.{length-range_with_len}
+use Rattle.simd_json_parts.proofs.AnswerSound.{answer-sound}
+use Rattle.simd_json_parts.proofs.SpellableLaws.{IsSpellable-derived}
+use Rattle.simd_json_parts.specs.Answer.{answer, fault_or}
+use Rattle.simd_json_parts.specs.Bytes.{indices}
+use Rattle.simd_json_parts.specs.Descent.{descent}
+use Rattle.simd_json_parts.specs.Nodes.{Item, item_of}
+use Rattle.simd_json_parts.specs.declared.node.Node.{Node}
+use Rattle.simd_json_stages.specs.Building.{IsListed, HasUnbuilt}
+use Rattle.simd_json_stages.specs.Refusals.{IsTokenFault}
+use Rattle.simd_json.specs.Parsed.{IsParsed, IsRefused, LacksMemory}
+use Rattle.simd_json_parts.specs.Listing.{IsTape}
+use Rattle.simd_json.specs.Rooms.{room_of}
+use Rattle.simd_json_parts.specs.Faults.{whole_fault}
+use Rattle.simd_json_parts.specs.InputFaults.{input_fault, scan_fault, has_bad_text}
+use Rattle.simd_json_parts.specs.Limits.{max_length}
+use Rattle.simd_json_parts.specs.Positions.{positions, is_position}
+use Rattle.simd_json_parts.specs.declared.error.Error.{Error}
+use Rattle.simd_json_parts.specs.declared.error.ErrorType.TheVariants.{InputTooLarge, InvalidUtf8, Syntax, Eof, OutOfMemory}
+
+-- ---- the fault of the whole input, line by line
+
+abbrev by_size : Bool → Bool → Option Error → Option Error
+by_size is_large is_text scanned = cond is_large (Some (whole_fault InputTooLarge)) (cond (not is_text) (Some (whole_fault InvalidUtf8)) scanned)
+
+fault-by_size : (b : List ℕ) → input_fault b ≡ by_size (nat_lt max_length (length b)) (is_utf8 b) (scan_fault b)
+unfolding input_fault
+fault-by_size b = refl
+
+pub too_large : (b : List ℕ) → max_length < length b → input_fault b ≡ Some (whole_fault InputTooLarge)
+too_large b l = fault-by_size b ∙ ap (λ t. by_size t (is_utf8 b) (scan_fault b)) (lt-ltb max_length (length b) l)
+
+no_text : (b : List ℕ) → (IsUtf8 b → ⊥) → is_utf8 b ≡ false
+no_text b none = by_cases (is_utf8 b) refl where
+  by_cases : (t : Bool) → is_utf8 b ≡ t → t ≡ false
+  by_cases true is = absurd (none (IsUtf8-from_is_utf8 b is))
+  by_cases false is = refl
+
+pub bad_encoding : (b : List ℕ) → length b ≤ max_length → (IsUtf8 b → ⊥) → input_fault b ≡ Some (whole_fault InvalidUtf8)
+bad_encoding b l none =
+    fault-by_size b ∙ ap (λ t. by_size t (is_utf8 b) (scan_fault b)) (le-ltb max_length (length b) l) ∙ ap (λ t. by_size false t (scan_fault b)) (no_text b none)
+
+-- where size and encoding are right, the scan tells
+pub scanned : (b : List ℕ) → length b ≤ max_length → IsUtf8 b → input_fault b ≡ scan_fault b
+scanned b l text =
+    fault-by_size b ∙ ap (λ t. by_size t (is_utf8 b) (scan_fault b)) (le-ltb max_length (length b) l) ∙ ap (λ t. by_size false t (scan_fault b)) (is_utf8-from_IsUtf8 b text)
+
+-- where nothing is wrong with the whole, some position is there
+abbrev is_none : Option Error → Bool
+is_none None = true
+is_none (Some e) = false
+
+some_fault : (p q r : Bool) (e f g h : Error) → is_none (cond p (Some e) (cond q (Some f) (cond r (Some g) (Some h)))) ≡ false
+some_fault true q r e f g h = refl
+some_fault false true r e f g h = refl
+some_fault false false true e f g h = refl
+some_fault false false false e f g h = refl
+
+pub some-positions : (b : List ℕ) → input_fault b ≡ None → 0 < length (positions b)
+some-positions b none = by_length (length (positions b)) refl where
+  fault-at : ℕ → Option Error
+  fault-at n = by_size (nat_lt max_length (length b)) (is_utf8 b) (cond (has_bad_text b) (Some (whole_fault Syntax)) (cond (nat_eq n 0) (Some (whole_fault Eof)) None))
+
+  by_length : (n : ℕ) → length (positions b) ≡ n → 0 < n
+  by_length zero is =
+      absurd (true≢false (ap is_none (sym none ∙ fault-by_size b ∙ ap fault-at is) ∙ some_fault (nat_lt max_length (length b)) (not (is_utf8 b)) (has_bad_text b) _ _ _ _))
+  by_length (suc n) is = omega arith
+
+-- ---- the answer
+
+pub fault-answered : (b : List ℕ) (limit : ℕ) (e : Error) → input_fault b ≡ Some e → answer b limit ≡ Err e
+unfolding answer
+fault-answered b limit e is = ap (λ o. fault_or o (descent b limit)) is
+
+pub none-answered : (b : List ℕ) (limit : ℕ) → input_fault b ≡ None → answer b limit ≡ descent b limit
+unfolding answer
+none-answered b limit is = ap (λ o. fault_or o (descent b limit)) is
+
+-- ---- positions
+
+-- no more than bytes
+pub few-positions : (b : List ℕ) → length (positions b) ≤ length b
+unfolding positions
+few-positions b = omega (arith, length-filter (is_position b) (indices b), count_by-le-length (is_position b) (indices b), length-range_with_len 0 (length b))
+
+-- what the first stage refuses, behind size and encoding
+pub refused : (b : List ℕ) (limit tape-room room : ℕ) (e : Error) → length b ≤ max_length → IsUtf8 b
+    → (scan_fault b ≡ Some e) ⊎ ((e ≡ whole_fault OutOfMemory) × (room < length b))
+    → IsRefused b limit e ⊎ (LacksMemory b e × ((tape-room < length b) ⊎ (room < length b)))
+refused b limit tape-room room e l text (inl is) = inl (inl (fault-answered b limit e (scanned b l text ∙ is)))
+refused b limit tape-room room e l text (inr (is, short)) = inr ((is, l, text), inr short)
+
+-- what the second stage refuses
+pub refused-token : (b : List ℕ) (limit : ℕ) (e : Error) → input_fault b ≡ None → IsTokenFault e → HasUnbuilt b ⊎ (descent b limit ≡ Err e) → IsRefused b limit e
+refused-token b limit e none kind (inl unbuilt) = inr (none, kind, unbuilt)
+refused-token b limit e none kind (inr is) = inl (none-answered b limit none ∙ is)
+
+-- ---- what the second stage lists
+
+pub parsed : (b : List ℕ) (limit : ℕ) (nodes : List Node) → input_fault b ≡ None → IsListed b limit nodes → IsParsed b limit (map item_of nodes)
+parsed b limit nodes none listed =
+    let answered : answer b limit ≡ Ok listed.document = none-answered b limit none ∙ listed.same in
+    let right = answer-sound b limit listed.document answered in
+    record { document = listed.document; derived = right.0; within = right.1; answered = answered; listed = listed.listed }
+
+pub tape-parsed : (b : List ℕ) (limit : ℕ) (items : List Item) → IsParsed b limit items → IsTape items
+tape-parsed b limit items p = inr (p.document, IsSpellable-derived b p.document p.derived, p.within.integers, p.listed)
+
+-- ---- room
+
+-- a stack that is too short bounds the room
+pub short-stack : (p s limit count n : ℕ) → s < min count limit → count ≤ n → room_of p s limit < n
+short-stack p s limit count n l m = subst (λ t. cond t (min p s) p < n) (sym (lt-ltb s limit (omega (arith, l)))) (omega (arith, l, m))
+
+-- ---- lists that are lent
+
+-- all of a list is written anew
+pub written-over : {A : Type 0} (xs ys : List A) (len : ℕ) → len ≡ length xs → length ys ≡ length xs → take len (ys ++ drop (length ys) xs) ≡ ys
+written-over xs ys len whole same = ap (λ n. take n (ys ++ drop (length ys) xs)) (whole ∙ sym same) ∙ take-append_seam ys (drop (length ys) xs)
+
+-- a list of which no node was in use
+pub tape-unused : (xs ys : List Node) (used len : ℕ) → len ≡ length xs → length ys ≡ length xs → used ≤ length xs → map item_of (take used xs) ≡ []
+    → (used ≤ length (take len (ys ++ drop (length ys) xs))) × (map item_of (take used (take len (ys ++ drop (length ys) xs))) ≡ [])
+tape-unused xs ys used len whole same l none =
+    let zero_used : used ≡ 0 = omega (arith, ap length none, length-map (take used xs) item_of, length-take-le used xs l) in
+    (subst (λ n. n ≤ length (take len (ys ++ drop (length ys) xs))) (sym zero_used) (omega arith), ap (λ n. map item_of (take n (take len (ys ++ drop (length ys) xs)))) zero_used)
+
+-- a list of which the first nodes are those of one document
+pub tape-filled : (xs ys : List Node) (used len : ℕ) → len ≡ length xs → length ys ≡ length xs → used ≤ length ys → IsTape (map item_of (take used ys))
+    → (used ≤ length (take len (ys ++ drop (length ys) xs))) × IsTape (map item_of (take used (take len (ys ++ drop (length ys) xs))))
+tape-filled xs ys used len whole same l is_tape =
+    subst (λ zs. (used ≤ length zs) × IsTape (map item_of (take used zs))) (sym (written-over xs ys len whole same)) (l, is_tape)
+
+-- ---- what the exit of a `?` answers
+
+pub passed-on : {A : Type 0} (r : Result A Error) (e : Error) (P : Error → Type 0) → IsErrAnd r (λ x. x ≡ e) → P e → IfErr r P
+passed-on (Ok x) e P is p = tt
+passed-on (Err x) e P is p = subst P (sym is) p
+
+pub not_ok : {A B : Type 0} (r : Result A B) (P : A → Type 0) (Q : Type 0) → is_err r ≡ true → MatchResult r P (λ _. Q) → Q
+not_ok (Ok x) P Q is h = absurd (false≢true is)
+not_ok (Err x) P Q is h = h

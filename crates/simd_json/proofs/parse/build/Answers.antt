@@ -1,0 +1,42 @@
+use Rattle.std.proofs.Common.{◌∙◌, ap, sym, subst, arith, take, length, inl, map}
+use Rattle.simd_json_parts.specs.Nodes.{item_of}
+use Rattle.simd_json.specs.Parsed.{IsParsed, IsRefused}
+use Rattle.simd_json.proofs.ParseLaws.{passed-on, some-positions, written-over, tape-unused, tape-filled, parsed, tape-parsed, refused-token}
+use Rattle.simd_json.proofs.parse.build.Goals as goal
+
+pub build_tape-requires-clause-some : goal.build_tape-requires-clause-some
+build_tape-requires-clause-some g c =
+    omega (
+      arith,
+      some-positions c.args.s.now c.requires.positions.1,
+      ap length (ap (take c.buffers.inside.used) c.deref.ensures.value ∙ ap (λ r. r.positions) c.buffers.view_is ∙ c.requires.positions.0),
+    )
+
+pub invariant_of-tape : goal.invariant_of-tape
+invariant_of-tape g c =
+    let list = c.tape.inside.list in
+    let unused =
+    tape-unused list.items c.build_tape.new.nodes c.tape.inside.used list.len list.ok.0 (c.in_err-tape-inside.ensures.kept ∙ ap length c.as_mut_slice-2.ensures.value) c.tape.invariant.0
+    (ap (λ t. t.nodes) c.tape.view_is ∙ c.requires.empty) in
+    (unused.0, inl unused.1)
+
+pub returns-in_err-tape-inside-clause-fault : goal.returns-in_err-tape-inside-clause-fault
+returns-in_err-tape-inside-clause-fault g c =
+    passed-on c.from_residual.result _ _ c.from_residual.ensures.1
+    (subst (λ limit. IsRefused c.args.s.now limit c.in_err-tape-inside.field-0.0) (ap (λ r. r.limit) c.buffers.view_is)
+    (refused-token c.args.s.now c.buffers.inside.max_depth _ c.requires.positions.1 c.in_err-tape-inside.ensures.refused c.in_err-tape-inside.ensures.told))
+
+pub invariant_of-tape-2 : goal.invariant_of-tape-2
+invariant_of-tape-2 g c =
+    let list = c.tape.inside.list in
+    let same = c.in_ok-tape-inside.ensures.kept ∙ ap length c.as_mut_slice-2.ensures.value in
+    tape-filled list.items c.build_tape.new.nodes c.in_ok-tape-inside.field-0 list.len list.ok.0 same (omega (arith, same, c.in_ok-tape-inside.ensures.used, ap length (ap (take c.buffers.inside.used) c.deref.ensures.value ∙ ap (λ r. r.positions) c.buffers.view_is ∙ c.requires.positions.0), c.requires.rooms.1, ap (λ t. t.room) c.tape.view_is))
+    (tape-parsed c.args.s.now c.buffers.inside.max_depth _ (parsed c.args.s.now c.buffers.inside.max_depth _ c.requires.positions.1 c.in_ok-tape-inside.ensures.built))
+
+pub returns-clause-tape : goal.returns-clause-tape
+returns-clause-tape g c =
+    let list = c.tape.inside.list in
+    let same = c.in_ok-tape-inside.ensures.kept ∙ ap length c.as_mut_slice-2.ensures.value in
+    subst (λ nodes. IsParsed c.args.s.now c.args.buffers.now.limit (map item_of (take c.in_ok-tape-inside.field-0 nodes))) (sym (written-over list.items c.build_tape.new.nodes list.len list.ok.0 same))
+    (subst (λ limit. IsParsed c.args.s.now limit (map item_of (take c.in_ok-tape-inside.field-0 c.build_tape.new.nodes))) (ap (λ r. r.limit) c.buffers.view_is)
+    (parsed c.args.s.now c.buffers.inside.max_depth _ c.requires.positions.1 c.in_ok-tape-inside.ensures.built))

@@ -1,0 +1,4 @@
+pub mod Tapes
+pub mod TapeView
+pub mod Rooms
+pub mod Parsed

@@ -1,0 +1,85 @@
+//! Lists that parses use one after another.
+ghost use Rattle.std.specs.Prelude.{◌≡◌, ◌≤◌, ◌<◌, ◌^◌, ◌⊎◌, [], length, OnOk, OnErr, IfErr, Some, None};
+ghost use Rattle.simd_json_parts.specs.Faults.{whole_fault};
+ghost use Rattle.simd_json_parts.specs.InputFaults.{scan_fault};
+ghost use Rattle.simd_json_parts.specs.Positions.{positions};
+ghost use Rattle.simd_json_parts.specs.declared.error.ErrorType.{ErrorType};
+
+use simd_json_parts::error::Result;
+use simd_json_stages::stage1::{PlainStage1Parse, Stage1Parse};
+use simd_json_stages::stage2::StackState;
+use std::alloc::{Allocator, Global};
+use std::marker::Model;
+
+// Both lists are kept filled up to their room.
+#[derive(Drop)]
+pub(crate) struct Buffers<A: Allocator = Global> {
+    pub(crate) structural_indexes: Vec<u32, A>,
+    pub(crate) used: usize,
+    pub(crate) stack: Vec<StackState, A>,
+    pub(crate) max_depth: usize,
+}
+
+impl<A: Allocator> Model for Buffers<A> {
+    ghost use Rattle.std.specs.Prelude.{◌≤◌, length, take};
+    ghost use Rattle.simd_json.specs.Rooms.{Rooms, room_of};
+
+    ghost Value = { Rooms };
+
+    ghost view = { λ b. record { positions = take b.used b.structural_indexes.items; limit = b.max_depth; room = room_of (length b.structural_indexes.items) (length b.stack.items) b.max_depth } };
+
+    ghost invariant = { λ b. b.used ≤ length b.structural_indexes.items };
+}
+
+impl<A: Allocator + Copy> Buffers<A> {
+    // Lists no position, and takes no memory.
+    pub(crate) fn empty(a: A, max_depth: usize) -> Buffers<A>
+        ensures { (result.positions ≡ []) × (result.limit ≡ max_depth) }
+    {
+        Buffers {
+            structural_indexes: Vec::new(a),
+            used: 0,
+            stack: Vec::new(a),
+            max_depth,
+        }
+    }
+}
+
+impl<A: Allocator> Buffers<A> {
+    // The structural positions of the input that was read last.
+    pub(crate) fn structural_indexes(&self) -> &[u32]
+        ensures { result.now ≡ self.now.positions }
+    {
+        &self.structural_indexes[..self.used]
+    }
+
+    // Lists no position, and keeps its room.
+    pub(crate) fn clear(&mut self)
+        ensures { self.new ≡ record { positions = []; limit = self.old.limit; room = self.old.room } }
+    {
+        self.used = 0;
+    }
+
+    // Lists the structural positions of the input, and makes room for the containers that can open at them within the
+    // limit. Answers the first stage's fault, or `OutOfMemory` where a growth was refused.
+    pub(crate) fn find_positions(&mut self, input: &[u8]) -> Result<()>
+        requires { length input.now < 2 ^ 32 }
+        ensures found { OnOk result ((self.new.positions ≡ positions input.now) × (scan_fault input.now ≡ None)) }
+        ensures enough { OnOk result (length (positions input.now) ≤ self.new.room) }
+        ensures empty { OnErr result (self.new.positions ≡ []) }
+        ensures limit { self.new.limit ≡ self.old.limit }
+        ensures kept { self.old.room ≤ self.new.room }
+        ensures fault { IfErr result (λ e. (scan_fault input.now ≡ Some e)
+            ⊎ ((e ≡ whole_fault ErrorType.OutOfMemory) × (self.old.room < length input.now))) }
+    {
+        self.used = 0;
+        let list = &mut self.structural_indexes;
+        let count = PlainStage1Parse::find_structural_bits(input, list)?;
+        let depth = count.min(self.max_depth);
+        if self.stack.len() < depth {
+            self.stack.resize(depth, StackState::default())?;
+        }
+        self.used = count;
+        Ok(())
+    }
+}

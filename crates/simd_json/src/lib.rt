@@ -1,0 +1,28 @@
+//! JSON tapes: the nodes of a document in preorder, with texts borrowed from the input.
+//!
+//! [`to_tape`] reads bytes, or tells the first fault with its kind, its index and its character:
+//!
+//! ```
+//! fn first_len(rt: &impl AllocGlobal) -> simd_json::Result<usize> {
+//!     let mut input = *b"[1,[2,3],4]";
+//!     let tape = simd_json::to_tape(rt.alloc(), &mut input)?;
+//!     Ok(tape.nodes().len())
+//! }
+//! ```
+#![tactic(auto)]
+
+mod buffers;
+mod parse;
+pub mod value;
+
+pub use parse::to_tape;
+pub use simd_json_parts::error::{Error, ErrorType, Result};
+pub use simd_json_parts::node::{Node, StaticNode, TryTypeError, ValueType};
+pub use value::tape;
+pub use value::tape::Tape;
+
+/// How many containers may be open at a time, unless another limit is asked for.
+pub const DEFAULT_MAX_DEPTH: usize = 1024;
+
+#[cfg(test)]
+mod tests;

@@ -1,0 +1,3 @@
+//! What a parse answers.
+
+pub mod tape;

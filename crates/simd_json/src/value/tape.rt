@@ -1,0 +1,82 @@
+//! The tape: the nodes of one document.
+ghost use Rattle.std.specs.Prelude.{◌≡◌, ◌≤◌, ◌<◌, ◌↔◌, [], map, IsTrue, OnOk, OnErr, IfErr};
+ghost use Rattle.simd_json_parts.specs.Faults.{whole_fault};
+ghost use Rattle.simd_json_parts.specs.Nodes.{item_of};
+ghost use Rattle.simd_json_parts.specs.declared.error.ErrorType.{ErrorType};
+
+use simd_json_parts::error::Result;
+pub use simd_json_parts::node::Node;
+use simd_json_parts::node::StaticNode;
+use std::alloc::{Allocator, Global};
+use std::marker::Model;
+
+/// The nodes of one document in preorder, or no node.
+///
+/// A scalar is one node. A container is a header with `len`, the number of its members, and `count`, the number of all
+/// nodes beneath it, and then its members' nodes; a pair of an object is its key's node and then its value's nodes.
+// The list is kept filled up to its room.
+#[derive(Drop)]
+pub struct Tape<'input, A: Allocator = Global> {
+    pub(crate) list: Vec<Node<'input>, A>,
+    pub(crate) used: usize,
+}
+
+impl<'input, A: Allocator> Model for Tape<'input, A> {
+    ghost use Rattle.std.specs.Prelude.{◌≤◌, length};
+    ghost use Rattle.simd_json.specs.Tapes.{Listed};
+    ghost use Rattle.simd_json.specs.TapeView.{listed_of};
+    ghost use Rattle.simd_json_parts.specs.Listing.{IsTape};
+
+    ghost Value = { Listed };
+
+    ghost view = { λ t. listed_of t.list.items t.used };
+
+    ghost invariant = { λ t. (t.used ≤ length t.list.items) × IsTape (listed_of t.list.items t.used).nodes };
+}
+
+impl<'input, A: Allocator> Tape<'input, A> {
+    // No node and no room: it takes no memory.
+    pub(crate) fn empty(a: A) -> Tape<'input, A>
+        ensures { result ≡ record { nodes = []; room = 0 } }
+    {
+        Tape {
+            list: Vec::new(a),
+            used: 0,
+        }
+    }
+
+    /// Whether the tape has no node.
+    pub fn is_empty(&self) -> bool
+        ensures { IsTrue result ↔ (self.now.nodes ≡ []) }
+    {
+        self.used == 0
+    }
+
+    /// The nodes, in preorder.
+    pub fn nodes(&self) -> &[Node<'input>]
+        ensures { map item_of result.now ≡ self.now.nodes }
+    {
+        &self.list[..self.used]
+    }
+
+    // No node, and the room that was there.
+    pub(crate) fn clear(&mut self)
+        ensures { self.new ≡ record { nodes = []; room = self.old.room } }
+    {
+        self.used = 0;
+    }
+
+    // Makes room for as many nodes in all. Answers `OutOfMemory` where a growth was refused. Changes no node.
+    pub(crate) fn reserve(&mut self, nodes: usize) -> Result<()>
+        ensures nodes { self.new.nodes ≡ self.old.nodes }
+        ensures kept { self.old.room ≤ self.new.room }
+        ensures room { OnOk result (nodes ≤ self.new.room) }
+        ensures full { OnErr result (self.old.room < nodes) }
+        ensures fault { IfErr result (λ e. e ≡ whole_fault ErrorType.OutOfMemory) }
+    {
+        if self.list.len() < nodes {
+            self.list.resize(nodes, Node::Static(StaticNode::Null))?;
+        }
+        Ok(())
+    }
+}

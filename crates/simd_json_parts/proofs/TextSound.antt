@@ -1,0 +1,117 @@
+-- A text that is read stands there: between its quotes are pieces for its characters.
+use Rattle.std.proofs.Common.{◌≡◌, ◌≢◌, refl, sym, ◌∙◌, ap, subst, ℕ, zero, suc, ◌+◌, ◌<◌, ◌≤◌, inl, inr, List, [], ◌∷◌, ◌++◌, length, drop, true, false, nat_eq, length-append, append_assoc, IsUtf8, arith}
+use Rattle.std.specs.Prelude.{None, encode_utf8_all}
+use Rattle.std.specs.Char.{encode_utf8}
+use Rattle.std.proofs.lemmas.Bool.{cases_Bool, cases_lt, and_parts, eqb-true, eqb-false, both_ways}
+use Rattle.std.proofs.lemmas.Str.{byte_from_char, len_utf8_bounds, length-encode}
+use Rattle.simd_json_parts.specs.Bytes.{quote, backslash, byte_at}
+use Rattle.simd_json_parts.specs.Text.{ArePieces}
+use Rattle.simd_json_parts.specs.TextAt.{escape_at, piece_at, with_piece, read_pieces}
+use Rattle.simd_json_parts.specs.Positions.{is_even, backslashes_before, is_real_quote}
+use Rattle.simd_json_parts.proofs.Drops.{drop-head}
+use Rattle.simd_json_parts.proofs.ScanLaws.{NoneBetween}
+use Rattle.simd_json_parts.proofs.TextLaws.{read_piece}
+use Rattle.simd_json_parts.proofs.QuoteLaws.{Passed, pass_piece, real_quote}
+use Rattle.simd_json_parts.proofs.EscapeSound.{HasPiece, escape-cases}
+
+-- Where no escape stands, nothing is read.
+read_pieces-refused : (bs : List ℕ) → escape_at (92 ∷ bs) ≡ None → read_pieces 0 (92 ∷ bs) ≡ ([], 92 ∷ bs)
+unfolding read_pieces piece_at
+read_pieces-refused bs none = ap (λ o. with_piece o (92 ∷ bs) (λ n. read_pieces n bs)) none
+
+-- A backslash in what is read to the end begins a piece.
+escape-piece : (bs t : List ℕ) → read_pieces 0 (92 ∷ bs) ≡ (t, []) → HasPiece (92 ∷ bs)
+escape-piece bs t e =
+    elim (escape-cases bs) [
+      | inl none ↦ let left : 92 ∷ bs ≡ [] = ap (λ (r : List ℕ × List ℕ). r.1) (sym (read_pieces-refused bs none) ∙ e) in absurd (omega (arith, ap length left))
+      | inr p ↦ p
+    ]
+
+-- From start up to stop there is no real quote and no control byte; zs stands behind.
+module _ (b : List ℕ) (start stop : ℕ) (zs : List ℕ) (none : NoneBetween (is_real_quote b) start stop) (plain : (j : ℕ) → start ≤ j → j < stop → 32 ≤ byte_at b j) where
+  -- A character that is no backslash is a piece.
+  plain-piece : (m x : ℕ) (bs : List ℕ) → start ≤ m → m < stop → drop m b ≡ x ∷ (bs ++ zs) → is_even (backslashes_before b m) ≡ true → nat_eq x 92 ≡ false
+      → IsUtf8 (x ∷ bs) → HasPiece (x ∷ bs)
+  plain-piece m x bs l h e even other ([], (s, f)) = cc
+  plain-piece m x bs l h e even other (c ∷ cs, (s, f)) = record {
+    character = c;
+    piece = encode_utf8 c;
+    behind = encode_utf8_all cs;
+    whole = sym f;
+    some = omega (arith, len_utf8_bounds c, length-encode c);
+    is = inl ((and_parts _ _ s).0, printed, no_quote, no_backslash, refl);
+    utf8 = λ _. (cs, ((and_parts _ _ s).1, refl));
+  }
+    where
+      first : c < 128 → x ≡ c
+      first small = byte_from_char (x ∷ bs) (encode_utf8_all cs) c (sym f) small
+
+      printed : 32 ≤ c
+      printed = elim (cases_lt c 128) [ inl small ↦ omega (arith, first small, plain m l h, drop-head m b x (bs ++ zs) e) | inr big ↦ omega arith ]
+
+      no_quote : c ≢ quote
+      no_quote is =
+          let same : x ≡ 34 = first (omega arith) ∙ is in
+          both_ways (is_real_quote b m) (none m l h) (real_quote b m (bs ++ zs) (e ∙ ap (λ y. y ∷ (bs ++ zs)) same) even)
+
+      no_backslash : c ≢ backslash
+      no_backslash is = eqb-false x 92 other (first (omega arith) ∙ is)
+
+  -- What is read to the end begins with a piece.
+  first-piece : (m x : ℕ) (bs t : List ℕ) → start ≤ m → m < stop → drop m b ≡ x ∷ (bs ++ zs) → is_even (backslashes_before b m) ≡ true → IsUtf8 (x ∷ bs)
+      → read_pieces 0 (x ∷ bs) ≡ (t, []) → HasPiece (x ∷ bs)
+  first-piece m x bs t l h e even u read =
+      elim (cases_Bool (nat_eq x 92)) [
+        | inl is ↦
+            let same : 92 ≡ x = sym (eqb-true x 92 is) in
+            subst (λ y. HasPiece (y ∷ bs)) same (escape-piece bs t (ap (λ y. read_pieces 0 (y ∷ bs)) same ∙ read))
+        | inr other ↦ plain-piece m x bs l h e even other u
+      ]
+
+  -- at most n bytes, which stand at index m up to stop and are read to the end
+  pub record IsContent (n m : ℕ) (bs t : List ℕ) : Type 0 where
+    pub short : length bs ≤ n
+    pub from : start ≤ m
+    pub size : m + length bs ≡ stop
+    pub at : drop m b ≡ bs ++ zs
+    pub even : is_even (backslashes_before b m) ≡ true
+    pub utf8 : IsUtf8 bs
+    pub read : read_pieces 0 bs ≡ (t, [])
+
+  -- pieces for characters, of which the text is the UTF-8
+  abbrev pub AreRead : List ℕ → List ℕ → Type 0
+  AreRead bs t = (cs : List ℕ) × ArePieces bs cs × (t ≡ encode_utf8_all cs)
+
+  -- A piece and those behind it are pieces.
+  pieces-step : (n m : ℕ) (bs t : List ℕ) → ((k : ℕ) (us s : List ℕ) → IsContent n k us s → AreRead us s) → IsContent (suc n) m bs t → HasPiece bs → AreRead bs t
+  pieces-step n m bs t behind h p = (p.character ∷ more.0, (p.piece, p.behind, p.whole, p.is, more.1), ap (λ (r : List ℕ × List ℕ). r.0) same ∙ ap (λ s. encode_utf8 p.character ++ s) more.2)
+    where
+      rest : List ℕ × List ℕ
+      rest = read_pieces 0 p.behind
+
+      same : ◌≡◌ {A = List ℕ × List ℕ} (t, []) (encode_utf8 p.character ++ rest.0, rest.1)
+      same = sym h.read ∙ ap (read_pieces 0) p.whole ∙ read_piece p.piece p.behind p.character p.is
+
+      passed : Passed b m p.piece (p.behind ++ zs)
+      passed = pass_piece b m p.piece (p.behind ++ zs) p.character p.is (h.at ∙ ap (λ us. us ++ zs) p.whole ∙ append_assoc p.piece p.behind zs) h.even
+
+      whole : length bs ≡ length p.piece + length p.behind
+      whole = ap length p.whole ∙ length-append p.piece p.behind
+
+      more : AreRead p.behind rest.0
+      more = behind passed.end p.behind rest.0 (record {
+        short = omega (arith, h.short, whole, p.some);
+        from = omega (arith, h.from, passed.at);
+        size = omega (arith, h.size, whole, passed.at);
+        at = passed.rest;
+        even = (passed.quiet).even;
+        utf8 = p.utf8 h.utf8;
+        read = ap (λ us. (rest.0, us)) (sym (ap (λ (r : List ℕ × List ℕ). r.1) same));
+      })
+
+  -- What is read to the end is pieces.
+  pub pieces-read : (n m : ℕ) (bs t : List ℕ) → IsContent n m bs t → AreRead bs t
+  unfolding read_pieces
+  pieces-read n m [] t h = ([], refl, ap (λ (r : List ℕ × List ℕ). r.0) (sym h.read))
+  pieces-read zero m (x ∷ bs) t h = absurd (omega (arith, h.short))
+  pieces-read (suc n) m (x ∷ bs) t h = pieces-step n m (x ∷ bs) t (pieces-read n) h (first-piece m x bs t h.from (omega (arith, h.size)) h.at h.even h.utf8 h.read)

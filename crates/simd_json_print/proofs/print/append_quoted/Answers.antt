@@ -1,0 +1,25 @@
+use Rattle.std.proofs.Common.{◌≡◌, ◌∙◌, ap, ◌++◌, ◌∷◌, [], List, ℕ, take, length, flat_map, append_assoc, append-nil, sym, arith}
+use Rattle.std.proofs.Math.Seq.{take-length}
+use Rattle.simd_json_parts.specs.Bytes.{quote}
+use Rattle.simd_json_parts.specs.Printed.{escaped_byte, quoted}
+use Rattle.simd_json_print.proofs.FlatMaps.{appended-more}
+use Rattle.simd_json_print.proofs.print.append_quoted.Goals as goal
+
+pub loop-byte-init : goal.loop-byte-init
+loop-byte-init g c = c.in_ok-push.ensures.items ∙ sym (append-nil (c.args.out.now.items ++ quote ∷ []))
+
+pub loop-byte-preserved : goal.loop-byte-preserved
+loop-byte-preserved g c =
+    appended-more escaped_byte c.as_bytes-byte-items.result.now c.loop-byte.byte-index 0 (c.args.out.now.items ++ quote ∷ []) c.loop-byte.out.items c.append_byte.new.out.items
+    c.loop-byte-test.true c.loop-byte.invariant c.in_ok-append_byte.ensures
+
+pub returns : goal.returns
+unfolding quoted
+returns g c =
+    let bytes : List ℕ = c.as_bytes-byte-items.result.now in
+    let done : c.loop-byte.byte-index ≡ length bytes = omega arith in
+    let before : List ℕ = c.args.out.now.items in
+    c.in_ok-push-2.ensures.items ∙ ap (λ xs. xs ++ quote ∷ []) c.loop-byte.invariant
+    ∙ ap (λ xs. ((before ++ quote ∷ []) ++ flat_map escaped_byte xs) ++ quote ∷ []) (ap (λ n. take n bytes) done ∙ take-length bytes ∙ c.as_bytes-byte-items.ensures.value)
+    ∙ append_assoc (before ++ quote ∷ []) (flat_map escaped_byte c.args.text.now) (quote ∷ [])
+    ∙ append_assoc before (quote ∷ []) (flat_map escaped_byte c.args.text.now ++ quote ∷ [])
