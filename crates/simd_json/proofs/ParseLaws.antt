@@ -1,5 +1,5 @@
 -- From what the steps of a parse find to what the definitions answer.
-use Rattle.std.proofs.Common.{◌≡◌, ◌∙◌, ap, sym, subst, ◌<◌, ◌≤◌, ℕ, List, [], length, Bool, true, false, not, Some, None, Option, Ok, Err, IsUtf8, refl, arith, cond, nat_lt, nat_eq, zero, suc, take, drop, ◌++◌, Result, map, min, ◌⊎◌, inl, inr}
+use Rattle.std.proofs.Common.{◌≡◌, ◌∙◌, ap, sym, subst, ◌<◌, ◌≤◌, ℕ, List, [], length, Bool, true, false, not, Some, None, Option, Ok, Err, IsUtf8, refl, arith, cond, nat_lt, nat_eq, zero, suc, take, drop, ◌++◌, Result, map, min, ◌⊎◌, inl, inr, ◌*◌}
 use Rattle.std.specs.Str.{is_utf8}
 use Rattle.std.specs.Result.{is_err, IsErrAnd, MatchResult, IfErr}
 use Rattle.std.proofs.lemmas.List.{length-map, length-take-le}
@@ -19,7 +19,7 @@ use Rattle.simd_json_stages.specs.Building.{IsListed, HasUnbuilt}
 use Rattle.simd_json_stages.specs.Refusals.{IsTokenFault}
 use Rattle.simd_json.specs.Parsed.{IsParsed, IsRefused, LacksMemory}
 use Rattle.simd_json_parts.specs.Listing.{IsTape}
-use Rattle.simd_json.specs.Rooms.{room_of}
+use Rattle.simd_json.specs.Rooms.{tokens_of, room_of}
 use Rattle.simd_json_parts.specs.Faults.{whole_fault}
 use Rattle.simd_json_parts.specs.InputFaults.{input_fault, scan_fault, has_bad_text}
 use Rattle.simd_json_parts.specs.Limits.{max_length}
@@ -118,8 +118,8 @@ tape-parsed b limit items p = inr (p.document, IsSpellable-derived b p.document 
 -- ---- room
 
 -- a stack that is too short bounds the room
-pub short-stack : (p s limit count n : ℕ) → s < min count limit → count ≤ n → room_of p s limit < n
-short-stack p s limit count n l m = subst (λ t. cond t (min p s) p < n) (sym (lt-ltb s limit (omega (arith, l)))) (omega (arith, l, m))
+pub short-stack : (p blocks s limit count n : ℕ) → s < min count limit → count ≤ n → room_of (tokens_of p s limit) blocks < n
+short-stack p blocks s limit count n l m = subst (λ t. min (cond t (min p s) p) (64 * blocks) < n) (sym (lt-ltb s limit (omega (arith, l)))) (omega (arith, l, m))
 
 -- ---- lists that are lent
 

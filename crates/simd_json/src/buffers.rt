@@ -11,22 +11,23 @@ use simd_json_stages::stage2::StackState;
 use std::alloc::{Allocator, Global};
 use std::marker::Model;
 
-// Both lists are kept filled up to their room.
+// The lists are kept filled up to their room.
 #[derive(Drop)]
 pub(crate) struct Buffers<A: Allocator = Global> {
     pub(crate) structural_indexes: Vec<u32, A>,
     pub(crate) used: usize,
+    pub(crate) escape_blocks: Vec<u32, A>,
     pub(crate) stack: Vec<StackState, A>,
     pub(crate) max_depth: usize,
 }
 
 impl<A: Allocator> Model for Buffers<A> {
-    ghost use Rattle.std.specs.Prelude.{◌≤◌, length, take};
-    ghost use Rattle.simd_json.specs.Rooms.{Rooms, room_of};
+    ghost use Rattle.std.specs.Prelude.{◌≤◌, length};
+    ghost use Rattle.simd_json.specs.Rooms.{Rooms, rooms_of};
 
     ghost Value = { Rooms };
 
-    ghost view = { λ b. record { positions = take b.used b.structural_indexes.items; limit = b.max_depth; room = room_of (length b.structural_indexes.items) (length b.stack.items) b.max_depth } };
+    ghost view = { λ b. rooms_of b.structural_indexes.items b.used (length b.escape_blocks.items) (length b.stack.items) b.max_depth };
 
     ghost invariant = { λ b. b.used ≤ length b.structural_indexes.items };
 }
@@ -39,6 +40,7 @@ impl<A: Allocator + Copy> Buffers<A> {
         Buffers {
             structural_indexes: Vec::new(a),
             used: 0,
+            escape_blocks: Vec::new(a),
             stack: Vec::new(a),
             max_depth,
         }
@@ -55,7 +57,7 @@ impl<A: Allocator> Buffers<A> {
 
     // Lists no position, and keeps its room.
     pub(crate) fn clear(&mut self)
-        ensures { self.new ≡ record { positions = []; limit = self.old.limit; room = self.old.room } }
+        ensures { self.new ≡ record { positions = []; limit = self.old.limit; tokens = self.old.tokens; room = self.old.room } }
     {
         self.used = 0;
     }
@@ -65,7 +67,7 @@ impl<A: Allocator> Buffers<A> {
     pub(crate) fn find_positions(&mut self, input: &[u8]) -> Result<()>
         requires { length input.now < 2 ^ 32 }
         ensures found { OnOk result ((self.new.positions ≡ positions input.now) × (scan_fault input.now ≡ None)) }
-        ensures enough { OnOk result (length (positions input.now) ≤ self.new.room) }
+        ensures enough { OnOk result (length (positions input.now) ≤ self.new.tokens) }
         ensures empty { OnErr result (self.new.positions ≡ []) }
         ensures limit { self.new.limit ≡ self.old.limit }
         ensures kept { self.old.room ≤ self.new.room }
@@ -73,13 +75,16 @@ impl<A: Allocator> Buffers<A> {
             ⊎ ((e ≡ whole_fault ErrorType.OutOfMemory) × (self.old.room < length input.now))) }
     {
         self.used = 0;
-        let list = &mut self.structural_indexes;
-        let count = PlainStage1Parse::find_structural_bits(input, list)?;
-        let depth = count.min(self.max_depth);
+        let found = PlainStage1Parse::find_structural_bits(
+            input,
+            &mut self.structural_indexes,
+            &mut self.escape_blocks,
+        )?;
+        let depth = found.positions.min(self.max_depth);
         if self.stack.len() < depth {
             self.stack.resize(depth, StackState::default())?;
         }
-        self.used = count;
+        self.used = found.positions;
         Ok(())
     }
 }

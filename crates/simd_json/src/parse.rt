@@ -52,7 +52,7 @@ fn build<'de, A: Allocator, B: Allocator>(
     tape: &mut Tape<'de, B>,
 ) -> Result<()>
     requires positions { (buffers.old.positions ≡ positions s.old) × (input_fault s.old ≡ None) }
-    requires rooms { (length (positions s.old) ≤ buffers.old.room) × (length (positions s.old) ≤ tape.old.room) }
+    requires rooms { (length (positions s.old) ≤ buffers.old.tokens) × (length (positions s.old) ≤ tape.old.room) }
     requires empty { tape.old.nodes ≡ [] }
     ensures tape { OnOk result (IsParsed s.old buffers.old.limit tape.new.nodes) }
     ensures empty { OnErr result (tape.new.nodes ≡ []) }

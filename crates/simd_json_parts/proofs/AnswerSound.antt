@@ -8,10 +8,9 @@ use Rattle.simd_json_parts.specs.Grammar.{Derives}
 use Rattle.simd_json_parts.specs.InputFaults.{input_fault}
 use Rattle.simd_json_parts.specs.Limits.{WithinLimits, depth, IntegersFit}
 use Rattle.simd_json_parts.specs.declared.error.Error.{Error}
-use Rattle.simd_json_parts.proofs.TokensSound.{tokens-spelled}
+use Rattle.simd_json_parts.proofs.TokensStand.{tokens-spelled}
 use Rattle.simd_json_parts.proofs.DescentSound.{descent-sound}
 use Rattle.simd_json_parts.proofs.CleanInputs.{IsClean, IsClean-input}
-use Rattle.simd_json_parts.proofs.TextStands.{text-stands}
 
 -- A document comes from the descent of an input without a fault.
 fault_or-Ok : (o : Option Error) (r : Result Document Error) (d : Document) → fault_or o r ≡ Ok d → (o ≡ None) × (r ≡ Ok d)
@@ -25,5 +24,5 @@ answer-sound b limit d is =
     let parts : (input_fault b ≡ None) × (descent b limit ≡ Ok d) = fault_or-Ok _ _ d is in
     let fine : IsClean b = IsClean-input b parts.0 in
     let Sound : Document → Type 0 = λ d. Derives b d × IntegersFit d × (depth d ≤ limit) in
-    let sound : Sound d = subst (λ r. IfOk r Sound) parts.1 (descent-sound b limit (tokens-spelled b (text-stands b fine))) in
+    let sound : Sound d = subst (λ r. IfOk r Sound) parts.1 (descent-sound b limit (tokens-spelled b fine)) in
     (sound.0, record { size = fine.size; nesting = sound.2; integers = sound.1 })

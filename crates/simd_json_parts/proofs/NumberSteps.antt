@@ -19,7 +19,7 @@ no_byte d c n =
     n (omega (arith, leb-true d c both.0, leb-true c d both.1)))
 
 -- at a digit, where d is none
-no_digit : (d c : ℕ) → is_ascii_digit c ≡ true → is_ascii_digit d ≡ false → (nat_le d c && nat_le c d) ≡ false
+pub no_digit : (d c : ℕ) → is_ascii_digit c ≡ true → is_ascii_digit d ≡ false → (nat_le d c && nat_le c d) ≡ false
 no_digit d c h n = no_byte d c (λ e. both_ways (is_ascii_digit d) n (ap is_ascii_digit (sym e) ∙ h))
 
 -- at no digit, where d is one

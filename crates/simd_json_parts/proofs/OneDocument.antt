@@ -17,12 +17,12 @@ same-leading d e xs ys r s h g f = Leads-one (leading d) (leading e) xs ys r s (
 -- ---- what stands behind a value
 
 -- More elements up to a closing bracket begin with what ends a value,
-more_elements-Delimited : (ds : Elements) (xs rest : List ℕ) → AreMoreElements ds xs → Delimited (xs ++ right_bracket ∷ rest)
+pub more_elements-Delimited : (ds : Elements) (xs rest : List ℕ) → AreMoreElements ds xs → Delimited (xs ++ right_bracket ∷ rest)
 more_elements-Delimited no_elements xs rest h = subst (λ us. Delimited (us ++ right_bracket ∷ rest)) (sym h) (refl, refl)
 more_elements-Delimited (element d ds) xs rest h = subst (λ us. Delimited (us ++ right_bracket ∷ rest)) (sym h.1) (refl, refl)
 
 -- and so do more members up to a closing brace.
-more_members-Delimited : (ms : Members) (xs rest : List ℕ) → AreMoreMembers ms xs → Delimited (xs ++ right_brace ∷ rest)
+pub more_members-Delimited : (ms : Members) (xs rest : List ℕ) → AreMoreMembers ms xs → Delimited (xs ++ right_brace ∷ rest)
 more_members-Delimited no_members xs rest h = subst (λ us. Delimited (us ++ right_brace ∷ rest)) (sym h) (refl, refl)
 more_members-Delimited (member k d ms) xs rest h = subst (λ us. Delimited (us ++ right_brace ∷ rest)) (sym h.1) (refl, refl)
 
@@ -40,7 +40,7 @@ row-one d ds value more =
     (spaced-one Document IsValue value-NoSpace d value) more
 
 -- what stands behind a name: its value and the members behind it
-abbrev AreValueRow : Document × Members → List ℕ → Type 0
+abbrev pub AreValueRow : Document × Members → List ℕ → Type 0
 AreValueRow p bs = Behind colon (Joined (Spaced (IsValue p.0)) (AreMoreMembers p.1)) bs
 
 -- What stands behind a name is told.
@@ -52,7 +52,7 @@ value_row-one d ms value more =
     (spaced-one Document IsValue value-NoSpace d value) more)
 
 -- the bytes are this name
-abbrev IsName : List ℕ → List ℕ → Type 0
+abbrev pub IsName : List ℕ → List ℕ → Type 0
 IsName k bs = IsTextLiteral bs k
 
 -- a member and those behind it
@@ -90,7 +90,7 @@ no_names k d ms xs ys r s w h e =
 
 mutual
   -- A value is told, where its end stands behind it.
-  value-one : (d : Document) → OneFront Document IsValue Ended d
+  pub value-one : (d : Document) → OneFront Document IsValue Ended d
   value-one null null xs ys r s h g f t u = (refl, ap (drop 4) (append-replace xs ys (codes "null") (codes "null") r s h g f))
   value-one (boolean a) (boolean b) xs ys r s h g f t u = boolean-one a b xs ys r s h g f
   value-one (integer minus m) (integer minus' n) xs ys r s h g f t u = integer-one minus minus' m n xs ys r s h g f t u

@@ -19,13 +19,13 @@ pub IsStrictlyIncreasing-positions : (b : List ℕ) → IsStrictlyIncreasing (po
 unfolding positions
 IsStrictlyIncreasing-positions b = IsStrictlyIncreasing-filter (is_position b) (indices b) (IsStrictlyIncreasing-range_with_len 0 (length b))
 
-Contains-range_with_len : (n i : ℕ) → Contains (range_with_len 0 n) i ↔ (i < n)
+pub Contains-range_with_len : (n i : ℕ) → Contains (range_with_len 0 n) i ↔ (i < n)
 Contains-range_with_len n i = (
   λ c. omega (arith, get_or-range_with_len 0 n c.0 i, length-range_with_len 0 n, c.1, c.2),
   λ l. (i, omega (arith, length-range_with_len 0 n), omega (arith, get_or-range_with_len 0 n i i)),
 )
 
-Contains-filter_from : (p : ℕ → Bool) (xs : List ℕ) (x : ℕ) → Contains xs x → IsTrue (p x) → Contains (filter p xs) x
+pub Contains-filter_from : (p : ℕ → Bool) (xs : List ℕ) (x : ℕ) → Contains xs x → IsTrue (p x) → Contains (filter p xs) x
 Contains-filter_from p [] x c passes = absurd (omega arith)
 Contains-filter_from p (y ∷ ys) x (zero, l, e) passes = rw (ap p e ∙ passes) (0, omega arith, e)
 Contains-filter_from p (y ∷ ys) x (suc k, l, e) passes =

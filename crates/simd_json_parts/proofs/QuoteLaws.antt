@@ -87,7 +87,8 @@ pass_append b k xs ys zs p more =
     let q : Passed b p.end ys zs = more p.end p.quiet.even p.rest in
     record { end = q.end; at = q.at ∙ ap (λ n. n + length ys) p.at ∙ add_assoc k (length xs) (length ys) ∙ ap (λ n. k + n) (sym (length-append xs ys)); quiet = quiet-append b k p.end q.end p.quiet q.quiet; rest = q.rest }
 
-not_byte : (a n : ℕ) → is_digit n 16 ≡ false → is_digit a 16 ≡ true → nat_eq a n ≡ false
+-- a digit is no other byte that is none
+pub not_byte : (a n : ℕ) → is_digit n 16 ≡ false → is_digit a 16 ≡ true → nat_eq a n ≡ false
 not_byte a n bad good = elim (cases_Bool (nat_eq a n)) [ inl h ↦ absurd (false≢true (sym bad ∙ ap (λ m. is_digit m 16) (sym (eqb-true a n h)) ∙ good)) | inr h ↦ h ]
 
 pass_digit : (b : List ℕ) (k a : ℕ) (zs : List ℕ) → drop k b ≡ a ∷ zs → is_digit a 16 ≡ true → Passed b k (a ∷ []) zs

@@ -64,7 +64,7 @@ positions_from b k = filter (is_position b) (range_with_len k (length b - k))
 pub positions_from-end : (b : List ℕ) (k : ℕ) → length b ≤ k → positions_from b k ≡ []
 positions_from-end b k l = let none : length b - k ≡ 0 = omega arith in ap (λ n. filter (is_position b) (range_with_len k n)) none
 
-range-step : (k n : ℕ) → k < n → range_with_len k (n - k) ≡ k ∷ range_with_len (suc k) (n - suc k)
+pub range-step : (k n : ℕ) → k < n → range_with_len k (n - k) ≡ k ∷ range_with_len (suc k) (n - suc k)
 range-step k n l =
     let less : n - k ≡ suc (n - suc k) = omega arith in
     let next : k + 1 ≡ suc k = omega arith in

@@ -1,5 +1,5 @@
--- A text that is read stands there: between its quotes are pieces for its characters.
-use Rattle.std.proofs.Common.{◌≡◌, ◌≢◌, refl, sym, ◌∙◌, ap, subst, ℕ, zero, suc, ◌+◌, ◌<◌, ◌≤◌, inl, inr, List, [], ◌∷◌, ◌++◌, length, drop, true, false, nat_eq, length-append, append_assoc, IsUtf8, arith}
+-- What is read of a text are pieces for its characters, up to where none stands.
+use Rattle.std.proofs.Common.{◌≡◌, ◌≢◌, refl, sym, ◌∙◌, ap, subst, ℕ, zero, suc, ◌+◌, ◌<◌, ◌≤◌, ◌⊎◌, inl, inr, List, [], ◌∷◌, ◌++◌, length, drop, true, false, nat_eq, length-append, append_assoc, IsUtf8, arith}
 use Rattle.std.specs.Prelude.{None, encode_utf8_all}
 use Rattle.std.specs.Char.{encode_utf8}
 use Rattle.std.proofs.lemmas.Bool.{cases_Bool, cases_lt, and_parts, eqb-true, eqb-false, both_ways}
@@ -18,14 +18,6 @@ use Rattle.simd_json_parts.proofs.EscapeSound.{HasPiece, escape-cases}
 read_pieces-refused : (bs : List ℕ) → escape_at (92 ∷ bs) ≡ None → read_pieces 0 (92 ∷ bs) ≡ ([], 92 ∷ bs)
 unfolding read_pieces piece_at
 read_pieces-refused bs none = ap (λ o. with_piece o (92 ∷ bs) (λ n. read_pieces n bs)) none
-
--- A backslash in what is read to the end begins a piece.
-escape-piece : (bs t : List ℕ) → read_pieces 0 (92 ∷ bs) ≡ (t, []) → HasPiece (92 ∷ bs)
-escape-piece bs t e =
-    elim (escape-cases bs) [
-      | inl none ↦ let left : 92 ∷ bs ≡ [] = ap (λ (r : List ℕ × List ℕ). r.1) (sym (read_pieces-refused bs none) ∙ e) in absurd (omega (arith, ap length left))
-      | inr p ↦ p
-    ]
 
 -- From start up to stop there is no real quote and no control byte; zs stands behind.
 module _ (b : List ℕ) (start stop : ℕ) (zs : List ℕ) (none : NoneBetween (is_real_quote b) start stop) (plain : (j : ℕ) → start ≤ j → j < stop → 32 ≤ byte_at b j) where
@@ -57,40 +49,49 @@ module _ (b : List ℕ) (start stop : ℕ) (zs : List ℕ) (none : NoneBetween (
       no_backslash : c ≢ backslash
       no_backslash is = eqb-false x 92 other (first (omega arith) ∙ is)
 
-  -- What is read to the end begins with a piece.
-  first-piece : (m x : ℕ) (bs t : List ℕ) → start ≤ m → m < stop → drop m b ≡ x ∷ (bs ++ zs) → is_even (backslashes_before b m) ≡ true → IsUtf8 (x ∷ bs)
-      → read_pieces 0 (x ∷ bs) ≡ (t, []) → HasPiece (x ∷ bs)
-  first-piece m x bs t l h e even u read =
+  -- What begins with no piece is left.
+  first-piece : (m x : ℕ) (bs : List ℕ) → start ≤ m → m < stop → drop m b ≡ x ∷ (bs ++ zs) → is_even (backslashes_before b m) ≡ true → IsUtf8 (x ∷ bs)
+      → (read_pieces 0 (x ∷ bs) ≡ ([], x ∷ bs)) ⊎ HasPiece (x ∷ bs)
+  first-piece m x bs l h e even u =
       elim (cases_Bool (nat_eq x 92)) [
         | inl is ↦
             let same : 92 ≡ x = sym (eqb-true x 92 is) in
-            subst (λ y. HasPiece (y ∷ bs)) same (escape-piece bs t (ap (λ y. read_pieces 0 (y ∷ bs)) same ∙ read))
-        | inr other ↦ plain-piece m x bs l h e even other u
+            subst (λ y. (read_pieces 0 (y ∷ bs) ≡ ([], y ∷ bs)) ⊎ HasPiece (y ∷ bs)) same (elim (escape-cases bs) [ inl none ↦ inl (read_pieces-refused bs none) | inr p ↦ inr p ])
+        | inr other ↦ inr (plain-piece m x bs l h e even other u)
       ]
 
-  -- at most n bytes, which stand at index m up to stop and are read to the end
-  pub record IsContent (n m : ℕ) (bs t : List ℕ) : Type 0 where
+  -- at most n bytes, which stand at index m up to stop
+  pub record IsContent (n m : ℕ) (bs : List ℕ) : Type 0 where
     pub short : length bs ≤ n
     pub from : start ≤ m
     pub size : m + length bs ≡ stop
     pub at : drop m b ≡ bs ++ zs
     pub even : is_even (backslashes_before b m) ≡ true
     pub utf8 : IsUtf8 bs
-    pub read : read_pieces 0 bs ≡ (t, [])
 
-  -- pieces for characters, of which the text is the UTF-8
-  abbrev pub AreRead : List ℕ → List ℕ → Type 0
-  AreRead bs t = (cs : List ℕ) × ArePieces bs cs × (t ≡ encode_utf8_all cs)
+  -- pieces up to what is left, for characters of which the text is the UTF-8
+  pub record AreRead (bs : List ℕ) (r : List ℕ × List ℕ) : Type 0 where
+    pub own : List ℕ
+    pub characters : List ℕ
+    pub whole : bs ≡ own ++ r.1
+    pub pieces : ArePieces own characters
+    pub text : r.0 ≡ encode_utf8_all characters
 
   -- A piece and those behind it are pieces.
-  pieces-step : (n m : ℕ) (bs t : List ℕ) → ((k : ℕ) (us s : List ℕ) → IsContent n k us s → AreRead us s) → IsContent (suc n) m bs t → HasPiece bs → AreRead bs t
-  pieces-step n m bs t behind h p = (p.character ∷ more.0, (p.piece, p.behind, p.whole, p.is, more.1), ap (λ (r : List ℕ × List ℕ). r.0) same ∙ ap (λ s. encode_utf8 p.character ++ s) more.2)
+  pieces-step : (n m : ℕ) (bs : List ℕ) → ((k : ℕ) (us : List ℕ) → IsContent n k us → AreRead us (read_pieces 0 us)) → IsContent (suc n) m bs → HasPiece bs → AreRead bs (read_pieces 0 bs)
+  pieces-step n m bs behind h p = subst (AreRead bs) (sym same) (record {
+    own = p.piece ++ more.own;
+    characters = p.character ∷ more.characters;
+    whole = p.whole ∙ ap (λ us. p.piece ++ us) more.whole ∙ sym (append_assoc p.piece more.own rest.1);
+    pieces = (p.piece, more.own, refl, p.is, more.pieces);
+    text = ap (λ s. encode_utf8 p.character ++ s) more.text;
+  })
     where
       rest : List ℕ × List ℕ
       rest = read_pieces 0 p.behind
 
-      same : ◌≡◌ {A = List ℕ × List ℕ} (t, []) (encode_utf8 p.character ++ rest.0, rest.1)
-      same = sym h.read ∙ ap (read_pieces 0) p.whole ∙ read_piece p.piece p.behind p.character p.is
+      same : ◌≡◌ {A = List ℕ × List ℕ} (read_pieces 0 bs) (encode_utf8 p.character ++ rest.0, rest.1)
+      same = ap (read_pieces 0) p.whole ∙ read_piece p.piece p.behind p.character p.is
 
       passed : Passed b m p.piece (p.behind ++ zs)
       passed = pass_piece b m p.piece (p.behind ++ zs) p.character p.is (h.at ∙ ap (λ us. us ++ zs) p.whole ∙ append_assoc p.piece p.behind zs) h.even
@@ -98,20 +99,26 @@ module _ (b : List ℕ) (start stop : ℕ) (zs : List ℕ) (none : NoneBetween (
       whole : length bs ≡ length p.piece + length p.behind
       whole = ap length p.whole ∙ length-append p.piece p.behind
 
-      more : AreRead p.behind rest.0
-      more = behind passed.end p.behind rest.0 (record {
+      more : AreRead p.behind rest
+      more = behind passed.end p.behind (record {
         short = omega (arith, h.short, whole, p.some);
         from = omega (arith, h.from, passed.at);
         size = omega (arith, h.size, whole, passed.at);
         at = passed.rest;
         even = (passed.quiet).even;
         utf8 = p.utf8 h.utf8;
-        read = ap (λ us. (rest.0, us)) (sym (ap (λ (r : List ℕ × List ℕ). r.1) same));
       })
 
-  -- What is read to the end is pieces.
-  pub pieces-read : (n m : ℕ) (bs t : List ℕ) → IsContent n m bs t → AreRead bs t
+  -- Nothing is read where nothing is read first.
+  nothing : (bs : List ℕ) → read_pieces 0 bs ≡ ([], bs) → AreRead bs (read_pieces 0 bs)
+  nothing bs e = subst (AreRead bs) (sym e) (record { own = []; characters = []; whole = refl; pieces = refl; text = refl })
+
+  -- What is read is pieces.
+  pub pieces-read : (n m : ℕ) (bs : List ℕ) → IsContent n m bs → AreRead bs (read_pieces 0 bs)
   unfolding read_pieces
-  pieces-read n m [] t h = ([], refl, ap (λ (r : List ℕ × List ℕ). r.0) (sym h.read))
-  pieces-read zero m (x ∷ bs) t h = absurd (omega (arith, h.short))
-  pieces-read (suc n) m (x ∷ bs) t h = pieces-step n m (x ∷ bs) t (pieces-read n) h (first-piece m x bs t h.from (omega (arith, h.size)) h.at h.even h.utf8 h.read)
+  pieces-read n m [] h = nothing [] refl
+  pieces-read zero m (x ∷ bs) h = absurd (omega (arith, h.short))
+  pieces-read (suc n) m (x ∷ bs) h = elim (first-piece m x bs h.from (omega (arith, h.size)) h.at h.even h.utf8) [
+    | inl none ↦ nothing (x ∷ bs) none
+    | inr p ↦ pieces-step n m (x ∷ bs) (pieces-read n) h p
+  ]

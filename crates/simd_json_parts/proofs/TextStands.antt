@@ -1,19 +1,25 @@
--- A text that is read at a boundary of an input without a fault stands there, from its opening quote to its closing one.
-use Rattle.std.proofs.Common.{◌≡◌, refl, sym, ◌∙◌, ap, subst, ℕ, suc, ◌+◌, ◌-◌, ◌<◌, ◌≤◌, inl, inr, List, [], ◌∷◌, ◌++◌, length, take, drop, get_or, true, false, ◌==◌, append_assoc, length-drop, IsUtf8, arith}
+-- A text that is read at a boundary of an input without a fault stands there, from its opening quote to its closing one, and
+-- where it has a fault, the bytes before that are the beginning of a text.
+use Rattle.std.proofs.Common.{◌≡◌, refl, sym, ◌∙◌, ap, subst, ℕ, suc, ◌+◌, ◌-◌, ◌<◌, ◌≤◌, inl, inr, List, [], ◌∷◌, ◌++◌, length, take, drop, get_or, true, false, ◌==◌, append_assoc, length-append, length-drop, append-nil, false, IsUtf8, arith}
 use Rattle.std.specs.Str.{IsCharBoundary}
-use Rattle.std.proofs.lemmas.Bool.{cases_Bool, cases_lt, and_parts, eqb-true, ltb-false, both_ways}
+use Rattle.std.proofs.lemmas.Bool.{cases_Bool, cond_both, cases_lt, and_parts, eqb-true, ltb-false, both_ways}
 use Rattle.std.proofs.lemmas.List.{take-append-drop, drop-drop, length-take-le}
 use Rattle.std.proofs.lemmas.Str.{IsUtf8-between, IsCharBoundary-after_ascii, IsCharBoundary-before_ascii}
 use Rattle.std.proofs.Math.Seq.{drop-cons}
+use Rattle.std.specs.Prelude.{encode_utf8_all}
 use Rattle.simd_json_parts.specs.Bytes.{quote, byte_at, is_control}
+use Rattle.simd_json_parts.specs.ErrorKinds.{is_unexpected_token}
+use Rattle.simd_json_parts.specs.declared.error.ErrorType.TheVariants.{InvalidEscape, InvalidUnicodeCodepoint}
+use Rattle.simd_json_parts.specs.Text.{lower_u, ArePieces}
 use Rattle.simd_json_parts.specs.Positions.{is_even, is_real_quote, is_inside}
 use Rattle.simd_json_parts.specs.TextAt.{closing_quote, read_pieces, text_read, text_at}
 use Rattle.simd_json_parts.proofs.BoundaryLaws.{Boundary, closing_quote-next, closed-inside}
-use Rattle.simd_json_parts.proofs.Drops.{drop-head}
+use Rattle.simd_json_parts.proofs.Drops.{drop-head, drop-through}
 use Rattle.simd_json_parts.proofs.QuoteLaws.{run_ends}
 use Rattle.simd_json_parts.proofs.ScanLaws.{NoneBetween, is_inside-at}
 use Rattle.simd_json_parts.proofs.TokensSound.{TextStands}
-use Rattle.simd_json_parts.proofs.TextSound.{IsContent, AreRead, pieces-read}
+use Rattle.simd_json_parts.proofs.FaultsWithin.{TextFault}
+use Rattle.simd_json_parts.proofs.TextSound.{AreRead, pieces-read}
 use Rattle.simd_json_parts.proofs.CleanInputs.{IsClean, control-inside}
 
 -- the text that opens at a boundary of such an input
@@ -58,6 +64,9 @@ module _ (b : List ℕ) (fine : IsClean b) (k : ℕ) (l : k < length b) (at : Bo
       let there : suc k + (close - suc k) ≡ close = omega (arith, next.0) in
       sym (take-append-drop (close - suc k) (drop (suc k) b)) ∙ ap (λ us. content ++ us) (drop-drop (close - suc k) (suc k) b ∙ ap (λ i. drop i b) there)
 
+  size : suc k + length content ≡ close
+  size = omega (arith, next.0, closes, length-take-le (close - suc k) (drop (suc k) b) (omega (arith, closes, length-drop (suc k) b)))
+
   -- The content lies between two bytes of ASCII, so it is UTF-8.
   quote-ascii : (i : ℕ) → i < length b → drop i b ≡ quote ∷ drop (suc i) b → get_or b i 0 < 128
   quote-ascii i h is = omega (arith, drop-head i b (get_or b i 0) (drop (suc i) b) (drop-cons b i 0 h), drop-head i b quote (drop (suc i) b) is)
@@ -69,30 +78,47 @@ module _ (b : List ℕ) (fine : IsClean b) (k : ℕ) (l : k < length b) (at : Bo
       (subst (λ i. IsCharBoundary b i) further (IsCharBoundary-after_ascii b k fine.utf8 l (quote-ascii k l at_open)))
       (IsCharBoundary-before_ascii b close closes (quote-ascii close closes at_close))
 
-  -- It is read as pieces.
-  content-read : (t : List ℕ) → read_pieces 0 content ≡ (t, []) → IsContent b (suc k) close behind next.1 printed (length content) (suc k) content t
-  content-read t read = record {
+  -- It is read as pieces, up to what is left.
+  content-read : AreRead b (suc k) close behind next.1 printed content (read_pieces 0 content)
+  content-read = pieces-read b (suc k) close behind next.1 printed (length content) (suc k) content (record {
     short = omega arith;
     from = omega arith;
-    size = omega (arith, next.0, closes, length-take-le (close - suc k) (drop (suc k) b) (omega (arith, closes, length-drop (suc k) b)));
+    size = size;
     at = at_content;
     even = ap is_even (run_ends b k 34 (drop (suc k) b) at_open refl);
     utf8 = content-utf8;
-    read = read;
-  }
+  })
 
   -- So the text stands there, unless something is left.
-  read-stands : (r : List ℕ × List ℕ) → read_pieces 0 content ≡ r → TextStands b k (text_read r close)
-  read-stands (t, []) read =
-      let pieces : AreRead b (suc k) close behind next.1 printed content t = pieces-read b (suc k) close behind next.1 printed (length content) (suc k) content t (content-read t read) in
+  read-stands : (r : List ℕ × List ℕ) → AreRead b (suc k) close behind next.1 printed content r → TextStands b k (text_read r close)
+  read-stands (t, []) h =
+      let whole : h.own ≡ content = sym (h.whole ∙ append-nil h.own) in
       record {
         own = quote ∷ (content ++ quote ∷ []);
         split = at_open ∙ ap (λ us. quote ∷ us) (at_content ∙ ap (λ us. content ++ us) at_close ∙ sym (append_assoc content (quote ∷ []) (drop (suc close) b)));
-        holds = (content, pieces.0, refl, pieces.1, pieces.2);
+        holds = (content, h.characters, refl, subst (λ us. ArePieces us h.characters) whole h.pieces, h.text);
       }
-  read-stands (t, x ∷ left) read = tt
+  read-stands (t, x ∷ left) h = tt
 
   -- A text that is read stands where it is read.
   pub text-stands : TextStands b k (text_at b k)
   unfolding text_at
-  text-stands = read-stands (read_pieces 0 content) refl
+  text-stands = read-stands (read_pieces 0 content) content-read
+
+  -- What is left begins where the fault is told, and the pieces before it go on to a text.
+  read-fault : (r : List ℕ × List ℕ) → AreRead b (suc k) close behind next.1 printed content r → TextFault b k (text_read r close)
+  read-fault (t, []) h = tt
+  read-fault (t, x ∷ left) h =
+      let there : suc k + length h.own ≡ close - length (x ∷ left) = omega (arith, size, ap length h.whole, length-append h.own (x ∷ left)) in
+      let split : drop (suc k) b ≡ h.own ++ ((x ∷ left) ++ behind) = at_content ∙ ap (λ us. us ++ behind) h.whole ∙ append_assoc h.own (x ∷ left) behind in
+      record {
+        front = quote ∷ h.own;
+        rest = quote ∷ [];
+        split = at_open ∙ ap (λ us. quote ∷ us) (split ∙ ap (λ us. h.own ++ us) (sym (drop-through (suc k) b h.own ((x ∷ left) ++ behind) split) ∙ ap (λ i. drop i b) there));
+        goes_on = (encode_utf8_all h.characters, (h.own, h.characters, refl, h.pieces, refl));
+        kind = cond_both (byte_at left 0 == lower_u) InvalidUnicodeCodepoint InvalidEscape (λ kind. is_unexpected_token kind ≡ false) (λ _. refl) (λ _. refl);
+      }
+
+  pub text-fault : TextFault b k (text_at b k)
+  unfolding text_at
+  text-fault = read-fault (read_pieces 0 content) content-read

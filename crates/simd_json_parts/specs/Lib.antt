@@ -18,6 +18,9 @@ pub mod AtomAt
 pub mod NumberAt
 pub mod NumberRead
 pub mod TextAt
+pub mod TextContent
+pub mod TextDecoded
+pub mod TextRead
 pub mod Tokens
 pub mod TokensAlong
 pub mod Descent

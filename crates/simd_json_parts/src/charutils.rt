@@ -1,6 +1,8 @@
-//! Classes of bytes (RFC 8259, section 2).
-ghost use Rattle.std.specs.Prelude.{◌≡◌, not};
+//! Classes of bytes (RFC 8259, section 2), hexadecimal digits, and characters as UTF-8 (RFC 3629, section 3).
+ghost use Rattle.std.specs.Prelude.{◌≡◌, ◌≤◌, ◌++◌, if◌then◌else◌, not, length, drop, slice_index, encode_utf8};
+ghost use Rattle.std.specs.Char.{len_utf8, is_digit, digit_value};
 ghost use Rattle.simd_json_parts.specs.Bytes.{is_terminator};
+ghost use Rattle.simd_json_parts.specs.Text.{hex_value};
 
 /// Whether the byte is structural, `[ ] { } : ,`, or whitespace: space, tab, line feed or carriage return.
 ///
@@ -21,6 +23,80 @@ pub fn is_not_structural_or_whitespace(c: u8) -> bool
     !is_structural_or_whitespace(c)
 }
 
+/// The number that four hexadecimal digits spell, in either case; none if one of them is no such digit.
+///
+/// No digit is looked at by itself: one test of the sum tells whether all four are digits.
+#[inline]
+pub fn hex_to_u32_nocheck(digits: [u8; 4]) -> Option<u32>
+    ensures { result ≡ hex_value (slice_index digits 0) (slice_index digits 1) (slice_index digits 2) (slice_index digits 3) }
+{
+    let value = digit_or_none(digits[0]) * 4096
+        + digit_or_none(digits[1]) * 256
+        + digit_or_none(digits[2]) * 16
+        + digit_or_none(digits[3]);
+    if value < NONE { Some(value) } else { None }
+}
+
+/// Writes the character's UTF-8 at the front of `bytes`, and nothing behind it; answers how many bytes that is.
+#[inline]
+pub fn codepoint_to_utf8(cp: char, bytes: &mut [u8]) -> usize
+    requires { len_utf8 cp ≤ length bytes.old }
+    ensures written { bytes.new ≡ encode_utf8 cp ++ drop result bytes.old }
+    ensures len { result ≡ len_utf8 cp }
+{
+    let code = cp as u32;
+    if code < 0x80 {
+        bytes[0] = code as u8;
+        1
+    } else if code < 0x800 {
+        bytes[0] = (192 + code / 64) as u8;
+        bytes[1] = (128 + code % 64) as u8;
+        2
+    } else if code < 0x10000 {
+        bytes[0] = (224 + code / 4096) as u8;
+        bytes[1] = (128 + code / 64 % 64) as u8;
+        bytes[2] = (128 + code % 64) as u8;
+        3
+    } else {
+        bytes[0] = (240 + code / 262144) as u8;
+        bytes[1] = (128 + code / 4096 % 64) as u8;
+        bytes[2] = (128 + code / 64 % 64) as u8;
+        bytes[3] = (128 + code % 64) as u8;
+        4
+    }
+}
+
+// What a byte counts that is no hexadecimal digit: more than four digits can spell.
+const NONE: u32 = 0x10000;
+
+// The value of each byte as a hexadecimal digit.
+const DIGITS: [u32; 256] = [
+    NONE, NONE, NONE, NONE, NONE, NONE, NONE, NONE, NONE, NONE, NONE, NONE, NONE, NONE, NONE, NONE,
+    NONE, NONE, NONE, NONE, NONE, NONE, NONE, NONE, NONE, NONE, NONE, NONE, NONE, NONE, NONE, NONE,
+    NONE, NONE, NONE, NONE, NONE, NONE, NONE, NONE, NONE, NONE, NONE, NONE, NONE, NONE, NONE, NONE,
+    0, 1, 2, 3, 4, 5, 6, 7, 8, 9, NONE, NONE, NONE, NONE, NONE, NONE, NONE, 10, 11, 12, 13, 14, 15,
+    NONE, NONE, NONE, NONE, NONE, NONE, NONE, NONE, NONE, NONE, NONE, NONE, NONE, NONE, NONE, NONE,
+    NONE, NONE, NONE, NONE, NONE, NONE, NONE, NONE, NONE, NONE, 10, 11, 12, 13, 14, 15, NONE, NONE,
+    NONE, NONE, NONE, NONE, NONE, NONE, NONE, NONE, NONE, NONE, NONE, NONE, NONE, NONE, NONE, NONE,
+    NONE, NONE, NONE, NONE, NONE, NONE, NONE, NONE, NONE, NONE, NONE, NONE, NONE, NONE, NONE, NONE,
+    NONE, NONE, NONE, NONE, NONE, NONE, NONE, NONE, NONE, NONE, NONE, NONE, NONE, NONE, NONE, NONE,
+    NONE, NONE, NONE, NONE, NONE, NONE, NONE, NONE, NONE, NONE, NONE, NONE, NONE, NONE, NONE, NONE,
+    NONE, NONE, NONE, NONE, NONE, NONE, NONE, NONE, NONE, NONE, NONE, NONE, NONE, NONE, NONE, NONE,
+    NONE, NONE, NONE, NONE, NONE, NONE, NONE, NONE, NONE, NONE, NONE, NONE, NONE, NONE, NONE, NONE,
+    NONE, NONE, NONE, NONE, NONE, NONE, NONE, NONE, NONE, NONE, NONE, NONE, NONE, NONE, NONE, NONE,
+    NONE, NONE, NONE, NONE, NONE, NONE, NONE, NONE, NONE, NONE, NONE, NONE, NONE, NONE, NONE, NONE,
+    NONE, NONE, NONE, NONE, NONE, NONE, NONE, NONE, NONE, NONE, NONE, NONE, NONE, NONE, NONE, NONE,
+    NONE, NONE, NONE, NONE, NONE, NONE, NONE,
+];
+
+#[inline]
+fn digit_or_none(c: u8) -> u32
+    ensures value { result ≡ (if is_digit c 16 then digit_value c else 0x10000) }
+    ensures bound { result ≤ 0x10000 }
+{
+    DIGITS[c as usize]
+}
+
 #[cfg(test)]
 mod tests {
     use super::*;
@@ -31,6 +107,51 @@ mod tests {
             let is_listed = b"[]{}:, \t\n\r".contains(&c);
             assert_eq!(rt; is_structural_or_whitespace(c), is_listed, "{c}");
             assert_eq!(rt; is_not_structural_or_whitespace(c), !is_listed, "{c}");
+        }
+    }
+
+    #[test]
+    fn four_hexadecimal_digits_have_a_number(rt: HostRuntime) {
+        assert_eq!(rt; hex_to_u32_nocheck(*b"0000"), Some(0));
+        assert_eq!(rt; hex_to_u32_nocheck(*b"12aF"), Some(0x12af));
+        assert_eq!(rt; hex_to_u32_nocheck(*b"ffff"), Some(0xffff));
+        for c in 0..=u8::MAX {
+            let digit = (c as char).to_digit(16);
+            assert_eq!(rt;
+                hex_to_u32_nocheck([c, b'0', b'0', b'1']),
+                digit.map(|d| (d << 12) | 1),
+                "{c}"
+            );
+            assert_eq!(rt;
+                hex_to_u32_nocheck([b'F', c, b'0', b'0']),
+                digit.map(|d| 0xf000 | (d << 8)),
+                "{c}"
+            );
+            assert_eq!(rt;
+                hex_to_u32_nocheck([b'0', b'a', c, b'0']),
+                digit.map(|d| 0xa00 | (d << 4)),
+                "{c}"
+            );
+            assert_eq!(rt;
+                hex_to_u32_nocheck([b'0', b'0', b'f', c]),
+                digit.map(|d| 0xf0 | d),
+                "{c}"
+            );
+        }
+    }
+
+    #[test]
+    fn characters_are_written_as_utf8(rt: HostRuntime) {
+        for code in [
+            0, 0x7f, 0x80, 0x7ff, 0x800, 0xd7ff, 0xe000, 0xffff, 0x10000, 0x10ffff,
+        ] {
+            if let Some(c) = char::from_u32(code) {
+                let mut expected = [0; 4];
+                let len = c.encode_utf8(&mut expected).len();
+                let mut bytes = [0; 4];
+                assert_eq!(rt; codepoint_to_utf8(c, &mut bytes), len);
+                assert_eq!(rt; bytes, expected);
+            }
         }
     }
 }

@@ -1,5 +1,6 @@
 //! Laws of the definitions. Each function has an empty body: its contract is the law, and what it says is proved.
-ghost use Rattle.std.specs.Prelude.{◌≡◌, ◌≢◌, ◌↔◌, ◌≤◌, ◌<◌, ◌+◌, ◌++◌, ◌∷◌, [], ◌⊎◌, ℕ, suc, List, length, take, drop, IsTrue, Contains, IsUtf8, encode_utf8_all, Option, Some, None, Ok, Err, true};
+ghost use Rattle.std.specs.Prelude.{◌≡◌, ◌≢◌, ◌↔◌, ◌≤◌, ◌<◌, ◌+◌, ◌++◌, ◌∷◌, [], ◌⊎◌, ℕ, suc, List, length, take, drop, IsTrue, Contains, IsUtf8, encode_utf8_all, Option, Some, None, Ok, Err, true, IsFalse};
+ghost use Rattle.std.specs.Char.{is_ascii_digit};
 ghost use Rattle.std.specs.Cmp.{IsEquivalence};
 ghost use Rattle.std.specs.List.Sorted.{IsStrictlyIncreasing};
 ghost use Rattle.simd_json_parts.specs.Answer.{answer};
@@ -8,7 +9,8 @@ ghost use Rattle.simd_json_parts.specs.Derivatives.{matches, is_possible, longes
 ghost use Rattle.simd_json_parts.specs.Descent.{descent};
 ghost use Rattle.simd_json_parts.specs.Document.{Document, integer, decimal};
 ghost use Rattle.simd_json_parts.specs.Equality.{equal, unmarked};
-ghost use Rattle.simd_json_parts.specs.Grammar.{Derives};
+ghost use Rattle.simd_json_parts.specs.ErrorKinds.{is_unexpected_token};
+ghost use Rattle.simd_json_parts.specs.Grammar.{Derives, IsBeginning};
 ghost use Rattle.simd_json_parts.specs.Headers.{IsHeaded};
 ghost use Rattle.simd_json_parts.specs.InputFaults.{input_fault, has_bad_text};
 ghost use Rattle.simd_json_parts.specs.Integers.{max_magnitude};
@@ -20,7 +22,8 @@ ghost use Rattle.simd_json_parts.specs.Numbers.{number_literal, integer_literal,
 ghost use Rattle.simd_json_parts.specs.Patterns.{Pattern, Matches, Begins};
 ghost use Rattle.simd_json_parts.specs.Positions.{positions, is_position, is_inside};
 ghost use Rattle.simd_json_parts.specs.Text.{ArePieces};
-ghost use Rattle.simd_json_parts.specs.TextAt.{text_at};
+ghost use Rattle.simd_json_parts.specs.TextAt.{text_at, closing_quote};
+ghost use Rattle.simd_json_parts.specs.TextRead.{further};
 ghost use Rattle.simd_json_parts.specs.Tokens.{tokens};
 ghost use Rattle.simd_json_parts.specs.TokensAlong.{tokens_along};
 ghost use Rattle.simd_json_parts.specs.declared.error.Error.{Error};
@@ -42,6 +45,12 @@ pub fn numbers_are_integers_or_decimals()
     ensures not_both { (bs : List ℕ) → Matches integer_literal bs → Matches decimal_literal bs → ⊥ }
 {}
 
+/// A zero that begins a number stands alone before the fraction and the exponent: no digit follows it.
+pub fn leading_zeros_stand_alone()
+    ensures unsigned { (x : ℕ) (bs : List ℕ) → IsTrue (is_ascii_digit x) → Matches number_literal (48 ∷ x ∷ bs) → ⊥ }
+    ensures signed { (x : ℕ) (bs : List ℕ) → IsTrue (is_ascii_digit x) → Matches number_literal (45 ∷ 48 ∷ x ∷ bs) → ⊥ }
+{}
+
 /// A number of the grammar that stands at an index, with a terminator or the end behind it, is read whole.
 pub fn numbers_are_read()
     ensures integers { (b : List ℕ) (i : ℕ) (xs rest : List ℕ) → drop i b ≡ xs ++ rest → IsTrue (is_terminator (byte_at rest 0))
@@ -59,6 +68,18 @@ pub fn pieces_spell_one_text()
 pub fn texts_are_read()
     ensures { (b : List ℕ) (i : ℕ) (content rest cs : List ℕ) → drop i b ≡ quote ∷ (content ++ quote ∷ rest) → ArePieces content cs
         → text_at b i ≡ Ok (encode_utf8_all cs, suc (suc i + length content)) }
+{}
+
+/// A text is told by the bytes from its opening quote on, which are UTF-8 if all are: what stands before does not matter.
+pub fn texts_stand_by_themselves()
+    ensures text { (b : List ℕ) (i : ℕ) → byte_at b i ≡ quote → text_at b i ≡ further i (text_at (drop i b) 0) }
+    ensures closing { (b : List ℕ) (i : ℕ) → byte_at b i ≡ quote → closing_quote b i ≡ i + closing_quote (drop i b) 0 }
+    ensures utf8 { (b : List ℕ) (i : ℕ) → i < length b → byte_at b i ≡ quote → IsUtf8 b → IsUtf8 (drop i b) }
+{}
+
+/// Where no text is bad, each text that is opened is closed.
+pub fn opened_texts_are_closed()
+    ensures { (b : List ℕ) (i : ℕ) → i < length b → IsTrue (is_inside b i) → IsFalse (has_bad_text b) → closing_quote b i < length b }
 {}
 
 /// Positions rise, and they are the indexes that the definition picks.
@@ -126,4 +147,17 @@ pub fn documents_are_answered()
 /// Bytes derive one document at most, however deep it nests and however great its integers are: the grammar is unambiguous.
 pub fn bytes_derive_one_document()
     ensures { (b : List ℕ) (d e : Document) → Derives b d → Derives b e → d ≡ e }
+{}
+
+/// No fault is told late: where the input has no fault of the whole, the bytes before the index of a fault go on to a
+/// document. So up to there nothing is wrong yet.
+pub fn faults_are_not_told_late()
+    ensures { (b : List ℕ) (limit : ℕ) (e : Error) → input_fault b ≡ None → descent b limit ≡ Err e → IsBeginning (take e.index b) }
+{}
+
+/// No token is refused early: where an array or an object does not expect a token, the bytes go on to no document once
+/// they have the first byte of that token.
+pub fn unexpected_tokens_are_not_told_early()
+    ensures { (b : List ℕ) (limit : ℕ) (e : Error) → input_fault b ≡ None → descent b limit ≡ Err e → is_unexpected_token e.error ≡ true
+        → IsBeginning (take (suc e.index) b) → ⊥ }
 {}

@@ -3,8 +3,9 @@
 //!
 //! - [`error`]: what a parse refuses, where, and why.
 //! - [`node`]: the nodes of a tape.
-//! - [`charutils`]: classes of bytes.
+//! - [`charutils`]: classes of bytes, hexadecimal digits, characters as UTF-8.
 //! - [`numberparse`]: reads one number.
+//! - [`stringparse`]: reads one text.
 //! - [`laws`]: theorems about the definitions, each the contract of a function with an empty body.
 #![tactic(auto)]
 
@@ -13,3 +14,4 @@ pub mod error;
 pub mod laws;
 pub mod node;
 pub mod numberparse;
+pub mod stringparse;

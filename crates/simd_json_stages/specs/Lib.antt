@@ -1,4 +1,5 @@
 pub mod Carries
+pub mod EscapeBlocks
 pub mod Continued
 pub mod ScalarRead
 pub mod Building

@@ -20,15 +20,17 @@ fn text(
     Ok(text)
 }
 
-// The positions in a list that grows from nothing.
-fn found(alloc: Global, text: &[u8]) -> Result<Vec<u32>> {
+// The positions, and the blocks with a backslash, in lists that grow from nothing.
+fn found(alloc: Global, text: &[u8]) -> Result<(Vec<u32>, Vec<u32>)> {
     if text.len() > u32::MAX as usize {
         return Err(Error::generic(ErrorType::InputTooLarge));
     }
-    let mut list = Vec::new(alloc);
-    let count = PlainStage1Parse::find_structural_bits(text, &mut list)?;
-    list.truncate(count);
-    Ok(list)
+    let mut positions = Vec::new(alloc);
+    let mut blocks = Vec::new(alloc);
+    let found = PlainStage1Parse::find_structural_bits(text, &mut positions, &mut blocks)?;
+    positions.truncate(found.positions);
+    blocks.truncate(found.escape_blocks);
+    Ok((positions, blocks))
 }
 
 #[test]
@@ -52,8 +54,36 @@ fn known_positions(rt: HostRuntime) -> std::result::Result<(), Fail> {
         (b"[\xC2\xBB1]", 0, 0, b"", &[0, 1, 4]),
     ] {
         let text = text(rt.alloc(), before, byte, len, after)?;
-        let positions = found(rt.alloc(), &text)?;
+        let (positions, _) = found(rt.alloc(), &text)?;
         assert_eq!(rt; positions.as_slice(), want, "{text:?}");
+    }
+    Ok(())
+}
+
+#[test]
+fn known_escape_blocks(rt: HostRuntime) -> std::result::Result<(), Fail> {
+    for (before, byte, len, after, want) in [
+        (
+            b"{\"a\":\"no escape\"}".as_slice(),
+            0,
+            0,
+            b"".as_slice(),
+            [].as_slice(),
+        ),
+        (b"\"\\n\"", 0, 0, b"", &[0]),
+        (b"\"\\n\\n\"", 0, 0, b"", &[0]),
+        (b"\\", b' ', 62, b"\\", &[0]),
+        (b"\\", b' ', 63, b"\\", &[0, 1]),
+        (b"", b' ', 63, b"\\", &[0]),
+        (b"", b' ', 64, b"\\", &[1]),
+        (b"", b' ', 127, b"\\\\", &[1, 2]),
+        (b"\\", b' ', 300, b"\\", &[0, 4]),
+        (b"\"", b'\\', 254, b"\"", &[0, 1, 2, 3]),
+        (b"\"", b'a', 200, b"\\n\"", &[3]),
+    ] {
+        let text = text(rt.alloc(), before, byte, len, after)?;
+        let (_, blocks) = found(rt.alloc(), &text)?;
+        assert_eq!(rt; blocks.as_slice(), want, "{text:?}");
     }
     Ok(())
 }
@@ -79,12 +109,15 @@ fn known_faults(rt: HostRuntime) -> std::result::Result<(), Fail> {
     Ok(())
 }
 
-// The definition in words, read anew for each index. Behind the end every byte is a space.
+// The definition in words, byte by byte. Behind the end every byte is a space.
 fn byte_at(text: &[u8], i: usize) -> u8 {
     text.get(i).copied().unwrap_or(b' ')
 }
 
 fn is_real_quote(text: &[u8], i: usize) -> bool {
+    if byte_at(text, i) != b'"' {
+        return false;
+    }
     let mut is_even = true;
     for j in (0..i).rev() {
         if byte_at(text, j) != b'\\' {
@@ -92,58 +125,64 @@ fn is_real_quote(text: &[u8], i: usize) -> bool {
         }
         is_even = !is_even;
     }
-    is_even && byte_at(text, i) == b'"'
+    is_even
 }
 
-fn is_inside(text: &[u8], i: usize) -> bool {
-    let mut is_odd = false;
-    for j in 0..=i {
-        if is_real_quote(text, j) {
-            is_odd = !is_odd;
-        }
+fn is_whitespace_at(text: &[u8], i: usize) -> bool {
+    b" \t\n\r".contains(&byte_at(text, i))
+}
+
+fn is_structural_at(text: &[u8], i: usize) -> bool {
+    b"[]{}:,".contains(&byte_at(text, i))
+}
+
+fn ends_token(text: &[u8], i: usize, is_inside: bool) -> bool {
+    is_whitespace_at(text, i) || is_real_quote(text, i) || (is_structural_at(text, i) && !is_inside)
+}
+
+// A structural character outside, an opening quote, or the first byte of another token. No whitespace is one of these.
+fn starts_token(text: &[u8], i: usize, was_inside: bool, is_inside: bool) -> bool {
+    if is_whitespace_at(text, i) {
+        return false;
     }
-    is_odd
-}
-
-fn is_listed(text: &[u8], i: usize, list: &[u8]) -> bool {
-    list.contains(&byte_at(text, i))
-}
-
-fn ends_token(text: &[u8], i: usize) -> bool {
-    is_listed(text, i, b" \t\n\r")
-        || is_real_quote(text, i)
-        || (is_listed(text, i, b"[]{}:,") && !is_inside(text, i))
-}
-
-// A structural character outside, an opening quote, or the first byte of another token.
-fn starts_token(text: &[u8], i: usize) -> bool {
-    if is_real_quote(text, i) || is_inside(text, i) {
-        return is_real_quote(text, i) && is_inside(text, i);
+    if is_real_quote(text, i) || is_inside {
+        return is_real_quote(text, i) && is_inside;
     }
-    let is_fresh = i == 0 || ends_token(text, i - 1);
-    is_listed(text, i, b"[]{}:,") || (is_fresh && !is_listed(text, i, b" \t\n\r"))
+    is_structural_at(text, i) || i == 0 || ends_token(text, i - 1, was_inside)
 }
 
-fn found_slowly(alloc: Global, text: &[u8]) -> Result<Vec<u32>> {
+// The spaces in front are not read: none is a position, or changes what is behind it.
+fn found_slowly(alloc: Global, text: &[u8], spaces: u8) -> Result<(Vec<u32>, Vec<u32>)> {
     let mut positions = Vec::new(alloc);
-    let mut is_bad = is_inside(text, text.len());
-    let mut index = 0u32;
-    for i in 0..text.len() {
-        if is_inside(text, i) && byte_at(text, i) < 0x20 {
-            is_bad = true;
+    let mut blocks = Vec::new(alloc);
+    let mut has_control = false;
+    let mut was_inside = false;
+    let mut index = u32::from(spaces);
+    for i in usize::from(spaces)..text.len() {
+        let is_inside = was_inside != is_real_quote(text, i);
+        if is_inside && byte_at(text, i) < 0x20 {
+            has_control = true;
         }
-        if starts_token(text, i) {
+        if starts_token(text, i, was_inside, is_inside) {
             positions.push(index).map_err(AllocError::from)?;
         }
+        was_inside = is_inside;
         index = index.saturating_add(1);
     }
-    if is_bad {
+    if was_inside || has_control {
         return Err(Error::generic(ErrorType::Syntax));
     }
     if positions.is_empty() {
         return Err(Error::generic(ErrorType::Eof));
     }
-    Ok(positions)
+    let mut number = 0u32;
+    for block in text.chunks(64) {
+        if block.contains(&b'\\') {
+            blocks.push(number).map_err(AllocError::from)?;
+        }
+        number = number.saturating_add(1);
+    }
+    Ok((positions, blocks))
 }
 
 #[test]
@@ -163,45 +202,103 @@ fn agrees_with_a_slow_reading(rt: HostRuntime) {
             let text = &text[start..];
             assert_eq!(rt;
                 found(rt.alloc(), text),
-                found_slowly(rt.alloc(), text),
+                found_slowly(rt.alloc(), text, 0),
                 "{text:?}"
             );
         }
     }
 }
 
-// A heap of each size refuses another growth, or none. Where the last growth is refused, there may be memory for a list
-// that is as long as the input from the start, and then no more is asked for.
+// The same round the end of a block: all texts of five bytes behind 58 to 66 spaces.
+#[test]
+fn agrees_with_a_slow_reading_across_blocks(rt: HostRuntime) {
+    let alphabet = [b'\\', b'"', b'a', b' ', b',', b'\n'];
+    let mut text = [b' '; 71];
+    for spaces in 58..67u8 {
+        let start = usize::from(spaces);
+        for n in 0..7776usize {
+            text[start] = alphabet[n % 6];
+            text[start + 1] = alphabet[n / 6 % 6];
+            text[start + 2] = alphabet[n / 36 % 6];
+            text[start + 3] = alphabet[n / 216 % 6];
+            text[start + 4] = alphabet[n / 1296 % 6];
+            let text = &text[..start + 5];
+            assert_eq!(rt;
+                found(rt.alloc(), text),
+                found_slowly(rt.alloc(), text, spaces),
+                "{text:?}"
+            );
+        }
+        text[start] = b' ';
+    }
+}
+
+// A heap of each size refuses another growth, of the one list or of the other, or none. Where the last growth is
+// refused, there may be memory for lists with room for all from the start, and then no more is asked for.
 #[test]
 fn each_growth_refused(rt: HostRuntime) -> std::result::Result<(), Fail> {
-    let text = [b','; 200];
-    let mut refused = Vec::new(rt.alloc());
-    let mut whole = 0u32;
-    let mut kept = 0u32;
-    for size in 0..300usize {
-        let heap = LocalHeap::new(rt.alloc(), 16 * size)?;
-        let mut list = Vec::new(&heap);
-        match PlainStage1Parse::find_structural_bits(&text, &mut list) {
-            Ok(count) => {
-                assert_eq!(rt; count, 200);
-                whole = whole.saturating_add(1);
-            }
-            Err(e) => {
-                assert_eq!(rt; e, Error::generic(ErrorType::OutOfMemory));
-                if refused.last() != Some(&list.len()) {
-                    refused.push(list.len())?;
+    for (before, byte, len, want, want_refused) in [
+        (
+            b"".as_slice(),
+            b',',
+            200,
+            Found {
+                positions: 200,
+                escape_blocks: 0,
+            },
+            [(0, 0), (16, 0), (32, 0), (64, 0), (128, 0)].as_slice(),
+        ),
+        (
+            b"\"",
+            b'\\',
+            2558,
+            Found {
+                positions: 1,
+                escape_blocks: 40,
+            },
+            &[(0, 0), (16, 0), (16, 16), (16, 32)],
+        ),
+    ] {
+        let text = text(rt.alloc(), before, byte, len, before)?;
+        assert!(rt; text.len() <= u32::MAX as usize);
+        let mut refused: Vec<(usize, usize)> = Vec::new(rt.alloc());
+        let mut whole = 0u32;
+        let mut kept = 0u32;
+        for size in 0..300usize {
+            let heap = LocalHeap::new(rt.alloc(), 16 * size)?;
+            let mut positions = Vec::new(&heap);
+            let mut blocks = Vec::new(&heap);
+            match PlainStage1Parse::find_structural_bits(&text, &mut positions, &mut blocks) {
+                Ok(found) => {
+                    assert_eq!(rt; found, want);
+                    whole = whole.saturating_add(1);
+                }
+                Err(e) => {
+                    assert_eq!(rt; e, Error::generic(ErrorType::OutOfMemory));
+                    let lengths = (positions.len(), blocks.len());
+                    if refused.last() != Some(&lengths) {
+                        refused.push(lengths)?;
+                    }
                 }
             }
+            drop(positions);
+            drop(blocks);
+            let mut positions = Vec::new(&heap);
+            let mut blocks = Vec::new(&heap);
+            if positions.resize(want.positions, 0).is_ok()
+                && blocks.resize(want.escape_blocks, 0).is_ok()
+            {
+                let answer = PlainStage1Parse::find_structural_bits(
+                    &text,
+                    &mut positions,
+                    &mut blocks,
+                );
+                assert_eq!(rt; answer, Ok(want));
+                kept = kept.saturating_add(1);
+            }
         }
-        drop(list);
-        let mut list = Vec::new(&heap);
-        if list.resize(200, 0).is_ok() {
-            let answer = PlainStage1Parse::find_structural_bits(&text, &mut list);
-            assert_eq!(rt; answer, Ok(200));
-            kept = kept.saturating_add(1);
-        }
+        assert_eq!(rt; refused.as_slice(), want_refused);
+        assert!(rt; 0 < whole && whole < kept, "{whole} and {kept}");
     }
-    assert_eq!(rt; refused.as_slice(), [0, 16, 32, 64, 128].as_slice());
-    assert!(rt; 0 < whole && whole < kept, "{whole} and {kept}");
     Ok(())
 }

@@ -9,7 +9,12 @@ fn tape_of<'de>(alloc: Global, input: &'de mut [u8], max_depth: usize) -> Result
         return Err(Error::generic(ErrorType::InputTooLarge));
     }
     let mut positions = Vec::new(alloc);
-    let found = PlainStage1Parse::find_structural_bits(input, &mut positions)?;
+    let mut blocks = Vec::new(alloc);
+    let found = PlainStage1Parse::find_structural_bits(
+        input,
+        &mut positions,
+        &mut blocks,
+    )?.positions;
     if found == 0 {
         return Err(Error::generic(ErrorType::Eof));
     }

@@ -5,12 +5,13 @@ use Rattle.simd_json_parts.specs.Bytes.{byte_at}
 use Rattle.simd_json_parts.specs.Positions.{backslashes_before, real_quotes, is_position, positions, has_control_inside}
 use Rattle.simd_json_stages.specs.Carries.{carry_at}
 use Rattle.simd_json_stages.proofs.ScanLaws.{filter-next}
+use Rattle.simd_json_stages.proofs.EscapeBlockLaws.{ListsBlocks-none, ListsBlocks-other, ListsBlocks-again, ListsBlocks-first, ListsBlocks-all}
 use Rattle.simd_json_stages.proofs.stage1.scan.Goals as goal
-use Rattle.simd_json_stages.proofs.stage1.scan.Goals.{then-is_position+in_ok-put, else-is_position}
+use Rattle.simd_json_stages.proofs.stage1.scan.Goals.{then-is_position+in_ok-put, else-is_position, then-is_backslash+then-next_block-block+in_ok-put-2, else-is_backslash, else-is_backslash-via-then-is_backslash+else-next_block-block, else-is_backslash-via-else-is_backslash}
 
 pub loop-i-init : goal.loop-i-init
 unfolding backslashes_before real_quotes
-loop-i-init g c = search rules
+loop-i-init g c = search (rules, ListsBlocks-none)
 
 pub loop-i-preserved : goal.loop-i-preserved
 loop-i-preserved g c =
@@ -18,15 +19,26 @@ loop-i-preserved g c =
     let i = c.loop-i.i in
     let byte : get_or b i 0 ≡ byte_at b i = get_or_default b i 0 32 c.loop-i-test.true in
     let stepped = c.step-is_position.ensures b i c.loop-i.invariant.carried byte in
+    let listed = c.loop-i.invariant.blocks_so_far in
     record {
       carried = stepped.0;
       few = grind arith;
       within = grind arith;
       so_far = elim c.if-is_position.branch [
-        | then-is_position+in_ok-put w ↦ rw (w.list-is, w.count-is) (w.in_ok-put.ensures.stored.1 ∙ ap (λ ps. ps ++ i ∷ []) c.loop-i.invariant.so_far ∙ sym (filter-next (is_position b) i true (sym stepped.1 ∙ w.if-is_position.true)))
-        | else-is_position w ↦ rw (w.list-is, w.count-is) (c.loop-i.invariant.so_far ∙ sym (filter-next (is_position b) i false (sym stepped.1 ∙ w.if-is_position.false)))
+        | then-is_position+in_ok-put w ↦ rw (w.structural_indexes-is, w.positions-is) (w.in_ok-put.ensures.stored.1 ∙ ap (λ ps. ps ++ i ∷ []) c.loop-i.invariant.so_far ∙ sym (filter-next (is_position b) i true (sym stepped.1 ∙ w.if-is_position.true)))
+        | else-is_position w ↦ rw (w.structural_indexes-is, w.positions-is) (c.loop-i.invariant.so_far ∙ sym (filter-next (is_position b) i false (sym stepped.1 ∙ w.if-is_position.false)))
       ];
       room = grind arith;
+      few_blocks = grind arith;
+      blocks_within = grind arith;
+      blocks_so_far = elim c.if-is_backslash.branch [
+        | then-is_backslash+then-next_block-block+in_ok-put-2 w ↦ rw (w.escape_blocks-is, w.blocks-is, w.next_block-is, w.in_ok-put-2.ensures.stored.1) (ListsBlocks-first listed (sym byte ∙ w.if-is_backslash.true) w.if-next_block-block.true)
+        | else-is_backslash w ↦ elim w.else-is_backslash.branch [
+          | else-is_backslash-via-then-is_backslash+else-next_block-block v ↦ rw (w.escape_blocks-is, w.blocks-is, w.next_block-is) (ListsBlocks-again listed (omega arith))
+          | else-is_backslash-via-else-is_backslash v ↦ rw (w.escape_blocks-is, w.blocks-is, w.next_block-is) (ListsBlocks-other listed (λ e. v.if-is_backslash.false (byte ∙ e)))
+        ]
+      ];
+      block_room = grind arith;
     }
 
 pub returns-clause-bad : goal.returns-clause-bad
@@ -40,3 +52,8 @@ unfolding positions
 returns-clause-found g c =
     let done : c.loop-i.i ≡ length c.args.input.now = omega arith in
     (c.loop-i.invariant.within, c.loop-i.invariant.so_far ∙ ap (λ n. filter (is_position c.args.input.now) (range_with_len 0 n)) done)
+
+pub returns-clause-escapes : goal.returns-clause-escapes
+returns-clause-escapes g c =
+    let done : c.loop-i.i ≡ length c.args.input.now = omega arith in
+    (c.loop-i.invariant.blocks_within, ListsBlocks-all (rw done at c.loop-i.invariant.blocks_so_far))

@@ -1,6 +1,7 @@
 use Rattle.std.proofs.Common.{◌<◌, ◌∙◌, ap, length, nat_eq, get_or, drop, arith}
 use Rattle.std.proofs.lemmas.Bool.{ne_eqb}
-use Rattle.simd_json_stages.proofs.BuildingSteps.{byte_at-inside, first-position, two-positions, one-position, root-emptied, root-array, tells-root_deep, tells-root_open_end, tells-empty}
+use Rattle.simd_json_stages.proofs.BuildingSteps.{byte_at-inside, first-position, two-positions, one-position, root-emptied, root-array}
+use Rattle.simd_json_stages.proofs.Refusing.{tells-root_deep, tells-root_open_end, tells-empty}
 use Rattle.simd_json_stages.proofs.stage2.build.Goals as goal
 
 pub returns-then-max_depth-eq0-clause-refused : goal.returns-then-max_depth-eq0-clause-refused

@@ -1,6 +1,7 @@
 use Rattle.std.proofs.Common.{◌≡◌, sym, subst, ◌<◌, length, drop, get_or, refl, arith}
 use Rattle.simd_json_parts.specs.declared.node.Node.TheVariants.{Static}
-use Rattle.simd_json_stages.proofs.BuildingSteps.{slice-rest, byte_at-inside, one-position, some-more, second-position, root-scalar, offset-within, tells-trailing, tells-root_scalar}
+use Rattle.simd_json_stages.proofs.BuildingSteps.{slice-rest, byte_at-inside, one-position, some-more, second-position, root-scalar, offset-within}
+use Rattle.simd_json_stages.proofs.Refusing.{tells-trailing, tells-root_scalar}
 use Rattle.std.proofs.lemmas.Bool.{ne_eqb}
 use Rattle.simd_json_stages.specs.Building.{Tells}
 use Rattle.simd_json_stages.specs.ScalarRead.{IsScalarAt}

@@ -4,7 +4,8 @@ use Rattle.std.proofs.lemmas.Bool.{ne_eqb}
 use Rattle.simd_json_stages.specs.Building.{top, Tells}
 use Rattle.simd_json_stages.specs.declared.stage2.FaultKind.TheVariants as kinds
 use Rattle.simd_json_stages.specs.declared.stage2.Progress.{Progress}
-use Rattle.simd_json_stages.proofs.BuildingSteps.{byte_at-inside, step-next, tells-next, tells-other, tells-root_end, tells-end, step-closed, step-ended, some-depth, top-header, top-len}
+use Rattle.simd_json_stages.proofs.BuildingSteps.{byte_at-inside, step-next, step-closed, step-ended, some-depth, top-header, top-len}
+use Rattle.simd_json_stages.proofs.Refusing.{tells-next, tells-other, tells-root_end, tells-end}
 use Rattle.simd_json_stages.proofs.stage2.follow.Goals as goal
 
 pub returns-then-c-eq44-clause-step : goal.returns-then-c-eq44-clause-step

@@ -1,6 +1,7 @@
 use Rattle.std.proofs.Common.{◌<◌, ◌∙◌, ap, length, nat_eq, arith}
 use Rattle.std.proofs.lemmas.Bool.{ne_eqb}
-use Rattle.simd_json_stages.proofs.BuildingSteps.{byte_at-inside, step-empty, step-open, tells-deep, tells-open_end}
+use Rattle.simd_json_stages.proofs.BuildingSteps.{byte_at-inside, step-empty, step-open}
+use Rattle.simd_json_stages.proofs.Refusing.{tells-deep, tells-open_end}
 use Rattle.simd_json_stages.proofs.stage2.open_array.Goals as goal
 
 pub returns-then-bytes-at-eq93-clause-step : goal.returns-then-bytes-at-eq93-clause-step

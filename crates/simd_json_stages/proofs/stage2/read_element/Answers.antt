@@ -1,6 +1,7 @@
 use Rattle.std.proofs.Common.{sym, subst, refl, arith}
 use Rattle.simd_json_parts.specs.declared.node.Node.TheVariants.{Static}
-use Rattle.simd_json_stages.proofs.BuildingSteps.{slice-rest, byte_at-inside, step-scalar, offset-within, tells-scalar}
+use Rattle.simd_json_stages.proofs.BuildingSteps.{slice-rest, byte_at-inside, step-scalar, offset-within}
+use Rattle.simd_json_stages.proofs.Refusing.{tells-scalar}
 use Rattle.std.proofs.lemmas.Bool.{ne_eqb}
 use Rattle.simd_json_stages.specs.Building.{Tells}
 use Rattle.simd_json_stages.specs.ScalarRead.{IsScalarAt}

@@ -1,0 +1,16 @@
+-- The blocks of 64 bytes that hold a backslash. A text that lies in other blocks has no escape.
+use Rattle.std.specs.Prelude.{ℕ, ◌+◌, ◌*◌, ◌/◌, List, length, filter, Bool, ◌==◌}
+use Rattle.std.specs.List.{list_any, range_with_len}
+use Rattle.simd_json_parts.specs.Bytes.{backslash, byte_at}
+
+-- how many blocks n bytes take; the last may be shorter
+abbrev pub blocks_in : ℕ → ℕ
+blocks_in n = (n + 63) / 64
+
+-- some byte of block k, one of those from 64 * k on, is a backslash
+unfoldable pub holds_backslash : List ℕ → ℕ → Bool
+holds_backslash b k = list_any (λ i. byte_at b i == backslash) (range_with_len (64 * k) 64)
+
+-- the numbers of the blocks that hold a backslash, in increasing order
+unfoldable pub backslash_blocks : List ℕ → List ℕ
+backslash_blocks b = filter (holds_backslash b) (range_with_len 0 (blocks_in (length b)))
