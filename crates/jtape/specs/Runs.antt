@@ -6,23 +6,20 @@ use Rattle.jtape.specs.declared.run.RunFault.{RunFault}
 use Rattle.jtape.specs.declared.run.RunFault.TheVariants.{Refused, Read}
 use Rattle.simd_json.specs.Parsed.{IsParsed, IsRefused}
 use Rattle.simd_json_parts.specs.Faults.{whole_fault}
+use Rattle.simd_json_parts.specs.Limits.{default_max_depth}
 use Rattle.simd_json_parts.specs.Nodes.{Item}
 use Rattle.simd_json_parts.specs.declared.error.Error.{Error}
 use Rattle.simd_json_parts.specs.declared.error.ErrorType.TheVariants.{OutOfMemory}
 
--- the depth limit of the program
-abbrev pub limit : ℕ
-limit = 1024
-
 -- the input is a document within the limits, and these are the lines of its nodes
 pub record IsOutput (input out : List ℕ) : Type 0 where
   pub nodes : List Item
-  pub parsed : IsParsed input limit nodes
+  pub parsed : IsParsed input default_max_depth nodes
   pub listed : out ≡ lines nodes
 
 -- for want of memory, or by the definitions
 abbrev pub IsRefusal : List ℕ → RunFault → Type 0
-IsRefusal input (Refused e) = (e ≡ whole_fault OutOfMemory) ⊎ IsRefused input limit e
+IsRefusal input (Refused e) = (e ≡ whole_fault OutOfMemory) ⊎ IsRefused input default_max_depth e
 IsRefusal input _ = ⊥
 
 -- Of a reader with these bytes left before and after, and a writer that held and holds these: the reader was read to its
@@ -40,7 +37,7 @@ pub record HasRefused (before after : Option (List ℕ)) (e : Error) : Type 0 wh
   pub input : List ℕ
   pub read : Consumes before after input
   pub end : IsAtEnd after
-  pub refused : IsRefused input limit e
+  pub refused : IsRefused input default_max_depth e
 
 abbrev pub OnRefused : RunFault → (Error → Type 0) → Type 0
 OnRefused (Refused e) P = P e

@@ -2,7 +2,7 @@
 ghost use Rattle.std.specs.Prelude.{◌≡◌, ◌≤◌, ◌<◌, ◌⊎◌, [], length, IfOk, IfErr, OnOk, OnErr, Some, None, IsUtf8};
 ghost use Rattle.simd_json.specs.Parsed.{IsParsed, IsRefused, LacksMemory};
 ghost use Rattle.simd_json_parts.specs.InputFaults.{input_fault};
-ghost use Rattle.simd_json_parts.specs.Limits.{max_length};
+ghost use Rattle.simd_json_parts.specs.Limits.{max_length, default_max_depth};
 ghost use Rattle.simd_json_parts.specs.Positions.{positions};
 
 use crate::DEFAULT_MAX_DEPTH;
@@ -13,9 +13,23 @@ use simd_json_stages::stage2::build_tape;
 use std::alloc::{Allocator, Global};
 
 /// Reads the bytes of one document (RFC 8259) as a tape, with at most [`DEFAULT_MAX_DEPTH`] containers open at a time.
+///
+/// Where the bytes are no such document, answers the first fault, in this order:
+///
+/// - `InputTooLarge`: they are more than 4,294,967,295; `InvalidUtf8`: they are not UTF-8; `Syntax`: a text is left open
+///   or has a byte below 0x20 inside (section 7); `Eof`: there is nothing but whitespace. These are told at index 0,
+///   without a character, and where one applies no token is looked at.
+/// - Of the tokens, read from the left, the first that is refused, with an index and the character there:
+///   `InternalError`, `ExpectedArrayContent` or `TrailingData` where another token is expected (sections 2 and 5),
+///   `Syntax` where none is left, `ExpectedTrue`, `ExpectedFalse` or `ExpectedNull` (section 3), `InvalidNumber`
+///   (section 6), and `DepthLimitExceeded` at the bracket that opens one container too many (section 9).
+///
+/// A text, an object and a decimal are not read yet: they are refused at their first byte with `InternalError`.
+/// `OutOfMemory`, at index 0 without a character, comes where a growth was refused; no memory is taken before size and
+/// encoding are known to be right. After an error there is no tape, and what `s` holds is of no meaning.
 pub fn to_tape<'de>(a: Global, s: &'de mut [u8]) -> Result<Tape<'de>>
-    ensures tape { IfOk result (λ tape. IsParsed s.old 1024 tape.nodes) }
-    ensures fault { IfErr result (λ e. IsRefused s.old 1024 e ⊎ (LacksMemory s.old e × (0 < length s.old))) }
+    ensures tape { IfOk result (λ tape. IsParsed s.old default_max_depth tape.nodes) }
+    ensures fault { IfErr result (λ e. IsRefused s.old default_max_depth e ⊎ (LacksMemory s.old e × (0 < length s.old))) }
 {
     let mut buffers = Buffers::empty(a, DEFAULT_MAX_DEPTH);
     let mut tape = Tape::empty(a);

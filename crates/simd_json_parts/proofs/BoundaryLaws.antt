@@ -5,6 +5,7 @@ use Rattle.std.proofs.lemmas.Bool.Decides.{nat_tests}
 use Rattle.std.proofs.lemmas.List.{get_or-drop, get_or_append_left}
 use Rattle.std.proofs.lemmas.List.FromFn.{get_or-range_with_len, length-range_with_len}
 use Rattle.std.proofs.lemmas.List.Sums.{prefix_len-le-length, fails_before_first, passes_at_first}
+use Rattle.std.specs.Char.{is_digit}
 use Rattle.std.specs.List.{All, position_or_len, range_with_len}
 use Rattle.simd_json_parts.specs.TextAt.{closing_quote}
 use Rattle.simd_json_parts.specs.Bytes.{quote, backslash, is_whitespace, is_structural, is_terminator, byte_at}
@@ -31,6 +32,10 @@ is_special c = is_terminator c || (c == quote)
 -- a byte that passes a test is not one that fails it
 pub apart : (test : ℕ → Bool) (x n : ℕ) → test x ≡ true → test n ≡ false → (x == n) ≡ false
 apart test x n good bad = elim (cases_Bool (x == n)) [ inl h ↦ absurd (false≢true (sym bad ∙ ap test (sym (eqb-true x n h)) ∙ good)) | inr h ↦ h ]
+
+-- so a digit is no byte that is none
+pub no_digit : (x n : ℕ) → is_digit x 16 ≡ true → is_digit n 16 ≡ false → (x == n) ≡ false
+no_digit x n good bad = apart (λ c. is_digit c 16) x n good bad
 
 is_structural-space : (x : ℕ) → is_whitespace x ≡ true → is_structural x ≡ false
 is_structural-space x h = grind (arith, nat_tests)

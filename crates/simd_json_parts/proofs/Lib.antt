@@ -22,6 +22,7 @@ pub mod NumberLaws
 pub mod ScanLaws
 pub mod BoundaryLaws
 pub mod TokenLaws
+pub mod BetweenTokens
 pub mod DescentLaws
 pub mod Shrinking
 pub mod NumberFronts

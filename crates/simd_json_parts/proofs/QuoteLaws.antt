@@ -4,12 +4,13 @@ use Rattle.std.specs.Prelude.{Some, Ok, slice_range, encode_utf8_all, if◌then�
 use Rattle.std.specs.Char.{encode_utf8, is_digit}
 use Rattle.std.specs.List.{position_or_len, range_with_len}
 use Rattle.std.proofs.Math.Seq.{take-append_seam}
-use Rattle.std.proofs.lemmas.Bool.{eqb-true, ne_eqb, cases_Bool, cases_lt, and_right, and_left, and_from, false≢true}
+use Rattle.std.proofs.lemmas.Bool.{eqb-true, ne_eqb, cases_Bool, cases_lt, and_right, and_left, and_from}
 use lib.Utf8.{next}
 use Rattle.simd_json_parts.specs.Bytes.{quote, backslash}
 use Rattle.simd_json_parts.specs.Text.{hex_value, IsUnit, IsPiece, ArePieces}
 use Rattle.simd_json_parts.specs.Positions.{is_even, backslashes_before, is_real_quote}
 use Rattle.simd_json_parts.specs.TextAt.{closing_quote, read_pieces, text_read, text_at}
+use Rattle.simd_json_parts.proofs.BoundaryLaws.{no_digit}
 use Rattle.simd_json_parts.proofs.Parity.{is_even-suc}
 use Rattle.simd_json_parts.proofs.Drops.{drop-head, drop-tail, drop-inside}
 use Rattle.simd_json_parts.proofs.EscapeLaws.{AreHexDigits, hex_value-digits}
@@ -87,12 +88,8 @@ pass_append b k xs ys zs p more =
     let q : Passed b p.end ys zs = more p.end p.quiet.even p.rest in
     record { end = q.end; at = q.at ∙ ap (λ n. n + length ys) p.at ∙ add_assoc k (length xs) (length ys) ∙ ap (λ n. k + n) (sym (length-append xs ys)); quiet = quiet-append b k p.end q.end p.quiet q.quiet; rest = q.rest }
 
--- a digit is no other byte that is none
-pub not_byte : (a n : ℕ) → is_digit n 16 ≡ false → is_digit a 16 ≡ true → nat_eq a n ≡ false
-not_byte a n bad good = elim (cases_Bool (nat_eq a n)) [ inl h ↦ absurd (false≢true (sym bad ∙ ap (λ m. is_digit m 16) (sym (eqb-true a n h)) ∙ good)) | inr h ↦ h ]
-
 pass_digit : (b : List ℕ) (k a : ℕ) (zs : List ℕ) → drop k b ≡ a ∷ zs → is_digit a 16 ≡ true → Passed b k (a ∷ []) zs
-pass_digit b k a zs e good = pass_byte b k a zs e (not_byte a 34 refl good) (not_byte a 92 refl good)
+pass_digit b k a zs e good = pass_byte b k a zs e (no_digit a 34 good refl) (no_digit a 92 good refl)
 
 pass_digits : (b : List ℕ) (k p q r s : ℕ) (zs : List ℕ) → is_digit p 16 ≡ true → is_digit q 16 ≡ true → is_digit r 16 ≡ true → is_digit s 16 ≡ true → drop k b ≡ p ∷ q ∷ r ∷ s ∷ zs → Passed b k (p ∷ q ∷ r ∷ s ∷ []) zs
 pass_digits b k p q r s zs hp hq hr hs e =

@@ -7,7 +7,7 @@ use Rattle.std.proofs.lemmas.Bool.Decides.{nat_tests}
 use Rattle.simd_json_parts.specs.Text.{hex_value}
 use Rattle.simd_json_parts.specs.TextAt.{unit_at}
 use Rattle.simd_json_parts.specs.TextContent.{content_from, content}
-use Rattle.simd_json_parts.proofs.QuoteLaws.{not_byte}
+use Rattle.simd_json_parts.proofs.BoundaryLaws.{no_digit}
 use Rattle.simd_json_parts.proofs.TextContents.{content-nil, content-byte, content-escape, content-dangling}
 
 -- the first n bytes are hexadecimal digits
@@ -18,7 +18,7 @@ begins_with_digits (suc n) (y ∷ ys) = is_digit y 16 && begins_with_digits n ys
 
 -- a digit is of the content
 content-digit : (y : ℕ) (ys : List ℕ) → is_digit y 16 ≡ true → content (y ∷ ys) ≡ y ∷ content ys
-content-digit y ys e = content-byte y ys (not_byte y 34 refl e) (not_byte y 92 refl e)
+content-digit y ys e = content-byte y ys (no_digit y 34 e refl) (no_digit y 92 e refl)
 
 -- a digit is ASCII
 pub digit-ascii : (c : ℕ) → is_digit c 16 ≡ true → c < 128

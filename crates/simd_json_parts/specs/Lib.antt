@@ -22,6 +22,7 @@ pub mod TextContent
 pub mod TextDecoded
 pub mod TextRead
 pub mod Tokens
+pub mod TokenEnds
 pub mod TokensAlong
 pub mod Descent
 pub mod Answer

@@ -65,6 +65,10 @@ abbrev mutual
 abbrev pub max_length : ℕ
 max_length = 4_294_967_295
 
+-- how many containers may be open at a time, where no other limit is asked for
+abbrev pub default_max_depth : ℕ
+default_max_depth = 1024
+
 pub record WithinLimits (b : List ℕ) (d : Document) (limit : ℕ) : Type 0 where
   pub size : length b ≤ max_length
   pub nesting : depth d ≤ limit

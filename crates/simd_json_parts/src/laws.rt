@@ -1,10 +1,10 @@
 //! Laws of the definitions. Each function has an empty body: its contract is the law, and what it says is proved.
-ghost use Rattle.std.specs.Prelude.{◌≡◌, ◌≢◌, ◌↔◌, ◌≤◌, ◌<◌, ◌+◌, ◌++◌, ◌∷◌, [], ◌⊎◌, ℕ, suc, List, length, take, drop, IsTrue, Contains, IsUtf8, encode_utf8_all, Option, Some, None, Ok, Err, true, IsFalse};
+ghost use Rattle.std.specs.Prelude.{◌≡◌, ◌≢◌, ◌↔◌, ◌≤◌, ◌<◌, ◌+◌, ◌-◌, ◌++◌, ◌∷◌, [], ◌⊎◌, ℕ, suc, List, length, take, drop, IsTrue, Contains, IsUtf8, encode_utf8_all, Option, Some, None, Ok, Err, true, IsFalse};
 ghost use Rattle.std.specs.Char.{is_ascii_digit};
 ghost use Rattle.std.specs.Cmp.{IsEquivalence};
 ghost use Rattle.std.specs.List.Sorted.{IsStrictlyIncreasing};
 ghost use Rattle.simd_json_parts.specs.Answer.{answer};
-ghost use Rattle.simd_json_parts.specs.Bytes.{quote, is_terminator, byte_at};
+ghost use Rattle.simd_json_parts.specs.Bytes.{quote, is_terminator, is_whitespace, byte_at};
 ghost use Rattle.simd_json_parts.specs.Derivatives.{matches, is_possible, longest_front};
 ghost use Rattle.simd_json_parts.specs.Descent.{descent};
 ghost use Rattle.simd_json_parts.specs.Document.{Document, integer, decimal};
@@ -24,7 +24,8 @@ ghost use Rattle.simd_json_parts.specs.Positions.{positions, is_position, is_ins
 ghost use Rattle.simd_json_parts.specs.Text.{ArePieces};
 ghost use Rattle.simd_json_parts.specs.TextAt.{text_at, closing_quote};
 ghost use Rattle.simd_json_parts.specs.TextRead.{further};
-ghost use Rattle.simd_json_parts.specs.Tokens.{tokens};
+ghost use Rattle.simd_json_parts.specs.TokenEnds.{token_end};
+ghost use Rattle.simd_json_parts.specs.Tokens.{Token, tokens};
 ghost use Rattle.simd_json_parts.specs.TokensAlong.{tokens_along};
 ghost use Rattle.simd_json_parts.specs.declared.error.Error.{Error};
 
@@ -121,6 +122,29 @@ pub fn input_faults_come_first()
 /// at the positions, one after another. So what lies between positions hides no token and no fault.
 pub fn tokens_stand_at_positions()
     ensures { (b : List ℕ) → tokens b ≡ tokens_along b (positions b) }
+{}
+
+/// The first byte of each token that the descent reads is a position, no other byte of it is one, and between its end and
+/// the next position there is only whitespace.
+pub fn only_whitespace_stands_between_tokens()
+    ensures first { (b : List ℕ) (t : Token) → Contains (tokens b) t → Contains (positions b) t.index }
+    ensures within { (b : List ℕ) (t : Token) (end k : ℕ) → Contains (tokens b) t → token_end t ≡ Some end → t.index < k → k < end → IsFalse (is_position b k) }
+    ensures behind { (b : List ℕ) (t : Token) (end k : ℕ) → Contains (tokens b) t → token_end t ≡ Some end → end ≤ k → k < length b
+        → ((j : ℕ) → end ≤ j → j ≤ k → IsFalse (is_position b j)) → IsTrue (is_whitespace (byte_at b k)) }
+{}
+
+/// So a text that is closed ends at the byte before the next position, or before the end of the input, where that byte is
+/// a quote: its closing quote is known without reading it.
+pub fn texts_end_before_the_next_position()
+    ensures { (b : List ℕ) (t : Token) (next : ℕ) → Contains (tokens b) t → byte_at b t.index ≡ quote → closing_quote b t.index < length b
+        → t.index + 1 < next → Contains (positions b) next ⊎ (next ≡ length b) → ((j : ℕ) → t.index < j → j < next → IsFalse (is_position b j))
+        → byte_at b (next - 1) ≡ quote → closing_quote b t.index + 1 ≡ next }
+{}
+
+/// At each position the descent reads a token, unless it has stopped at a token before, which has a fault or is stray.
+pub fn positions_without_a_token_lie_behind_a_fault()
+    ensures { (b : List ℕ) (i : ℕ) → Contains (positions b) i → ((t : Token) × Contains (tokens b) t × (t.index ≡ i))
+        ⊎ ((t : Token) × Contains (tokens b) t × (token_end t ≡ None) × (t.index < i)) }
 {}
 
 /// An answer is a document: the whole input derives it, and its length, its nesting and its integers are within the

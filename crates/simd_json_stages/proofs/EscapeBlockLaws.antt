@@ -9,7 +9,7 @@ use Rattle.simd_json_parts.specs.Bytes.{backslash, byte_at}
 use Rattle.simd_json_stages.specs.EscapeBlocks.{blocks_in, holds_backslash, backslash_blocks}
 use Rattle.simd_json_parts.proofs.PositionLaws.{Contains-range_with_len, Contains-filter_from}
 use Rattle.std.specs.List.{Contains}
-use Rattle.simd_json_stages.proofs.ScanLaws.{filter-next}
+use Rattle.simd_json_stages.proofs.CarryLaws.{filter-next}
 
 -- Where no number of a range passes a test, the answer for the range is no.
 list_any-none_between : (p : ℕ → Bool) (a n : ℕ) → ((j : ℕ) → a ≤ j → j < a + n → p j ≡ false) → list_any p (range_with_len a n) ≡ false

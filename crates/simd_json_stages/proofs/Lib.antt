@@ -1,4 +1,4 @@
-pub mod ScanLaws
+pub mod CarryLaws
 pub mod Steps
 pub mod Holding
 pub mod ScalarLaws
@@ -6,3 +6,4 @@ pub mod TokenForms
 pub mod BuildingSteps
 pub mod Refusing
 pub mod EscapeBlockLaws
+pub mod BetweenBlocks

@@ -150,6 +150,55 @@ fn a_text_is_read(rt: HostRuntime) {
 }
 
 #[test]
+fn known_texts_are_read(rt: HostRuntime) -> std::result::Result<(), Fail> {
+    let rows: [(&[u8], &str); 18] = [
+        (b"\"snot\"", "snot"),
+        (b"\"\"", ""),
+        (b"\"{\\\"arg\\\":\\\"test\\\"}\"", "{\"arg\":\"test\"}"),
+        (b"\"\\u000e\"", "\u{e}"),
+        (b"\"\\u00E9\\u20ac\"", "\u{e9}\u{20ac}"),
+        (b"\"\\/\"", "/"),
+        (b"\"x\\u0041\"", "xA"),
+        (b"\"\\\"\"", "\""),
+        (b"\"\\ud83d\\ude00\"", "\u{1f600}"),
+        (b"\"\\ud83d\\ude00\\ud83d\\ude00\"", "\u{1f600}\u{1f600}"),
+        (b"\"\\u00e9\\\\\",\"\\n\"", "\u{e9}\\"),
+        (b"\"\\n\",\"end\"]", "\n"),
+        (b"\"end\"]", "end"),
+        (b"\"\\u0061\":\"b\"", "a"),
+        (b"\"b\",\"c\":\"\\\"d\\\"\"}", "b"),
+        (b"\"c\":\"\\\"d\\\"\"}", "c"),
+        (b"\"\\\"d\\\"\"}", "\"d\""),
+        (b"\"hello\\nworld\"}", "hello\nworld"),
+    ];
+    for (input, text) in rows {
+        let mut bytes = Vec::from_slice(rt.alloc(), input)?;
+        match read(bytes.as_mut_slice()) {
+            Some(Ok(read)) => assert_eq!(rt; read.text, text),
+            _ => assert!(rt; false, "{input:?}"),
+        }
+    }
+    let faults: [(&[u8], usize, u8); 8] = [
+        (b"\"\\ud800\"", 1, b'u'),
+        (b"\"\\ude00\"", 1, b'u'),
+        (b"\"a\\ud83dx\"", 2, b'u'),
+        (b"\"\\uD83D\\u0041\"", 1, b'u'),
+        (b"\"\\u12\"", 1, b'u'),
+        (b"\"\\q\"", 1, b'q'),
+        (b"\"\\\xc3\xa9\"", 1, 0xc3),
+        (b"\"\\ud83d\",\"b\":01}", 1, b'u'),
+    ];
+    for (input, offset, letter) in faults {
+        let mut bytes = Vec::from_slice(rt.alloc(), input)?;
+        match read(bytes.as_mut_slice()) {
+            Some(Err(bad)) => assert_eq!(rt; bad, BadEscape { offset, letter }),
+            _ => assert!(rt; false, "{input:?}"),
+        }
+    }
+    Ok(())
+}
+
+#[test]
 fn bad_escapes_are_told_at_their_backslash(rt: HostRuntime) {
     let mut bytes = *b"\"ab\\n\\q\\u\"";
     match read(&mut bytes) {

@@ -3,6 +3,8 @@ use linked_list_allocator::LocalHeap;
 use std::alloc::{AllocError, Global};
 use std::test::Fail;
 
+mod known;
+
 // A stretch of one byte between two texts.
 fn text(
     alloc: Global,
@@ -33,29 +35,45 @@ fn found(alloc: Global, text: &[u8]) -> Result<(Vec<u32>, Vec<u32>)> {
     Ok((positions, blocks))
 }
 
+// Tokens across the end of a block, behind and round stretches of one byte.
 #[test]
 fn known_positions(rt: HostRuntime) -> std::result::Result<(), Fail> {
     for (before, byte, len, after, want) in [
         (
-            b"{\"the_answer\": 42}".as_slice(),
-            0,
-            0,
             b"".as_slice(),
-            [0, 1, 13, 15, 17].as_slice(),
+            b' ',
+            62,
+            b"\"\\\"\"".as_slice(),
+            [62].as_slice(),
         ),
-        (b"[1,2]", 0, 0, b"", &[0, 1, 2, 3, 4]),
-        (b"\"\"", 0, 0, b"", &[0]),
-        (b"\\\"", 0, 0, b"", &[0]),
-        (b"", b' ', 62, b"\"\\\"\"", &[62]),
         (b"\"", b'\\', 64, b"\"", &[0]),
         (b"[", b' ', 62, b"12]", &[0, 63, 65]),
         (b"", b' ', 63, b"1 2", &[63, 65]),
         (b"\"", b'a', 62, b"\"x", &[0, 64]),
         (b"[\xC2\xBB1]", 0, 0, b"", &[0, 1, 4]),
+        (b"", b' ', 60, b"12345678", &[60]),
+        (b"[", b' ', 62, b"]", &[0, 63]),
+        (b"", b' ', 63, b"\"a\"", &[63]),
+        (b"\"", b'a', 62, b"\\\"\"", &[0]),
+        (b"\"", b'a', 62, b"\\\\\"", &[0]),
     ] {
         let text = text(rt.alloc(), before, byte, len, after)?;
         let (positions, _) = found(rt.alloc(), &text)?;
         assert_eq!(rt; positions.as_slice(), want, "{text:?}");
+    }
+    Ok(())
+}
+
+#[test]
+fn each_bracket_is_a_position(rt: HostRuntime) -> std::result::Result<(), Fail> {
+    let mut text = text(rt.alloc(), b"", b'[', 100_000, b"")?;
+    for _ in 0..100_000 {
+        text.push(b']')?;
+    }
+    let (positions, _) = found(rt.alloc(), &text)?;
+    assert_eq!(rt; positions.len(), 200_000);
+    for (i, &position) in positions.iter().enumerate() {
+        assert_eq!(rt; position as usize, i);
     }
     Ok(())
 }
@@ -98,6 +116,11 @@ fn known_faults(rt: HostRuntime) -> std::result::Result<(), Fail> {
         (b"\\\"\"", 0, 0, b"", ErrorType::Syntax),
         (b"\"\n\"", 0, 0, b"", ErrorType::Syntax),
         (b"\"", b'\\', 65, b"\"", ErrorType::Syntax),
+        (b"[\"", 0, 0, b"", ErrorType::Syntax),
+        (b"[\"\xff", 0, 0, b"", ErrorType::Syntax),
+        (b"[1,] \"", 0, 0, b"", ErrorType::Syntax),
+        (b"\"", b'a', 63, b"\n\"", ErrorType::Syntax),
+        (b" \t\r\n", 0, 0, b"", ErrorType::Eof),
     ] {
         let text = text(rt.alloc(), before, byte, len, after)?;
         assert_eq!(rt;

@@ -4,7 +4,7 @@ use Rattle.std.proofs.lemmas.List.{get_or_default}
 use Rattle.simd_json_parts.specs.Bytes.{byte_at}
 use Rattle.simd_json_parts.specs.Positions.{backslashes_before, real_quotes, is_position, positions, has_control_inside}
 use Rattle.simd_json_stages.specs.Carries.{carry_at}
-use Rattle.simd_json_stages.proofs.ScanLaws.{filter-next}
+use Rattle.simd_json_stages.proofs.CarryLaws.{filter-next}
 use Rattle.simd_json_stages.proofs.EscapeBlockLaws.{ListsBlocks-none, ListsBlocks-other, ListsBlocks-again, ListsBlocks-first, ListsBlocks-all}
 use Rattle.simd_json_stages.proofs.stage1.scan.Goals as goal
 use Rattle.simd_json_stages.proofs.stage1.scan.Goals.{then-is_position+in_ok-put, else-is_position, then-is_backslash+then-next_block-block+in_ok-put-2, else-is_backslash, else-is_backslash-via-then-is_backslash+else-next_block-block, else-is_backslash-via-else-is_backslash}

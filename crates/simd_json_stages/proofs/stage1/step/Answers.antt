@@ -1,6 +1,6 @@
 use Rattle.std.proofs.Common.{ap, ◌∙◌}
 use Rattle.simd_json_stages.specs.Carries.{carry_at}
-use Rattle.simd_json_stages.proofs.ScanLaws.{carry_behind, is_found, carry_behind-next, is_found-position}
+use Rattle.simd_json_stages.proofs.CarryLaws.{carry_behind, is_found, carry_behind-next, is_found-position}
 use Rattle.simd_json_stages.proofs.stage1.step.Goals as goal
 
 pub returns : goal.returns
