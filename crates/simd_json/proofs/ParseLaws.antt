@@ -4,19 +4,18 @@ use Rattle.std.specs.Str.{is_utf8}
 use Rattle.std.specs.Result.{is_err, IsErrAnd, MatchResult, IfErr}
 use Rattle.std.proofs.lemmas.List.{length-map, length-take-le}
 use Rattle.std.proofs.Math.Seq.{take-append_seam}
-use Rattle.std.proofs.lemmas.Bool.{lt-ltb, le-ltb, true≢false, false≢true}
-use Rattle.std.proofs.lemmas.Str.{IsUtf8-from_is_utf8, is_utf8-from_IsUtf8}
+use Rattle.std.proofs.lemmas.Bool.{lt-ltb, true≢false, false≢true}
 use Rattle.std.proofs.lemmas.List.Sums.{length-filter, count_by-le-length}
 use Rattle.std.proofs.lemmas.List.FromFn.{length-range_with_len}
 use Rattle.simd_json_parts.proofs.AnswerSound.{answer-sound}
 use Rattle.simd_json_parts.proofs.SpellableLaws.{IsSpellable-derived}
+use Rattle.simd_json_parts.proofs.ScannedInputs.{by_size, fault-by_size, scanned}
 use Rattle.simd_json_parts.specs.Answer.{answer, fault_or}
 use Rattle.simd_json_parts.specs.Bytes.{indices}
 use Rattle.simd_json_parts.specs.Descent.{descent}
 use Rattle.simd_json_parts.specs.Nodes.{Item, item_of}
 use Rattle.simd_json_parts.specs.declared.node.Node.{Node}
-use Rattle.simd_json_stages.specs.Building.{IsListed, HasUnbuilt}
-use Rattle.simd_json_stages.specs.Refusals.{IsTokenFault}
+use Rattle.simd_json_stages.specs.Building.{IsListed}
 use Rattle.simd_json.specs.Parsed.{IsParsed, IsRefused, LacksMemory}
 use Rattle.simd_json_parts.specs.Listing.{IsTape}
 use Rattle.simd_json.specs.Rooms.{tokens_of, room_of}
@@ -25,34 +24,7 @@ use Rattle.simd_json_parts.specs.InputFaults.{input_fault, scan_fault, has_bad_t
 use Rattle.simd_json_parts.specs.Limits.{max_length}
 use Rattle.simd_json_parts.specs.Positions.{positions, is_position}
 use Rattle.simd_json_parts.specs.declared.error.Error.{Error}
-use Rattle.simd_json_parts.specs.declared.error.ErrorType.TheVariants.{InputTooLarge, InvalidUtf8, Syntax, Eof, OutOfMemory}
-
--- ---- the fault of the whole input, line by line
-
-abbrev by_size : Bool → Bool → Option Error → Option Error
-by_size is_large is_text scanned = cond is_large (Some (whole_fault InputTooLarge)) (cond (not is_text) (Some (whole_fault InvalidUtf8)) scanned)
-
-fault-by_size : (b : List ℕ) → input_fault b ≡ by_size (nat_lt max_length (length b)) (is_utf8 b) (scan_fault b)
-unfolding input_fault
-fault-by_size b = refl
-
-pub too_large : (b : List ℕ) → max_length < length b → input_fault b ≡ Some (whole_fault InputTooLarge)
-too_large b l = fault-by_size b ∙ ap (λ t. by_size t (is_utf8 b) (scan_fault b)) (lt-ltb max_length (length b) l)
-
-no_text : (b : List ℕ) → (IsUtf8 b → ⊥) → is_utf8 b ≡ false
-no_text b none = by_cases (is_utf8 b) refl where
-  by_cases : (t : Bool) → is_utf8 b ≡ t → t ≡ false
-  by_cases true is = absurd (none (IsUtf8-from_is_utf8 b is))
-  by_cases false is = refl
-
-pub bad_encoding : (b : List ℕ) → length b ≤ max_length → (IsUtf8 b → ⊥) → input_fault b ≡ Some (whole_fault InvalidUtf8)
-bad_encoding b l none =
-    fault-by_size b ∙ ap (λ t. by_size t (is_utf8 b) (scan_fault b)) (le-ltb max_length (length b) l) ∙ ap (λ t. by_size false t (scan_fault b)) (no_text b none)
-
--- where size and encoding are right, the scan tells
-pub scanned : (b : List ℕ) → length b ≤ max_length → IsUtf8 b → input_fault b ≡ scan_fault b
-scanned b l text =
-    fault-by_size b ∙ ap (λ t. by_size t (is_utf8 b) (scan_fault b)) (le-ltb max_length (length b) l) ∙ ap (λ t. by_size false t (scan_fault b)) (is_utf8-from_IsUtf8 b text)
+use Rattle.simd_json_parts.specs.declared.error.ErrorType.TheVariants.{Syntax, Eof, OutOfMemory}
 
 -- where nothing is wrong with the whole, some position is there
 abbrev is_none : Option Error → Bool
@@ -96,13 +68,12 @@ few-positions b = omega (arith, length-filter (is_position b) (indices b), count
 pub refused : (b : List ℕ) (limit tape-room room : ℕ) (e : Error) → length b ≤ max_length → IsUtf8 b
     → (scan_fault b ≡ Some e) ⊎ ((e ≡ whole_fault OutOfMemory) × (room < length b))
     → IsRefused b limit e ⊎ (LacksMemory b e × ((tape-room < length b) ⊎ (room < length b)))
-refused b limit tape-room room e l text (inl is) = inl (inl (fault-answered b limit e (scanned b l text ∙ is)))
+refused b limit tape-room room e l text (inl is) = inl (fault-answered b limit e (scanned b l text ∙ is))
 refused b limit tape-room room e l text (inr (is, short)) = inr ((is, l, text), inr short)
 
 -- what the second stage refuses
-pub refused-token : (b : List ℕ) (limit : ℕ) (e : Error) → input_fault b ≡ None → IsTokenFault e → HasUnbuilt b ⊎ (descent b limit ≡ Err e) → IsRefused b limit e
-refused-token b limit e none kind (inl unbuilt) = inr (none, kind, unbuilt)
-refused-token b limit e none kind (inr is) = inl (none-answered b limit none ∙ is)
+pub refused-token : (b : List ℕ) (limit : ℕ) (e : Error) → input_fault b ≡ None → descent b limit ≡ Err e → IsRefused b limit e
+refused-token b limit e none is = none-answered b limit none ∙ is
 
 -- ---- what the second stage lists
 

@@ -1,17 +1,14 @@
 -- What a parse answers.
-use Rattle.std.specs.Prelude.{◌≡◌, ◌≤◌, ◌⊎◌, ℕ, List, length, None, Ok, Err, IsUtf8}
+use Rattle.std.specs.Prelude.{◌≡◌, ◌≤◌, ℕ, List, length, Ok, Err, IsUtf8}
 use Rattle.simd_json_parts.specs.Answer.{answer}
 use Rattle.simd_json_parts.specs.Document.{Document}
 use Rattle.simd_json_parts.specs.Faults.{whole_fault}
 use Rattle.simd_json_parts.specs.Grammar.{Derives}
-use Rattle.simd_json_parts.specs.InputFaults.{input_fault}
 use Rattle.simd_json_parts.specs.Limits.{WithinLimits, max_length}
 use Rattle.simd_json_parts.specs.Listing.{listing}
 use Rattle.simd_json_parts.specs.Nodes.{Item}
 use Rattle.simd_json_parts.specs.declared.error.Error.{Error}
 use Rattle.simd_json_parts.specs.declared.error.ErrorType.TheVariants.{OutOfMemory}
-use Rattle.simd_json_stages.specs.Building.{HasUnbuilt}
-use Rattle.simd_json_stages.specs.Refusals.{IsTokenFault}
 
 -- b is a document within the limits, and these are its nodes
 pub record IsParsed (b : List ℕ) (limit : ℕ) (nodes : List Item) : Type 0 where
@@ -21,10 +18,9 @@ pub record IsParsed (b : List ℕ) (limit : ℕ) (nodes : List Item) : Type 0 wh
   pub answered : answer b limit ≡ Ok document
   pub listed : nodes ≡ listing document
 
--- The fault is the one that the definitions answer; or nothing is wrong with the input as a whole, it is refused at a
--- token, and at some byte of it a form would be read that is not built yet.
+-- the fault is the one that the definitions answer
 abbrev pub IsRefused : List ℕ → ℕ → Error → Type 0
-IsRefused b limit e = (answer b limit ≡ Err e) ⊎ ((input_fault b ≡ None) × IsTokenFault e × HasUnbuilt b)
+IsRefused b limit e = answer b limit ≡ Err e
 
 -- for want of memory, which is asked for once the size and the encoding are known to be right
 abbrev pub LacksMemory : List ℕ → Error → Type 0

@@ -4,6 +4,7 @@ ghost use Rattle.simd_json.specs.Parsed.{IsParsed, IsRefused, LacksMemory};
 ghost use Rattle.simd_json_parts.specs.InputFaults.{input_fault};
 ghost use Rattle.simd_json_parts.specs.Limits.{max_length, default_max_depth};
 ghost use Rattle.simd_json_parts.specs.Positions.{positions};
+ghost use Rattle.simd_json_stages.specs.EscapeBlocks.{backslash_blocks};
 
 use crate::DEFAULT_MAX_DEPTH;
 use crate::buffers::Buffers;
@@ -20,11 +21,12 @@ use std::alloc::{Allocator, Global};
 ///   or has a byte below 0x20 inside (section 7); `Eof`: there is nothing but whitespace. These are told at index 0,
 ///   without a character, and where one applies no token is looked at.
 /// - Of the tokens, read from the left, the first that is refused, with an index and the character there:
-///   `InternalError`, `ExpectedArrayContent` or `TrailingData` where another token is expected (sections 2 and 5),
-///   `Syntax` where none is left, `ExpectedTrue`, `ExpectedFalse` or `ExpectedNull` (section 3), `InvalidNumber`
-///   (section 6), and `DepthLimitExceeded` at the bracket that opens one container too many (section 9).
+///   `InternalError`, `ExpectedArrayContent`, `ExpectedObjectContent`, `ExpectedObjectKey`, `ExpectedObjectColon` or
+///   `TrailingData` where another token is expected (sections 2, 4 and 5), `Syntax` where none is left, `ExpectedTrue`,
+///   `ExpectedFalse` or `ExpectedNull` (section 3), `InvalidNumber` (section 6), `InvalidEscape` at a backslash, with the
+///   byte behind it, and `InvalidUnicodeCodepoint` at a backslash, with the character `u` (section 7), and
+///   `DepthLimitExceeded` at the bracket that opens one container too many (section 9).
 ///
-/// A text, an object and a decimal are not read yet: they are refused at their first byte with `InternalError`.
 /// `OutOfMemory`, at index 0 without a character, comes where a growth was refused; no memory is taken before size and
 /// encoding are known to be right. After an error there is no tape, and what `s` holds is of no meaning.
 pub fn to_tape<'de>(a: Global, s: &'de mut [u8]) -> Result<Tape<'de>>
@@ -66,6 +68,7 @@ fn build<'de, A: Allocator, B: Allocator>(
     tape: &mut Tape<'de, B>,
 ) -> Result<()>
     requires positions { (buffers.old.positions ≡ positions s.old) × (input_fault s.old ≡ None) }
+    requires escapes { buffers.old.blocks ≡ backslash_blocks s.old }
     requires rooms { (length (positions s.old) ≤ buffers.old.tokens) × (length (positions s.old) ≤ tape.old.room) }
     requires empty { tape.old.nodes ≡ [] }
     ensures tape { OnOk result (IsParsed s.old buffers.old.limit tape.new.nodes) }
@@ -77,6 +80,7 @@ fn build<'de, A: Allocator, B: Allocator>(
     tape.used = build_tape(
         s,
         &buffers.structural_indexes[..buffers.used],
+        &buffers.escape_blocks[..buffers.used_blocks],
         buffers.stack.as_mut_slice(),
         tape.list.as_mut_slice(),
         buffers.max_depth,

@@ -42,6 +42,7 @@ pub mod TextSound
 pub mod FaultsWithin
 pub mod ScalarFaults
 pub mod CleanInputs
+pub mod ScannedInputs
 pub mod TextStands
 pub mod AnswerSound
 pub mod MemberTurns

@@ -1,38 +1,39 @@
 -- The steps of the machine that accept a token: each keeps what is built, and what the rest of the tokens make of it.
-use Rattle.std.proofs.Common.{inl, inr, ◌⊎◌, ◌≡◌, ◌≢◌, refl, sym, ◌∙◌, ap, subst, ℕ, zero, suc, ◌+◌, ◌-◌, ◌<◌, ◌≤◌, List, [], ◌∷◌, ◌++◌, true, false, append_assoc, length, get_or, set, map, take, drop, nat_eq, cond, add-one, All, arith}
-use Rattle.std.specs.Prelude.{Result, Ok, Err, IfOk, MatchResult}
-use Rattle.std.proofs.lemmas.List.{get_or-set_other, get_or-set_same, take_more, take_more_set, map-append, map-set, get_or_default, length-drop, take_all, drop_all, drop_more, length-map, length-take-le}
+use Rattle.std.proofs.Common.{◌≡◌, ◌≢◌, refl, sym, ◌∙◌, ap, subst, ℕ, zero, suc, ◌+◌, ◌-◌, ◌<◌, ◌≤◌, List, [], ◌∷◌, ◌++◌, true, append_assoc, length, get_or, set, map, take, drop, cond, add-one, arith}
+use Rattle.std.specs.Prelude.{Result, Ok, Err}
+use Rattle.std.proofs.lemmas.List.{get_or-set_other, get_or-set_same, take_more, take_more_set, map-append, map-set, drop_more, length-map, length-take-le}
 use Rattle.std.proofs.Math.Seq.{take-set-lt, drop-length}
 use Rattle.simd_json_parts.specs.Bytes.{byte_at}
-use Rattle.simd_json_parts.specs.Document.{Document}
-use Rattle.simd_json_parts.specs.Nodes.{Item, array_item, item_of}
+use Rattle.simd_json_parts.specs.Document.{Document, text, array, object, no_elements, no_members}
+use Rattle.simd_json_parts.specs.Nodes.{Item, string_item, item_of}
 use Rattle.simd_json_parts.specs.Listing.{listing}
-use Rattle.simd_json_stages.specs.Continued.{Open, in_array, in_object, at_value, at_array, after_value}
-use Rattle.simd_json_stages.specs.Building.{missing, frames, top, patch, Holds, whole, AtElement, BehindElement, IsBuilt, IsListed, Ends, HasUnbuilt, Tells}
-use Rattle.simd_json_parts.specs.Tokens.{Token, Form, begin_array, end_array, value_separator, scalar, form_at}
 use Rattle.simd_json_parts.specs.Descent.{◌>>=◌, value_from, last_index, root_end, descent}
 use Rattle.simd_json_parts.specs.Faults.{fault_at, fault_with}
 use Rattle.simd_json_parts.specs.Positions.{positions}
-use Rattle.simd_json_parts.specs.declared.error.ErrorType.TheVariants.{Syntax, InvalidNumber}
+use Rattle.simd_json_parts.specs.Tokens.{Token, Form, begin_array, end_array, begin_object, end_object, name_separator, value_separator, string, scalar, form_at}
 use Rattle.simd_json_parts.specs.TokensAlong.{goes_on, tokens_along}
-use Rattle.simd_json_stages.proofs.Holding.{array_of, Holds-value, Holds-open, Holds-close, Holds-end, Holds-header, Holds-outer_len}
-use Rattle.simd_json_stages.proofs.ScalarLaws.{number_at-within}
-use Rattle.simd_json_stages.proofs.Steps.{after_value-comma, after_value-close, at_value-open, at_array-close, at_array-element, at_value-scalar, after_value-root, at_value-root}
-use Rattle.simd_json_parts.proofs.PositionLaws.{Contains-positions}
-use Rattle.simd_json_parts.proofs.TokenLaws.{tokens-positions}
+use Rattle.simd_json_parts.specs.declared.error.Error.{Error}
+use Rattle.simd_json_parts.specs.declared.error.ErrorType.{ErrorType}
+use Rattle.simd_json_parts.specs.declared.error.ErrorType.TheVariants.{Syntax}
 use Rattle.simd_json_parts.specs.declared.node.Node.{Node}
-use Rattle.simd_json_parts.specs.declared.node.Node.TheVariants.{Array, Static}
+use Rattle.simd_json_parts.specs.declared.node.Node.TheVariants.{Static}
 use Rattle.simd_json_parts.specs.declared.node.StaticNode.TheVariants.{Null}
+use Rattle.simd_json_parts.proofs.TokenLaws.{tokens-positions}
+use Rattle.simd_json_stages.specs.Continued.{Open, in_array, in_object, at_value, at_array, at_object, at_name, after_value}
+use Rattle.simd_json_stages.specs.Building.{closer, header_of, frames, top, patch, Holds, HoldsValue, HoldsMembers, closed_with, missing, whole, AtValue, AtName, BehindValue, AtMemberOf, AtMember, IsBuilt, IsListed, Tells}
+use Rattle.simd_json_stages.specs.Left.{Left}
+use Rattle.simd_json_stages.specs.Put.{IsTextPut, IsScalarPut}
+use Rattle.simd_json_stages.specs.Refusals.{error_type}
+use Rattle.simd_json_stages.specs.declared.stage2.Container.{Container}
+use Rattle.simd_json_stages.specs.declared.stage2.Container.TheVariants.{Array, Object}
 use Rattle.simd_json_stages.specs.declared.stage2.Progress.{Progress}
-use Rattle.simd_json_stages.specs.Refusals.{error_type, offset_of}
-use Rattle.simd_json_stages.specs.ScalarRead.{IsScalarAt}
-use Rattle.simd_json_stages.specs.declared.stage2.Scalar.{Scalar}
-use Rattle.simd_json_stages.specs.declared.stage2.Scalar.TheVariants.{Value, Decimal, Invalid, Refused}
-use Rattle.simd_json_stages.specs.declared.stage2.Fault.{Fault}
-use Rattle.simd_json_stages.specs.declared.stage2.Follower.{Follower}
-use Rattle.simd_json_stages.specs.declared.stage2.Follower.TheVariants.{Next}
 use Rattle.simd_json_stages.specs.declared.stage2.StackState.{StackState}
-use Rattle.simd_json_stages.proofs.TokenForms.{along-form, closes, commas, last_index-append, next, no_end, opens, token}
+use Rattle.simd_json_stages.specs.declared.stage2.fault.Fault.{Fault}
+use Rattle.simd_json_stages.specs.declared.stage2.fault.FaultKind.TheVariants as kinds
+use Rattle.simd_json_stages.proofs.Holding.{Holds-value, Holds-name, Holds-comma, Holds-member_comma, Holds-open, Holds-open_object, Holds-close, Holds-header, Holds-outer_len}
+use Rattle.simd_json_stages.proofs.Places.{token}
+use Rattle.simd_json_stages.proofs.Steps.{after_value-comma, at_value-open, at_array-close, at_array-element, at_value-scalar, after_value-root, at_value-root, after_value-closed, at_value-open_object, at_object-close, at_object-name, at_name-value, after_value-member_comma, at_value-text, closing_form}
+use Rattle.simd_json_stages.proofs.TokenForms.{along-form, closes, commas, last_index-append, next, no_end, no_end_object, opens, opens_object, closes_object, colons, quotes}
 
 -- ---- the stack and the nodes
 
@@ -42,11 +43,19 @@ frames-set stack f k (suc depth) l =
     let other : depth ≢ k = omega arith in
     rw (get_or-set_other, frames-set stack f k depth (omega arith)) refl
 
-frames-push : (stack : List StackState) (f : StackState) (depth : ℕ) → depth < length stack → frames (set stack depth f) (suc depth) ≡ f ∷ frames stack depth
-frames-push stack f depth l = rw (get_or-set_same, frames-set stack f depth depth (omega arith)) refl
+frames-push : (stack : List StackState) (f : StackState) (depth : ℕ) → depth < length stack → frames (set stack depth f) (depth + 1) ≡ f ∷ frames stack depth
+frames-push stack f depth l = ap (frames (set stack depth f)) (add-one depth) ∙ rw (get_or-set_same, frames-set stack f depth depth (omega arith)) refl
+
+frames-top : (stack : List StackState) (depth : ℕ) → 0 < depth → frames stack depth ≡ top stack depth ∷ frames stack (depth - 1)
+frames-top stack zero l = absurd (omega arith)
+frames-top stack (suc depth) l = let same : suc depth - 1 ≡ depth = omega arith in rw same refl
 
 items-put : (nodes : List Node) (used : ℕ) (x : Node) → used < length nodes → map item_of (take (used + 1) (set nodes used x)) ≡ map item_of (take used nodes) ++ item_of x ∷ []
 items-put nodes used x l = ap (map item_of) (take_more_set nodes used x l) ∙ map-append item_of (take used nodes) (x ∷ [])
+
+-- the node is given by an equation, and so are the nodes
+items-grown : (nodes nodes' : List Node) (used : ℕ) (x : Node) (more : List Item) → used < length nodes → nodes' ≡ set nodes used x → more ≡ item_of x ∷ [] → map item_of (take used nodes) ++ more ≡ map item_of (take (used + 1) nodes')
+items-grown nodes nodes' used x more l put is = ap (λ us. map item_of (take used nodes) ++ us) is ∙ sym (items-put nodes used x l) ∙ ap (λ ns. map item_of (take (used + 1) ns)) (sym put)
 
 items-more : (nodes : List Node) (used : ℕ) → used < length nodes → map item_of (take (used + 1) nodes) ≡ map item_of (take used nodes) ++ item_of (get_or nodes used (Static Null)) ∷ []
 items-more nodes used l = ap (map item_of) (take_more nodes used (Static Null) l) ∙ map-append item_of (take used nodes) _
@@ -57,13 +66,63 @@ items-patch nodes used i x l = ap (map item_of) (take-set-lt used nodes i x l) �
 pub items-length : (nodes : List Node) (used : ℕ) → used ≤ length nodes → length (map item_of (take used nodes)) ≡ used
 items-length nodes used l = length-map (take used nodes) item_of ∙ length-take-le used nodes l
 
--- all from an index on
-pub slice-rest : (b : List ℕ) (i : ℕ) → take (length b - i) (drop i b) ≡ drop i b
-slice-rest b i = take_all (length b - i) (drop i b) (omega (arith, length-drop i b))
+-- ---- either container
 
--- a read inside the input
-pub byte_at-inside : (b : List ℕ) (i : ℕ) → i < length b → byte_at b i ≡ get_or b i 0
-byte_at-inside b i l = get_or_default b i 32 0 l
+abbrev opening_form : Container → Form
+opening_form Array = begin_array
+opening_form Object = begin_object
+
+abbrev ending_form : Container → Form
+ending_form Array = end_array
+ending_form Object = end_object
+
+abbrev empty_of : Container → Document
+empty_of Array = array no_elements
+empty_of Object = object no_members
+
+opening-goes_on : (c : Container) → goes_on (opening_form c) ≡ true
+opening-goes_on Array = refl
+opening-goes_on Object = refl
+
+ending-goes_on : (c : Container) → goes_on (ending_form c) ≡ true
+ending-goes_on Array = refl
+ending-goes_on Object = refl
+
+closing-goes_on : (o : Open) → goes_on (closing_form o) ≡ true
+closing-goes_on (in_array ds) = refl
+closing-goes_on (in_object ms name) = refl
+
+empty-listed : (c : Container) → listing (empty_of c) ≡ item_of (header_of c 0 0) ∷ []
+empty-listed Array = refl
+empty-listed Object = refl
+
+opening-form : (b : List ℕ) (c : Container) (i : ℕ) → byte_at b i + 2 ≡ closer c → form_at b i ≡ opening_form c
+opening-form b Array i e = opens b i (omega (arith, e))
+opening-form b Object i e = opens_object b i (omega (arith, e))
+
+ending-form : (b : List ℕ) (c : Container) (i : ℕ) → byte_at b i ≡ closer c → form_at b i ≡ ending_form c
+ending-form b Array i e = closes b i e
+ending-form b Object i e = closes_object b i e
+
+-- the container in the progress is the innermost one that is open
+closing-form : (b : List ℕ) (i : ℕ) (o : Open) (outer : List Open) (d : Document) (c : Container) (fs : List StackState) (len : ℕ) (items : List Item)
+    → HoldsValue (o ∷ outer) d c fs len items → byte_at b i ≡ closer c → form_at b i ≡ closing_form o
+closing-form b i (in_array ds) outer d c fs len items h e = closes b i (e ∙ ap closer h.0)
+closing-form b i (in_object ms name) outer d c fs len items h e = closes_object b i (e ∙ ap closer h.0)
+
+module _ (b : List ℕ) (lost : Error) (limit : ℕ) where
+  -- behind an opening bracket
+  abbrev at_container : Container → List Open → List Token → Result (Document × List Token) Error
+  at_container Array = at_array b lost limit
+  at_container Object = at_object b lost limit
+
+  container-open : (c : Container) (outer : List Open) (t : Token) (ts : List Token) → length outer < limit → t.form ≡ opening_form c → at_value b lost limit outer (t ∷ ts) ≡ at_container c outer ts
+  container-open Array = at_value-open b lost limit
+  container-open Object = at_value-open_object b lost limit
+
+  container-close : (c : Container) (outer : List Open) (t : Token) (ts : List Token) → t.form ≡ ending_form c → at_container c outer (t ∷ ts) ≡ after_value b lost limit outer (empty_of c) ts
+  container-close Array = at_array-close b lost limit
+  container-close Object = at_object-close b lost limit
 
 module _ (b ps : List ℕ) (limit : ℕ) where
   -- one more token is read
@@ -76,298 +135,268 @@ module _ (b ps : List ℕ) (limit : ℕ) where
   reached_next before k l along' = along' ∙ ap (λ us. before ++ us) (next b ps k l)
 
   -- a scalar is read, and its node is put
-  pub step-scalar : (stack : List StackState) (nodes : List Node) (p : Progress) (d : Document) (end : ℕ) (x : Node)
-      → AtElement b ps limit stack nodes p → p.used < length nodes → form_at b p.at ≡ scalar (Ok (d, end)) → listing d ≡ item_of x ∷ []
-      → BehindElement b ps limit stack (set nodes p.used x) (record p { used = p.used + 1; len = p.len + 1 })
-  step-scalar stack nodes p d end x at l form is =
-      let grown : map item_of (take p.used nodes) ++ listing d ≡ map item_of (take (p.used + 1) (set nodes p.used x)) = ap (λ us. map item_of (take p.used nodes) ++ us) is ∙ sym (items-put nodes p.used x l) in
+  pub step-scalar : (stack : List StackState) (nodes nodes' : List Node) (p : Progress) (u : Left) → AtValue b ps limit stack nodes p → p.used < length nodes → IsScalarPut b p.at p.used nodes nodes' u
+      → BehindValue b ps limit stack nodes' (record p { used = p.used + 1; len = p.len + 1 })
+  step-scalar stack nodes nodes' p u at l put =
+      let form : Form = scalar (Ok (put.document, put.end)) in
       record {
-        elements = at.elements;
-        last = d;
-        outer = at.outer;
+        opens = at.opens;
+        last = put.document;
+        same = at.same ∙ ap (at_value b (missing b ps) limit at.opens) (along-form b p.at (drop p.read ps) form put.read refl) ∙ at_value-scalar b (missing b ps) limit at.opens (token b p.at) (tokens_along b (drop p.read ps)) put.document put.end put.read;
         before = at.before ++ token b p.at ∷ [];
-        along = extended at.before p.at (drop p.read ps) (scalar (Ok (d, end))) form refl at.along;
+        along = extended at.before p.at (drop p.read ps) form put.read refl at.along;
         reached = last_index-append at.before (token b p.at);
-        same = at.same ∙ ap (at_value b (missing b ps) limit (in_array at.elements ∷ at.outer)) (along-form b p.at (drop p.read ps) (scalar (Ok (d, end))) form refl) ∙ at_value-scalar b (missing b ps) limit (in_array at.elements ∷ at.outer) (token b p.at) (tokens_along b (drop p.read ps)) d end form;
-        holds = subst (Holds (in_array (at.elements ++ d ∷ []) ∷ at.outer) (frames stack p.depth) (p.len + 1)) grown (Holds-value at.elements at.outer (frames stack p.depth) p.len (map item_of (take p.used nodes)) d at.holds);
+        holds = subst (HoldsValue at.opens put.document p.container (frames stack p.depth) (p.len + 1)) (items-grown nodes nodes' p.used put.node (listing put.document) l put.put put.listed) (Holds-value at.opens p.container (frames stack p.depth) p.len (map item_of (take p.used nodes)) put.document at.holds);
         deep = at.deep;
       }
 
-  -- behind the opening bracket of an element
-  opened : (stack : List StackState) (nodes : List Node) (p : Progress) (at : AtElement b ps limit stack nodes p) → p.depth < limit → byte_at b p.at ≡ 91 → p.read < length ps
-      → whole b ps limit ≡ at_array b (missing b ps) limit (in_array at.elements ∷ at.outer) (tokens_along b (get_or ps p.read 0 ∷ drop (p.read + 1) ps))
-  opened stack nodes p at l c k =
-      let room : length (in_array at.elements ∷ at.outer) < limit = omega (arith, at.deep) in
-      at.same
-      ∙ ap (at_value b (missing b ps) limit (in_array at.elements ∷ at.outer)) (along-form b p.at (drop p.read ps) begin_array (opens b p.at c) refl)
-      ∙ at_value-open b (missing b ps) limit (in_array at.elements ∷ at.outer) (token b p.at) (tokens_along b (drop p.read ps)) room (opens b p.at c)
-      ∙ ap (at_array b (missing b ps) limit (in_array at.elements ∷ at.outer)) (next b ps p.read k)
-
-  -- an empty array
-  pub step-empty : (stack : List StackState) (nodes : List Node) (p : Progress)
-      → AtElement b ps limit stack nodes p → p.used < length nodes → p.depth < limit → byte_at b p.at ≡ 91 → p.read < length ps → byte_at b (get_or ps p.read 0) ≡ 93
-      → BehindElement b ps limit stack (set nodes p.used (Array 0 0)) (record p { read = p.read + 1; at = get_or ps p.read 0; used = p.used + 1; len = p.len + 1 })
-  step-empty stack nodes p at l room c k e =
-      let i : ℕ = get_or ps p.read 0 in
-      let rest : List Token = tokens_along b (drop (p.read + 1) ps) in
+  -- a text
+  pub step-text : (stack : List StackState) (nodes nodes' : List Node) (p : Progress) (u : Left) → AtValue b ps limit stack nodes p → p.used < length nodes → byte_at b p.at ≡ 34 → IsTextPut b p.at p.used nodes nodes' u
+      → BehindValue b ps limit stack nodes' (record p { used = p.used + 1; len = p.len + 1 })
+  step-text stack nodes nodes' p u at l q put =
+      let form : Form = string (Ok (put.text, u.at)) in
+      let is : form_at b p.at ≡ form = quotes b p.at q ∙ ap string put.read in
       record {
-        elements = at.elements;
-        last = array_of [];
-        outer = at.outer;
-        before = (at.before ++ token b p.at ∷ []) ++ token b i ∷ [];
-        along = extended (at.before ++ token b p.at ∷ []) i (drop (p.read + 1) ps) end_array (closes b i e) refl (reached_next (at.before ++ token b p.at ∷ []) p.read k (extended at.before p.at (drop p.read ps) begin_array (opens b p.at c) refl at.along));
-        reached = last_index-append (at.before ++ token b p.at ∷ []) (token b i);
-        same = opened stack nodes p at room c k ∙ ap (at_array b (missing b ps) limit (in_array at.elements ∷ at.outer)) (along-form b i (drop (p.read + 1) ps) end_array (closes b i e) refl) ∙ at_array-close b (missing b ps) limit (in_array at.elements ∷ at.outer) (token b i) rest (closes b i e);
-        holds = subst (Holds (in_array (at.elements ++ array_of [] ∷ []) ∷ at.outer) (frames stack p.depth) (p.len + 1)) (sym (items-put nodes p.used (Array 0 0) l)) (Holds-value at.elements at.outer (frames stack p.depth) p.len (map item_of (take p.used nodes)) (array_of []) at.holds);
-        deep = at.deep;
-      }
-
-  -- an array with elements
-  pub step-open : (stack : List StackState) (nodes : List Node) (p : Progress)
-      → AtElement b ps limit stack nodes p → p.used < length nodes → p.depth < length stack → p.depth < limit → byte_at b p.at ≡ 91 → p.read < length ps → nat_eq (byte_at b (get_or ps p.read 0)) 93 ≡ false
-      → AtElement b ps limit (set stack p.depth (record { header = p.used; len = p.len })) nodes (record { read = p.read + 1; at = get_or ps p.read 0; used = p.used + 1; depth = p.depth + 1; len = 0 })
-  step-open stack nodes p at l s room c k e =
-      let i : ℕ = get_or ps p.read 0 in
-      let f : StackState = record { header = p.used; len = p.len } in
-      let opens' : List Open = in_array at.elements ∷ at.outer in
-      let items : List Item = map item_of (take p.used nodes) in
-      record {
-        elements = [];
-        outer = opens';
+        opens = at.opens;
+        last = text put.text;
+        same = at.same ∙ ap (at_value b (missing b ps) limit at.opens) (along-form b p.at (drop p.read ps) form is refl) ∙ at_value-text b (missing b ps) limit at.opens (token b p.at) (tokens_along b (drop p.read ps)) put.text u.at is;
         before = at.before ++ token b p.at ∷ [];
-        along = reached_next (at.before ++ token b p.at ∷ []) p.read k (extended at.before p.at (drop p.read ps) begin_array (opens b p.at c) refl at.along);
-        same = opened stack nodes p at room c k ∙ first i (drop (p.read + 1) ps) e opens';
-        holds = subst (λ fs. Holds (in_array [] ∷ opens') fs 0 (map item_of (take (p.used + 1) nodes))) (sym (ap (frames (set stack p.depth f)) (add-one p.depth) ∙ frames-push stack f p.depth s)) (subst (Holds (in_array [] ∷ opens') (f ∷ frames stack p.depth) 0) (sym (items-more nodes p.used l)) (Holds-open opens' (frames stack p.depth) f p.len items (item_of (get_or nodes p.used (Static Null))) at.holds (sym (items-length nodes p.used (omega arith))) refl));
+        along = extended at.before p.at (drop p.read ps) form is refl at.along;
+        reached = last_index-append at.before (token b p.at);
+        holds = subst (HoldsValue at.opens (text put.text) p.container (frames stack p.depth) (p.len + 1)) (items-grown nodes nodes' p.used put.node (string_item put.text ∷ []) l put.put (ap (λ i. i ∷ []) (sym put.item))) (Holds-value at.opens p.container (frames stack p.depth) p.len (map item_of (take p.used nodes)) (text put.text) at.holds);
+        deep = at.deep;
+      }
+
+  -- behind the opening bracket of a value
+  opened : (c : Container) (stack : List StackState) (nodes : List Node) (p : Progress) (at : AtValue b ps limit stack nodes p) → p.depth < limit → form_at b p.at ≡ opening_form c → p.read < length ps
+      → whole b ps limit ≡ at_container b (missing b ps) limit c at.opens (tokens_along b (get_or ps p.read 0 ∷ drop (p.read + 1) ps))
+  opened c stack nodes p at l is k =
+      let room : length at.opens < limit = omega (arith, at.deep) in
+      at.same
+      ∙ ap (at_value b (missing b ps) limit at.opens) (along-form b p.at (drop p.read ps) (opening_form c) is (opening-goes_on c))
+      ∙ container-open b (missing b ps) limit c at.opens (token b p.at) (tokens_along b (drop p.read ps)) room is
+      ∙ ap (at_container b (missing b ps) limit c at.opens) (next b ps p.read k)
+
+  -- and the tokens up to there
+  opened-along : (c : Container) (stack : List StackState) (nodes : List Node) (p : Progress) (at : AtValue b ps limit stack nodes p) → form_at b p.at ≡ opening_form c → p.read < length ps
+      → tokens_along b ps ≡ (at.before ++ token b p.at ∷ []) ++ tokens_along b (get_or ps p.read 0 ∷ drop (p.read + 1) ps)
+  opened-along c stack nodes p at is k = reached_next (at.before ++ token b p.at ∷ []) p.read k (extended at.before p.at (drop p.read ps) (opening_form c) is (opening-goes_on c) at.along)
+
+  -- an empty container
+  pub step-empty : (c : Container) (stack : List StackState) (nodes : List Node) (p : Progress) → AtValue b ps limit stack nodes p → p.used < length nodes → p.depth < limit → byte_at b p.at + 2 ≡ closer c
+      → p.read < length ps → byte_at b (get_or ps p.read 0) ≡ closer c
+      → BehindValue b ps limit stack (set nodes p.used (header_of c 0 0)) (record p { read = p.read + 1; at = get_or ps p.read 0; byte = byte_at b (get_or ps p.read 0); used = p.used + 1; len = p.len + 1 })
+  step-empty c stack nodes p at l room o k e =
+      let i : ℕ = get_or ps p.read 0 in
+      let rest : List ℕ = drop (p.read + 1) ps in
+      let is : form_at b p.at ≡ opening_form c = opening-form b c p.at o in
+      let ends : form_at b i ≡ ending_form c = ending-form b c i e in
+      record {
+        opens = at.opens;
+        last = empty_of c;
+        same = opened c stack nodes p at room is k ∙ ap (at_container b (missing b ps) limit c at.opens) (along-form b i rest (ending_form c) ends (ending-goes_on c)) ∙ container-close b (missing b ps) limit c at.opens (token b i) (tokens_along b rest) ends;
+        before = (at.before ++ token b p.at ∷ []) ++ token b i ∷ [];
+        along = extended (at.before ++ token b p.at ∷ []) i rest (ending_form c) ends (ending-goes_on c) (opened-along c stack nodes p at is k);
+        reached = last_index-append (at.before ++ token b p.at ∷ []) (token b i);
+        holds = subst (HoldsValue at.opens (empty_of c) p.container (frames stack p.depth) (p.len + 1)) (items-grown nodes (set nodes p.used (header_of c 0 0)) p.used (header_of c 0 0) (listing (empty_of c)) l refl (empty-listed c)) (Holds-value at.opens p.container (frames stack p.depth) p.len (map item_of (take p.used nodes)) (empty_of c) at.holds);
+        deep = at.deep;
+      }
+
+  -- a container with members
+  pub step-open : (c : Container) (stack : List StackState) (nodes : List Node) (p : Progress) → AtValue b ps limit stack nodes p → p.used < length nodes → p.depth < length stack → p.depth < limit → byte_at b p.at + 2 ≡ closer c
+      → p.read < length ps → byte_at b (get_or ps p.read 0) ≢ closer c
+      → AtMember b ps limit kinds.ExpectedObjectContent (set stack p.depth (record { header = p.used; outer = p.container; len = p.len })) nodes
+      (record { read = p.read + 1; at = get_or ps p.read 0; byte = byte_at b (get_or ps p.read 0); used = p.used + 1; depth = p.depth + 1; container = c; len = 0 })
+  step-open Array stack nodes p at l s room o k e =
+      let i : ℕ = get_or ps p.read 0 in
+      let rest : List ℕ = drop (p.read + 1) ps in
+      let f : StackState = record { header = p.used; outer = p.container; len = p.len } in
+      let is : form_at b p.at ≡ begin_array = opening-form b Array p.at o in
+      record {
+        opens = in_array [] ∷ at.opens;
+        same = opened Array stack nodes p at room is k ∙ at_array-element b (missing b ps) limit at.opens (token b i) (cond (goes_on (form_at b i)) (tokens_along b rest) []) (form_at b i) refl (no_end b i e);
+        before = at.before ++ token b p.at ∷ [];
+        along = opened-along Array stack nodes p at is k;
+        holds = subst (λ fs. Holds (in_array [] ∷ at.opens) Array fs 0 (map item_of (take (p.used + 1) nodes))) (sym (frames-push stack f p.depth s)) (subst (Holds (in_array [] ∷ at.opens) Array (f ∷ frames stack p.depth) 0) (sym (items-more nodes p.used l)) (Holds-open at.opens p.container (frames stack p.depth) f p.len (map item_of (take p.used nodes)) (item_of (get_or nodes p.used (Static Null))) at.holds (sym (items-length nodes p.used (omega arith))) refl refl));
         deep = omega (arith, at.deep);
       }
-    where
-      first : (i : ℕ) (rest : List ℕ) → nat_eq (byte_at b i) 93 ≡ false → (outer : List Open) → at_array b (missing b ps) limit outer (tokens_along b (i ∷ rest)) ≡ at_value b (missing b ps) limit (in_array [] ∷ outer) (tokens_along b (i ∷ rest))
-      first i rest e outer = at_array-element b (missing b ps) limit outer (token b i) (cond (goes_on (form_at b i)) (tokens_along b rest) []) (form_at b i) refl (no_end b i e)
-
-  -- a comma, and the next element
-  pub step-comma : (stack : List StackState) (nodes : List Node) (p : Progress)
-      → BehindElement b ps limit stack nodes p → p.read < length ps → byte_at b (get_or ps p.read 0) ≡ 44 → p.read + 1 < length ps
-      → AtElement b ps limit stack nodes (record p { read = p.read + 2; at = get_or ps (p.read + 1) 0 })
-  step-comma stack nodes p at k e m =
+  step-open Object stack nodes p at l s room o k e =
       let i : ℕ = get_or ps p.read 0 in
-      let two : (p.read + 1) + 1 ≡ p.read + 2 = omega arith in
+      let rest : List ℕ = drop (p.read + 1) ps in
+      let f : StackState = record { header = p.used; outer = p.container; len = p.len } in
+      let is : form_at b p.at ≡ begin_object = opening-form b Object p.at o in
       record {
-        elements = at.elements ++ at.last ∷ [];
-        outer = at.outer;
-        before = at.before ++ token b i ∷ [];
-        along =
-            reached_next (at.before ++ token b i ∷ []) (p.read + 1) m (extended at.before i (drop (p.read + 1) ps) value_separator (commas b i e) refl (reached_next at.before p.read k at.along))
-            ∙ ap (λ n. (at.before ++ token b i ∷ []) ++ tokens_along b (get_or ps (p.read + 1) 0 ∷ drop n ps)) two;
-        same = at.same
-            ∙ ap (after_value b (missing b ps) limit (in_array at.elements ∷ at.outer) at.last) (next b ps p.read k ∙ along-form b i (drop (p.read + 1) ps) value_separator (commas b i e) refl)
-            ∙ after_value-comma b (missing b ps) limit at.elements at.outer at.last (token b i) (tokens_along b (drop (p.read + 1) ps)) (commas b i e)
-            ∙ ap (at_value b (missing b ps) limit (in_array (at.elements ++ at.last ∷ []) ∷ at.outer)) (next b ps (p.read + 1) m ∙ ap (λ n. tokens_along b (get_or ps (p.read + 1) 0 ∷ drop n ps)) two);
-        holds = at.holds;
-        deep = at.deep;
+        members = [];
+        outer = at.opens;
+        same = opened Object stack nodes p at room is k ∙ at_object-name b (missing b ps) limit at.opens (token b i) (cond (goes_on (form_at b i)) (tokens_along b rest) []) (form_at b i) refl (no_end_object b i e);
+        before = at.before ++ token b p.at ∷ [];
+        along = opened-along Object stack nodes p at is k;
+        holds = subst (λ fs. HoldsMembers [] at.opens Object fs 0 (map item_of (take (p.used + 1) nodes))) (sym (frames-push stack f p.depth s)) (subst (HoldsMembers [] at.opens Object (f ∷ frames stack p.depth) 0) (sym (items-more nodes p.used l)) (Holds-open_object at.opens p.container (frames stack p.depth) f p.len (map item_of (take p.used nodes)) (item_of (get_or nodes p.used (Static Null))) at.holds (sym (items-length nodes p.used (omega arith))) refl refl));
+        deep = omega (arith, at.deep);
       }
 
-  -- behind a closing bracket
-  pub closed : (stack : List StackState) (nodes : List Node) (p : Progress) (at : BehindElement b ps limit stack nodes p) → p.read < length ps → byte_at b (get_or ps p.read 0) ≡ 93
-      → whole b ps limit ≡ after_value b (missing b ps) limit at.outer (array_of (at.elements ++ at.last ∷ [])) (tokens_along b (drop (p.read + 1) ps))
-  closed stack nodes p at k e =
-      let i : ℕ = get_or ps p.read 0 in
-      at.same
-      ∙ ap (after_value b (missing b ps) limit (in_array at.elements ∷ at.outer) at.last) (next b ps p.read k ∙ along-form b i (drop (p.read + 1) ps) end_array (closes b i e) refl)
-      ∙ after_value-close b (missing b ps) limit at.elements at.outer at.last (token b i) (tokens_along b (drop (p.read + 1) ps)) (closes b i e)
+  -- behind the next token, where it is a comma or a colon
+  next-along : (before : List Token) (k : ℕ) (form : Form) → form_at b (get_or ps k 0) ≡ form → goes_on form ≡ true → k + 1 < length ps → tokens_along b ps ≡ before ++ tokens_along b (drop k ps)
+      → tokens_along b ps ≡ (before ++ token b (get_or ps k 0) ∷ []) ++ tokens_along b (get_or ps (k + 1) 0 ∷ drop (k + 2) ps)
+  next-along before k form is goes m along' =
+      let i : ℕ = get_or ps k 0 in
+      let two : (k + 1) + 1 ≡ k + 2 = omega arith in
+      reached_next (before ++ token b i ∷ []) (k + 1) m (extended before i (drop (k + 1) ps) form is goes (reached_next before k (omega arith) along'))
+      ∙ ap (λ n. (before ++ token b i ∷ []) ++ tokens_along b (get_or ps (k + 1) 0 ∷ drop n ps)) two
 
-  frames-top : (stack : List StackState) (depth : ℕ) → 0 < depth → frames stack depth ≡ top stack depth ∷ frames stack (depth - 1)
-  frames-top stack zero l = absurd (omega arith)
-  frames-top stack (suc depth) l = let same : suc depth - 1 ≡ depth = omega arith in rw same refl
+  next-token : (k : ℕ) → k + 1 < length ps → tokens_along b (drop (k + 1) ps) ≡ tokens_along b (get_or ps (k + 1) 0 ∷ drop (k + 2) ps)
+  next-token k m = let two : (k + 1) + 1 ≡ k + 2 = omega arith in next b ps (k + 1) m ∙ ap (λ n. tokens_along b (get_or ps (k + 1) 0 ∷ drop n ps)) two
+
+  -- a comma, and the next member
+  pub step-comma : (stack : List StackState) (nodes : List Node) (p : Progress) → BehindValue b ps limit stack nodes p → 0 < p.depth → p.read < length ps → byte_at b (get_or ps p.read 0) ≡ 44 → p.read + 1 < length ps
+      → AtMember b ps limit kinds.ExpectedObjectKey stack nodes (record p { read = p.read + 2; at = get_or ps (p.read + 1) 0; byte = byte_at b (get_or ps (p.read + 1) 0) })
+  step-comma stack nodes p at some k e m = go at.opens at.last at.same at.before at.along at.holds at.deep
+    where
+      q : Progress
+      q = record p { read = p.read + 2; at = get_or ps (p.read + 1) 0; byte = byte_at b (get_or ps (p.read + 1) 0) }
+
+      go : (opens' : List Open) (last : Document) → whole b ps limit ≡ after_value b (missing b ps) limit opens' last (tokens_along b (drop p.read ps))
+          → (before : List Token) → tokens_along b ps ≡ before ++ tokens_along b (drop p.read ps)
+          → HoldsValue opens' last p.container (frames stack p.depth) p.len (map item_of (take p.used nodes)) → length opens' ≡ p.depth
+          → AtMember b ps limit kinds.ExpectedObjectKey stack nodes q
+      go [] last same before along' h deep = absurd (omega (arith, deep, some))
+      go (in_array ds ∷ outer) last same before along' h deep =
+          let i : ℕ = get_or ps p.read 0 in
+          subst (λ c. AtMemberOf b ps limit c (error_type kinds.ExpectedObjectKey) stack nodes q) (sym h.0) (record {
+            opens = in_array (ds ++ last ∷ []) ∷ outer;
+            same = same
+                ∙ ap (after_value b (missing b ps) limit (in_array ds ∷ outer) last) (next b ps p.read k ∙ along-form b i (drop (p.read + 1) ps) value_separator (commas b i e) refl)
+                ∙ after_value-comma b (missing b ps) limit ds outer last (token b i) (tokens_along b (drop (p.read + 1) ps)) (commas b i e)
+                ∙ ap (at_value b (missing b ps) limit (in_array (ds ++ last ∷ []) ∷ outer)) (next-token p.read m);
+            before = before ++ token b i ∷ [];
+            along = next-along before p.read value_separator (commas b (get_or ps p.read 0) e) refl m along';
+            holds = Holds-comma ds outer last p.container (frames stack p.depth) p.len (map item_of (take p.used nodes)) h;
+            deep = deep;
+          })
+      go (in_object ms name ∷ outer) last same before along' h deep =
+          let i : ℕ = get_or ps p.read 0 in
+          subst (λ c. AtMemberOf b ps limit c (error_type kinds.ExpectedObjectKey) stack nodes q) (sym h.0) (record {
+            members = ms ++ (name, last) ∷ [];
+            outer = outer;
+            same = same
+                ∙ ap (after_value b (missing b ps) limit (in_object ms name ∷ outer) last) (next b ps p.read k ∙ along-form b i (drop (p.read + 1) ps) value_separator (commas b i e) refl)
+                ∙ after_value-member_comma b (missing b ps) limit ms name outer last (token b i) (tokens_along b (drop (p.read + 1) ps)) (commas b i e)
+                ∙ ap (at_name b (missing b ps) limit (error_type kinds.ExpectedObjectKey) (ms ++ (name, last) ∷ []) outer) (next-token p.read m);
+            before = before ++ token b i ∷ [];
+            along = next-along before p.read value_separator (commas b (get_or ps p.read 0) e) refl m along';
+            holds = Holds-member_comma ms name outer last p.container (frames stack p.depth) p.len (map item_of (take p.used nodes)) h;
+            deep = deep;
+          })
 
   -- what is held under the innermost frame
-  held : (ds : List Document) (outer : List Open) (stack : List StackState) (nodes : List Node) (p : Progress) → 0 < p.depth → Holds (in_array ds ∷ outer) (frames stack p.depth) p.len (map item_of (take p.used nodes))
-      → Holds (in_array ds ∷ outer) (top stack p.depth ∷ frames stack (p.depth - 1)) p.len (map item_of (take p.used nodes))
-  held ds outer stack nodes p l h = subst (λ fs. Holds (in_array ds ∷ outer) fs p.len (map item_of (take p.used nodes))) (frames-top stack p.depth l) h
+  held : (o : Open) (outer : List Open) (d : Document) (stack : List StackState) (nodes : List Node) (p : Progress) → 0 < p.depth → HoldsValue (o ∷ outer) d p.container (frames stack p.depth) p.len (map item_of (take p.used nodes))
+      → HoldsValue (o ∷ outer) d p.container (top stack p.depth ∷ frames stack (p.depth - 1)) p.len (map item_of (take p.used nodes))
+  held o outer d stack nodes p l h = subst (λ fs. HoldsValue (o ∷ outer) d p.container fs p.len (map item_of (take p.used nodes))) (frames-top stack p.depth l) h
 
   -- the items with the header patched
-  items-patched : (ds : List Document) (outer : List Open) (stack : List StackState) (nodes : List Node) (p : Progress) → p.used ≤ length nodes → 0 < p.depth
-      → Holds (in_array ds ∷ outer) (frames stack p.depth) p.len (map item_of (take p.used nodes))
+  items-patched : (o : Open) (outer : List Open) (d : Document) (stack : List StackState) (nodes : List Node) (p : Progress) → p.used ≤ length nodes → 0 < p.depth
+      → HoldsValue (o ∷ outer) d p.container (frames stack p.depth) p.len (map item_of (take p.used nodes))
       → map item_of (take p.used (patch nodes (top stack p.depth) p))
-      ≡ set (map item_of (take p.used nodes)) (top stack p.depth).header (array_item p.len (length (map item_of (take p.used nodes)) - (top stack p.depth).header - 1))
-  items-patched ds outer stack nodes p l k h =
+      ≡ set (map item_of (take p.used nodes)) (top stack p.depth).header (item_of (header_of p.container p.len (length (map item_of (take p.used nodes)) - (top stack p.depth).header - 1)))
+  items-patched o outer d stack nodes p l k h =
       let f : StackState = top stack p.depth in
       let items : List Item = map item_of (take p.used nodes) in
       let size : length items ≡ p.used = items-length nodes p.used l in
-      let below : f.header < length items = Holds-header ds outer f (frames stack (p.depth - 1)) p.len items (held ds outer stack nodes p k h) in
-      items-patch nodes p.used f.header (Array p.len (p.used - f.header - 1)) (omega arith) ∙ ap (λ n. set items f.header (array_item p.len (n - f.header - 1))) (sym size)
+      let below : f.header < length items = Holds-header o outer d p.container f (frames stack (p.depth - 1)) p.len items (held o outer d stack nodes p k h) in
+      items-patch nodes p.used f.header (header_of p.container p.len (p.used - f.header - 1)) (omega arith) ∙ ap (λ n. set items f.header (item_of (header_of p.container p.len (n - f.header - 1)))) (sym size)
 
-  close_in : (ds : List Document) (outer : List Open) (stack : List StackState) (nodes : List Node) (p : Progress) (i : ℕ) (before : List Token) → tokens_along b ps ≡ before ++ tokens_along b (drop (p.read + 1) ps) → last_index before ≡ i → p.used ≤ length nodes → 1 < p.depth → length outer + 1 ≡ p.depth
-      → whole b ps limit ≡ after_value b (missing b ps) limit outer (array_of ds) (tokens_along b (drop (p.read + 1) ps))
-      → Holds (in_array ds ∷ outer) (frames stack p.depth) p.len (map item_of (take p.used nodes))
-      → BehindElement b ps limit stack (patch nodes (top stack p.depth) p) (record { read = p.read + 1; at = i; used = p.used; depth = p.depth - 1; len = (top stack p.depth).len + 1 })
-  close_in ds [] stack nodes p i before along' reached l k deep same h = absurd (omega (arith, deep))
-  close_in ds (in_array es ∷ outer) stack nodes p i before along' reached l k deep same h =
-      let f : StackState = top stack p.depth in
-      let items : List Item = map item_of (take p.used nodes) in
-      let some : 0 < p.depth = omega arith in
-      record {
-        elements = es;
-        last = array_of ds;
-        outer = outer;
-        same = same;
-        before = before;
-        along = along';
-        reached = reached;
-        holds = subst (Holds (in_array (es ++ array_of ds ∷ []) ∷ outer) (frames stack (p.depth - 1)) (f.len + 1)) (sym (items-patched ds (in_array es ∷ outer) stack nodes p l some h)) (Holds-close ds es outer f (frames stack (p.depth - 1)) p.len items (held ds (in_array es ∷ outer) stack nodes p some h));
-        deep = omega (arith, deep);
-      }
-  close_in ds (in_object ms name ∷ outer) stack nodes p i before along' reached l k deep same h =
-      let some : 0 < p.depth = omega arith in
-      absurd (held ds (in_object ms name ∷ outer) stack nodes p some h).5
+  -- a closing bracket
+  pub step-close : (stack : List StackState) (nodes : List Node) (p : Progress) → BehindValue b ps limit stack nodes p → p.used ≤ length nodes → 0 < p.depth → p.read < length ps → byte_at b (get_or ps p.read 0) ≡ closer p.container
+      → BehindValue b ps limit stack (patch nodes (top stack p.depth) p)
+      (record { read = p.read + 1; at = get_or ps p.read 0; byte = byte_at b (get_or ps p.read 0); used = p.used; depth = p.depth - 1; container = (top stack p.depth).outer; len = (top stack p.depth).len + 1 })
+  step-close stack nodes p at l some k e = go at.opens at.last at.same at.holds at.deep
+    where
+      f : StackState
+      f = top stack p.depth
 
-  -- a closing bracket, inside another array
-  pub step-close : (stack : List StackState) (nodes : List Node) (p : Progress)
-      → BehindElement b ps limit stack nodes p → p.used ≤ length nodes → 1 < p.depth → p.read < length ps → byte_at b (get_or ps p.read 0) ≡ 93
-      → BehindElement b ps limit stack (patch nodes (top stack p.depth) p) (record { read = p.read + 1; at = get_or ps p.read 0; used = p.used; depth = p.depth - 1; len = (top stack p.depth).len + 1 })
-  step-close stack nodes p at l k m e =
+      go : (opens' : List Open) (last : Document) → whole b ps limit ≡ after_value b (missing b ps) limit opens' last (tokens_along b (drop p.read ps))
+          → HoldsValue opens' last p.container (frames stack p.depth) p.len (map item_of (take p.used nodes)) → length opens' ≡ p.depth
+          → BehindValue b ps limit stack (patch nodes f p) (record { read = p.read + 1; at = get_or ps p.read 0; byte = byte_at b (get_or ps p.read 0); used = p.used; depth = p.depth - 1; container = f.outer; len = f.len + 1 })
+      go [] last same h deep = absurd (omega (arith, deep, some))
+      go (o ∷ outer) last same h deep =
+          let i : ℕ = get_or ps p.read 0 in
+          let rest : List ℕ = drop (p.read + 1) ps in
+          let items : List Item = map item_of (take p.used nodes) in
+          let is : form_at b i ≡ closing_form o = closing-form b i o outer last p.container (frames stack p.depth) p.len items h e in
+          record {
+            opens = outer;
+            last = closed_with o last;
+            same = same ∙ ap (after_value b (missing b ps) limit (o ∷ outer) last) (next b ps p.read k ∙ along-form b i rest (closing_form o) is (closing-goes_on o)) ∙ after_value-closed b (missing b ps) limit o outer last (token b i) (tokens_along b rest) is;
+            before = at.before ++ token b i ∷ [];
+            along = extended at.before i rest (closing_form o) is (closing-goes_on o) (reached_next at.before p.read k at.along);
+            reached = last_index-append at.before (token b i);
+            holds = subst (HoldsValue outer (closed_with o last) f.outer (frames stack (p.depth - 1)) (f.len + 1)) (sym (items-patched o outer last stack nodes p l some h)) (Holds-close o outer last p.container f (frames stack (p.depth - 1)) p.len items (held o outer last stack nodes p some h));
+            deep = omega (arith, deep);
+          }
+
+  -- the header of the innermost container lies among the nodes, and the container round it has fewer members than there are nodes
+  pub top-header : (stack : List StackState) (nodes : List Node) (p : Progress) → BehindValue b ps limit stack nodes p → p.used ≤ length nodes → 0 < p.depth → (top stack p.depth).header < p.used
+  top-header stack nodes p at l some = go at.opens at.last at.holds at.deep
+    where
+      go : (opens' : List Open) (last : Document) → HoldsValue opens' last p.container (frames stack p.depth) p.len (map item_of (take p.used nodes)) → length opens' ≡ p.depth → (top stack p.depth).header < p.used
+      go [] last h deep = absurd (omega (arith, deep, some))
+      go (o ∷ outer) last h deep = omega (arith, items-length nodes p.used l, Holds-header o outer last p.container (top stack p.depth) (frames stack (p.depth - 1)) p.len _ (held o outer last stack nodes p some h))
+
+  pub top-len : (stack : List StackState) (nodes : List Node) (p : Progress) → BehindValue b ps limit stack nodes p → p.used ≤ length nodes → 0 < p.depth → (top stack p.depth).len < p.used
+  top-len stack nodes p at l some = go at.opens at.last at.holds at.deep
+    where
+      go : (opens' : List Open) (last : Document) → HoldsValue opens' last p.container (frames stack p.depth) p.len (map item_of (take p.used nodes)) → length opens' ≡ p.depth → (top stack p.depth).len < p.used
+      go [] last h deep = absurd (omega (arith, deep, some))
+      go (o ∷ outer) last h deep = omega (arith, items-length nodes p.used l, Holds-outer_len o outer last p.container (top stack p.depth) (frames stack (p.depth - 1)) p.len _ (held o outer last stack nodes p some h))
+
+  -- a name and its colon, and the value behind it
+  pub step-name : (kind : ErrorType) (stack : List StackState) (nodes nodes' : List Node) (p : Progress) (u : Left) → AtName b ps limit kind stack nodes p → p.used < length nodes → byte_at b p.at ≡ 34 → IsTextPut b p.at p.used nodes nodes' u
+      → p.read < length ps → byte_at b (get_or ps p.read 0) ≡ 58 → p.read + 1 < length ps
+      → AtValue b ps limit stack nodes' (record p { read = p.read + 2; at = get_or ps (p.read + 1) 0; byte = byte_at b (get_or ps (p.read + 1) 0); used = p.used + 1 })
+  step-name kind stack nodes nodes' p u at l q put k e m =
       let i : ℕ = get_or ps p.read 0 in
-      close_in (at.elements ++ at.last ∷ []) at.outer stack nodes p i (at.before ++ token b i ∷ []) (extended at.before i (drop (p.read + 1) ps) end_array (closes b i e) refl (reached_next at.before p.read m at.along)) (last_index-append at.before (token b i)) l k at.deep (closed stack nodes p at m e) at.holds
-
-  -- the same, of what `close` makes of the progress and of the nodes
-  pub step-closed : (stack : List StackState) (nodes nodes' : List Node) (p q : Progress)
-      → BehindElement b ps limit stack nodes p → p.used ≤ length nodes → (p.depth ≡ 1 → ⊥) → p.read < length ps → byte_at b (get_or ps p.read 0) ≡ 93
-      → q ≡ record { read = p.read; at = p.at; used = p.used; depth = p.depth - 1; len = (top stack p.depth).len + 1 } → nodes' ≡ patch nodes (top stack p.depth) p
-      → BehindElement b ps limit stack nodes' (record { read = q.read + 1; at = get_or ps p.read 0; used = q.used; depth = q.depth; len = q.len })
-  step-closed stack nodes nodes' p q at l k m e is patched =
-      let deep : 1 < p.depth = omega (arith, at.deep) in
-      subst (λ (q : Progress). BehindElement b ps limit stack nodes' (record { read = q.read + 1; at = get_or ps p.read 0; used = q.used; depth = q.depth; len = q.len })) (sym is)
-      (subst (λ ns. BehindElement b ps limit stack ns (record { read = p.read + 1; at = get_or ps p.read 0; used = p.used; depth = p.depth - 1; len = (top stack p.depth).len + 1 })) (sym patched)
-      (step-close stack nodes p at l deep m e))
-
-  end_of : (ds : List Document) (outer : List Open) (stack : List StackState) (nodes : List Node) (p : Progress) → p.used ≤ length nodes → p.depth ≡ 1 → length outer + 1 ≡ p.depth → p.read + 1 ≡ length ps
-      → whole b ps limit ≡ after_value b (missing b ps) limit outer (array_of ds) (tokens_along b (drop (p.read + 1) ps))
-      → Holds (in_array ds ∷ outer) (frames stack p.depth) p.len (map item_of (take p.used nodes))
-      → IsBuilt b ps limit (patch nodes (top stack p.depth) p) p.used
-  end_of ds (o ∷ outer) stack nodes p l k deep all same h = absurd (omega (arith, deep, k))
-  end_of ds [] stack nodes p l k deep all same h =
-      let some : 0 < p.depth = omega (arith, k) in
-      let f : StackState = top stack p.depth in
+      let rest : List ℕ = drop (p.read + 1) ps in
+      let form : Form = string (Ok (put.text, u.at)) in
+      let is : form_at b p.at ≡ form = quotes b p.at q ∙ ap string put.read in
+      let named : List Token = at.before ++ token b p.at ∷ [] in
       record {
-        document = array_of ds;
-        same = same ∙ ap (λ us. after_value b (missing b ps) limit [] (array_of ds) (tokens_along b us)) (ap (λ n. drop n ps) all ∙ drop-length ps) ∙ after_value-root b (missing b ps) limit (array_of ds) [];
-        listed = items-patched ds [] stack nodes p l some h ∙ Holds-end ds f (frames stack (p.depth - 1)) p.len (map item_of (take p.used nodes)) (held ds [] stack nodes p some h);
+        opens = in_object at.members put.text ∷ at.outer;
+        same = at.same
+            ∙ ap (at_name b (missing b ps) limit kind at.members at.outer) (along-form b p.at (drop p.read ps) form is refl ∙ ap (λ us. token b p.at ∷ us) (next b ps p.read k ∙ along-form b i rest name_separator (colons b i e) refl))
+            ∙ at_name-value b (missing b ps) limit kind at.members at.outer (token b p.at) (token b i) (tokens_along b rest) put.text u.at is (colons b i e)
+            ∙ ap (at_value b (missing b ps) limit (in_object at.members put.text ∷ at.outer)) (next-token p.read m);
+        before = named ++ token b i ∷ [];
+        along = next-along named p.read name_separator (colons b i e) refl m (extended at.before p.at (drop p.read ps) form is refl at.along);
+        holds = subst (Holds (in_object at.members put.text ∷ at.outer) p.container (frames stack p.depth) p.len) (items-grown nodes nodes' p.used put.node (string_item put.text ∷ []) l put.put (ap (λ i. i ∷ []) (sym put.item))) (Holds-name at.members at.outer p.container (frames stack p.depth) p.len (map item_of (take p.used nodes)) put.text at.holds);
+        deep = at.deep;
       }
 
-  -- a closing bracket of the root, and no token behind it
-  pub step-end : (stack : List StackState) (nodes : List Node) (p : Progress)
-      → BehindElement b ps limit stack nodes p → p.used ≤ length nodes → p.depth ≡ 1 → p.read + 1 ≡ length ps → byte_at b (get_or ps p.read 0) ≡ 93
-      → IsBuilt b ps limit (patch nodes (top stack p.depth) p) p.used
-  step-end stack nodes p at l k all e = end_of (at.elements ++ at.last ∷ []) at.outer stack nodes p l k at.deep all (closed stack nodes p at (omega (arith, all)) e) at.holds
+  -- the root is whole, and no token is behind it
+  pub step-end : (stack : List StackState) (nodes : List Node) (p : Progress) → BehindValue b ps limit stack nodes p → p.depth ≡ 0 → p.read ≡ length ps → IsBuilt b ps limit nodes p.used
+  step-end stack nodes p at none all = go at.opens at.same at.holds at.deep
+    where
+      go : (opens' : List Open) → whole b ps limit ≡ after_value b (missing b ps) limit opens' at.last (tokens_along b (drop p.read ps))
+          → HoldsValue opens' at.last p.container (frames stack p.depth) p.len (map item_of (take p.used nodes)) → length opens' ≡ p.depth → IsBuilt b ps limit nodes p.used
+      go [] same h deep =
+          record {
+            document = at.last;
+            same = same ∙ ap (λ us. after_value b (missing b ps) limit [] at.last (tokens_along b us)) (ap (λ n. drop n ps) all ∙ drop-length ps) ∙ after_value-root b (missing b ps) limit at.last [];
+            listed = h.1;
+          }
+      go (o ∷ outer) same h deep = absurd (omega (arith, deep, none))
 
-  -- the header of the innermost array lies among the nodes, and the one round it has fewer members than there are nodes
-  pub top-header : (stack : List StackState) (nodes : List Node) (p : Progress) → BehindElement b ps limit stack nodes p → p.used ≤ length nodes → (top stack p.depth).header < p.used
-  top-header stack nodes p at l =
-      let some : 0 < p.depth = omega (arith, at.deep) in
-      omega (arith, items-length nodes p.used l, Holds-header _ at.outer (top stack p.depth) (frames stack (p.depth - 1)) p.len _ (held _ at.outer stack nodes p some at.holds))
-
-  pub top-len : (stack : List StackState) (nodes : List Node) (p : Progress) → BehindElement b ps limit stack nodes p → p.used ≤ length nodes → (top stack p.depth).len < p.used
-  top-len stack nodes p at l =
-      let some : 0 < p.depth = omega (arith, at.deep) in
-      omega (arith, items-length nodes p.used l, Holds-outer_len _ at.outer (top stack p.depth) (frames stack (p.depth - 1)) p.len _ (held _ at.outer stack nodes p some at.holds))
-
-  pub step-ended : (stack : List StackState) (nodes nodes' : List Node) (p q : Progress)
-      → BehindElement b ps limit stack nodes p → p.used ≤ length nodes → p.depth ≡ 1 → p.read + 1 ≡ length ps → byte_at b (get_or ps p.read 0) ≡ 93
-      → q ≡ record { read = p.read; at = p.at; used = p.used; depth = p.depth - 1; len = (top stack p.depth).len + 1 } → nodes' ≡ patch nodes (top stack p.depth) p
-      → IsBuilt b ps limit nodes' q.used
-  step-ended stack nodes nodes' p q at l k all e is patched =
-      subst (λ (q : Progress). IsBuilt b ps limit nodes' q.used) (sym is) (subst (λ ns. IsBuilt b ps limit ns p.used) (sym patched) (step-end stack nodes p at l k all e))
-
-  pub some-depth : (stack : List StackState) (nodes : List Node) (p : Progress) → BehindElement b ps limit stack nodes p → 0 < p.depth
-  some-depth stack nodes p at = omega (arith, at.deep)
-
-  -- the next element, as `next_element` makes its progress
-  pub step-next : (Q : Fault → Type 0) (stack : List StackState) (nodes : List Node) (p : Progress) (r : Result Follower Fault)
-      → BehindElement b ps limit stack nodes p → p.read < length ps → byte_at b (get_or ps p.read 0) ≡ 44
-      → MatchResult r (λ f. (p.read + 1 < length ps) × (f ≡ Next (record { read = p.read + 2; at = get_or ps (p.read + 1) 0; used = p.used; depth = p.depth; len = p.len }))) Q
-      → IfOk r (Ends b ps limit stack nodes)
-  step-next Q stack nodes p (Ok f) at k e (more, is) = subst (Ends b ps limit stack nodes) (sym is) (step-comma stack nodes p at k e more)
-  step-next Q stack nodes p (Err fault) at k e h = tt
-
-  -- ---- the root
-
-  pub root : (p0 : ℕ) (rest : List ℕ) → ps ≡ p0 ∷ rest → whole b ps limit ≡ at_value b (missing b ps) limit [] (tokens_along b (p0 ∷ rest))
-  root p0 rest is = ap (λ us. at_value b (missing b ps) limit [] (tokens_along b us)) is
-
-  pub root-opened : (p0 p1 : ℕ) (rest : List ℕ) → ps ≡ p0 ∷ p1 ∷ rest → 0 < limit → byte_at b p0 ≡ 91 → whole b ps limit ≡ at_array b (missing b ps) limit [] (tokens_along b (p1 ∷ rest))
-  root-opened p0 p1 rest is l e =
-      root p0 (p1 ∷ rest) is ∙ ap (at_value b (missing b ps) limit []) (along-form b p0 (p1 ∷ rest) begin_array (opens b p0 e) refl) ∙ at_value-open b (missing b ps) limit [] (token b p0) (tokens_along b (p1 ∷ rest)) l (opens b p0 e)
-
-  pub root-scalar : (nodes : List Node) (p0 : ℕ) (d : Document) (end : ℕ) (x : Node) → ps ≡ p0 ∷ [] → 0 < length nodes → form_at b p0 ≡ scalar (Ok (d, end)) → listing d ≡ item_of x ∷ []
-      → IsBuilt b ps limit (set nodes 0 x) 1
-  root-scalar nodes p0 d end x is l form listed =
+  -- at the first token nothing is read
+  pub root-value : (stack : List StackState) (nodes : List Node) (byte : ℕ) → 0 < length ps
+      → AtValue b ps limit stack nodes (record { read = 1; at = get_or ps 0 0; byte = byte; used = 0; depth = 0; container = Array; len = 0 })
+  root-value stack nodes byte l =
       record {
-        document = d;
-        same = root p0 [] is ∙ ap (at_value b (missing b ps) limit []) (along-form b p0 [] (scalar (Ok (d, end))) form refl) ∙ at_value-scalar b (missing b ps) limit [] (token b p0) [] d end form ∙ after_value-root b (missing b ps) limit d [];
-        listed = items-put nodes 0 x l ∙ sym listed;
+        opens = [];
+        same = ap (λ us. at_value b (missing b ps) limit [] (tokens_along b us)) (drop_more ps 0 0 l);
+        before = [];
+        along = ap (tokens_along b) (drop_more ps 0 0 l);
+        holds = (refl, refl, refl);
+        deep = refl;
       }
-
-  pub root-empty : (nodes : List Node) (p0 p1 : ℕ) → ps ≡ p0 ∷ p1 ∷ [] → 0 < length nodes → 0 < limit → byte_at b p0 ≡ 91 → byte_at b p1 ≡ 93
-      → IsBuilt b ps limit (set nodes 0 (Array 0 0)) 1
-  root-empty nodes p0 p1 is l k e f =
-      record {
-        document = array_of [];
-        same = root-opened p0 p1 [] is k e ∙ ap (at_array b (missing b ps) limit []) (along-form b p1 [] end_array (closes b p1 f) refl) ∙ at_array-close b (missing b ps) limit [] (token b p1) [] (closes b p1 f) ∙ after_value-root b (missing b ps) limit (array_of []) [];
-        listed = items-put nodes 0 (Array 0 0) l;
-      }
-
-  pub root-array : (stack : List StackState) (nodes : List Node) (p0 p1 : ℕ) (rest : List ℕ) → ps ≡ p0 ∷ p1 ∷ rest → 0 < length nodes → 0 < length stack → 0 < limit → byte_at b p0 ≡ 91 → nat_eq (byte_at b p1) 93 ≡ false
-      → AtElement b ps limit (set stack 0 (record { header = 0; len = 0 })) nodes (record { read = 2; at = p1; used = 1; depth = 1; len = 0 })
-  root-array stack nodes p0 p1 rest is l s k e f =
-      record {
-        elements = [];
-        outer = [];
-        before = token b p0 ∷ [];
-        along = extended [] p0 (p1 ∷ rest) begin_array (opens b p0 e) refl (ap (tokens_along b) is) ∙ ap (λ us. token b p0 ∷ tokens_along b (p1 ∷ us)) (sym (ap (drop 2) is));
-        same = root-opened p0 p1 rest is k e ∙ at_array-element b (missing b ps) limit [] (token b p1) (cond (goes_on (form_at b p1)) (tokens_along b rest) []) (form_at b p1) refl (no_end b p1 f) ∙ ap (λ us. at_value b (missing b ps) limit (in_array [] ∷ []) (tokens_along b (p1 ∷ us))) (sym (ap (drop 2) is));
-        holds =
-            subst (λ fs. Holds (in_array [] ∷ []) fs 0 (map item_of (take 1 nodes))) (sym (frames-push stack (record { header = 0; len = 0 }) 0 s))
-            (subst (Holds (in_array [] ∷ []) (record { header = 0; len = 0 } ∷ []) 0) (sym (items-more nodes 0 l)) (Holds-open [] [] (record { header = 0; len = 0 }) 0 [] (item_of (get_or nodes 0 (Static Null))) (refl, refl, refl) refl refl));
-        deep = omega arith;
-      }
-
--- a scalar is refused inside the input, or at its end
-pub offset-within : (b : List ℕ) (i : ℕ) (r : Scalar) → i ≤ length b → IsScalarAt b i r → i + offset_of r ≤ length b
-offset-within b i (Value node) l is = omega (arith, l)
-offset-within b i (Decimal len) l is = omega (arith, l)
-offset-within b i (Invalid offset) l is = number_at-within b i (fault_at b InvalidNumber (i + offset)) l is.1
-offset-within b i Refused l is = omega (arith, l)
-
--- one position, and two
-pub one-position : (ps : List ℕ) (p0 : ℕ) → ps ≡ p0 ∷ drop 1 ps → length ps ≡ 1 → ps ≡ p0 ∷ []
-one-position ps p0 is one = is ∙ ap (λ us. p0 ∷ us) (drop_all 1 ps (omega (arith, one)))
-
-pub first-position : (ps : List ℕ) → 0 < length ps → ps ≡ get_or ps 0 0 ∷ drop 1 ps
-first-position ps l = drop_more ps 0 0 l
-
-pub two-positions : (ps : List ℕ) → 1 < length ps → ps ≡ get_or ps 0 0 ∷ get_or ps 1 0 ∷ drop 2 ps
-two-positions ps l = drop_more ps 0 0 (omega arith) ∙ ap (λ us. get_or ps 0 0 ∷ us) (drop_more ps 1 0 l)
-
--- more than one, of which the first is known
-pub some-more : (ps : List ℕ) (p0 : ℕ) → ps ≡ p0 ∷ drop 1 ps → length ps ≢ 1 → 1 < length ps
-some-more [] p0 is more = omega (arith, ap length is)
-some-more (q ∷ []) p0 is more = absurd (more refl)
-some-more (q ∷ q' ∷ rest) p0 is more = omega arith
-
-pub second-position : (ps : List ℕ) (p0 : ℕ) → ps ≡ p0 ∷ drop 1 ps → 1 < length ps → ps ≡ p0 ∷ get_or ps 1 0 ∷ drop 2 ps
-second-position ps p0 is l = is ∙ ap (λ us. p0 ∷ us) (drop_more ps 1 0 l)
-
--- an empty root, as `build_empty` makes it
-pub root-emptied : (Q : Fault → Type 0) (b ps : List ℕ) (limit : ℕ) (nodes nodes' : List Node) (r : Result ℕ Fault)
-    → 1 < length ps → 0 < length nodes → 0 < limit → byte_at b (get_or ps 0 0) ≡ 91 → byte_at b (get_or ps 1 0) ≡ 93
-    → MatchResult r (λ used. (used ≡ 1) × (length ps ≡ 2) × (nodes' ≡ set nodes 0 (Array 0 0))) Q → IfOk r (IsBuilt b ps limit nodes')
-root-emptied Q b ps limit nodes nodes' (Ok used) l k m e f (one, two, put) =
-    let only : ps ≡ get_or ps 0 0 ∷ get_or ps 1 0 ∷ [] = two-positions ps l ∙ ap (λ us. get_or ps 0 0 ∷ get_or ps 1 0 ∷ us) (drop_all 2 ps (omega (arith, two))) in
-    subst (IsBuilt b ps limit nodes') (sym one) (subst (λ ns. IsBuilt b ps limit ns 1) (sym put) (root-empty b ps limit nodes (get_or ps 0 0) (get_or ps 1 0) only k m e f))
-root-emptied Q b ps limit nodes nodes' (Err fault) l k m e f h = tt
-
--- positions lie in the input
-pub positions-inside_input : (b : List ℕ) → All (λ i. i < length b) (positions b)
-positions-inside_input b k d l = ((Contains-positions b (get_or (positions b) k d)).0 (k, l, get_or_default (positions b) k (get_or (positions b) k d) d l)).0
 
 -- the whole is what the descent reads
 whole-descent : (b : List ℕ) (limit : ℕ) → (whole b (positions b) limit >>= root_end b (tokens_along b (positions b))) ≡ descent b limit
@@ -384,6 +413,5 @@ descent-built b limit nodes used built =
     record { document = built.document; same = sym (whole-descent b limit) ∙ ap (λ r. r >>= root_end b (tokens_along b (positions b))) built.same; listed = built.listed }
 
 -- What is told is the descent's fault.
-pub descent-told : (b : List ℕ) (limit : ℕ) (f : Fault) → Tells b (positions b) limit f → HasUnbuilt b ⊎ (descent b limit ≡ Err (fault_with (error_type f.kind) f.index f.byte))
-descent-told b limit f (inl unbuilt) = inl unbuilt
-descent-told b limit f (inr told) = inr (sym (whole-descent b limit) ∙ told)
+pub descent-told : (b : List ℕ) (limit : ℕ) (f : Fault) → Tells b (positions b) limit f → descent b limit ≡ Err (fault_with (error_type f.kind) f.index f.byte)
+descent-told b limit f told = sym (whole-descent b limit) ∙ told

@@ -49,7 +49,7 @@ filter-stays p m n l none = let there : m + (n - m) ≡ n = omega arith in subst
         ap (λ i. filter p (range_with_len 0 i)) last ∙ filter-next p (m + k) false (none (m + k) (omega arith) (omega arith)) ∙ go k (omega arith)
 
 -- Past the end no byte is a backslash.
-byte_at-past : (b : List ℕ) (j : ℕ) → length b ≤ j → byte_at b j ≢ backslash
+pub byte_at-past : (b : List ℕ) (j : ℕ) → length b ≤ j → byte_at b j ≢ backslash
 byte_at-past b j l e = omega (arith, get_or_past b j 32 l, e)
 
 -- What is listed before index i: the blocks before block n that hold a backslash, and none stands behind those.

@@ -1,33 +1,52 @@
--- What is held grows by a value, by an opening bracket and by a closing one.
+-- What is held grows by a value, by a name, by an opening bracket and by a closing one.
 use Rattle.std.proofs.Common.{◌≡◌, refl, sym, ◌∙◌, ap, subst, ℕ, ◌+◌, ◌-◌, ◌<◌, ◌≤◌, List, [], ◌∷◌, ◌++◌, length, set, append_assoc, length-append, arith}
 use Rattle.std.proofs.lemmas.List.{append-nil}
-use Rattle.simd_json_parts.specs.Document.{Document, null, boolean, integer, decimal, text, array, object, no_elements, elements}
-use Rattle.simd_json_parts.specs.Nodes.{Item, array_item}
-use Rattle.simd_json_parts.specs.Listing.{listing, elements_listing}
-use Rattle.simd_json_stages.specs.Continued.{Open, in_array, in_object, elements_onto}
-use Rattle.simd_json_stages.specs.Building.{listings, Holds}
+use Rattle.simd_json_parts.specs.Document.{Document, null, boolean, integer, decimal, text, array, object, elements, members, no_elements, no_members}
+use Rattle.simd_json_parts.specs.Nodes.{Item, string_item, array_item, object_item, item_of}
+use Rattle.simd_json_parts.specs.Listing.{listing, elements_listing, members_listing}
+use Rattle.simd_json_stages.specs.Continued.{Open, in_array, in_object, elements_onto, members_onto}
+use Rattle.simd_json_stages.specs.Building.{header_of, listings, member_listings, Headed, Holds, HoldsValue, HoldsMembers, closed_with}
+use Rattle.simd_json_stages.specs.declared.stage2.Container.{Container}
+use Rattle.simd_json_stages.specs.declared.stage2.Container.TheVariants.{Array, Object}
 use Rattle.simd_json_stages.specs.declared.stage2.StackState.{StackState}
+
+-- ---- listings
 
 listings-append : (ds : List Document) (d : Document) → listings (ds ++ d ∷ []) ≡ listings ds ++ listing d
 listings-append [] d = simp append-nil
 listings-append (x ∷ ds) d = ap (λ items. listing x ++ items) (listings-append ds d) ∙ sym (append_assoc (listing x) (listings ds) (listing d))
 
--- the array of these elements
-abbrev pub array_of : List Document → Document
-array_of ds = array (elements_onto ds no_elements)
+member_listings-append : (ms : List (List ℕ × Document)) (name : List ℕ) (d : Document) → member_listings (ms ++ (name, d) ∷ []) ≡ member_listings ms ++ string_item name ∷ listing d
+member_listings-append [] name d = simp append-nil
+member_listings-append (m ∷ ms) name d =
+    ap (λ items. string_item m.0 ∷ (listing m.1 ++ items)) (member_listings-append ms name d)
+    ∙ ap (λ items. string_item m.0 ∷ items) (sym (append_assoc (listing m.1) (member_listings ms) (string_item name ∷ listing d)))
 
+-- the containers of these members
 listing-onto : (ds : List Document) → elements_listing (elements_onto ds no_elements) ≡ listings ds
 listing-onto [] = refl
 listing-onto (d ∷ ds) = ap (λ items. listing d ++ items) (listing-onto ds)
 
 length-onto : (ds : List Document) → length (elements (elements_onto ds no_elements)) ≡ length ds
 length-onto [] = refl
-length-onto (d ∷ ds) = let h : length (elements (elements_onto ds no_elements)) ≡ length ds = length-onto ds in omega arith
+length-onto (d ∷ ds) = let h : length (elements (elements_onto ds no_elements)) ≡ length ds = length-onto ds in omega (arith, h)
 
-pub listing-array_of : (ds : List Document) → listing (array_of ds) ≡ array_item (length ds) (length (listings ds)) ∷ listings ds
+members_listing-onto : (ms : List (List ℕ × Document)) → members_listing (members_onto ms no_members) ≡ member_listings ms
+members_listing-onto [] = refl
+members_listing-onto (m ∷ ms) = ap (λ items. string_item m.0 ∷ (listing m.1 ++ items)) (members_listing-onto ms)
+
+length-members_onto : (ms : List (List ℕ × Document)) → length (members (members_onto ms no_members)) ≡ length ms
+length-members_onto [] = refl
+length-members_onto (m ∷ ms) = let h : length (members (members_onto ms no_members)) ≡ length ms = length-members_onto ms in omega (arith, h)
+
+listing-array_of : (ds : List Document) → listing (array (elements_onto ds no_elements)) ≡ array_item (length ds) (length (listings ds)) ∷ listings ds
 listing-array_of ds = rw (listing-onto ds, length-onto ds) refl
 
-listing-some : (d : Document) → 0 < length (listing d)
+listing-object_of : (ms : List (List ℕ × Document)) → listing (object (members_onto ms no_members)) ≡ object_item (length ms) (length (member_listings ms)) ∷ member_listings ms
+listing-object_of ms = rw (members_listing-onto ms, length-members_onto ms) refl
+
+-- there are no more members than nodes
+pub listing-some : (d : Document) → 0 < length (listing d)
 listing-some null = omega arith
 listing-some (boolean b) = omega arith
 listing-some (integer minus n) = omega arith
@@ -40,60 +59,128 @@ length-listings : (ds : List Document) → length ds ≤ length (listings ds)
 length-listings [] = omega arith
 length-listings (d ∷ ds) = omega (arith, length-listings ds, listing-some d, length-append (listing d) (listings ds))
 
--- there are no more members than nodes
-pub Holds-len : (opens : List Open) (fs : List StackState) (len : ℕ) (items : List Item) → Holds opens fs len items → len ≤ length items
-Holds-len [] fs len items h = omega (arith, h.1)
-Holds-len (in_array ds ∷ outer) [] len items h = absurd h
-Holds-len (in_array ds ∷ outer) (f ∷ fs) len items (before, header, is, at, count, more) =
-    omega (arith, count, length-listings ds, ap length is, length-append before (header ∷ listings ds))
-Holds-len (in_object ms name ∷ outer) fs len items h = absurd h
+length-member_listings : (ms : List (List ℕ × Document)) → length ms ≤ length (member_listings ms)
+length-member_listings [] = omega arith
+length-member_listings (m ∷ ms) = omega (arith, length-member_listings ms, length-append (listing m.1) (member_listings ms))
 
--- one more value in the innermost container
-pub Holds-value : (ds : List Document) (outer : List Open) (fs : List StackState) (len : ℕ) (items : List Item) (d : Document)
-    → Holds (in_array ds ∷ outer) fs len items → Holds (in_array (ds ++ d ∷ []) ∷ outer) fs (len + 1) (items ++ listing d)
-Holds-value ds outer [] len items d h = h
-Holds-value ds outer (f ∷ fs) len items d (before, header, is, at, count, more) =
-    let grown : items ++ listing d ≡ before ++ header ∷ listings (ds ++ d ∷ []) =
-    ap (λ us. us ++ listing d) is ∙ append_assoc before (header ∷ listings ds) (listing d) ∙ ap (λ us. before ++ header ∷ us) (sym (listings-append ds d)) in
-    (before, header, grown, at, omega (arith, length-append ds (d ∷ [])), more)
+-- ---- what stands behind a header
 
--- an opening bracket
-pub Holds-open : (opens : List Open) (fs : List StackState) (f : StackState) (len : ℕ) (items : List Item) (header : Item)
-    → Holds opens fs len items → f.header ≡ length items → f.len ≡ len → Holds (in_array [] ∷ opens) (f ∷ fs) 0 (items ++ header ∷ [])
-Holds-open opens fs f len items header h at saved = (items, header, refl, at, refl, subst (λ n. Holds opens fs n items) (sym saved) h)
+-- it grows
+Headed-grown : (round : Container → List StackState → ℕ → List Item → Type 0) (us vs ws : List Item) (m n : ℕ) (fs : List StackState) (len more : ℕ) (items : List Item)
+    → ws ≡ us ++ vs → m + more ≡ n → Headed round us m fs len items → Headed round ws n fs (len + more) (items ++ vs)
+Headed-grown round us vs ws m n [] len more items longer sum h = h
+Headed-grown round us vs ws m n (f ∷ fs) len more items longer sum (before, header, is, at, count, beyond) =
+    let grown : items ++ vs ≡ before ++ header ∷ ws = ap (λ xs. xs ++ vs) is ∙ append_assoc before (header ∷ us) vs ∙ ap (λ xs. before ++ header ∷ xs) (sym longer) in
+    (before, header, grown, at, omega (arith, count, sum), beyond)
+
+-- it has no fewer nodes than members
+Headed-len : (round : Container → List StackState → ℕ → List Item → Type 0) (us : List Item) (n : ℕ) (fs : List StackState) (len : ℕ) (items : List Item)
+    → n ≤ length us → Headed round us n fs len items → len ≤ length items
+Headed-len round us n [] len items enough h = absurd h
+Headed-len round us n (f ∷ fs) len items enough (before, header, is, at, count, beyond) = omega (arith, enough, count, ap length is, length-append before (header ∷ us))
+
+Holds-len : (opens : List Open) (c : Container) (fs : List StackState) (len : ℕ) (items : List Item) → Holds opens c fs len items → len ≤ length items
+Holds-len [] c fs len items h = omega (arith, h.1)
+Holds-len (in_array ds ∷ outer) c fs len items h = Headed-len (Holds outer) (listings ds) (length ds) fs len items (length-listings ds) h.1
+Holds-len (in_object ms name ∷ outer) c fs len items h =
+    let enough : length ms ≤ length (member_listings ms ++ string_item name ∷ []) = omega (arith, length-member_listings ms, length-append (member_listings ms) (string_item name ∷ [])) in
+    Headed-len (Holds outer) (member_listings ms ++ string_item name ∷ []) (length ms) fs len items enough h.1
 
 -- the list with another element behind the first of its parts
 set-behind : {X : Type 0} (xs ys : List X) (x y : X) → set (xs ++ x ∷ ys) (length xs) y ≡ xs ++ y ∷ ys
 set-behind [] ys x y = refl
 set-behind (z ∷ xs) ys x y = ap (λ zs. z ∷ zs) (set-behind xs ys x y)
 
-patched : (ds : List Document) (before : List Item) (header : Item) (f : StackState) (len : ℕ) (items : List Item) → items ≡ before ++ header ∷ listings ds → f.header ≡ length before → len ≡ length ds
-    → set items f.header (array_item len (length items - f.header - 1)) ≡ before ++ listing (array_of ds)
-patched ds before header f len items is at count =
-    let beneath : length items - f.header - 1 ≡ length (listings ds) = omega (arith, at, ap length is, length-append before (header ∷ listings ds)) in
-    ap (λ n. set items f.header (array_item len n)) beneath
-    ∙ ap (λ n. set items n (array_item len (length (listings ds)))) at
-    ∙ ap (λ us. set us (length before) (array_item len (length (listings ds)))) is
-    ∙ set-behind before (listings ds) header (array_item len (length (listings ds)))
-    ∙ ap (λ n. before ++ array_item n (length (listings ds)) ∷ listings ds) count
-    ∙ ap (λ us. before ++ us) (sym (listing-array_of ds))
+-- its header is patched
+patched : (item : ℕ → ℕ → Item) (before us : List Item) (header : Item) (n at len : ℕ) (items : List Item) → items ≡ before ++ header ∷ us → at ≡ length before → len ≡ n
+    → set items at (item len (length items - at - 1)) ≡ before ++ item n (length us) ∷ us
+patched item before us header n at len items is at-is count =
+    let beneath : length items - at - 1 ≡ length us = omega (arith, at-is, ap length is, length-append before (header ∷ us)) in
+    ap (λ k. set items at (item len k)) beneath
+    ∙ ap (λ k. set items k (item len (length us))) at-is
+    ∙ ap (λ xs. set xs (length before) (item len (length us))) is
+    ∙ set-behind before us header (item len (length us))
+    ∙ ap (λ k. before ++ item k (length us) ∷ us) count
 
--- A closing bracket: the header is patched, and the array is one more element of the one round it.
-pub Holds-close : (ds es : List Document) (outer : List Open) (f : StackState) (fs : List StackState) (len : ℕ) (items : List Item)
-    → Holds (in_array ds ∷ in_array es ∷ outer) (f ∷ fs) len items
-    → Holds (in_array (es ++ array_of ds ∷ []) ∷ outer) fs (f.len + 1) (set items f.header (array_item len (length items - f.header - 1)))
-Holds-close ds es outer f fs len items (before, header, is, at, count, more) =
-    subst (Holds (in_array (es ++ array_of ds ∷ []) ∷ outer) fs (f.len + 1)) (sym (patched ds before header f len items is at count)) (Holds-value es outer fs f.len before (array_of ds) more)
+Headed-header : (round : Container → List StackState → ℕ → List Item → Type 0) (us : List Item) (n : ℕ) (f : StackState) (fs : List StackState) (len : ℕ) (items : List Item)
+    → Headed round us n (f ∷ fs) len items → f.header < length items
+Headed-header round us n f fs len items (before, header, is, at, count, beyond) = omega (arith, at, ap length is, length-append before (header ∷ us))
 
--- of the root
-pub Holds-end : (ds : List Document) (f : StackState) (fs : List StackState) (len : ℕ) (items : List Item)
-    → Holds (in_array ds ∷ []) (f ∷ fs) len items → set items f.header (array_item len (length items - f.header - 1)) ≡ listing (array_of ds)
-Holds-end ds f fs len items (before, header, is, at, count, more) = patched ds before header f len items is at count ∙ ap (λ us. us ++ listing (array_of ds)) more.2
+Headed-outer_len : (outer : List Open) (us : List Item) (n : ℕ) (f : StackState) (fs : List StackState) (len : ℕ) (items : List Item)
+    → Headed (Holds outer) us n (f ∷ fs) len items → f.len < length items
+Headed-outer_len outer us n f fs len items (before, header, is, at, count, beyond) =
+    omega (arith, Holds-len outer f.outer fs f.len before beyond, ap length is, length-append before (header ∷ us))
 
--- its header lies among the nodes
-pub Holds-header : (ds : List Document) (outer : List Open) (f : StackState) (fs : List StackState) (len : ℕ) (items : List Item) → Holds (in_array ds ∷ outer) (f ∷ fs) len items → f.header < length items
-Holds-header ds outer f fs len items (before, header, is, at, count, more) = omega (arith, at, ap length is, length-append before (header ∷ listings ds))
+-- ---- what is held
 
--- and the container round it has no more members than there are nodes
-pub Holds-outer_len : (ds : List Document) (outer : List Open) (f : StackState) (fs : List StackState) (len : ℕ) (items : List Item) → Holds (in_array ds ∷ outer) (f ∷ fs) len items → f.len < length items
-Holds-outer_len ds outer f fs len items (before, header, is, at, count, more) = omega (arith, Holds-len outer fs f.len before more, ap length is, length-append before (header ∷ listings ds))
+-- one more value
+pub Holds-value : (opens : List Open) (c : Container) (fs : List StackState) (len : ℕ) (items : List Item) (d : Document) → Holds opens c fs len items → HoldsValue opens d c fs (len + 1) (items ++ listing d)
+Holds-value [] c fs len items d h = (h.0, ap (λ us. us ++ listing d) h.2)
+Holds-value (in_array ds ∷ outer) c fs len items d h =
+    (h.0, Headed-grown (Holds outer) (listings ds) (listing d) (listings (ds ++ d ∷ [])) (length ds) (length ds + 1) fs len 1 items (listings-append ds d) refl h.1)
+Holds-value (in_object ms name ∷ outer) c fs len items d h =
+    let longer : member_listings (ms ++ (name, d) ∷ []) ≡ (member_listings ms ++ string_item name ∷ []) ++ listing d =
+    member_listings-append ms name d ∙ sym (append_assoc (member_listings ms) (string_item name ∷ []) (listing d)) in
+    (h.0, Headed-grown (Holds outer) (member_listings ms ++ string_item name ∷ []) (listing d) (member_listings (ms ++ (name, d) ∷ [])) (length ms) (length ms + 1) fs len 1 items longer refl h.1)
+
+-- a name
+pub Holds-name : (ms : List (List ℕ × Document)) (outer : List Open) (c : Container) (fs : List StackState) (len : ℕ) (items : List Item) (name : List ℕ)
+    → HoldsMembers ms outer c fs len items → Holds (in_object ms name ∷ outer) c fs len (items ++ string_item name ∷ [])
+Holds-name ms outer c fs len items name h =
+    let same : len + 0 ≡ len = omega arith in (
+      h.0,
+      subst (λ n. Headed (Holds outer) (member_listings ms ++ string_item name ∷ []) (length ms) fs n (items ++ string_item name ∷ [])) same
+          (Headed-grown (Holds outer) (member_listings ms) (string_item name ∷ []) (member_listings ms ++ string_item name ∷ []) (length ms) (length ms) fs len 0 items refl (omega arith) h.1),
+    )
+
+-- a comma
+pub Holds-comma : (ds : List Document) (outer : List Open) (d : Document) (c : Container) (fs : List StackState) (len : ℕ) (items : List Item)
+    → HoldsValue (in_array ds ∷ outer) d c fs len items → Holds (in_array (ds ++ d ∷ []) ∷ outer) c fs len items
+Holds-comma ds outer d c fs len items h =
+    let same : length ds + 1 ≡ length (ds ++ d ∷ []) = omega (arith, length-append ds (d ∷ [])) in
+    (h.0, subst (λ n. Headed (Holds outer) (listings (ds ++ d ∷ [])) n fs len items) same h.1)
+
+pub Holds-member_comma : (ms : List (List ℕ × Document)) (name : List ℕ) (outer : List Open) (d : Document) (c : Container) (fs : List StackState) (len : ℕ) (items : List Item)
+    → HoldsValue (in_object ms name ∷ outer) d c fs len items → HoldsMembers (ms ++ (name, d) ∷ []) outer c fs len items
+Holds-member_comma ms name outer d c fs len items h =
+    let same : length ms + 1 ≡ length (ms ++ (name, d) ∷ []) = omega (arith, length-append ms ((name, d) ∷ [])) in
+    (h.0, subst (λ n. Headed (Holds outer) (member_listings (ms ++ (name, d) ∷ [])) n fs len items) same h.1)
+
+-- an opening bracket
+pub Holds-open : (opens : List Open) (c : Container) (fs : List StackState) (f : StackState) (len : ℕ) (items : List Item) (header : Item)
+    → Holds opens c fs len items → f.header ≡ length items → f.len ≡ len → f.outer ≡ c → Holds (in_array [] ∷ opens) Array (f ∷ fs) 0 (items ++ header ∷ [])
+Holds-open opens c fs f len items header h at saved kind =
+    let round : Holds opens f.outer fs f.len items = subst (λ k. Holds opens k fs f.len items) (sym kind) (subst (λ n. Holds opens c fs n items) (sym saved) h) in
+    (refl, (items, header, refl, at, refl, round))
+
+pub Holds-open_object : (opens : List Open) (c : Container) (fs : List StackState) (f : StackState) (len : ℕ) (items : List Item) (header : Item)
+    → Holds opens c fs len items → f.header ≡ length items → f.len ≡ len → f.outer ≡ c → HoldsMembers [] opens Object (f ∷ fs) 0 (items ++ header ∷ [])
+Holds-open_object opens c fs f len items header h at saved kind =
+    let round : Holds opens f.outer fs f.len items = subst (λ k. Holds opens k fs f.len items) (sym kind) (subst (λ n. Holds opens c fs n items) (sym saved) h) in
+    (refl, (items, header, refl, at, refl, round))
+
+-- a closing bracket: the header is patched
+pub Holds-close : (o : Open) (outer : List Open) (d : Document) (c : Container) (f : StackState) (fs : List StackState) (len : ℕ) (items : List Item)
+    → HoldsValue (o ∷ outer) d c (f ∷ fs) len items
+    → HoldsValue outer (closed_with o d) f.outer fs (f.len + 1) (set items f.header (item_of (header_of c len (length items - f.header - 1))))
+Holds-close (in_array ds) outer d c f fs len items (kind, (before, header, is, at, count, beyond)) =
+    let same : set items f.header (item_of (header_of c len (length items - f.header - 1))) ≡ before ++ listing (closed_with (in_array ds) d) =
+    ap (λ k. set items f.header (item_of (header_of k len (length items - f.header - 1)))) kind
+    ∙ patched array_item before (listings (ds ++ d ∷ [])) header (length (ds ++ d ∷ [])) f.header len items is at (omega (arith, count, length-append ds (d ∷ [])))
+    ∙ ap (λ us. before ++ us) (sym (listing-array_of (ds ++ d ∷ []))) in
+    subst (HoldsValue outer (closed_with (in_array ds) d) f.outer fs (f.len + 1)) (sym same) (Holds-value outer f.outer fs f.len before (closed_with (in_array ds) d) beyond)
+Holds-close (in_object ms name) outer d c f fs len items (kind, (before, header, is, at, count, beyond)) =
+    let same : set items f.header (item_of (header_of c len (length items - f.header - 1))) ≡ before ++ listing (closed_with (in_object ms name) d) =
+    ap (λ k. set items f.header (item_of (header_of k len (length items - f.header - 1)))) kind
+    ∙ patched object_item before (member_listings (ms ++ (name, d) ∷ [])) header (length (ms ++ (name, d) ∷ [])) f.header len items is at (omega (arith, count, length-append ms ((name, d) ∷ [])))
+    ∙ ap (λ us. before ++ us) (sym (listing-object_of (ms ++ (name, d) ∷ []))) in
+    subst (HoldsValue outer (closed_with (in_object ms name) d) f.outer fs (f.len + 1)) (sym same) (Holds-value outer f.outer fs f.len before (closed_with (in_object ms name) d) beyond)
+
+-- its header lies among the nodes, and the container round it has fewer members than there are nodes
+pub Holds-header : (o : Open) (outer : List Open) (d : Document) (c : Container) (f : StackState) (fs : List StackState) (len : ℕ) (items : List Item) → HoldsValue (o ∷ outer) d c (f ∷ fs) len items → f.header < length items
+Holds-header (in_array ds) outer d c f fs len items h = Headed-header (Holds outer) (listings (ds ++ d ∷ [])) (length ds + 1) f fs len items h.1
+Holds-header (in_object ms name) outer d c f fs len items h = Headed-header (Holds outer) (member_listings (ms ++ (name, d) ∷ [])) (length ms + 1) f fs len items h.1
+
+pub Holds-outer_len : (o : Open) (outer : List Open) (d : Document) (c : Container) (f : StackState) (fs : List StackState) (len : ℕ) (items : List Item) → HoldsValue (o ∷ outer) d c (f ∷ fs) len items → f.len < length items
+Holds-outer_len (in_array ds) outer d c f fs len items h = Headed-outer_len outer (listings (ds ++ d ∷ [])) (length ds + 1) f fs len items h.1
+Holds-outer_len (in_object ms name) outer d c f fs len items h = Headed-outer_len outer (member_listings (ms ++ (name, d) ∷ [])) (length ms + 1) f fs len items h.1

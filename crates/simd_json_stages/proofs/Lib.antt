@@ -2,8 +2,15 @@ pub mod CarryLaws
 pub mod Steps
 pub mod Holding
 pub mod ScalarLaws
+pub mod Places
 pub mod TokenForms
+pub mod Bounds
 pub mod BuildingSteps
 pub mod Refusing
+pub mod Following
 pub mod EscapeBlockLaws
 pub mod BetweenBlocks
+pub mod EscapesPassed
+pub mod TextEnds
+pub mod ScalarPut
+pub mod TextPut

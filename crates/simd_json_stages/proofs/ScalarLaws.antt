@@ -18,7 +18,7 @@ use Rattle.simd_json_parts.specs.declared.error.Error.{Error}
 use Rattle.simd_json_parts.specs.Tokens.{Form, begin_array, end_array, begin_object, end_object, name_separator, value_separator, string, scalar, stray, form_of, form_at}
 use Rattle.simd_json_parts.specs.TextAt.{text_at}
 use Rattle.simd_json_stages.specs.Refusals.{refused_kind}
-use Rattle.simd_json_stages.specs.declared.stage2.FaultKind.TheVariants as kinds
+use Rattle.simd_json_stages.specs.declared.stage2.fault.FaultKind.TheVariants as kinds
 use Rattle.simd_json_stages.specs.ScalarRead.{is_no_scalar}
 use Rattle.simd_json_parts.specs.declared.error.ErrorType.{ErrorType}
 use Rattle.simd_json_parts.specs.declared.error.ErrorType.TheVariants.{ExpectedTrue, ExpectedFalse, ExpectedNull, InvalidNumber}

@@ -1,14 +1,18 @@
--- No step of a stack machine changes the continued descent: the steps of an array.
+-- No step of a stack machine changes the continued descent.
 use Rattle.std.proofs.Common.{◌≡◌, refl, sym, ◌∙◌, ap, ℕ, zero, suc, Bool, true, false, ◌-◌, ◌<◌, ◌≤◌, List, [], ◌∷◌, ◌++◌, length, arith}
 use Rattle.std.specs.Prelude.{Result, Ok, Err}
-use Rattle.simd_json_parts.specs.Document.{Document, array, Elements, no_elements, element, Members}
-use Rattle.simd_json_parts.specs.Tokens.{Token, Form, begin_array, end_array, begin_object, value_separator, string, scalar}
-use Rattle.simd_json_parts.specs.Descent.{◌>>=◌, Reads, after_element, element_end, elements_by, first_element, array_from, object_from, too_deep, value_of, value_from}
+use Rattle.simd_json_parts.specs.Document.{Document, text, array, object, Elements, no_elements, element, Members, no_members, member}
+use Rattle.simd_json_parts.specs.Tokens.{Token, Form, begin_array, end_array, begin_object, end_object, name_separator, value_separator, string, scalar}
+use Rattle.simd_json_parts.specs.Descent.{◌>>=◌, Reads, after_element, element_end, elements_by, first_element, array_from, name_of, name_from, after_name, name_end, after_member, member_end, members_by, first_member, object_from, too_deep, value_of, value_from}
 use Rattle.simd_json_parts.specs.Faults.{fault_at}
-use Rattle.simd_json_parts.specs.declared.error.ErrorType.TheVariants.{DepthLimitExceeded, ExpectedArrayContent, InternalError}
-use Rattle.simd_json_stages.specs.Continued.{Open, in_array, elements_onto, after_value, at_value, at_array}
+use Rattle.simd_json_parts.specs.declared.error.ErrorType.TheVariants.{DepthLimitExceeded, ExpectedArrayContent, ExpectedObjectContent, ExpectedObjectKey, ExpectedObjectColon, InternalError}
+use Rattle.simd_json_parts.specs.declared.error.ErrorType.{ErrorType}
+use Rattle.simd_json_stages.specs.Building.{closed_with}
+use Rattle.simd_json_stages.specs.Put.{begins_value}
+use Rattle.simd_json_stages.specs.Continued.{Open, in_array, in_object, elements_onto, members_onto, after_value, at_value, at_array, at_object, at_name}
 use Rattle.simd_json_parts.specs.declared.error.Error.{Error}
 use Rattle.simd_json_parts.proofs.DescentLaws.{elements_by-turn}
+use Rattle.simd_json_parts.proofs.MemberTurns.{members_by-turn}
 use Rattle.simd_json_parts.proofs.Shrinking.{value_from-takes}
 
 bind-bind : {A B C : Type 0} (r : Result A Error) (f : A → Result B Error) (g : B → Result C Error) → ((r >>= f) >>= g) ≡ (r >>= λ x. f x >>= g)
@@ -27,22 +31,37 @@ onto-append : (ds : List Document) (d : Document) (rest : Elements) → elements
 onto-append [] d rest = refl
 onto-append (x ∷ ds) d rest = ap (λ r. element x r) (onto-append ds d rest)
 
--- what may stand behind an element, and what a value begins with
+members_onto-append : (ms : List (List ℕ × Document)) (m : List ℕ × Document) (rest : Members) → members_onto (ms ++ m ∷ []) rest ≡ members_onto ms (member m.0 m.1 rest)
+members_onto-append [] m rest = refl
+members_onto-append (x ∷ ms) m rest = ap (λ r. member x.0 x.1 r) (members_onto-append ms m rest)
+
+-- what may stand behind an element of an array
 abbrev pub ends_element : Form → Bool
 ends_element value_separator = true
 ends_element end_array = true
 ends_element _ = false
 
-abbrev pub begins_value : Form → Bool
-begins_value begin_array = true
-begins_value begin_object = true
-begins_value (string read) = true
-begins_value (scalar read) = true
-begins_value _ = false
-
 abbrev pub is_end_array : Form → Bool
 is_end_array end_array = true
 is_end_array _ = false
+
+-- the same of an object
+abbrev pub ends_member : Form → Bool
+ends_member value_separator = true
+ends_member end_object = true
+ends_member _ = false
+
+abbrev pub is_end_object : Form → Bool
+is_end_object end_object = true
+is_end_object _ = false
+
+abbrev pub is_string : Form → Bool
+is_string (string read) = true
+is_string _ = false
+
+abbrev pub is_name_separator : Form → Bool
+is_name_separator name_separator = true
+is_name_separator _ = false
 
 module _ (b : List ℕ) (missing : Error) (limit : ℕ) where
   -- with nothing open it is the descent
@@ -147,10 +166,6 @@ module _ (b : List ℕ) (missing : Error) (limit : ℕ) where
   pub at_array-missing : (outer : List Open) → at_array b missing limit outer [] ≡ Err missing
   at_array-missing outer = refl
 
-  pub after_value-missing : (ds : List Document) (outer : List Open) (d : Document) → after_value b missing limit (in_array ds ∷ outer) d [] ≡ Err missing
-  unfolding after_value
-  after_value-missing ds outer d = refl
-
   pub after_value-other : (ds : List Document) (outer : List Open) (d : Document) (t : Token) (ts : List Token) (form : Form) → t.form ≡ form → ends_element form ≡ false
       → after_value b missing limit (in_array ds ∷ outer) d (t ∷ ts) ≡ Err (fault_at b ExpectedArrayContent t.index)
   unfolding after_value
@@ -186,3 +201,172 @@ module _ (b : List ℕ) (missing : Error) (limit : ℕ) where
       go (suc room) =
           ap (λ r. r >>= λ r. after_value b missing limit open_containers r.0 r.1)
           (ap (λ form. value_of b missing (λ _. array_from b missing (value_from b missing room)) (λ _. object_from b missing (value_from b missing room)) t form ts) is ∙ refused (λ _. array_from b missing (value_from b missing room)) (λ _. object_from b missing (value_from b missing room)) form none)
+
+-- ---- either container
+
+-- the form that closes the innermost container
+abbrev pub closing_form : Open → Form
+closing_form (in_array ds) = end_array
+closing_form (in_object ms name) = end_object
+
+-- what may stand behind a member of it
+abbrev pub ends_member_of : Open → Form → Bool
+ends_member_of (in_array ds) form = ends_element form
+ends_member_of (in_object ms name) form = ends_member form
+
+abbrev pub content_error : Open → ErrorType
+content_error (in_array ds) = ExpectedArrayContent
+content_error (in_object ms name) = ExpectedObjectContent
+
+module _ (b : List ℕ) (missing : Error) (limit : ℕ) where
+  pub after_value-closed : (o : Open) (outer : List Open) (d : Document) (t : Token) (ts : List Token) → t.form ≡ closing_form o
+      → after_value b missing limit (o ∷ outer) d (t ∷ ts) ≡ after_value b missing limit outer (closed_with o d) ts
+  unfolding after_value
+  after_value-closed (in_array ds) outer d t ts is = after_value-close b missing limit ds outer d t ts is
+  after_value-closed (in_object ms name) outer d t ts is =
+      let v : Reads Document = value_from b missing (limit - suc (length outer)) in
+      ap (λ form. after_member b missing t form ts (members_by b missing v ExpectedObjectKey) >>= λ r. after_value b missing limit outer (object (members_onto ms (member name d r.0))) r.1) is
+      ∙ ap (λ members. after_value b missing limit outer (object members) ts) (sym (members_onto-append ms (name, d) no_members))
+
+  pub after_value-none : (o : Open) (outer : List Open) (d : Document) → after_value b missing limit (o ∷ outer) d [] ≡ Err missing
+  unfolding after_value
+  after_value-none (in_array ds) outer d = refl
+  after_value-none (in_object ms name) outer d = refl
+
+  pub after_value-unexpected : (o : Open) (outer : List Open) (d : Document) (t : Token) (ts : List Token) (form : Form) → t.form ≡ form → ends_member_of o form ≡ false
+      → after_value b missing limit (o ∷ outer) d (t ∷ ts) ≡ Err (fault_at b (content_error o) t.index)
+  unfolding after_value
+  after_value-unexpected (in_array ds) outer d t ts form is other = after_value-other b missing limit ds outer d t ts form is other
+  after_value-unexpected (in_object ms name) outer d t ts form is other =
+      ap (λ r. r >>= λ r. after_value b missing limit outer (object (members_onto ms (member name d r.0))) r.1)
+      (ap (λ form. after_member b missing t form ts (members_by b missing (value_from b missing (limit - suc (length outer))) ExpectedObjectKey)) is ∙ refused form other)
+    where
+      refused : (form : Form) → ends_member form ≡ false → after_member b missing t form ts (members_by b missing (value_from b missing (limit - suc (length outer))) ExpectedObjectKey) ≡ Err (fault_at b ExpectedObjectContent t.index)
+      refused value_separator h = cc
+      refused end_object h = cc
+      refused _ h = refl
+
+  -- ---- objects
+
+  pub at_value-open_object : (outer : List Open) (t : Token) (ts : List Token) → length outer < limit → t.form ≡ begin_object
+      → at_value b missing limit outer (t ∷ ts) ≡ at_object b missing limit outer ts
+  unfolding value_from
+  at_value-open_object outer t ts l is =
+      let room : ℕ = limit - suc (length outer) in
+      let one_less : limit - length outer ≡ suc room = omega arith in
+      ap (λ n. value_from b missing n (t ∷ ts) >>= λ r. after_value b missing limit outer r.0 r.1) one_less
+      ∙ ap (λ form. value_of b missing (λ _. array_from b missing (value_from b missing room)) (λ _. object_from b missing (value_from b missing room)) t form ts >>= λ r. after_value b missing limit outer r.0 r.1) is
+      ∙ bind-bind (object_from b missing (value_from b missing room) ts) _ _
+
+  pub at_value-object_too_deep : (outer : List Open) (t : Token) (ts : List Token) → limit ≤ length outer → t.form ≡ begin_object
+      → at_value b missing limit outer (t ∷ ts) ≡ Err (fault_at b DepthLimitExceeded t.index)
+  unfolding value_from
+  at_value-object_too_deep outer t ts l is =
+      let none_left : limit - length outer ≡ 0 = omega arith in
+      ap (λ n. value_from b missing n (t ∷ ts) >>= λ r. after_value b missing limit outer r.0 r.1) none_left
+      ∙ ap (λ form. value_of b missing (too_deep b missing) (too_deep b missing) t form ts >>= λ r. after_value b missing limit outer r.0 r.1) is
+
+  pub at_object-close : (outer : List Open) (t : Token) (ts : List Token) → t.form ≡ end_object
+      → at_object b missing limit outer (t ∷ ts) ≡ after_value b missing limit outer (object no_members) ts
+  at_object-close outer t ts is =
+      let v : Reads Document = value_from b missing (limit - suc (length outer)) in
+      ap (λ form. first_member b missing form (t ∷ ts) ts (members_by b missing v ExpectedObjectContent) >>= λ r. after_value b missing limit outer (object r.0) r.1) is
+
+  pub at_object-missing : (outer : List Open) → at_object b missing limit outer [] ≡ Err missing
+  at_object-missing outer = refl
+
+  pub at_object-name : (outer : List Open) (t : Token) (ts : List Token) (form : Form) → t.form ≡ form → is_end_object form ≡ false
+      → at_object b missing limit outer (t ∷ ts) ≡ at_name b missing limit ExpectedObjectContent [] outer (t ∷ ts)
+  at_object-name outer t ts form is other =
+      ap (λ r. r >>= λ r. after_value b missing limit outer (object r.0) r.1)
+      (ap (λ form. first_member b missing form (t ∷ ts) ts (members_by b missing (value_from b missing (limit - suc (length outer))) ExpectedObjectContent)) is ∙ not_first form other)
+    where
+      not_first : (form : Form) → is_end_object form ≡ false
+          → first_member b missing form (t ∷ ts) ts (members_by b missing (value_from b missing (limit - suc (length outer))) ExpectedObjectContent) ≡ members_by b missing (value_from b missing (limit - suc (length outer))) ExpectedObjectContent (t ∷ ts)
+      not_first end_object h = cc
+      not_first _ h = refl
+
+  -- behind a name
+  abbrev behind_name : List (List ℕ × Document) → List Open → List ℕ × List Token → Result (Document × List Token) Error
+  behind_name ms outer name = name_end b missing name.1 >>= λ ts. at_value b missing limit (in_object ms name.0 ∷ outer) ts
+
+  -- a name is read, its colon, and on
+  at_name-turn : (kind : ErrorType) (ms : List (List ℕ × Document)) (outer : List Open) (ts : List Token) → at_name b missing limit kind ms outer ts ≡ (name_from b missing kind ts >>= behind_name ms outer)
+  unfolding after_value
+  at_name-turn kind ms outer ts =
+      let room : ℕ = limit - suc (length outer) in
+      let v : Reads Document = value_from b missing room in
+      ap (λ r. r >>= λ r. after_value b missing limit outer (object (members_onto ms r.0)) r.1) (members_by-turn b missing v (value_from-takes b missing room) kind ts)
+      ∙ bind-bind (name_from b missing kind ts) _ _
+      ∙ bind_same (name_from b missing kind ts) _ _ (λ name. bind-bind (name_end b missing name.1) _ _
+      ∙ bind_same (name_end b missing name.1) _ _ (λ us. bind-bind (v us) _ _
+      ∙ bind_same (v us) _ _ (λ first. bind-bind (member_end b missing first.1 (members_by b missing v ExpectedObjectKey)) _ _)))
+
+  -- the same at a token of a known form
+  at_name-form : (kind : ErrorType) (ms : List (List ℕ × Document)) (outer : List Open) (t : Token) (ts : List Token) (form : Form) → t.form ≡ form
+      → at_name b missing limit kind ms outer (t ∷ ts) ≡ (name_of b missing kind t form >>= λ name. behind_name ms outer (name.0, ts))
+  at_name-form kind ms outer t ts form is =
+      at_name-turn kind ms outer (t ∷ ts) ∙ bind-bind (name_of b missing kind t t.form) _ _ ∙ ap (λ form. name_of b missing kind t form >>= λ name. behind_name ms outer (name.0, ts)) is
+
+  -- a name and its colon
+  pub at_name-value : (kind : ErrorType) (ms : List (List ℕ × Document)) (outer : List Open) (t u : Token) (ts : List Token) (name : List ℕ) (end : ℕ) → t.form ≡ string (Ok (name, end)) → u.form ≡ name_separator
+      → at_name b missing limit kind ms outer (t ∷ u ∷ ts) ≡ at_value b missing limit (in_object ms name ∷ outer) ts
+  at_name-value kind ms outer t u ts name end is colon =
+      at_name-form kind ms outer t (u ∷ ts) (string (Ok (name, end))) is ∙ ap (λ form. after_name b missing u form ts >>= λ us. at_value b missing limit (in_object ms name ∷ outer) us) colon
+
+  pub at_name-missing : (kind : ErrorType) (ms : List (List ℕ × Document)) (outer : List Open) → at_name b missing limit kind ms outer [] ≡ Err missing
+  at_name-missing kind ms outer = at_name-turn kind ms outer []
+
+  pub at_name-other : (kind : ErrorType) (ms : List (List ℕ × Document)) (outer : List Open) (t : Token) (ts : List Token) (form : Form) → t.form ≡ form → is_string form ≡ false
+      → at_name b missing limit kind ms outer (t ∷ ts) ≡ Err (fault_at b kind t.index)
+  at_name-other kind ms outer t ts form is other = at_name-form kind ms outer t ts form is ∙ ap (λ r. r >>= λ name. behind_name ms outer (name.0, ts)) (refused form other)
+    where
+      refused : (form : Form) → is_string form ≡ false → name_of b missing kind t form ≡ Err (fault_at b kind t.index)
+      refused (string read) h = cc
+      refused _ h = refl
+
+  pub at_name-fault : (kind : ErrorType) (ms : List (List ℕ × Document)) (outer : List Open) (t : Token) (ts : List Token) (e : Error) → t.form ≡ string (Err e)
+      → at_name b missing limit kind ms outer (t ∷ ts) ≡ Err e
+  at_name-fault kind ms outer t ts e is = at_name-form kind ms outer t ts (string (Err e)) is
+
+  pub at_name-no_more : (kind : ErrorType) (ms : List (List ℕ × Document)) (outer : List Open) (t : Token) (name : List ℕ) (end : ℕ) → t.form ≡ string (Ok (name, end))
+      → at_name b missing limit kind ms outer (t ∷ []) ≡ Err missing
+  at_name-no_more kind ms outer t name end is = at_name-form kind ms outer t [] (string (Ok (name, end))) is
+
+  pub at_name-no_colon : (kind : ErrorType) (ms : List (List ℕ × Document)) (outer : List Open) (t u : Token) (ts : List Token) (name : List ℕ) (end : ℕ) (form : Form) → t.form ≡ string (Ok (name, end)) → u.form ≡ form → is_name_separator form ≡ false
+      → at_name b missing limit kind ms outer (t ∷ u ∷ ts) ≡ Err (fault_at b ExpectedObjectColon u.index)
+  at_name-no_colon kind ms outer t u ts name end form is colon other =
+      at_name-form kind ms outer t (u ∷ ts) (string (Ok (name, end))) is
+      ∙ ap (λ r. r >>= λ us. at_value b missing limit (in_object ms name ∷ outer) us) (ap (λ form. after_name b missing u form ts) colon ∙ refused form other)
+    where
+      refused : (form : Form) → is_name_separator form ≡ false → after_name b missing u form ts ≡ Err (fault_at b ExpectedObjectColon u.index)
+      refused name_separator h = cc
+      refused _ h = refl
+
+  -- a comma behind a member
+  pub after_value-member_comma : (ms : List (List ℕ × Document)) (name : List ℕ) (outer : List Open) (d : Document) (t : Token) (ts : List Token) → t.form ≡ value_separator
+      → after_value b missing limit (in_object ms name ∷ outer) d (t ∷ ts) ≡ at_name b missing limit ExpectedObjectKey (ms ++ (name, d) ∷ []) outer ts
+  unfolding after_value
+  after_value-member_comma ms name outer d t ts is =
+      let v : Reads Document = value_from b missing (limit - suc (length outer)) in
+      ap (λ form. after_member b missing t form ts (members_by b missing v ExpectedObjectKey) >>= λ r. after_value b missing limit outer (object (members_onto ms (member name d r.0))) r.1) is
+      ∙ bind_same (members_by b missing v ExpectedObjectKey ts) _ _ (λ r. ap (λ members. after_value b missing limit outer (object members) r.1) (sym (members_onto-append ms (name, d) r.0)))
+
+  -- ---- texts
+
+  pub at_value-text : (open_containers : List Open) (t : Token) (ts : List Token) (s : List ℕ) (end : ℕ) → t.form ≡ string (Ok (s, end))
+      → at_value b missing limit open_containers (t ∷ ts) ≡ after_value b missing limit open_containers (text s) ts
+  unfolding value_from
+  at_value-text open_containers t ts s end is = go (limit - length open_containers)
+    where
+      go : (room : ℕ) → (value_from b missing room (t ∷ ts) >>= λ r. after_value b missing limit open_containers r.0 r.1) ≡ after_value b missing limit open_containers (text s) ts
+      go zero = ap (λ form. value_of b missing (too_deep b missing) (too_deep b missing) t form ts >>= λ r. after_value b missing limit open_containers r.0 r.1) is
+      go (suc room) = ap (λ form. value_of b missing (λ _. array_from b missing (value_from b missing room)) (λ _. object_from b missing (value_from b missing room)) t form ts >>= λ r. after_value b missing limit open_containers r.0 r.1) is
+
+  pub at_value-text_fault : (open_containers : List Open) (t : Token) (ts : List Token) (e : Error) → t.form ≡ string (Err e) → at_value b missing limit open_containers (t ∷ ts) ≡ Err e
+  unfolding value_from
+  at_value-text_fault open_containers t ts e is = go (limit - length open_containers)
+    where
+      go : (room : ℕ) → (value_from b missing room (t ∷ ts) >>= λ r. after_value b missing limit open_containers r.0 r.1) ≡ Err e
+      go zero = ap (λ form. value_of b missing (too_deep b missing) (too_deep b missing) t form ts >>= λ r. after_value b missing limit open_containers r.0 r.1) is
+      go (suc room) = ap (λ form. value_of b missing (λ _. array_from b missing (value_from b missing room)) (λ _. object_from b missing (value_from b missing room)) t form ts >>= λ r. after_value b missing limit open_containers r.0 r.1) is

@@ -1,6 +1,10 @@
 pub mod Carries
 pub mod EscapeBlocks
+pub mod Left
+pub mod EscapesAhead
 pub mod Continued
 pub mod ScalarRead
 pub mod Building
+pub mod Progresses
+pub mod Put
 pub mod Refusals

@@ -5,19 +5,24 @@ use Rattle.simd_json_parts.specs.Faults.{fault_with}
 use Rattle.simd_json_parts.specs.declared.error.Error.{Error}
 use Rattle.simd_json_parts.specs.declared.error.ErrorType.{ErrorType}
 use Rattle.simd_json_parts.specs.declared.error.ErrorType.TheVariants as errors
-use Rattle.simd_json_stages.specs.declared.stage2.Fault.{Fault}
-use Rattle.simd_json_stages.specs.declared.stage2.Scalar.{Scalar}
-use Rattle.simd_json_stages.specs.declared.stage2.Scalar.TheVariants.{Invalid, Refused}
-use Rattle.simd_json_stages.specs.declared.stage2.FaultKind.{FaultKind}
-use Rattle.simd_json_stages.specs.declared.stage2.FaultKind.TheVariants as kinds
+use Rattle.simd_json_stages.specs.declared.stage2.fault.Fault.{Fault}
+use Rattle.simd_json_stages.specs.declared.stage2.scalar.Scalar.{Scalar}
+use Rattle.simd_json_stages.specs.declared.stage2.scalar.Scalar.TheVariants.{Invalid, Refused}
+use Rattle.simd_json_stages.specs.declared.stage2.fault.FaultKind.{FaultKind}
+use Rattle.simd_json_stages.specs.declared.stage2.fault.FaultKind.TheVariants as kinds
 
 abbrev pub error_type : FaultKind → ErrorType
 error_type kinds.InternalError = errors.InternalError
 error_type kinds.ExpectedArrayContent = errors.ExpectedArrayContent
+error_type kinds.ExpectedObjectContent = errors.ExpectedObjectContent
+error_type kinds.ExpectedObjectKey = errors.ExpectedObjectKey
+error_type kinds.ExpectedObjectColon = errors.ExpectedObjectColon
 error_type kinds.ExpectedTrue = errors.ExpectedTrue
 error_type kinds.ExpectedFalse = errors.ExpectedFalse
 error_type kinds.ExpectedNull = errors.ExpectedNull
 error_type kinds.InvalidNumber = errors.InvalidNumber
+error_type kinds.InvalidEscape = errors.InvalidEscape
+error_type kinds.InvalidUnicodeCodepoint = errors.InvalidUnicodeCodepoint
 error_type kinds.Syntax = errors.Syntax
 error_type kinds.TrailingData = errors.TrailingData
 error_type kinds.DepthLimitExceeded = errors.DepthLimitExceeded

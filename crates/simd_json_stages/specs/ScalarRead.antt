@@ -9,9 +9,9 @@ use Rattle.simd_json_parts.specs.Tokens.{Form, form_at, scalar}
 use Rattle.simd_json_parts.specs.Bytes.{byte_at}
 use Rattle.simd_json_parts.specs.NumberAt.{number_at}
 use Rattle.simd_json_stages.specs.Refusals.{error_type, refused_kind}
-use Rattle.simd_json_stages.specs.declared.stage2.FaultKind.TheVariants as kinds
-use Rattle.simd_json_stages.specs.declared.stage2.Scalar.{Scalar}
-use Rattle.simd_json_stages.specs.declared.stage2.Scalar.TheVariants.{Value, Decimal, Invalid, Refused}
+use Rattle.simd_json_stages.specs.declared.stage2.fault.FaultKind.TheVariants as kinds
+use Rattle.simd_json_stages.specs.declared.stage2.scalar.Scalar.{Scalar}
+use Rattle.simd_json_stages.specs.declared.stage2.scalar.Scalar.TheVariants.{Value, Decimal, Invalid, Refused}
 
 -- a form that is no atom and no number
 abbrev pub is_no_scalar : Form → Bool

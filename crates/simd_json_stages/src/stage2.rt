@@ -1,625 +1,599 @@
 //! From structural positions to nodes.
-ghost use Rattle.std.specs.Prelude.{◌≡◌, ◌≢◌, ◌<◌, ◌≤◌, ◌+◌, ◌-◌, ◌^◌, ◌==◌, ◌&&◌, ◌||◌, ◌⊎◌, ℕ, List, [], ◌∷◌, slice_index, slice_set, length, take, drop, min, nat_eq, codes, All, IfOk, IfErr, MatchResult};
-ghost use Rattle.std.specs.Char.{is_ascii_digit};
-ghost use Rattle.std.specs.List.{starts_with};
-ghost use Rattle.simd_json_parts.specs.Bytes.{is_terminator, byte_at};
-ghost use Rattle.simd_json_stages.specs.Building.{AtElement, BehindElement, IsBuilt, IsListed, IsBefore, IsBehind, IsWithin, IsAhead, Advances, Passes, element_depth, element_at, Follows, Ends, Tells, HasUnbuilt, top, patch};
+ghost use Rattle.std.specs.Prelude.{◌≡◌, ◌≢◌, ◌<◌, ◌≤◌, ◌+◌, ◌-◌, ◌^◌, ◌⊎◌, ℕ, List, length, take, drop, min, get_or, slice_index, Contains, None, Ok, IfOk, IfErr, OnOk, MatchResult};
+ghost use Rattle.simd_json_parts.specs.Bytes.{quote, byte_at};
 ghost use Rattle.simd_json_parts.specs.Descent.{descent};
-ghost use Rattle.simd_json_parts.specs.Faults.{fault_with};
-ghost use Rattle.simd_json_parts.specs.NumberAt.{number_at};
+ghost use Rattle.simd_json_parts.specs.InputFaults.{input_fault};
 ghost use Rattle.simd_json_parts.specs.Positions.{positions};
-ghost use Rattle.simd_json_stages.specs.Refusals.{error_type, refused_kind, number_refusal, refusal, offset_of, IsTokenFault};
-ghost use Rattle.simd_json_stages.specs.ScalarRead.{IsScalarAt};
-ghost use Rattle.simd_json_parts.specs.Tokens.{form_at, scalar};
-ghost use Rattle.simd_json_parts.specs.declared.error.Error.{Error};
+ghost use Rattle.simd_json_parts.specs.TextAt.{escape_fault};
+ghost use Rattle.simd_json_parts.specs.Faults.{fault_with};
+ghost use Rattle.simd_json_parts.specs.Tokens.{Token, form_at, tokens};
+ghost use Rattle.simd_json_stages.specs.Building.{AtValue, AtName, AtMember, BehindValue, IsBuilt, IsListed, Opens, Goes, Tells, top, patch, closer, header_of, content_kind, end_kind};
+ghost use Rattle.simd_json_stages.specs.EscapeBlocks.{backslash_blocks};
+ghost use Rattle.simd_json_stages.specs.EscapesAhead.{AreAhead};
+ghost use Rattle.simd_json_stages.specs.Progresses.{IsRead, IsUnread, IsBefore, IsBehind, IsWithin, IsAhead, Advances, Passes};
+ghost use Rattle.simd_json_stages.specs.Put.{IsTextPut, IsScalarPut, IsBadText, IsNoScalar};
+ghost use Rattle.simd_json_stages.specs.Refusals.{error_type, IsTokenFault};
 
-use simd_json_parts::charutils::is_structural_or_whitespace;
-use simd_json_parts::error::{Error, ErrorType, Result};
-use simd_json_parts::node::{Node, StaticNode};
-use simd_json_parts::numberparse::{Number, is_integer, parse_number};
+mod escapes;
+mod fault;
+mod scalar;
+mod unread;
+
+use escapes::Escapes;
+use fault::{Fault, FaultKind};
+use scalar::{Scalar, read_scalar, refuse};
+pub use scalar::{is_valid_false_atom, is_valid_null_atom, is_valid_true_atom};
+use simd_json_parts::error::Result;
+use simd_json_parts::node::Node;
+use simd_json_parts::stringparse::BadEscape;
+use unread::Unread;
 
 #[cfg(test)]
 mod tests;
 
-/// What is kept of an open container while others are open in it.
-#[derive(Clone, Copy, Debug, Default, Drop)]
+/// The two kinds of containers.
+#[derive(Clone, Copy, Debug, Drop)]
+pub enum Container {
+    Array,
+    Object,
+}
+
+/// What is kept of an open container, and of the one round it while it is open.
+#[derive(Clone, Copy, Debug, Drop)]
 pub struct StackState {
     /// Where its header stands among the nodes.
     pub header: usize,
+    /// What the container round it is.
+    pub outer: Container,
     /// How many members the container round it has so far.
     pub len: usize,
 }
 
-// How far the machine is: how many positions it has read, the index of the last token, how many nodes are in use, how
-// many containers are open, and how many members the innermost of them has.
+impl Default for StackState {
+    fn default() -> StackState {
+        StackState {
+            header: 0,
+            outer: Container::Array,
+            len: 0,
+        }
+    }
+}
+
+// How far the machine is: how many positions it has read, the index and the first byte of the last token, how many nodes
+// are in use, how many containers are open, and of the innermost of them what it is and how many members it has.
 #[derive(Clone, Copy, Debug, Drop)]
 pub(crate) struct Progress {
     pub(crate) read: usize,
     pub(crate) at: usize,
+    pub(crate) byte: u8,
     pub(crate) used: usize,
     pub(crate) depth: usize,
+    pub(crate) container: Container,
     pub(crate) len: usize,
 }
 
-// What an element came to: an array that has elements, before the first of them, or a value that is whole.
+// What a value came to: a container that has members, before the first of them, or a value that is whole.
 #[derive(Clone, Copy, Debug, Drop)]
-enum Element {
+enum Value {
     Opened(Progress),
     Read(Progress),
 }
 
-// What follows an element: another one, or the end of the root.
+// What follows a value: another member, or the end of the root.
 #[derive(Clone, Copy, Debug, Drop)]
 enum Follower {
     Next(Progress),
     End(usize),
 }
 
-// A token that is refused: its kind, its index and its first byte. It is small, so that the steps hand it back cheaply.
-#[derive(Clone, Copy, Debug, Drop)]
-pub(crate) struct Fault {
-    kind: FaultKind,
-    index: usize,
-    byte: u8,
-}
-
-impl Fault {
-    // The error that a caller sees.
-    #[cold]
-    fn into_error(self) -> Error
-        ensures { result ≡ fault_with (error_type self.kind) self.index self.byte }
+impl Container {
+    // The byte that closes it.
+    #[inline(always)]
+    fn closer(self) -> u8
+        ensures { result ≡ closer self }
     {
-        let kind = match self.kind {
-            FaultKind::InternalError => ErrorType::InternalError,
-            FaultKind::ExpectedArrayContent => ErrorType::ExpectedArrayContent,
-            FaultKind::ExpectedTrue => ErrorType::ExpectedTrue,
-            FaultKind::ExpectedFalse => ErrorType::ExpectedFalse,
-            FaultKind::ExpectedNull => ErrorType::ExpectedNull,
-            FaultKind::InvalidNumber => ErrorType::InvalidNumber,
-            FaultKind::Syntax => ErrorType::Syntax,
-            FaultKind::TrailingData => ErrorType::TrailingData,
-            FaultKind::DepthLimitExceeded => ErrorType::DepthLimitExceeded,
-        };
-        Error::new(self.index, Some(char::from(self.byte)), kind)
+        match self {
+            Container::Array => b']',
+            Container::Object => b'}',
+        }
+    }
+
+    // The node that stands for it.
+    #[inline(always)]
+    fn header<'de>(self, len: usize, count: usize) -> Node<'de>
+        ensures { result ≡ header_of self len count }
+    {
+        match self {
+            Container::Array => Node::Array { len, count },
+            Container::Object => Node::Object { len, count },
+        }
+    }
+
+    // The fault of a token that may not stand behind one of its members.
+    fn content_kind(self) -> FaultKind
+        ensures { result ≡ content_kind self }
+    {
+        match self {
+            Container::Array => FaultKind::ExpectedArrayContent,
+            Container::Object => FaultKind::ExpectedObjectContent,
+        }
     }
 }
 
-// The kinds of token faults.
-#[derive(Clone, Copy, Debug, Drop)]
-pub(crate) enum FaultKind {
-    InternalError,
-    ExpectedArrayContent,
-    ExpectedTrue,
-    ExpectedFalse,
-    ExpectedNull,
-    InvalidNumber,
-    Syntax,
-    TrailingData,
-    DepthLimitExceeded,
-}
+impl Progress {
+    // One more value is read, of one node.
+    #[inline(always)]
+    fn with_value(self) -> Progress
+        requires { (self.used < 2 ^ 63) × (self.len < 2 ^ 63) }
+        ensures { result ≡ record self { used = self.used + 1; len = self.len + 1 } }
+    {
+        Progress {
+            used: self.used + 1,
+            len: self.len + 1,
+            ..self
+        }
+    }
 
-// A scalar that is no text: a node, the length of a decimal's literal, how far behind its first byte a number is
-// refused, or no value of these kinds.
-#[derive(Clone, Copy, Debug, Drop)]
-pub(crate) enum Scalar {
-    Value(StaticNode),
-    Decimal(usize),
-    Invalid(usize),
-    Refused,
-}
+    // One more position is read.
+    #[inline(always)]
+    fn at_next(self, at: usize, byte: u8) -> Progress
+        requires { self.read < 2 ^ 63 }
+        ensures { result ≡ record self { read = self.read + 1; at = at; byte = byte } }
+    {
+        Progress {
+            read: self.read + 1,
+            at,
+            byte,
+            ..self
+        }
+    }
 
-/// Whether the bytes begin with `true`, and end there or go on with a structural character or whitespace.
-pub fn is_valid_true_atom(bytes: &[u8]) -> bool
-    ensures { result ≡ (starts_with nat_eq bytes.now (codes "true") && is_terminator (byte_at bytes.now 4)) }
-{
-    bytes.starts_with(b"true") && ends_at(bytes, 4)
-}
-
-/// Whether the bytes begin with `false`, and end there or go on with a structural character or whitespace.
-pub fn is_valid_false_atom(bytes: &[u8]) -> bool
-    ensures { result ≡ (starts_with nat_eq bytes.now (codes "false") && is_terminator (byte_at bytes.now 5)) }
-{
-    bytes.starts_with(b"false") && ends_at(bytes, 5)
-}
-
-/// Whether the bytes begin with `null`, and end there or go on with a structural character or whitespace.
-pub fn is_valid_null_atom(bytes: &[u8]) -> bool
-    ensures { result ≡ (starts_with nat_eq bytes.now (codes "null") && is_terminator (byte_at bytes.now 4)) }
-{
-    bytes.starts_with(b"null") && ends_at(bytes, 4)
-}
-
-// Whether a scalar may end before the byte at this index: the end reads as a space.
-fn ends_at(bytes: &[u8], at: usize) -> bool
-    ensures { result ≡ is_terminator (byte_at bytes.now at) }
-{
-    is_structural_or_whitespace(byte_or_space(bytes, at))
-}
-
-// The scalar at the front of what is left of an input from some index on. Its first byte is c.
-#[inline(always)]
-fn read_scalar(rest: &[u8], c: u8) -> Scalar
-    ensures { (b : List ℕ) (i : ℕ) → drop i b ≡ rest.now → byte_at b i ≡ c → IsScalarAt b i result }
-{
-    match c {
-        b't' if is_valid_true_atom(rest) => Scalar::Value(StaticNode::Bool(true)),
-        b'f' if is_valid_false_atom(rest) => Scalar::Value(StaticNode::Bool(false)),
-        b'n' if is_valid_null_atom(rest) => Scalar::Value(StaticNode::Null),
-        b't' | b'f' | b'n' => Scalar::Refused,
-        _ => number_or_refused(rest, c),
+    // The fault at the last token.
+    #[inline(always)]
+    fn fault(self, kind: FaultKind) -> Fault
+        ensures { result ≡ record { kind = kind; index = self.at; byte = self.byte } }
+    {
+        Fault {
+            kind,
+            index: self.at,
+            byte: self.byte,
+        }
     }
 }
 
-// The same where no atom begins.
+// The position of this number, or the end of the input.
 #[inline(always)]
-fn number_or_refused(rest: &[u8], c: u8) -> Scalar
-    requires { (c ≢ 116) × (c ≢ 102) × (c ≢ 110) }
-    ensures { (b : List ℕ) (i : ℕ) → drop i b ≡ rest.now → byte_at b i ≡ c → IsScalarAt b i result }
+fn position_or_end(indexes: &[u32], number: usize, end: usize) -> usize
+    ensures { result ≡ get_or indexes.now number end }
 {
-    if begins_number(c) {
-        read_number(rest)
+    if number < indexes.len() {
+        indexes[number] as usize
     } else {
-        Scalar::Refused
+        end
     }
 }
 
-// The fault of a scalar that is refused, whose first byte is c.
+// The fault of a bad escape in the text whose opening quote has index `at`.
 #[cold]
-fn refuse(bytes: &[u8], at: usize, c: u8, scalar: Scalar) -> Fault
-    ensures { at + offset_of scalar ≤ length bytes.now → result ≡ refusal bytes.now at c scalar }
+fn bad_escape(at: usize, bad: BadEscape) -> Fault
+    requires { at + bad.offset < 2 ^ 64 }
+    ensures { fault_with (error_type result.kind) result.index result.byte ≡ escape_fault (at + bad.offset) bad.letter }
 {
-    match scalar {
-        Scalar::Invalid(offset) => invalid_number(bytes, at, offset),
-        Scalar::Refused => Fault {
-            kind: no_atom(c),
-            index: at,
-            byte: c,
-        },
-        Scalar::Value(_) | Scalar::Decimal(_) => Fault {
-            kind: FaultKind::InternalError,
-            index: at,
-            byte: c,
-        },
-    }
-}
-
-// The kind of fault where no scalar that begins with this byte stands.
-fn no_atom(c: u8) -> FaultKind
-    ensures { result ≡ refused_kind c }
-{
-    match c {
-        b't' => FaultKind::ExpectedTrue,
-        b'f' => FaultKind::ExpectedFalse,
-        b'n' => FaultKind::ExpectedNull,
-        _ => FaultKind::InternalError,
-    }
-}
-
-// The fault of a number that is refused so far behind its first byte; the end of the input reads as a space.
-#[cold]
-fn invalid_number(bytes: &[u8], at: usize, offset: usize) -> Fault
-    ensures { at + offset ≤ length bytes.now → result ≡ number_refusal bytes.now (at + offset) }
-{
-    let index = at.saturating_add(offset).min(bytes.len());
+    let kind = if bad.letter == b'u' {
+        FaultKind::InvalidUnicodeCodepoint
+    } else {
+        FaultKind::InvalidEscape
+    };
     Fault {
-        kind: FaultKind::InvalidNumber,
-        index,
-        byte: byte_or_space(bytes, index),
+        kind,
+        index: at + bad.offset,
+        byte: bad.letter,
     }
 }
 
-// Past the end every byte reads as a space.
-fn byte_or_space(bytes: &[u8], i: usize) -> u8
-    ensures { result ≡ byte_at bytes.now i }
-{
-    if i < bytes.len() { bytes[i] } else { b' ' }
-}
-
-// Whether a number may begin with the byte.
+// The text at the last token becomes the next node. It ends before the next position.
 #[inline(always)]
-fn begins_number(c: u8) -> bool
-    ensures { result ≡ ((c == 45) || is_ascii_digit c) }
+fn put_text<'de>(
+    unread: &mut Unread<'de>,
+    escapes: &mut Escapes,
+    indexes: &[u32],
+    nodes: &mut [Node<'de>],
+    p: Progress,
+) -> std::result::Result<(), Fault>
+    ghost b: { List ℕ }
+    requires input { (indexes.now ≡ positions b) × (input_fault b ≡ None) }
+    requires unread { IsUnread b unread.old p.at }
+    requires escapes { AreAhead b escapes.old p.at }
+    requires read { IsRead b indexes.now p }
+    requires token { Contains (tokens b) (record { index = p.at; form = form_at b p.at }) }
+    requires text { p.byte ≡ quote }
+    requires room { p.used < length nodes.old }
+    ensures kept { length nodes.new ≡ length nodes.old }
+    ensures escapes { AreAhead b escapes.new p.at }
+    ensures put { OnOk result (IsTextPut b p.at p.used nodes.old nodes.new unread.new) }
+    ensures refused { IfErr result (IsBadText b p.at) }
 {
-    c == b'-' || is_integer(c)
-}
-
-// The number at the front of what is left.
-#[inline(always)]
-fn read_number(rest: &[u8]) -> Scalar
-    ensures { (b : List ℕ) (i : ℕ) → drop i b ≡ rest.now → form_at b i ≡ scalar (number_at b i) → IsScalarAt b i result }
-{
-    match parse_number(rest) {
-        Number::Integer(node) => Scalar::Value(node),
-        Number::Decimal(len) => Scalar::Decimal(len),
-        Number::Invalid(offset) => Scalar::Invalid(offset),
+    let next = position_or_end(indexes, p.read, unread.end());
+    let may_have_escape = escapes.may_lie_between(p.at, next);
+    if !may_have_escape && unread.byte(next - 1) == b'"' {
+        nodes[p.used] = Node::String(unread.share_text(p.at, next - 1));
+        return Ok(());
     }
+    match unread.parse_text(p.at) {
+        Ok(text) => nodes[p.used] = Node::String(text),
+        Err(bad) => return Err(bad_escape(p.at, bad)),
+    }
+    Ok(())
 }
 
-// The array that opens at p.at: its first token tells whether it is empty.
+// The container that opens at the last token: the token behind it tells whether it is empty.
 #[inline(always)]
-fn open_array<'de>(
-    bytes: &[u8],
-    positions: &[u32],
+fn open<'de>(
+    unread: &Unread<'de>,
+    indexes: &[u32],
     stack: &mut [StackState],
     nodes: &mut [Node<'de>],
     p: Progress,
+    container: Container,
     max_depth: usize,
-) -> std::result::Result<Element, Fault>
-    requires below { All (λ i. i < length bytes.now) positions.now }
-    requires at { p.at < length bytes.now }
-    requires progress { IsBefore (length positions.now) p }
+) -> std::result::Result<Value, Fault>
+    ghost b: { List ℕ }
+    requires input { indexes.now ≡ positions b }
+    requires progress { IsBefore b indexes.now unread.now p }
+    requires opener { p.byte + 2 ≡ closer container }
     requires depth { p.depth ≤ max_depth }
-    requires nodes { length positions.now ≤ length nodes.old }
-    requires stack { min (length positions.now) max_depth ≤ length stack.old }
-    requires bracket { byte_at bytes.now p.at ≡ 91 }
-    requires element { AtElement bytes.now positions.now max_depth stack.old nodes.old p }
+    requires nodes { length indexes.now ≤ length nodes.old }
+    requires stack { min (length indexes.now) max_depth ≤ length stack.old }
+    requires value { AtValue b indexes.now max_depth stack.old nodes.old p }
     ensures kept { (length nodes.new ≡ length nodes.old) × (length stack.new ≡ length stack.old) }
-    ensures within { IfOk result (IsWithin (length positions.now)) }
-    ensures advances { IfOk result (Advances p.read) }
-    ensures depth { IfOk result (λ e. element_depth e ≤ max_depth) }
-    ensures at { IfOk result (λ e. element_at e < length bytes.now) }
-    ensures step { IfOk result (Follows bytes.now positions.now max_depth stack.new nodes.new) }
-    ensures refused { IfErr result (Tells bytes.now positions.now max_depth) }
+    ensures progress { IfOk result (IsWithin b indexes.now unread.now) }
+    ensures advances { IfOk result (Advances max_depth p) }
+    ensures step { IfOk result (Opens b indexes.now max_depth stack.new nodes.new) }
+    ensures refused { IfErr result (Tells b indexes.now max_depth) }
 {
     if p.depth == max_depth {
-        return Err(Fault {
-            kind: FaultKind::DepthLimitExceeded,
-            index: p.at,
-            byte: b'[',
-        });
+        return Err(p.fault(FaultKind::DepthLimitExceeded));
     }
-    if p.read == positions.len() {
-        return Err(Fault {
-            kind: FaultKind::Syntax,
-            index: p.at,
-            byte: b'[',
-        });
+    if p.read == indexes.len() {
+        return Err(p.fault(FaultKind::Syntax));
     }
-    let at = positions[p.read] as usize;
-    if bytes[at] == b']' {
-        nodes[p.used] = Node::Array { len: 0, count: 0 };
-        return Ok(Element::Read(Progress {
-            read: p.read + 1,
-            at,
-            used: p.used + 1,
-            depth: p.depth,
-            len: p.len + 1,
-        }));
+    let at = indexes[p.read] as usize;
+    let byte = unread.byte(at);
+    let q = p.at_next(at, byte);
+    if byte == container.closer() {
+        nodes[p.used] = container.header(0, 0);
+        return Ok(Value::Read(q.with_value()));
     }
     stack[p.depth] = StackState {
         header: p.used,
+        outer: p.container,
         len: p.len,
     };
-    Ok(Element::Opened(Progress {
-        read: p.read + 1,
-        at,
+    Ok(Value::Opened(Progress {
         used: p.used + 1,
         depth: p.depth + 1,
+        container,
         len: 0,
+        ..q
     }))
 }
 
-// The element whose first token is at p.at.
+// The scalar at the last token, which is no text.
 #[inline(always)]
-fn read_element<'de>(
-    bytes: &[u8],
-    positions: &[u32],
+fn put_scalar<'de>(
+    unread: &mut Unread<'de>,
+    nodes: &mut [Node<'de>],
+    p: Progress,
+) -> std::result::Result<(), Fault>
+    ghost b: { List ℕ }
+    requires unread { IsUnread b unread.old p.at }
+    requires at { (p.at < length b) × (p.byte ≡ byte_at b p.at) }
+    requires other { (p.byte ≢ 34) × (p.byte ≢ 91) × (p.byte ≢ 123) }
+    requires room { p.used < length nodes.old }
+    ensures kept { length nodes.new ≡ length nodes.old }
+    ensures put { OnOk result (IsScalarPut b p.at p.used nodes.old nodes.new unread.new) }
+    ensures refused { IfErr result (IsNoScalar b p.at) }
+{
+    match read_scalar(unread.from(p.at), p.byte) {
+        Scalar::Value(node) => nodes[p.used] = Node::Static(node),
+        Scalar::Decimal(len) => nodes[p.used] = Node::Decimal(unread.share(p.at, len)),
+        refused => return Err(refuse(unread.from(p.at), p.at, p.byte, refused)),
+    }
+    Ok(())
+}
+
+// The value whose first token is the last one.
+#[inline(always)]
+fn read_value<'de>(
+    unread: &mut Unread<'de>,
+    escapes: &mut Escapes,
+    indexes: &[u32],
     stack: &mut [StackState],
     nodes: &mut [Node<'de>],
     p: Progress,
     max_depth: usize,
-) -> std::result::Result<Element, Fault>
-    requires below { All (λ i. i < length bytes.now) positions.now }
-    requires at { p.at < length bytes.now }
-    requires progress { IsBefore (length positions.now) p }
+) -> std::result::Result<Value, Fault>
+    ghost b: { List ℕ }
+    requires input { (indexes.now ≡ positions b) × (input_fault b ≡ None) }
+    requires progress { IsBefore b indexes.now unread.old p }
+    requires escapes { AreAhead b escapes.old p.at }
     requires depth { p.depth ≤ max_depth }
-    requires nodes { length positions.now ≤ length nodes.old }
-    requires stack { min (length positions.now) max_depth ≤ length stack.old }
-    requires element { AtElement bytes.now positions.now max_depth stack.old nodes.old p }
+    requires nodes { length indexes.now ≤ length nodes.old }
+    requires stack { min (length indexes.now) max_depth ≤ length stack.old }
+    requires value { AtValue b indexes.now max_depth stack.old nodes.old p }
     ensures kept { (length nodes.new ≡ length nodes.old) × (length stack.new ≡ length stack.old) }
-    ensures within { IfOk result (IsWithin (length positions.now)) }
-    ensures advances { IfOk result (Advances p.read) }
-    ensures depth { IfOk result (λ e. element_depth e ≤ max_depth) }
-    ensures at { IfOk result (λ e. element_at e < length bytes.now) }
-    ensures step { IfOk result (Follows bytes.now positions.now max_depth stack.new nodes.new) }
-    ensures refused { IfErr result (Tells bytes.now positions.now max_depth) }
+    ensures escapes { AreAhead b escapes.new p.at }
+    ensures progress { IfOk result (IsWithin b indexes.now unread.new) }
+    ensures advances { IfOk result (Advances max_depth p) }
+    ensures step { IfOk result (Opens b indexes.now max_depth stack.new nodes.new) }
+    ensures refused { IfErr result (Tells b indexes.now max_depth) }
 {
-    let c = bytes[p.at];
-    if c == b'[' {
-        return open_array(bytes, positions, stack, nodes, p, max_depth);
+    if p.byte == b'{' {
+        return open(
+            unread,
+            indexes,
+            stack,
+            nodes,
+            p,
+            Container::Object,
+            max_depth,
+        );
     }
-    match read_scalar(&bytes[p.at..], c) {
-        Scalar::Value(node) => {
-            nodes[p.used] = Node::Static(node);
-            Ok(Element::Read(Progress {
-                read: p.read,
-                at: p.at,
-                used: p.used + 1,
-                depth: p.depth,
-                len: p.len + 1,
-            }))
-        }
-        refused => Err(refuse(bytes, p.at, c, refused)),
+    if p.byte == b'[' {
+        return open(
+            unread,
+            indexes,
+            stack,
+            nodes,
+            p,
+            Container::Array,
+            max_depth,
+        );
     }
+    if p.byte == b'"' {
+        put_text(unread, escapes, indexes, nodes, p)?;
+    } else {
+        put_scalar(unread, nodes, p)?;
+    }
+    Ok(Value::Read(p.with_value()))
 }
 
-// The innermost array is closed: its header is patched, and it is one more member of the one round it.
+// The name at the last token, and its colon, and on to the first token of the member's value. Where no name stands, the
+// fault is of this kind.
+#[inline(always)]
+fn read_name<'de>(
+    unread: &mut Unread<'de>,
+    escapes: &mut Escapes,
+    indexes: &[u32],
+    nodes: &mut [Node<'de>],
+    p: Progress,
+    kind: FaultKind,
+) -> std::result::Result<Progress, Fault>
+    ghost b: { List ℕ }
+    requires input { (indexes.now ≡ positions b) × (input_fault b ≡ None) }
+    requires progress { IsBefore b indexes.now unread.old p }
+    requires escapes { AreAhead b escapes.old p.at }
+    requires token { Contains (tokens b) (record { index = p.at; form = form_at b p.at }) }
+    requires nodes { length indexes.now ≤ length nodes.old }
+    ensures kept { length nodes.new ≡ length nodes.old }
+    ensures escapes { AreAhead b escapes.new p.at }
+    ensures progress { IfOk result (IsBefore b indexes.now unread.new) }
+    ensures advances { IfOk result (λ q. (p.read < q.read) × (p.at ≤ q.at) × (q.depth ≡ p.depth)) }
+    ensures value { (stack : List StackState) (limit : ℕ) → AtName b indexes.now limit (error_type kind) stack nodes.old p
+        → IfOk result (AtValue b indexes.now limit stack nodes.new) }
+    ensures refused { (stack : List StackState) (limit : ℕ) → AtName b indexes.now limit (error_type kind) stack nodes.old p
+        → IfErr result (Tells b indexes.now limit) }
+{
+    if p.byte != b'"' {
+        return Err(p.fault(kind));
+    }
+    put_text(unread, escapes, indexes, nodes, p)?;
+    if p.read == indexes.len() {
+        return Err(p.fault(FaultKind::Syntax));
+    }
+    let at = indexes[p.read] as usize;
+    let q = p.at_next(at, unread.byte(at));
+    if q.byte != b':' {
+        return Err(q.fault(FaultKind::ExpectedObjectColon));
+    }
+    if q.read == indexes.len() {
+        return Err(q.fault(FaultKind::Syntax));
+    }
+    let at = indexes[q.read] as usize;
+    let r = q.at_next(at, unread.byte(at));
+    Ok(Progress {
+        used: p.used + 1,
+        ..r
+    })
+}
+
+// The innermost container is closed at the last token: its header is patched, and it is one more member of the container
+// round it.
 #[inline(always)]
 fn close<'de>(stack: &[StackState], nodes: &mut [Node<'de>], p: Progress) -> Progress
     requires depth { (0 < p.depth) × (p.depth ≤ length stack.now) }
     requires header { (top stack.now p.depth).header < p.used }
     requires nodes { p.used ≤ length nodes.old }
     requires len { (top stack.now p.depth).len < p.used }
-    ensures progress { result ≡ record { read = p.read; at = p.at; used = p.used; depth = p.depth - 1; len = (top stack.now p.depth).len + 1 } }
+    ensures progress { result ≡ record p { depth = p.depth - 1; container = (top stack.now p.depth).outer; len = (top stack.now p.depth).len + 1 } }
     ensures nodes { nodes.new ≡ patch nodes.old (top stack.now p.depth) p }
 {
     let frame = stack[p.depth - 1];
-    nodes[frame.header] = Node::Array {
-        len: p.len,
-        count: p.used - frame.header - 1,
-    };
+    nodes[frame.header] = p.container.header(p.len, p.used - frame.header - 1);
     Progress {
-        read: p.read,
-        at: p.at,
-        used: p.used,
         depth: p.depth - 1,
+        container: frame.outer,
         len: frame.len + 1,
+        ..p
     }
 }
 
-// Behind a comma: the next element.
+// Behind a comma: the first token of the next member.
 #[inline(always)]
-fn next_element(
-    bytes: &[u8],
-    positions: &[u32],
-    p: Progress,
-    comma: usize,
+fn next_member<'de>(
+    unread: &Unread<'de>,
+    indexes: &[u32],
+    comma: Progress,
 ) -> std::result::Result<Follower, Fault>
-    requires below { All (λ i. i < length bytes.now) positions.now }
-    requires progress { IsBehind (length positions.now) p }
-    requires more { p.read < length positions.now }
+    requires bounds { comma.read < length indexes.now → (unread.now.at ≤ slice_index indexes.now comma.read)
+        × (slice_index indexes.now comma.read < unread.now.at + length unread.now.bytes) }
+    requires read { comma.read < 2 ^ 63 }
     ensures { MatchResult result
-        (λ f. (p.read + 1 < length positions.now)
-        × (f ≡ Follower.Next (record { read = p.read + 2; at = slice_index positions.now (p.read + 1); used = p.used; depth = p.depth; len = p.len })))
-        (λ fault. (p.read + 1 ≡ length positions.now) × (fault ≡ record { kind = FaultKind.Syntax; index = comma; byte = 44 })) }
+        (λ f. (comma.read < length indexes.now) × (f ≡ Follower.Next (record comma {
+          read = comma.read + 1;
+          at = slice_index indexes.now comma.read;
+          byte = byte_at unread.now.bytes (slice_index indexes.now comma.read - unread.now.at);
+        })))
+        (λ fault. (length indexes.now ≤ comma.read) × (fault ≡ record { kind = FaultKind.Syntax; index = comma.at; byte = comma.byte })) }
 {
-    if p.read + 1 == positions.len() {
-        return Err(Fault {
-            kind: FaultKind::Syntax,
-            index: comma,
-            byte: b',',
-        });
+    if comma.read >= indexes.len() {
+        return Err(comma.fault(FaultKind::Syntax));
     }
-    Ok(Follower::Next(Progress {
-        read: p.read + 2,
-        at: positions[p.read + 1] as usize,
-        used: p.used,
-        depth: p.depth,
-        len: p.len,
-    }))
+    let at = indexes[comma.read] as usize;
+    Ok(Follower::Next(comma.at_next(at, unread.byte(at))))
 }
 
-// Behind an element: closing brackets, and then a comma with the next element, or the end of the root.
+// Behind a value: closing brackets, and then a comma with the next member, or the end of the root.
 #[inline(always)]
 fn follow<'de>(
-    bytes: &[u8],
-    positions: &[u32],
+    unread: &Unread<'de>,
+    indexes: &[u32],
     stack: &[StackState],
     nodes: &mut [Node<'de>],
     p: Progress,
     max_depth: usize,
 ) -> std::result::Result<Follower, Fault>
-    requires below { All (λ i. i < length bytes.now) positions.now }
-    requires at { p.at < length bytes.now }
-    requires progress { IsBehind (length positions.now) p }
+    ghost b: { List ℕ }
+    requires input { indexes.now ≡ positions b }
+    requires progress { IsBehind b indexes.now unread.now p }
     requires depth { p.depth ≤ max_depth }
-    requires nodes { length positions.now ≤ length nodes.old }
-    requires stack { min (length positions.now) max_depth ≤ length stack.now }
-    requires behind { BehindElement bytes.now positions.now max_depth stack.now nodes.old p }
+    requires nodes { length indexes.now ≤ length nodes.old }
+    requires stack { min (length indexes.now) max_depth ≤ length stack.now }
+    requires behind { BehindValue b indexes.now max_depth stack.now nodes.old p }
     ensures kept { length nodes.new ≡ length nodes.old }
-    ensures ahead { IfOk result (IsAhead (length positions.now) max_depth (length bytes.now)) }
-    ensures passes { IfOk result (Passes p.read) }
-    ensures step { IfOk result (Ends bytes.now positions.now max_depth stack.now nodes.new) }
-    ensures refused { IfErr result (Tells bytes.now positions.now max_depth) }
+    ensures progress { IfOk result (IsAhead b indexes.now unread.now) }
+    ensures passes { IfOk result (Passes p) }
+    ensures step { IfOk result (Goes b indexes.now max_depth stack.now nodes.new) }
+    ensures refused { IfErr result (Tells b indexes.now max_depth) }
 {
     let mut p = p;
-    while p.read < positions.len() {
-        let at = positions[p.read] as usize;
-        let c = bytes[at];
-        if c == b',' {
-            return next_element(bytes, positions, p, at);
+    while p.depth > 0 {
+        if p.read == indexes.len() {
+            return Err(p.fault(FaultKind::Syntax));
         }
-        if c != b']' {
-            return Err(Fault {
-                kind: FaultKind::ExpectedArrayContent,
-                index: at,
-                byte: c,
-            });
+        let at = indexes[p.read] as usize;
+        let byte = unread.byte(at);
+        let q = p.at_next(at, byte);
+        if byte == b',' {
+            return next_member(unread, indexes, q);
         }
-        let is_root = p.depth == 1;
-        p = close(stack, nodes, p);
-        p.read += 1;
-        p.at = at;
-        if is_root {
-            return if p.read == positions.len() {
-                Ok(Follower::End(p.used))
-            } else {
-                Err(Fault {
-                    kind: FaultKind::InternalError,
-                    index: at,
-                    byte: c,
-                })
-            };
+        if byte != p.container.closer() {
+            return Err(q.fault(p.container.content_kind()));
         }
+        p = close(stack, nodes, q);
     }
-    Err(Fault {
-        kind: FaultKind::Syntax,
-        index: p.at,
-        byte: bytes[p.at],
-    })
+    end(indexes, nodes[0], p)
 }
 
-// The root array, from its first element on.
-fn build_array<'de>(
-    bytes: &[u8],
-    positions: &[u32],
+// Behind the root, whose first node is given: no token may stand there.
+fn end<'de>(indexes: &[u32], first: Node<'de>, p: Progress) -> std::result::Result<Follower, Fault>
+    ensures { MatchResult result
+        (λ f. (p.read ≡ length indexes.now) × (f ≡ Follower.End p.used))
+        (λ fault. (p.read ≢ length indexes.now) × (fault ≡ record { kind = end_kind first.entry; index = p.at; byte = p.byte })) }
+{
+    if p.read == indexes.len() {
+        return Ok(Follower::End(p.used));
+    }
+    match first {
+        Node::Array { .. } | Node::Object { .. } => Err(p.fault(FaultKind::InternalError)),
+        _ => Err(p.fault(FaultKind::TrailingData)),
+    }
+}
+
+// The tape of the tokens at the positions, from the first value on.
+fn build<'de>(
+    unread: &mut Unread<'de>,
+    escapes: &mut Escapes,
+    indexes: &[u32],
     stack: &mut [StackState],
     nodes: &mut [Node<'de>],
     first: Progress,
     max_depth: usize,
 ) -> std::result::Result<usize, Fault>
-    requires below { All (λ i. i < length bytes.now) positions.now }
-    requires at { first.at < length bytes.now }
-    requires progress { IsBefore (length positions.now) first }
+    ghost b: { List ℕ }
+    requires input { (indexes.now ≡ positions b) × (input_fault b ≡ None) }
+    requires progress { IsBefore b indexes.now unread.old first }
+    requires escapes { AreAhead b escapes.old first.at }
     requires depth { first.depth ≤ max_depth }
-    requires nodes { length positions.now ≤ length nodes.old }
-    requires stack { min (length positions.now) max_depth ≤ length stack.old }
-    requires element { AtElement bytes.now positions.now max_depth stack.old nodes.old first }
+    requires nodes { length indexes.now ≤ length nodes.old }
+    requires stack { min (length indexes.now) max_depth ≤ length stack.old }
+    requires value { AtValue b indexes.now max_depth stack.old nodes.old first }
     ensures kept { length nodes.new ≡ length nodes.old }
-    ensures used { IfOk result (λ used. used ≤ length positions.now) }
-    ensures built { IfOk result (IsBuilt bytes.now positions.now max_depth nodes.new) }
-    ensures refused { IfErr result (Tells bytes.now positions.now max_depth) }
+    ensures used { IfOk result (λ used. used ≤ length indexes.now) }
+    ensures built { IfOk result (IsBuilt b indexes.now max_depth nodes.new) }
+    ensures refused { IfErr result (Tells b indexes.now max_depth) }
 {
     let mut p = first;
-    'elements: loop {
-        match read_element(bytes, positions, stack, nodes, p, max_depth)? {
-            Element::Opened(q) => p = q,
-            Element::Read(q) => match follow(bytes, positions, stack, nodes, q, max_depth)? {
-                Follower::Next(q) => p = q,
+    'values: loop {
+        let (q, kind) = match read_value(unread, escapes, indexes, stack, nodes, p, max_depth)? {
+            Value::Opened(q) => (q, FaultKind::ExpectedObjectContent),
+            Value::Read(q) => match follow(unread, indexes, stack, nodes, q, max_depth)? {
+                Follower::Next(q) => (q, FaultKind::ExpectedObjectKey),
                 Follower::End(used) => return Ok(used),
             },
-        }
+        };
+        p = match q.container {
+            Container::Array => q,
+            Container::Object => read_name(unread, escapes, indexes, nodes, q, kind)?,
+        };
     }
 }
 
-// A root that is no array: one scalar, and no token behind it.
-fn build_scalar<'de>(
-    bytes: &[u8],
-    positions: &[u32],
-    nodes: &mut [Node<'de>],
-    at: usize,
-) -> std::result::Result<usize, Fault>
-    requires at { (at < length bytes.now) × (positions.now ≡ at ∷ drop 1 positions.now) }
-    requires scalar { slice_index bytes.now at ≢ 91 }
-    requires nodes { length positions.now ≤ length nodes.old }
-    ensures kept { length nodes.new ≡ length nodes.old }
-    ensures used { IfOk result (λ used. used ≤ length positions.now) }
-    ensures built { (limit : ℕ) → IfOk result (IsBuilt bytes.now positions.now limit nodes.new) }
-    ensures refused { (limit : ℕ) → IfErr result (Tells bytes.now positions.now limit) }
-{
-    let c = bytes[at];
-    match read_scalar(&bytes[at..], c) {
-        Scalar::Value(node) if positions.len() == 1 => {
-            nodes[0] = Node::Static(node);
-            Ok(1)
-        }
-        Scalar::Value(_) => Err(Fault {
-            kind: FaultKind::TrailingData,
-            index: at,
-            byte: c,
-        }),
-        refused => Err(refuse(bytes, at, c, refused)),
-    }
-}
-
-// The tape of the tokens at the positions.
-fn build<'de>(
-    bytes: &[u8],
-    positions: &[u32],
-    stack: &mut [StackState],
-    nodes: &mut [Node<'de>],
-    max_depth: usize,
-) -> std::result::Result<usize, Fault>
-    requires some { 0 < length positions.now }
-    requires below { All (λ i. i < length bytes.now) positions.now }
-    requires nodes { length positions.now ≤ length nodes.old }
-    requires stack { min (length positions.now) max_depth ≤ length stack.old }
-    ensures kept { length nodes.new ≡ length nodes.old }
-    ensures used { IfOk result (λ used. used ≤ length positions.now) }
-    ensures built { IfOk result (IsBuilt bytes.now positions.now max_depth nodes.new) }
-    ensures refused { IfErr result (Tells bytes.now positions.now max_depth) }
-{
-    let at = positions[0] as usize;
-    if bytes[at] != b'[' {
-        return build_scalar(bytes, positions, nodes, at);
-    }
-    if max_depth == 0 {
-        return Err(Fault {
-            kind: FaultKind::DepthLimitExceeded,
-            index: at,
-            byte: b'[',
-        });
-    }
-    if positions.len() == 1 {
-        return Err(Fault {
-            kind: FaultKind::Syntax,
-            index: at,
-            byte: b'[',
-        });
-    }
-    let first = positions[1] as usize;
-    if bytes[first] == b']' {
-        return build_empty(positions, nodes, first);
-    }
-    stack[0] = StackState { header: 0, len: 0 };
-    let p = Progress {
-        read: 2,
-        at: first,
-        used: 1,
-        depth: 1,
-        len: 0,
-    };
-    build_array(bytes, positions, stack, nodes, p, max_depth)
-}
-
-// An empty root array, which closes at `end`, and no token behind it.
-fn build_empty<'de>(
-    positions: &[u32],
-    nodes: &mut [Node<'de>],
-    end: usize,
-) -> std::result::Result<usize, Fault>
-    requires nodes { 0 < length nodes.old }
-    ensures kept { length nodes.new ≡ length nodes.old }
-    ensures empty { MatchResult result
-        (λ used. (used ≡ 1) × (length positions.now ≡ 2) × (nodes.new ≡ slice_set nodes.old 0 (Node.Array 0 0)))
-        (λ fault. (length positions.now ≢ 2) × (fault ≡ record { kind = FaultKind.InternalError; index = end; byte = 93 })) }
-{
-    if positions.len() != 2 {
-        return Err(Fault {
-            kind: FaultKind::InternalError,
-            index: end,
-            byte: b']',
-        });
-    }
-    nodes[0] = Node::Array { len: 0, count: 0 };
-    Ok(1)
-}
-
-/// Builds the tape of an input from its structural positions: writes its nodes to the front of `nodes`, and answers how
-/// many there are. `stack` holds what is kept of open containers.
+/// Builds the tape of an input from its structural positions and from the blocks of 64 bytes that hold a backslash: writes
+/// its nodes to the front of `nodes`, and answers how many there are. `stack` holds what is kept of open containers.
 ///
-/// The nodes are the listing of the document that the descent reads. Texts, objects and decimals are not read yet: an
-/// input with one is refused. An error carries the index and the first byte of the token that is refused; none is for
-/// want of memory, and none is of the whole input. It is the descent's own fault, and so a document of scalars and lists
-/// within the limit is never refused, unless at some byte of the input a text, an object or a decimal begins.
+/// The nodes are the listing of the document that the descent reads. An error is the descent's own fault, with the index
+/// and the character that belong to it; none is for want of memory, and none is of the whole input.
 pub fn build_tape<'de>(
     input: &'de mut [u8],
     structural_indexes: &[u32],
+    escape_blocks: &[u32],
     stack: &mut [StackState],
     nodes: &mut [Node<'de>],
     max_depth: usize,
 ) -> Result<usize>
     requires some { 0 < length structural_indexes.now }
     requires positions { structural_indexes.now ≡ positions input.old }
+    requires escapes { escape_blocks.now ≡ backslash_blocks input.old }
+    requires whole { input_fault input.old ≡ None }
     requires nodes { length structural_indexes.now ≤ length nodes.old }
     requires stack { min (length structural_indexes.now) max_depth ≤ length stack.old }
     ensures kept { length nodes.new ≡ length nodes.old }
     ensures used { IfOk result (λ used. used ≤ length structural_indexes.now) }
     ensures built { IfOk result (λ used. IsListed input.old max_depth (take used nodes.new)) }
-    ensures refused { IfErr result IsTokenFault }
-    ensures told { IfErr result (λ e. HasUnbuilt input.old ⊎ (descent input.old max_depth ≡ Err e)) }
+    ensures refused { IfErr result (λ e. IsTokenFault e × (descent input.old max_depth ≡ Err e)) }
 {
-    match build(input, structural_indexes, stack, nodes, max_depth) {
+    let mut unread = Unread::new(input);
+    let mut escapes = Escapes::new(escape_blocks);
+    let at = structural_indexes[0] as usize;
+    let first = Progress {
+        read: 1,
+        at,
+        byte: unread.byte(at),
+        used: 0,
+        depth: 0,
+        container: Container::Array,
+        len: 0,
+    };
+    match build(
+        &mut unread,
+        &mut escapes,
+        structural_indexes,
+        stack,
+        nodes,
+        first,
+        max_depth,
+    ) {
         Ok(used) => Ok(used),
         Err(fault) => Err(fault.into_error()),
     }

@@ -28,7 +28,7 @@ fn run_over(rt: &impl AllocGlobal, input: &[u8]) -> Ran {
 
 #[test]
 fn documents_are_printed(rt: HostRuntime) {
-    let rows: [(&[u8], &[u8]); 8] = [
+    let rows: [(&[u8], &[u8]); 14] = [
         (
             b"[1,[2,3],4]",
             b"Array 3 5\nU64 1\nArray 2 2\nU64 2\nU64 3\nU64 4\n",
@@ -43,6 +43,21 @@ fn documents_are_printed(rt: HostRuntime) {
             b"\t[ [ ] , null\r\n, [[1]] ] ",
             b"Array 3 5\nArray 0 0\nNull\nArray 1 2\nArray 1 1\nU64 1\n",
         ),
+        (
+            b"{\"a\":[true,1.5e3,\"x\\u0041\"]}",
+            b"Object 1 5\nString \"a\"\nArray 3 3\nBool true\nDecimal 1.5e3\nString \"xA\"\n",
+        ),
+        (
+            b"{\"a\\n\":[true,null,-1,1.5]}",
+            b"Object 1 6\nString \"a\\n\"\nArray 4 4\nBool true\nNull\nI64 -1\nDecimal 1.5\n",
+        ),
+        (b"{\"\":\"\"}", b"Object 1 2\nString \"\"\nString \"\"\n"),
+        (b"{}", b"Object 0 0\n"),
+        (b"[1e309,-0.0]", b"Array 2 2\nDecimal 1e309\nDecimal -0.0\n"),
+        (
+            b"{\"the_answer\": 42}",
+            b"Object 1 2\nString \"the_answer\"\nU64 42\n",
+        ),
     ];
     for (input, output) in rows {
         let ran = run_over(&rt, input);
@@ -54,7 +69,7 @@ fn documents_are_printed(rt: HostRuntime) {
 
 #[test]
 fn what_is_no_document_prints_nothing(rt: HostRuntime) -> Tested {
-    let rows: [(&[u8], &str); 12] = [
+    let rows: [(&[u8], &str); 19] = [
         (b"", "Eof at character 0"),
         (b" \t\r\n", "Eof at character 0"),
         (b"[1,]", "InternalError at character 3 (']')"),
@@ -67,6 +82,16 @@ fn what_is_no_document_prints_nothing(rt: HostRuntime) -> Tested {
         (b"time", "ExpectedTrue at character 0 ('t')"),
         (b"\"a", "Syntax at character 0"),
         (b"[\xff]", "InvalidUtf8 at character 0"),
+        (b"[01,\"", "Syntax at character 0"),
+        (
+            b"{\"a\":\"\\ud83d\",\"b\":01}",
+            "InvalidUnicodeCodepoint at character 6 ('u')",
+        ),
+        (b"\"\\\xc3\xa9\"", "InvalidEscape at character 1 ('\u{c3}')"),
+        (b"{\"a\":1,}", "ExpectedObjectKey at character 7 ('}')"),
+        (b"{\"a\" 1}", "ExpectedObjectColon at character 5 ('1')"),
+        (b"{1:2}", "ExpectedObjectContent at character 1 ('1')"),
+        (b"[\"a\",tru,\"\\q\"]", "ExpectedTrue at character 5 ('t')"),
     ];
     for (input, text) in rows {
         let ran = run_over(&rt, input);

@@ -1,5 +1,7 @@
 use super::*;
 use crate::stage1::{PlainStage1Parse, Stage1Parse};
+use simd_json_parts::error::{Error, ErrorType};
+use simd_json_parts::node::StaticNode;
 use std::alloc::Global;
 use std::test::Fail;
 
@@ -10,21 +12,18 @@ fn tape_of<'de>(alloc: Global, input: &'de mut [u8], max_depth: usize) -> Result
     }
     let mut positions = Vec::new(alloc);
     let mut blocks = Vec::new(alloc);
-    let found = PlainStage1Parse::find_structural_bits(
-        input,
-        &mut positions,
-        &mut blocks,
-    )?.positions;
-    if found == 0 {
-        return Err(Error::generic(ErrorType::Eof));
+    let found = PlainStage1Parse::find_structural_bits(input, &mut positions, &mut blocks)?;
+    if std::str::from_utf8(input).is_err() {
+        return Err(Error::generic(ErrorType::InvalidUtf8));
     }
     let mut stack = Vec::new(alloc);
-    stack.resize(found.min(max_depth), StackState::default())?;
+    stack.resize(found.positions.min(max_depth), StackState::default())?;
     let mut nodes = Vec::new(alloc);
-    nodes.resize(found, Node::Static(StaticNode::Null))?;
+    nodes.resize(found.positions, Node::Static(StaticNode::Null))?;
     let used = build_tape(
         input,
-        &positions[..found],
+        &positions[..found.positions],
+        &blocks[..found.escape_blocks],
         stack.as_mut_slice(),
         nodes.as_mut_slice(),
         max_depth,
@@ -35,6 +34,14 @@ fn tape_of<'de>(alloc: Global, input: &'de mut [u8], max_depth: usize) -> Result
 
 fn integer<'de>(n: u64) -> Node<'de> {
     Node::Static(StaticNode::U64(n))
+}
+
+fn text<'de>(text: &'de str) -> Node<'de> {
+    Node::String(text)
+}
+
+fn object<'de>(len: usize, count: usize) -> Node<'de> {
+    Node::Object { len, count }
 }
 
 fn array<'de>(len: usize, count: usize) -> Node<'de> {
@@ -86,6 +93,95 @@ fn builds_scalars_and_lists(rt: HostRuntime) -> std::result::Result<(), Fail> {
 }
 
 #[test]
+fn builds_texts_objects_and_decimals(rt: HostRuntime) -> std::result::Result<(), Fail> {
+    let rows: [(&str, &[Node<'_>]); 10] = [
+        ("{}", &[object(0, 0)]),
+        ("{\"\":\"\"}", &[object(1, 2), text(""), text("")]),
+        (
+            "{\"a\":[true,1.5e3,\"x\\u0041\"]}",
+            &[
+                object(1, 5),
+                text("a"),
+                array(3, 3),
+                Node::Static(StaticNode::Bool(true)),
+                Node::Decimal("1.5e3"),
+                text("xA"),
+            ],
+        ),
+        (
+            "[1e309,-0.0]",
+            &[array(2, 2), Node::Decimal("1e309"), Node::Decimal("-0.0")],
+        ),
+        (
+            "{\"the_answer\": 42}",
+            &[object(1, 2), text("the_answer"), integer(42)],
+        ),
+        (
+            " { \"a\" : { \"b\" : [ [ ] , { } ] } , \"a\" : 2 } ",
+            &[
+                object(2, 8),
+                text("a"),
+                object(1, 4),
+                text("b"),
+                array(2, 2),
+                array(0, 0),
+                object(0, 0),
+                text("a"),
+                integer(2),
+            ],
+        ),
+        ("\"\\ud83d\\ude00\" ", &[text("\u{1f600}")]),
+        (
+            "[\"\\u00e9\\\\\",\"\\n\",\"end\"]",
+            &[array(3, 3), text("\u{e9}\\"), text("\n"), text("end")],
+        ),
+        (
+            "{\"\\u0061\":\"b\",\"c\":\"\\\"d\\\"\"}",
+            &[object(2, 4), text("a"), text("b"), text("c"), text("\"d\"")],
+        ),
+        ("1.50", &[Node::Decimal("1.50")]),
+    ];
+    for (text, wanted) in rows {
+        let mut input = text.as_bytes().to_vec(rt.alloc())?;
+        let nodes = tape_of(rt.alloc(), input.as_mut_slice(), 1024)?;
+        assert!(rt; nodes.as_slice() == wanted, "{text}");
+    }
+    Ok(())
+}
+
+// A text with an escape and one without, before, round and behind the ends of blocks.
+#[test]
+fn builds_texts_across_blocks(rt: HostRuntime) -> std::result::Result<(), Fail> {
+    for len in 0..200usize {
+        let mut input = Vec::new(rt.alloc());
+        let mut first = Vec::new(rt.alloc());
+        let mut second = Vec::new(rt.alloc());
+        input.extend_from_slice(b"[\"")?;
+        for _ in 0..len {
+            input.push(b'a')?;
+            first.push(b'a')?;
+            second.push(b'b')?;
+        }
+        input.extend_from_slice(b"\\n\" , \"")?;
+        first.push(b'\n')?;
+        input.extend_from_slice(second.as_slice())?;
+        input.extend_from_slice(b"\"]")?;
+        let nodes = tape_of(rt.alloc(), input.as_mut_slice(), 1)?;
+        let texts = [first, second];
+        assert!(rt; nodes.len() == 3, "{len}");
+        for (i, wanted) in texts.iter().enumerate() {
+            match nodes.get(i.wrapping_add(1)) {
+                Some(Node::String(text)) => {
+                    assert!(rt; text.as_bytes() == wanted.as_slice(), "{len}");
+                }
+                _ => panic!(rt; "{len}"),
+            }
+        }
+    }
+    Ok(())
+}
+
+#[test]
 fn refuses_at_the_first_fault(rt: HostRuntime) -> std::result::Result<(), Fail> {
     let rows = [
         ("[[]]", 1, ErrorType::DepthLimitExceeded, 1, '['),
@@ -110,6 +206,38 @@ fn refuses_at_the_first_fault(rt: HostRuntime) -> std::result::Result<(), Fail> 
         ("[null, new]", 9, ErrorType::ExpectedNull, 7, 'n'),
         ("true]", 9, ErrorType::TrailingData, 0, 't'),
         ("truex", 9, ErrorType::ExpectedTrue, 0, 't'),
+        (
+            "{\"a\":\"\\ud83d\",\"b\":01}",
+            9,
+            ErrorType::InvalidUnicodeCodepoint,
+            6,
+            'u',
+        ),
+        ("[\"a\",tru,\"\\q\"]", 9, ErrorType::ExpectedTrue, 5, 't'),
+        ("\"\\\u{e9}\"", 9, ErrorType::InvalidEscape, 1, '\u{c3}'),
+        ("\u{e9}", 9, ErrorType::InternalError, 0, '\u{c3}'),
+        ("{", 9, ErrorType::Syntax, 0, '{'),
+        ("{1:2}", 9, ErrorType::ExpectedObjectContent, 1, '1'),
+        ("{\"a\" 1}", 9, ErrorType::ExpectedObjectColon, 5, '1'),
+        ("{\"a\":}", 9, ErrorType::InternalError, 5, '}'),
+        ("{\"a\":", 9, ErrorType::Syntax, 4, ':'),
+        ("{\"a\"", 9, ErrorType::Syntax, 1, '"'),
+        ("{\"a\":1]", 9, ErrorType::ExpectedObjectContent, 6, ']'),
+        (
+            "{\"a\":1 \"b\":2}",
+            9,
+            ErrorType::ExpectedObjectContent,
+            7,
+            '"',
+        ),
+        ("{\"a\":1,}", 9, ErrorType::ExpectedObjectKey, 7, '}'),
+        ("{\"a\":1,2}", 9, ErrorType::ExpectedObjectKey, 7, '2'),
+        ("{\"a\":1,", 9, ErrorType::Syntax, 6, ','),
+        ("{}{}", 9, ErrorType::InternalError, 1, '}'),
+        ("\"a\" \"b\"", 9, ErrorType::TrailingData, 0, '"'),
+        ("\"a\"x", 9, ErrorType::TrailingData, 0, '"'),
+        ("1\"a\"", 9, ErrorType::InvalidNumber, 1, '"'),
+        ("{\"a\":{", 1, ErrorType::DepthLimitExceeded, 5, '{'),
     ];
     for (text, max_depth, kind, index, character) in rows {
         let mut input = text.as_bytes().to_vec(rt.alloc())?;

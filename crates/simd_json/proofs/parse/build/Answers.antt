@@ -24,7 +24,7 @@ pub returns-in_err-tape-inside-clause-fault : goal.returns-in_err-tape-inside-cl
 returns-in_err-tape-inside-clause-fault g c =
     passed-on c.from_residual.result _ _ c.from_residual.ensures.1
     (subst (λ limit. IsRefused c.args.s.now limit c.in_err-tape-inside.field-0.0) (ap (λ r. r.limit) c.buffers.view_is)
-    (refused-token c.args.s.now c.buffers.inside.max_depth _ c.requires.positions.1 c.in_err-tape-inside.ensures.refused c.in_err-tape-inside.ensures.told))
+    (refused-token c.args.s.now c.buffers.inside.max_depth _ c.requires.positions.1 c.in_err-tape-inside.ensures.refused.1))
 
 pub invariant_of-tape-2 : goal.invariant_of-tape-2
 invariant_of-tape-2 g c =

@@ -1,5 +1,6 @@
 use Rattle.std.proofs.Common.{◌∙◌, ap, sym, Some, arith}
-use Rattle.simd_json.proofs.ParseLaws.{too_large, bad_encoding, not_ok}
+use Rattle.simd_json_parts.proofs.ScannedInputs.{too_large, bad_encoding}
+use Rattle.simd_json.proofs.ParseLaws.{not_ok}
 use Rattle.simd_json.proofs.parse.check_input.Goals as goal
 
 pub returns-then-s-clause-fault : goal.returns-then-s-clause-fault

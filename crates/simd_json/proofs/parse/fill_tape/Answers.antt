@@ -2,13 +2,14 @@ use Rattle.std.proofs.Common.{◌∙◌, ap, Some, arith, inl, inr, subst, lengt
 use Rattle.simd_json_parts.specs.Faults.{whole_fault}
 use Rattle.simd_json_parts.specs.InputFaults.{scan_fault}
 use Rattle.simd_json_parts.specs.declared.error.ErrorType.TheVariants.{OutOfMemory}
-use Rattle.simd_json.proofs.ParseLaws.{passed-on, fault-answered, scanned, few-positions, refused}
+use Rattle.simd_json.proofs.ParseLaws.{passed-on, fault-answered, few-positions, refused}
+use Rattle.simd_json_parts.proofs.ScannedInputs.{scanned}
 use Rattle.simd_json.proofs.parse.fill_tape.Goals as goal
 
 pub returns-in_err-check_input-clause-fault : goal.returns-in_err-check_input-clause-fault
 returns-in_err-check_input-clause-fault g c =
     passed-on c.from_residual.result _ _ c.from_residual.ensures.1
-    (inl (inl (fault-answered c.args.s.now c.args.buffers.now.limit _ c.in_err-check_input.ensures.fault)))
+    (inl (fault-answered c.args.s.now c.args.buffers.now.limit _ c.in_err-check_input.ensures.fault))
 
 pub returns-in_err-find_positions-clause-fault : goal.returns-in_err-find_positions-clause-fault
 returns-in_err-find_positions-clause-fault g c =

@@ -1,43 +1,30 @@
-use Rattle.std.proofs.Common.{◌<◌, ◌∙◌, ap, length, nat_eq, get_or, drop, arith}
-use Rattle.std.proofs.lemmas.Bool.{ne_eqb}
-use Rattle.simd_json_stages.proofs.BuildingSteps.{byte_at-inside, first-position, two-positions, one-position, root-emptied, root-array}
-use Rattle.simd_json_stages.proofs.Refusing.{tells-root_deep, tells-root_open_end, tells-empty}
+use Rattle.std.proofs.Common.{arith}
+use Rattle.simd_json_stages.specs.Building.{Tells}
+use Rattle.simd_json_stages.specs.Refusals.{error_type}
+use Rattle.simd_json_stages.proofs.Bounds.{passed-on, name-token}
+use Rattle.simd_json_stages.proofs.Following.{IsReady, ready-opened, ready-next, ready-name}
+use Rattle.simd_json_stages.proofs.stage2.build.Goals.{in-Opened, in-Read+in_ok-q-in-Read+in-Next}
 use Rattle.simd_json_stages.proofs.stage2.build.Goals as goal
 
-pub returns-then-max_depth-eq0-clause-refused : goal.returns-then-max_depth-eq0-clause-refused
-returns-then-max_depth-eq0-clause-refused c =
-    let ps = c.args.positions.now in
-    tells-root_deep c.args.bytes.now ps c.args.max_depth (get_or ps 0 0) (drop 1 ps) (first-position ps c.requires.some) c.if-max_depth-eq0.true
-    (byte_at-inside c.args.bytes.now _ (c.requires.below 0 0 c.requires.some) ∙ c.if-bytes-at-ne91.false)
+pub read_name-requires : goal.read_name-requires
+read_name-requires g c =
+    let ready : IsReady g.b c.args.indexes.now c.args.max_depth c.read_value.new.unread c.read_value.new.escapes c.read_value.new.stack c.match-branch-2.nodes c.values.p c.match-branch-2.kind = elim c.match-branch-2.branch [
+      | in-Opened w ↦ rw w.nodes-is (ready-opened g.b c.args.indexes.now c.args.max_depth c.read_value.new.unread c.read_value.new.escapes c.read_value.new.stack c.read_value.new.nodes c.values.p w.in-Opened.q c.in_ok-q.field-0 c.match-branch-2.kind w.in-Opened.is w.kind-is
+          c.in_ok-q.ensures.progress c.in_ok-q.ensures.escapes c.in_ok-q.ensures.advances c.in_ok-q.ensures.step)
+      | in-Read+in_ok-q-in-Read+in-Next w ↦ rw w.nodes-is (ready-next g.b c.args.indexes.now c.args.max_depth c.read_value.new.unread c.read_value.new.escapes c.read_value.new.stack w.follow.new.nodes c.values.p w.in-Read.q w.in-Next.q c.in_ok-q.field-0 w.in_ok-q-in-Read.field-0 c.match-branch-2.kind w.in-Read.is w.in-Next.is w.kind-is
+          w.in_ok-q-in-Read.ensures.progress c.in_ok-q.ensures.escapes c.in_ok-q.ensures.advances w.in_ok-q-in-Read.ensures.passes w.in_ok-q-in-Read.ensures.step)
+    ] in
+    let name = ready-name g.b c.args.indexes.now c.args.max_depth c.read_value.new.stack c.match-branch-2.nodes c.match-branch-2.kind.0 c.match-branch-2.kind.1 ready.member c.in-Object.is in
+    (c.requires.0, (ready.progress, (ready.escapes, (name-token g.b c.args.indexes.now c.requires.0.0 c.args.max_depth (error_type c.match-branch-2.kind.1) c.read_value.new.stack c.match-branch-2.nodes c.match-branch-2.kind.0 name, omega (arith, c.match-branch-2.auto.nodes, c.in_ok-q.ensures.kept.0, c.values.invariant.nodes, c.requires.1.1.1.1.0)))))
 
-pub returns-then-positions-eq1-clause-refused : goal.returns-then-positions-eq1-clause-refused
-returns-then-positions-eq1-clause-refused c =
-    let ps = c.args.positions.now in
-    tells-root_open_end c.args.bytes.now ps c.args.max_depth (get_or ps 0 0) (one-position ps (get_or ps 0 0) (first-position ps c.requires.some) c.if-positions-eq1.true) (omega arith)
-    (byte_at-inside c.args.bytes.now _ (c.requires.below 0 0 c.requires.some) ∙ c.if-bytes-at-ne91.false)
-
-pub returns-then-bytes-first-eq93-clause-built : goal.returns-then-bytes-first-eq93-clause-built
-returns-then-bytes-first-eq93-clause-built c =
-    let ps = c.args.positions.now in
-    let two : 1 < length ps = omega arith in
-    root-emptied _ c.args.bytes.now ps c.args.max_depth c.args.nodes.now c.build_empty.new.nodes c.build_empty.result two (omega arith) (omega arith)
-    (byte_at-inside c.args.bytes.now _ (c.requires.below 0 0 c.requires.some) ∙ c.if-bytes-at-ne91.false)
-    (byte_at-inside c.args.bytes.now _ (c.requires.below 1 0 two) ∙ c.if-bytes-first-eq93.true)
-    c.build_empty.ensures.empty
-
-pub returns-then-bytes-first-eq93-clause-refused : goal.returns-then-bytes-first-eq93-clause-refused
-returns-then-bytes-first-eq93-clause-refused c =
-    let ps = c.args.positions.now in
-    let two : 1 < length ps = omega arith in
-    tells-empty c.args.bytes.now ps c.args.max_depth _ (get_or ps 0 0) (get_or ps 1 0) (drop 2 ps) c.build_empty.result (two-positions ps two) (omega arith)
-    (byte_at-inside c.args.bytes.now _ (c.requires.below 0 0 c.requires.some) ∙ c.if-bytes-at-ne91.false)
-    (byte_at-inside c.args.bytes.now _ (c.requires.below 1 0 two) ∙ c.if-bytes-first-eq93.true)
-    c.build_empty.ensures.empty
-
-pub build_array-requires-clause-element : goal.build_array-requires-clause-element
-build_array-requires-clause-element c =
-    let ps = c.args.positions.now in
-    let two : 1 < length ps = omega arith in
-    root-array c.args.bytes.now ps c.args.max_depth c.args.stack.now c.args.nodes.now (get_or ps 0 0) (get_or ps 1 0) (drop 2 ps) (two-positions ps two) (omega arith) (omega arith) (omega arith)
-    (byte_at-inside c.args.bytes.now _ (c.requires.below 0 0 c.requires.some) ∙ c.if-bytes-at-ne91.false)
-    (ap (λ x. nat_eq x 93) (byte_at-inside c.args.bytes.now _ (c.requires.below 1 0 two)) ∙ ne_eqb _ 93 c.if-bytes-first-eq93.false)
+pub returns-in_err-p-in-Object-clause-refused : goal.returns-in_err-p-in-Object-clause-refused
+returns-in_err-p-in-Object-clause-refused g c =
+    let ready : IsReady g.b c.args.indexes.now c.args.max_depth c.read_value.new.unread c.read_value.new.escapes c.read_value.new.stack c.match-branch-2.nodes c.values.p c.match-branch-2.kind = elim c.match-branch-2.branch [
+      | in-Opened w ↦ rw w.nodes-is (ready-opened g.b c.args.indexes.now c.args.max_depth c.read_value.new.unread c.read_value.new.escapes c.read_value.new.stack c.read_value.new.nodes c.values.p w.in-Opened.q c.in_ok-q.field-0 c.match-branch-2.kind w.in-Opened.is w.kind-is
+          c.in_ok-q.ensures.progress c.in_ok-q.ensures.escapes c.in_ok-q.ensures.advances c.in_ok-q.ensures.step)
+      | in-Read+in_ok-q-in-Read+in-Next w ↦ rw w.nodes-is (ready-next g.b c.args.indexes.now c.args.max_depth c.read_value.new.unread c.read_value.new.escapes c.read_value.new.stack w.follow.new.nodes c.values.p w.in-Read.q w.in-Next.q c.in_ok-q.field-0 w.in_ok-q-in-Read.field-0 c.match-branch-2.kind w.in-Read.is w.in-Next.is w.kind-is
+          w.in_ok-q-in-Read.ensures.progress c.in_ok-q.ensures.escapes c.in_ok-q.ensures.advances w.in_ok-q-in-Read.ensures.passes w.in_ok-q-in-Read.ensures.step)
+    ] in
+    let name = ready-name g.b c.args.indexes.now c.args.max_depth c.read_value.new.stack c.match-branch-2.nodes c.match-branch-2.kind.0 c.match-branch-2.kind.1 ready.member c.in-Object.is in
+    passed-on c.from_residual-in_err-p-in-Object.result _ (Tells g.b c.args.indexes.now c.args.max_depth) c.from_residual-in_err-p-in-Object.ensures.1
+    (c.in_err-p-in-Object.ensures.refused c.read_value.new.stack c.args.max_depth name)

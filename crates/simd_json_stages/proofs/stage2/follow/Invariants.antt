@@ -1,16 +1,17 @@
-use Rattle.std.proofs.Common.{◌≡◌, ◌-◌, ◌<◌, ◌≤◌, length}
-use Rattle.simd_json_stages.specs.Building.{BehindElement, IsBehind}
+use Rattle.std.proofs.Common.{◌≡◌, ◌-◌, ◌≤◌, length}
+use Rattle.simd_json_stages.specs.Building.{BehindValue}
+use Rattle.simd_json_stages.specs.Progresses.{IsBehind}
 use Rattle.simd_json_stages.proofs.stage2.follow.Given as goal
 
 abbrev pub invariant-loop-p : goal.invariant-loop-p
-invariant-loop-p l = record {
-  at : l.p.at < length l.bytes;
-  progress : IsBehind (length l.positions) l.p;
-  depth : l.p.depth ≤ l.max_depth;
+invariant-loop-p g l = record {
+  progress : IsBehind g.b l.indexes l.unread l.p;
+  depth : l.p.depth ≤ l.fn.p.depth;
   passed : l.fn.p.read ≤ l.p.read;
+  later : l.fn.p.at ≤ l.p.at;
   nodes : length l.nodes ≡ length l.fn.nodes;
-  behind : BehindElement l.bytes l.positions l.max_depth l.stack l.nodes l.p;
+  behind : BehindValue g.b l.indexes l.max_depth l.stack l.nodes l.p;
 }
 
 abbrev pub decreases-loop-p : goal.decreases-loop-p
-decreases-loop-p l = length l.positions - l.p.read
+decreases-loop-p g l = length l.indexes - l.p.read

@@ -1,0 +1,138 @@
+-- What the machine counts stays within bounds from one token to the next.
+use Rattle.std.proofs.Common.{inl, inr, ◌≡◌, refl, sym, ◌∙◌, ap, subst, ℕ, ◌+◌, ◌-◌, ◌<◌, ◌≤◌, List, [], ◌∷◌, ◌++◌, length, get_or, drop, Contains, arith}
+use Rattle.std.specs.Prelude.{Some, Result, Ok, Err, IfErr, IsErrAnd}
+use Rattle.simd_json_parts.specs.Bytes.{byte_at}
+use Rattle.simd_json_parts.specs.Positions.{positions}
+use Rattle.simd_json_parts.specs.TokenEnds.{form_end, token_end}
+use Rattle.simd_json_parts.specs.Tokens.{Token, tokens, string}
+use Rattle.simd_json_parts.specs.TokensAlong.{tokens_along}
+use Rattle.simd_json_parts.specs.declared.error.ErrorType.{ErrorType}
+use Rattle.simd_json_parts.specs.declared.node.Node.{Node}
+use Rattle.simd_json_stages.specs.Building.{AtValue, AtName, Tells}
+use Rattle.simd_json_stages.specs.Left.{Left}
+use Rattle.simd_json_stages.specs.Progresses.{IsRead, IsBefore, IsBehind}
+use Rattle.simd_json_stages.specs.declared.stage2.Container.{Container}
+use Rattle.simd_json_stages.specs.Put.{IsTextPut, IsScalarPut}
+use Rattle.simd_json_stages.specs.declared.stage2.Progress.{Progress}
+use Rattle.simd_json_stages.specs.declared.stage2.StackState.{StackState}
+use Rattle.simd_json_stages.specs.declared.stage2.fault.Fault.{Fault}
+use Rattle.simd_json_stages.specs.declared.stage2.fault.FaultKind.{FaultKind}
+use Rattle.simd_json_stages.proofs.Places.{token, at-inside, position-inside, next-later, IsRead-next, IsRead-same, end-before_next, unread-length, unread-byte, token-read}
+use Rattle.simd_json_stages.proofs.TokenForms.{quotes}
+
+-- an error that is handed on
+pub passed-on : {A E : Type 0} (r : Result A E) (e : E) (P : E → Type 0) → IsErrAnd r (λ x. x ≡ e) → P e → IfErr r P
+passed-on (Ok x) e P is p = tt
+passed-on (Err x) e P is p = subst P (sym is) p
+
+-- a fault at the last token
+pub told-at : (b ps : List ℕ) (limit : ℕ) (kind : FaultKind) (p : Progress) (f : Fault) → f ≡ record { kind = kind; index = p.at; byte = p.byte } → p.byte ≡ byte_at b p.at
+    → Tells b ps limit (record { kind = kind; index = p.at; byte = byte_at b p.at }) → Tells b ps limit f
+told-at b ps limit kind p f is first told =
+    subst (Tells b ps limit) (sym is) (subst (λ x. Tells b ps limit (record { kind = kind; index = p.at; byte = x })) (sym first) told)
+
+module _ (b ps : List ℕ) (e : ps ≡ positions b) where
+  lift : (P : List ℕ → Type 0) → P (positions b) → P ps
+  lift P h = subst P (sym e) h
+
+  pub inside : (k : ℕ) → k < length ps → get_or ps k 0 < length b
+  inside = lift (λ ps. (k : ℕ) → k < length ps → get_or ps k 0 < length b) (position-inside b)
+
+  pub last-inside : (p : Progress) → IsRead b ps p → p.at < length b
+  last-inside = lift (λ ps. (p : Progress) → IsRead b ps p → p.at < length b) (at-inside b)
+
+  pub later : (p : Progress) → IsRead b ps p → p.read < length ps → p.at < get_or ps p.read 0
+  later = lift (λ ps. (p : Progress) → IsRead b ps p → p.read < length ps → p.at < get_or ps p.read 0) (next-later b)
+
+  pub read-next : (p q : Progress) → IsRead b ps p → p.read < length ps → q.read ≡ p.read + 1 → q.at ≡ get_or ps p.read 0 → q.byte ≡ byte_at b (get_or ps p.read 0) → IsRead b ps q
+  read-next = lift (λ ps. (p q : Progress) → IsRead b ps p → p.read < length ps → q.read ≡ p.read + 1 → q.at ≡ get_or ps p.read 0 → q.byte ≡ byte_at b (get_or ps p.read 0) → IsRead b ps q) (IsRead-next b)
+
+  pub read-same : (p q : Progress) → IsRead b ps p → q.read ≡ p.read → q.at ≡ p.at → q.byte ≡ p.byte → IsRead b ps q
+  read-same = lift (λ ps. (p q : Progress) → IsRead b ps p → q.read ≡ p.read → q.at ≡ p.at → q.byte ≡ p.byte → IsRead b ps q) (IsRead-same b)
+
+  -- an index that is unread may be looked at
+  pub looks : (u : Left) (i : ℕ) → u.bytes ≡ drop u.at b → u.at ≤ i → i < length b → (u.at ≤ i) × (i < u.at + length u.bytes)
+  looks u i same l h = (l, let whole : u.at + length u.bytes ≡ length b = unread-length b u i (record { same = same; before = l }) (omega arith) in omega arith)
+
+  -- and its byte is the input's
+  pub looked : (u : Left) (i x : ℕ) → u.bytes ≡ drop u.at b → u.at ≤ i → x ≡ byte_at u.bytes (i - u.at) → x ≡ byte_at b i
+  looked u i x same l is = is ∙ unread-byte b u i i (record { same = same; before = l }) (omega arith)
+
+  -- the progress at the next position, with the byte there
+  pub at-next : (u : Left) (p q : Progress) (x : ℕ) → u.bytes ≡ drop u.at b → u.at ≤ get_or ps p.read 0 → x ≡ byte_at u.bytes (get_or ps p.read 0 - u.at) → q ≡ record p { read = p.read + 1; at = get_or ps p.read 0; byte = x }
+      → q ≡ record p { read = p.read + 1; at = get_or ps p.read 0; byte = byte_at b (get_or ps p.read 0) }
+  at-next u p q x same l is next = next ∙ ap (λ x. record p { read = p.read + 1; at = get_or ps p.read 0; byte = x }) (looked u (get_or ps p.read 0) x same l is)
+
+  -- behind a first token that closes its container at once
+  pub behind-first : (u : Left) (p q : Progress) (x : ℕ) → IsBefore b ps u p → p.read < length ps → x ≡ byte_at u.bytes (get_or ps p.read 0 - u.at) → q ≡ record p { read = p.read + 1; at = get_or ps p.read 0; byte = x }
+      → IsBehind b ps u (record q { used = q.used + 1; len = q.len + 1 })
+  behind-first u p q x r more is next =
+      let l : p.at < get_or ps p.read 0 = later p r.read more in
+      let ahead : u.at ≤ get_or ps p.read 0 = omega (arith, r.unread.before) in
+      let q-is : q ≡ record p { read = p.read + 1; at = get_or ps p.read 0; byte = byte_at b (get_or ps p.read 0) } = at-next u p q x r.unread.same ahead is next in
+      subst (λ (q : Progress). IsBehind b ps u (record q { used = q.used + 1; len = q.len + 1 })) (sym q-is)
+      (let s : Progress = record p { read = p.read + 1; at = get_or ps p.read 0; byte = byte_at b (get_or ps p.read 0); used = p.used + 1; len = p.len + 1 } in
+      let read : IsRead b ps s = read-next p s r.read more refl refl refl in
+      record {
+        read = read;
+        used = omega (arith, r.used);
+        deep = omega (arith, r.deep);
+        len = omega (arith, r.len);
+        same = r.unread.same;
+        before = λ h. omega (arith, later s read h);
+      })
+
+  -- at the first token of a container that has members
+  pub before-first : (u : Left) (p q : Progress) (c : Container) (x : ℕ) → IsBefore b ps u p → p.read < length ps → x ≡ byte_at u.bytes (get_or ps p.read 0 - u.at) → q ≡ record p { read = p.read + 1; at = get_or ps p.read 0; byte = x }
+      → IsBefore b ps u (record { read = q.read; at = q.at; byte = q.byte; used = p.used + 1; depth = p.depth + 1; container = c; len = 0 })
+  before-first u p q c x r more is next =
+      let l : p.at < get_or ps p.read 0 = later p r.read more in
+      let ahead : u.at ≤ get_or ps p.read 0 = omega (arith, r.unread.before) in
+      let q-is : q ≡ record p { read = p.read + 1; at = get_or ps p.read 0; byte = byte_at b (get_or ps p.read 0) } = at-next u p q x r.unread.same ahead is next in
+      subst (λ (q : Progress). IsBefore b ps u (record { read = q.read; at = q.at; byte = q.byte; used = p.used + 1; depth = p.depth + 1; container = c; len = 0 })) (sym q-is)
+      (record {
+        read = read-next p (record { read = p.read + 1; at = get_or ps p.read 0; byte = byte_at b (get_or ps p.read 0); used = p.used + 1; depth = p.depth + 1; container = c; len = 0 }) r.read more refl refl refl;
+        used = omega (arith, r.used);
+        deep = omega (arith, r.deep);
+        len = omega arith;
+        unread = record { same = r.unread.same; before = ahead };
+      })
+
+  -- ---- tokens
+
+  -- a value's first token, and a name's, is read by the descent
+  token-along : (before : List Token) (i : ℕ) (rest : List ℕ) → tokens_along b ps ≡ before ++ tokens_along b (i ∷ rest) → Contains (tokens b) (token b i)
+  token-along before i rest along = token-read b before [] i rest (subst (λ ps. tokens_along b ps ≡ before ++ tokens_along b (i ∷ rest)) e along)
+
+  pub value-token : (limit : ℕ) (stack : List StackState) (nodes : List Node) (p : Progress) → AtValue b ps limit stack nodes p → Contains (tokens b) (token b p.at)
+  value-token limit stack nodes p at = token-along at.before p.at (drop p.read ps) at.along
+
+  pub name-token : (limit : ℕ) (kind : ErrorType) (stack : List StackState) (nodes : List Node) (p : Progress) → AtName b ps limit kind stack nodes p → Contains (tokens b) (token b p.at)
+  name-token limit kind stack nodes p at = token-along at.before p.at (drop p.read ps) at.along
+
+  -- it ends at the next position at the latest
+  pub ends-before : (p : Progress) (end : ℕ) → IsRead b ps p → Contains (tokens b) (token b p.at) → token_end (token b p.at) ≡ Some end → p.read < length ps → end ≤ get_or ps p.read 0
+  ends-before = lift (λ ps. (p : Progress) (end : ℕ) → IsRead b ps p → Contains (tokens b) (token b p.at) → token_end (token b p.at) ≡ Some end → p.read < length ps → end ≤ get_or ps p.read 0) (end-before_next b)
+
+  -- what is unread behind a text begins no later than the next position
+  pub text-ahead : (p : Progress) (nodes nodes' : List Node) (u : Left) → IsRead b ps p → Contains (tokens b) (token b p.at) → byte_at b p.at ≡ 34 → IsTextPut b p.at p.used nodes nodes' u → p.read < length ps → u.at ≤ get_or ps p.read 0
+  text-ahead p nodes nodes' u r t quote put more = ends-before p u.at r t (ap (form_end p.at) (quotes b p.at quote ∙ ap string put.read)) more
+
+  pub scalar-ahead : (p : Progress) (nodes nodes' : List Node) (u : Left) → IsRead b ps p → Contains (tokens b) (token b p.at) → IsScalarPut b p.at p.used nodes nodes' u → p.read < length ps → u.at ≤ get_or ps p.read 0
+  scalar-ahead p nodes nodes' u r t put more =
+      elim put.before [
+        | inl early ↦ omega (arith, early, later p r more)
+        | inr same ↦ omega (arith, same, ends-before p put.end r t (ap (form_end p.at) put.read) more)
+      ]
+
+  -- behind a value of one node
+  pub behind-value : (u u' : Left) (p : Progress) → IsBefore b ps u p → u'.bytes ≡ drop u'.at b → (p.read < length ps → u'.at ≤ get_or ps p.read 0) → IsBehind b ps u' (record p { used = p.used + 1; len = p.len + 1 })
+  behind-value u u' p r same ahead =
+      record {
+        read = read-same p (record p { used = p.used + 1; len = p.len + 1 }) r.read refl refl refl;
+        used = omega (arith, r.used);
+        deep = omega (arith, r.deep);
+        len = omega (arith, r.len);
+        same = same;
+        before = ahead;
+      }

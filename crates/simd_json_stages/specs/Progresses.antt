@@ -1,0 +1,56 @@
+-- How far the machine is: bounds on what it counts, and what is unread.
+use Rattle.std.specs.Prelude.{◌≡◌, ◌≤◌, ◌<◌, ℕ, ◌-◌, List, length, slice_index, drop}
+use Rattle.simd_json_parts.specs.Bytes.{byte_at}
+use Rattle.simd_json_stages.specs.Left.{Left}
+use Rattle.simd_json_stages.specs.declared.stage2.Follower.{Follower}
+use Rattle.simd_json_stages.specs.declared.stage2.Follower.TheVariants.{Next, End}
+use Rattle.simd_json_stages.specs.declared.stage2.Progress.{Progress}
+use Rattle.simd_json_stages.specs.declared.stage2.Value.{Value}
+use Rattle.simd_json_stages.specs.declared.stage2.Value.TheVariants.{Opened, Read}
+
+-- the last token is at the last position that was read, and this is its first byte
+pub record IsRead (b ps : List ℕ) (p : Progress) : Type 0 where
+  pub some : 0 < p.read
+  pub within : p.read ≤ length ps
+  pub last : p.at ≡ slice_index ps (p.read - 1)
+  pub first : p.byte ≡ byte_at b p.at
+
+-- what is unread of b begins no later than the token
+pub record IsUnread (b : List ℕ) (u : Left) (at : ℕ) : Type 0 where
+  pub same : u.bytes ≡ drop u.at b
+  pub before : u.at ≤ at
+
+-- Before a value or a name, whose first token is read: a node is left for it. Each open container and each member has a node.
+pub record IsBefore (b ps : List ℕ) (u : Left) (p : Progress) : Type 0 where
+  pub read : IsRead b ps p
+  pub used : p.used < p.read
+  pub deep : p.depth ≤ p.used
+  pub len : p.len ≤ p.used
+  pub unread : IsUnread b u p.at
+
+-- Behind a value: what is unread begins no later than the next position.
+pub record IsBehind (b ps : List ℕ) (u : Left) (p : Progress) : Type 0 where
+  pub read : IsRead b ps p
+  pub used : p.used ≤ p.read
+  pub deep : p.depth ≤ p.used
+  pub len : p.len ≤ p.used
+  pub same : u.bytes ≡ drop u.at b
+  pub before : p.read < length ps → u.at ≤ slice_index ps p.read
+
+abbrev pub IsWithin : List ℕ → List ℕ → Left → Value → Type 0
+IsWithin b ps u (Opened p) = IsBefore b ps u p
+IsWithin b ps u (Read p) = IsBehind b ps u p
+
+abbrev pub IsAhead : List ℕ → List ℕ → Left → Follower → Type 0
+IsAhead b ps u (Next p) = IsBefore b ps u p
+IsAhead b ps u (End used) = used ≤ length ps
+
+-- tokens are read, and at most one more container is open
+abbrev pub Advances : ℕ → Progress → Value → Type 0
+Advances limit p (Opened q) = (p.read < q.read) × (p.at ≤ q.at) × (q.depth ≤ limit)
+Advances limit p (Read q) = (p.read ≤ q.read) × (p.at ≤ q.at) × (q.depth ≤ limit)
+
+-- tokens are read, and no more containers are open
+abbrev pub Passes : Progress → Follower → Type 0
+Passes p (Next q) = (p.read < q.read) × (p.at ≤ q.at) × (q.depth ≤ p.depth)
+Passes p (End used) = Unit {0}
