@@ -10,7 +10,7 @@ use std::alloc::{AllocError, Allocator};
 
 type Result<T> = std::result::Result<T, AllocError>;
 
-// Appends the lines of the nodes. Fails where a growth was refused.
+// Appends the lines of the nodes. Fails where an allocation fails.
 pub(crate) fn append_lines<A: Allocator>(out: &mut Vec<u8, A>, nodes: &[Node<'_>]) -> Result<()>
     ensures { OnOk result (out.new.items ≡ out.old.items ++ lines (map item_of nodes.now)) }
 {

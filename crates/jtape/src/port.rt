@@ -27,7 +27,7 @@ impl<T> Port<T> {
         }
     }
 
-    /// Whether a read or a write through the port answered an error, or a write took no byte of a piece that has some.
+    /// Whether a read or a write through the port returned an error, or wrote nothing of a piece that is not empty.
     pub fn failed(&self) -> bool
         ensures { result ≡ self.now.failed }
     {

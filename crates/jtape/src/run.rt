@@ -52,7 +52,7 @@ impl From<AllocError> for RunFault {
 
 /// Reads all that the reader gives, and writes what the mode asks for of the document that it read.
 ///
-/// Nothing is written before all is read, nor where the input is refused or a growth is. Answers `Read` exactly where
+/// Nothing is written before all is read, nor where the input is refused or a growth is. Returns `Read` exactly where
 /// the reader's port has failed, and `Write` exactly where the writer's has. `Ok` and a refusal of the input come only
 /// where the reader's port has ended.
 pub fn run<R: Read, W: Write>(
@@ -105,7 +105,7 @@ fn read_all<R: Read, A: Allocator>(a: A, reader: &mut Port<R>) -> Result<Vec<u8,
     Ok(input)
 }
 
-// Reads at most one block more behind the input so far. Answers whether the reader may have more.
+// Reads at most one block more after the input so far. Returns whether the reader may have more.
 fn read_more<R: Read, A: Allocator>(
     reader: &mut Port<R>,
     block: &mut [u8],

@@ -9,7 +9,7 @@ pub enum Mode {
     Tape,
 }
 
-/// What the words behind the program's name ask for: `tape` alone, today. `None` where they are not understood.
+/// What the words after the program's name ask for: `tape` alone, today. `None` where they are not understood.
 pub fn settings(words: &[String]) -> Option<Mode>
     ensures { (result ≡ Some Tape) ↔ (map string_bytes words.now ≡ codes "tape" ∷ []) }
 {

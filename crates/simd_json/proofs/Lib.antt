@@ -1,1 +1,1 @@
-pub mod ParseLaws
+mod ParseLaws

@@ -1,15 +1,15 @@
 -- From what the steps of a parse find to what the definitions answer.
 use Rattle.std.proofs.Common.{◌≡◌, ◌∙◌, ap, sym, subst, ◌<◌, ◌≤◌, ℕ, List, [], length, Bool, true, false, not, Some, None, Option, Ok, Err, IsUtf8, refl, arith, cond, nat_lt, nat_eq, zero, suc, take, drop, ◌++◌, Result, map, min, ◌⊎◌, inl, inr, ◌*◌}
 use Rattle.std.specs.Str.{is_utf8}
-use Rattle.std.specs.Result.{is_err, IsErrAnd, MatchResult, IfErr}
+use Rattle.std.specs.Result.{is_err, MatchResult}
 use Rattle.std.proofs.lemmas.List.{length-map, length-take-le}
 use Rattle.std.proofs.Math.Seq.{take-append_seam}
 use Rattle.std.proofs.lemmas.Bool.{lt-ltb, true≢false, false≢true}
 use Rattle.std.proofs.lemmas.List.Sums.{length-filter, count_by-le-length}
 use Rattle.std.proofs.lemmas.List.FromFn.{length-range_with_len}
-use Rattle.simd_json_parts.proofs.AnswerSound.{answer-sound}
-use Rattle.simd_json_parts.proofs.SpellableLaws.{IsSpellable-derived}
-use Rattle.simd_json_parts.proofs.ScannedInputs.{by_size, fault-by_size, scanned}
+use Rattle.simd_json_parts.proofs.Sound.Answer.{answer-sound}
+use Rattle.simd_json_parts.proofs.Documents.Spelling.{IsSpellable-denoted}
+use Rattle.simd_json_parts.proofs.Positions.ScannedInputs.{by_size, fault-by_size, scanned}
 use Rattle.simd_json_parts.specs.Answer.{answer, fault_or}
 use Rattle.simd_json_parts.specs.Bytes.{indices}
 use Rattle.simd_json_parts.specs.Descent.{descent}
@@ -20,7 +20,7 @@ use Rattle.simd_json.specs.Parsed.{IsParsed, IsRefused, LacksMemory}
 use Rattle.simd_json_parts.specs.Listing.{IsTape}
 use Rattle.simd_json.specs.Rooms.{tokens_of, room_of}
 use Rattle.simd_json_parts.specs.Faults.{whole_fault}
-use Rattle.simd_json_parts.specs.InputFaults.{input_fault, scan_fault, has_bad_text}
+use Rattle.simd_json_parts.specs.InputFaults.{input_fault, scan_fault, has_bad_string}
 use Rattle.simd_json_parts.specs.Limits.{max_length}
 use Rattle.simd_json_parts.specs.Positions.{positions, is_position}
 use Rattle.simd_json_parts.specs.declared.error.Error.{Error}
@@ -40,11 +40,11 @@ some_fault false false false e f g h = refl
 pub some-positions : (b : List ℕ) → input_fault b ≡ None → 0 < length (positions b)
 some-positions b none = by_length (length (positions b)) refl where
   fault-at : ℕ → Option Error
-  fault-at n = by_size (nat_lt max_length (length b)) (is_utf8 b) (cond (has_bad_text b) (Some (whole_fault Syntax)) (cond (nat_eq n 0) (Some (whole_fault Eof)) None))
+  fault-at n = by_size (nat_lt max_length (length b)) (is_utf8 b) (cond (has_bad_string b) (Some (whole_fault Syntax)) (cond (nat_eq n 0) (Some (whole_fault Eof)) None))
 
   by_length : (n : ℕ) → length (positions b) ≡ n → 0 < n
   by_length zero is =
-      absurd (true≢false (ap is_none (sym none ∙ fault-by_size b ∙ ap fault-at is) ∙ some_fault (nat_lt max_length (length b)) (not (is_utf8 b)) (has_bad_text b) _ _ _ _))
+      absurd (true≢false (ap is_none (sym none ∙ fault-by_size b ∙ ap fault-at is) ∙ some_fault (nat_lt max_length (length b)) (not (is_utf8 b)) (has_bad_string b) _ _ _ _))
   by_length (suc n) is = omega arith
 
 -- ---- the answer
@@ -64,7 +64,7 @@ pub few-positions : (b : List ℕ) → length (positions b) ≤ length b
 unfolding positions
 few-positions b = omega (arith, length-filter (is_position b) (indices b), count_by-le-length (is_position b) (indices b), length-range_with_len 0 (length b))
 
--- what the first stage refuses, behind size and encoding
+-- what the first stage refuses, after size and encoding
 pub refused : (b : List ℕ) (limit tape-room room : ℕ) (e : Error) → length b ≤ max_length → IsUtf8 b
     → (scan_fault b ≡ Some e) ⊎ ((e ≡ whole_fault OutOfMemory) × (room < length b))
     → IsRefused b limit e ⊎ (LacksMemory b e × ((tape-room < length b) ⊎ (room < length b)))
@@ -81,10 +81,10 @@ pub parsed : (b : List ℕ) (limit : ℕ) (nodes : List Node) → input_fault b 
 parsed b limit nodes none listed =
     let answered : answer b limit ≡ Ok listed.document = none-answered b limit none ∙ listed.same in
     let right = answer-sound b limit listed.document answered in
-    record { document = listed.document; derived = right.0; within = right.1; answered = answered; listed = listed.listed }
+    record { document = listed.document; denoted = right.0; within = right.1; answered = answered; listed = listed.listed }
 
 pub tape-parsed : (b : List ℕ) (limit : ℕ) (items : List Item) → IsParsed b limit items → IsTape items
-tape-parsed b limit items p = inr (p.document, IsSpellable-derived b p.document p.derived, p.within.integers, p.listed)
+tape-parsed b limit items p = inr (p.document, IsSpellable-denoted b p.document p.denoted, p.within.integers, p.listed)
 
 -- ---- room
 
@@ -112,10 +112,6 @@ tape-filled xs ys used len whole same l is_tape =
     subst (λ zs. (used ≤ length zs) × IsTape (map item_of (take used zs))) (sym (written-over xs ys len whole same)) (l, is_tape)
 
 -- ---- what the exit of a `?` answers
-
-pub passed-on : {A : Type 0} (r : Result A Error) (e : Error) (P : Error → Type 0) → IsErrAnd r (λ x. x ≡ e) → P e → IfErr r P
-passed-on (Ok x) e P is p = tt
-passed-on (Err x) e P is p = subst P (sym is) p
 
 pub not_ok : {A B : Type 0} (r : Result A B) (P : A → Type 0) (Q : Type 0) → is_err r ≡ true → MatchResult r P (λ _. Q) → Q
 not_ok (Ok x) P Q is h = absurd (false≢true is)

@@ -3,7 +3,7 @@ use Rattle.std.specs.Prelude.{◌≡◌, ◌≤◌, ℕ, List, length, Ok, Err, 
 use Rattle.simd_json_parts.specs.Answer.{answer}
 use Rattle.simd_json_parts.specs.Document.{Document}
 use Rattle.simd_json_parts.specs.Faults.{whole_fault}
-use Rattle.simd_json_parts.specs.Grammar.{Derives}
+use Rattle.simd_json_parts.specs.Grammar.{Denotes}
 use Rattle.simd_json_parts.specs.Limits.{WithinLimits, max_length}
 use Rattle.simd_json_parts.specs.Listing.{listing}
 use Rattle.simd_json_parts.specs.Nodes.{Item}
@@ -13,7 +13,7 @@ use Rattle.simd_json_parts.specs.declared.error.ErrorType.TheVariants.{OutOfMemo
 -- b is a document within the limits, and these are its nodes
 pub record IsParsed (b : List ℕ) (limit : ℕ) (nodes : List Item) : Type 0 where
   pub document : Document
-  pub derived : Derives b document
+  pub denoted : Denotes b document
   pub within : WithinLimits b document limit
   pub answered : answer b limit ≡ Ok document
   pub listed : nodes ≡ listing document

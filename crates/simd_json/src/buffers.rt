@@ -67,7 +67,7 @@ impl<A: Allocator> Buffers<A> {
     }
 
     // Lists the structural positions of the input and its blocks that hold a backslash, and makes room for the containers
-    // that can open at the positions within the limit. Answers the first stage's fault, or `OutOfMemory` where a growth
+    // that can open at the positions within the limit. Returns the first stage's fault, or `OutOfMemory` where a growth
     // was refused.
     pub(crate) fn find_positions(&mut self, input: &[u8]) -> Result<()>
         requires { length input.now < 2 ^ 32 }

@@ -1,6 +1,6 @@
-//! JSON tapes: the nodes of a document in preorder, with texts borrowed from the input.
+//! JSON tapes: the nodes of a document in preorder, with strings borrowed from the input.
 //!
-//! [`to_tape`] reads bytes, or tells the first fault with its kind, its index and its character:
+//! [`to_tape`] reads bytes, or reports the first fault with its kind, its index and its character:
 //!
 //! ```
 //! fn first_len(rt: &impl AllocGlobal) -> simd_json::Result<usize> {

@@ -15,19 +15,19 @@ use std::alloc::{Allocator, Global};
 
 /// Reads the bytes of one document (RFC 8259) as a tape, with at most [`DEFAULT_MAX_DEPTH`] containers open at a time.
 ///
-/// Where the bytes are no such document, answers the first fault, in this order:
+/// Returns the first error if the bytes are no such document, in this order:
 ///
-/// - `InputTooLarge`: they are more than 4,294,967,295; `InvalidUtf8`: they are not UTF-8; `Syntax`: a text is left open
-///   or has a byte below 0x20 inside (section 7); `Eof`: there is nothing but whitespace. These are told at index 0,
+/// - `InputTooLarge`: they are more than 4,294,967,295; `InvalidUtf8`: they are not UTF-8; `Syntax`: a string is left open
+///   or has a byte below 0x20 inside (section 7); `Eof`: there is nothing but whitespace. These are reported at index 0,
 ///   without a character, and where one applies no token is looked at.
 /// - Of the tokens, read from the left, the first that is refused, with an index and the character there:
 ///   `InternalError`, `ExpectedArrayContent`, `ExpectedObjectContent`, `ExpectedObjectKey`, `ExpectedObjectColon` or
 ///   `TrailingData` where another token is expected (sections 2, 4 and 5), `Syntax` where none is left, `ExpectedTrue`,
 ///   `ExpectedFalse` or `ExpectedNull` (section 3), `InvalidNumber` (section 6), `InvalidEscape` at a backslash, with the
-///   byte behind it, and `InvalidUnicodeCodepoint` at a backslash, with the character `u` (section 7), and
+///   byte after it, and `InvalidUnicodeCodepoint` at a backslash, with the character `u` (section 7), and
 ///   `DepthLimitExceeded` at the bracket that opens one container too many (section 9).
 ///
-/// `OutOfMemory`, at index 0 without a character, comes where a growth was refused; no memory is taken before size and
+/// `OutOfMemory`, at index 0 without a character, comes where an allocation fails; no memory is taken before size and
 /// encoding are known to be right. After an error there is no tape, and what `s` holds is of no meaning.
 pub fn to_tape<'de>(a: Global, s: &'de mut [u8]) -> Result<Tape<'de>>
     ensures tape { IfOk result (λ tape. IsParsed s.old default_max_depth tape.nodes) }
@@ -88,7 +88,7 @@ fn build<'de, A: Allocator, B: Allocator>(
     Ok(())
 }
 
-// The faults that are told before any memory is taken: the size, and then the encoding.
+// The faults that are reported before any memory is taken: the size, and then the encoding.
 fn check_input(s: &[u8]) -> Result<()>
     ensures right { OnOk result ((length s.now ≤ max_length) × IsUtf8 s.now) }
     ensures fault { IfErr result (λ e. input_fault s.now ≡ Some e) }

@@ -28,7 +28,7 @@ fn documents_are_listed(rt: HostRuntime) -> Tested {
 }
 
 #[test]
-fn texts_objects_and_decimals_are_listed(rt: HostRuntime) -> Tested {
+fn strings_objects_and_decimals_are_listed(rt: HostRuntime) -> Tested {
     let rows: [(&[u8], &[Node<'_>]); 6] = [
         (
             b"{\"a\":[true,1.5e3,\"x\\u0041\"]}",

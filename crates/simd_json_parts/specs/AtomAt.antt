@@ -1,4 +1,4 @@
--- `true`, `false` or `null` at an index: the document and the index behind it, or a fault (RFC 8259, section 3).
+-- `true`, `false` or `null` at an index: the document and the index after it, or a fault (RFC 8259, section 3). Faults rest on it.
 use Rattle.std.specs.Prelude.{ℕ, ◌+◌, List, length, drop, true, false, ◌&&◌, ◌==◌, nat_eq, Result, Ok, Err, codes, if◌then◌else◌}
 use Rattle.std.specs.List.{starts_with}
 use Rattle.simd_json_parts.specs.Bytes.{is_terminator, byte_at}

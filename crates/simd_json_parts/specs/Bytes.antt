@@ -1,4 +1,4 @@
--- The bytes that JSON gives a meaning (RFC 8259, section 2).
+-- The bytes that JSON gives a meaning (RFC 8259, section 2). Acceptance rests on it.
 use Rattle.std.specs.Prelude.{ℕ, List, length, get_or, Bool, ◌||◌, ◌==◌, nat_lt}
 use Rattle.std.specs.List.{range_with_len}
 
@@ -37,7 +37,7 @@ is_whitespace c = (c == 32) || (c == 9) || (c == 10) || (c == 13)
 abbrev pub is_structural : ℕ → Bool
 is_structural c = (c == 91) || (c == 93) || (c == 123) || (c == 125) || (c == 58) || (c == 44)
 
--- what may stand behind a number, `true`, `false` or `null`
+-- what may stand after a number, `true`, `false` or `null`
 abbrev pub is_terminator : ℕ → Bool
 is_terminator c = is_structural c || is_whitespace c
 

@@ -1,4 +1,4 @@
--- Patterns as tests that compute, by Brzozowski's derivatives. That they agree with the sets is a law.
+-- Patterns as tests that compute, by Brzozowski's derivatives. That they agree with the sets is a law. Faults rest on it.
 use Rattle.std.specs.Prelude.{ℕ, suc, List, [], ◌∷◌, Bool, true, false, cond, ◌&&◌, ◌||◌, nat_le}
 use Rattle.simd_json_parts.specs.Patterns.{Pattern, never, empty, range, ◌then◌, ◌or◌, many}
 
@@ -32,20 +32,20 @@ either p never = p
 either p q = p or q
 
 -- what may follow the byte c
-abbrev pub after : ℕ → Pattern → Pattern
-after c never = never
-after c empty = never
-after c (range low high) = cond (nat_le low c && nat_le c high) empty never
-after c (p then q) = either (follow (after c p) q) (cond (takes_empty p) (after c q) never)
-after c (p or q) = either (after c p) (after c q)
-after c (many p) = follow (after c p) (many p)
+abbrev pub derivative : ℕ → Pattern → Pattern
+derivative c never = never
+derivative c empty = never
+derivative c (range low high) = cond (nat_le low c && nat_le c high) empty never
+derivative c (p then q) = either (follow (derivative c p) q) (cond (takes_empty p) (derivative c q) never)
+derivative c (p or q) = either (derivative c p) (derivative c q)
+derivative c (many p) = follow (derivative c p) (many p)
 
 -- the list is in the set
 abbrev pub matches : Pattern → List ℕ → Bool
 matches p [] = takes_empty p
-matches p (c ∷ bs) = matches (after c p) bs
+matches p (c ∷ bs) = matches (derivative c p) bs
 
--- the length of the longest front that goes on to a list of the set
-abbrev pub longest_front : Pattern → List ℕ → ℕ
-longest_front p [] = 0
-longest_front p (c ∷ bs) = cond (is_possible (after c p)) (suc (longest_front (after c p) bs)) 0
+-- the length of the longest prefix that goes on to a list of the set
+abbrev pub longest_prefix : Pattern → List ℕ → ℕ
+longest_prefix p [] = 0
+longest_prefix p (c ∷ bs) = cond (is_possible (derivative c p)) (suc (longest_prefix (derivative c p) bs)) 0

@@ -1,5 +1,5 @@
--- What a JSON text says (RFC 8259, sections 3 to 7): a tree.
--- A text is the UTF-8 of its characters. A decimal keeps its literal. An integer has a mark, whether `-` was written, and a magnitude.
+-- What a JSON text says (RFC 8259, sections 3 to 7): a tree. Acceptance rests on it.
+-- A string is the UTF-8 of its characters. A decimal keeps its literal. An integer has a mark, whether `-` was written, and a magnitude.
 use Rattle.std.specs.Prelude.{ℕ, Bool, List, [], ◌∷◌}
 
 mutual
@@ -8,7 +8,7 @@ mutual
     boolean : Bool → Document
     integer : Bool → ℕ → Document
     decimal : List ℕ → Document
-    text : List ℕ → Document
+    string : List ℕ → Document
     array : Elements → Document
     object : Members → Document
 

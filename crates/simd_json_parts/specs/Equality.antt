@@ -1,7 +1,7 @@
--- When two documents are the same value: the same shape and order, integers by their numbers, decimals and texts by their bytes.
+-- When two documents are the same value: the same shape and order, integers by their numbers, decimals and strings by their bytes. Neither acceptance nor faults rest on it.
 use Rattle.std.specs.Prelude.{ℕ, Bool, true, false, not, ◌&&◌, ◌||◌, ◌==◌, bytes_eq}
 use Rattle.std.specs.Bool.{beq}
-use Rattle.simd_json_parts.specs.Document.{Document, null, boolean, integer, decimal, text, array, object, Elements, no_elements, element, Members, no_members, member}
+use Rattle.simd_json_parts.specs.Document.{Document, null, boolean, integer, decimal, string, array, object, Elements, no_elements, element, Members, no_members, member}
 
 -- 0 has no sign
 abbrev pub same_number : Bool → ℕ → Bool → ℕ → Bool
@@ -13,7 +13,7 @@ abbrev mutual
   equal (boolean a) (boolean b) = beq a b
   equal (integer minus m) (integer minus' n) = same_number minus m minus' n
   equal (decimal a) (decimal b) = bytes_eq a b
-  equal (text a) (text b) = bytes_eq a b
+  equal (string a) (string b) = bytes_eq a b
   equal (array ds) (array es) = equal_elements ds es
   equal (object ms) (object ns) = equal_members ms ns
   equal _ _ = false
@@ -28,21 +28,21 @@ abbrev mutual
   equal_members (member k d ms) (member l e ns) = bytes_eq k l && equal d e && equal_members ms ns
   equal_members _ _ = false
 
--- the document with no mark on a zero: equal documents are those that are then the same
+-- the document with no sign on a zero: equal documents are those that are then the same
 abbrev mutual
-  pub unmarked : Document → Document
-  unmarked null = null
-  unmarked (boolean b) = boolean b
-  unmarked (integer minus n) = integer (minus && not (n == 0)) n
-  unmarked (decimal literal) = decimal literal
-  unmarked (text t) = text t
-  unmarked (array ds) = array (unmarked_elements ds)
-  unmarked (object ms) = object (unmarked_members ms)
+  pub normalized : Document → Document
+  normalized null = null
+  normalized (boolean b) = boolean b
+  normalized (integer minus n) = integer (minus && not (n == 0)) n
+  normalized (decimal literal) = decimal literal
+  normalized (string t) = string t
+  normalized (array ds) = array (normalized_elements ds)
+  normalized (object ms) = object (normalized_members ms)
 
-  pub unmarked_elements : Elements → Elements
-  unmarked_elements no_elements = no_elements
-  unmarked_elements (element d ds) = element (unmarked d) (unmarked_elements ds)
+  pub normalized_elements : Elements → Elements
+  normalized_elements no_elements = no_elements
+  normalized_elements (element d ds) = element (normalized d) (normalized_elements ds)
 
-  pub unmarked_members : Members → Members
-  unmarked_members no_members = no_members
-  unmarked_members (member k d ms) = member k (unmarked d) (unmarked_members ms)
+  pub normalized_members : Members → Members
+  normalized_members no_members = no_members
+  normalized_members (member k d ms) = member k (normalized d) (normalized_members ms)

@@ -1,4 +1,4 @@
--- Faults as values of `Error`.
+-- Faults as values of `Error`. Faults rest on it.
 use Rattle.std.specs.Prelude.{ℕ, List, Option, Some, None}
 use Rattle.simd_json_parts.specs.Bytes.{byte_at}
 use Rattle.simd_json_parts.specs.declared.error.Error.{Error}

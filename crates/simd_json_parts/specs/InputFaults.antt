@@ -1,4 +1,4 @@
--- The faults of a whole input, before any token is read (RFC 8259, sections 7 to 9; RFC 3629).
+-- The faults of a whole input, before any token is read (RFC 8259, sections 7 to 9; RFC 3629). Faults rest on it.
 use Rattle.std.specs.Prelude.{ℕ, ◌+◌, List, length, Bool, not, ◌||◌, ◌==◌, nat_lt, Option, Some, None, if◌then◌else◌}
 use Rattle.std.specs.Str.{is_utf8}
 use Rattle.simd_json_parts.specs.Limits.{max_length}
@@ -7,19 +7,19 @@ use Rattle.simd_json_parts.specs.Faults.{whole_fault}
 use Rattle.simd_json_parts.specs.declared.error.Error.{Error}
 use Rattle.simd_json_parts.specs.declared.error.ErrorType.TheVariants.{InsufficientPadding, InputTooLarge, InvalidUtf8, Syntax, Eof}
 
--- some text is left open, or holds a byte below 0x20
-abbrev pub has_bad_text : List ℕ → Bool
-has_bad_text b = not (is_even (real_quotes b (length b))) || has_control_inside b
+-- some string is left open, or holds a byte below 0x20
+abbrev pub has_bad_string : List ℕ → Bool
+has_bad_string b = not (is_even (real_quotes b (length b))) || has_control_inside b
 
--- what a scan of the whole input finds: a bad text, or else no position
+-- what a scan of the whole input finds: a bad string, or else no position
 abbrev pub scan_fault : List ℕ → Option Error
-scan_fault b = if has_bad_text b then Some (whole_fault Syntax) else if length (positions b) == 0 then Some (whole_fault Eof) else None
+scan_fault b = if has_bad_string b then Some (whole_fault Syntax) else if length (positions b) == 0 then Some (whole_fault Eof) else None
 
 -- the first that applies, in this order
 unfoldable pub input_fault : List ℕ → Option Error
 input_fault b = if nat_lt max_length (length b) then Some (whole_fault InputTooLarge) else if not (is_utf8 b) then Some (whole_fault InvalidUtf8) else scan_fault b
 
--- how many bytes the padded form asks for behind its document
+-- how many bytes the padded form asks for after its document
 abbrev pub input_padding : ℕ
 input_padding = 64
 

@@ -1,9 +1,9 @@
--- Which integers a tape holds, and as which node: a change of the range is a change of this file. The mark says whether `-` was written.
+-- Which integers a tape holds, and as which node: a change of the range is a change of this file. The sign says whether `-` was written. Acceptance rests on it.
 use Rattle.std.specs.Prelude.{ℕ, ◌-◌, ◌^◌, Bool, true, false, ℤ, pos, neg_ℤ}
 use Rattle.simd_json_parts.specs.declared.node.StaticNode.{StaticNode}
 use Rattle.simd_json_parts.specs.declared.node.StaticNode.TheVariants.{I64, U64}
 
--- the number with this mark and this magnitude
+-- the number with this sign and this magnitude
 abbrev pub number_of : Bool → ℕ → ℤ
 number_of true n = neg_ℤ (pos n)
 number_of false n = pos n

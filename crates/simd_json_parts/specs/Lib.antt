@@ -1,33 +1,38 @@
+-- What acceptance rests on: which bytes are a document, the limits, and the tape of a document. To be read in this order.
 pub mod Bytes
 pub mod Document
 pub mod Patterns
-pub mod Derivatives
 pub mod Numbers
 pub mod Integers
-pub mod Text
+pub mod Strings
 pub mod Grammar
 pub mod Limits
 pub mod Nodes
-pub mod StaticNodes
 pub mod Listing
-pub mod Headers
+-- What faults rest on: which error an input has that is not accepted, and where. To be read in this order.
+pub mod Derivatives
 pub mod Positions
 pub mod Faults
 pub mod InputFaults
 pub mod AtomAt
 pub mod NumberAt
-pub mod NumberRead
-pub mod TextAt
-pub mod TextContent
-pub mod TextDecoded
-pub mod TextRead
+pub mod StringAt
 pub mod Tokens
-pub mod TokenEnds
-pub mod TokensAlong
 pub mod Descent
 pub mod Answer
+-- What is said besides of errors, and of the values and the printed text of a document.
+pub mod ErrorKinds
+pub mod StaticNodes
 pub mod Views
 pub mod Equality
 pub mod MapEquality
 pub mod Printed
-pub mod ErrorKinds
+-- What serves proofs: where tokens end, the headers of a listing, and what the readers of one scalar answer. The contracts of laws and of those readers cite it.
+pub mod TokenEnds
+pub mod TokensAlong
+pub mod Headers
+pub mod NumberRead
+pub mod StringRead
+-- What serves proofs alone: only the crate's private clauses cite it.
+pub mod StringContent
+pub mod StringDecoded

@@ -1,6 +1,6 @@
--- How deep a document nests, and what a parser accepts of the grammar (RFC 8259, section 9).
+-- How deep a document nests, and what a parser accepts of the grammar (RFC 8259, section 9). Acceptance rests on it.
 use Rattle.std.specs.Prelude.{ℕ, suc, ◌≤◌, max, List, length, ⊤, IsUtf8}
-use Rattle.simd_json_parts.specs.Document.{Document, null, boolean, integer, decimal, text, array, object, Elements, no_elements, element, Members, no_members, member}
+use Rattle.simd_json_parts.specs.Document.{Document, null, boolean, integer, decimal, string, array, object, Elements, no_elements, element, Members, no_members, member}
 use Rattle.simd_json_parts.specs.Integers.{max_magnitude}
 use Rattle.simd_json_parts.specs.Numbers.{decimal_literal}
 use Rattle.simd_json_parts.specs.Patterns.{Matches}
@@ -11,7 +11,7 @@ abbrev mutual
   depth (boolean b) = 0
   depth (integer minus n) = 0
   depth (decimal literal) = 0
-  depth (text t) = 0
+  depth (string t) = 0
   depth (array ds) = suc (elements_depth ds)
   depth (object ms) = suc (members_depth ms)
 
@@ -24,14 +24,14 @@ abbrev mutual
   members_depth no_members = 0
   members_depth (member k d ms) = max (depth d) (members_depth ms)
 
--- each integer is in the range of its mark
+-- each integer is in the range of its sign
 abbrev mutual
   pub IntegersFit : Document → Type 0
   IntegersFit null = ⊤
   IntegersFit (boolean b) = ⊤
   IntegersFit (integer minus n) = n ≤ max_magnitude minus
   IntegersFit (decimal literal) = ⊤
-  IntegersFit (text t) = ⊤
+  IntegersFit (string t) = ⊤
   IntegersFit (array ds) = ElementsFit ds
   IntegersFit (object ms) = MembersFit ms
 
@@ -43,14 +43,14 @@ abbrev mutual
   MembersFit no_members = ⊤
   MembersFit (member k d ms) = IntegersFit d × MembersFit ms
 
--- Each decimal is a literal, and each text and name is UTF-8. So it is for what bytes derive, and only such a document can be printed and read again.
+-- Each decimal is a literal, and each string and name is UTF-8. So it is for what bytes denote, and only such a document can be printed and read again.
 abbrev mutual
   pub IsSpellable : Document → Type 0
   IsSpellable null = ⊤
   IsSpellable (boolean b) = ⊤
   IsSpellable (integer minus n) = ⊤
   IsSpellable (decimal literal) = Matches decimal_literal literal
-  IsSpellable (text t) = IsUtf8 t
+  IsSpellable (string t) = IsUtf8 t
   IsSpellable (array ds) = ElementsSpellable ds
   IsSpellable (object ms) = MembersSpellable ms
 

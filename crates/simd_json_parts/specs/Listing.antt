@@ -1,6 +1,6 @@
--- The tape of a document: its nodes in preorder.
+-- The tape of a document: its nodes in preorder. Acceptance rests on it.
 use Rattle.std.specs.Prelude.{◌≡◌, ◌⊎◌, ℕ, List, [], ◌∷◌, ◌++◌, length, map}
-use Rattle.simd_json_parts.specs.Document.{Document, null, boolean, integer, decimal, text, array, object, Elements, no_elements, element, elements, Members, no_members, member, members}
+use Rattle.simd_json_parts.specs.Document.{Document, null, boolean, integer, decimal, string, array, object, Elements, no_elements, element, elements, Members, no_members, member, members}
 use Rattle.simd_json_parts.specs.Integers.{integer_node}
 use Rattle.simd_json_parts.specs.Limits.{IsSpellable, IntegersFit}
 use Rattle.simd_json_parts.specs.Nodes.{Item, static_item, decimal_item, string_item, array_item, object_item, item_of}
@@ -13,7 +13,7 @@ abbrev mutual
   listing (boolean b) = static_item (fixed.Bool b) ∷ []
   listing (integer minus n) = static_item (integer_node minus n) ∷ []
   listing (decimal literal) = decimal_item literal ∷ []
-  listing (text t) = string_item t ∷ []
+  listing (string t) = string_item t ∷ []
   listing (array ds) = array_item (length (elements ds)) (length (elements_listing ds)) ∷ elements_listing ds
   listing (object ms) = object_item (length (members ms)) (length (members_listing ms)) ∷ members_listing ms
 

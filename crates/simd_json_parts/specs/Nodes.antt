@@ -1,4 +1,4 @@
--- The nodes of a tape, as contracts see them.
+-- The nodes of a tape, as contracts see them. Acceptance rests on it.
 use Rattle.std.specs.Prelude.{ℕ, List}
 use Rattle.simd_json_parts.specs.declared.node.StaticNode.{StaticNode}
 use Rattle.simd_json_parts.specs.declared.node.StaticNode.TheVariants as fixed
@@ -7,7 +7,7 @@ use Rattle.simd_json_parts.specs.declared.node.Node.TheVariants as nodes
 use Rattle.simd_json_parts.specs.declared.node.ValueType.{ValueType}
 use Rattle.simd_json_parts.specs.declared.node.ValueType.TheVariants as kinds
 
--- a node without where its text lies in memory
+-- a node without where its string lies in memory
 pub data Item : Type 0 where
   static_item : StaticNode → Item
   decimal_item : List ℕ → Item

@@ -1,8 +1,8 @@
--- A number at an index: the document and the index behind it, or a fault (RFC 8259, section 6).
+-- A number at an index: the document and the index after it, or a fault (RFC 8259, section 6). Faults rest on it.
 use Rattle.std.specs.Prelude.{ℕ, ◌+◌, List, take, drop, false, ◌&&◌, nat_lt, Option, Some, None, Result, Ok, Err, find, if◌then◌else◌}
 use Rattle.simd_json_parts.specs.Bytes.{is_terminator, byte_at, indices}
 use Rattle.simd_json_parts.specs.Document.{Document, integer, decimal}
-use Rattle.simd_json_parts.specs.Derivatives.{matches, longest_front}
+use Rattle.simd_json_parts.specs.Derivatives.{matches, longest_prefix}
 use Rattle.simd_json_parts.specs.Numbers.{number_literal, integer_literal, has_minus, magnitude}
 use Rattle.simd_json_parts.specs.Integers.{max_magnitude}
 use Rattle.simd_json_parts.specs.Faults.{fault_at}
@@ -19,7 +19,7 @@ integer_or b i literal end (Some k) = Err (fault_at b InvalidNumber (i + k))
 integer_or b i literal end None =
     if nat_lt (max_magnitude (has_minus literal)) (magnitude literal) then Err (fault_at b InvalidNumber end) else Ok (integer (has_minus literal) (magnitude literal), end)
 
--- the literal is the longest front that begins a number, and the byte at end stands behind it
+-- the literal is the longest prefix that begins a number, and the byte at end stands after it
 abbrev pub number_between : List ℕ → ℕ → List ℕ → ℕ → Result (Document × ℕ) Error
 number_between b i literal end =
     if matches number_literal literal && is_terminator (byte_at b end)
@@ -27,4 +27,4 @@ number_between b i literal end =
     else Err (fault_at b InvalidNumber end)
 
 unfoldable pub number_at : List ℕ → ℕ → Result (Document × ℕ) Error
-number_at b i = let n = longest_front number_literal (drop i b) in number_between b i (take n (drop i b)) (i + n)
+number_at b i = let n = longest_prefix number_literal (drop i b) in number_between b i (take n (drop i b)) (i + n)

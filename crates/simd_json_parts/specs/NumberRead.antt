@@ -1,4 +1,4 @@
--- What a reader of numbers answers of the number at an index.
+-- What a reader of numbers answers of the number at an index. It serves proofs: contracts of laws and readers cite it.
 use Rattle.std.specs.Prelude.{◌≡◌, ℕ, ◌+◌, List, take, drop, Bool, Ok, Err}
 use Rattle.simd_json_parts.specs.Document.{integer, decimal}
 use Rattle.simd_json_parts.specs.Integers.{integer_node}
@@ -8,7 +8,7 @@ use Rattle.simd_json_parts.specs.declared.error.ErrorType.TheVariants.{InvalidNu
 use Rattle.simd_json_parts.specs.declared.numberparse.Number.{Number}
 use Rattle.simd_json_parts.specs.declared.numberparse.Number.TheVariants.{Integer, Decimal, Invalid}
 
--- the node of an integer, the length of a decimal, or how far behind the index the fault is told
+-- the node of an integer, the length of a decimal, or how far after the index the fault is reported
 abbrev pub IsNumberAt : List ℕ → ℕ → Number → Type 0
 IsNumberAt b i (Integer node) = (minus : Bool) × (n : ℕ) × (end : ℕ) × (number_at b i ≡ Ok (integer minus n, end)) × (node ≡ integer_node minus n)
 IsNumberAt b i (Decimal len) = number_at b i ≡ Ok (decimal (take len (drop i b)), i + len)

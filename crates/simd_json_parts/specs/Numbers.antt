@@ -1,4 +1,4 @@
--- Number literals (RFC 8259, section 6), in the words of its grammar, and what an integer's literal means.
+-- Number literals (RFC 8259, section 6), in the words of its grammar, and what an integer's literal means. Acceptance rests on it.
 use Rattle.std.specs.Prelude.{ℕ, List, drop, map, Bool, cond, ◌==◌, get_or}
 use Rattle.std.specs.Char.{digit_value}
 use Rattle.std.specs.Int.Digits.{number_from_digits}
@@ -51,6 +51,6 @@ decimal_literal = optional minus then int then (frac then optional exp or exp)
 abbrev pub has_minus : List ℕ → Bool
 has_minus bs = get_or bs 0 32 == 45
 
--- the value of the digits behind the sign
+-- the value of the digits after the sign
 abbrev pub magnitude : List ℕ → ℕ
 magnitude bs = number_from_digits 10 (map digit_value (drop (cond (has_minus bs) 1 0) bs))

@@ -1,4 +1,4 @@
--- Real quotes, what is inside, and the structural positions. No blocks and no masks: each is asked of one index.
+-- Real quotes, what is inside, and the structural positions. No blocks and no masks: each is asked of one index. Faults rest on it.
 use Rattle.std.specs.Prelude.{ℕ, zero, suc, ◌%◌, List, filter, Bool, true, not, ◌&&◌, ◌||◌, ◌==◌, if◌then◌else◌}
 use Rattle.std.specs.List.{list_any}
 use Rattle.simd_json_parts.specs.Bytes.{quote, backslash, is_whitespace, is_structural, is_control, byte_at, indices}
@@ -11,7 +11,7 @@ unfoldable pub backslashes_before : List ℕ → ℕ → ℕ
 backslashes_before b zero = 0
 backslashes_before b (suc i) = if byte_at b i == backslash then suc (backslashes_before b i) else 0
 
--- a quote, behind a run of backslashes of even length
+-- a quote, after a run of backslashes of even length
 unfoldable pub is_real_quote : List ℕ → ℕ → Bool
 is_real_quote b i = (byte_at b i == quote) && is_even (backslashes_before b i)
 

@@ -1,12 +1,12 @@
--- The two printed forms of a document: compact, and pretty with a line for each member. Both are JSON texts (RFC 8259, section 2).
+-- The two printed forms of a document: compact, and pretty with a line for each member. Both are JSON texts (RFC 8259, section 2). Neither acceptance nor faults rest on it.
 use Rattle.std.specs.Prelude.{ℕ, suc, ◌*◌, ◌/◌, ◌%◌, List, [], ◌∷◌, ◌++◌, replicate, flat_map, Bool, true, false, ◌==◌, nat_lt, if◌then◌else◌, codes}
 use Rattle.std.specs.Fmt.{signed_decimal}
 use Rattle.std.specs.Char.{digit_char}
-use Rattle.simd_json_parts.specs.Document.{Document, null, boolean, integer, decimal, text, array, object, Elements, no_elements, element, Members, no_members, member}
+use Rattle.simd_json_parts.specs.Document.{Document, null, boolean, integer, decimal, string, array, object, Elements, no_elements, element, Members, no_members, member}
 use Rattle.simd_json_parts.specs.Bytes.{quote, comma, colon, left_bracket, right_bracket, left_brace, right_brace}
 use Rattle.simd_json_parts.specs.Integers.{number_of}
 
--- a byte of a text as it is printed: a quote, a backslash and what is below 0x20 are escaped
+-- a byte of a string as it is printed: a quote, a backslash and what is below 0x20 are escaped
 abbrev pub escaped_byte : ℕ → List ℕ
 escaped_byte x =
     if x == 34 then codes "\\\""
@@ -32,7 +32,7 @@ abbrev mutual
   compact (boolean b) = truth_text b
   compact (integer minus n) = signed_decimal (number_of minus n)
   compact (decimal literal) = literal
-  compact (text t) = quoted t
+  compact (string t) = quoted t
   compact (array ds) = left_bracket ∷ (compact_elements ds ++ right_bracket ∷ [])
   compact (object ms) = left_brace ∷ (compact_members ms ++ right_brace ∷ [])
 
@@ -40,7 +40,7 @@ abbrev mutual
   compact_elements no_elements = []
   compact_elements (element d ds) = compact d ++ more_compact_elements ds
 
-  -- each behind a comma
+  -- each after a comma
   pub more_compact_elements : Elements → List ℕ
   more_compact_elements no_elements = []
   more_compact_elements (element d ds) = comma ∷ (compact d ++ more_compact_elements ds)
@@ -64,7 +64,7 @@ abbrev mutual
   pretty_in (boolean b) n = truth_text b
   pretty_in (integer minus m) n = signed_decimal (number_of minus m)
   pretty_in (decimal literal) n = literal
-  pretty_in (text t) n = quoted t
+  pretty_in (string t) n = quoted t
   pretty_in (array ds) n = pretty_array ds n
   pretty_in (object ms) n = pretty_object ms n
 

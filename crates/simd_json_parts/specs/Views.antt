@@ -1,6 +1,6 @@
--- What a view of a document answers.
+-- What a view of a document answers. Neither acceptance nor faults rest on it.
 use Rattle.std.specs.Prelude.{ℕ, ◌-◌, ◌^◌, ℤ, pos, neg_ℤ, int_le, int_lt, List, map, slice_get, Bool, false, cond, ◌&&◌, Option, Some, None, is_some, option_and_then, Result, Ok, Err, ok_or, bytes_eq}
-use Rattle.simd_json_parts.specs.Document.{Document, null, boolean, integer, decimal, text, array, object, elements, Members, no_members, member, members}
+use Rattle.simd_json_parts.specs.Document.{Document, null, boolean, integer, decimal, string, array, object, elements, Members, no_members, member, members}
 use Rattle.simd_json_parts.specs.Integers.{number_of, integer_node}
 use Rattle.simd_json_parts.specs.Nodes.{static_type}
 use Rattle.simd_json_parts.specs.declared.node.ValueType.{ValueType}
@@ -12,7 +12,7 @@ value_type null = kinds.Null
 value_type (boolean b) = kinds.Bool
 value_type (integer minus n) = static_type (integer_node minus n)
 value_type (decimal literal) = kinds.Decimal
-value_type (text t) = kinds.String
+value_type (string t) = kinds.String
 value_type (array ds) = kinds.Array
 value_type (object ms) = kinds.Object
 
@@ -35,7 +35,7 @@ as_decimal (decimal literal) = Some literal
 as_decimal _ = None
 
 abbrev pub as_str : Document → Option (List ℕ)
-as_str (text t) = Some t
+as_str (string t) = Some t
 as_str _ = None
 
 abbrev pub as_array : Document → Option (List Document)

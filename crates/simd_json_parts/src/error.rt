@@ -22,9 +22,9 @@ pub enum ErrorType {
     Unexpected(Option<ValueType>, Option<ValueType>),
     /// The input has more than 4,294,967,295 bytes.
     InputTooLarge,
-    /// The padded form was given fewer than 64 bytes behind the document.
+    /// The padded form was given fewer than 64 bytes after the document.
     InsufficientPadding,
-    /// A growth of memory was refused.
+    /// An allocation failed.
     OutOfMemory,
     /// The key of a map is of a type that cannot be one.
     BadKeyType,
@@ -42,7 +42,7 @@ pub enum ErrorType {
     ExpectedInteger,
     /// A map was expected.
     ExpectedMap,
-    /// A `:` was expected behind a key.
+    /// A `:` was expected after a key.
     ExpectedObjectColon,
     /// A `,` was expected in a map.
     ExpectedMapComma,
@@ -58,25 +58,25 @@ pub enum ErrorType {
     ExpectedNumber,
     /// A signed number was expected.
     ExpectedSigned,
-    /// A text was expected.
+    /// A string was expected.
     ExpectedString,
     /// An unsigned number was expected.
     ExpectedUnsigned,
-    /// A value was expected, or something stands behind the root container.
+    /// A value was expected, or there is input after the root container.
     InternalError,
-    /// A backslash in a text is followed by no letter of an escape (RFC 8259, section 7).
+    /// A backslash in a string is followed by no letter of an escape (RFC 8259, section 7).
     InvalidEscape,
-    /// The exponent of a number is none.
+    /// The exponent of a number is malformed.
     InvalidExponent,
-    /// A number is none, or an integer is out of range (RFC 8259, section 6).
+    /// Malformed number, or integer out of range (RFC 8259, section 6).
     InvalidNumber,
     /// The input is not UTF-8 (RFC 3629).
     InvalidUtf8,
-    /// A `\u` escape is none.
+    /// Malformed `\u` escape.
     InvalidUnicodeEscape,
-    /// A `\u` escape names no character, alone or with the one behind it (RFC 8259, section 7).
+    /// A `\u` escape names no character, alone or with the one after it (RFC 8259, section 7).
     InvalidUnicodeCodepoint,
-    /// The key of an object is no text.
+    /// The key of an object is no string.
     KeyMustBeAString,
     /// No structural character was found.
     NoStructure,
@@ -86,19 +86,19 @@ pub enum ErrorType {
     Eof,
     /// A message of a serializer or a deserializer.
     Serde(String),
-    /// A text is left open or holds a byte below 0x20, or the input ends where a token is expected.
+    /// A string is left open or holds a byte below 0x20, or the input ends where a token is expected.
     Syntax,
-    /// Something stands behind the root scalar.
+    /// There is input after the root scalar.
     TrailingData,
     /// A character was not expected.
     UnexpectedCharacter,
-    /// A text is left open.
+    /// A string is left open.
     UnterminatedString,
-    /// A `,` or a `]` was expected behind an element.
+    /// A `,` or a `]` was expected after an element.
     ExpectedArrayContent,
-    /// A key or a `}` was expected at the start of an object, or a `,` or a `}` behind a member.
+    /// A key or a `}` was expected at the start of an object, or a `,` or a `}` after a member.
     ExpectedObjectContent,
-    /// A key was expected behind a `,` in an object.
+    /// A key was expected after a `,` in an object.
     ExpectedObjectKey,
     /// A buffer of limited size is full.
     Overflow,
@@ -138,14 +138,14 @@ impl Error {
         Error::new(0, None, error)
     }
 
-    /// The index in bytes that the error is told at.
+    /// Byte offset of the error.
     pub fn index(&self) -> usize
         ensures { result ≡ self.now.index }
     {
         self.index
     }
 
-    /// The byte that the error is told for, as the code point of its value; none where the error is of the whole input.
+    /// The byte at that offset, as a code point; none where the error is of the whole input.
     pub fn character(&self) -> Option<char>
         ensures { result ≡ self.now.character }
     {

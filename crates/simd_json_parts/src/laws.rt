@@ -5,14 +5,14 @@ ghost use Rattle.std.specs.Cmp.{IsEquivalence};
 ghost use Rattle.std.specs.List.Sorted.{IsStrictlyIncreasing};
 ghost use Rattle.simd_json_parts.specs.Answer.{answer};
 ghost use Rattle.simd_json_parts.specs.Bytes.{quote, is_terminator, is_whitespace, byte_at};
-ghost use Rattle.simd_json_parts.specs.Derivatives.{matches, is_possible, longest_front};
+ghost use Rattle.simd_json_parts.specs.Derivatives.{matches, is_possible, longest_prefix};
 ghost use Rattle.simd_json_parts.specs.Descent.{descent};
 ghost use Rattle.simd_json_parts.specs.Document.{Document, integer, decimal};
-ghost use Rattle.simd_json_parts.specs.Equality.{equal, unmarked};
+ghost use Rattle.simd_json_parts.specs.Equality.{equal, normalized};
 ghost use Rattle.simd_json_parts.specs.ErrorKinds.{is_unexpected_token};
-ghost use Rattle.simd_json_parts.specs.Grammar.{Derives, IsBeginning};
+ghost use Rattle.simd_json_parts.specs.Grammar.{Denotes, IsBeginning};
 ghost use Rattle.simd_json_parts.specs.Headers.{IsHeaded};
-ghost use Rattle.simd_json_parts.specs.InputFaults.{input_fault, has_bad_text};
+ghost use Rattle.simd_json_parts.specs.InputFaults.{input_fault, has_bad_string};
 ghost use Rattle.simd_json_parts.specs.Integers.{max_magnitude};
 ghost use Rattle.simd_json_parts.specs.Limits.{IsSpellable, WithinLimits};
 ghost use Rattle.simd_json_parts.specs.Listing.{listing};
@@ -21,9 +21,9 @@ ghost use Rattle.simd_json_parts.specs.NumberAt.{number_at};
 ghost use Rattle.simd_json_parts.specs.Numbers.{number_literal, integer_literal, decimal_literal, has_minus, magnitude};
 ghost use Rattle.simd_json_parts.specs.Patterns.{Pattern, Matches, Begins};
 ghost use Rattle.simd_json_parts.specs.Positions.{positions, is_position, is_inside};
-ghost use Rattle.simd_json_parts.specs.Text.{ArePieces};
-ghost use Rattle.simd_json_parts.specs.TextAt.{text_at, closing_quote};
-ghost use Rattle.simd_json_parts.specs.TextRead.{further};
+ghost use Rattle.simd_json_parts.specs.Strings.{ArePieces};
+ghost use Rattle.simd_json_parts.specs.StringAt.{string_at, closing_quote};
+ghost use Rattle.simd_json_parts.specs.StringRead.{further};
 ghost use Rattle.simd_json_parts.specs.TokenEnds.{token_end};
 ghost use Rattle.simd_json_parts.specs.Tokens.{Token, tokens};
 ghost use Rattle.simd_json_parts.specs.TokensAlong.{tokens_along};
@@ -34,10 +34,10 @@ pub fn patterns_are_sets()
     ensures { (p : Pattern) (bs : List ℕ) → (matches p bs ≡ true) ↔ Matches p bs }
 {}
 
-/// The longest front is one that goes on to a list of the set, and no longer front does.
-pub fn longest_fronts()
-    ensures begins { (p : Pattern) (bs : List ℕ) → is_possible p ≡ true → Begins p (take (longest_front p bs) bs) }
-    ensures longest { (p : Pattern) (bs : List ℕ) (n : ℕ) → n ≤ length bs → Begins p (take n bs) → n ≤ longest_front p bs }
+/// The longest prefix is one that goes on to a list of the set, and no longer prefix does.
+pub fn longest_prefixes()
+    ensures begins { (p : Pattern) (bs : List ℕ) → is_possible p ≡ true → Begins p (take (longest_prefix p bs) bs) }
+    ensures longest { (p : Pattern) (bs : List ℕ) (n : ℕ) → n ≤ length bs → Begins p (take n bs) → n ≤ longest_prefix p bs }
 {}
 
 /// A number literal is an integer's or a decimal's, and no literal is both.
@@ -52,7 +52,7 @@ pub fn leading_zeros_stand_alone()
     ensures signed { (x : ℕ) (bs : List ℕ) → IsTrue (is_ascii_digit x) → Matches number_literal (45 ∷ 48 ∷ x ∷ bs) → ⊥ }
 {}
 
-/// A number of the grammar that stands at an index, with a terminator or the end behind it, is read whole.
+/// A number of the grammar that stands at an index, with a terminator or the end after it, is read whole.
 pub fn numbers_are_read()
     ensures integers { (b : List ℕ) (i : ℕ) (xs rest : List ℕ) → drop i b ≡ xs ++ rest → IsTrue (is_terminator (byte_at rest 0))
         → Matches integer_literal xs → magnitude xs ≤ max_magnitude (has_minus xs) → number_at b i ≡ Ok (integer (has_minus xs) (magnitude xs), i + length xs) }
@@ -60,27 +60,27 @@ pub fn numbers_are_read()
         → Matches decimal_literal xs → number_at b i ≡ Ok (decimal xs, i + length xs) }
 {}
 
-/// Pieces spell one text.
-pub fn pieces_spell_one_text()
+/// Pieces spell one string.
+pub fn pieces_spell_one_string()
     ensures { (bs cs ds : List ℕ) → ArePieces bs cs → ArePieces bs ds → encode_utf8_all cs ≡ encode_utf8_all ds }
 {}
 
-/// A text of the grammar that stands at an index is read as its text, up to its closing quote, whatever stands before and behind.
-pub fn texts_are_read()
+/// A string literal of the grammar that stands at an index is read as its string, up to its closing quote, whatever stands before and after.
+pub fn strings_are_read()
     ensures { (b : List ℕ) (i : ℕ) (content rest cs : List ℕ) → drop i b ≡ quote ∷ (content ++ quote ∷ rest) → ArePieces content cs
-        → text_at b i ≡ Ok (encode_utf8_all cs, suc (suc i + length content)) }
+        → string_at b i ≡ Ok (encode_utf8_all cs, suc (suc i + length content)) }
 {}
 
-/// A text is told by the bytes from its opening quote on, which are UTF-8 if all are: what stands before does not matter.
-pub fn texts_stand_by_themselves()
-    ensures text { (b : List ℕ) (i : ℕ) → byte_at b i ≡ quote → text_at b i ≡ further i (text_at (drop i b) 0) }
+/// A string is determined by the bytes from its opening quote on, which are UTF-8 if all are: what stands before does not matter.
+pub fn strings_stand_by_themselves()
+    ensures string { (b : List ℕ) (i : ℕ) → byte_at b i ≡ quote → string_at b i ≡ further i (string_at (drop i b) 0) }
     ensures closing { (b : List ℕ) (i : ℕ) → byte_at b i ≡ quote → closing_quote b i ≡ i + closing_quote (drop i b) 0 }
     ensures utf8 { (b : List ℕ) (i : ℕ) → i < length b → byte_at b i ≡ quote → IsUtf8 b → IsUtf8 (drop i b) }
 {}
 
-/// Where no text is bad, each text that is opened is closed.
-pub fn opened_texts_are_closed()
-    ensures { (b : List ℕ) (i : ℕ) → i < length b → IsTrue (is_inside b i) → IsFalse (has_bad_text b) → closing_quote b i < length b }
+/// Where no string is bad, each string that is opened is closed.
+pub fn opened_strings_are_closed()
+    ensures { (b : List ℕ) (i : ℕ) → i < length b → IsTrue (is_inside b i) → IsFalse (has_bad_string b) → closing_quote b i < length b }
 {}
 
 /// Positions rise, and they are the indexes that the definition picks.
@@ -89,11 +89,11 @@ pub fn positions_rise()
     ensures picked { (b : List ℕ) (i : ℕ) → Contains (positions b) i ↔ ((i < length b) × IsTrue (is_position b i)) }
 {}
 
-/// Where some byte is inside a text, and so where some text is bad, there is a position. So an input without positions
-/// has no bad text, and it does not matter which of these two faults is asked for first.
-pub fn texts_have_positions()
+/// Where some byte is inside a string, and so where some string is bad, there is a position. So an input without positions
+/// has no bad string, and it does not matter which of these two faults is asked for first.
+pub fn strings_have_positions()
     ensures inside { (b : List ℕ) (i : ℕ) → i < length b → IsTrue (is_inside b i) → positions b ≢ [] }
-    ensures bad { (b : List ℕ) → IsTrue (has_bad_text b) → positions b ≢ [] }
+    ensures bad { (b : List ℕ) → IsTrue (has_bad_string b) → positions b ≢ [] }
 {}
 
 /// A listing is a first node and as many more as its `count` says, with as many members as its `len`.
@@ -106,10 +106,10 @@ pub fn listings_are_of_one_document()
     ensures { (d e : Document) (xs ys : List Item) → listing d ++ xs ≡ listing e ++ ys → (d ≡ e) × (xs ≡ ys) }
 {}
 
-/// Equality of documents is an equivalence: they are equal exactly if they are the same but for the mark of a zero.
+/// Equality of documents is an equivalence: they are equal exactly if they are the same but for the sign of a zero.
 pub fn equality_is_an_equivalence()
     ensures equivalence { IsEquivalence equal }
-    ensures same { (d e : Document) → (equal d e ≡ true) ↔ (unmarked d ≡ unmarked e) }
+    ensures same { (d e : Document) → (equal d e ≡ true) ↔ (normalized d ≡ normalized e) }
 {}
 
 /// The answer is the fault of the whole input where there is one, and else the descent's.
@@ -129,59 +129,59 @@ pub fn tokens_stand_at_positions()
 pub fn only_whitespace_stands_between_tokens()
     ensures first { (b : List ℕ) (t : Token) → Contains (tokens b) t → Contains (positions b) t.index }
     ensures within { (b : List ℕ) (t : Token) (end k : ℕ) → Contains (tokens b) t → token_end t ≡ Some end → t.index < k → k < end → IsFalse (is_position b k) }
-    ensures behind { (b : List ℕ) (t : Token) (end k : ℕ) → Contains (tokens b) t → token_end t ≡ Some end → end ≤ k → k < length b
+    ensures after { (b : List ℕ) (t : Token) (end k : ℕ) → Contains (tokens b) t → token_end t ≡ Some end → end ≤ k → k < length b
         → ((j : ℕ) → end ≤ j → j ≤ k → IsFalse (is_position b j)) → IsTrue (is_whitespace (byte_at b k)) }
 {}
 
-/// So a text that is closed ends at the byte before the next position, or before the end of the input, where that byte is
+/// So a string that is closed ends at the byte before the next position, or before the end of the input, where that byte is
 /// a quote: its closing quote is known without reading it.
-pub fn texts_end_before_the_next_position()
+pub fn strings_end_before_the_next_position()
     ensures { (b : List ℕ) (t : Token) (next : ℕ) → Contains (tokens b) t → byte_at b t.index ≡ quote → closing_quote b t.index < length b
         → t.index + 1 < next → Contains (positions b) next ⊎ (next ≡ length b) → ((j : ℕ) → t.index < j → j < next → IsFalse (is_position b j))
         → byte_at b (next - 1) ≡ quote → closing_quote b t.index + 1 ≡ next }
 {}
 
 /// At each position the descent reads a token, unless it has stopped at a token before, which has a fault or is stray.
-pub fn positions_without_a_token_lie_behind_a_fault()
+pub fn positions_without_a_token_lie_after_a_fault()
     ensures { (b : List ℕ) (i : ℕ) → Contains (positions b) i → ((t : Token) × Contains (tokens b) t × (t.index ≡ i))
         ⊎ ((t : Token) × Contains (tokens b) t × (token_end t ≡ None) × (t.index < i)) }
 {}
 
-/// An answer is a document: the whole input derives it, and its length, its nesting and its integers are within the
+/// An answer is a document: the whole input denotes it, and its length, its nesting and its integers are within the
 /// limits. So nothing outside the grammar is ever accepted.
 pub fn answers_are_documents()
-    ensures { (b : List ℕ) (limit : ℕ) (d : Document) → answer b limit ≡ Ok d → Derives b d × WithinLimits b d limit }
+    ensures { (b : List ℕ) (limit : ℕ) (d : Document) → answer b limit ≡ Ok d → Denotes b d × WithinLimits b d limit }
 {}
 
-/// What bytes derive can be spelled: its decimals are literals, and its texts and names are UTF-8.
+/// What bytes denote can be spelled: its decimals are literals, and its strings and names are UTF-8.
 pub fn documents_can_be_spelled()
-    ensures { (b : List ℕ) (d : Document) → Derives b d → IsSpellable d }
+    ensures { (b : List ℕ) (d : Document) → Denotes b d → IsSpellable d }
 {}
 
-/// Bytes that derive a document are UTF-8.
+/// Bytes that denote a document are UTF-8.
 pub fn documents_are_utf8()
-    ensures { (b : List ℕ) (d : Document) → Derives b d → IsUtf8 b }
+    ensures { (b : List ℕ) (d : Document) → Denotes b d → IsUtf8 b }
 {}
 
-/// Bytes that derive a document within the limits are answered with that document.
+/// Bytes that denote a document within the limits are answered with that document.
 pub fn documents_are_answered()
-    ensures { (b : List ℕ) (d : Document) (limit : ℕ) → Derives b d → WithinLimits b d limit → answer b limit ≡ Ok d }
+    ensures { (b : List ℕ) (d : Document) (limit : ℕ) → Denotes b d → WithinLimits b d limit → answer b limit ≡ Ok d }
 {}
 
-/// Bytes derive one document at most, however deep it nests and however great its integers are: the grammar is unambiguous.
-pub fn bytes_derive_one_document()
-    ensures { (b : List ℕ) (d e : Document) → Derives b d → Derives b e → d ≡ e }
+/// Bytes denote one document at most, however deep it nests and however great its integers are: the grammar is unambiguous.
+pub fn bytes_denote_one_document()
+    ensures { (b : List ℕ) (d e : Document) → Denotes b d → Denotes b e → d ≡ e }
 {}
 
-/// No fault is told late: where the input has no fault of the whole, the bytes before the index of a fault go on to a
+/// No fault is reported late: where the input has no fault of the whole, the bytes before the index of a fault go on to a
 /// document. So up to there nothing is wrong yet.
-pub fn faults_are_not_told_late()
+pub fn faults_are_not_reported_late()
     ensures { (b : List ℕ) (limit : ℕ) (e : Error) → input_fault b ≡ None → descent b limit ≡ Err e → IsBeginning (take e.index b) }
 {}
 
 /// No token is refused early: where an array or an object does not expect a token, the bytes go on to no document once
 /// they have the first byte of that token.
-pub fn unexpected_tokens_are_not_told_early()
+pub fn unexpected_tokens_are_not_reported_early()
     ensures { (b : List ℕ) (limit : ℕ) (e : Error) → input_fault b ≡ None → descent b limit ≡ Err e → is_unexpected_token e.error ≡ true
         → IsBeginning (take (suc e.index) b) → ⊥ }
 {}

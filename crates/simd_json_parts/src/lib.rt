@@ -5,7 +5,7 @@
 //! - [`node`]: the nodes of a tape.
 //! - [`charutils`]: classes of bytes, hexadecimal digits, characters as UTF-8.
 //! - [`numberparse`]: reads one number.
-//! - [`stringparse`]: reads one text.
+//! - [`stringparse`]: reads one string.
 //! - [`laws`]: theorems about the definitions, each the contract of a function with an empty body.
 #![tactic(auto)]
 

@@ -9,7 +9,7 @@ pub enum ValueType {
     Null,
     /// `true` or `false`.
     Bool,
-    /// A text.
+    /// A string.
     String,
     /// An integer written with `-`.
     I64,
@@ -27,7 +27,7 @@ pub enum ValueType {
     Object,
 }
 
-/// A value of fixed size: no text, no decimal, no container.
+/// A value of fixed size: no string, no decimal, no container.
 ///
 /// Two are equal if both are null, the same truth value, or integers of the same number, whatever their kinds.
 #[derive(Clone, Copy, Debug, Drop)]
@@ -100,7 +100,7 @@ impl Default for StaticNode {
 /// One entry of a tape: a scalar, a key, or the header of a container, whose members follow it.
 #[derive(Clone, Copy, Debug, Drop, PartialEq)]
 pub enum Node<'input> {
-    /// A text or a key, with its escapes decoded.
+    /// A string or a key, with its escapes decoded.
     String(&'input str),
     /// An object of `len` pairs, with `count` nodes beneath it: for each pair its key and then the value's nodes.
     Object {
@@ -162,7 +162,7 @@ mod tests {
     }
 
     #[test]
-    fn nodes_tell_their_kinds(rt: HostRuntime) {
+    fn nodes_have_their_kinds(rt: HostRuntime) {
         let nodes = [
             (Node::Static(StaticNode::Null), ValueType::Null),
             (Node::Static(StaticNode::Bool(true)), ValueType::Bool),

@@ -4,7 +4,7 @@ ghost use Rattle.std.specs.Char.{is_ascii_digit};
 ghost use Rattle.std.specs.List.{prefix_len};
 ghost use Rattle.std.specs.Str.Parse.{AllDigits, digits_value};
 ghost use Rattle.simd_json_parts.specs.Bytes.{byte_at, is_terminator};
-ghost use Rattle.simd_json_parts.specs.Derivatives.{longest_front, matches};
+ghost use Rattle.simd_json_parts.specs.Derivatives.{longest_prefix, matches};
 ghost use Rattle.simd_json_parts.specs.Integers.{max_magnitude, integer_node};
 ghost use Rattle.simd_json_parts.specs.NumberRead.{IsNumberAt};
 ghost use Rattle.simd_json_parts.specs.Numbers.{frac, exp, integer_literal};
@@ -20,7 +20,7 @@ pub enum Number {
     Integer(StaticNode),
     /// A number with a fraction or an exponent, whose literal has so many bytes.
     Decimal(usize),
-    /// No number, or an integer out of range: the fault is told so many bytes behind the first.
+    /// No number, or an integer out of range: the fault is reported so many bytes after the first.
     Invalid(usize),
 }
 
@@ -79,7 +79,7 @@ fn digits_end(bytes: &[u8], from: usize) -> usize
     end
 }
 
-// The end of the integer part: `from` itself where there is none. No digit belongs to it behind a leading zero.
+// The end of the integer part: `from` itself where there is none. No digit belongs to it after a leading zero.
 fn int_end(bytes: &[u8], from: usize) -> usize
     requires { from ≤ length bytes.now }
     ensures value { result ≡ (if byte_at bytes.now from == 48 then from + 1 else from + prefix_len is_ascii_digit (drop from bytes.now)) }
@@ -95,7 +95,7 @@ fn int_end(bytes: &[u8], from: usize) -> usize
 // The end of the fraction and the exponent, of which each may be left out; `Err` is where one of them breaks off.
 fn literal_end(bytes: &[u8], from: usize) -> Result<usize, usize>
     requires { from ≤ length bytes.now }
-    ensures { let n = longest_front (optional frac then optional exp) (drop from bytes.now) in
+    ensures { let n = longest_prefix (optional frac then optional exp) (drop from bytes.now) in
         result ≡ (if matches (optional frac then optional exp) (take n (drop from bytes.now)) then Ok (from + n) else Err (from + n)) }
 {
     if byte_or_space(bytes, from) != b'.' {
@@ -113,7 +113,7 @@ fn literal_end(bytes: &[u8], from: usize) -> Result<usize, usize>
 // The end of the exponent, likewise.
 fn exponent_end(bytes: &[u8], from: usize) -> Result<usize, usize>
     requires { from ≤ length bytes.now }
-    ensures { let n = longest_front (optional exp) (drop from bytes.now) in
+    ensures { let n = longest_prefix (optional exp) (drop from bytes.now) in
         result ≡ (if matches (optional exp) (take n (drop from bytes.now)) then Ok (from + n) else Err (from + n)) }
 {
     if !matches!(byte_or_space(bytes, from), b'e' | b'E') {

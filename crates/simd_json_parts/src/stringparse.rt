@@ -1,14 +1,14 @@
-//! Reads one text, decoded in the bytes it was written in (RFC 8259, section 7).
+//! Reads one string, decoded in the bytes it was written in (RFC 8259, section 7).
 ghost use Rattle.std.specs.Prelude.{◌≡◌, ◌≢◌, ◌≤◌, ◌<◌, ◌+◌, ◌-◌, ◌++◌, ℕ, List, length, take, drop, map, slice_range, encode_utf8, Some, None, Ok, MatchOption, MatchResult, IfSome, IsUtf8, false};
 ghost use Rattle.std.specs.Char.{len_utf8};
 ghost use Rattle.std.specs.List.{prefix_len, copy_within};
 ghost use Rattle.std.specs.Simd.Lanes.{mask_l};
 ghost use Rattle.simd_json_parts.specs.Bytes.{quote, backslash, byte_at};
-ghost use Rattle.simd_json_parts.specs.Text.{escaped_character};
-ghost use Rattle.simd_json_parts.specs.TextAt.{closing_quote, unit_at, unicode_piece, escape_at};
-ghost use Rattle.simd_json_parts.specs.TextContent.{content, is_plain, is_stop};
-ghost use Rattle.simd_json_parts.specs.TextDecoded.{IsOpen, IsDecoded, IsLeft};
-ghost use Rattle.simd_json_parts.specs.TextRead.{IsTextAt};
+ghost use Rattle.simd_json_parts.specs.Strings.{escaped_character};
+ghost use Rattle.simd_json_parts.specs.StringAt.{closing_quote, code_unit_at, unicode_piece, escape_at};
+ghost use Rattle.simd_json_parts.specs.StringContent.{content, is_plain, is_stop};
+ghost use Rattle.simd_json_parts.specs.StringDecoded.{IsOpen, IsDecoded, IsLeft};
+ghost use Rattle.simd_json_parts.specs.StringRead.{IsStringAt};
 
 use crate::charutils::{codepoint_to_utf8, hex_to_u32_nocheck};
 use std::simd::prelude::*;
@@ -16,40 +16,40 @@ use std::simd::prelude::*;
 #[cfg(test)]
 mod tests;
 
-/// A text, taken off the front of the unread bytes.
+/// A string, taken off the front of the unread bytes.
 // Where a result holds it, its first number shares its place with an error's byte, and the references stay whole.
 #[derive(Debug, Drop)]
-pub struct Text<'de> {
+pub struct ParsedString<'de> {
     /// How many bytes it was written in, both quotes among them.
     pub len: usize,
-    /// The text, in the bytes it was written in.
-    pub text: &'de str,
-    /// The bytes behind its closing quote, as they stood.
+    /// The string, in the bytes it was written in.
+    pub string: &'de str,
+    /// The bytes after its closing quote, as they stood.
     pub rest: &'de mut [u8],
 }
 
-/// The leftmost escape that is none.
+/// The first invalid escape.
 #[derive(Clone, Copy, Debug, Drop, PartialEq, Eq)]
 pub struct BadEscape {
-    /// The byte behind the backslash. If it is `u`, no character has the number or the numbers behind it.
+    /// The byte after the backslash. If it is `u`, no character has the number or the numbers after it.
     pub letter: u8,
-    /// How far behind the opening quote its backslash stands.
+    /// The offset of its backslash from the opening quote.
     pub offset: usize,
 }
 
-/// Reads the text whose opening quote is the first of the unread bytes (RFC 8259, section 7).
+/// Reads the string whose opening quote is the first of the unread bytes (RFC 8259, section 7).
 ///
-/// Answers the text, how many bytes it was written in, and the bytes behind its closing quote as they stood; or the
-/// leftmost escape that is none, by its backslash's offset and the byte behind it. The bytes are UTF-8, and a closing
-/// quote follows. A text without an escape is shared as it stands; behind the first escape its characters are moved
+/// Returns the string, how many bytes it was written in, and the untouched bytes after its closing quote; or the
+/// first invalid escape, by its backslash's offset and the byte after it. The bytes are UTF-8, and a closing
+/// quote follows. A string without an escape is shared as it stands; after the first escape its characters are moved
 /// down, and nothing is ever written ahead of what has been read.
 ///
-/// Of `"caf\u00e9", 1` the text is `café`, of 11 bytes, and `, 1` is left; of `"\q"` the escape at offset 1 is none.
-pub fn parse_str<'de>(unread: &'de mut [u8]) -> Result<Text<'de>, BadEscape>
+/// Of `"caf\u00e9", 1` the string is `café`, of 11 bytes, and `, 1` is left; of `"\q"` the escape at offset 1 is invalid.
+pub fn parse_str<'de>(unread: &'de mut [u8]) -> Result<ParsedString<'de>, BadEscape>
     requires opening { byte_at unread.old 0 ≡ quote }
     requires closing { closing_quote unread.old 0 < length unread.old }
     requires utf8 { IsUtf8 unread.old }
-    ensures { (b : List ℕ) (i : ℕ) → drop i b ≡ unread.old → IsTextAt b i result }
+    ensures { (b : List ℕ) (i : ℕ) → drop i b ≡ unread.old → IsStringAt b i result }
 {
     let plain = plain_end(unread, 1);
     if unread[plain] == b'"' {
@@ -61,44 +61,44 @@ pub fn parse_str<'de>(unread: &'de mut [u8]) -> Result<Text<'de>, BadEscape>
     }
 }
 
-/// Hands over the text whose opening quote is the first of the unread bytes, where its closing quote is known, as an
+/// Borrows the string whose opening quote is the first of the unread bytes, where its closing quote is known, as an
 /// index of the unread bytes, and it holds no escape. No byte of it is read.
 ///
-/// It is the text that [`parse_str`] answers.
+/// It is the string that [`parse_str`] returns.
 #[inline]
-pub fn share_str<'de>(unread: &'de mut [u8], closing: usize) -> Text<'de>
+pub fn share_str<'de>(unread: &'de mut [u8], closing: usize) -> ParsedString<'de>
     requires opening { byte_at unread.old 0 ≡ quote }
     requires closing { (closing ≡ closing_quote unread.old 0) × (closing < length unread.old) }
     requires plain { (i : ℕ) → 0 < i → i < closing → byte_at unread.old i ≢ backslash }
     requires utf8 { IsUtf8 unread.old }
-    ensures { (b : List ℕ) (i : ℕ) → drop i b ≡ unread.old → IsTextAt b i (Ok result) }
+    ensures { (b : List ℕ) (i : ℕ) → drop i b ≡ unread.old → IsStringAt b i (Ok result) }
 {
     share(unread, closing, closing)
 }
 
-// The bytes behind the opening quote up to `end` as text, and those behind the closing quote.
+// The bytes after the opening quote up to `end` as a string, and those after the closing quote.
 #[inline]
-fn share<'de>(unread: &'de mut [u8], end: usize, closing: usize) -> Text<'de>
+fn share<'de>(unread: &'de mut [u8], end: usize, closing: usize) -> ParsedString<'de>
     requires bounds { (1 ≤ end) × (end ≤ closing) × (closing < length unread.old) }
     requires utf8 { IsUtf8 (slice_range unread.old 1 end) }
-    ensures text { result.text.now ≡ slice_range unread.old 1 end }
+    ensures string { result.string.now ≡ slice_range unread.old 1 end }
     ensures remaining { result.rest.now ≡ drop (closing + 1) unread.old }
     ensures len { result.len ≡ closing + 1 }
 {
     let len = closing + 1;
-    let (front, rest) = unread.split_at_mut(len);
-    let text = unsafe { str::from_utf8_unchecked(&front[1..end]) };
-    Text { len, text, rest }
+    let (prefix, rest) = unread.split_at_mut(len);
+    let string = unsafe { str::from_utf8_unchecked(&prefix[1..end]) };
+    ParsedString { len, string, rest }
 }
 
-// Up to where the bytes are read, and up to where their text is written.
+// Up to where the bytes are read, and up to where their string is written.
 #[derive(Clone, Copy, Debug, Drop, PartialEq, Eq)]
 struct Ends {
     read: usize,
     written: usize,
 }
 
-// Decodes the rest of a text in place, from its first backslash up to its closing quote.
+// Decodes the rest of a string in place, from its first backslash up to its closing quote.
 fn unescape(unread: &mut [u8], from: usize) -> Result<Ends, BadEscape>
     requires goes_on { IsOpen unread.old from }
     requires stops { is_plain (byte_at unread.old from) ≡ false }
@@ -128,7 +128,7 @@ fn unescape(unread: &mut [u8], from: usize) -> Result<Ends, BadEscape>
 fn unescape_one(unread: &mut [u8], ends: Ends) -> Option<Ends>
     requires goes_on { IsOpen unread.old ends.read }
     requires backslash { byte_at unread.old ends.read ≡ backslash }
-    requires behind { ends.written ≤ ends.read }
+    requires order { ends.written ≤ ends.read }
     ensures { MatchOption result
         ((escape_at (drop ends.read unread.old) ≡ None) × (unread.new ≡ unread.old))
         (λ next. IsDecoded unread.old ends.read ends.written unread.new next.read next.written × (ends.read < next.read)) }
@@ -143,7 +143,7 @@ fn unescape_one(unread: &mut [u8], ends: Ends) -> Option<Ends>
 #[inline]
 fn move_run(unread: &mut [u8], ends: Ends) -> Ends
     requires goes_on { IsOpen unread.old ends.read }
-    requires behind { ends.written ≤ ends.read }
+    requires order { ends.written ≤ ends.read }
     ensures moved { IsDecoded unread.old ends.read ends.written unread.new result.read result.written }
     ensures stops { is_plain (byte_at unread.old result.read) ≡ false }
 {
@@ -155,7 +155,7 @@ fn move_run(unread: &mut [u8], ends: Ends) -> Ends
     Ends { read, written }
 }
 
-// Writes the character at an index, and answers the index behind it.
+// Writes the character at an index, and returns the index after it.
 #[inline]
 fn put(bytes: &mut [u8], at: usize, character: char) -> usize
     requires { at + len_utf8 character ≤ length bytes.old }
@@ -168,7 +168,7 @@ fn put(bytes: &mut [u8], at: usize, character: char) -> usize
     at + codepoint_to_utf8(character, &mut bytes[at..])
 }
 
-// Moves the bytes from `from` to `end` down to an index, 16 at a time, and answers the index behind them.
+// Moves the bytes from `from` to `end` down to an index, 16 at a time, and returns the index after them.
 #[inline]
 fn move_down(bytes: &mut [u8], from: usize, end: usize, to: usize) -> usize
     requires { (to ≤ from) × (from ≤ end) × (end ≤ length bytes.old) }
@@ -217,18 +217,18 @@ fn escape(bytes: &[u8]) -> Option<(char, usize)>
     Some((character as char, 1))
 }
 
-// A number, or two that are a high and a low surrogate.
+// A code unit, or two that are a high and a low surrogate.
 fn unicode_escape(bytes: &[u8]) -> Option<(char, usize)>
-    ensures value { let piece = unicode_piece (unit_at bytes.now) (unit_at (drop 6 bytes.now)) in
+    ensures value { let piece = unicode_piece (code_unit_at bytes.now) (code_unit_at (drop 6 bytes.now)) in
         MatchOption result (piece ≡ None) (λ e. piece ≡ Some (encode_utf8 e.0, e.1)) }
     ensures shorter { IfSome result (λ e. len_utf8 e.0 ≤ e.1) }
 {
-    let first = unit(bytes)?;
+    let first = code_unit(bytes)?;
     if !matches!(first, 0xd800..=0xdbff) {
         let character = char::from_u32(first)?;
         return Some((character, 5));
     }
-    let second = unit(&bytes[6..])?;
+    let second = code_unit(&bytes[6..])?;
     if !matches!(second, 0xdc00..=0xdfff) {
         return None;
     }
@@ -237,8 +237,8 @@ fn unicode_escape(bytes: &[u8]) -> Option<(char, usize)>
 }
 
 // The number of a `\u` escape at the front.
-fn unit(bytes: &[u8]) -> Option<u32>
-    ensures value { result ≡ unit_at bytes.now }
+fn code_unit(bytes: &[u8]) -> Option<u32>
+    ensures value { result ≡ code_unit_at bytes.now }
     ensures bounds { IfSome result (λ u. (u < 65536) × (6 ≤ length bytes.now)) }
 {
     if bytes.len() < 6 || bytes[0] != b'\\' || bytes[1] != b'u' {

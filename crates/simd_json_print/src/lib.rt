@@ -1,6 +1,6 @@
 //! The printed text of a tape.
 //!
-//! - [`print`]: the escaped form of one text.
+//! - [`print`]: the escaped form of one string.
 #![tactic(auto)]
 
 pub mod print;

@@ -1,4 +1,4 @@
-//! The escaped form of one text (RFC 8259, section 7).
+//! The escaped form of one string (RFC 8259, section 7).
 ghost use Rattle.std.specs.Prelude.{◌≡◌, ◌<◌, ◌++◌, ℕ, List, [], ◌∷◌, codes, ◌/◌, ◌%◌, flat_map, OnOk};
 ghost use Rattle.std.specs.Char.{digit_char};
 ghost use Rattle.simd_json_parts.specs.Bytes.{quote};
@@ -6,24 +6,24 @@ ghost use Rattle.simd_json_parts.specs.Printed.{escaped_byte, quoted};
 
 use std::alloc::{AllocError, Allocator};
 
-/// Appends a text as it is printed: between quotes, with a quote, a backslash and what is below 0x20 escaped.
+/// Appends a string as it is printed: between quotes, with a quote, a backslash and what is below 0x20 escaped.
 ///
-/// Fails where a growth was refused, and then a part of the text may have been appended.
+/// Fails where an allocation fails, and then a part of the string may have been appended.
 pub fn append_quoted<A: Allocator>(
     out: &mut Vec<u8, A>,
-    text: &str,
+    string: &str,
 ) -> std::result::Result<(), AllocError>
-    ensures { OnOk result (out.new.items ≡ out.old.items ++ quoted text.now) }
+    ensures { OnOk result (out.new.items ≡ out.old.items ++ quoted string.now) }
 {
     out.push(b'"')?;
-    for &byte in text.as_bytes() {
+    for &byte in string.as_bytes() {
         append_byte(out, byte)?;
     }
     out.push(b'"')?;
     Ok(())
 }
 
-// Appends one byte of a text.
+// Appends one byte of a string.
 fn append_byte<A: Allocator>(out: &mut Vec<u8, A>, byte: u8) -> std::result::Result<(), AllocError>
     ensures { OnOk result (out.new.items ≡ out.old.items ++ escaped_byte byte) }
 {
@@ -70,7 +70,7 @@ mod tests {
     use std::test::Fail;
 
     #[test]
-    fn texts_are_escaped(rt: HostRuntime) -> std::result::Result<(), Fail> {
+    fn strings_are_escaped(rt: HostRuntime) -> std::result::Result<(), Fail> {
         let mut out = Vec::new(rt.alloc());
         append_quoted(&mut out, "\"\\/\u{8}\u{c}\n\r\t\u{1}\u{7f}")?;
         assert_eq!(rt;

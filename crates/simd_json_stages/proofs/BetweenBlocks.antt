@@ -1,9 +1,10 @@
--- No backslash stands between the blocks that are listed, so a text that ends before the next one has no escape.
+-- No backslash stands between the blocks that are listed, so a string that ends before the next one has no escape.
 use Rattle.std.proofs.Common.{◌≡◌, ◌∙◌, ap, ℕ, zero, suc, ◌+◌, ◌/◌, ◌<◌, ◌≤◌, inl, inr, refl, List, ◌∷◌, length, get_or, Bool, true, false, filter, if◌then◌else◌, arith}
 use Rattle.std.specs.List.{range_with_len}
 use Rattle.std.proofs.lemmas.Bool.{cases_lt}
 use Rattle.simd_json_stages.specs.EscapeBlocks.{blocks_in, holds_backslash, backslash_blocks, listed_start}
-use Rattle.simd_json_stages.proofs.EscapeBlockLaws.{PlainBetween, holds_backslash-at}
+use Rattle.simd_json_stages.proofs.EscapeBlockLaws.{holds_backslash-at}
+use Rattle.simd_json_stages.specs.EscapesAhead.{PlainFrom}
 
 -- No number before the first that a filter keeps passes; z stands for the first where none is kept.
 before_first : (p : ℕ → Bool) (a n z k : ℕ) → z ≤ a + n → a ≤ k → k < get_or (filter p (range_with_len a n)) 0 z → p k ≡ false
@@ -32,7 +33,7 @@ between_neighbours p a (suc n) z m k e l f t = go (p a) m (filter p (range_with_
     go false i later before between l f t = between i l f t
 
 -- Before the first listed block there is no backslash.
-pub plain-to_first : (b : List ℕ) → PlainBetween b 0 (listed_start b 0)
+pub plain-to_first : (b : List ℕ) → PlainFrom b 0 (listed_start b 0)
 unfolding backslash_blocks
 plain-to_first b j f t e =
     let z = blocks_in (length b) in
@@ -40,7 +41,7 @@ plain-to_first b j f t e =
     cc (none, holds_backslash-at b j e)
 
 -- Nor is there one between a listed block and the next.
-pub plain-to_next : (b : List ℕ) (m : ℕ) → m < length (backslash_blocks b) → PlainBetween b (listed_start b m + 64) (listed_start b (suc m))
+pub plain-to_next : (b : List ℕ) (m : ℕ) → m < length (backslash_blocks b) → PlainFrom b (listed_start b m + 64) (listed_start b (suc m))
 unfolding backslash_blocks
 plain-to_next b m l j f t e =
     let z = blocks_in (length b) in

@@ -1,29 +1,24 @@
 -- What the machine counts stays within bounds from one token to the next.
 use Rattle.std.proofs.Common.{inl, inr, ◌≡◌, refl, sym, ◌∙◌, ap, subst, ℕ, ◌+◌, ◌-◌, ◌<◌, ◌≤◌, List, [], ◌∷◌, ◌++◌, length, get_or, drop, Contains, arith}
-use Rattle.std.specs.Prelude.{Some, Result, Ok, Err, IfErr, IsErrAnd}
+use Rattle.std.specs.Prelude.{Some}
 use Rattle.simd_json_parts.specs.Bytes.{byte_at}
 use Rattle.simd_json_parts.specs.Positions.{positions}
 use Rattle.simd_json_parts.specs.TokenEnds.{form_end, token_end}
-use Rattle.simd_json_parts.specs.Tokens.{Token, tokens, string}
+use Rattle.simd_json_parts.specs.Tokens.{Token, tokens, string_token}
 use Rattle.simd_json_parts.specs.TokensAlong.{tokens_along}
 use Rattle.simd_json_parts.specs.declared.error.ErrorType.{ErrorType}
 use Rattle.simd_json_parts.specs.declared.node.Node.{Node}
 use Rattle.simd_json_stages.specs.Building.{AtValue, AtName, Tells}
 use Rattle.simd_json_stages.specs.Left.{Left}
-use Rattle.simd_json_stages.specs.Progresses.{IsRead, IsBefore, IsBehind}
+use Rattle.simd_json_stages.specs.Progresses.{IsRead, IsBefore, IsAfter}
 use Rattle.simd_json_stages.specs.declared.stage2.Container.{Container}
-use Rattle.simd_json_stages.specs.Put.{IsTextPut, IsScalarPut}
+use Rattle.simd_json_stages.specs.Put.{IsStringPut, IsScalarPut}
 use Rattle.simd_json_stages.specs.declared.stage2.Progress.{Progress}
 use Rattle.simd_json_stages.specs.declared.stage2.StackState.{StackState}
 use Rattle.simd_json_stages.specs.declared.stage2.fault.Fault.{Fault}
 use Rattle.simd_json_stages.specs.declared.stage2.fault.FaultKind.{FaultKind}
 use Rattle.simd_json_stages.proofs.Places.{token, at-inside, position-inside, next-later, IsRead-next, IsRead-same, end-before_next, unread-length, unread-byte, token-read}
 use Rattle.simd_json_stages.proofs.TokenForms.{quotes}
-
--- an error that is handed on
-pub passed-on : {A E : Type 0} (r : Result A E) (e : E) (P : E → Type 0) → IsErrAnd r (λ x. x ≡ e) → P e → IfErr r P
-passed-on (Ok x) e P is p = tt
-passed-on (Err x) e P is p = subst P (sym is) p
 
 -- a fault at the last token
 pub told-at : (b ps : List ℕ) (limit : ℕ) (kind : FaultKind) (p : Progress) (f : Fault) → f ≡ record { kind = kind; index = p.at; byte = p.byte } → p.byte ≡ byte_at b p.at
@@ -63,14 +58,14 @@ module _ (b ps : List ℕ) (e : ps ≡ positions b) where
       → q ≡ record p { read = p.read + 1; at = get_or ps p.read 0; byte = byte_at b (get_or ps p.read 0) }
   at-next u p q x same l is next = next ∙ ap (λ x. record p { read = p.read + 1; at = get_or ps p.read 0; byte = x }) (looked u (get_or ps p.read 0) x same l is)
 
-  -- behind a first token that closes its container at once
-  pub behind-first : (u : Left) (p q : Progress) (x : ℕ) → IsBefore b ps u p → p.read < length ps → x ≡ byte_at u.bytes (get_or ps p.read 0 - u.at) → q ≡ record p { read = p.read + 1; at = get_or ps p.read 0; byte = x }
-      → IsBehind b ps u (record q { used = q.used + 1; len = q.len + 1 })
-  behind-first u p q x r more is next =
+  -- after a first token that closes its container at once
+  pub after-first : (u : Left) (p q : Progress) (x : ℕ) → IsBefore b ps u p → p.read < length ps → x ≡ byte_at u.bytes (get_or ps p.read 0 - u.at) → q ≡ record p { read = p.read + 1; at = get_or ps p.read 0; byte = x }
+      → IsAfter b ps u (record q { used = q.used + 1; len = q.len + 1 })
+  after-first u p q x r more is next =
       let l : p.at < get_or ps p.read 0 = later p r.read more in
       let ahead : u.at ≤ get_or ps p.read 0 = omega (arith, r.unread.before) in
       let q-is : q ≡ record p { read = p.read + 1; at = get_or ps p.read 0; byte = byte_at b (get_or ps p.read 0) } = at-next u p q x r.unread.same ahead is next in
-      subst (λ (q : Progress). IsBehind b ps u (record q { used = q.used + 1; len = q.len + 1 })) (sym q-is)
+      subst (λ (q : Progress). IsAfter b ps u (record q { used = q.used + 1; len = q.len + 1 })) (sym q-is)
       (let s : Progress = record p { read = p.read + 1; at = get_or ps p.read 0; byte = byte_at b (get_or ps p.read 0); used = p.used + 1; len = p.len + 1 } in
       let read : IsRead b ps s = read-next p s r.read more refl refl refl in
       record {
@@ -114,9 +109,9 @@ module _ (b ps : List ℕ) (e : ps ≡ positions b) where
   pub ends-before : (p : Progress) (end : ℕ) → IsRead b ps p → Contains (tokens b) (token b p.at) → token_end (token b p.at) ≡ Some end → p.read < length ps → end ≤ get_or ps p.read 0
   ends-before = lift (λ ps. (p : Progress) (end : ℕ) → IsRead b ps p → Contains (tokens b) (token b p.at) → token_end (token b p.at) ≡ Some end → p.read < length ps → end ≤ get_or ps p.read 0) (end-before_next b)
 
-  -- what is unread behind a text begins no later than the next position
-  pub text-ahead : (p : Progress) (nodes nodes' : List Node) (u : Left) → IsRead b ps p → Contains (tokens b) (token b p.at) → byte_at b p.at ≡ 34 → IsTextPut b p.at p.used nodes nodes' u → p.read < length ps → u.at ≤ get_or ps p.read 0
-  text-ahead p nodes nodes' u r t quote put more = ends-before p u.at r t (ap (form_end p.at) (quotes b p.at quote ∙ ap string put.read)) more
+  -- what is unread after a string begins no later than the next position
+  pub string-ahead : (p : Progress) (nodes nodes' : List Node) (u : Left) → IsRead b ps p → Contains (tokens b) (token b p.at) → byte_at b p.at ≡ 34 → IsStringPut b p.at p.used nodes nodes' u → p.read < length ps → u.at ≤ get_or ps p.read 0
+  string-ahead p nodes nodes' u r t quote put more = ends-before p u.at r t (ap (form_end p.at) (quotes b p.at quote ∙ ap string_token put.read)) more
 
   pub scalar-ahead : (p : Progress) (nodes nodes' : List Node) (u : Left) → IsRead b ps p → Contains (tokens b) (token b p.at) → IsScalarPut b p.at p.used nodes nodes' u → p.read < length ps → u.at ≤ get_or ps p.read 0
   scalar-ahead p nodes nodes' u r t put more =
@@ -125,9 +120,9 @@ module _ (b ps : List ℕ) (e : ps ≡ positions b) where
         | inr same ↦ omega (arith, same, ends-before p put.end r t (ap (form_end p.at) put.read) more)
       ]
 
-  -- behind a value of one node
-  pub behind-value : (u u' : Left) (p : Progress) → IsBefore b ps u p → u'.bytes ≡ drop u'.at b → (p.read < length ps → u'.at ≤ get_or ps p.read 0) → IsBehind b ps u' (record p { used = p.used + 1; len = p.len + 1 })
-  behind-value u u' p r same ahead =
+  -- after a value of one node
+  pub after-value : (u u' : Left) (p : Progress) → IsBefore b ps u p → u'.bytes ≡ drop u'.at b → (p.read < length ps → u'.at ≤ get_or ps p.read 0) → IsAfter b ps u' (record p { used = p.used + 1; len = p.len + 1 })
+  after-value u u' p r same ahead =
       record {
         read = read-same p (record p { used = p.used + 1; len = p.len + 1 }) r.read refl refl refl;
         used = omega (arith, r.used);

@@ -4,13 +4,13 @@ use Rattle.std.specs.Prelude.{Result, Ok, Err}
 use Rattle.std.proofs.lemmas.List.{get_or-set_other, get_or-set_same, take_more, take_more_set, map-append, map-set, drop_more, length-map, length-take-le}
 use Rattle.std.proofs.Math.Seq.{take-set-lt, drop-length}
 use Rattle.simd_json_parts.specs.Bytes.{byte_at}
-use Rattle.simd_json_parts.specs.Document.{Document, text, array, object, no_elements, no_members}
+use Rattle.simd_json_parts.specs.Document.{Document, string, array, object, no_elements, no_members}
 use Rattle.simd_json_parts.specs.Nodes.{Item, string_item, item_of}
 use Rattle.simd_json_parts.specs.Listing.{listing}
 use Rattle.simd_json_parts.specs.Descent.{◌>>=◌, value_from, last_index, root_end, descent}
 use Rattle.simd_json_parts.specs.Faults.{fault_at, fault_with}
 use Rattle.simd_json_parts.specs.Positions.{positions}
-use Rattle.simd_json_parts.specs.Tokens.{Token, Form, begin_array, end_array, begin_object, end_object, name_separator, value_separator, string, scalar, form_at}
+use Rattle.simd_json_parts.specs.Tokens.{Token, Form, begin_array, end_array, begin_object, end_object, name_separator, value_separator, string_token, scalar, form_at}
 use Rattle.simd_json_parts.specs.TokensAlong.{goes_on, tokens_along}
 use Rattle.simd_json_parts.specs.declared.error.Error.{Error}
 use Rattle.simd_json_parts.specs.declared.error.ErrorType.{ErrorType}
@@ -18,11 +18,11 @@ use Rattle.simd_json_parts.specs.declared.error.ErrorType.TheVariants.{Syntax}
 use Rattle.simd_json_parts.specs.declared.node.Node.{Node}
 use Rattle.simd_json_parts.specs.declared.node.Node.TheVariants.{Static}
 use Rattle.simd_json_parts.specs.declared.node.StaticNode.TheVariants.{Null}
-use Rattle.simd_json_parts.proofs.TokenLaws.{tokens-positions}
+use Rattle.simd_json_parts.proofs.Positions.TokensAtPositions.{tokens-positions}
 use Rattle.simd_json_stages.specs.Continued.{Open, in_array, in_object, at_value, at_array, at_object, at_name, after_value}
-use Rattle.simd_json_stages.specs.Building.{closer, header_of, frames, top, patch, Holds, HoldsValue, HoldsMembers, closed_with, missing, whole, AtValue, AtName, BehindValue, AtMemberOf, AtMember, IsBuilt, IsListed, Tells}
+use Rattle.simd_json_stages.specs.Building.{closer, header_of, frames, top, patch, Holds, HoldsValue, HoldsMembers, closed_with, missing, whole, AtValue, AtName, AfterValue, AtMemberOf, AtMember, IsBuilt, IsListed, Tells}
 use Rattle.simd_json_stages.specs.Left.{Left}
-use Rattle.simd_json_stages.specs.Put.{IsTextPut, IsScalarPut}
+use Rattle.simd_json_stages.specs.Put.{IsStringPut, IsScalarPut}
 use Rattle.simd_json_stages.specs.Refusals.{error_type}
 use Rattle.simd_json_stages.specs.declared.stage2.Container.{Container}
 use Rattle.simd_json_stages.specs.declared.stage2.Container.TheVariants.{Array, Object}
@@ -32,7 +32,7 @@ use Rattle.simd_json_stages.specs.declared.stage2.fault.Fault.{Fault}
 use Rattle.simd_json_stages.specs.declared.stage2.fault.FaultKind.TheVariants as kinds
 use Rattle.simd_json_stages.proofs.Holding.{Holds-value, Holds-name, Holds-comma, Holds-member_comma, Holds-open, Holds-open_object, Holds-close, Holds-header, Holds-outer_len}
 use Rattle.simd_json_stages.proofs.Places.{token}
-use Rattle.simd_json_stages.proofs.Steps.{after_value-comma, at_value-open, at_array-close, at_array-element, at_value-scalar, after_value-root, at_value-root, after_value-closed, at_value-open_object, at_object-close, at_object-name, at_name-value, after_value-member_comma, at_value-text, closing_form}
+use Rattle.simd_json_stages.proofs.Steps.{after_value-comma, at_value-open, at_array-close, at_array-element, at_value-scalar, after_value-root, at_value-root, after_value-closed, at_value-open_object, at_object-close, at_object-name, at_name-value, after_value-member_comma, at_value-string, closing_form}
 use Rattle.simd_json_stages.proofs.TokenForms.{along-form, closes, commas, last_index-append, next, no_end, no_end_object, opens, opens_object, closes_object, colons, quotes}
 
 -- ---- the stack and the nodes
@@ -111,7 +111,7 @@ closing-form b i (in_array ds) outer d c fs len items h e = closes b i (e ∙ ap
 closing-form b i (in_object ms name) outer d c fs len items h e = closes_object b i (e ∙ ap closer h.0)
 
 module _ (b : List ℕ) (lost : Error) (limit : ℕ) where
-  -- behind an opening bracket
+  -- after an opening bracket
   abbrev at_container : Container → List Open → List Token → Result (Document × List Token) Error
   at_container Array = at_array b lost limit
   at_container Object = at_object b lost limit
@@ -136,7 +136,7 @@ module _ (b ps : List ℕ) (limit : ℕ) where
 
   -- a scalar is read, and its node is put
   pub step-scalar : (stack : List StackState) (nodes nodes' : List Node) (p : Progress) (u : Left) → AtValue b ps limit stack nodes p → p.used < length nodes → IsScalarPut b p.at p.used nodes nodes' u
-      → BehindValue b ps limit stack nodes' (record p { used = p.used + 1; len = p.len + 1 })
+      → AfterValue b ps limit stack nodes' (record p { used = p.used + 1; len = p.len + 1 })
   step-scalar stack nodes nodes' p u at l put =
       let form : Form = scalar (Ok (put.document, put.end)) in
       record {
@@ -150,24 +150,24 @@ module _ (b ps : List ℕ) (limit : ℕ) where
         deep = at.deep;
       }
 
-  -- a text
-  pub step-text : (stack : List StackState) (nodes nodes' : List Node) (p : Progress) (u : Left) → AtValue b ps limit stack nodes p → p.used < length nodes → byte_at b p.at ≡ 34 → IsTextPut b p.at p.used nodes nodes' u
-      → BehindValue b ps limit stack nodes' (record p { used = p.used + 1; len = p.len + 1 })
-  step-text stack nodes nodes' p u at l q put =
-      let form : Form = string (Ok (put.text, u.at)) in
-      let is : form_at b p.at ≡ form = quotes b p.at q ∙ ap string put.read in
+  -- a string
+  pub step-string : (stack : List StackState) (nodes nodes' : List Node) (p : Progress) (u : Left) → AtValue b ps limit stack nodes p → p.used < length nodes → byte_at b p.at ≡ 34 → IsStringPut b p.at p.used nodes nodes' u
+      → AfterValue b ps limit stack nodes' (record p { used = p.used + 1; len = p.len + 1 })
+  step-string stack nodes nodes' p u at l q put =
+      let form : Form = string_token (Ok (put.string, u.at)) in
+      let is : form_at b p.at ≡ form = quotes b p.at q ∙ ap string_token put.read in
       record {
         opens = at.opens;
-        last = text put.text;
-        same = at.same ∙ ap (at_value b (missing b ps) limit at.opens) (along-form b p.at (drop p.read ps) form is refl) ∙ at_value-text b (missing b ps) limit at.opens (token b p.at) (tokens_along b (drop p.read ps)) put.text u.at is;
+        last = string put.string;
+        same = at.same ∙ ap (at_value b (missing b ps) limit at.opens) (along-form b p.at (drop p.read ps) form is refl) ∙ at_value-string b (missing b ps) limit at.opens (token b p.at) (tokens_along b (drop p.read ps)) put.string u.at is;
         before = at.before ++ token b p.at ∷ [];
         along = extended at.before p.at (drop p.read ps) form is refl at.along;
         reached = last_index-append at.before (token b p.at);
-        holds = subst (HoldsValue at.opens (text put.text) p.container (frames stack p.depth) (p.len + 1)) (items-grown nodes nodes' p.used put.node (string_item put.text ∷ []) l put.put (ap (λ i. i ∷ []) (sym put.item))) (Holds-value at.opens p.container (frames stack p.depth) p.len (map item_of (take p.used nodes)) (text put.text) at.holds);
+        holds = subst (HoldsValue at.opens (string put.string) p.container (frames stack p.depth) (p.len + 1)) (items-grown nodes nodes' p.used put.node (string_item put.string ∷ []) l put.put (ap (λ i. i ∷ []) (sym put.item))) (Holds-value at.opens p.container (frames stack p.depth) p.len (map item_of (take p.used nodes)) (string put.string) at.holds);
         deep = at.deep;
       }
 
-  -- behind the opening bracket of a value
+  -- after the opening bracket of a value
   opened : (c : Container) (stack : List StackState) (nodes : List Node) (p : Progress) (at : AtValue b ps limit stack nodes p) → p.depth < limit → form_at b p.at ≡ opening_form c → p.read < length ps
       → whole b ps limit ≡ at_container b (missing b ps) limit c at.opens (tokens_along b (get_or ps p.read 0 ∷ drop (p.read + 1) ps))
   opened c stack nodes p at l is k =
@@ -185,7 +185,7 @@ module _ (b ps : List ℕ) (limit : ℕ) where
   -- an empty container
   pub step-empty : (c : Container) (stack : List StackState) (nodes : List Node) (p : Progress) → AtValue b ps limit stack nodes p → p.used < length nodes → p.depth < limit → byte_at b p.at + 2 ≡ closer c
       → p.read < length ps → byte_at b (get_or ps p.read 0) ≡ closer c
-      → BehindValue b ps limit stack (set nodes p.used (header_of c 0 0)) (record p { read = p.read + 1; at = get_or ps p.read 0; byte = byte_at b (get_or ps p.read 0); used = p.used + 1; len = p.len + 1 })
+      → AfterValue b ps limit stack (set nodes p.used (header_of c 0 0)) (record p { read = p.read + 1; at = get_or ps p.read 0; byte = byte_at b (get_or ps p.read 0); used = p.used + 1; len = p.len + 1 })
   step-empty c stack nodes p at l room o k e =
       let i : ℕ = get_or ps p.read 0 in
       let rest : List ℕ = drop (p.read + 1) ps in
@@ -235,7 +235,7 @@ module _ (b ps : List ℕ) (limit : ℕ) where
         deep = omega (arith, at.deep);
       }
 
-  -- behind the next token, where it is a comma or a colon
+  -- after the next token, where it is a comma or a colon
   next-along : (before : List Token) (k : ℕ) (form : Form) → form_at b (get_or ps k 0) ≡ form → goes_on form ≡ true → k + 1 < length ps → tokens_along b ps ≡ before ++ tokens_along b (drop k ps)
       → tokens_along b ps ≡ (before ++ token b (get_or ps k 0) ∷ []) ++ tokens_along b (get_or ps (k + 1) 0 ∷ drop (k + 2) ps)
   next-along before k form is goes m along' =
@@ -248,7 +248,7 @@ module _ (b ps : List ℕ) (limit : ℕ) where
   next-token k m = let two : (k + 1) + 1 ≡ k + 2 = omega arith in next b ps (k + 1) m ∙ ap (λ n. tokens_along b (get_or ps (k + 1) 0 ∷ drop n ps)) two
 
   -- a comma, and the next member
-  pub step-comma : (stack : List StackState) (nodes : List Node) (p : Progress) → BehindValue b ps limit stack nodes p → 0 < p.depth → p.read < length ps → byte_at b (get_or ps p.read 0) ≡ 44 → p.read + 1 < length ps
+  pub step-comma : (stack : List StackState) (nodes : List Node) (p : Progress) → AfterValue b ps limit stack nodes p → 0 < p.depth → p.read < length ps → byte_at b (get_or ps p.read 0) ≡ 44 → p.read + 1 < length ps
       → AtMember b ps limit kinds.ExpectedObjectKey stack nodes (record p { read = p.read + 2; at = get_or ps (p.read + 1) 0; byte = byte_at b (get_or ps (p.read + 1) 0) })
   step-comma stack nodes p at some k e m = go at.opens at.last at.same at.before at.along at.holds at.deep
     where
@@ -306,8 +306,8 @@ module _ (b ps : List ℕ) (limit : ℕ) where
       items-patch nodes p.used f.header (header_of p.container p.len (p.used - f.header - 1)) (omega arith) ∙ ap (λ n. set items f.header (item_of (header_of p.container p.len (n - f.header - 1)))) (sym size)
 
   -- a closing bracket
-  pub step-close : (stack : List StackState) (nodes : List Node) (p : Progress) → BehindValue b ps limit stack nodes p → p.used ≤ length nodes → 0 < p.depth → p.read < length ps → byte_at b (get_or ps p.read 0) ≡ closer p.container
-      → BehindValue b ps limit stack (patch nodes (top stack p.depth) p)
+  pub step-close : (stack : List StackState) (nodes : List Node) (p : Progress) → AfterValue b ps limit stack nodes p → p.used ≤ length nodes → 0 < p.depth → p.read < length ps → byte_at b (get_or ps p.read 0) ≡ closer p.container
+      → AfterValue b ps limit stack (patch nodes (top stack p.depth) p)
       (record { read = p.read + 1; at = get_or ps p.read 0; byte = byte_at b (get_or ps p.read 0); used = p.used; depth = p.depth - 1; container = (top stack p.depth).outer; len = (top stack p.depth).len + 1 })
   step-close stack nodes p at l some k e = go at.opens at.last at.same at.holds at.deep
     where
@@ -316,7 +316,7 @@ module _ (b ps : List ℕ) (limit : ℕ) where
 
       go : (opens' : List Open) (last : Document) → whole b ps limit ≡ after_value b (missing b ps) limit opens' last (tokens_along b (drop p.read ps))
           → HoldsValue opens' last p.container (frames stack p.depth) p.len (map item_of (take p.used nodes)) → length opens' ≡ p.depth
-          → BehindValue b ps limit stack (patch nodes f p) (record { read = p.read + 1; at = get_or ps p.read 0; byte = byte_at b (get_or ps p.read 0); used = p.used; depth = p.depth - 1; container = f.outer; len = f.len + 1 })
+          → AfterValue b ps limit stack (patch nodes f p) (record { read = p.read + 1; at = get_or ps p.read 0; byte = byte_at b (get_or ps p.read 0); used = p.used; depth = p.depth - 1; container = f.outer; len = f.len + 1 })
       go [] last same h deep = absurd (omega (arith, deep, some))
       go (o ∷ outer) last same h deep =
           let i : ℕ = get_or ps p.read 0 in
@@ -335,44 +335,44 @@ module _ (b ps : List ℕ) (limit : ℕ) where
           }
 
   -- the header of the innermost container lies among the nodes, and the container round it has fewer members than there are nodes
-  pub top-header : (stack : List StackState) (nodes : List Node) (p : Progress) → BehindValue b ps limit stack nodes p → p.used ≤ length nodes → 0 < p.depth → (top stack p.depth).header < p.used
+  pub top-header : (stack : List StackState) (nodes : List Node) (p : Progress) → AfterValue b ps limit stack nodes p → p.used ≤ length nodes → 0 < p.depth → (top stack p.depth).header < p.used
   top-header stack nodes p at l some = go at.opens at.last at.holds at.deep
     where
       go : (opens' : List Open) (last : Document) → HoldsValue opens' last p.container (frames stack p.depth) p.len (map item_of (take p.used nodes)) → length opens' ≡ p.depth → (top stack p.depth).header < p.used
       go [] last h deep = absurd (omega (arith, deep, some))
       go (o ∷ outer) last h deep = omega (arith, items-length nodes p.used l, Holds-header o outer last p.container (top stack p.depth) (frames stack (p.depth - 1)) p.len _ (held o outer last stack nodes p some h))
 
-  pub top-len : (stack : List StackState) (nodes : List Node) (p : Progress) → BehindValue b ps limit stack nodes p → p.used ≤ length nodes → 0 < p.depth → (top stack p.depth).len < p.used
+  pub top-len : (stack : List StackState) (nodes : List Node) (p : Progress) → AfterValue b ps limit stack nodes p → p.used ≤ length nodes → 0 < p.depth → (top stack p.depth).len < p.used
   top-len stack nodes p at l some = go at.opens at.last at.holds at.deep
     where
       go : (opens' : List Open) (last : Document) → HoldsValue opens' last p.container (frames stack p.depth) p.len (map item_of (take p.used nodes)) → length opens' ≡ p.depth → (top stack p.depth).len < p.used
       go [] last h deep = absurd (omega (arith, deep, some))
       go (o ∷ outer) last h deep = omega (arith, items-length nodes p.used l, Holds-outer_len o outer last p.container (top stack p.depth) (frames stack (p.depth - 1)) p.len _ (held o outer last stack nodes p some h))
 
-  -- a name and its colon, and the value behind it
-  pub step-name : (kind : ErrorType) (stack : List StackState) (nodes nodes' : List Node) (p : Progress) (u : Left) → AtName b ps limit kind stack nodes p → p.used < length nodes → byte_at b p.at ≡ 34 → IsTextPut b p.at p.used nodes nodes' u
+  -- a name and its colon, and the value after it
+  pub step-name : (kind : ErrorType) (stack : List StackState) (nodes nodes' : List Node) (p : Progress) (u : Left) → AtName b ps limit kind stack nodes p → p.used < length nodes → byte_at b p.at ≡ 34 → IsStringPut b p.at p.used nodes nodes' u
       → p.read < length ps → byte_at b (get_or ps p.read 0) ≡ 58 → p.read + 1 < length ps
       → AtValue b ps limit stack nodes' (record p { read = p.read + 2; at = get_or ps (p.read + 1) 0; byte = byte_at b (get_or ps (p.read + 1) 0); used = p.used + 1 })
   step-name kind stack nodes nodes' p u at l q put k e m =
       let i : ℕ = get_or ps p.read 0 in
       let rest : List ℕ = drop (p.read + 1) ps in
-      let form : Form = string (Ok (put.text, u.at)) in
-      let is : form_at b p.at ≡ form = quotes b p.at q ∙ ap string put.read in
+      let form : Form = string_token (Ok (put.string, u.at)) in
+      let is : form_at b p.at ≡ form = quotes b p.at q ∙ ap string_token put.read in
       let named : List Token = at.before ++ token b p.at ∷ [] in
       record {
-        opens = in_object at.members put.text ∷ at.outer;
+        opens = in_object at.members put.string ∷ at.outer;
         same = at.same
             ∙ ap (at_name b (missing b ps) limit kind at.members at.outer) (along-form b p.at (drop p.read ps) form is refl ∙ ap (λ us. token b p.at ∷ us) (next b ps p.read k ∙ along-form b i rest name_separator (colons b i e) refl))
-            ∙ at_name-value b (missing b ps) limit kind at.members at.outer (token b p.at) (token b i) (tokens_along b rest) put.text u.at is (colons b i e)
-            ∙ ap (at_value b (missing b ps) limit (in_object at.members put.text ∷ at.outer)) (next-token p.read m);
+            ∙ at_name-value b (missing b ps) limit kind at.members at.outer (token b p.at) (token b i) (tokens_along b rest) put.string u.at is (colons b i e)
+            ∙ ap (at_value b (missing b ps) limit (in_object at.members put.string ∷ at.outer)) (next-token p.read m);
         before = named ++ token b i ∷ [];
         along = next-along named p.read name_separator (colons b i e) refl m (extended at.before p.at (drop p.read ps) form is refl at.along);
-        holds = subst (Holds (in_object at.members put.text ∷ at.outer) p.container (frames stack p.depth) p.len) (items-grown nodes nodes' p.used put.node (string_item put.text ∷ []) l put.put (ap (λ i. i ∷ []) (sym put.item))) (Holds-name at.members at.outer p.container (frames stack p.depth) p.len (map item_of (take p.used nodes)) put.text at.holds);
+        holds = subst (Holds (in_object at.members put.string ∷ at.outer) p.container (frames stack p.depth) p.len) (items-grown nodes nodes' p.used put.node (string_item put.string ∷ []) l put.put (ap (λ i. i ∷ []) (sym put.item))) (Holds-name at.members at.outer p.container (frames stack p.depth) p.len (map item_of (take p.used nodes)) put.string at.holds);
         deep = at.deep;
       }
 
-  -- the root is whole, and no token is behind it
-  pub step-end : (stack : List StackState) (nodes : List Node) (p : Progress) → BehindValue b ps limit stack nodes p → p.depth ≡ 0 → p.read ≡ length ps → IsBuilt b ps limit nodes p.used
+  -- the root is whole, and no token is after it
+  pub step-end : (stack : List StackState) (nodes : List Node) (p : Progress) → AfterValue b ps limit stack nodes p → p.depth ≡ 0 → p.read ≡ length ps → IsBuilt b ps limit nodes p.used
   step-end stack nodes p at none all = go at.opens at.same at.holds at.deep
     where
       go : (opens' : List Open) → whole b ps limit ≡ after_value b (missing b ps) limit opens' at.last (tokens_along b (drop p.read ps))
@@ -412,6 +412,6 @@ pub descent-built : (b : List ℕ) (limit : ℕ) (nodes : List Node) (used : ℕ
 descent-built b limit nodes used built =
     record { document = built.document; same = sym (whole-descent b limit) ∙ ap (λ r. r >>= root_end b (tokens_along b (positions b))) built.same; listed = built.listed }
 
--- What is told is the descent's fault.
+-- What is reported is the descent's fault.
 pub descent-told : (b : List ℕ) (limit : ℕ) (f : Fault) → Tells b (positions b) limit f → descent b limit ≡ Err (fault_with (error_type f.kind) f.index f.byte)
 descent-told b limit f told = sym (whole-descent b limit) ∙ told

@@ -8,7 +8,7 @@ use Rattle.std.proofs.lemmas.List.Elements.{filter-append}
 use Rattle.std.proofs.lemmas.List.Folds.{list_any-append}
 use Rattle.simd_json_parts.specs.Bytes.{quote, backslash, is_whitespace, is_structural, is_control, byte_at}
 use Rattle.simd_json_parts.specs.Positions.{is_even, backslashes_before, is_real_quote, real_quotes, is_inside, is_position}
-use Rattle.simd_json_parts.proofs.Parity.{is_even-suc}
+use Rattle.simd_json_parts.proofs.Lists.Parity.{is_even-suc}
 use Rattle.simd_json_stages.specs.Carries.{has_control_before, carry_at}
 use Rattle.simd_json_stages.specs.declared.stage1.Carry.{Carry}
 
@@ -22,7 +22,7 @@ or-false false = refl
 
 -- ---- the definitions
 
--- the run of backslashes is of odd length just where the byte before is one, behind a run of even length
+-- the run of backslashes is of odd length just where the byte before is one, after a run of even length
 pub odd-next : (b : List ℕ) (i : ℕ) → not (is_even (backslashes_before b (suc i))) ≡ ((byte_at b i == backslash) && is_even (backslashes_before b i))
 unfolding backslashes_before
 odd-next b i = go (byte_at b i == backslash)
@@ -72,8 +72,8 @@ is_quote c x = (x == quote) && not c.is_escaped
 abbrev is_inside_at : Carry → ℕ → Bool
 is_inside_at c x = not (beq c.is_inside (is_quote c x))
 
-abbrev pub carry_behind : Carry → ℕ → Carry
-carry_behind c x = record {
+abbrev pub carry_after : Carry → ℕ → Carry
+carry_after c x = record {
   is_escaped = (x == backslash) && not c.is_escaped;
   is_inside = is_inside_at c x;
   is_fresh = is_whitespace x || (is_structural x && not (is_inside_at c x)) || is_quote c x;
@@ -95,9 +95,9 @@ is_inside_at-inside b i = ap (λ t. not (beq (not (is_even (real_quotes b i))) t
 escaped-next : (b : List ℕ) (i : ℕ) → ((byte_at b i == backslash) && not (not (is_even (backslashes_before b i)))) ≡ not (is_even (backslashes_before b (suc i)))
 escaped-next b i = ap (λ t. (byte_at b i == backslash) && t) (not-not (is_even (backslashes_before b i))) ∙ sym (odd-next b i)
 
-pub carry_behind-next : (b : List ℕ) (i : ℕ) → carry_behind (carry_at b i) (byte_at b i) ≡ carry_at b (i + 1)
+pub carry_after-next : (b : List ℕ) (i : ℕ) → carry_after (carry_at b i) (byte_at b i) ≡ carry_at b (i + 1)
 unfolding is_inside
-carry_behind-next b i = rw (add-one, is_inside_at-inside b i, is_quote-real b i, escaped-next b i, control-next b i)
+carry_after-next b i = rw (add-one, is_inside_at-inside b i, is_quote-real b i, escaped-next b i, control-next b i)
 
 pub is_found-position : (b : List ℕ) (i : ℕ) → is_found (carry_at b i) (byte_at b i) ≡ is_position b i
 unfolding is_position

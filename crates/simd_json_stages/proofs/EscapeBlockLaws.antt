@@ -7,9 +7,10 @@ use Rattle.std.proofs.lemmas.List.Folds.{list_any_none, list_any_at}
 use Rattle.std.proofs.lemmas.List.FromFn.{get_or-range_with_len, length-range_with_len}
 use Rattle.simd_json_parts.specs.Bytes.{backslash, byte_at}
 use Rattle.simd_json_stages.specs.EscapeBlocks.{blocks_in, holds_backslash, backslash_blocks}
-use Rattle.simd_json_parts.proofs.PositionLaws.{Contains-range_with_len, Contains-filter_from}
+use Rattle.simd_json_parts.proofs.Positions.Order.{Contains-range_with_len, Contains-filter_from}
 use Rattle.std.specs.List.{Contains}
 use Rattle.simd_json_stages.proofs.CarryLaws.{filter-next}
+use Rattle.simd_json_stages.specs.EscapesAhead.{PlainFrom}
 
 -- Where no number of a range passes a test, the answer for the range is no.
 list_any-none_between : (p : ℕ → Bool) (a n : ℕ) → ((j : ℕ) → a ≤ j → j < a + n → p j ≡ false) → list_any p (range_with_len a n) ≡ false
@@ -24,12 +25,8 @@ list_any-some_between p a n j from to is =
     let there : get_or (range_with_len a n) (j - a) 0 ≡ j = omega (arith, get_or-range_with_len a n (j - a) 0) in
     list_any_at p (range_with_len a n) (j - a) 0 (omega (arith, length-range_with_len a n)) (ap p there ∙ is)
 
--- no byte from index k up to m is a backslash
-abbrev pub PlainBetween : List ℕ → ℕ → ℕ → Type 0
-PlainBetween b k m = (j : ℕ) → k ≤ j → j < m → byte_at b j ≢ backslash
-
 -- A block of which no byte is a backslash holds none.
-pub holds_backslash-plain : (b : List ℕ) (k : ℕ) → PlainBetween b (64 * k) (64 * k + 64) → holds_backslash b k ≡ false
+pub holds_backslash-plain : (b : List ℕ) (k : ℕ) → PlainFrom b (64 * k) (64 * k + 64) → holds_backslash b k ≡ false
 unfolding holds_backslash
 holds_backslash-plain b k plain = list_any-none_between (λ j. byte_at b j == backslash) (64 * k) 64 (λ j f t. ne_eqb (byte_at b j) backslash (plain j f t))
 
@@ -52,11 +49,11 @@ filter-stays p m n l none = let there : m + (n - m) ≡ n = omega arith in subst
 pub byte_at-past : (b : List ℕ) (j : ℕ) → length b ≤ j → byte_at b j ≢ backslash
 byte_at-past b j l e = omega (arith, get_or_past b j 32 l, e)
 
--- What is listed before index i: the blocks before block n that hold a backslash, and none stands behind those.
+-- What is listed before index i: the blocks before block n that hold a backslash, and none stands after those.
 pub record ListsBlocks (b : List ℕ) (i : ℕ) (n : ℕ) (listed : List ℕ) : Type 0 where
   pub begun : 64 * n < i + 64
   pub these : listed ≡ filter (holds_backslash b) (range_with_len 0 n)
-  pub plain : PlainBetween b (64 * n) i
+  pub plain : PlainFrom b (64 * n) i
 
 -- Before the first byte nothing is listed.
 pub ListsBlocks-none : (b : List ℕ) → ListsBlocks b 0 0 []

@@ -11,7 +11,7 @@ pub begins : (b blocks : List ℕ) (m : ℕ) → blocks ≡ backslash_blocks b �
 begins b blocks m is l = ap (λ k. 64 * k) (get_or_default blocks m 0 (blocks_in (length b)) l ∙ ap (λ ks. get_or ks m (blocks_in (length b))) is)
 
 module _ (b : List ℕ) (e : Escapes) (at : ℕ) (a : AreAhead b e at) where
-  -- behind a block that is passed, none stands up to the next
+  -- after a block that is passed, none stands up to the next
   pub plain-passed : (m : ℕ) → m < length e.blocks.now → 64 * get_or e.blocks.now m 0 + 64 ≤ at → PlainFrom b at (listed_start b (m + 1))
   plain-passed m l h j f t =
       let more : m < length (backslash_blocks b) = omega (arith, ap length a.blocks) in

@@ -1,4 +1,4 @@
--- Behind a comma stands the next member.
+-- After a comma stands the next member.
 use Rattle.std.proofs.Common.{◌≡◌, ◌≢◌, refl, sym, ◌∙◌, ap, subst, ℕ, ◌+◌, ◌-◌, ◌<◌, ◌≤◌, List, [], ◌∷◌, length, get_or, map, take, drop, arith}
 use Rattle.std.specs.Prelude.{None, Result, Ok, Err, IfOk, IfErr, MatchResult}
 use Rattle.simd_json_parts.specs.Bytes.{byte_at}
@@ -9,11 +9,11 @@ use Rattle.simd_json_parts.specs.declared.node.Node.TheVariants.{Static}
 use Rattle.simd_json_parts.specs.declared.node.StaticNode.TheVariants.{Null}
 use Rattle.simd_json_parts.specs.Nodes.{item_of}
 use Rattle.simd_json_stages.specs.Continued.{Open}
-use Rattle.simd_json_stages.specs.Building.{closer, end_kind, frames, top, patch, HoldsValue, AtValue, AtName, AtMember, AtMemberOf, BehindValue, Opens, Goes, Tells}
+use Rattle.simd_json_stages.specs.Building.{closer, end_kind, frames, top, patch, HoldsValue, AtValue, AtName, AtMember, AtMemberOf, AfterValue, Opens, Goes, Tells}
 use Rattle.simd_json_stages.specs.EscapesAhead.{AreAhead}
 use Rattle.simd_json_stages.specs.Refusals.{error_type}
 use Rattle.simd_json_stages.specs.Left.{Left}
-use Rattle.simd_json_stages.specs.Progresses.{IsRead, IsBefore, IsBehind, IsWithin, IsAhead, Advances, Passes}
+use Rattle.simd_json_stages.specs.Progresses.{IsRead, IsBefore, IsAfter, IsWithin, IsAhead, Advances, Passes}
 use Rattle.simd_json_stages.specs.declared.stage2.Container.TheVariants.{Array, Object}
 use Rattle.simd_json_stages.specs.declared.stage2.Follower.{Follower}
 use Rattle.simd_json_stages.specs.declared.stage2.Value.{Value}
@@ -36,7 +36,7 @@ module _ (b ps : List ℕ) (e : ps ≡ positions b) where
   abbrev pub one_more : Progress → Progress
   one_more p = record p { read = p.read + 1; at = get_or ps p.read 0; byte = byte_at b (get_or ps p.read 0) }
 
-  -- and at the one behind it
+  -- and at the one after it
   abbrev pub two_more : Progress → Progress
   two_more p = record p { read = p.read + 2; at = get_or ps (p.read + 1) 0; byte = byte_at b (get_or ps (p.read + 1) 0) }
 
@@ -48,52 +48,52 @@ module _ (b ps : List ℕ) (e : ps ≡ positions b) where
   Answers p r = MatchResult r (λ f. (p.read + 1 < length ps) × (f ≡ Next (two_more p)))
       (λ fault. (length ps ≤ p.read + 1) × (fault ≡ record { kind = kinds.Syntax; index = get_or ps p.read 0; byte = byte_at b (get_or ps p.read 0) }))
 
-  -- the second of two positions is behind the first
+  -- the second of two positions is after the first
   rises : (p : Progress) → IsRead b ps p → p.read + 1 < length ps → get_or ps p.read 0 < get_or ps (p.read + 1) 0
   rises p r more = later b ps e (one_more p) (read-next b ps e p (one_more p) r (omega arith) refl refl refl) more
 
-  pub bounds-comma : (u : Left) (p q : Progress) → IsBehind b ps u p → p.read < length ps → q ≡ one_more p → q.read < length ps → (u.at ≤ get_or ps q.read 0) × (get_or ps q.read 0 < u.at + length u.bytes)
+  pub bounds-comma : (u : Left) (p q : Progress) → IsAfter b ps u p → p.read < length ps → q ≡ one_more p → q.read < length ps → (u.at ≤ get_or ps q.read 0) × (get_or ps q.read 0 < u.at + length u.bytes)
   bounds-comma u p q r more is h =
       let read : q.read ≡ p.read + 1 = ap (λ (q : Progress). q.read) is in
       let k : p.read + 1 < length ps = omega arith in
       let l : get_or ps p.read 0 < get_or ps (p.read + 1) 0 = rises p r.read k in
       subst (λ n. (u.at ≤ get_or ps n 0) × (get_or ps n 0 < u.at + length u.bytes)) (sym read) (looks b ps e u (get_or ps (p.read + 1) 0) r.same (omega (arith, r.before more)) (inside b ps e (p.read + 1) k))
 
-  pub answers : (u : Left) (p q : Progress) (r : Result Follower Fault) → IsBehind b ps u p → p.read < length ps → q ≡ one_more p
+  pub answers : (u : Left) (p q : Progress) (r : Result Follower Fault) → IsAfter b ps u p → p.read < length ps → q ≡ one_more p
       → MatchResult r (λ f. (q.read < length ps) × (f ≡ Next (record q { read = q.read + 1; at = get_or ps q.read 0; byte = byte_at u.bytes (get_or ps q.read 0 - u.at) })))
       (λ fault. (length ps ≤ q.read) × (fault ≡ record { kind = kinds.Syntax; index = q.at; byte = q.byte })) → Answers p r
-  answers u p q r behind more is h =
+  answers u p q r after more is h =
       go r (subst (λ (q : Progress). MatchResult r (λ f. (q.read < length ps) × (f ≡ Next (record q { read = q.read + 1; at = get_or ps q.read 0; byte = byte_at u.bytes (get_or ps q.read 0 - u.at) })))
       (λ fault. (length ps ≤ q.read) × (fault ≡ record { kind = kinds.Syntax; index = q.at; byte = q.byte }))) is h)
     where
       go : (r : Result Follower Fault) → MatchResult r (λ f. (p.read + 1 < length ps) × (f ≡ Next (record p { read = (p.read + 1) + 1; at = get_or ps (p.read + 1) 0; byte = byte_at u.bytes (get_or ps (p.read + 1) 0 - u.at) })))
           (λ fault. (length ps ≤ p.read + 1) × (fault ≡ record { kind = kinds.Syntax; index = get_or ps p.read 0; byte = byte_at b (get_or ps p.read 0) })) → Answers p r
       go (Ok f) (k, next) =
-          let l : get_or ps p.read 0 < get_or ps (p.read + 1) 0 = rises p behind.read k in
-          let byte : byte_at u.bytes (get_or ps (p.read + 1) 0 - u.at) ≡ byte_at b (get_or ps (p.read + 1) 0) = looked b ps e u (get_or ps (p.read + 1) 0) _ behind.same (omega (arith, behind.before more)) refl in
+          let l : get_or ps p.read 0 < get_or ps (p.read + 1) 0 = rises p after.read k in
+          let byte : byte_at u.bytes (get_or ps (p.read + 1) 0 - u.at) ≡ byte_at b (get_or ps (p.read + 1) 0) = looked b ps e u (get_or ps (p.read + 1) 0) _ after.same (omega (arith, after.before more)) refl in
           (k, next ∙ ap (λ x. Next (record p { read = (p.read + 1) + 1; at = get_or ps (p.read + 1) 0; byte = x })) byte ∙ ap Next (two_more-is p))
       go (Err fault) h = h
 
-  pub next-progress : (u : Left) (p : Progress) (r : Result Follower Fault) → IsBehind b ps u p → p.read < length ps → Answers p r → IfOk r (IsAhead b ps u)
-  next-progress u p (Err fault) behind more h = tt
-  next-progress u p (Ok f) behind more (k, is) =
-      let first : IsRead b ps (one_more p) = read-next b ps e p (one_more p) behind.read more refl refl refl in
-      let l : get_or ps p.read 0 < get_or ps (p.read + 1) 0 = rises p behind.read k in
+  pub next-progress : (u : Left) (p : Progress) (r : Result Follower Fault) → IsAfter b ps u p → p.read < length ps → Answers p r → IfOk r (IsAhead b ps u)
+  next-progress u p (Err fault) after more h = tt
+  next-progress u p (Ok f) after more (k, is) =
+      let first : IsRead b ps (one_more p) = read-next b ps e p (one_more p) after.read more refl refl refl in
+      let l : get_or ps p.read 0 < get_or ps (p.read + 1) 0 = rises p after.read k in
       subst (IsAhead b ps u) (sym is)
       (record {
         read = read-next b ps e (one_more p) (two_more p) first k (omega arith) refl refl;
-        used = omega (arith, behind.used);
-        deep = behind.deep;
-        len = behind.len;
-        unread = record { same = behind.same; before = omega (arith, behind.before more) };
+        used = omega (arith, after.used);
+        deep = after.deep;
+        len = after.len;
+        unread = record { same = after.same; before = omega (arith, after.before more) };
       })
 
-  -- told of the progress s that it began with
-  pub next-passed : (u : Left) (s p : Progress) (r : Result Follower Fault) → IsBehind b ps u p → p.read < length ps → s.read ≤ p.read → s.at ≤ p.at → p.depth ≤ s.depth → Answers p r → IfOk r (Passes s)
-  next-passed u s p (Err fault) behind more i j k h = tt
-  next-passed u s p (Ok f) behind more i j k (two, is) =
-      let l : get_or ps p.read 0 < get_or ps (p.read + 1) 0 = rises p behind.read two in
-      let m : p.at < get_or ps p.read 0 = later b ps e p behind.read more in
+  -- said of the progress s that it began with
+  pub next-passed : (u : Left) (s p : Progress) (r : Result Follower Fault) → IsAfter b ps u p → p.read < length ps → s.read ≤ p.read → s.at ≤ p.at → p.depth ≤ s.depth → Answers p r → IfOk r (Passes s)
+  next-passed u s p (Err fault) after more i j k h = tt
+  next-passed u s p (Ok f) after more i j k (two, is) =
+      let l : get_or ps p.read 0 < get_or ps (p.read + 1) 0 = rises p after.read two in
+      let m : p.at < get_or ps p.read 0 = later b ps e p after.read more in
       subst (Passes s) (sym is) (omega arith, omega arith, omega arith)
 
   -- a fault at the next token
@@ -101,21 +101,21 @@ module _ (b ps : List ℕ) (e : ps ≡ positions b) where
       → Tells b ps limit (record { kind = kind; index = get_or ps p.read 0; byte = byte_at b (get_or ps p.read 0) }) → Tells b ps limit f
   told-next limit kind p q f is fault told = subst (Tells b ps limit) (sym (fault ∙ ap (λ (q : Progress). record { kind = kind; index = q.at; byte = q.byte }) is)) told
 
-  pub next-goes : (limit : ℕ) (stack : List StackState) (nodes : List Node) (p : Progress) (r : Result Follower Fault) → BehindValue b ps limit stack nodes p → 0 < p.depth → p.read < length ps → byte_at b (get_or ps p.read 0) ≡ 44 → Answers p r
+  pub next-goes : (limit : ℕ) (stack : List StackState) (nodes : List Node) (p : Progress) (r : Result Follower Fault) → AfterValue b ps limit stack nodes p → 0 < p.depth → p.read < length ps → byte_at b (get_or ps p.read 0) ≡ 44 → Answers p r
       → IfOk r (Goes b ps limit stack nodes)
   next-goes limit stack nodes p (Err fault) at some more comma h = tt
   next-goes limit stack nodes p (Ok f) at some more comma (k, is) = subst (Goes b ps limit stack nodes) (sym is) (step-comma b ps limit stack nodes p at some more comma k)
 
-  pub next-tells : (limit : ℕ) (stack : List StackState) (nodes : List Node) (p : Progress) (r : Result Follower Fault) → BehindValue b ps limit stack nodes p → 0 < p.depth → p.read < length ps → byte_at b (get_or ps p.read 0) ≡ 44 → Answers p r
+  pub next-tells : (limit : ℕ) (stack : List StackState) (nodes : List Node) (p : Progress) (r : Result Follower Fault) → AfterValue b ps limit stack nodes p → 0 < p.depth → p.read < length ps → byte_at b (get_or ps p.read 0) ≡ 44 → Answers p r
       → IfErr r (Tells b ps limit)
   next-tells limit stack nodes p (Ok f) at some more comma h = tt
   next-tells limit stack nodes p (Err fault) at some more comma (k, is) = subst (Tells b ps limit) (sym is) (tells-comma_end b ps limit stack nodes p at some more comma (omega arith))
 
-  -- behind a closing bracket, as `close` makes the progress
-  pub closed-behind : (u : Left) (stack : List StackState) (p q q' : Progress) → IsBehind b ps u p → 0 < p.depth → p.read < length ps → (top stack p.depth).len < p.used → q ≡ one_more p
-      → q' ≡ record q { depth = q.depth - 1; container = (top stack q.depth).outer; len = (top stack q.depth).len + 1 } → IsBehind b ps u q'
-  closed-behind u stack p q q' r some more fewer is is' =
-      subst (IsBehind b ps u) (sym (is' ∙ ap (λ (q : Progress). record q { depth = q.depth - 1; container = (top stack q.depth).outer; len = (top stack q.depth).len + 1 }) is))
+  -- after a closing bracket, as `close` makes the progress
+  pub closed-after : (u : Left) (stack : List StackState) (p q q' : Progress) → IsAfter b ps u p → 0 < p.depth → p.read < length ps → (top stack p.depth).len < p.used → q ≡ one_more p
+      → q' ≡ record q { depth = q.depth - 1; container = (top stack q.depth).outer; len = (top stack q.depth).len + 1 } → IsAfter b ps u q'
+  closed-after u stack p q q' r some more fewer is is' =
+      subst (IsAfter b ps u) (sym (is' ∙ ap (λ (q : Progress). record q { depth = q.depth - 1; container = (top stack q.depth).outer; len = (top stack q.depth).len + 1 }) is))
       (let s : Progress = record (one_more p) { depth = p.depth - 1; container = (top stack p.depth).outer; len = (top stack p.depth).len + 1 } in
       let read : IsRead b ps s = read-next b ps e p s r.read more refl refl refl in
       record {
@@ -127,14 +127,14 @@ module _ (b ps : List ℕ) (e : ps ≡ positions b) where
         before = λ h. omega (arith, r.before more, later b ps e s read h);
       })
 
-  pub closed-value : (limit : ℕ) (stack : List StackState) (nodes nodes' : List Node) (p q q' : Progress) → BehindValue b ps limit stack nodes p → p.used ≤ length nodes → 0 < p.depth → p.read < length ps → byte_at b (get_or ps p.read 0) ≡ closer p.container → q ≡ one_more p
-      → q' ≡ record q { depth = q.depth - 1; container = (top stack q.depth).outer; len = (top stack q.depth).len + 1 } → nodes' ≡ patch nodes (top stack q.depth) q → BehindValue b ps limit stack nodes' q'
+  pub closed-value : (limit : ℕ) (stack : List StackState) (nodes nodes' : List Node) (p q q' : Progress) → AfterValue b ps limit stack nodes p → p.used ≤ length nodes → 0 < p.depth → p.read < length ps → byte_at b (get_or ps p.read 0) ≡ closer p.container → q ≡ one_more p
+      → q' ≡ record q { depth = q.depth - 1; container = (top stack q.depth).outer; len = (top stack q.depth).len + 1 } → nodes' ≡ patch nodes (top stack q.depth) q → AfterValue b ps limit stack nodes' q'
   closed-value limit stack nodes nodes' p q q' at l some more byte is is' patched =
-      subst (BehindValue b ps limit stack nodes') (sym (is' ∙ ap (λ (q : Progress). record q { depth = q.depth - 1; container = (top stack q.depth).outer; len = (top stack q.depth).len + 1 }) is))
-      (subst (λ ns. BehindValue b ps limit stack ns (record (one_more p) { depth = p.depth - 1; container = (top stack p.depth).outer; len = (top stack p.depth).len + 1 })) (sym (patched ∙ ap (λ (q : Progress). patch nodes (top stack q.depth) q) is))
+      subst (AfterValue b ps limit stack nodes') (sym (is' ∙ ap (λ (q : Progress). record q { depth = q.depth - 1; container = (top stack q.depth).outer; len = (top stack q.depth).len + 1 }) is))
+      (subst (λ ns. AfterValue b ps limit stack ns (record (one_more p) { depth = p.depth - 1; container = (top stack p.depth).outer; len = (top stack p.depth).len + 1 })) (sym (patched ∙ ap (λ (q : Progress). patch nodes (top stack q.depth) q) is))
       (step-close b ps limit stack nodes p at l some more byte))
 
-  -- ---- behind a name and its colon
+  -- ---- after a name and its colon
 
   pub second-looks : (u : Left) (p q : Progress) → IsRead b ps p → u.bytes ≡ drop u.at b → u.at ≤ get_or ps p.read 0 → p.read < length ps → q ≡ one_more p → (q.read ≡ length ps → ⊥) → (u.at ≤ get_or ps q.read 0) × (get_or ps q.read 0 < u.at + length u.bytes)
   second-looks u p q r same ahead more is other =
@@ -171,20 +171,20 @@ module _ (b ps : List ℕ) (e : ps ≡ positions b) where
       let m : p.at < get_or ps p.read 0 = later b ps e p r (omega arith) in
       subst (λ (s : Progress). (p.read < s.read) × (p.at ≤ s.at) × (s.depth ≡ p.depth)) (sym is) (omega arith, omega arith, refl)
 
-  -- behind the root, as `end` answers
-  pub end-goes : (limit : ℕ) (stack : List StackState) (nodes : List Node) (p : Progress) (r : Result Follower Fault) (Q : Fault → Type 0) → BehindValue b ps limit stack nodes p → p.depth ≡ 0
+  -- after the root, as `end` answers
+  pub end-goes : (limit : ℕ) (stack : List StackState) (nodes : List Node) (p : Progress) (r : Result Follower Fault) (Q : Fault → Type 0) → AfterValue b ps limit stack nodes p → p.depth ≡ 0
       → MatchResult r (λ f. (p.read ≡ length ps) × (f ≡ End p.used)) Q → IfOk r (Goes b ps limit stack nodes)
   end-goes limit stack nodes p (Err fault) Q at none h = tt
   end-goes limit stack nodes p (Ok f) Q at none (all, is) = subst (Goes b ps limit stack nodes) (sym is) (step-end b ps limit stack nodes p at none all)
 
-  pub end-tells : (limit : ℕ) (stack : List StackState) (nodes : List Node) (p : Progress) (first : Node) (r : Result Follower Fault) (P : Follower → Type 0) → BehindValue b ps limit stack nodes p → IsRead b ps p → p.depth ≡ 0 → 0 < p.used → p.used ≤ length nodes → first ≡ get_or nodes 0 (Static Null)
+  pub end-tells : (limit : ℕ) (stack : List StackState) (nodes : List Node) (p : Progress) (first : Node) (r : Result Follower Fault) (P : Follower → Type 0) → AfterValue b ps limit stack nodes p → IsRead b ps p → p.depth ≡ 0 → 0 < p.used → p.used ≤ length nodes → first ≡ get_or nodes 0 (Static Null)
       → MatchResult r P (λ fault. (p.read ≢ length ps) × (fault ≡ record { kind = end_kind first; index = p.at; byte = p.byte })) → IfErr r (Tells b ps limit)
   end-tells limit stack nodes p first (Ok f) P at read none some l is h = tt
   end-tells limit stack nodes p first (Err fault) P at read none some l is (more, told) =
       told-at b ps limit (end_kind first) p fault told read.first (tells-trailing b ps limit stack nodes p first at none (omega (arith, more, read.within)) some l is)
 
 -- a root that is whole has a node
-pub some-node : (b ps : List ℕ) (limit : ℕ) (stack : List StackState) (nodes : List Node) (p : Progress) → BehindValue b ps limit stack nodes p → p.depth ≡ 0 → p.used ≤ length nodes → 0 < p.used
+pub some-node : (b ps : List ℕ) (limit : ℕ) (stack : List StackState) (nodes : List Node) (p : Progress) → AfterValue b ps limit stack nodes p → p.depth ≡ 0 → p.used ≤ length nodes → 0 < p.used
 some-node b ps limit stack nodes p at none l = go at.opens at.deep at.holds
   where
     go : (opens : List Open) → length opens ≡ p.depth → HoldsValue opens at.last p.container (frames stack p.depth) p.len (map item_of (take p.used nodes)) → 0 < p.used

@@ -1,7 +1,7 @@
 -- What is held grows by a value, by a name, by an opening bracket and by a closing one.
 use Rattle.std.proofs.Common.{◌≡◌, refl, sym, ◌∙◌, ap, subst, ℕ, ◌+◌, ◌-◌, ◌<◌, ◌≤◌, List, [], ◌∷◌, ◌++◌, length, set, append_assoc, length-append, arith}
 use Rattle.std.proofs.lemmas.List.{append-nil}
-use Rattle.simd_json_parts.specs.Document.{Document, null, boolean, integer, decimal, text, array, object, elements, members, no_elements, no_members}
+use Rattle.simd_json_parts.specs.Document.{Document, null, boolean, integer, decimal, string, array, object, elements, members, no_elements, no_members}
 use Rattle.simd_json_parts.specs.Nodes.{Item, string_item, array_item, object_item, item_of}
 use Rattle.simd_json_parts.specs.Listing.{listing, elements_listing, members_listing}
 use Rattle.simd_json_stages.specs.Continued.{Open, in_array, in_object, elements_onto, members_onto}
@@ -51,7 +51,7 @@ listing-some null = omega arith
 listing-some (boolean b) = omega arith
 listing-some (integer minus n) = omega arith
 listing-some (decimal literal) = omega arith
-listing-some (text t) = omega arith
+listing-some (string t) = omega arith
 listing-some (array ds) = omega arith
 listing-some (object ms) = omega arith
 
@@ -63,7 +63,7 @@ length-member_listings : (ms : List (List ℕ × Document)) → length ms ≤ le
 length-member_listings [] = omega arith
 length-member_listings (m ∷ ms) = omega (arith, length-member_listings ms, length-append (listing m.1) (member_listings ms))
 
--- ---- what stands behind a header
+-- ---- what stands after a header
 
 -- it grows
 Headed-grown : (round : Container → List StackState → ℕ → List Item → Type 0) (us vs ws : List Item) (m n : ℕ) (fs : List StackState) (len more : ℕ) (items : List Item)
@@ -86,10 +86,10 @@ Holds-len (in_object ms name ∷ outer) c fs len items h =
     let enough : length ms ≤ length (member_listings ms ++ string_item name ∷ []) = omega (arith, length-member_listings ms, length-append (member_listings ms) (string_item name ∷ [])) in
     Headed-len (Holds outer) (member_listings ms ++ string_item name ∷ []) (length ms) fs len items enough h.1
 
--- the list with another element behind the first of its parts
-set-behind : {X : Type 0} (xs ys : List X) (x y : X) → set (xs ++ x ∷ ys) (length xs) y ≡ xs ++ y ∷ ys
-set-behind [] ys x y = refl
-set-behind (z ∷ xs) ys x y = ap (λ zs. z ∷ zs) (set-behind xs ys x y)
+-- the list with another element after the first of its parts
+set-after : {X : Type 0} (xs ys : List X) (x y : X) → set (xs ++ x ∷ ys) (length xs) y ≡ xs ++ y ∷ ys
+set-after [] ys x y = refl
+set-after (z ∷ xs) ys x y = ap (λ zs. z ∷ zs) (set-after xs ys x y)
 
 -- its header is patched
 patched : (item : ℕ → ℕ → Item) (before us : List Item) (header : Item) (n at len : ℕ) (items : List Item) → items ≡ before ++ header ∷ us → at ≡ length before → len ≡ n
@@ -99,7 +99,7 @@ patched item before us header n at len items is at-is count =
     ap (λ k. set items at (item len k)) beneath
     ∙ ap (λ k. set items k (item len (length us))) at-is
     ∙ ap (λ xs. set xs (length before) (item len (length us))) is
-    ∙ set-behind before us header (item len (length us))
+    ∙ set-after before us header (item len (length us))
     ∙ ap (λ k. before ++ item k (length us) ∷ us) count
 
 Headed-header : (round : Container → List StackState → ℕ → List Item → Type 0) (us : List Item) (n : ℕ) (f : StackState) (fs : List StackState) (len : ℕ) (items : List Item)

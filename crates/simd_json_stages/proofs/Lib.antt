@@ -1,16 +1,17 @@
-pub mod CarryLaws
-pub mod Steps
-pub mod Holding
-pub mod ScalarLaws
-pub mod Places
-pub mod TokenForms
-pub mod Bounds
-pub mod BuildingSteps
-pub mod Refusing
-pub mod Following
-pub mod EscapeBlockLaws
-pub mod BetweenBlocks
-pub mod EscapesPassed
-pub mod TextEnds
-pub mod ScalarPut
-pub mod TextPut
+pub mod Exits
+mod CarryLaws
+mod Steps
+mod Holding
+mod ScalarLaws
+mod Places
+mod TokenForms
+mod Bounds
+mod BuildingSteps
+mod Refusing
+mod Following
+mod EscapeBlockLaws
+mod BetweenBlocks
+mod EscapesPassed
+mod StringEnds
+mod ScalarPut
+mod StringPut

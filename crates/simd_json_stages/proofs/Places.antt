@@ -1,23 +1,23 @@
 -- Where the machine is: its last token stands at a position, and the next position is known.
-use Rattle.std.proofs.Common.{◌≡◌, sym, ◌∙◌, ap, subst, ℕ, zero, suc, ◌+◌, ◌-◌, ◌<◌, ◌≤◌, ◌⊎◌, inl, inr, List, ◌∷◌, ◌++◌, length, get_or, drop, true, false, not, ◌&&◌, ◌||◌, Contains, IsFalse, refl, nat_eq, arith}
+use Rattle.std.proofs.Common.{◌≡◌, sym, ◌∙◌, ap, subst, ℕ, zero, suc, ◌+◌, ◌-◌, ◌<◌, ◌≤◌, ◌⊎◌, inl, inr, List, ◌∷◌, ◌++◌, length, get_or, drop, true, not, ◌&&◌, ◌||◌, Contains, IsFalse, refl, nat_eq, arith}
 use Rattle.std.specs.Prelude.{Some, None, IsUtf8}
 use Rattle.std.specs.List.Sorted.{IsStrictlyIncreasing}
-use Rattle.std.proofs.lemmas.Bool.{cases_Bool, cases_lt, or_cases, and_parts, and_from, or_from, cond-false, false≢true}
+use Rattle.std.proofs.lemmas.Bool.{cases_Bool, cases_lt, or_cases, and_parts, or_from, false≢true}
 use Rattle.std.proofs.lemmas.List.{get_or_default, get_or_past, get_or-drop, drop-drop, length-drop}
 use Rattle.std.proofs.lemmas.List.Elements.{Contains-append_right}
-use Rattle.simd_json_parts.specs.Bytes.{quote, backslash, is_whitespace, is_structural, byte_at}
-use Rattle.simd_json_parts.specs.InputFaults.{input_fault, has_bad_text}
-use Rattle.simd_json_parts.specs.Positions.{is_even, backslashes_before, is_real_quote, is_inside, is_fresh, is_position, positions}
-use Rattle.simd_json_parts.specs.TextAt.{closing_quote}
+use Rattle.simd_json_parts.specs.Bytes.{quote, is_whitespace, is_structural, byte_at}
+use Rattle.simd_json_parts.specs.InputFaults.{input_fault, has_bad_string}
+use Rattle.simd_json_parts.specs.Positions.{is_real_quote, is_inside, is_fresh, is_position, positions}
+use Rattle.simd_json_parts.specs.StringAt.{closing_quote}
 use Rattle.simd_json_parts.specs.TokenEnds.{token_end}
 use Rattle.simd_json_parts.specs.Tokens.{Token, form_at, tokens}
 use Rattle.simd_json_parts.specs.TokensAlong.{tokens_along}
-use Rattle.simd_json_parts.proofs.BetweenTokens.{no_position-within}
-use Rattle.simd_json_parts.proofs.BoundaryLaws.{apart}
-use Rattle.simd_json_parts.proofs.CleanInputs.{IsClean, IsClean-input}
-use Rattle.simd_json_parts.proofs.PositionLaws.{IsStrictlyIncreasing-positions, Contains-positions}
-use Rattle.simd_json_parts.proofs.TextPlaces.{closing_quote-inside, utf8-opening}
-use Rattle.simd_json_parts.proofs.TokenLaws.{tokens-positions}
+use Rattle.simd_json_parts.proofs.Positions.Between.{no_position-within}
+use Rattle.simd_json_parts.proofs.Positions.Boundaries.{is_real_quote-fresh}
+use Rattle.simd_json_parts.proofs.Sound.CleanInputs.{IsClean, IsClean-input}
+use Rattle.simd_json_parts.proofs.Positions.Order.{IsStrictlyIncreasing-positions, Contains-positions}
+use Rattle.simd_json_parts.proofs.Strings.Standalone.{closing_quote-inside, utf8-opening}
+use Rattle.simd_json_parts.proofs.Positions.TokensAtPositions.{tokens-positions}
 use Rattle.simd_json_stages.specs.Left.{Left}
 use Rattle.simd_json_stages.specs.Progresses.{IsRead, IsUnread}
 use Rattle.simd_json_stages.specs.declared.stage2.Progress.{Progress}
@@ -36,30 +36,7 @@ rising xs rise i (suc j) g l =
       | inr after ↦ let same : i ≡ j = omega arith in subst (λ n. get_or xs n 0 < get_or xs (suc j) 0) (sym same) step
     ]
 
--- what ends a token is no backslash
-no_backslash : (b : List ℕ) (i : ℕ) → is_fresh b (suc i) ≡ true → nat_eq (byte_at b i) backslash ≡ false
-unfolding is_real_quote
-no_backslash b i fresh =
-    elim (or_cases (is_whitespace (byte_at b i) || (is_structural (byte_at b i) && not (is_inside b i))) (is_real_quote b i) fresh) [
-      | inl h ↦ elim (or_cases _ _ h) [
-        | inl space ↦ apart is_whitespace (byte_at b i) backslash space refl
-        | inr structural ↦ apart is_structural (byte_at b i) backslash (and_parts _ _ structural).0 refl
-      ]
-      | inr real ↦ apart (λ x. nat_eq x quote) (byte_at b i) backslash (and_parts _ _ real).0 refl
-    ]
-
--- so none stands before a fresh index,
-backslashes_before-fresh : (b : List ℕ) (k : ℕ) → is_fresh b k ≡ true → backslashes_before b k ≡ 0
-unfolding backslashes_before
-backslashes_before-fresh b zero fresh = refl
-backslashes_before-fresh b (suc i) fresh = cond-false (nat_eq (byte_at b i) backslash) (suc (backslashes_before b i)) 0 (no_backslash b i fresh)
-
--- and a quote there is real
-is_real_quote-fresh : (b : List ℕ) (k : ℕ) → is_fresh b k ≡ true → byte_at b k ≡ quote → is_real_quote b k ≡ true
-unfolding is_real_quote
-is_real_quote-fresh b k fresh e = and_from _ _ (ap (λ x. nat_eq x quote) e) (ap is_even (backslashes_before-fresh b k fresh))
-
--- a position that holds a quote is inside: it opens a text
+-- a position that holds a quote is inside: it opens a string
 quote-inside : (b : List ℕ) (i : ℕ) → is_position b i ≡ true → byte_at b i ≡ quote → is_inside b i ≡ true
 unfolding is_position
 quote-inside b i is e =
@@ -69,12 +46,12 @@ quote-inside b i is e =
           let outside : (not (is_inside b i) && not (is_real_quote b i)) ≡ true = (and_parts _ _ other).0 in
           let first : (is_structural (byte_at b i) || (not (is_whitespace (byte_at b i)) && is_fresh b i)) ≡ true = (and_parts _ _ other).1 in
           let fresh : is_fresh b i ≡ true = ap (λ x. is_structural x || (not (is_whitespace x) && is_fresh b i)) (sym e) ∙ first in
-          absurd (false≢true (ap not (sym (is_real_quote-fresh b i fresh e)) ∙ (and_parts _ _ outside).1))
+          absurd (false≢true (ap not (sym (is_real_quote-fresh b i fresh (ap (λ x. nat_eq x quote) e))) ∙ (and_parts _ _ outside).1))
     ]
 
--- where no fault is told no text is bad
-no_bad_text : (b : List ℕ) → input_fault b ≡ None → IsFalse (has_bad_text b)
-no_bad_text b none = let clean : IsClean b = IsClean-input b none in or_from _ _ (ap not clean.even) clean.plain
+-- where no fault is reported no string is bad
+no_bad_string : (b : List ℕ) → input_fault b ≡ None → IsFalse (has_bad_string b)
+no_bad_string b none = let clean : IsClean b = IsClean-input b none in or_from _ _ (ap not clean.even) clean.plain
 
 module _ (b : List ℕ) where
   -- the last token is at a position, inside the input
@@ -88,7 +65,7 @@ module _ (b : List ℕ) where
   pub position-inside : (k : ℕ) → k < length (positions b) → get_or (positions b) k 0 < length b
   position-inside k l = ((Contains-positions b (get_or (positions b) k 0)).0 (k, l, get_or_default (positions b) k (get_or (positions b) k 0) 0 l)).0
 
-  -- the next position is behind it
+  -- the next position is after it
   pub next-later : (p : Progress) → IsRead b (positions b) p → p.read < length (positions b) → p.at < get_or (positions b) p.read 0
   next-later p r l = omega (arith, r.last, rising (positions b) (IsStrictlyIncreasing-positions b) (p.read - 1) p.read (omega (arith, r.some)) l)
 
@@ -158,15 +135,15 @@ module _ (b : List ℕ) where
         | inr h ↦ h
       ]
 
-  -- ---- texts
+  -- ---- strings
 
-  pub text-closed : (i : ℕ) → Contains (positions b) i → byte_at b i ≡ quote → input_fault b ≡ None → closing_quote b i < length b
-  text-closed i c e none =
+  pub string-closed : (i : ℕ) → Contains (positions b) i → byte_at b i ≡ quote → input_fault b ≡ None → closing_quote b i < length b
+  string-closed i c e none =
       let (l, is) = (Contains-positions b i).0 c in
-      closing_quote-inside b i l (quote-inside b i is e) (no_bad_text b none)
+      closing_quote-inside b i l (quote-inside b i is e) (no_bad_string b none)
 
-  pub text-utf8 : (i : ℕ) → i < length b → byte_at b i ≡ quote → input_fault b ≡ None → IsUtf8 (drop i b)
-  text-utf8 i l e none = let clean : IsClean b = IsClean-input b none in utf8-opening b i l e clean.utf8
+  pub string-utf8 : (i : ℕ) → i < length b → byte_at b i ≡ quote → input_fault b ≡ None → IsUtf8 (drop i b)
+  string-utf8 i l e none = let clean : IsClean b = IsClean-input b none in utf8-opening b i l e clean.utf8
 
   -- ---- what is unread
 

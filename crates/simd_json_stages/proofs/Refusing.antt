@@ -9,8 +9,8 @@ use Rattle.simd_json_parts.specs.Nodes.{Item, array_item, object_item, item_of}
 use Rattle.simd_json_parts.specs.Listing.{listing}
 use Rattle.simd_json_parts.specs.Descent.{◌>>=◌, is_container, last_index, last_read, root_end}
 use Rattle.simd_json_parts.specs.Faults.{fault_at, fault_with}
-use Rattle.simd_json_parts.specs.TextAt.{text_at}
-use Rattle.simd_json_parts.specs.Tokens.{Token, Form, begin_array, begin_object, name_separator, value_separator, string, form_at}
+use Rattle.simd_json_parts.specs.StringAt.{string_at}
+use Rattle.simd_json_parts.specs.Tokens.{Token, Form, begin_array, begin_object, name_separator, value_separator, string_token, form_at}
 use Rattle.simd_json_parts.specs.TokensAlong.{goes_on, tokens_along}
 use Rattle.simd_json_parts.specs.declared.error.Error.{Error}
 use Rattle.simd_json_parts.specs.declared.error.ErrorType.{ErrorType}
@@ -20,8 +20,8 @@ use Rattle.simd_json_parts.specs.declared.node.Node.TheVariants as nodes
 use Rattle.simd_json_parts.specs.declared.node.Node.TheVariants.{Static}
 use Rattle.simd_json_parts.specs.declared.node.StaticNode.TheVariants.{Null}
 use Rattle.simd_json_stages.specs.Continued.{Open, in_array, in_object, at_value, at_name, after_value}
-use Rattle.simd_json_stages.specs.Building.{closer, content_kind, end_kind, frames, HoldsValue, missing, whole, AtValue, AtName, BehindValue, Tells}
-use Rattle.simd_json_stages.specs.Put.{IsBadText, IsNoScalar}
+use Rattle.simd_json_stages.specs.Building.{closer, content_kind, end_kind, frames, HoldsValue, missing, whole, AtValue, AtName, AfterValue, Tells}
+use Rattle.simd_json_stages.specs.Put.{IsBadString, IsNoScalar}
 use Rattle.simd_json_stages.specs.Refusals.{error_type}
 use Rattle.simd_json_stages.specs.declared.stage2.Container.{Container}
 use Rattle.simd_json_stages.specs.declared.stage2.Container.TheVariants.{Array, Object}
@@ -31,7 +31,7 @@ use Rattle.simd_json_stages.specs.declared.stage2.fault.Fault.{Fault}
 use Rattle.simd_json_stages.specs.declared.stage2.fault.FaultKind.{FaultKind}
 use Rattle.simd_json_stages.specs.declared.stage2.fault.FaultKind.TheVariants as kinds
 use Rattle.simd_json_stages.proofs.Places.{token}
-use Rattle.simd_json_stages.proofs.Steps.{after_value-comma, at_value-open, at_array-missing, at_value-too_deep, at_value-missing, at_value-fault, at_value-unexpected, after_value-root, after_value-none, after_value-unexpected, at_value-open_object, at_value-object_too_deep, at_object-missing, at_name-value, at_name-missing, at_name-other, at_name-fault, at_name-no_more, at_name-no_colon, after_value-member_comma, at_value-text_fault}
+use Rattle.simd_json_stages.proofs.Steps.{after_value-comma, at_value-open, at_array-missing, at_value-too_deep, at_value-missing, at_value-fault, at_value-unexpected, after_value-root, after_value-none, after_value-unexpected, at_value-open_object, at_value-object_too_deep, at_object-missing, at_name-value, at_name-missing, at_name-other, at_name-fault, at_name-no_more, at_name-no_colon, after_value-member_comma, at_value-string_fault}
 use Rattle.simd_json_stages.proofs.TokenForms.{along-form, commas, last_index-append, next, opens, opens_object, colons, quotes, no_string, no_colon, no_ending, no_member_ending}
 use Rattle.simd_json_stages.proofs.BuildingSteps.{extended, reached_next}
 
@@ -65,7 +65,7 @@ module _ (b ps : List ℕ) (limit : ℕ) where
   told : (f : Fault) → whole b ps limit ≡ Err (fault_with (error_type f.kind) f.index f.byte) → Tells b ps limit f
   told f is = ap (λ r. r >>= root_end b (tokens_along b ps)) is
 
-  -- where no token is left, the last one read is told
+  -- where no token is left, the last one read is reported
   missing-at : (before : List Token) (i : ℕ) → tokens_along b ps ≡ before → last_index before ≡ i → missing b ps ≡ fault_at b Syntax i
   missing-at before i along' last = ap (λ ts. fault_at b Syntax (last_index ts)) along' ∙ ap (fault_at b Syntax) last
 
@@ -75,7 +75,7 @@ module _ (b ps : List ℕ) (limit : ℕ) where
   at_end : (before : List Token) (k : ℕ) → k ≡ length ps → tokens_along b ps ≡ before ++ tokens_along b (drop k ps) → tokens_along b ps ≡ before
   at_end before k end along' = along' ∙ ap (λ us. before ++ tokens_along b us) (nothing_left k end) ∙ append-nil before
 
-  -- behind the token at i none is left
+  -- after the token at i none is left
   ends_at : (before : List Token) (i k : ℕ) (form : Form) → form_at b i ≡ form → goes_on form ≡ true → k ≡ length ps → tokens_along b ps ≡ before ++ tokens_along b (i ∷ drop k ps) → missing b ps ≡ fault_at b Syntax i
   ends_at before i k form is goes end along' =
       missing-at (before ++ token b i ∷ []) i (at_end (before ++ token b i ∷ []) k end (extended b ps limit before i (drop k ps) form is goes along')) (last_index-append before (token b i))
@@ -102,7 +102,7 @@ module _ (b ps : List ℕ) (limit : ℕ) where
           ap (at_value b (missing b ps) limit at.opens) (along-form b p.at (drop p.read ps) begin_object (opens_object b p.at o) refl)
           ∙ at_value-object_too_deep b (missing b ps) limit at.opens (token b p.at) (tokens_along b (drop p.read ps)) full (opens_object b p.at o)
 
-  -- nothing behind an opening bracket
+  -- nothing after an opening bracket
   pub tells-open_end : (c : Container) (stack : List StackState) (nodes : List Node) (p : Progress) → AtValue b ps limit stack nodes p → p.depth < limit → byte_at b p.at + 2 ≡ closer c → p.read ≡ length ps
       → Tells b ps limit (record { kind = kinds.Syntax; index = p.at; byte = byte_at b p.at })
   tells-open_end c stack nodes p at l e end = told (record { kind = kinds.Syntax; index = p.at; byte = byte_at b p.at }) (at.same ∙ go c e)
@@ -131,14 +131,14 @@ module _ (b ps : List ℕ) (limit : ℕ) where
       subst (Tells b ps limit) (sym is)
       (told g (at.same ∙ at_value-unexpected b (missing b ps) limit at.opens (token b p.at) (cond (goes_on (form_at b p.at)) (tokens_along b (drop p.read ps)) []) (form_at b p.at) refl none))
 
-  -- a bad text
-  pub tells-text : (stack : List StackState) (nodes : List Node) (p : Progress) (f : Fault) → AtValue b ps limit stack nodes p → byte_at b p.at ≡ 34 → IsBadText b p.at f → Tells b ps limit f
-  tells-text stack nodes p f at e bad =
+  -- a bad string
+  pub tells-string : (stack : List StackState) (nodes : List Node) (p : Progress) (f : Fault) → AtValue b ps limit stack nodes p → byte_at b p.at ≡ 34 → IsBadString b p.at f → Tells b ps limit f
+  tells-string stack nodes p f at e bad =
       let error : Error = fault_with (error_type f.kind) f.index f.byte in
-      told f (at.same ∙ at_value-text_fault b (missing b ps) limit at.opens (token b p.at) (cond (goes_on (form_at b p.at)) (tokens_along b (drop p.read ps)) []) error (quotes b p.at e ∙ ap string bad))
+      told f (at.same ∙ at_value-string_fault b (missing b ps) limit at.opens (token b p.at) (cond (goes_on (form_at b p.at)) (tokens_along b (drop p.read ps)) []) error (quotes b p.at e ∙ ap string_token bad))
 
-  -- behind a member nothing is left
-  pub tells-end : (stack : List StackState) (nodes : List Node) (p : Progress) → BehindValue b ps limit stack nodes p → 0 < p.depth → p.read ≡ length ps
+  -- after a member nothing is left
+  pub tells-end : (stack : List StackState) (nodes : List Node) (p : Progress) → AfterValue b ps limit stack nodes p → 0 < p.depth → p.read ≡ length ps
       → Tells b ps limit (record { kind = kinds.Syntax; index = p.at; byte = byte_at b p.at })
   tells-end stack nodes p at l end =
       told (record { kind = kinds.Syntax; index = p.at; byte = byte_at b p.at })
@@ -149,8 +149,8 @@ module _ (b ps : List ℕ) (limit : ℕ) where
       go [] deep = absurd (omega (arith, deep, l))
       go (o ∷ outer) deep = after_value-none b (missing b ps) limit o outer at.last
 
-  -- behind a comma nothing is left
-  pub tells-comma_end : (stack : List StackState) (nodes : List Node) (p : Progress) → BehindValue b ps limit stack nodes p → 0 < p.depth → p.read < length ps → byte_at b (get_or ps p.read 0) ≡ 44 → p.read + 1 ≡ length ps
+  -- after a comma nothing is left
+  pub tells-comma_end : (stack : List StackState) (nodes : List Node) (p : Progress) → AfterValue b ps limit stack nodes p → 0 < p.depth → p.read < length ps → byte_at b (get_or ps p.read 0) ≡ 44 → p.read + 1 ≡ length ps
       → Tells b ps limit (record { kind = kinds.Syntax; index = get_or ps p.read 0; byte = byte_at b (get_or ps p.read 0) })
   tells-comma_end stack nodes p at l k e end =
       told (record { kind = kinds.Syntax; index = i; byte = byte_at b i })
@@ -166,8 +166,8 @@ module _ (b ps : List ℕ) (limit : ℕ) where
       go (in_object ms name ∷ outer) deep =
           after_value-member_comma b (missing b ps) limit ms name outer at.last (token b i) [] (commas b i e) ∙ at_name-missing b (missing b ps) limit ExpectedObjectKey (ms ++ (name, at.last) ∷ []) outer
 
-  -- another token behind a member
-  pub tells-other : (stack : List StackState) (nodes : List Node) (p : Progress) → BehindValue b ps limit stack nodes p → 0 < p.depth → p.read < length ps → byte_at b (get_or ps p.read 0) ≢ 44 → byte_at b (get_or ps p.read 0) ≢ closer p.container
+  -- another token after a member
+  pub tells-other : (stack : List StackState) (nodes : List Node) (p : Progress) → AfterValue b ps limit stack nodes p → 0 < p.depth → p.read < length ps → byte_at b (get_or ps p.read 0) ≢ 44 → byte_at b (get_or ps p.read 0) ≢ closer p.container
       → Tells b ps limit (record { kind = content_kind p.container; index = get_or ps p.read 0; byte = byte_at b (get_or ps p.read 0) })
   tells-other stack nodes p at l k no_comma no_closer =
       told (record { kind = content_kind p.container; index = get_or ps p.read 0; byte = byte_at b (get_or ps p.read 0) })
@@ -185,7 +185,7 @@ module _ (b ps : List ℕ) (limit : ℕ) where
           let i : ℕ = get_or ps p.read 0 in
           after_value-unexpected b (missing b ps) limit (in_object ms name) outer at.last (token b i) (cond (goes_on (form_at b i)) (tokens_along b (drop (p.read + 1) ps)) []) (form_at b i) refl (no_member_ending b i other no_comma)
 
-  -- what is left behind a root is told at the last token that was read
+  -- what is left after a root is reported at the last token that was read
   last_read-append : (before rest : List Token) → last_read (before ++ rest) rest ≡ last_index before
   last_read-append before rest =
       let size : length (before ++ rest) - length rest ≡ length before = omega (arith, length-append before rest) in
@@ -198,8 +198,8 @@ module _ (b ps : List ℕ) (limit : ℕ) where
       ∙ ap (λ zs. Err (fault_at b (if is_container d then InternalError else TrailingData) (last_read (before ++ rest) zs))) (sym is)
       ∙ ap (λ n. Err (fault_at b (if is_container d then InternalError else TrailingData) n)) (last_read-append before rest)
 
-  -- something behind the root
-  pub tells-trailing : (stack : List StackState) (nodes : List Node) (p : Progress) (first : Node) → BehindValue b ps limit stack nodes p → p.depth ≡ 0 → p.read < length ps → 0 < p.used → p.used ≤ length nodes → first ≡ get_or nodes 0 (Static Null)
+  -- something after the root
+  pub tells-trailing : (stack : List StackState) (nodes : List Node) (p : Progress) (first : Node) → AfterValue b ps limit stack nodes p → p.depth ≡ 0 → p.read < length ps → 0 < p.used → p.used ≤ length nodes → first ≡ get_or nodes 0 (Static Null)
       → Tells b ps limit (record { kind = end_kind first; index = p.at; byte = byte_at b p.at })
   tells-trailing stack nodes p first at root k l m is =
       let i : ℕ = get_or ps p.read 0 in
@@ -225,41 +225,41 @@ module _ (b ps : List ℕ) (limit : ℕ) where
       (at.same ∙ at_name-other b (missing b ps) limit (error_type kind) at.members at.outer (token b p.at) (cond (goes_on (form_at b p.at)) (tokens_along b (drop p.read ps)) []) (form_at b p.at) refl (no_string b p.at other))
 
   -- a bad name
-  pub tells-name : (kind : ErrorType) (stack : List StackState) (nodes : List Node) (p : Progress) (f : Fault) → AtName b ps limit kind stack nodes p → byte_at b p.at ≡ 34 → IsBadText b p.at f → Tells b ps limit f
+  pub tells-name : (kind : ErrorType) (stack : List StackState) (nodes : List Node) (p : Progress) (f : Fault) → AtName b ps limit kind stack nodes p → byte_at b p.at ≡ 34 → IsBadString b p.at f → Tells b ps limit f
   tells-name kind stack nodes p f at e bad =
       let error : Error = fault_with (error_type f.kind) f.index f.byte in
-      told f (at.same ∙ at_name-fault b (missing b ps) limit kind at.members at.outer (token b p.at) (cond (goes_on (form_at b p.at)) (tokens_along b (drop p.read ps)) []) error (quotes b p.at e ∙ ap string bad))
+      told f (at.same ∙ at_name-fault b (missing b ps) limit kind at.members at.outer (token b p.at) (cond (goes_on (form_at b p.at)) (tokens_along b (drop p.read ps)) []) error (quotes b p.at e ∙ ap string_token bad))
 
-  -- nothing behind a name
-  pub tells-name_end : (kind : ErrorType) (stack : List StackState) (nodes : List Node) (p : Progress) (name : List ℕ) (end : ℕ) → AtName b ps limit kind stack nodes p → byte_at b p.at ≡ 34 → text_at b p.at ≡ Ok (name, end) → p.read ≡ length ps
+  -- nothing after a name
+  pub tells-name_end : (kind : ErrorType) (stack : List StackState) (nodes : List Node) (p : Progress) (name : List ℕ) (end : ℕ) → AtName b ps limit kind stack nodes p → byte_at b p.at ≡ 34 → string_at b p.at ≡ Ok (name, end) → p.read ≡ length ps
       → Tells b ps limit (record { kind = kinds.Syntax; index = p.at; byte = byte_at b p.at })
   tells-name_end kind stack nodes p name end at e read none =
-      let form : form_at b p.at ≡ string (Ok (name, end)) = quotes b p.at e ∙ ap string read in
+      let form : form_at b p.at ≡ string_token (Ok (name, end)) = quotes b p.at e ∙ ap string_token read in
       told (record { kind = kinds.Syntax; index = p.at; byte = byte_at b p.at })
-      (at.same ∙ ap (at_name b (missing b ps) limit kind at.members at.outer) (only p.at p.read (string (Ok (name, end))) form refl none)
+      (at.same ∙ ap (at_name b (missing b ps) limit kind at.members at.outer) (only p.at p.read (string_token (Ok (name, end))) form refl none)
       ∙ at_name-no_more b (missing b ps) limit kind at.members at.outer (token b p.at) name end form
-      ∙ ap Err (ends_at at.before p.at p.read (string (Ok (name, end))) form refl none at.along))
+      ∙ ap Err (ends_at at.before p.at p.read (string_token (Ok (name, end))) form refl none at.along))
 
-  -- no colon behind it
-  pub tells-no_colon : (kind : ErrorType) (stack : List StackState) (nodes : List Node) (p : Progress) (name : List ℕ) (end : ℕ) → AtName b ps limit kind stack nodes p → byte_at b p.at ≡ 34 → text_at b p.at ≡ Ok (name, end) → p.read < length ps → byte_at b (get_or ps p.read 0) ≢ 58
+  -- no colon after it
+  pub tells-no_colon : (kind : ErrorType) (stack : List StackState) (nodes : List Node) (p : Progress) (name : List ℕ) (end : ℕ) → AtName b ps limit kind stack nodes p → byte_at b p.at ≡ 34 → string_at b p.at ≡ Ok (name, end) → p.read < length ps → byte_at b (get_or ps p.read 0) ≢ 58
       → Tells b ps limit (record { kind = kinds.ExpectedObjectColon; index = get_or ps p.read 0; byte = byte_at b (get_or ps p.read 0) })
   tells-no_colon kind stack nodes p name end at e read k other =
       let i : ℕ = get_or ps p.read 0 in
-      let form : form_at b p.at ≡ string (Ok (name, end)) = quotes b p.at e ∙ ap string read in
+      let form : form_at b p.at ≡ string_token (Ok (name, end)) = quotes b p.at e ∙ ap string_token read in
       told (record { kind = kinds.ExpectedObjectColon; index = i; byte = byte_at b i })
-      (at.same ∙ ap (at_name b (missing b ps) limit kind at.members at.outer) (along-form b p.at (drop p.read ps) (string (Ok (name, end))) form refl ∙ ap (λ us. token b p.at ∷ us) (next b ps p.read k))
+      (at.same ∙ ap (at_name b (missing b ps) limit kind at.members at.outer) (along-form b p.at (drop p.read ps) (string_token (Ok (name, end))) form refl ∙ ap (λ us. token b p.at ∷ us) (next b ps p.read k))
       ∙ at_name-no_colon b (missing b ps) limit kind at.members at.outer (token b p.at) (token b i) (cond (goes_on (form_at b i)) (tokens_along b (drop (p.read + 1) ps)) []) name end (form_at b i) form refl (no_colon b i other))
 
-  -- nothing behind a colon
-  pub tells-colon_end : (kind : ErrorType) (stack : List StackState) (nodes : List Node) (p : Progress) (name : List ℕ) (end : ℕ) → AtName b ps limit kind stack nodes p → byte_at b p.at ≡ 34 → text_at b p.at ≡ Ok (name, end) → p.read < length ps → byte_at b (get_or ps p.read 0) ≡ 58 → p.read + 1 ≡ length ps
+  -- nothing after a colon
+  pub tells-colon_end : (kind : ErrorType) (stack : List StackState) (nodes : List Node) (p : Progress) (name : List ℕ) (end : ℕ) → AtName b ps limit kind stack nodes p → byte_at b p.at ≡ 34 → string_at b p.at ≡ Ok (name, end) → p.read < length ps → byte_at b (get_or ps p.read 0) ≡ 58 → p.read + 1 ≡ length ps
       → Tells b ps limit (record { kind = kinds.Syntax; index = get_or ps p.read 0; byte = byte_at b (get_or ps p.read 0) })
   tells-colon_end kind stack nodes p name end at e read k colon none =
       let i : ℕ = get_or ps p.read 0 in
-      let form : form_at b p.at ≡ string (Ok (name, end)) = quotes b p.at e ∙ ap string read in
-      let behind : tokens_along b ps ≡ (at.before ++ token b p.at ∷ []) ++ tokens_along b (drop p.read ps) = extended b ps limit at.before p.at (drop p.read ps) (string (Ok (name, end))) form refl at.along in
+      let form : form_at b p.at ≡ string_token (Ok (name, end)) = quotes b p.at e ∙ ap string_token read in
+      let after : tokens_along b ps ≡ (at.before ++ token b p.at ∷ []) ++ tokens_along b (drop p.read ps) = extended b ps limit at.before p.at (drop p.read ps) (string_token (Ok (name, end))) form refl at.along in
       told (record { kind = kinds.Syntax; index = i; byte = byte_at b i })
-      (at.same ∙ ap (at_name b (missing b ps) limit kind at.members at.outer) (along-form b p.at (drop p.read ps) (string (Ok (name, end))) form refl
+      (at.same ∙ ap (at_name b (missing b ps) limit kind at.members at.outer) (along-form b p.at (drop p.read ps) (string_token (Ok (name, end))) form refl
       ∙ ap (λ us. token b p.at ∷ us) (next b ps p.read k ∙ only i (p.read + 1) name_separator (colons b i colon) refl none))
       ∙ at_name-value b (missing b ps) limit kind at.members at.outer (token b p.at) (token b i) [] name end form (colons b i colon)
       ∙ at_value-missing b (missing b ps) limit (in_object at.members name ∷ at.outer)
-      ∙ ap Err (ends_at (at.before ++ token b p.at ∷ []) i (p.read + 1) name_separator (colons b i colon) refl none (reached_next b ps limit (at.before ++ token b p.at ∷ []) p.read k behind)))
+      ∙ ap Err (ends_at (at.before ++ token b p.at ∷ []) i (p.read + 1) name_separator (colons b i colon) refl none (reached_next b ps limit (at.before ++ token b p.at ∷ []) p.read k after)))

@@ -10,28 +10,28 @@ use Rattle.simd_json_parts.specs.Document.{Document, null, boolean, integer, dec
 use Rattle.simd_json_parts.specs.Faults.{fault_at}
 use Rattle.simd_json_parts.specs.AtomAt.{atom_or, atom_at}
 use Rattle.simd_json_parts.specs.NumberAt.{number_at, number_between, integer_or, first_excess}
-use Rattle.simd_json_parts.specs.Derivatives.{matches, longest_front}
+use Rattle.simd_json_parts.specs.Derivatives.{matches, longest_prefix}
 use Rattle.simd_json_parts.specs.Numbers.{number_literal, integer_literal, has_minus, magnitude}
 use Rattle.simd_json_parts.specs.Integers.{max_magnitude}
-use Rattle.simd_json_parts.proofs.PatternLaws.{longest_front-le}
+use Rattle.simd_json_parts.proofs.Patterns.Sets.{longest_prefix-le}
 use Rattle.simd_json_parts.specs.declared.error.Error.{Error}
-use Rattle.simd_json_parts.specs.Tokens.{Form, begin_array, end_array, begin_object, end_object, name_separator, value_separator, string, scalar, stray, form_of, form_at}
-use Rattle.simd_json_parts.specs.TextAt.{text_at}
+use Rattle.simd_json_parts.specs.Tokens.{Form, begin_array, end_array, begin_object, end_object, name_separator, value_separator, string_token, scalar, stray, form_of, form_at}
+use Rattle.simd_json_parts.specs.StringAt.{string_at}
 use Rattle.simd_json_stages.specs.Refusals.{refused_kind}
 use Rattle.simd_json_stages.specs.declared.stage2.fault.FaultKind.TheVariants as kinds
 use Rattle.simd_json_stages.specs.ScalarRead.{is_no_scalar}
 use Rattle.simd_json_parts.specs.declared.error.ErrorType.{ErrorType}
 use Rattle.simd_json_parts.specs.declared.error.ErrorType.TheVariants.{ExpectedTrue, ExpectedFalse, ExpectedNull, InvalidNumber}
 
--- the byte so far behind an index
-pub byte_at-behind : (b rest : List ℕ) (i n : ℕ) → drop i b ≡ rest → byte_at b (i + n) ≡ byte_at rest n
-byte_at-behind b rest i n e = sym (get_or-drop i b n 32) ∙ ap (λ l. byte_at l n) e
+-- the byte so far after an index
+pub byte_at-after : (b rest : List ℕ) (i n : ℕ) → drop i b ≡ rest → byte_at b (i + n) ≡ byte_at rest n
+byte_at-after b rest i n e = sym (get_or-drop i b n 32) ∙ ap (λ l. byte_at l n) e
 
 atom_or-ok : (letters : List ℕ) (d : Document) (kind : ErrorType) (b rest : List ℕ) (i n : ℕ) → drop i b ≡ rest → length letters ≡ n
     → (starts_with nat_eq rest letters && is_terminator (byte_at rest n)) ≡ true → atom_or letters d kind b i ≡ Ok (d, i + n)
 atom_or-ok letters d kind b rest i n e is h =
     ap (λ m. if starts_with nat_eq (drop i b) letters && is_terminator (byte_at b (i + m)) then Ok (d, i + m) else Err (fault_at b kind i)) is
-    ∙ ap (λ t. if t then Ok (d, i + n) else Err (fault_at b kind i)) (ap (λ bs. starts_with nat_eq bs letters && is_terminator (byte_at b (i + n))) e ∙ ap (λ c. starts_with nat_eq rest letters && is_terminator c) (byte_at-behind b rest i n e) ∙ h)
+    ∙ ap (λ t. if t then Ok (d, i + n) else Err (fault_at b kind i)) (ap (λ bs. starts_with nat_eq bs letters && is_terminator (byte_at b (i + n))) e ∙ ap (λ c. starts_with nat_eq rest letters && is_terminator c) (byte_at-after b rest i n e) ∙ h)
 
 form_at-atom : (b : List ℕ) (i c : ℕ) → byte_at b i ≡ c → form_of b i c ≡ scalar (atom_at b i) → form_at b i ≡ scalar (atom_at b i)
 unfolding form_at
@@ -65,7 +65,7 @@ atom_or-fault : (letters : List ℕ) (d : Document) (kind : ErrorType) (b rest :
     → (starts_with nat_eq rest letters && is_terminator (byte_at rest n)) ≡ false → atom_or letters d kind b i ≡ Err (fault_at b kind i)
 atom_or-fault letters d kind b rest i n e is h =
     ap (λ m. if starts_with nat_eq (drop i b) letters && is_terminator (byte_at b (i + m)) then Ok (d, i + m) else Err (fault_at b kind i)) is
-    ∙ ap (λ t. if t then Ok (d, i + n) else Err (fault_at b kind i)) (ap (λ bs. starts_with nat_eq bs letters && is_terminator (byte_at b (i + n))) e ∙ ap (λ c. starts_with nat_eq rest letters && is_terminator c) (byte_at-behind b rest i n e) ∙ h)
+    ∙ ap (λ t. if t then Ok (d, i + n) else Err (fault_at b kind i)) (ap (λ bs. starts_with nat_eq bs letters && is_terminator (byte_at b (i + n))) e ∙ ap (λ c. starts_with nat_eq rest letters && is_terminator c) (byte_at-after b rest i n e) ∙ h)
 
 pub form_at-no_true : (b rest : List ℕ) (i : ℕ) → drop i b ≡ rest → byte_at b i ≡ 116 → (starts_with nat_eq rest (codes "true") && is_terminator (byte_at rest 4)) ≡ false
     → form_at b i ≡ scalar (Err (fault_at b ExpectedTrue i))
@@ -111,7 +111,7 @@ form_at-no_scalar b i c e t f n d = ap is_no_scalar (ap (form_of b i) e) ∙ go
     rest false false false false false false false x h = refl
 
     go : is_no_scalar (form_of b i c) ≡ true
-    go = simp (t, f, n, d) (rest (c == 91) (c == 93) (c == 123) (c == 125) (c == 58) (c == 44) (c == 34) (string (text_at b i)) refl)
+    go = simp (t, f, n, d) (rest (c == 91) (c == 93) (c == 123) (c == 125) (c == 58) (c == 44) (c == 34) (string_token (string_at b i)) refl)
 
 -- a minus sign or a digit
 pub form_at-number : (b : List ℕ) (i c : ℕ) → byte_at b i ≡ c → ((c == 45) || is_ascii_digit c) ≡ true → form_at b i ≡ scalar (number_at b i)
@@ -157,6 +157,6 @@ number_between-within b literal i end bound e l k h = go (matches number_literal
 pub number_at-within : (b : List ℕ) (i : ℕ) (e : Error) → i ≤ length b → number_at b i ≡ Err e → e.index ≤ length b
 unfolding number_at
 number_at-within b i e l h =
-    let n : ℕ = longest_front number_literal (drop i b) in
-    let most : n ≤ length (drop i b) = longest_front-le number_literal (drop i b) in
+    let n : ℕ = longest_prefix number_literal (drop i b) in
+    let most : n ≤ length (drop i b) = longest_prefix-le number_literal (drop i b) in
     number_between-within b (take n (drop i b)) i (i + n) (length b) e (omega (arith, length-drop i b)) (omega (arith, length-drop i b, length-take-le n (drop i b) most)) h

@@ -8,19 +8,19 @@ use Rattle.std.proofs.lemmas.List.{get_or_past, length-drop}
 use Rattle.std.proofs.lemmas.Str.{IsUtf8-from_ascii}
 use Rattle.simd_json_parts.specs.AtomAt.{atom_at, atom_or}
 use Rattle.simd_json_parts.specs.Bytes.{quote, is_terminator, byte_at}
-use Rattle.simd_json_parts.specs.Derivatives.{matches, longest_front}
+use Rattle.simd_json_parts.specs.Derivatives.{matches, longest_prefix}
 use Rattle.simd_json_parts.specs.Document.{Document, null, boolean, decimal}
 use Rattle.simd_json_parts.specs.Faults.{fault_at, fault_with}
 use Rattle.simd_json_parts.specs.Integers.{max_magnitude}
 use Rattle.simd_json_parts.specs.NumberAt.{number_at, integer_or, first_excess}
 use Rattle.simd_json_parts.specs.Numbers.{number_literal, integer_literal, has_minus, magnitude}
-use Rattle.simd_json_parts.specs.TextAt.{text_at}
-use Rattle.simd_json_parts.specs.Tokens.{Form, begin_array, end_array, begin_object, end_object, name_separator, value_separator, string, scalar, form_at}
+use Rattle.simd_json_parts.specs.StringAt.{string_at}
+use Rattle.simd_json_parts.specs.Tokens.{Form, begin_array, end_array, begin_object, end_object, name_separator, value_separator, string_token, scalar, form_at}
 use Rattle.simd_json_parts.specs.declared.error.Error.{Error}
 use Rattle.simd_json_parts.specs.declared.error.ErrorType.{ErrorType}
 use Rattle.simd_json_parts.specs.declared.error.ErrorType.TheVariants.{ExpectedTrue, ExpectedFalse, ExpectedNull, InvalidNumber}
-use Rattle.simd_json_parts.proofs.PatternBytes.{All-Matches}
-use Rattle.simd_json_parts.proofs.PatternLaws.{matches-Matches, longest_front-le}
+use Rattle.simd_json_parts.proofs.Patterns.Bytes.{All-Matches}
+use Rattle.simd_json_parts.proofs.Patterns.Sets.{matches-Matches, longest_prefix-le}
 use Rattle.simd_json_stages.specs.Put.{IsNoScalar}
 use Rattle.simd_json_stages.specs.Refusals.{error_type, refused_kind, refusal, offset_of}
 use Rattle.simd_json_stages.specs.ScalarRead.{IsScalarAt}
@@ -71,7 +71,7 @@ number-here b i l =
     (λ _. tt)
   where
     n : ℕ
-    n = longest_front number_literal (drop i b)
+    n = longest_prefix number_literal (drop i b)
 
     literal : List ℕ
     literal = take n (drop i b)
@@ -80,7 +80,7 @@ number-here b i l =
     end = i + n
 
     within : end ≤ length b
-    within = omega (arith, longest_front-le number_literal (drop i b), length-drop i b)
+    within = omega (arith, longest_prefix-le number_literal (drop i b), length-drop i b)
 
     whole : (o : Option ℕ) → ScalarHere b (integer_or b i literal end o)
     whole (Some k) = tt
@@ -90,7 +90,7 @@ form-here : (b : List ℕ) (i : ℕ) → i ≤ length b → FormHere b (form_at 
 unfolding form_at
 form-here b i l =
     structural 91 begin_array _ tt (structural 93 end_array _ tt (structural 123 begin_object _ tt (structural 125 end_object _ tt
-    (structural 58 name_separator _ tt (structural 44 value_separator _ tt (structural quote (string (text_at b i)) _ tt
+    (structural 58 name_separator _ tt (structural 44 value_separator _ tt (structural quote (string_token (string_at b i)) _ tt
     (cond_both ((x == 116) || (x == 102) || (x == 110)) _ _ (FormHere b) (λ _. atom-here b i)
     (λ _. cond_both ((x == 45) || (nat_le 48 x && nat_le x 57)) _ _ (FormHere b) (λ _. number-here b i l) (λ _. tt)))))))))
   where
@@ -98,7 +98,7 @@ form-here b i l =
     x = byte_at b i
 
     structural : (c : ℕ) (form other : Form) → FormHere b form → FormHere b other → FormHere b (if x == c then form else other)
-    structural c form other here behind = cond_both (x == c) form other (FormHere b) (λ _. here) (λ _. behind)
+    structural c form other here after = cond_both (x == c) form other (FormHere b) (λ _. here) (λ _. after)
 
 pub decimal-here : (b : List ℕ) (i : ℕ) (literal : List ℕ) (end : ℕ) → i ≤ length b → form_at b i ≡ scalar (Ok (decimal literal, end)) → IsUtf8 literal × (end ≤ length b)
 decimal-here b i literal end l is = subst (FormHere b) is (form-here b i l)
@@ -115,12 +115,12 @@ offset-within b i Refused is l = omega arith
 -- it is the scalar's own, or no value begins there
 pub refusal-told : (b : List ℕ) (i c : ℕ) (r : Scalar) → IsScalarAt b i r → ((node : StaticNode) → r ≡ Value node → ⊥) → ((len : ℕ) → r ≡ Decimal len → ⊥)
     → byte_at b i ≡ c → c ≢ 34 → c ≢ 91 → c ≢ 123 → IsNoScalar b i (refusal b i c r)
-refusal-told b i c (Value node) is no_node no_decimal e no_text no_array no_object = absurd (no_node node refl)
-refusal-told b i c (Decimal len) is no_node no_decimal e no_text no_array no_object = absurd (no_decimal len refl)
-refusal-told b i c (Invalid offset) is no_node no_decimal e no_text no_array no_object = inl (is.0 ∙ ap scalar is.1)
-refusal-told b i c Refused (inl atom) no_node no_decimal e no_text no_array no_object = inl (atom ∙ ap (λ x. scalar (Err (fault_with (error_type (refused_kind x)) i x))) e)
-refusal-told b i c Refused (inr (kind, none)) no_node no_decimal e no_text no_array no_object =
+refusal-told b i c (Value node) is no_node no_decimal e no_string no_array no_object = absurd (no_node node refl)
+refusal-told b i c (Decimal len) is no_node no_decimal e no_string no_array no_object = absurd (no_decimal len refl)
+refusal-told b i c (Invalid offset) is no_node no_decimal e no_string no_array no_object = inl (is.0 ∙ ap scalar is.1)
+refusal-told b i c Refused (inl atom) no_node no_decimal e no_string no_array no_object = inl (atom ∙ ap (λ x. scalar (Err (fault_with (error_type (refused_kind x)) i x))) e)
+refusal-told b i c Refused (inr (kind, none)) no_node no_decimal e no_string no_array no_object =
     inr (
-      no_value b i none (λ h. no_text (sym e ∙ h)) (λ h. no_array (sym e ∙ h)) (λ h. no_object (sym e ∙ h)),
+      no_value b i none (λ h. no_string (sym e ∙ h)) (λ h. no_array (sym e ∙ h)) (λ h. no_object (sym e ∙ h)),
       ap (λ (k : FaultKind). let f : Fault = record { kind = k; index = i; byte = c } in f) (ap refused_kind (sym e) ∙ kind) ∙ ap (λ (x : ℕ). let f : Fault = record { kind = kinds.InternalError; index = i; byte = x } in f) (sym e),
     )

@@ -1,8 +1,8 @@
 -- No step of a stack machine changes the continued descent.
 use Rattle.std.proofs.Common.{◌≡◌, refl, sym, ◌∙◌, ap, ℕ, zero, suc, Bool, true, false, ◌-◌, ◌<◌, ◌≤◌, List, [], ◌∷◌, ◌++◌, length, arith}
 use Rattle.std.specs.Prelude.{Result, Ok, Err}
-use Rattle.simd_json_parts.specs.Document.{Document, text, array, object, Elements, no_elements, element, Members, no_members, member}
-use Rattle.simd_json_parts.specs.Tokens.{Token, Form, begin_array, end_array, begin_object, end_object, name_separator, value_separator, string, scalar}
+use Rattle.simd_json_parts.specs.Document.{Document, string, array, object, Elements, no_elements, element, Members, no_members, member}
+use Rattle.simd_json_parts.specs.Tokens.{Token, Form, begin_array, end_array, begin_object, end_object, name_separator, value_separator, string_token, scalar}
 use Rattle.simd_json_parts.specs.Descent.{◌>>=◌, Reads, after_element, element_end, elements_by, first_element, array_from, name_of, name_from, after_name, name_end, after_member, member_end, members_by, first_member, object_from, too_deep, value_of, value_from}
 use Rattle.simd_json_parts.specs.Faults.{fault_at}
 use Rattle.simd_json_parts.specs.declared.error.ErrorType.TheVariants.{DepthLimitExceeded, ExpectedArrayContent, ExpectedObjectContent, ExpectedObjectKey, ExpectedObjectColon, InternalError}
@@ -11,9 +11,9 @@ use Rattle.simd_json_stages.specs.Building.{closed_with}
 use Rattle.simd_json_stages.specs.Put.{begins_value}
 use Rattle.simd_json_stages.specs.Continued.{Open, in_array, in_object, elements_onto, members_onto, after_value, at_value, at_array, at_object, at_name}
 use Rattle.simd_json_parts.specs.declared.error.Error.{Error}
-use Rattle.simd_json_parts.proofs.DescentLaws.{elements_by-turn}
-use Rattle.simd_json_parts.proofs.MemberTurns.{members_by-turn}
-use Rattle.simd_json_parts.proofs.Shrinking.{value_from-takes}
+use Rattle.simd_json_parts.proofs.Complete.ArrayTurns.{elements_by-turn}
+use Rattle.simd_json_parts.proofs.Complete.ObjectTurns.{members_by-turn}
+use Rattle.simd_json_parts.proofs.Complete.Shrinking.{value_from-takes}
 
 bind-bind : {A B C : Type 0} (r : Result A Error) (f : A → Result B Error) (g : B → Result C Error) → ((r >>= f) >>= g) ≡ (r >>= λ x. f x >>= g)
 bind-bind (Ok x) f g = refl
@@ -35,7 +35,7 @@ members_onto-append : (ms : List (List ℕ × Document)) (m : List ℕ × Docume
 members_onto-append [] m rest = refl
 members_onto-append (x ∷ ms) m rest = ap (λ r. member x.0 x.1 r) (members_onto-append ms m rest)
 
--- what may stand behind an element of an array
+-- what may stand after an element of an array
 abbrev pub ends_element : Form → Bool
 ends_element value_separator = true
 ends_element end_array = true
@@ -56,7 +56,7 @@ is_end_object end_object = true
 is_end_object _ = false
 
 abbrev pub is_string : Form → Bool
-is_string (string read) = true
+is_string (string_token read) = true
 is_string _ = false
 
 abbrev pub is_name_separator : Form → Bool
@@ -79,7 +79,7 @@ module _ (b : List ℕ) (missing : Error) (limit : ℕ) where
       ∙ bind-bind (v ts) _ _
       ∙ bind_same (v ts) _ _ (λ first. bind-bind (element_end b missing first.1 (elements_by b missing v)) _ _)
 
-  -- a comma behind an element
+  -- a comma after an element
   pub after_value-comma : (ds : List Document) (outer : List Open) (d : Document) (t : Token) (ts : List Token) → t.form ≡ value_separator
       → after_value b missing limit (in_array ds ∷ outer) d (t ∷ ts) ≡ at_value b missing limit (in_array (ds ++ d ∷ []) ∷ outer) ts
   unfolding after_value
@@ -89,7 +89,7 @@ module _ (b : List ℕ) (missing : Error) (limit : ℕ) where
       ∙ bind_same (elements_by b missing v ts) _ _ (λ r. ap (λ es. after_value b missing limit outer (array es) r.1) (sym (onto-append ds d r.0)))
       ∙ elements_in (ds ++ d ∷ []) outer ts
 
-  -- a closing bracket behind an element
+  -- a closing bracket after an element
   pub after_value-close : (ds : List Document) (outer : List Open) (d : Document) (t : Token) (ts : List Token) → t.form ≡ end_array
       → after_value b missing limit (in_array ds ∷ outer) d (t ∷ ts) ≡ after_value b missing limit outer (array (elements_onto (ds ++ d ∷ []) no_elements)) ts
   unfolding after_value
@@ -109,7 +109,7 @@ module _ (b : List ℕ) (missing : Error) (limit : ℕ) where
       ∙ ap (λ form. value_of b missing (λ _. array_from b missing (value_from b missing room)) (λ _. object_from b missing (value_from b missing room)) t form ts >>= λ r. after_value b missing limit outer r.0 r.1) is
       ∙ bind-bind (array_from b missing (value_from b missing room) ts) _ _
 
-  -- behind an opening bracket: its closing bracket, or an element
+  -- after an opening bracket: its closing bracket, or an element
   pub at_array-close : (outer : List Open) (t : Token) (ts : List Token) → t.form ≡ end_array
       → at_array b missing limit outer (t ∷ ts) ≡ after_value b missing limit outer (array no_elements) ts
   at_array-close outer t ts is =
@@ -125,7 +125,7 @@ module _ (b : List ℕ) (missing : Error) (limit : ℕ) where
       ap (λ n. value_from b missing n (t ∷ ts) >>= λ r. after_value b missing limit outer r.0 r.1) none_left
       ∙ ap (λ form. value_of b missing (too_deep b missing) (too_deep b missing) t form ts >>= λ r. after_value b missing limit outer r.0 r.1) is
 
-  -- behind an opening bracket: the first element
+  -- after an opening bracket: the first element
   pub at_array-element : (outer : List Open) (t : Token) (ts : List Token) (form : Form) → t.form ≡ form → is_end_array form ≡ false
       → at_array b missing limit outer (t ∷ ts) ≡ at_value b missing limit (in_array [] ∷ outer) (t ∷ ts)
   at_array-element outer t ts form is other =
@@ -192,7 +192,7 @@ module _ (b : List ℕ) (missing : Error) (limit : ℕ) where
       refused : (arrays : Token → Reads Elements) (objects : Token → Reads Members) (form : Form) → begins_value form ≡ false → value_of b missing arrays objects t form ts ≡ Err (fault_at b InternalError t.index)
       refused arrays objects begin_array h = cc
       refused arrays objects begin_object h = cc
-      refused arrays objects (string read) h = cc
+      refused arrays objects (string_token read) h = cc
       refused arrays objects (scalar read) h = cc
       refused arrays objects _ h = refl
 
@@ -209,7 +209,7 @@ abbrev pub closing_form : Open → Form
 closing_form (in_array ds) = end_array
 closing_form (in_object ms name) = end_object
 
--- what may stand behind a member of it
+-- what may stand after a member of it
 abbrev pub ends_member_of : Open → Form → Bool
 ends_member_of (in_array ds) form = ends_element form
 ends_member_of (in_object ms name) form = ends_member form
@@ -286,12 +286,12 @@ module _ (b : List ℕ) (missing : Error) (limit : ℕ) where
       not_first end_object h = cc
       not_first _ h = refl
 
-  -- behind a name
-  abbrev behind_name : List (List ℕ × Document) → List Open → List ℕ × List Token → Result (Document × List Token) Error
-  behind_name ms outer name = name_end b missing name.1 >>= λ ts. at_value b missing limit (in_object ms name.0 ∷ outer) ts
+  -- after a name
+  abbrev rest_after_name : List (List ℕ × Document) → List Open → List ℕ × List Token → Result (Document × List Token) Error
+  rest_after_name ms outer name = name_end b missing name.1 >>= λ ts. at_value b missing limit (in_object ms name.0 ∷ outer) ts
 
   -- a name is read, its colon, and on
-  at_name-turn : (kind : ErrorType) (ms : List (List ℕ × Document)) (outer : List Open) (ts : List Token) → at_name b missing limit kind ms outer ts ≡ (name_from b missing kind ts >>= behind_name ms outer)
+  at_name-turn : (kind : ErrorType) (ms : List (List ℕ × Document)) (outer : List Open) (ts : List Token) → at_name b missing limit kind ms outer ts ≡ (name_from b missing kind ts >>= rest_after_name ms outer)
   unfolding after_value
   at_name-turn kind ms outer ts =
       let room : ℕ = limit - suc (length outer) in
@@ -304,46 +304,46 @@ module _ (b : List ℕ) (missing : Error) (limit : ℕ) where
 
   -- the same at a token of a known form
   at_name-form : (kind : ErrorType) (ms : List (List ℕ × Document)) (outer : List Open) (t : Token) (ts : List Token) (form : Form) → t.form ≡ form
-      → at_name b missing limit kind ms outer (t ∷ ts) ≡ (name_of b missing kind t form >>= λ name. behind_name ms outer (name.0, ts))
+      → at_name b missing limit kind ms outer (t ∷ ts) ≡ (name_of b missing kind t form >>= λ name. rest_after_name ms outer (name.0, ts))
   at_name-form kind ms outer t ts form is =
-      at_name-turn kind ms outer (t ∷ ts) ∙ bind-bind (name_of b missing kind t t.form) _ _ ∙ ap (λ form. name_of b missing kind t form >>= λ name. behind_name ms outer (name.0, ts)) is
+      at_name-turn kind ms outer (t ∷ ts) ∙ bind-bind (name_of b missing kind t t.form) _ _ ∙ ap (λ form. name_of b missing kind t form >>= λ name. rest_after_name ms outer (name.0, ts)) is
 
   -- a name and its colon
-  pub at_name-value : (kind : ErrorType) (ms : List (List ℕ × Document)) (outer : List Open) (t u : Token) (ts : List Token) (name : List ℕ) (end : ℕ) → t.form ≡ string (Ok (name, end)) → u.form ≡ name_separator
+  pub at_name-value : (kind : ErrorType) (ms : List (List ℕ × Document)) (outer : List Open) (t u : Token) (ts : List Token) (name : List ℕ) (end : ℕ) → t.form ≡ string_token (Ok (name, end)) → u.form ≡ name_separator
       → at_name b missing limit kind ms outer (t ∷ u ∷ ts) ≡ at_value b missing limit (in_object ms name ∷ outer) ts
   at_name-value kind ms outer t u ts name end is colon =
-      at_name-form kind ms outer t (u ∷ ts) (string (Ok (name, end))) is ∙ ap (λ form. after_name b missing u form ts >>= λ us. at_value b missing limit (in_object ms name ∷ outer) us) colon
+      at_name-form kind ms outer t (u ∷ ts) (string_token (Ok (name, end))) is ∙ ap (λ form. after_name b missing u form ts >>= λ us. at_value b missing limit (in_object ms name ∷ outer) us) colon
 
   pub at_name-missing : (kind : ErrorType) (ms : List (List ℕ × Document)) (outer : List Open) → at_name b missing limit kind ms outer [] ≡ Err missing
   at_name-missing kind ms outer = at_name-turn kind ms outer []
 
   pub at_name-other : (kind : ErrorType) (ms : List (List ℕ × Document)) (outer : List Open) (t : Token) (ts : List Token) (form : Form) → t.form ≡ form → is_string form ≡ false
       → at_name b missing limit kind ms outer (t ∷ ts) ≡ Err (fault_at b kind t.index)
-  at_name-other kind ms outer t ts form is other = at_name-form kind ms outer t ts form is ∙ ap (λ r. r >>= λ name. behind_name ms outer (name.0, ts)) (refused form other)
+  at_name-other kind ms outer t ts form is other = at_name-form kind ms outer t ts form is ∙ ap (λ r. r >>= λ name. rest_after_name ms outer (name.0, ts)) (refused form other)
     where
       refused : (form : Form) → is_string form ≡ false → name_of b missing kind t form ≡ Err (fault_at b kind t.index)
-      refused (string read) h = cc
+      refused (string_token read) h = cc
       refused _ h = refl
 
-  pub at_name-fault : (kind : ErrorType) (ms : List (List ℕ × Document)) (outer : List Open) (t : Token) (ts : List Token) (e : Error) → t.form ≡ string (Err e)
+  pub at_name-fault : (kind : ErrorType) (ms : List (List ℕ × Document)) (outer : List Open) (t : Token) (ts : List Token) (e : Error) → t.form ≡ string_token (Err e)
       → at_name b missing limit kind ms outer (t ∷ ts) ≡ Err e
-  at_name-fault kind ms outer t ts e is = at_name-form kind ms outer t ts (string (Err e)) is
+  at_name-fault kind ms outer t ts e is = at_name-form kind ms outer t ts (string_token (Err e)) is
 
-  pub at_name-no_more : (kind : ErrorType) (ms : List (List ℕ × Document)) (outer : List Open) (t : Token) (name : List ℕ) (end : ℕ) → t.form ≡ string (Ok (name, end))
+  pub at_name-no_more : (kind : ErrorType) (ms : List (List ℕ × Document)) (outer : List Open) (t : Token) (name : List ℕ) (end : ℕ) → t.form ≡ string_token (Ok (name, end))
       → at_name b missing limit kind ms outer (t ∷ []) ≡ Err missing
-  at_name-no_more kind ms outer t name end is = at_name-form kind ms outer t [] (string (Ok (name, end))) is
+  at_name-no_more kind ms outer t name end is = at_name-form kind ms outer t [] (string_token (Ok (name, end))) is
 
-  pub at_name-no_colon : (kind : ErrorType) (ms : List (List ℕ × Document)) (outer : List Open) (t u : Token) (ts : List Token) (name : List ℕ) (end : ℕ) (form : Form) → t.form ≡ string (Ok (name, end)) → u.form ≡ form → is_name_separator form ≡ false
+  pub at_name-no_colon : (kind : ErrorType) (ms : List (List ℕ × Document)) (outer : List Open) (t u : Token) (ts : List Token) (name : List ℕ) (end : ℕ) (form : Form) → t.form ≡ string_token (Ok (name, end)) → u.form ≡ form → is_name_separator form ≡ false
       → at_name b missing limit kind ms outer (t ∷ u ∷ ts) ≡ Err (fault_at b ExpectedObjectColon u.index)
   at_name-no_colon kind ms outer t u ts name end form is colon other =
-      at_name-form kind ms outer t (u ∷ ts) (string (Ok (name, end))) is
+      at_name-form kind ms outer t (u ∷ ts) (string_token (Ok (name, end))) is
       ∙ ap (λ r. r >>= λ us. at_value b missing limit (in_object ms name ∷ outer) us) (ap (λ form. after_name b missing u form ts) colon ∙ refused form other)
     where
       refused : (form : Form) → is_name_separator form ≡ false → after_name b missing u form ts ≡ Err (fault_at b ExpectedObjectColon u.index)
       refused name_separator h = cc
       refused _ h = refl
 
-  -- a comma behind a member
+  -- a comma after a member
   pub after_value-member_comma : (ms : List (List ℕ × Document)) (name : List ℕ) (outer : List Open) (d : Document) (t : Token) (ts : List Token) → t.form ≡ value_separator
       → after_value b missing limit (in_object ms name ∷ outer) d (t ∷ ts) ≡ at_name b missing limit ExpectedObjectKey (ms ++ (name, d) ∷ []) outer ts
   unfolding after_value
@@ -352,20 +352,20 @@ module _ (b : List ℕ) (missing : Error) (limit : ℕ) where
       ap (λ form. after_member b missing t form ts (members_by b missing v ExpectedObjectKey) >>= λ r. after_value b missing limit outer (object (members_onto ms (member name d r.0))) r.1) is
       ∙ bind_same (members_by b missing v ExpectedObjectKey ts) _ _ (λ r. ap (λ members. after_value b missing limit outer (object members) r.1) (sym (members_onto-append ms (name, d) r.0)))
 
-  -- ---- texts
+  -- ---- strings
 
-  pub at_value-text : (open_containers : List Open) (t : Token) (ts : List Token) (s : List ℕ) (end : ℕ) → t.form ≡ string (Ok (s, end))
-      → at_value b missing limit open_containers (t ∷ ts) ≡ after_value b missing limit open_containers (text s) ts
+  pub at_value-string : (open_containers : List Open) (t : Token) (ts : List Token) (s : List ℕ) (end : ℕ) → t.form ≡ string_token (Ok (s, end))
+      → at_value b missing limit open_containers (t ∷ ts) ≡ after_value b missing limit open_containers (string s) ts
   unfolding value_from
-  at_value-text open_containers t ts s end is = go (limit - length open_containers)
+  at_value-string open_containers t ts s end is = go (limit - length open_containers)
     where
-      go : (room : ℕ) → (value_from b missing room (t ∷ ts) >>= λ r. after_value b missing limit open_containers r.0 r.1) ≡ after_value b missing limit open_containers (text s) ts
+      go : (room : ℕ) → (value_from b missing room (t ∷ ts) >>= λ r. after_value b missing limit open_containers r.0 r.1) ≡ after_value b missing limit open_containers (string s) ts
       go zero = ap (λ form. value_of b missing (too_deep b missing) (too_deep b missing) t form ts >>= λ r. after_value b missing limit open_containers r.0 r.1) is
       go (suc room) = ap (λ form. value_of b missing (λ _. array_from b missing (value_from b missing room)) (λ _. object_from b missing (value_from b missing room)) t form ts >>= λ r. after_value b missing limit open_containers r.0 r.1) is
 
-  pub at_value-text_fault : (open_containers : List Open) (t : Token) (ts : List Token) (e : Error) → t.form ≡ string (Err e) → at_value b missing limit open_containers (t ∷ ts) ≡ Err e
+  pub at_value-string_fault : (open_containers : List Open) (t : Token) (ts : List Token) (e : Error) → t.form ≡ string_token (Err e) → at_value b missing limit open_containers (t ∷ ts) ≡ Err e
   unfolding value_from
-  at_value-text_fault open_containers t ts e is = go (limit - length open_containers)
+  at_value-string_fault open_containers t ts e is = go (limit - length open_containers)
     where
       go : (room : ℕ) → (value_from b missing room (t ∷ ts) >>= λ r. after_value b missing limit open_containers r.0 r.1) ≡ Err e
       go zero = ap (λ form. value_of b missing (too_deep b missing) (too_deep b missing) t form ts >>= λ r. after_value b missing limit open_containers r.0 r.1) is

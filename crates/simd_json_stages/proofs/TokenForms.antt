@@ -4,9 +4,9 @@ use Rattle.std.specs.Prelude.{if◌then◌else◌}
 use Rattle.std.proofs.lemmas.Bool.{cond_both, eqb-true}
 use Rattle.std.proofs.lemmas.List.{drop_more}
 use Rattle.simd_json_parts.specs.Bytes.{byte_at}
-use Rattle.simd_json_parts.specs.Tokens.{Token, Form, begin_array, end_array, begin_object, end_object, name_separator, value_separator, string, scalar, stray, form_of, form_at}
+use Rattle.simd_json_parts.specs.Tokens.{Token, Form, begin_array, end_array, begin_object, end_object, name_separator, value_separator, string_token, scalar, stray, form_of, form_at}
 use Rattle.simd_json_parts.specs.Descent.{last_index}
-use Rattle.simd_json_parts.specs.TextAt.{text_at}
+use Rattle.simd_json_parts.specs.StringAt.{string_at}
 use Rattle.simd_json_parts.specs.TokensAlong.{goes_on, tokens_along}
 use Rattle.simd_json_stages.specs.Put.{begins_value}
 use Rattle.simd_json_stages.specs.ScalarRead.{is_no_scalar}
@@ -26,7 +26,7 @@ IsFormOf begin_object c = c ≡ 123
 IsFormOf end_object c = c ≡ 125
 IsFormOf name_separator c = c ≡ 58
 IsFormOf value_separator c = c ≡ 44
-IsFormOf (string read) c = c ≡ 34
+IsFormOf (string_token read) c = c ≡ 34
 IsFormOf (scalar read) c = Unit {0}
 IsFormOf stray c = Unit {0}
 
@@ -40,7 +40,7 @@ no_end_object_of end_object c e ne = absurd (ne e)
 no_end_object_of _ c e ne = refl
 
 no_string_of : (form : Form) (c : ℕ) → IsFormOf form c → c ≢ 34 → is_string form ≡ false
-no_string_of (string read) c e ne = absurd (ne e)
+no_string_of (string_token read) c e ne = absurd (ne e)
 no_string_of _ c e ne = refl
 
 no_colon_of : (form : Form) (c : ℕ) → IsFormOf form c → c ≢ 58 → is_name_separator form ≡ false
@@ -58,7 +58,7 @@ no_member_ending_of value_separator c e ne nc = absurd (nc e)
 no_member_ending_of _ c e ne nc = refl
 
 no_value_of : (form : Form) (c : ℕ) → IsFormOf form c → is_no_scalar form ≡ true → c ≢ 34 → c ≢ 91 → c ≢ 123 → begins_value form ≡ false
-no_value_of (string read) c e h nq na nb = absurd (nq e)
+no_value_of (string_token read) c e h nq na nb = absurd (nq e)
 no_value_of (scalar read) c e h nq na nb = cc h
 no_value_of begin_array c e h nq na nb = absurd (na e)
 no_value_of begin_object c e h nq na nb = absurd (nb e)
@@ -98,8 +98,8 @@ module _ (b : List ℕ) where
   pub commas : (i : ℕ) → byte_at b i ≡ 44 → form_at b i ≡ value_separator
   commas i e = form-here i 44 value_separator e refl
 
-  pub quotes : (i : ℕ) → byte_at b i ≡ 34 → form_at b i ≡ string (text_at b i)
-  quotes i e = form-here i 34 (string (text_at b i)) e refl
+  pub quotes : (i : ℕ) → byte_at b i ≡ 34 → form_at b i ≡ string_token (string_at b i)
+  quotes i e = form-here i 34 (string_token (string_at b i)) e refl
 
   -- ---- and a form its byte
 
@@ -107,7 +107,7 @@ module _ (b : List ℕ) where
   unfolding form_at
   form-byte i =
       single 91 begin_array _ (λ e. e) (single 93 end_array _ (λ e. e) (single 123 begin_object _ (λ e. e) (single 125 end_object _ (λ e. e)
-      (single 58 name_separator _ (λ e. e) (single 44 value_separator _ (λ e. e) (single 34 (string (text_at b i)) _ (λ e. e)
+      (single 58 name_separator _ (λ e. e) (single 44 value_separator _ (λ e. e) (single 34 (string_token (string_at b i)) _ (λ e. e)
       (cond_both ((x == 116) || (x == 102) || (x == 110)) _ _ (λ form. IsFormOf form x) (λ _. tt)
       (λ _. cond_both ((x == 45) || (nat_le 48 x && nat_le x 57)) _ _ (λ form. IsFormOf form x) (λ _. tt) (λ _. tt)))))))))
     where
@@ -115,7 +115,7 @@ module _ (b : List ℕ) where
       x = byte_at b i
 
       single : (c : ℕ) (form other : Form) → (x ≡ c → IsFormOf form x) → IsFormOf other x → IsFormOf (if x == c then form else other) x
-      single c form other is behind = cond_both (x == c) form other (λ f. IsFormOf f x) (λ e. is (eqb-true x c e)) (λ _. behind)
+      single c form other is after = cond_both (x == c) form other (λ f. IsFormOf f x) (λ e. is (eqb-true x c e)) (λ _. after)
 
   pub no_end : (i : ℕ) → byte_at b i ≢ 93 → is_end_array (form_at b i) ≡ false
   no_end i ne = no_end_of (form_at b i) (byte_at b i) (form-byte i) ne
@@ -135,6 +135,6 @@ module _ (b : List ℕ) where
   pub no_member_ending : (i : ℕ) → byte_at b i ≢ 125 → byte_at b i ≢ 44 → ends_member (form_at b i) ≡ false
   no_member_ending i ne nc = no_member_ending_of (form_at b i) (byte_at b i) (form-byte i) ne nc
 
-  -- what is no scalar, no text and opens nothing begins no value
+  -- what is no scalar, no string and opens nothing begins no value
   pub no_value : (i : ℕ) → is_no_scalar (form_at b i) ≡ true → byte_at b i ≢ 34 → byte_at b i ≢ 91 → byte_at b i ≢ 123 → begins_value (form_at b i) ≡ false
   no_value i h nq na nb = no_value_of (form_at b i) (byte_at b i) (form-byte i) h nq na nb

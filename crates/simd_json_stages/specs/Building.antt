@@ -36,12 +36,12 @@ abbrev pub header_of : Container → ℕ → ℕ → Node
 header_of Array len count = nodes.Array len count
 header_of Object len count = nodes.Object len count
 
--- the fault of a token that may not stand behind a member
+-- the fault of a token that may not stand after a member
 abbrev pub content_kind : Container → FaultKind
 content_kind Array = kinds.ExpectedArrayContent
 content_kind Object = kinds.ExpectedObjectContent
 
--- the fault at a root, by its first node, where a token stands behind it
+-- the fault at a root, by its first node, where a token stands after it
 abbrev pub end_kind : Node → FaultKind
 end_kind (nodes.Array len count) = kinds.InternalError
 end_kind (nodes.Object len count) = kinds.InternalError
@@ -88,7 +88,7 @@ Holds [] c fs len items = (fs ≡ []) × (len ≡ 0) × (items ≡ [])
 Holds (in_array ds ∷ outer) c fs len items = (c ≡ Array) × Headed (Holds outer) (listings ds) (length ds) fs len items
 Holds (in_object ms name ∷ outer) c fs len items = (c ≡ Object) × Headed (Holds outer) (member_listings ms ++ string_item name ∷ []) (length ms) fs len items
 
--- behind such a value
+-- after such a value
 abbrev pub HoldsValue : List Open → Document → Container → List StackState → ℕ → List Item → Type 0
 HoldsValue [] d c fs len items = (fs ≡ []) × (items ≡ listing d)
 HoldsValue (in_array ds ∷ outer) d c fs len items = (c ≡ Array) × Headed (Holds outer) (listings (ds ++ d ∷ [])) (length ds + 1) fs len items
@@ -98,7 +98,7 @@ HoldsValue (in_object ms name ∷ outer) d c fs len items = (c ≡ Object) × He
 abbrev pub HoldsMembers : List (List ℕ × Document) → List Open → Container → List StackState → ℕ → List Item → Type 0
 HoldsMembers ms outer c fs len items = (c ≡ Object) × Headed (Holds outer) (member_listings ms) (length ms) fs len items
 
--- the innermost container, closed behind its last member
+-- the innermost container, closed after its last member
 abbrev pub closed_with : Open → Document → Document
 closed_with (in_array ds) d = array (elements_onto (ds ++ d ∷ []) no_elements)
 closed_with (in_object ms name) d = object (members_onto (ms ++ (name, d) ∷ []) no_members)
@@ -141,7 +141,7 @@ module _ (b ps : List ℕ) (limit : ℕ) where
     pub deep : suc (length outer) ≡ p.depth
 
   -- The value has been read.
-  pub record BehindValue (stack : List StackState) (nodes : List Node) (p : Progress) : Type 0 where
+  pub record AfterValue (stack : List StackState) (nodes : List Node) (p : Progress) : Type 0 where
     pub opens : List Open
     pub last : Document
     pub same : whole ≡ after_value b (missing b ps) limit opens last (tokens_along b (drop p.read ps))
@@ -168,7 +168,7 @@ module _ (b ps : List ℕ) (limit : ℕ) where
   -- what a value came to
   abbrev pub Opens : List StackState → List Node → Value → Type 0
   Opens stack nodes (Opened p) = AtMember kinds.ExpectedObjectContent stack nodes p
-  Opens stack nodes (Read p) = BehindValue stack nodes p
+  Opens stack nodes (Read p) = AfterValue stack nodes p
 
   -- what follows a value
   abbrev pub Goes : List StackState → List Node → Follower → Type 0

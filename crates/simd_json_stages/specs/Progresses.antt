@@ -28,8 +28,8 @@ pub record IsBefore (b ps : List ℕ) (u : Left) (p : Progress) : Type 0 where
   pub len : p.len ≤ p.used
   pub unread : IsUnread b u p.at
 
--- Behind a value: what is unread begins no later than the next position.
-pub record IsBehind (b ps : List ℕ) (u : Left) (p : Progress) : Type 0 where
+-- After a value: what is unread begins no later than the next position.
+pub record IsAfter (b ps : List ℕ) (u : Left) (p : Progress) : Type 0 where
   pub read : IsRead b ps p
   pub used : p.used ≤ p.read
   pub deep : p.depth ≤ p.used
@@ -39,7 +39,7 @@ pub record IsBehind (b ps : List ℕ) (u : Left) (p : Progress) : Type 0 where
 
 abbrev pub IsWithin : List ℕ → List ℕ → Left → Value → Type 0
 IsWithin b ps u (Opened p) = IsBefore b ps u p
-IsWithin b ps u (Read p) = IsBehind b ps u p
+IsWithin b ps u (Read p) = IsAfter b ps u p
 
 abbrev pub IsAhead : List ℕ → List ℕ → Left → Follower → Type 0
 IsAhead b ps u (Next p) = IsBefore b ps u p

@@ -5,24 +5,24 @@ use Rattle.simd_json_parts.specs.Document.{Document}
 use Rattle.simd_json_parts.specs.Faults.{fault_with}
 use Rattle.simd_json_parts.specs.Listing.{listing}
 use Rattle.simd_json_parts.specs.Nodes.{string_item, item_of}
-use Rattle.simd_json_parts.specs.TextAt.{text_at}
-use Rattle.simd_json_parts.specs.Tokens.{Form, begin_array, begin_object, string, scalar, form_at}
+use Rattle.simd_json_parts.specs.StringAt.{string_at}
+use Rattle.simd_json_parts.specs.Tokens.{Form, begin_array, begin_object, string_token, scalar, form_at}
 use Rattle.simd_json_parts.specs.declared.node.Node.{Node}
 use Rattle.simd_json_stages.specs.Left.{Left}
 use Rattle.simd_json_stages.specs.Refusals.{error_type}
 use Rattle.simd_json_stages.specs.declared.stage2.fault.Fault.{Fault}
 use Rattle.simd_json_stages.specs.declared.stage2.fault.FaultKind.TheVariants as kinds
 
--- the text at index i is the node of this number, and what is behind it is unread
-pub record IsTextPut (b : List ℕ) (i used : ℕ) (nodes nodes' : List Node) (u : Left) : Type 0 where
-  pub text : List ℕ
+-- the string at index i is the node of this number, and what is after it is unread
+pub record IsStringPut (b : List ℕ) (i used : ℕ) (nodes nodes' : List Node) (u : Left) : Type 0 where
+  pub string : List ℕ
   pub node : Node
-  pub read : text_at b i ≡ Ok (text, u.at)
-  pub item : item_of node ≡ string_item text
+  pub read : string_at b i ≡ Ok (string, u.at)
+  pub item : item_of node ≡ string_item string
   pub put : nodes' ≡ slice_set nodes used node
   pub unread : u.bytes ≡ drop u.at b
 
--- the scalar at index i is the node of this number, and what is unread begins no later than behind it
+-- the scalar at index i is the node of this number, and what is unread begins no later than after it
 pub record IsScalarPut (b : List ℕ) (i used : ℕ) (nodes nodes' : List Node) (u : Left) : Type 0 where
   pub document : Document
   pub end : ℕ
@@ -33,14 +33,14 @@ pub record IsScalarPut (b : List ℕ) (i used : ℕ) (nodes nodes' : List Node) 
   pub unread : u.bytes ≡ drop u.at b
   pub before : (u.at ≤ i) ⊎ (u.at ≡ end)
 
--- the fault is the text's
-abbrev pub IsBadText : List ℕ → ℕ → Fault → Type 0
-IsBadText b i f = text_at b i ≡ Err (fault_with (error_type f.kind) f.index f.byte)
+-- the fault is the string's
+abbrev pub IsBadString : List ℕ → ℕ → Fault → Type 0
+IsBadString b i f = string_at b i ≡ Err (fault_with (error_type f.kind) f.index f.byte)
 
 abbrev pub begins_value : Form → Bool
 begins_value begin_array = true
 begins_value begin_object = true
-begins_value (string read) = true
+begins_value (string_token read) = true
 begins_value (scalar read) = true
 begins_value _ = false
 

@@ -1,4 +1,4 @@
--- The faults of tokens that the second stage tells.
+-- The faults of tokens that the second stage reports.
 use Rattle.std.specs.Prelude.{◌≡◌, ℕ, ◌+◌, List, ◌==◌, if◌then◌else◌}
 use Rattle.simd_json_parts.specs.Bytes.{byte_at}
 use Rattle.simd_json_parts.specs.Faults.{fault_with}
@@ -34,7 +34,7 @@ refused_kind c = if c == 116 then kinds.ExpectedTrue else if c == 102 then kinds
 abbrev pub number_refusal : List ℕ → ℕ → Fault
 number_refusal b i = record { kind = kinds.InvalidNumber; index = i; byte = byte_at b i }
 
--- how far behind its first byte the scalar is refused
+-- how far after its first byte the scalar is refused
 abbrev pub offset_of : Scalar → ℕ
 offset_of (Invalid offset) = offset
 offset_of _ = 0

@@ -1,4 +1,4 @@
--- What a reader of one scalar that is no text answers of the token at an index.
+-- What a reader of one scalar that is no string answers of the token at an index.
 use Rattle.std.specs.Prelude.{◌≡◌, ◌⊎◌, Bool, true, false, ℕ, ◌+◌, List, [], ◌∷◌, take, drop, Ok, Err}
 use Rattle.simd_json_parts.specs.Document.{Document, decimal}
 use Rattle.simd_json_parts.specs.Nodes.{static_item}

@@ -2,7 +2,7 @@
 ghost use Rattle.std.specs.Prelude.{◌≡◌, ◌≤◌, ◌<◌, ◌^◌, ◌+◌, ◌⊎◌, ◌++◌, [], ◌∷◌, ℕ, List, length, take, Some, None, IfOk, IfErr, OnOk};
 ghost use Rattle.simd_json_parts.specs.Bytes.{byte_at, is_structural, is_whitespace};
 ghost use Rattle.simd_json_parts.specs.Faults.{whole_fault};
-ghost use Rattle.simd_json_parts.specs.InputFaults.{has_bad_text, scan_fault};
+ghost use Rattle.simd_json_parts.specs.InputFaults.{has_bad_string, scan_fault};
 ghost use Rattle.simd_json_parts.specs.Positions.{is_position, positions};
 ghost use Rattle.simd_json_parts.specs.declared.error.ErrorType.{ErrorType};
 ghost use Rattle.simd_json_stages.specs.Carries.{carry_at};
@@ -29,11 +29,11 @@ pub struct Found {
 /// A way to find the structural positions of an input.
 pub trait Stage1Parse {
     /// Writes the structural positions of `input` to the front of one list, and to the front of the other the numbers
-    /// of the blocks of 64 bytes that hold a backslash, so that a text in other blocks is known to have no escape.
+    /// of the blocks of 64 bytes that hold a backslash, so that a string in other blocks is known to have no escape.
     /// Both rise, and the answer is how many there are. The lists are kept filled up to their room, and grow by what
     /// is found.
     ///
-    /// Answers `Syntax` where a text is left open or holds a byte below 0x20, `Eof` where there is no position, and
+    /// Answers `Syntax` where a string is left open or holds a byte below 0x20, `Eof` where there is no position, and
     /// `OutOfMemory` where a growth was refused, which happens only where the list of positions is shorter than the
     /// input, or the other shorter than the input's number of blocks. After an error nothing of either list is in use;
     /// what they hold is of no meaning, and they are no shorter than before.
@@ -64,8 +64,8 @@ impl Stage1Parse for PlainStage1Parse {
         structural_indexes: &mut Vec<u32, A>,
         escape_blocks: &mut Vec<u32, A>,
     ) -> Result<Found> {
-        let (has_bad_text, found) = scan(input, structural_indexes, escape_blocks)?;
-        if has_bad_text {
+        let (has_bad_string, found) = scan(input, structural_indexes, escape_blocks)?;
+        if has_bad_string {
             return Err(Error::generic(ErrorType::Syntax));
         }
         if found.positions == 0 {
@@ -100,7 +100,7 @@ fn is_whitespace(byte: u8) -> bool
     matches!(byte, b' ' | b'\t' | b'\n' | b'\r')
 }
 
-// Reads the byte at an index: what is kept behind it, and whether it is a position. By `&` and `|`, which need no
+// Reads the byte at an index: what is kept after it, and whether it is a position. By `&` and `|`, which need no
 // branch, since bytes follow no pattern.
 fn step(before: Carry, byte: u8) -> (Carry, bool)
     ensures { (b : List ℕ) (i : ℕ) → before ≡ carry_at b i → byte ≡ byte_at b i
@@ -123,14 +123,14 @@ fn step(before: Carry, byte: u8) -> (Carry, bool)
 }
 
 // Writes the positions of the input to the front of one list, and the blocks with a backslash to the front of the
-// other. Answers whether some text is bad, and how many of each there are.
+// other. Answers whether some string is bad, and how many of each there are.
 fn scan<A: Allocator>(
     input: &[u8],
     structural_indexes: &mut Vec<u32, A>,
     escape_blocks: &mut Vec<u32, A>,
 ) -> Result<(bool, Found)>
     requires { length input.now < 2 ^ 32 }
-    ensures bad { IfOk result (λ r. r.0 ≡ has_bad_text input.now) }
+    ensures bad { IfOk result (λ r. r.0 ≡ has_bad_string input.now) }
     ensures found { IfOk result (λ r. (r.1.positions ≤ length structural_indexes.new.items)
         × (take r.1.positions structural_indexes.new.items ≡ positions input.now)) }
     ensures escapes { IfOk result (λ r. (r.1.escape_blocks ≤ length escape_blocks.new.items)
@@ -149,7 +149,7 @@ fn scan<A: Allocator>(
     };
     let mut positions = 0;
     let mut blocks = 0;
-    // The block behind the last one that is listed.
+    // The block after the last one that is listed.
     let mut next_block = 0;
     let max_blocks = input.len().div_ceil(BLOCK_LEN);
     for (i, &byte) in input.iter().enumerate() {
@@ -174,7 +174,7 @@ fn scan<A: Allocator>(
     Ok((carry.is_inside | carry.has_control, found))
 }
 
-// Stores a number behind the first `count`, in a list that may need to grow for it, to `max_len` at most.
+// Stores a number after the first `count`, in a list that may need to grow for it, to `max_len` at most.
 fn put<A: Allocator>(
     list: &mut Vec<u32, A>,
     count: usize,

@@ -4,14 +4,14 @@ ghost use Rattle.simd_json_parts.specs.Bytes.{quote, byte_at};
 ghost use Rattle.simd_json_parts.specs.Descent.{descent};
 ghost use Rattle.simd_json_parts.specs.InputFaults.{input_fault};
 ghost use Rattle.simd_json_parts.specs.Positions.{positions};
-ghost use Rattle.simd_json_parts.specs.TextAt.{escape_fault};
+ghost use Rattle.simd_json_parts.specs.StringAt.{escape_fault};
 ghost use Rattle.simd_json_parts.specs.Faults.{fault_with};
 ghost use Rattle.simd_json_parts.specs.Tokens.{Token, form_at, tokens};
-ghost use Rattle.simd_json_stages.specs.Building.{AtValue, AtName, AtMember, BehindValue, IsBuilt, IsListed, Opens, Goes, Tells, top, patch, closer, header_of, content_kind, end_kind};
+ghost use Rattle.simd_json_stages.specs.Building.{AtValue, AtName, AtMember, AfterValue, IsBuilt, IsListed, Opens, Goes, Tells, top, patch, closer, header_of, content_kind, end_kind};
 ghost use Rattle.simd_json_stages.specs.EscapeBlocks.{backslash_blocks};
 ghost use Rattle.simd_json_stages.specs.EscapesAhead.{AreAhead};
-ghost use Rattle.simd_json_stages.specs.Progresses.{IsRead, IsUnread, IsBefore, IsBehind, IsWithin, IsAhead, Advances, Passes};
-ghost use Rattle.simd_json_stages.specs.Put.{IsTextPut, IsScalarPut, IsBadText, IsNoScalar};
+ghost use Rattle.simd_json_stages.specs.Progresses.{IsRead, IsUnread, IsBefore, IsAfter, IsWithin, IsAhead, Advances, Passes};
+ghost use Rattle.simd_json_stages.specs.Put.{IsStringPut, IsScalarPut, IsBadString, IsNoScalar};
 ghost use Rattle.simd_json_stages.specs.Refusals.{error_type, IsTokenFault};
 
 mod escapes;
@@ -72,7 +72,7 @@ pub(crate) struct Progress {
     pub(crate) len: usize,
 }
 
-// What a value came to: a container that has members, before the first of them, or a value that is whole.
+// After a value's first token: inside a new container, before its first member, or past a complete value.
 #[derive(Clone, Copy, Debug, Drop)]
 enum Value {
     Opened(Progress),
@@ -109,7 +109,7 @@ impl Container {
         }
     }
 
-    // The fault of a token that may not stand behind one of its members.
+    // The fault of a token that may not stand after one of its members.
     fn content_kind(self) -> FaultKind
         ensures { result ≡ content_kind self }
     {
@@ -173,7 +173,7 @@ fn position_or_end(indexes: &[u32], number: usize, end: usize) -> usize
     }
 }
 
-// The fault of a bad escape in the text whose opening quote has index `at`.
+// The fault of a bad escape in the string whose opening quote has index `at`.
 #[cold]
 fn bad_escape(at: usize, bad: BadEscape) -> Fault
     requires { at + bad.offset < 2 ^ 64 }
@@ -191,9 +191,9 @@ fn bad_escape(at: usize, bad: BadEscape) -> Fault
     }
 }
 
-// The text at the last token becomes the next node. It ends before the next position.
+// The string at the last token becomes the next node. It ends before the next position.
 #[inline(always)]
-fn put_text<'de>(
+fn put_string<'de>(
     unread: &mut Unread<'de>,
     escapes: &mut Escapes,
     indexes: &[u32],
@@ -206,27 +206,27 @@ fn put_text<'de>(
     requires escapes { AreAhead b escapes.old p.at }
     requires read { IsRead b indexes.now p }
     requires token { Contains (tokens b) (record { index = p.at; form = form_at b p.at }) }
-    requires text { p.byte ≡ quote }
+    requires string { p.byte ≡ quote }
     requires room { p.used < length nodes.old }
     ensures kept { length nodes.new ≡ length nodes.old }
     ensures escapes { AreAhead b escapes.new p.at }
-    ensures put { OnOk result (IsTextPut b p.at p.used nodes.old nodes.new unread.new) }
-    ensures refused { IfErr result (IsBadText b p.at) }
+    ensures put { OnOk result (IsStringPut b p.at p.used nodes.old nodes.new unread.new) }
+    ensures refused { IfErr result (IsBadString b p.at) }
 {
     let next = position_or_end(indexes, p.read, unread.end());
     let may_have_escape = escapes.may_lie_between(p.at, next);
     if !may_have_escape && unread.byte(next - 1) == b'"' {
-        nodes[p.used] = Node::String(unread.share_text(p.at, next - 1));
+        nodes[p.used] = Node::String(unread.share_string(p.at, next - 1));
         return Ok(());
     }
-    match unread.parse_text(p.at) {
-        Ok(text) => nodes[p.used] = Node::String(text),
+    match unread.parse_string(p.at) {
+        Ok(string) => nodes[p.used] = Node::String(string),
         Err(bad) => return Err(bad_escape(p.at, bad)),
     }
     Ok(())
 }
 
-// The container that opens at the last token: the token behind it tells whether it is empty.
+// The container that opens at the last token: the token after it tells whether it is empty.
 #[inline(always)]
 fn open<'de>(
     unread: &Unread<'de>,
@@ -278,7 +278,7 @@ fn open<'de>(
     }))
 }
 
-// The scalar at the last token, which is no text.
+// The scalar at the last token, which is no string.
 #[inline(always)]
 fn put_scalar<'de>(
     unread: &mut Unread<'de>,
@@ -351,7 +351,7 @@ fn read_value<'de>(
         );
     }
     if p.byte == b'"' {
-        put_text(unread, escapes, indexes, nodes, p)?;
+        put_string(unread, escapes, indexes, nodes, p)?;
     } else {
         put_scalar(unread, nodes, p)?;
     }
@@ -387,7 +387,7 @@ fn read_name<'de>(
     if p.byte != b'"' {
         return Err(p.fault(kind));
     }
-    put_text(unread, escapes, indexes, nodes, p)?;
+    put_string(unread, escapes, indexes, nodes, p)?;
     if p.read == indexes.len() {
         return Err(p.fault(FaultKind::Syntax));
     }
@@ -428,7 +428,7 @@ fn close<'de>(stack: &[StackState], nodes: &mut [Node<'de>], p: Progress) -> Pro
     }
 }
 
-// Behind a comma: the first token of the next member.
+// After a comma: the first token of the next member.
 #[inline(always)]
 fn next_member<'de>(
     unread: &Unread<'de>,
@@ -453,7 +453,7 @@ fn next_member<'de>(
     Ok(Follower::Next(comma.at_next(at, unread.byte(at))))
 }
 
-// Behind a value: closing brackets, and then a comma with the next member, or the end of the root.
+// After a value: closing brackets, and then a comma with the next member, or the end of the root.
 #[inline(always)]
 fn follow<'de>(
     unread: &Unread<'de>,
@@ -465,11 +465,11 @@ fn follow<'de>(
 ) -> std::result::Result<Follower, Fault>
     ghost b: { List ℕ }
     requires input { indexes.now ≡ positions b }
-    requires progress { IsBehind b indexes.now unread.now p }
+    requires progress { IsAfter b indexes.now unread.now p }
     requires depth { p.depth ≤ max_depth }
     requires nodes { length indexes.now ≤ length nodes.old }
     requires stack { min (length indexes.now) max_depth ≤ length stack.now }
-    requires behind { BehindValue b indexes.now max_depth stack.now nodes.old p }
+    requires after { AfterValue b indexes.now max_depth stack.now nodes.old p }
     ensures kept { length nodes.new ≡ length nodes.old }
     ensures progress { IfOk result (IsAhead b indexes.now unread.now) }
     ensures passes { IfOk result (Passes p) }
@@ -495,7 +495,7 @@ fn follow<'de>(
     end(indexes, nodes[0], p)
 }
 
-// Behind the root, whose first node is given: no token may stand there.
+// After the root, whose first node is given: no token may stand there.
 fn end<'de>(indexes: &[u32], first: Node<'de>, p: Progress) -> std::result::Result<Follower, Fault>
     ensures { MatchResult result
         (λ f. (p.read ≡ length indexes.now) × (f ≡ Follower.End p.used))
@@ -550,7 +550,7 @@ fn build<'de>(
 }
 
 /// Builds the tape of an input from its structural positions and from the blocks of 64 bytes that hold a backslash: writes
-/// its nodes to the front of `nodes`, and answers how many there are. `stack` holds what is kept of open containers.
+/// its nodes to the front of `nodes`, and returns how many there are. `stack` holds what is kept of open containers.
 ///
 /// The nodes are the listing of the document that the descent reads. An error is the descent's own fault, with the index
 /// and the character that belong to it; none is for want of memory, and none is of the whole input.

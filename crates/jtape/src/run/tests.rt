@@ -128,7 +128,7 @@ fn depth_is_limited(rt: HostRuntime) -> Tested {
     Ok(())
 }
 
-// Gives its bytes one at a time, and fails behind them if it is asked to.
+// Gives its bytes one at a time, and fails after them if it is asked to.
 #[derive(Drop)]
 struct Slow<'a> {
     rest: &'a [u8],
@@ -209,7 +209,7 @@ impl Write for Full {
 }
 
 #[test]
-fn failing_writers_are_told(rt: HostRuntime) {
+fn failing_writers_are_reported(rt: HostRuntime) {
     for fails in [false, true] {
         for room in 0..6 {
             let mut reader = Port::new(b"[1]".as_slice());
@@ -223,7 +223,7 @@ fn failing_writers_are_told(rt: HostRuntime) {
 }
 
 #[test]
-fn statuses_are_told(rt: HostRuntime) {
+fn statuses_are_returned(rt: HostRuntime) {
     assert_eq!(rt; status(&Ok(true)), 0);
     assert_eq!(rt; status(&Ok(false)), 1);
     assert_eq!(rt;

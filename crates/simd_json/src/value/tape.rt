@@ -66,7 +66,7 @@ impl<'input, A: Allocator> Tape<'input, A> {
         self.used = 0;
     }
 
-    // Makes room for as many nodes in all. Answers `OutOfMemory` where a growth was refused. Changes no node.
+    // Makes room for as many nodes in all. Returns `OutOfMemory` where an allocation fails. Changes no node.
     pub(crate) fn reserve(&mut self, nodes: usize) -> Result<()>
         ensures nodes { self.new.nodes ≡ self.old.nodes }
         ensures kept { self.old.room ≤ self.new.room }

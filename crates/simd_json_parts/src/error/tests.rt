@@ -8,7 +8,7 @@ fn printed(rt: &HostRuntime, error: ErrorType) -> std::result::Result<String, Fa
 }
 
 #[test]
-fn tells_where_and_why(rt: HostRuntime) -> std::result::Result<(), Fail> {
+fn reports_where_and_why(rt: HostRuntime) -> std::result::Result<(), Fail> {
     let error = Error::new(20, Some(' '), ErrorType::InvalidNumber);
     assert_eq!(rt; error.index(), 20);
     assert_eq!(rt; error.character(), Some(' '));
@@ -50,15 +50,15 @@ fn compares_fields(rt: HostRuntime) -> std::result::Result<(), Fail> {
     Ok(())
 }
 
-// A list with room for so many numbers.
-fn with_room(alloc: Global, room: usize) -> Result<Vec<u64>> {
-    Ok(Vec::with_capacity(alloc, room)?)
+// A list with capacity for so many numbers.
+fn list_of_capacity(alloc: Global, capacity: usize) -> Result<Vec<u64>> {
+    Ok(Vec::with_capacity(alloc, capacity)?)
 }
 
 #[test]
-fn tells_a_refused_growth(rt: HostRuntime) {
-    assert!(rt; with_room(rt.alloc(), 3).is_ok());
-    match with_room(rt.alloc(), usize::MAX) {
+fn reports_a_refused_growth(rt: HostRuntime) {
+    assert!(rt; list_of_capacity(rt.alloc(), 3).is_ok());
+    match list_of_capacity(rt.alloc(), usize::MAX) {
         Ok(_) => panic!(rt; "more than there is"),
         Err(error) => {
             assert!(rt; error == Error::generic(ErrorType::OutOfMemory));

@@ -1,14 +1,14 @@
 ghost use Rattle.std.specs.Prelude.{◌≡◌, ◌<◌, length, IsTrue};
 ghost use Rattle.simd_json_parts.specs.Bytes.{quote, byte_at};
-ghost use Rattle.simd_json_parts.specs.TextAt.{closing_quote};
+ghost use Rattle.simd_json_parts.specs.StringAt.{closing_quote};
 
 use super::*;
 use std::test::Fail;
 
-// What the definition says of a text, read plainly: its end, or the index and the letter of its first bad escape.
+// What the definition says of a string, read plainly: its end, or the index and the letter of its first bad escape.
 #[derive(Clone, Copy, Debug, Drop)]
 enum Expected {
-    Text(usize),
+    ParsedString(usize),
     Bad(usize, u8),
 }
 
@@ -20,7 +20,7 @@ fn byte_or_space(bytes: &[u8], i: usize) -> u8 {
 }
 
 // First the closing quote, then one piece after another, into other memory.
-fn reference(bytes: &[u8], text: &mut Vec<u8>) -> std::result::Result<Expected, Fail> {
+fn reference(bytes: &[u8], string: &mut Vec<u8>) -> std::result::Result<Expected, Fail> {
     let mut end = 1;
     let mut is_escaped = false;
     for i in 1..bytes.len() {
@@ -37,19 +37,19 @@ fn reference(bytes: &[u8], text: &mut Vec<u8>) -> std::result::Result<Expected, 
         if skip > 0 {
             skip -= 1;
         } else if c != b'\\' {
-            text.push(c)?;
+            string.push(c)?;
         } else {
             match bytes.get(i..end).and_then(piece) {
                 Some((character, more)) => {
                     let mut buffer = [0; 4];
-                    text.extend_from_slice(character.encode_utf8(&mut buffer).as_bytes())?;
+                    string.extend_from_slice(character.encode_utf8(&mut buffer).as_bytes())?;
                     skip = more;
                 }
                 None => return Ok(Expected::Bad(i, byte_or_space(bytes, i + 1))),
             }
         }
     }
-    Ok(Expected::Text(end))
+    Ok(Expected::ParsedString(end))
 }
 
 // The character of the escape at the front, and how many bytes of it follow the backslash.
@@ -92,7 +92,7 @@ fn number(content: &[u8]) -> Option<u32> {
     Some(value)
 }
 
-// Whether a text stands at the front, up to its closing quote.
+// Whether a string stands at the front, up to its closing quote.
 fn is_closed(bytes: &[u8]) -> bool
     ensures { IsTrue result → (byte_at bytes.now 0 ≡ quote) × (closing_quote bytes.now 0 < length bytes.now) }
 {
@@ -111,21 +111,21 @@ fn is_closed(bytes: &[u8]) -> bool
     false
 }
 
-fn read<'de>(bytes: &'de mut [u8]) -> Option<std::result::Result<Text<'de>, BadEscape>> {
+fn read<'de>(bytes: &'de mut [u8]) -> Option<std::result::Result<ParsedString<'de>, BadEscape>> {
     if !is_closed(bytes) || str::from_utf8(bytes).is_err() {
         return None;
     }
     Some(parse_str(bytes))
 }
 
-// Whether the reader of texts answers what the reference does; the bytes are rewritten.
+// Whether the reader of strings answers what the reference does; the bytes are rewritten.
 fn agrees(rt: &HostRuntime, bytes: &mut Vec<u8>) -> std::result::Result<bool, Fail> {
-    let mut text = Vec::new(rt.alloc());
-    let expected = reference(bytes.as_slice(), &mut text)?;
+    let mut string = Vec::new(rt.alloc());
+    let expected = reference(bytes.as_slice(), &mut string)?;
     let copy = bytes.clone()?;
     Ok(match (read(bytes.as_mut_slice()), expected) {
-        (Some(Ok(read)), Expected::Text(end)) => {
-            read.text.as_bytes() == text.as_slice()
+        (Some(Ok(read)), Expected::ParsedString(end)) => {
+            read.string.as_bytes() == string.as_slice()
                 && read.len == end.wrapping_add(1)
                 && copy.get(read.len..) == Some(&*read.rest)
         }
@@ -137,11 +137,11 @@ fn agrees(rt: &HostRuntime, bytes: &mut Vec<u8>) -> std::result::Result<bool, Fa
 }
 
 #[test]
-fn a_text_is_read(rt: HostRuntime) {
+fn a_string_is_read(rt: HostRuntime) {
     let mut bytes = *b"\"a\\n\\u00e9\\ud83d\\ude00b\",1";
     match read(&mut bytes) {
         Some(Ok(read)) => {
-            assert_eq!(rt; read.text, "a\n\u{e9}\u{1f600}b");
+            assert_eq!(rt; read.string, "a\n\u{e9}\u{1f600}b");
             assert_eq!(rt; read.len, 24);
             assert_eq!(rt; &*read.rest, b",1".as_slice());
         }
@@ -150,7 +150,7 @@ fn a_text_is_read(rt: HostRuntime) {
 }
 
 #[test]
-fn known_texts_are_read(rt: HostRuntime) -> std::result::Result<(), Fail> {
+fn known_strings_are_read(rt: HostRuntime) -> std::result::Result<(), Fail> {
     let rows: [(&[u8], &str); 18] = [
         (b"\"snot\"", "snot"),
         (b"\"\"", ""),
@@ -171,10 +171,10 @@ fn known_texts_are_read(rt: HostRuntime) -> std::result::Result<(), Fail> {
         (b"\"\\\"d\\\"\"}", "\"d\""),
         (b"\"hello\\nworld\"}", "hello\nworld"),
     ];
-    for (input, text) in rows {
+    for (input, string) in rows {
         let mut bytes = Vec::from_slice(rt.alloc(), input)?;
         match read(bytes.as_mut_slice()) {
-            Some(Ok(read)) => assert_eq!(rt; read.text, text),
+            Some(Ok(read)) => assert_eq!(rt; read.string, string),
             _ => assert!(rt; false, "{input:?}"),
         }
     }
@@ -199,7 +199,7 @@ fn known_texts_are_read(rt: HostRuntime) -> std::result::Result<(), Fail> {
 }
 
 #[test]
-fn bad_escapes_are_told_at_their_backslash(rt: HostRuntime) {
+fn bad_escapes_are_reported_at_their_backslash(rt: HostRuntime) {
     let mut bytes = *b"\"ab\\n\\q\\u\"";
     match read(&mut bytes) {
         Some(Err(bad)) => assert_eq!(rt;
@@ -225,7 +225,7 @@ fn bad_escapes_are_told_at_their_backslash(rt: HostRuntime) {
 }
 
 #[test]
-fn every_text_of_up_to_five_pieces_is_read(rt: HostRuntime) -> std::result::Result<(), Fail> {
+fn every_string_of_up_to_five_pieces_is_read(rt: HostRuntime) -> std::result::Result<(), Fail> {
     let pieces = [
         "", "a", "\u{e9}", "\\n", "\\\"", "\\\\", "\\u00E9", "\\ud83d", "\\uDE00", "\\x",
     ];
@@ -305,12 +305,12 @@ fn every_run_of_backslashes_is_read_at_every_offset(
 }
 
 #[test]
-fn texts_end_at_every_offset(rt: HostRuntime) -> std::result::Result<(), Fail> {
-    for front in 0..70 {
+fn strings_end_at_every_offset(rt: HostRuntime) -> std::result::Result<(), Fail> {
+    for prefix in 0..70 {
         for back in 0..70 {
             let mut bytes = Vec::new(rt.alloc());
             bytes.push(b'"')?;
-            for _ in 0..front {
+            for _ in 0..prefix {
                 bytes.push(b'a')?;
             }
             bytes.extend_from_slice(b"\\t")?;
@@ -318,20 +318,20 @@ fn texts_end_at_every_offset(rt: HostRuntime) -> std::result::Result<(), Fail> {
                 bytes.push(b'b')?;
             }
             bytes.push(b'"')?;
-            for _ in 0..front {
+            for _ in 0..prefix {
                 bytes.push(b'c')?;
             }
-            assert!(rt; agrees(&rt, &mut bytes)?, "{front} {back}");
+            assert!(rt; agrees(&rt, &mut bytes)?, "{prefix} {back}");
         }
     }
     Ok(())
 }
 
 #[test]
-fn a_known_text_is_handed_over(rt: HostRuntime) {
+fn a_known_string_is_handed_over(rt: HostRuntime) {
     let mut unread = *b"\"hi\":1";
     let shared = share_str(&mut unread, 3);
-    assert_eq!(rt; shared.text, "hi");
+    assert_eq!(rt; shared.string, "hi");
     assert_eq!(rt; shared.len, 4);
     assert_eq!(rt; *shared.rest, *b":1".as_slice());
 }

@@ -5,7 +5,7 @@ use std::test::Fail;
 
 mod known;
 
-// A stretch of one byte between two texts.
+// A stretch of one byte between two strings.
 fn text(
     alloc: Global,
     before: &[u8],
@@ -35,7 +35,7 @@ fn found(alloc: Global, text: &[u8]) -> Result<(Vec<u32>, Vec<u32>)> {
     Ok((positions, blocks))
 }
 
-// Tokens across the end of a block, behind and round stretches of one byte.
+// Tokens across the end of a block, after and round stretches of one byte.
 #[test]
 fn known_positions(rt: HostRuntime) -> std::result::Result<(), Fail> {
     for (before, byte, len, after, want) in [
@@ -132,7 +132,7 @@ fn known_faults(rt: HostRuntime) -> std::result::Result<(), Fail> {
     Ok(())
 }
 
-// The definition in words, byte by byte. Behind the end every byte is a space.
+// The definition in words, byte by byte. After the end every byte is a space.
 fn byte_at(text: &[u8], i: usize) -> u8 {
     text.get(i).copied().unwrap_or(b' ')
 }
@@ -174,7 +174,7 @@ fn starts_token(text: &[u8], i: usize, was_inside: bool, is_inside: bool) -> boo
     is_structural_at(text, i) || i == 0 || ends_token(text, i - 1, was_inside)
 }
 
-// The spaces in front are not read: none is a position, or changes what is behind it.
+// The spaces in front are not read: none is a position, or changes what is after it.
 fn found_slowly(alloc: Global, text: &[u8], spaces: u8) -> Result<(Vec<u32>, Vec<u32>)> {
     let mut positions = Vec::new(alloc);
     let mut blocks = Vec::new(alloc);
@@ -232,7 +232,7 @@ fn agrees_with_a_slow_reading(rt: HostRuntime) {
     }
 }
 
-// The same round the end of a block: all texts of five bytes behind 58 to 66 spaces.
+// The same round the end of a block: all inputs of five bytes after 58 to 66 spaces.
 #[test]
 fn agrees_with_a_slow_reading_across_blocks(rt: HostRuntime) {
     let alphabet = [b'\\', b'"', b'a', b' ', b',', b'\n'];

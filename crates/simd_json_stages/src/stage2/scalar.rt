@@ -1,4 +1,4 @@
-//! Scalars that are no texts.
+//! Scalars that are no strings.
 ghost use Rattle.std.specs.Prelude.{◌≡◌, ◌≢◌, ◌<◌, ◌≤◌, ◌+◌, ◌^◌, ◌==◌, ◌&&◌, ◌||◌, ℕ, List, length, drop, nat_eq, codes};
 ghost use Rattle.std.specs.Char.{is_ascii_digit};
 ghost use Rattle.std.specs.List.{starts_with};
@@ -13,7 +13,7 @@ use simd_json_parts::charutils::is_structural_or_whitespace;
 use simd_json_parts::node::StaticNode;
 use simd_json_parts::numberparse::{Number, is_integer, parse_number};
 
-// A scalar that is no text: a node, the length of a decimal's literal, how far behind its first byte a number is
+// A scalar that is no string: a node, the length of a decimal's literal, how far after its first byte a number is
 // refused, or no value of these kinds.
 #[derive(Clone, Copy, Debug, Drop)]
 pub(crate) enum Scalar {
@@ -111,7 +111,7 @@ fn no_atom(c: u8) -> FaultKind
     }
 }
 
-// The fault of a number that is refused so far behind its first byte; the end of the input reads as a space.
+// The fault of a number that is refused so far after its first byte; the end of the input reads as a space.
 #[cold]
 fn invalid_number(rest: &[u8], at: usize, offset: usize) -> Fault
     requires { at + length rest.now < 2 ^ 64 }

@@ -36,8 +36,8 @@ fn integer<'de>(n: u64) -> Node<'de> {
     Node::Static(StaticNode::U64(n))
 }
 
-fn text<'de>(text: &'de str) -> Node<'de> {
-    Node::String(text)
+fn string<'de>(string: &'de str) -> Node<'de> {
+    Node::String(string)
 }
 
 fn object<'de>(len: usize, count: usize) -> Node<'de> {
@@ -84,28 +84,28 @@ fn builds_scalars_and_lists(rt: HostRuntime) -> std::result::Result<(), Fail> {
             &[array(2, 3), array(0, 0), array(1, 1), integer(0)],
         ),
     ];
-    for (text, max_depth, wanted) in rows {
-        let mut input = text.as_bytes().to_vec(rt.alloc())?;
+    for (source, max_depth, wanted) in rows {
+        let mut input = source.as_bytes().to_vec(rt.alloc())?;
         let nodes = tape_of(rt.alloc(), input.as_mut_slice(), max_depth)?;
-        assert!(rt; nodes.as_slice() == wanted, "{text}");
+        assert!(rt; nodes.as_slice() == wanted, "{source}");
     }
     Ok(())
 }
 
 #[test]
-fn builds_texts_objects_and_decimals(rt: HostRuntime) -> std::result::Result<(), Fail> {
+fn builds_strings_objects_and_decimals(rt: HostRuntime) -> std::result::Result<(), Fail> {
     let rows: [(&str, &[Node<'_>]); 10] = [
         ("{}", &[object(0, 0)]),
-        ("{\"\":\"\"}", &[object(1, 2), text(""), text("")]),
+        ("{\"\":\"\"}", &[object(1, 2), string(""), string("")]),
         (
             "{\"a\":[true,1.5e3,\"x\\u0041\"]}",
             &[
                 object(1, 5),
-                text("a"),
+                string("a"),
                 array(3, 3),
                 Node::Static(StaticNode::Bool(true)),
                 Node::Decimal("1.5e3"),
-                text("xA"),
+                string("xA"),
             ],
         ),
         (
@@ -114,44 +114,50 @@ fn builds_texts_objects_and_decimals(rt: HostRuntime) -> std::result::Result<(),
         ),
         (
             "{\"the_answer\": 42}",
-            &[object(1, 2), text("the_answer"), integer(42)],
+            &[object(1, 2), string("the_answer"), integer(42)],
         ),
         (
             " { \"a\" : { \"b\" : [ [ ] , { } ] } , \"a\" : 2 } ",
             &[
                 object(2, 8),
-                text("a"),
+                string("a"),
                 object(1, 4),
-                text("b"),
+                string("b"),
                 array(2, 2),
                 array(0, 0),
                 object(0, 0),
-                text("a"),
+                string("a"),
                 integer(2),
             ],
         ),
-        ("\"\\ud83d\\ude00\" ", &[text("\u{1f600}")]),
+        ("\"\\ud83d\\ude00\" ", &[string("\u{1f600}")]),
         (
             "[\"\\u00e9\\\\\",\"\\n\",\"end\"]",
-            &[array(3, 3), text("\u{e9}\\"), text("\n"), text("end")],
+            &[array(3, 3), string("\u{e9}\\"), string("\n"), string("end")],
         ),
         (
             "{\"\\u0061\":\"b\",\"c\":\"\\\"d\\\"\"}",
-            &[object(2, 4), text("a"), text("b"), text("c"), text("\"d\"")],
+            &[
+                object(2, 4),
+                string("a"),
+                string("b"),
+                string("c"),
+                string("\"d\""),
+            ],
         ),
         ("1.50", &[Node::Decimal("1.50")]),
     ];
-    for (text, wanted) in rows {
-        let mut input = text.as_bytes().to_vec(rt.alloc())?;
+    for (source, wanted) in rows {
+        let mut input = source.as_bytes().to_vec(rt.alloc())?;
         let nodes = tape_of(rt.alloc(), input.as_mut_slice(), 1024)?;
-        assert!(rt; nodes.as_slice() == wanted, "{text}");
+        assert!(rt; nodes.as_slice() == wanted, "{source}");
     }
     Ok(())
 }
 
-// A text with an escape and one without, before, round and behind the ends of blocks.
+// A string with an escape and one without, before, round and after the ends of blocks.
 #[test]
-fn builds_texts_across_blocks(rt: HostRuntime) -> std::result::Result<(), Fail> {
+fn builds_strings_across_blocks(rt: HostRuntime) -> std::result::Result<(), Fail> {
     for len in 0..200usize {
         let mut input = Vec::new(rt.alloc());
         let mut first = Vec::new(rt.alloc());
@@ -167,12 +173,12 @@ fn builds_texts_across_blocks(rt: HostRuntime) -> std::result::Result<(), Fail> 
         input.extend_from_slice(second.as_slice())?;
         input.extend_from_slice(b"\"]")?;
         let nodes = tape_of(rt.alloc(), input.as_mut_slice(), 1)?;
-        let texts = [first, second];
+        let strings = [first, second];
         assert!(rt; nodes.len() == 3, "{len}");
-        for (i, wanted) in texts.iter().enumerate() {
+        for (i, wanted) in strings.iter().enumerate() {
             match nodes.get(i.wrapping_add(1)) {
-                Some(Node::String(text)) => {
-                    assert!(rt; text.as_bytes() == wanted.as_slice(), "{len}");
+                Some(Node::String(string)) => {
+                    assert!(rt; string.as_bytes() == wanted.as_slice(), "{len}");
                 }
                 _ => panic!(rt; "{len}"),
             }
@@ -239,13 +245,13 @@ fn refuses_at_the_first_fault(rt: HostRuntime) -> std::result::Result<(), Fail> 
         ("1\"a\"", 9, ErrorType::InvalidNumber, 1, '"'),
         ("{\"a\":{", 1, ErrorType::DepthLimitExceeded, 5, '{'),
     ];
-    for (text, max_depth, kind, index, character) in rows {
-        let mut input = text.as_bytes().to_vec(rt.alloc())?;
+    for (source, max_depth, kind, index, character) in rows {
+        let mut input = source.as_bytes().to_vec(rt.alloc())?;
         match tape_of(rt.alloc(), input.as_mut_slice(), max_depth) {
-            Ok(_) => panic!(rt; "{text}"),
+            Ok(_) => panic!(rt; "{source}"),
             Err(error) => assert!(rt;
                 error == Error::new(index, Some(character), kind),
-                "{text}: {error}"
+                "{source}: {error}"
             ),
         }
     }

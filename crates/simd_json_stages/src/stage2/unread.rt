@@ -1,7 +1,7 @@
 //! The bytes of an input that are not read yet.
 ghost use Rattle.std.specs.Prelude.{◌≡◌, ◌≢◌, ◌≤◌, ◌<◌, ◌+◌, ◌-◌, ◌^◌, ℕ, List, length, take, drop, MatchResult, Ok, Err, IsUtf8};
 ghost use Rattle.simd_json_parts.specs.Bytes.{quote, backslash, byte_at};
-ghost use Rattle.simd_json_parts.specs.TextAt.{closing_quote, text_at, escape_fault};
+ghost use Rattle.simd_json_parts.specs.StringAt.{closing_quote, string_at, escape_fault};
 
 use simd_json_parts::stringparse::{BadEscape, parse_str, share_str};
 use std::marker::Model;
@@ -64,61 +64,61 @@ impl<'de> Unread<'de> {
     #[inline(always)]
     fn split(&mut self, i: usize) -> &'de mut [u8]
         requires { (self.old.at ≤ i) × (i ≤ self.old.at + length self.old.bytes) }
-        ensures front { result.now ≡ take (i - self.old.at) self.old.bytes }
+        ensures prefix { result.now ≡ take (i - self.old.at) self.old.bytes }
         ensures rest { self.new ≡ record { at = i; bytes = drop (i - self.old.at) self.old.bytes } }
     {
-        let (front, rest) = std::mem::take(&mut self.rest).split_at_mut(i - self.at);
+        let (prefix, rest) = std::mem::take(&mut self.rest).split_at_mut(i - self.at);
         self.rest = rest;
         self.at = i;
-        front
+        prefix
     }
 
-    // So many bytes from index i on, as text.
+    // So many bytes from index i on, as a string.
     #[inline(always)]
     pub(crate) fn share(&mut self, i: usize, len: usize) -> &'de str
         requires bounds { (self.old.at ≤ i) × (i + len ≤ self.old.at + length self.old.bytes) }
         requires utf8 { IsUtf8 (take len (drop (i - self.old.at) self.old.bytes)) }
-        ensures text { result.now ≡ take len (drop (i - self.old.at) self.old.bytes) }
+        ensures string { result.now ≡ take len (drop (i - self.old.at) self.old.bytes) }
         ensures rest { self.new ≡ record { at = i + len; bytes = drop (i + len - self.old.at) self.old.bytes } }
     {
         let _ = self.split(i);
-        let front = self.split(self.at + len);
-        unsafe { str::from_utf8_unchecked(front) }
+        let prefix = self.split(self.at + len);
+        unsafe { str::from_utf8_unchecked(prefix) }
     }
 
-    // The text whose opening quote has index i and whose closing quote has index `closing`. It has no escape.
+    // The string whose opening quote has index i and whose closing quote has index `closing`. It has no escape.
     #[inline(always)]
-    pub(crate) fn share_text(&mut self, i: usize, closing: usize) -> &'de str
+    pub(crate) fn share_string(&mut self, i: usize, closing: usize) -> &'de str
         requires bounds { (self.old.at ≤ i) × (i < closing) × (closing < self.old.at + length self.old.bytes) }
         requires opening { byte_at (drop (i - self.old.at) self.old.bytes) 0 ≡ quote }
         requires closing { closing - i ≡ closing_quote (drop (i - self.old.at) self.old.bytes) 0 }
         requires plain { (j : ℕ) → 0 < j → j < closing - i → byte_at (drop (i - self.old.at) self.old.bytes) j ≢ backslash }
         requires utf8 { IsUtf8 (drop (i - self.old.at) self.old.bytes) }
-        ensures text { (b : List ℕ) → drop self.old.at b ≡ self.old.bytes
-            → (text_at b i ≡ Ok (result.now, self.new.at)) × (self.new.bytes ≡ drop self.new.at b) }
+        ensures string { (b : List ℕ) → drop self.old.at b ≡ self.old.bytes
+            → (string_at b i ≡ Ok (result.now, self.new.at)) × (self.new.bytes ≡ drop self.new.at b) }
     {
         let _ = self.split(i);
-        let text = share_str(std::mem::take(&mut self.rest), closing - i);
-        self.at += text.len;
-        self.rest = text.rest;
-        text.text
+        let string = share_str(std::mem::take(&mut self.rest), closing - i);
+        self.at += string.len;
+        self.rest = string.rest;
+        string.string
     }
 
-    // The text whose opening quote has index i, or the leftmost escape in it that is none.
+    // The string whose opening quote has index i, or its first invalid escape.
     #[inline(never)]
-    pub(crate) fn parse_text(&mut self, i: usize) -> Result<&'de str, BadEscape>
+    pub(crate) fn parse_string(&mut self, i: usize) -> Result<&'de str, BadEscape>
         requires bounds { (self.old.at ≤ i) × (i ≤ self.old.at + length self.old.bytes) }
         requires opening { byte_at (drop (i - self.old.at) self.old.bytes) 0 ≡ quote }
         requires closing { closing_quote (drop (i - self.old.at) self.old.bytes) 0 < length (drop (i - self.old.at) self.old.bytes) }
         requires utf8 { IsUtf8 (drop (i - self.old.at) self.old.bytes) }
         ensures { (b : List ℕ) → drop self.old.at b ≡ self.old.bytes → MatchResult result
-            (λ text. (text_at b i ≡ Ok (text.now, self.new.at)) × (self.new.bytes ≡ drop self.new.at b))
-            (λ bad. text_at b i ≡ Err (escape_fault (i + bad.offset) bad.letter)) }
+            (λ string. (string_at b i ≡ Ok (string.now, self.new.at)) × (self.new.bytes ≡ drop self.new.at b))
+            (λ bad. string_at b i ≡ Err (escape_fault (i + bad.offset) bad.letter)) }
     {
         let _ = self.split(i);
-        let text = parse_str(std::mem::take(&mut self.rest))?;
-        self.at += text.len;
-        self.rest = text.rest;
-        Ok(text.text)
+        let string = parse_str(std::mem::take(&mut self.rest))?;
+        self.at += string.len;
+        self.rest = string.rest;
+        Ok(string.string)
     }
 }

@@ -1,8 +1,9 @@
 use Rattle.std.proofs.Common.{◌∙◌, ap, sym, subst, arith, take, length, inl, map}
 use Rattle.simd_json_parts.specs.Nodes.{item_of}
 use Rattle.simd_json.specs.Parsed.{IsParsed, IsRefused}
-use Rattle.simd_json.proofs.ParseLaws.{passed-on, some-positions, written-over, tape-unused, tape-filled, parsed, tape-parsed, refused-token}
+use Rattle.simd_json.proofs.ParseLaws.{some-positions, written-over, tape-unused, tape-filled, parsed, tape-parsed, refused-token}
 use Rattle.simd_json.proofs.parse.build.Goals as goal
+use Rattle.simd_json_stages.proofs.Exits.{passed-on}
 
 pub build_tape-requires-clause-some : goal.build_tape-requires-clause-some
 build_tape-requires-clause-some g c =

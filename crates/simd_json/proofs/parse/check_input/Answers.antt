@@ -1,5 +1,5 @@
 use Rattle.std.proofs.Common.{◌∙◌, ap, sym, Some, arith}
-use Rattle.simd_json_parts.proofs.ScannedInputs.{too_large, bad_encoding}
+use Rattle.simd_json_parts.proofs.Positions.ScannedInputs.{too_large, bad_encoding}
 use Rattle.simd_json.proofs.ParseLaws.{not_ok}
 use Rattle.simd_json.proofs.parse.check_input.Goals as goal
 

@@ -2,9 +2,10 @@ use Rattle.std.proofs.Common.{◌∙◌, ap, Some, arith, inl, inr, subst, lengt
 use Rattle.simd_json_parts.specs.Faults.{whole_fault}
 use Rattle.simd_json_parts.specs.InputFaults.{scan_fault}
 use Rattle.simd_json_parts.specs.declared.error.ErrorType.TheVariants.{OutOfMemory}
-use Rattle.simd_json.proofs.ParseLaws.{passed-on, fault-answered, few-positions, refused}
-use Rattle.simd_json_parts.proofs.ScannedInputs.{scanned}
+use Rattle.simd_json.proofs.ParseLaws.{fault-answered, few-positions, refused}
+use Rattle.simd_json_parts.proofs.Positions.ScannedInputs.{scanned}
 use Rattle.simd_json.proofs.parse.fill_tape.Goals as goal
+use Rattle.simd_json_stages.proofs.Exits.{passed-on}
 
 pub returns-in_err-check_input-clause-fault : goal.returns-in_err-check_input-clause-fault
 returns-in_err-check_input-clause-fault g c =

@@ -1,5 +1,5 @@
-use Rattle.simd_json_parts.proofs.SpellableLaws.{IsSpellable-derived}
+use Rattle.simd_json_parts.proofs.Documents.Spelling.{IsSpellable-denoted}
 use Rattle.simd_json_parts.proofs.laws.documents_can_be_spelled.Goals as goal
 
 pub returns : goal.returns
-returns c = IsSpellable-derived
+returns c = IsSpellable-denoted

@@ -1,4 +1,4 @@
-use Rattle.simd_json_parts.proofs.EqualityLaws.{IsEquivalence-equal, Decides-equal}
+use Rattle.simd_json_parts.proofs.Documents.Equality.{IsEquivalence-equal, Decides-equal}
 use Rattle.simd_json_parts.proofs.laws.equality_is_an_equivalence.Goals as goal
 
 pub returns-clause-equivalence : goal.returns-clause-equivalence

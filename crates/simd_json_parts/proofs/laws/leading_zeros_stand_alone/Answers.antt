@@ -1,4 +1,4 @@
-use Rattle.simd_json_parts.proofs.LeadingZeros.{zero-alone, zero-alone-signed}
+use Rattle.simd_json_parts.proofs.Numbers.LeadingZeros.{zero-alone, zero-alone-signed}
 use Rattle.simd_json_parts.proofs.laws.leading_zeros_stand_alone.Goals as goal
 
 pub returns-clause-unsigned : goal.returns-clause-unsigned

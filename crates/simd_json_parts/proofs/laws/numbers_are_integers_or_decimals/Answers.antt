@@ -1,5 +1,5 @@
 use Rattle.std.proofs.Common.{inl, inr}
-use Rattle.simd_json_parts.proofs.NumberLaws.{number-integer_or_decimal, integer-number, decimal-number, integer-not_decimal}
+use Rattle.simd_json_parts.proofs.Numbers.Literals.{number-integer_or_decimal, integer-number, decimal-number, integer-not_decimal}
 use Rattle.simd_json_parts.proofs.laws.numbers_are_integers_or_decimals.Goals as goal
 
 pub returns-clause-either : goal.returns-clause-either

@@ -1,4 +1,4 @@
-use Rattle.simd_json_parts.proofs.NumberLaws.{number_at-integer, number_at-decimal}
+use Rattle.simd_json_parts.proofs.Numbers.Literals.{number_at-integer, number_at-decimal}
 use Rattle.simd_json_parts.proofs.laws.numbers_are_read.Goals as goal
 
 pub returns-clause-integers : goal.returns-clause-integers

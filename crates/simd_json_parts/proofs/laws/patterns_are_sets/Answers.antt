@@ -1,4 +1,4 @@
-use Rattle.simd_json_parts.proofs.PatternLaws.{Matches-matches, matches-Matches}
+use Rattle.simd_json_parts.proofs.Patterns.Sets.{Matches-matches, matches-Matches}
 use Rattle.simd_json_parts.proofs.laws.patterns_are_sets.Goals as goal
 
 pub returns : goal.returns

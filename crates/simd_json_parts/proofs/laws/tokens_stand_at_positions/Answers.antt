@@ -1,4 +1,4 @@
-use Rattle.simd_json_parts.proofs.TokenLaws.{tokens-positions}
+use Rattle.simd_json_parts.proofs.Positions.TokensAtPositions.{tokens-positions}
 use Rattle.simd_json_parts.proofs.laws.tokens_stand_at_positions.Goals as goal
 
 pub returns : goal.returns

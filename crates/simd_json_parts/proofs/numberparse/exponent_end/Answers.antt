@@ -1,5 +1,5 @@
 use Rattle.std.proofs.Common.{arith}
-use Rattle.simd_json_parts.proofs.NumberSteps.{IsMarked, exponent-whole, exponent-part}
+use Rattle.simd_json_parts.proofs.Numbers.Steps.{IsMarked, exponent-whole, exponent-part}
 use Rattle.simd_json_parts.proofs.numberparse.exponent_end.Goals as goal
 
 pub returns-then-end-digits : goal.returns-then-end-digits

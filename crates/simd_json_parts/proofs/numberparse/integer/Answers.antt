@@ -1,5 +1,5 @@
 use Rattle.std.proofs.Common.{arith}
-use Rattle.simd_json_parts.proofs.NumberValues.{integer-AllDigits, number_at-node, number_at-below, number_at-excess}
+use Rattle.simd_json_parts.proofs.Numbers.Values.{integer-AllDigits, number_at-node, number_at-below, number_at-excess}
 use Rattle.simd_json_parts.proofs.numberparse.integer.Goals as goal
 
 pub magnitude-requires : goal.magnitude-requires

@@ -1,5 +1,5 @@
 use Rattle.std.proofs.Common.{sym, ◌∙◌, arith}
-use Rattle.simd_json_parts.proofs.NumberSteps.{fraction-part, fraction-exponent}
+use Rattle.simd_json_parts.proofs.Numbers.Steps.{fraction-part, fraction-exponent}
 use Rattle.simd_json_parts.proofs.numberparse.literal_end.Goals as goal
 
 pub returns-then-end-digits : goal.returns-then-end-digits

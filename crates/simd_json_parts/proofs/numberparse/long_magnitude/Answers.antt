@@ -1,5 +1,5 @@
 use Rattle.std.proofs.Common.{arith}
-use Rattle.simd_json_parts.proofs.NumberValues.{Grows, digits_value-grows}
+use Rattle.simd_json_parts.proofs.Numbers.Values.{Grows, digits_value-grows}
 use Rattle.simd_json_parts.proofs.numberparse.long_magnitude.Goals as goal
 
 pub overflow_sub-digit : goal.overflow_sub-digit

@@ -1,9 +1,9 @@
 use Rattle.std.proofs.Common.{◌≡◌, sym, ap, ◌∙◌, drop, Ok, true, false, arith}
 use Rattle.simd_json_parts.specs.Bytes.{byte_at, is_terminator}
 use Rattle.simd_json_parts.specs.Numbers.{number_literal}
-use Rattle.simd_json_parts.proofs.NumberFronts.{Reads, Reads-part, Leads-Reads}
-use Rattle.simd_json_parts.proofs.NumberSteps.{SignEnd, IsWhole, int-whole, int-none}
-use Rattle.simd_json_parts.proofs.NumberReads.{number_at-part, number_at-behind, number_at-longer, integer-literal, read-split, read-behind}
+use Rattle.simd_json_parts.proofs.Numbers.Prefixes.{Reads, Reads-part, Leads-Reads}
+use Rattle.simd_json_parts.proofs.Numbers.Steps.{SignEnd, IsWhole, int-whole, int-none}
+use Rattle.simd_json_parts.proofs.Numbers.Reader.{number_at-part, number_at-after, number_at-longer, integer-literal, read-split, read-after}
 use Rattle.simd_json_parts.proofs.numberparse.parse_number.Goals as goal
 
 pub returns-then-whole-start : goal.returns-then-whole-start
@@ -31,7 +31,7 @@ returns-then-not-is_structural_or_whitespace c b i e =
     let reads : Reads number_literal c.args.bytes.now 0 (Ok c.in-Ok.end) = Leads-Reads _ _ _ _ _ _ whole.number c.in-Ok.ensures in
     let other : is_terminator (byte_at c.args.bytes.now c.in-Ok.end) ≡ false =
     sym (ap is_terminator c.byte_or_space-in-Ok.ensures) ∙ sym c.is_structural_or_whitespace.ensures ∙ c.if-not-is_structural_or_whitespace.true in
-    number_at-behind b i c.args.bytes.now e c.in-Ok.end reads other
+    number_at-after b i c.args.bytes.now e c.in-Ok.end reads other
 
 pub returns-then-end-whole : goal.returns-then-end-whole
 returns-then-end-whole c b i e =
@@ -40,7 +40,7 @@ returns-then-end-whole c b i e =
     let reads : Reads number_literal c.args.bytes.now 0 (Ok c.in-Ok.end) = Leads-Reads _ _ _ _ _ _ whole.number c.in-Ok.ensures in
     let ends : is_terminator (byte_at c.args.bytes.now c.in-Ok.end) ≡ true =
     sym (ap is_terminator c.byte_or_space-in-Ok.ensures) ∙ sym c.is_structural_or_whitespace.ensures ∙ c.if-not-is_structural_or_whitespace.false in
-    c.integer.ensures b i (drop c.in-Ok.end c.args.bytes.now) (read-split b i c.args.bytes.now e c.in-Ok.end reads) (read-behind b i c.args.bytes.now e c.in-Ok.end reads ends)
+    c.integer.ensures b i (drop c.in-Ok.end c.args.bytes.now) (read-split b i c.args.bytes.now e c.in-Ok.end reads) (read-after b i c.args.bytes.now e c.in-Ok.end reads ends)
 
 pub returns-else-end-whole : goal.returns-else-end-whole
 returns-else-end-whole c b i e =

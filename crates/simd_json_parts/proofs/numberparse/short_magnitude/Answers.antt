@@ -1,5 +1,5 @@
 use Rattle.std.proofs.Common.{◌+◌, arith}
-use Rattle.simd_json_parts.proofs.NumberValues.{Grows, digits_value-grows, digits_value-fits}
+use Rattle.simd_json_parts.proofs.Numbers.Values.{Grows, digits_value-grows, digits_value-fits}
 use Rattle.simd_json_parts.proofs.numberparse.short_magnitude.Goals as goal
 
 pub overflow_mul-value : goal.overflow_mul-value

@@ -1,7 +1,7 @@
 use Rattle.std.proofs.Common.{◌+◌, ◌-◌, arith}
 use lib.Lanes.{chunk, put_chunk}
-use Rattle.simd_json_parts.proofs.Drops.{drop-further}
-use Rattle.simd_json_parts.proofs.Moves.{Moved, moved-more, moved-rest, put_chunk-paste}
+use Rattle.simd_json_parts.proofs.Lists.Drops.{drop-further}
+use Rattle.simd_json_parts.proofs.Lists.Moves.{Moved, moved-more, moved-rest, put_chunk-paste}
 use Rattle.simd_json_parts.proofs.stringparse.move_down.Goals as goal
 
 pub loop-done-preserved : goal.loop-done-preserved

@@ -1,5 +1,5 @@
 use Rattle.std.proofs.Common.{◌-◌, arith}
-use Rattle.simd_json_parts.proofs.Moves.{two-stored}
+use Rattle.simd_json_parts.proofs.Lists.Moves.{two-stored}
 use Rattle.simd_json_parts.proofs.stringparse.move_few.Goals as goal
 
 pub returns : goal.returns

@@ -1,8 +1,8 @@
 use Rattle.std.proofs.Common.{refl, sym, ap, ◌∙◌, arith}
 use lib.Count.{count_trailing_zeros}
-use Rattle.simd_json_parts.specs.TextContent.{is_stop}
-use Rattle.simd_json_parts.proofs.LaneRuns.{run-through, run-ends}
-use Rattle.simd_json_parts.proofs.TextDecoding.{run-inside}
+use Rattle.simd_json_parts.specs.StringContent.{is_stop}
+use Rattle.simd_json_parts.proofs.Lists.LaneRuns.{run-through, run-ends}
+use Rattle.simd_json_parts.proofs.Strings.Decoding.{run-inside}
 use Rattle.simd_json_parts.proofs.stringparse.plain_end.Goals as goal
 
 pub loop-end-init : goal.loop-end-init

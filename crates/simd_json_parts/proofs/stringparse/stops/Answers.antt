@@ -1,5 +1,5 @@
 use Rattle.std.proofs.Common.{arith}
-use Rattle.simd_json_parts.proofs.LaneRuns.{mask-either}
+use Rattle.simd_json_parts.proofs.Lists.LaneRuns.{mask-either}
 use Rattle.simd_json_parts.proofs.stringparse.stops.Goals as goal
 
 pub returns : goal.returns

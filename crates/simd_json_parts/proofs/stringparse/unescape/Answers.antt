@@ -1,6 +1,6 @@
 use Rattle.std.proofs.Common.{refl, ap, length, arith}
-use Rattle.simd_json_parts.specs.TextDecoded.{IsDecoded}
-use Rattle.simd_json_parts.proofs.TextDecoding.{decoded-further, decoded-stops, decoded-room, decoded-bad}
+use Rattle.simd_json_parts.specs.StringDecoded.{IsDecoded}
+use Rattle.simd_json_parts.proofs.Strings.Decoding.{decoded-further, decoded-stops, decoded-fits, decoded-bad}
 use Rattle.simd_json_parts.proofs.stringparse.unescape.Goals as goal
 
 pub loop-unread-preserved : goal.loop-unread-preserved
@@ -13,7 +13,7 @@ loop-unread-preserved c =
 
 pub bounds-unread-ends-in-None : goal.bounds-unread-ends-in-None
 bounds-unread-ends-in-None c =
-    omega (arith, decoded-room _ _ _ _ _ c.loop-unread.invariant.decoded c.loop-unread-test.true, ap length c.in-None.ensures.1)
+    omega (arith, decoded-fits _ _ _ _ _ c.loop-unread.invariant.decoded c.loop-unread-test.true, ap length c.in-None.ensures.1)
 
 pub returns-in-None : goal.returns-in-None
 returns-in-None c =

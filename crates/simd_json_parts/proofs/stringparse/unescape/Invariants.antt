@@ -1,7 +1,7 @@
 use Rattle.std.proofs.Common.{◌≡◌, ◌-◌, length, false}
 use Rattle.simd_json_parts.specs.Bytes.{byte_at}
-use Rattle.simd_json_parts.specs.TextContent.{is_plain}
-use Rattle.simd_json_parts.specs.TextDecoded.{IsDecoded}
+use Rattle.simd_json_parts.specs.StringContent.{is_plain}
+use Rattle.simd_json_parts.specs.StringDecoded.{IsDecoded}
 use Rattle.simd_json_parts.proofs.stringparse.unescape.Given as goal
 
 -- what is read is written, up to a backslash or the closing quote

@@ -21,5 +21,5 @@ returns g c =
     let before : List ℕ = c.args.out.now.items in
     c.in_ok-push-2.ensures.items ∙ ap (λ xs. xs ++ quote ∷ []) c.loop-byte.invariant
     ∙ ap (λ xs. ((before ++ quote ∷ []) ++ flat_map escaped_byte xs) ++ quote ∷ []) (ap (λ n. take n bytes) done ∙ take-length bytes ∙ c.as_bytes-byte-items.ensures.value)
-    ∙ append_assoc (before ++ quote ∷ []) (flat_map escaped_byte c.args.text.now) (quote ∷ [])
-    ∙ append_assoc before (quote ∷ []) (flat_map escaped_byte c.args.text.now ++ quote ∷ [])
+    ∙ append_assoc (before ++ quote ∷ []) (flat_map escaped_byte c.args.string.now) (quote ∷ [])
+    ∙ append_assoc before (quote ∷ []) (flat_map escaped_byte c.args.string.now ++ quote ∷ [])

@@ -1,10 +1,11 @@
 use Rattle.std.proofs.Common.{arith}
 use Rattle.simd_json_stages.specs.Building.{Tells}
 use Rattle.simd_json_stages.specs.Refusals.{error_type}
-use Rattle.simd_json_stages.proofs.Bounds.{passed-on, name-token}
+use Rattle.simd_json_stages.proofs.Bounds.{name-token}
 use Rattle.simd_json_stages.proofs.Following.{IsReady, ready-opened, ready-next, ready-name}
 use Rattle.simd_json_stages.proofs.stage2.build.Goals.{in-Opened, in-Read+in_ok-q-in-Read+in-Next}
 use Rattle.simd_json_stages.proofs.stage2.build.Goals as goal
+use Rattle.simd_json_stages.proofs.Exits.{passed-on}
 
 pub read_name-requires : goal.read_name-requires
 read_name-requires g c =

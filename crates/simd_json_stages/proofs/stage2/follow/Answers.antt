@@ -8,7 +8,7 @@ use Rattle.simd_json_stages.specs.declared.stage2.Progress.{Progress}
 use Rattle.simd_json_stages.specs.declared.stage2.fault.FaultKind.TheVariants as kinds
 use Rattle.simd_json_stages.proofs.Bounds.{told-at, inside, later, looks, looked, at-next}
 use Rattle.simd_json_stages.proofs.BuildingSteps.{top-header, top-len}
-use Rattle.simd_json_stages.proofs.Following.{bounds-comma, answers, next-progress, next-passed, next-goes, next-tells, told-next, closed-behind, closed-value, end-goes, end-tells, some-node}
+use Rattle.simd_json_stages.proofs.Following.{bounds-comma, answers, next-progress, next-passed, next-goes, next-tells, told-next, closed-after, closed-value, end-goes, end-tells, some-node}
 use Rattle.simd_json_stages.proofs.Refusing.{tells-end, tells-other}
 use Rattle.simd_json_stages.proofs.stage2.follow.Goals as goal
 
@@ -16,7 +16,7 @@ pub returns-then-p-indexes-clause-refused : goal.returns-then-p-indexes-clause-r
 returns-then-p-indexes-clause-refused g c =
     let p = c.loop-p.p in
     told-at g.b c.args.indexes.now c.args.max_depth kinds.Syntax p c.fault.result c.fault.ensures c.loop-p.invariant.progress.read.first
-    (tells-end g.b c.args.indexes.now c.args.max_depth c.args.stack.now c.loop-p.nodes p c.loop-p.invariant.behind (omega arith) (omega arith))
+    (tells-end g.b c.args.indexes.now c.args.max_depth c.args.stack.now c.loop-p.nodes p c.loop-p.invariant.after (omega arith) (omega arith))
 
 pub byte-byte-requires : goal.byte-byte-requires
 byte-byte-requires g c =
@@ -63,7 +63,7 @@ returns-then-byte-eq44-clause-step g c =
     let q-is = at-next g.b ps c.requires.0 c.args.unread.now p c.at_next-q.result c.byte-byte.result r.same (r.before more) c.byte-byte.ensures c.at_next-q.ensures in
     let byte : byte_at g.b (get_or ps p.read 0) ≡ c.byte-byte.result = sym (looked g.b ps c.requires.0 c.args.unread.now (get_or ps p.read 0) c.byte-byte.result r.same (r.before more) c.byte-byte.ensures) in
     let told = answers g.b ps c.requires.0 c.args.unread.now p c.at_next-q.result c.next_member.result r more q-is c.next_member.ensures in
-    next-goes g.b ps c.requires.0 c.args.max_depth c.args.stack.now c.loop-p.nodes p c.next_member.result c.loop-p.invariant.behind c.loop-p-test.true more (byte ∙ c.if-byte-eq44.true) told
+    next-goes g.b ps c.requires.0 c.args.max_depth c.args.stack.now c.loop-p.nodes p c.next_member.result c.loop-p.invariant.after c.loop-p-test.true more (byte ∙ c.if-byte-eq44.true) told
 
 pub returns-then-byte-eq44-clause-refused : goal.returns-then-byte-eq44-clause-refused
 returns-then-byte-eq44-clause-refused g c =
@@ -74,7 +74,7 @@ returns-then-byte-eq44-clause-refused g c =
     let q-is = at-next g.b ps c.requires.0 c.args.unread.now p c.at_next-q.result c.byte-byte.result r.same (r.before more) c.byte-byte.ensures c.at_next-q.ensures in
     let byte : byte_at g.b (get_or ps p.read 0) ≡ c.byte-byte.result = sym (looked g.b ps c.requires.0 c.args.unread.now (get_or ps p.read 0) c.byte-byte.result r.same (r.before more) c.byte-byte.ensures) in
     let told = answers g.b ps c.requires.0 c.args.unread.now p c.at_next-q.result c.next_member.result r more q-is c.next_member.ensures in
-    next-tells g.b ps c.requires.0 c.args.max_depth c.args.stack.now c.loop-p.nodes p c.next_member.result c.loop-p.invariant.behind c.loop-p-test.true more (byte ∙ c.if-byte-eq44.true) told
+    next-tells g.b ps c.requires.0 c.args.max_depth c.args.stack.now c.loop-p.nodes p c.next_member.result c.loop-p.invariant.after c.loop-p-test.true more (byte ∙ c.if-byte-eq44.true) told
 
 pub returns-then-byte-closer-clause-refused : goal.returns-then-byte-closer-clause-refused
 returns-then-byte-closer-clause-refused g c =
@@ -86,7 +86,7 @@ returns-then-byte-closer-clause-refused g c =
     let byte : byte_at g.b (get_or ps p.read 0) ≡ c.byte-byte.result = sym (looked g.b ps c.requires.0 c.args.unread.now (get_or ps p.read 0) c.byte-byte.result r.same (r.before more) c.byte-byte.ensures) in
     told-next g.b ps c.requires.0 c.args.max_depth (content_kind p.container) p c.at_next-q.result c.fault-then-byte-closer.result q-is
     (c.fault-then-byte-closer.ensures ∙ ap (λ k. record { kind = k; index = c.at_next-q.result.at; byte = c.at_next-q.result.byte }) c.content_kind.ensures)
-    (tells-other g.b ps c.args.max_depth c.args.stack.now c.loop-p.nodes p c.loop-p.invariant.behind c.loop-p-test.true more (λ is. c.if-byte-eq44.false (sym byte ∙ is)) (λ is. c.if-byte-closer.true (sym byte ∙ is ∙ sym c.closer.ensures)))
+    (tells-other g.b ps c.args.max_depth c.args.stack.now c.loop-p.nodes p c.loop-p.invariant.after c.loop-p-test.true more (λ is. c.if-byte-eq44.false (sym byte ∙ is)) (λ is. c.if-byte-closer.true (sym byte ∙ is ∙ sym c.closer.ensures)))
 
 pub close-p-requires-clause-header : goal.close-p-requires-clause-header
 close-p-requires-clause-header g c =
@@ -96,7 +96,7 @@ close-p-requires-clause-header g c =
     let more : p.read < length ps = omega (arith, r.read.within) in
     let q-is = at-next g.b ps c.requires.0 c.args.unread.now p c.at_next-q.result c.byte-byte.result r.same (r.before more) c.byte-byte.ensures c.at_next-q.ensures in
     subst (λ (q : Progress). (top c.args.stack.now q.depth).header < q.used) (sym q-is)
-    (top-header g.b ps c.args.max_depth c.args.stack.now c.loop-p.nodes p c.loop-p.invariant.behind (omega (arith, r.used, r.read.within)) c.loop-p-test.true)
+    (top-header g.b ps c.args.max_depth c.args.stack.now c.loop-p.nodes p c.loop-p.invariant.after (omega (arith, r.used, r.read.within)) c.loop-p-test.true)
 
 pub close-p-requires-clause-len : goal.close-p-requires-clause-len
 close-p-requires-clause-len g c =
@@ -106,7 +106,7 @@ close-p-requires-clause-len g c =
     let more : p.read < length ps = omega (arith, r.read.within) in
     let q-is = at-next g.b ps c.requires.0 c.args.unread.now p c.at_next-q.result c.byte-byte.result r.same (r.before more) c.byte-byte.ensures c.at_next-q.ensures in
     subst (λ (q : Progress). (top c.args.stack.now q.depth).len < q.used) (sym q-is)
-    (top-len g.b ps c.args.max_depth c.args.stack.now c.loop-p.nodes p c.loop-p.invariant.behind (omega (arith, r.used, r.read.within)) c.loop-p-test.true)
+    (top-len g.b ps c.args.max_depth c.args.stack.now c.loop-p.nodes p c.loop-p.invariant.after (omega (arith, r.used, r.read.within)) c.loop-p-test.true)
 
 pub loop-p-preserved : goal.loop-p-preserved
 loop-p-preserved g c =
@@ -117,28 +117,28 @@ loop-p-preserved g c =
     let q-is = at-next g.b ps c.requires.0 c.args.unread.now p c.at_next-q.result c.byte-byte.result r.same (r.before more) c.byte-byte.ensures c.at_next-q.ensures in
     let byte : byte_at g.b (get_or ps p.read 0) ≡ c.byte-byte.result = sym (looked g.b ps c.requires.0 c.args.unread.now (get_or ps p.read 0) c.byte-byte.result r.same (r.before more) c.byte-byte.ensures) in
     let enough : p.used ≤ length c.loop-p.nodes = omega (arith, r.used, r.read.within, c.loop-p.invariant.nodes, c.requires.1.1.1.0) in
-    let fewer : (top c.args.stack.now p.depth).len < p.used = top-len g.b ps c.args.max_depth c.args.stack.now c.loop-p.nodes p c.loop-p.invariant.behind enough c.loop-p-test.true in
+    let fewer : (top c.args.stack.now p.depth).len < p.used = top-len g.b ps c.args.max_depth c.args.stack.now c.loop-p.nodes p c.loop-p.invariant.after enough c.loop-p-test.true in
     let done = c.close-p.ensures.progress ∙ ap (λ (q : Progress). record q { depth = q.depth - 1; container = (top c.args.stack.now q.depth).outer; len = (top c.args.stack.now q.depth).len + 1 }) q-is in
     let further : p.at < get_or ps p.read 0 = later g.b ps c.requires.0 p r.read more in
     record {
-      progress = closed-behind g.b ps c.requires.0 c.args.unread.now c.args.stack.now p c.at_next-q.result c.close-p.result r c.loop-p-test.true more fewer q-is c.close-p.ensures.progress;
+      progress = closed-after g.b ps c.requires.0 c.args.unread.now c.args.stack.now p c.at_next-q.result c.close-p.result r c.loop-p-test.true more fewer q-is c.close-p.ensures.progress;
       depth = omega (arith, ap (λ (q : Progress). q.depth) done, c.loop-p.invariant.depth);
       passed = omega (arith, ap (λ (q : Progress). q.read) done, c.loop-p.invariant.passed);
       later = omega (arith, ap (λ (q : Progress). q.at) done, c.loop-p.invariant.later);
       nodes = ap length c.close-p.ensures.nodes ∙ length-set _ _ _ ∙ c.loop-p.invariant.nodes;
-      behind =
-          closed-value g.b ps c.requires.0 c.args.max_depth c.args.stack.now c.loop-p.nodes c.close-p.new.nodes p c.at_next-q.result c.close-p.result c.loop-p.invariant.behind enough c.loop-p-test.true more
+      after =
+          closed-value g.b ps c.requires.0 c.args.max_depth c.args.stack.now c.loop-p.nodes c.close-p.new.nodes p c.at_next-q.result c.close-p.result c.loop-p.invariant.after enough c.loop-p-test.true more
           (byte ∙ c.if-byte-closer.false ∙ c.closer.ensures) q-is c.close-p.ensures.progress c.close-p.ensures.nodes;
     }
 
 pub returns-clause-step : goal.returns-clause-step
 returns-clause-step g c =
-    end-goes g.b c.args.indexes.now c.requires.0 c.args.max_depth c.args.stack.now c.loop-p.nodes c.loop-p.p c.end.result _ c.loop-p.invariant.behind (omega arith) c.end.ensures
+    end-goes g.b c.args.indexes.now c.requires.0 c.args.max_depth c.args.stack.now c.loop-p.nodes c.loop-p.p c.end.result _ c.loop-p.invariant.after (omega arith) c.end.ensures
 
 pub returns-clause-refused : goal.returns-clause-refused
 returns-clause-refused g c =
     let r = c.loop-p.invariant.progress in
     let none : c.loop-p.p.depth ≡ 0 = omega arith in
     let enough : c.loop-p.p.used ≤ length c.loop-p.nodes = omega (arith, r.used, r.read.within, c.loop-p.invariant.nodes, c.requires.1.1.1.0) in
-    let some : 0 < c.loop-p.p.used = some-node g.b c.args.indexes.now c.args.max_depth c.args.stack.now c.loop-p.nodes c.loop-p.p c.loop-p.invariant.behind none enough in
-    end-tells g.b c.args.indexes.now c.requires.0 c.args.max_depth c.args.stack.now c.loop-p.nodes c.loop-p.p _ c.end.result _ c.loop-p.invariant.behind r.read none some enough (get_or_default c.loop-p.nodes 0 _ (Static Null) (omega arith)) c.end.ensures
+    let some : 0 < c.loop-p.p.used = some-node g.b c.args.indexes.now c.args.max_depth c.args.stack.now c.loop-p.nodes c.loop-p.p c.loop-p.invariant.after none enough in
+    end-tells g.b c.args.indexes.now c.requires.0 c.args.max_depth c.args.stack.now c.loop-p.nodes c.loop-p.p _ c.end.result _ c.loop-p.invariant.after r.read none some enough (get_or_default c.loop-p.nodes 0 _ (Static Null) (omega arith)) c.end.ensures

@@ -1,16 +1,16 @@
 use Rattle.std.proofs.Common.{◌≡◌, ◌-◌, ◌≤◌, length}
-use Rattle.simd_json_stages.specs.Building.{BehindValue}
-use Rattle.simd_json_stages.specs.Progresses.{IsBehind}
+use Rattle.simd_json_stages.specs.Building.{AfterValue}
+use Rattle.simd_json_stages.specs.Progresses.{IsAfter}
 use Rattle.simd_json_stages.proofs.stage2.follow.Given as goal
 
 abbrev pub invariant-loop-p : goal.invariant-loop-p
 invariant-loop-p g l = record {
-  progress : IsBehind g.b l.indexes l.unread l.p;
+  progress : IsAfter g.b l.indexes l.unread l.p;
   depth : l.p.depth ≤ l.fn.p.depth;
   passed : l.fn.p.read ≤ l.p.read;
   later : l.fn.p.at ≤ l.p.at;
   nodes : length l.nodes ≡ length l.fn.nodes;
-  behind : BehindValue g.b l.indexes l.max_depth l.stack l.nodes l.p;
+  after : AfterValue g.b l.indexes l.max_depth l.stack l.nodes l.p;
 }
 
 abbrev pub decreases-loop-p : goal.decreases-loop-p

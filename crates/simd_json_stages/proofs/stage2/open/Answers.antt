@@ -1,10 +1,10 @@
 use Rattle.std.proofs.Common.{◌≡◌, ◌≢◌, ◌<◌, ◌≤◌, ◌+◌, ◌∙◌, ap, sym, subst, set, length, get_or, arith}
 use Rattle.simd_json_parts.specs.Bytes.{byte_at}
-use Rattle.simd_json_stages.specs.Building.{closer, AtMember, BehindValue}
-use Rattle.simd_json_stages.specs.Progresses.{IsBehind}
+use Rattle.simd_json_stages.specs.Building.{closer, AtMember, AfterValue}
+use Rattle.simd_json_stages.specs.Progresses.{IsAfter}
 use Rattle.simd_json_stages.specs.declared.stage2.Progress.{Progress}
 use Rattle.simd_json_stages.specs.declared.stage2.fault.FaultKind.TheVariants as kinds
-use Rattle.simd_json_stages.proofs.Bounds.{told-at, inside, later, looks, looked, at-next, behind-first, before-first}
+use Rattle.simd_json_stages.proofs.Bounds.{told-at, inside, later, looks, looked, at-next, after-first, before-first}
 use Rattle.simd_json_stages.proofs.BuildingSteps.{step-empty, step-open}
 use Rattle.simd_json_stages.proofs.Refusing.{tells-deep, tells-open_end}
 use Rattle.simd_json_stages.proofs.stage2.open.Goals as goal
@@ -32,8 +32,8 @@ byte-byte-requires g c =
 
 pub returns-then-byte-closer-clause-progress : goal.returns-then-byte-closer-clause-progress
 returns-then-byte-closer-clause-progress g c =
-    subst (IsBehind g.b c.args.indexes.now c.args.unread.now) (sym c.with_value.ensures)
-    (behind-first g.b c.args.indexes.now c.requires.0 c.args.unread.now c.args.p c.at_next-q.result c.byte-byte.result c.requires.1.0 (omega (arith, c.requires.1.0.read.within)) c.byte-byte.ensures c.at_next-q.ensures)
+    subst (IsAfter g.b c.args.indexes.now c.args.unread.now) (sym c.with_value.ensures)
+    (after-first g.b c.args.indexes.now c.requires.0 c.args.unread.now c.args.p c.at_next-q.result c.byte-byte.result c.requires.1.0 (omega (arith, c.requires.1.0.read.within)) c.byte-byte.ensures c.at_next-q.ensures)
 
 pub returns-then-byte-closer-clause-advances : goal.returns-then-byte-closer-clause-advances
 returns-then-byte-closer-clause-advances g c =
@@ -51,8 +51,8 @@ returns-then-byte-closer-clause-step g c =
     let ahead : c.args.unread.now.at ≤ get_or ps p.read 0 = omega (arith, r.unread.before) in
     let byte : byte_at g.b (get_or ps p.read 0) ≡ closer c.args.container = sym (looked g.b ps c.requires.0 c.args.unread.now (get_or ps p.read 0) c.byte-byte.result r.unread.same ahead c.byte-byte.ensures) ∙ c.if-byte-closer.true ∙ c.closer.ensures in
     let q-is = at-next g.b ps c.requires.0 c.args.unread.now p c.at_next-q.result c.byte-byte.result r.unread.same ahead c.byte-byte.ensures c.at_next-q.ensures in
-    subst (λ (q : Progress). BehindValue g.b ps c.args.max_depth c.args.stack.now (set c.args.nodes.now p.used c.header.result) q) (sym (c.with_value.ensures ∙ ap (λ (q : Progress). record q { used = q.used + 1; len = q.len + 1 }) q-is))
-    (subst (λ x. BehindValue g.b ps c.args.max_depth c.args.stack.now (set c.args.nodes.now p.used x) (record p { read = p.read + 1; at = get_or ps p.read 0; byte = byte_at g.b (get_or ps p.read 0); used = p.used + 1; len = p.len + 1 })) (sym c.header.ensures)
+    subst (λ (q : Progress). AfterValue g.b ps c.args.max_depth c.args.stack.now (set c.args.nodes.now p.used c.header.result) q) (sym (c.with_value.ensures ∙ ap (λ (q : Progress). record q { used = q.used + 1; len = q.len + 1 }) q-is))
+    (subst (λ x. AfterValue g.b ps c.args.max_depth c.args.stack.now (set c.args.nodes.now p.used x) (record p { read = p.read + 1; at = get_or ps p.read 0; byte = byte_at g.b (get_or ps p.read 0); used = p.used + 1; len = p.len + 1 })) (sym c.header.ensures)
     (step-empty g.b ps c.args.max_depth c.args.container c.args.stack.now c.args.nodes.now p c.requires.1.1.1.1.1.1 (omega (arith, r.used)) (omega arith) (omega (arith, r.read.first, c.requires.1.1.0)) more byte))
 
 pub returns-clause-progress : goal.returns-clause-progress

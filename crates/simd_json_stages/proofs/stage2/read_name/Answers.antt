@@ -4,11 +4,12 @@ use Rattle.simd_json_stages.specs.Building.{AtValue, Tells}
 use Rattle.simd_json_stages.specs.Refusals.{error_type}
 use Rattle.simd_json_stages.specs.declared.stage2.Progress.{Progress}
 use Rattle.simd_json_stages.specs.declared.stage2.fault.FaultKind.TheVariants as kinds
-use Rattle.simd_json_stages.proofs.Bounds.{passed-on, told-at, inside, looks, at-next, text-ahead}
+use Rattle.simd_json_stages.proofs.Bounds.{told-at, inside, looks, at-next, string-ahead}
 use Rattle.simd_json_stages.proofs.BuildingSteps.{step-name}
 use Rattle.simd_json_stages.proofs.Following.{told-next, second-looks, second-is, named-progress, named-advances}
 use Rattle.simd_json_stages.proofs.Refusing.{tells-no_name, tells-name, tells-name_end, tells-no_colon, tells-colon_end}
 use Rattle.simd_json_stages.proofs.stage2.read_name.Goals as goal
+use Rattle.simd_json_stages.proofs.Exits.{passed-on}
 
 pub returns-then-p-ne34-clause-refused : goal.returns-then-p-ne34-clause-refused
 returns-then-p-ne34-clause-refused g c stack limit at =
@@ -16,10 +17,10 @@ returns-then-p-ne34-clause-refused g c stack limit at =
     told-at g.b c.args.indexes.now limit c.args.kind c.args.p c.fault.result c.fault.ensures first
     (tells-no_name g.b c.args.indexes.now limit c.args.kind stack c.args.nodes.now c.args.p at (λ is. c.if-p-ne34.true (first ∙ is)))
 
-pub returns-in_err-put_text-clause-refused : goal.returns-in_err-put_text-clause-refused
-returns-in_err-put_text-clause-refused g c stack limit at =
+pub returns-in_err-put_string-clause-refused : goal.returns-in_err-put_string-clause-refused
+returns-in_err-put_string-clause-refused g c stack limit at =
     passed-on c.from_residual.result _ (Tells g.b c.args.indexes.now limit) c.from_residual.ensures.1
-    (tells-name g.b c.args.indexes.now limit (error_type c.args.kind) stack c.args.nodes.now c.args.p _ at (sym c.requires.1.0.read.first ∙ c.if-p-ne34.false) c.in_err-put_text.ensures.refused)
+    (tells-name g.b c.args.indexes.now limit (error_type c.args.kind) stack c.args.nodes.now c.args.p _ at (sym c.requires.1.0.read.first ∙ c.if-p-ne34.false) c.in_err-put_string.ensures.refused)
 
 pub returns-then-p-indexes-clause-refused : goal.returns-then-p-indexes-clause-refused
 returns-then-p-indexes-clause-refused g c stack limit at =
@@ -27,11 +28,11 @@ returns-then-p-indexes-clause-refused g c stack limit at =
     let ps = c.args.indexes.now in
     let e = c.requires.0.0 in
     let r = c.requires.1.0 in
-    let put = c.in_ok-put_text.ensures.put in
-    let u = c.put_text.new.unread in
+    let put = c.in_ok-put_string.ensures.put in
+    let u = c.put_string.new.unread in
     let quoted : byte_at g.b p.at ≡ 34 = sym r.read.first ∙ c.if-p-ne34.false in
     told-at g.b ps limit kinds.Syntax p c.fault-then-p-indexes.result c.fault-then-p-indexes.ensures r.read.first
-    (tells-name_end g.b ps limit (error_type c.args.kind) stack c.args.nodes.now p put.text u.at at quoted put.read c.if-p-indexes.true)
+    (tells-name_end g.b ps limit (error_type c.args.kind) stack c.args.nodes.now p put.string u.at at quoted put.read c.if-p-indexes.true)
 
 pub byte-requires : goal.byte-requires
 byte-requires g c =
@@ -39,11 +40,11 @@ byte-requires g c =
     let ps = c.args.indexes.now in
     let e = c.requires.0.0 in
     let r = c.requires.1.0 in
-    let put = c.in_ok-put_text.ensures.put in
-    let u = c.put_text.new.unread in
+    let put = c.in_ok-put_string.ensures.put in
+    let u = c.put_string.new.unread in
     let quoted : byte_at g.b p.at ≡ 34 = sym r.read.first ∙ c.if-p-ne34.false in
     let more : p.read < length ps = omega (arith, r.read.within, c.if-p-indexes.false) in
-    let ahead : u.at ≤ get_or ps p.read 0 = text-ahead g.b ps e p c.args.nodes.now c.put_text.new.nodes u r.read c.requires.1.1.1.0 quoted put more in
+    let ahead : u.at ≤ get_or ps p.read 0 = string-ahead g.b ps e p c.args.nodes.now c.put_string.new.nodes u r.read c.requires.1.1.1.0 quoted put more in
     looks g.b ps e u (get_or ps p.read 0) put.unread ahead (inside g.b ps e p.read more)
 
 pub returns-then-q-ne58-clause-refused : goal.returns-then-q-ne58-clause-refused
@@ -52,15 +53,15 @@ returns-then-q-ne58-clause-refused g c stack limit at =
     let ps = c.args.indexes.now in
     let e = c.requires.0.0 in
     let r = c.requires.1.0 in
-    let put = c.in_ok-put_text.ensures.put in
-    let u = c.put_text.new.unread in
+    let put = c.in_ok-put_string.ensures.put in
+    let u = c.put_string.new.unread in
     let quoted : byte_at g.b p.at ≡ 34 = sym r.read.first ∙ c.if-p-ne34.false in
     let more : p.read < length ps = omega (arith, r.read.within, c.if-p-indexes.false) in
-    let ahead : u.at ≤ get_or ps p.read 0 = text-ahead g.b ps e p c.args.nodes.now c.put_text.new.nodes u r.read c.requires.1.1.1.0 quoted put more in
+    let ahead : u.at ≤ get_or ps p.read 0 = string-ahead g.b ps e p c.args.nodes.now c.put_string.new.nodes u r.read c.requires.1.1.1.0 quoted put more in
     let q-is = at-next g.b ps e u p c.at_next-q.result c.byte.result put.unread ahead c.byte.ensures c.at_next-q.ensures in
     let byte : byte_at g.b (get_or ps p.read 0) ≡ c.at_next-q.result.byte = sym (ap (λ (q : Progress). q.byte) q-is) in
     told-next g.b ps e limit kinds.ExpectedObjectColon p c.at_next-q.result c.fault-then-q-ne58.result q-is c.fault-then-q-ne58.ensures
-    (tells-no_colon g.b ps limit (error_type c.args.kind) stack c.args.nodes.now p put.text u.at at quoted put.read more (λ is. c.if-q-ne58.true (sym byte ∙ is)))
+    (tells-no_colon g.b ps limit (error_type c.args.kind) stack c.args.nodes.now p put.string u.at at quoted put.read more (λ is. c.if-q-ne58.true (sym byte ∙ is)))
 
 pub returns-then-q-indexes-clause-refused : goal.returns-then-q-indexes-clause-refused
 returns-then-q-indexes-clause-refused g c stack limit at =
@@ -68,15 +69,15 @@ returns-then-q-indexes-clause-refused g c stack limit at =
     let ps = c.args.indexes.now in
     let e = c.requires.0.0 in
     let r = c.requires.1.0 in
-    let put = c.in_ok-put_text.ensures.put in
-    let u = c.put_text.new.unread in
+    let put = c.in_ok-put_string.ensures.put in
+    let u = c.put_string.new.unread in
     let quoted : byte_at g.b p.at ≡ 34 = sym r.read.first ∙ c.if-p-ne34.false in
     let more : p.read < length ps = omega (arith, r.read.within, c.if-p-indexes.false) in
-    let ahead : u.at ≤ get_or ps p.read 0 = text-ahead g.b ps e p c.args.nodes.now c.put_text.new.nodes u r.read c.requires.1.1.1.0 quoted put more in
+    let ahead : u.at ≤ get_or ps p.read 0 = string-ahead g.b ps e p c.args.nodes.now c.put_string.new.nodes u r.read c.requires.1.1.1.0 quoted put more in
     let q-is = at-next g.b ps e u p c.at_next-q.result c.byte.result put.unread ahead c.byte.ensures c.at_next-q.ensures in
     let byte : byte_at g.b (get_or ps p.read 0) ≡ c.at_next-q.result.byte = sym (ap (λ (q : Progress). q.byte) q-is) in
     told-next g.b ps e limit kinds.Syntax p c.at_next-q.result c.fault-then-q-indexes.result q-is c.fault-then-q-indexes.ensures
-    (tells-colon_end g.b ps limit (error_type c.args.kind) stack c.args.nodes.now p put.text u.at at quoted put.read more (byte ∙ c.if-q-ne58.false) (omega (arith, ap (λ (q : Progress). q.read) q-is, c.if-q-indexes.true)))
+    (tells-colon_end g.b ps limit (error_type c.args.kind) stack c.args.nodes.now p put.string u.at at quoted put.read more (byte ∙ c.if-q-ne58.false) (omega (arith, ap (λ (q : Progress). q.read) q-is, c.if-q-indexes.true)))
 
 pub byte-requires-2 : goal.byte-requires-2
 byte-requires-2 g c =
@@ -84,11 +85,11 @@ byte-requires-2 g c =
     let ps = c.args.indexes.now in
     let e = c.requires.0.0 in
     let r = c.requires.1.0 in
-    let put = c.in_ok-put_text.ensures.put in
-    let u = c.put_text.new.unread in
+    let put = c.in_ok-put_string.ensures.put in
+    let u = c.put_string.new.unread in
     let quoted : byte_at g.b p.at ≡ 34 = sym r.read.first ∙ c.if-p-ne34.false in
     let more : p.read < length ps = omega (arith, r.read.within, c.if-p-indexes.false) in
-    let ahead : u.at ≤ get_or ps p.read 0 = text-ahead g.b ps e p c.args.nodes.now c.put_text.new.nodes u r.read c.requires.1.1.1.0 quoted put more in
+    let ahead : u.at ≤ get_or ps p.read 0 = string-ahead g.b ps e p c.args.nodes.now c.put_string.new.nodes u r.read c.requires.1.1.1.0 quoted put more in
     let q-is = at-next g.b ps e u p c.at_next-q.result c.byte.result put.unread ahead c.byte.ensures c.at_next-q.ensures in
     second-looks g.b ps e u p c.at_next-q.result r.read put.unread ahead more q-is c.if-q-indexes.false
 
@@ -98,11 +99,11 @@ returns-clause-progress g c =
     let ps = c.args.indexes.now in
     let e = c.requires.0.0 in
     let r = c.requires.1.0 in
-    let put = c.in_ok-put_text.ensures.put in
-    let u = c.put_text.new.unread in
+    let put = c.in_ok-put_string.ensures.put in
+    let u = c.put_string.new.unread in
     let quoted : byte_at g.b p.at ≡ 34 = sym r.read.first ∙ c.if-p-ne34.false in
     let more : p.read < length ps = omega (arith, r.read.within, c.if-p-indexes.false) in
-    let ahead : u.at ≤ get_or ps p.read 0 = text-ahead g.b ps e p c.args.nodes.now c.put_text.new.nodes u r.read c.requires.1.1.1.0 quoted put more in
+    let ahead : u.at ≤ get_or ps p.read 0 = string-ahead g.b ps e p c.args.nodes.now c.put_string.new.nodes u r.read c.requires.1.1.1.0 quoted put more in
     let q-is = at-next g.b ps e u p c.at_next-q.result c.byte.result put.unread ahead c.byte.ensures c.at_next-q.ensures in
     let two : p.read + 1 < length ps = omega (arith, ap (λ (q : Progress). q.read) q-is, c.if-q-indexes.false) in
     let s-is = second-is g.b ps e u p c.at_next-q.result c.at_next-r.result c.byte-2.result r.read put.unread ahead two q-is c.byte-2.ensures c.at_next-r.ensures in
@@ -114,11 +115,11 @@ returns-clause-advances g c =
     let ps = c.args.indexes.now in
     let e = c.requires.0.0 in
     let r = c.requires.1.0 in
-    let put = c.in_ok-put_text.ensures.put in
-    let u = c.put_text.new.unread in
+    let put = c.in_ok-put_string.ensures.put in
+    let u = c.put_string.new.unread in
     let quoted : byte_at g.b p.at ≡ 34 = sym r.read.first ∙ c.if-p-ne34.false in
     let more : p.read < length ps = omega (arith, r.read.within, c.if-p-indexes.false) in
-    let ahead : u.at ≤ get_or ps p.read 0 = text-ahead g.b ps e p c.args.nodes.now c.put_text.new.nodes u r.read c.requires.1.1.1.0 quoted put more in
+    let ahead : u.at ≤ get_or ps p.read 0 = string-ahead g.b ps e p c.args.nodes.now c.put_string.new.nodes u r.read c.requires.1.1.1.0 quoted put more in
     let q-is = at-next g.b ps e u p c.at_next-q.result c.byte.result put.unread ahead c.byte.ensures c.at_next-q.ensures in
     let two : p.read + 1 < length ps = omega (arith, ap (λ (q : Progress). q.read) q-is, c.if-q-indexes.false) in
     let s-is = second-is g.b ps e u p c.at_next-q.result c.at_next-r.result c.byte-2.result r.read put.unread ahead two q-is c.byte-2.ensures c.at_next-r.ensures in
@@ -130,15 +131,15 @@ returns-clause-value g c stack limit at =
     let ps = c.args.indexes.now in
     let e = c.requires.0.0 in
     let r = c.requires.1.0 in
-    let put = c.in_ok-put_text.ensures.put in
-    let u = c.put_text.new.unread in
+    let put = c.in_ok-put_string.ensures.put in
+    let u = c.put_string.new.unread in
     let quoted : byte_at g.b p.at ≡ 34 = sym r.read.first ∙ c.if-p-ne34.false in
     let more : p.read < length ps = omega (arith, r.read.within, c.if-p-indexes.false) in
-    let ahead : u.at ≤ get_or ps p.read 0 = text-ahead g.b ps e p c.args.nodes.now c.put_text.new.nodes u r.read c.requires.1.1.1.0 quoted put more in
+    let ahead : u.at ≤ get_or ps p.read 0 = string-ahead g.b ps e p c.args.nodes.now c.put_string.new.nodes u r.read c.requires.1.1.1.0 quoted put more in
     let q-is = at-next g.b ps e u p c.at_next-q.result c.byte.result put.unread ahead c.byte.ensures c.at_next-q.ensures in
     let byte : byte_at g.b (get_or ps p.read 0) ≡ c.at_next-q.result.byte = sym (ap (λ (q : Progress). q.byte) q-is) in
     let two : p.read + 1 < length ps = omega (arith, ap (λ (q : Progress). q.read) q-is, c.if-q-indexes.false) in
     let s-is = second-is g.b ps e u p c.at_next-q.result c.at_next-r.result c.byte-2.result r.read put.unread ahead two q-is c.byte-2.ensures c.at_next-r.ensures in
     let room : p.used < length c.args.nodes.now = omega (arith, r.used, r.read.within, c.requires.1.1.1.1) in
-    subst (λ (s : Progress). AtValue g.b ps limit stack c.put_text.new.nodes (record s { used = p.used + 1 })) (sym s-is)
-    (step-name g.b ps limit (error_type c.args.kind) stack c.args.nodes.now c.put_text.new.nodes p u at room quoted put more (byte ∙ c.if-q-ne58.false) two)
+    subst (λ (s : Progress). AtValue g.b ps limit stack c.put_string.new.nodes (record s { used = p.used + 1 })) (sym s-is)
+    (step-name g.b ps limit (error_type c.args.kind) stack c.args.nodes.now c.put_string.new.nodes p u at room quoted put more (byte ∙ c.if-q-ne58.false) two)

@@ -1,4 +1,4 @@
 use Rattle.simd_json_stages.proofs.stage2.read_name.Given as goal
 
-abbrev pub ghost-put_text : goal.ghost-put_text
-ghost-put_text g a = g.b
+abbrev pub ghost-put_string : goal.ghost-put_string
+ghost-put_string g a = g.b

@@ -1,7 +1,7 @@
 use Rattle.simd_json_stages.proofs.stage2.read_value.Given as goal
 
-abbrev pub ghost-put_text : goal.ghost-put_text
-ghost-put_text g a = g.b
+abbrev pub ghost-put_string : goal.ghost-put_string
+ghost-put_string g a = g.b
 
 abbrev pub ghost-open : goal.ghost-open
 ghost-open g a = g.b

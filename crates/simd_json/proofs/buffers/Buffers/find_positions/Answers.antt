@@ -1,7 +1,8 @@
 use Rattle.std.proofs.Common.{◌<◌, ap, subst, arith, inr, refl, length}
 use Rattle.std.proofs.lemmas.List.{length-take-le}
-use Rattle.simd_json.proofs.ParseLaws.{passed-on, few-positions, short-stack}
+use Rattle.simd_json.proofs.ParseLaws.{few-positions, short-stack}
 use Rattle.simd_json.proofs.buffers.Buffers.find_positions.Goals as goal
+use Rattle.simd_json_stages.proofs.Exits.{passed-on}
 
 pub returns-in_err-resize-clause-fault : goal.returns-in_err-resize-clause-fault
 returns-in_err-resize-clause-fault g c =

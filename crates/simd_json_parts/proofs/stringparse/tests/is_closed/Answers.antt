@@ -1,5 +1,5 @@
 use Rattle.std.proofs.Common.{◌∙◌}
-use Rattle.simd_json_parts.proofs.TextContents.{content-scanned, content-closes}
+use Rattle.simd_json_parts.proofs.Strings.Content.{content-scanned, content-closes}
 use Rattle.simd_json_parts.proofs.stringparse.tests.is_closed.Goals as goal
 
 pub loop-i-preserved : goal.loop-i-preserved

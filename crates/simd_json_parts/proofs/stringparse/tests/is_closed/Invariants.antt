@@ -1,5 +1,5 @@
 use Rattle.std.proofs.Common.{◌≡◌, ◌+◌, ◌-◌, length, drop}
-use Rattle.simd_json_parts.specs.TextContent.{content_from, content}
+use Rattle.simd_json_parts.specs.StringContent.{content_from, content}
 use Rattle.simd_json_parts.proofs.stringparse.tests.is_closed.Given as goal
 
 -- what was passed is content, and the rest of the content stands from here on

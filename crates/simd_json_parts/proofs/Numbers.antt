@@ -1,0 +1,7 @@
+-- Number literals, and their reader.
+pub mod Literals
+pub mod Prefixes
+pub mod Steps
+pub mod Values
+pub mod Reader
+pub mod LeadingZeros

@@ -1,0 +1,3 @@
+-- Patterns and their derivatives.
+pub mod Sets
+pub mod Bytes

@@ -1,0 +1,12 @@
+-- Worked examples: an input, and what is wanted by the rules.
+pub mod Computes
+mod Samples
+mod AnswerRows
+mod PositionRows
+mod PaddedRows
+mod ListingRows
+mod PrintedRows
+mod EqualityRows
+mod ViewRows
+mod ErrorRows
+mod GrammarRows
