@@ -1,17 +1,32 @@
 # Two commands: `make` proves and builds what there is and shows the first run, `make test` passes the gate.
-# Both need the toolchain's command `rt` on the PATH, and nothing else.
-.PHONY: all test clean has-rt
+# Both need the toolchain's command `rt` on the PATH, and nothing else. Besides, `make CPU=x86-64-v3` builds for processors of
+# that level, and `make bench` measures: bench/run.sh says what it takes.
+.PHONY: all library test bench clean has-rt
 
-# The program stands on all other crates, so that proving it proves them.
-all: has-rt
-	cd crates/jtape && rt run -- tape < ../../examples/nested-list.json > /dev/null
+# The level that programs are built for. Empty: the toolchain's default.
+CPU =
+cpu = $(if $(CPU),--cpu $(CPU))
+
+# The program stands on all other crates but the benchmark's, so that proving it proves them.
+all: has-rt $(if $(CPU),library)
+	cd crates/jtape && rt run $(cpu) -- tape < ../../examples/nested-list.json > /dev/null
 	mkdir -p build
 	cp crates/jtape/out/jtape build/jtape
 	build/jtape tape < examples/nested-list.json
 
+# The static library that programs in C call.
+library: has-rt
+	cd crates/simd_json_bench && rt lib $(cpu)
+	mkdir -p build
+	cp crates/simd_json_bench/out/libsimd_json_bench.a build/
+
 # Every proof from nothing, the must-fail edits, the tests and the programs. Its last line is 'N passed, M failed'.
 test: has-rt
 	rt ci
+
+# Beside the parsers that are installed, over generated texts and FILES. SAVE=1 puts the results into docs/.
+bench: has-rt
+	SAVE=$(SAVE) sh bench/run.sh $(FILES)
 
 has-rt:
 	@command -v rt >/dev/null || { echo "rt is not on the PATH: put the folder bin of a Rattle kit there, as in PATH=KIT/bin:\$$PATH, and run make again" >&2; exit 1; }

@@ -1,3 +1,4 @@
 pub mod Output
 pub mod Ports
 pub mod Runs
+pub mod Settings

@@ -6,38 +6,37 @@ use Rattle.jtape.specs.declared.run.RunFault.{RunFault}
 use Rattle.jtape.specs.declared.run.RunFault.TheVariants.{Refused, Read}
 use Rattle.simd_json.specs.Parsed.{IsParsed, IsRefused}
 use Rattle.simd_json_parts.specs.Faults.{whole_fault}
-use Rattle.simd_json_parts.specs.Limits.{default_max_depth}
 use Rattle.simd_json_parts.specs.Nodes.{Item}
 use Rattle.simd_json_parts.specs.declared.error.Error.{Error}
 use Rattle.simd_json_parts.specs.declared.error.ErrorType.TheVariants.{OutOfMemory}
 
--- the input is a document within the limits, and these are the lines of its nodes
-pub record IsOutput (input out : List ℕ) : Type 0 where
+-- the input is a document within the limits, with so many containers open at most, and these are the lines of its nodes
+pub record IsOutput (depth : ℕ) (input out : List ℕ) : Type 0 where
   pub nodes : List Item
-  pub parsed : IsParsed input default_max_depth nodes
+  pub parsed : IsParsed input depth nodes
   pub listed : out ≡ lines nodes
 
 -- for want of memory, or by the definitions
-abbrev pub IsRefusal : List ℕ → RunFault → Type 0
-IsRefusal input (Refused e) = (e ≡ whole_fault OutOfMemory) ⊎ IsRefused input default_max_depth e
-IsRefusal input _ = ⊥
+abbrev pub IsRefusal : ℕ → List ℕ → RunFault → Type 0
+IsRefusal depth input (Refused e) = (e ≡ whole_fault OutOfMemory) ⊎ IsRefused input depth e
+IsRefusal depth input _ = ⊥
 
 -- Of a reader with these bytes left before and after, and a writer that held and holds these: the reader was read to its
 -- end, and the output of what it gave was written.
-pub record HasPrinted (before after held holds : Option (List ℕ)) : Type 0 where
+pub record HasPrinted (depth : ℕ) (before after held holds : Option (List ℕ)) : Type 0 where
   pub input : List ℕ
   pub read : Consumes before after input
   pub end : IsAtEnd after
   pub out : List ℕ
-  pub is_output : IsOutput input out
+  pub is_output : IsOutput depth input out
   pub written : Appends held holds out
 
 -- the reader was read to its end, and what it gave is refused with this fault
-pub record HasRefused (before after : Option (List ℕ)) (e : Error) : Type 0 where
+pub record HasRefused (depth : ℕ) (before after : Option (List ℕ)) (e : Error) : Type 0 where
   pub input : List ℕ
   pub read : Consumes before after input
   pub end : IsAtEnd after
-  pub refused : IsRefused input default_max_depth e
+  pub refused : IsRefused input depth e
 
 abbrev pub OnRefused : RunFault → (Error → Type 0) → Type 0
 OnRefused (Refused e) P = P e

@@ -1,4 +1,4 @@
-//! `jtape MODE` reads one JSON document from standard input and prints it, as the mode asks.
+//! `jtape MODE [DEPTH]` reads one JSON document from standard input and prints it, as the mode asks.
 //!
 //! - [`settings`]: what the words ask for.
 //! - [`port`]: a reader or a writer, and whether it has failed or ended.
@@ -17,13 +17,13 @@ use std::process::ExitCode;
 use std::{env, io};
 
 fn main(rt: HostRuntime) -> ExitCode {
-    let Some(mode) = asked(&rt) else {
+    let Some((mode, depth)) = asked(&rt) else {
         let _ = eprintln!(rt; "usage: jtape MODE [DEPTH]");
         return ExitCode::from(2);
     };
     let mut reader = Port::new(rt.reader());
     let mut writer = Port::new(io::writer(&rt));
-    let answer = run(rt.alloc(), mode, &mut reader, &mut writer);
+    let answer = run(rt.alloc(), mode, depth, &mut reader, &mut writer);
     let _ = match &answer {
         Ok(_) => Ok(()),
         Err(RunFault::Refused(e)) => eprintln!(rt; "{e}"),
@@ -34,7 +34,7 @@ fn main(rt: HostRuntime) -> ExitCode {
 }
 
 // What the program's words ask for, where they can be read and are understood.
-fn asked(rt: &HostRuntime) -> Option<Mode> {
+fn asked(rt: &HostRuntime) -> Option<(Mode, usize)> {
     let mut words = Vec::new(rt.alloc());
     for word in env::args(rt).ok()?.skip(1) {
         words.push(word).ok()?;

@@ -9,7 +9,7 @@ ghost use Rattle.simd_json_parts.specs.declared.error.ErrorType.{ErrorType};
 use crate::lines::append_lines;
 use crate::port::Port;
 use crate::settings::Mode;
-use simd_json::{Error, to_tape};
+use simd_json::{Buffers, Error, to_tape_with_buffers};
 use std::alloc::{AllocError, Allocator, Global};
 use std::io::{Read, Write};
 
@@ -50,7 +50,8 @@ impl From<AllocError> for RunFault {
     }
 }
 
-/// Reads all that the reader gives, and writes what the mode asks for of the document that it read.
+/// Reads all that the reader gives, and writes what the mode asks for of the document that it read, in which at most
+/// `depth` containers may be open at a time.
 ///
 /// Nothing is written before all is read, nor where the input is refused or a growth is. Returns `Read` exactly where
 /// the reader's port has failed, and `Write` exactly where the writer's has. `Ok` and a refusal of the input come only
@@ -58,21 +59,22 @@ impl From<AllocError> for RunFault {
 pub fn run<R: Read, W: Write>(
     a: Global,
     mode: Mode,
+    depth: usize,
     reader: &mut Port<R>,
     writer: &mut Port<W>,
 ) -> Result<bool>
     requires reader { (reader.old.failed ≡ false) × (reader.old.ended ≡ false) }
     requires writer { (writer.old.failed ≡ false) × (writer.old.ended ≡ false) }
     ensures printed { IfOk result (λ all. (all ≡ true) × (reader.new.ended ≡ true)
-        × HasPrinted (R.remaining reader.old.inner) (R.remaining reader.new.inner) (W.contents writer.old.inner) (W.contents writer.new.inner)) }
+        × HasPrinted depth (R.remaining reader.old.inner) (R.remaining reader.new.inner) (W.contents writer.old.inner) (W.contents writer.new.inner)) }
     ensures refused { IfErr result (λ fault. OnRefused fault (λ e. (e ≡ whole_fault ErrorType.OutOfMemory)
-        ⊎ ((reader.new.ended ≡ true) × HasRefused (R.remaining reader.old.inner) (R.remaining reader.new.inner) e))) }
+        ⊎ ((reader.new.ended ≡ true) × HasRefused depth (R.remaining reader.old.inner) (R.remaining reader.new.inner) e))) }
     ensures silent { IfErr result (λ fault. fault ≢ faults.Write → Keeps (W.contents writer.old.inner) (W.contents writer.new.inner)) }
     ensures read { (result ≡ Err faults.Read) ↔ (reader.new.failed ≡ true) }
     ensures write { (result ≡ Err faults.Write) ↔ (writer.new.failed ≡ true) }
 {
     let mut input = read_all(a, reader)?;
-    let output = output(a, mode, input.as_mut_slice())?;
+    let output = output(a, mode, depth, input.as_mut_slice())?;
     write_all(writer, output.as_slice())?;
     Ok(true)
 }
@@ -132,13 +134,14 @@ fn read_more<R: Read, A: Allocator>(
 }
 
 // What is written of an input.
-fn output(a: Global, mode: Mode, input: &mut [u8]) -> Result<Vec<u8>>
-    ensures output { IfOk result (λ out. IsOutput input.old out.items) }
-    ensures fault { IfErr result (IsRefusal input.old) }
+fn output(a: Global, mode: Mode, depth: usize, input: &mut [u8]) -> Result<Vec<u8>>
+    ensures output { IfOk result (λ out. IsOutput depth input.old out.items) }
+    ensures fault { IfErr result (IsRefusal depth input.old) }
 {
     match mode {
         Mode::Tape => {
-            let tape = to_tape(a, input)?;
+            let mut buffers = Buffers::with_max_depth(a, 0, depth)?;
+            let tape = to_tape_with_buffers(input, &mut buffers)?;
             let mut out = Vec::new(a);
             append_lines(&mut out, tape.nodes())?;
             Ok(out)

@@ -1,1 +1,3 @@
 mod ParseLaws
+mod ParseEnds
+mod ParseAnswers

@@ -1,51 +1,25 @@
 -- From what the steps of a parse find to what the definitions answer.
-use Rattle.std.proofs.Common.{◌≡◌, ◌∙◌, ap, sym, subst, ◌<◌, ◌≤◌, ℕ, List, [], length, Bool, true, false, not, Some, None, Option, Ok, Err, IsUtf8, refl, arith, cond, nat_lt, nat_eq, zero, suc, take, drop, ◌++◌, Result, map, min, ◌⊎◌, inl, inr, ◌*◌}
-use Rattle.std.specs.Str.{is_utf8}
+use Rattle.std.proofs.Common.{◌≡◌, ◌∙◌, ap, sym, subst, ◌≤◌, ℕ, List, [], length, true, Some, None, Ok, Err, arith, take, drop, ◌++◌, Result, map, inr}
 use Rattle.std.specs.Result.{is_err, MatchResult}
 use Rattle.std.proofs.lemmas.List.{length-map, length-take-le}
 use Rattle.std.proofs.Math.Seq.{take-append_seam}
-use Rattle.std.proofs.lemmas.Bool.{lt-ltb, true≢false, false≢true}
+use Rattle.std.proofs.lemmas.Bool.{false≢true}
 use Rattle.std.proofs.lemmas.List.Sums.{length-filter, count_by-le-length}
 use Rattle.std.proofs.lemmas.List.FromFn.{length-range_with_len}
 use Rattle.simd_json_parts.proofs.Sound.Answer.{answer-sound}
 use Rattle.simd_json_parts.proofs.Documents.Spelling.{IsSpellable-denoted}
-use Rattle.simd_json_parts.proofs.Positions.ScannedInputs.{by_size, fault-by_size, scanned}
 use Rattle.simd_json_parts.specs.Answer.{answer, fault_or}
 use Rattle.simd_json_parts.specs.Bytes.{indices}
 use Rattle.simd_json_parts.specs.Descent.{descent}
 use Rattle.simd_json_parts.specs.Nodes.{Item, item_of}
 use Rattle.simd_json_parts.specs.declared.node.Node.{Node}
 use Rattle.simd_json_stages.specs.Building.{IsListed}
-use Rattle.simd_json.specs.Parsed.{IsParsed, IsRefused, LacksMemory}
+use Rattle.simd_json_stages.specs.Refusals.{IsTokenFault}
+use Rattle.simd_json.specs.Parsed.{IsParsed, IsRefused}
 use Rattle.simd_json_parts.specs.Listing.{IsTape}
-use Rattle.simd_json.specs.Rooms.{tokens_of, room_of}
-use Rattle.simd_json_parts.specs.Faults.{whole_fault}
-use Rattle.simd_json_parts.specs.InputFaults.{input_fault, scan_fault, has_bad_string}
-use Rattle.simd_json_parts.specs.Limits.{max_length}
+use Rattle.simd_json_parts.specs.InputFaults.{input_fault}
 use Rattle.simd_json_parts.specs.Positions.{positions, is_position}
 use Rattle.simd_json_parts.specs.declared.error.Error.{Error}
-use Rattle.simd_json_parts.specs.declared.error.ErrorType.TheVariants.{Syntax, Eof, OutOfMemory}
-
--- where nothing is wrong with the whole, some position is there
-abbrev is_none : Option Error → Bool
-is_none None = true
-is_none (Some e) = false
-
-some_fault : (p q r : Bool) (e f g h : Error) → is_none (cond p (Some e) (cond q (Some f) (cond r (Some g) (Some h)))) ≡ false
-some_fault true q r e f g h = refl
-some_fault false true r e f g h = refl
-some_fault false false true e f g h = refl
-some_fault false false false e f g h = refl
-
-pub some-positions : (b : List ℕ) → input_fault b ≡ None → 0 < length (positions b)
-some-positions b none = by_length (length (positions b)) refl where
-  fault-at : ℕ → Option Error
-  fault-at n = by_size (nat_lt max_length (length b)) (is_utf8 b) (cond (has_bad_string b) (Some (whole_fault Syntax)) (cond (nat_eq n 0) (Some (whole_fault Eof)) None))
-
-  by_length : (n : ℕ) → length (positions b) ≡ n → 0 < n
-  by_length zero is =
-      absurd (true≢false (ap is_none (sym none ∙ fault-by_size b ∙ ap fault-at is) ∙ some_fault (nat_lt max_length (length b)) (not (is_utf8 b)) (has_bad_string b) _ _ _ _))
-  by_length (suc n) is = omega arith
 
 -- ---- the answer
 
@@ -64,16 +38,9 @@ pub few-positions : (b : List ℕ) → length (positions b) ≤ length b
 unfolding positions
 few-positions b = omega (arith, length-filter (is_position b) (indices b), count_by-le-length (is_position b) (indices b), length-range_with_len 0 (length b))
 
--- what the first stage refuses, after size and encoding
-pub refused : (b : List ℕ) (limit tape-room room : ℕ) (e : Error) → length b ≤ max_length → IsUtf8 b
-    → (scan_fault b ≡ Some e) ⊎ ((e ≡ whole_fault OutOfMemory) × (room < length b))
-    → IsRefused b limit e ⊎ (LacksMemory b e × ((tape-room < length b) ⊎ (room < length b)))
-refused b limit tape-room room e l text (inl is) = inl (fault-answered b limit e (scanned b l text ∙ is))
-refused b limit tape-room room e l text (inr (is, short)) = inr ((is, l, text), inr short)
-
 -- what the second stage refuses
-pub refused-token : (b : List ℕ) (limit : ℕ) (e : Error) → input_fault b ≡ None → descent b limit ≡ Err e → IsRefused b limit e
-refused-token b limit e none is = none-answered b limit none ∙ is
+pub refused-token : (b : List ℕ) (limit : ℕ) (e : Error) → input_fault b ≡ None → IsTokenFault e → descent b limit ≡ Err e → IsRefused b limit e
+refused-token b limit e none token is = record { answered = none-answered b limit none ∙ is; told = inr (none, token) }
 
 -- ---- what the second stage lists
 
@@ -85,12 +52,6 @@ parsed b limit nodes none listed =
 
 pub tape-parsed : (b : List ℕ) (limit : ℕ) (items : List Item) → IsParsed b limit items → IsTape items
 tape-parsed b limit items p = inr (p.document, IsSpellable-denoted b p.document p.denoted, p.within.integers, p.listed)
-
--- ---- room
-
--- a stack that is too short bounds the room
-pub short-stack : (p blocks s limit count n : ℕ) → s < min count limit → count ≤ n → room_of (tokens_of p s limit) blocks < n
-short-stack p blocks s limit count n l m = subst (λ t. min (cond t (min p s) p) (64 * blocks) < n) (sym (lt-ltb s limit (omega (arith, l)))) (omega (arith, l, m))
 
 -- ---- lists that are lent
 

@@ -1,20 +1,29 @@
 //! Lists that parses use one after another.
-ghost use Rattle.std.specs.Prelude.{◌≡◌, ◌≤◌, ◌<◌, ◌^◌, ◌⊎◌, [], length, OnOk, OnErr, IfErr, Some, None};
+ghost use Rattle.std.specs.Prelude.{◌≡◌, ◌≤◌, ◌<◌, ◌⊎◌, [], length, min, max, OnOk, OnErr, IfOk, IfErr, Some, None};
+ghost use Rattle.simd_json.specs.Parsed.{LacksMemory};
+ghost use Rattle.simd_json.specs.Rooms.{KeepsRooms, room, capped, new_buffers};
 ghost use Rattle.simd_json_parts.specs.Faults.{whole_fault};
-ghost use Rattle.simd_json_parts.specs.InputFaults.{scan_fault};
+ghost use Rattle.simd_json_parts.specs.InputFaults.{input_fault};
+ghost use Rattle.simd_json_parts.specs.Limits.{default_max_depth};
 ghost use Rattle.simd_json_parts.specs.Positions.{positions};
 ghost use Rattle.simd_json_parts.specs.declared.error.ErrorType.{ErrorType};
-ghost use Rattle.simd_json_stages.specs.EscapeBlocks.{backslash_blocks};
+ghost use Rattle.simd_json_stages.specs.EscapeBlocks.{backslash_blocks, blocks_in};
 
+use crate::DEFAULT_MAX_DEPTH;
+use crate::room::lengthen;
 use simd_json_parts::error::Result;
-use simd_json_stages::stage1::{PlainStage1Parse, Stage1Parse};
+use simd_json_stages::stage1::{BLOCK_LEN, BlockStage1Parse, Stage1Parse};
 use simd_json_stages::stage2::StackState;
 use std::alloc::{Allocator, Global};
 use std::marker::Model;
 
+/// What parses use one after another: the lists of the structural positions and of the blocks that hold a backslash, and
+/// the stack of the open containers, of which there may be so many.
+///
+/// Each list grows by what an input needs, and is never given up. What buffers held before does not change an answer.
 // The lists are kept filled up to their room.
 #[derive(Drop)]
-pub(crate) struct Buffers<A: Allocator = Global> {
+pub struct Buffers<A: Allocator = Global> {
     pub(crate) structural_indexes: Vec<u32, A>,
     pub(crate) used: usize,
     pub(crate) escape_blocks: Vec<u32, A>,
@@ -35,9 +44,35 @@ impl<A: Allocator> Model for Buffers<A> {
 }
 
 impl<A: Allocator + Copy> Buffers<A> {
+    /// Buffers with which at most [`DEFAULT_MAX_DEPTH`] containers may be open at a time. See
+    /// [`with_max_depth`](Buffers::with_max_depth).
+    pub fn new(a: A, input_len: usize) -> Result<Buffers<A>>
+        ensures made { IfOk result (λ buffers. buffers ≡ new_buffers input_len default_max_depth) }
+        ensures fault { IfErr result (λ e. (e ≡ whole_fault ErrorType.OutOfMemory) × (0 < input_len)) }
+    {
+        Buffers::with_max_depth(a, input_len, DEFAULT_MAX_DEPTH)
+    }
+
+    /// Buffers with which at most `max_depth` containers may be open at a time; 0 leaves scalars alone.
+    ///
+    /// They list no position. There is room for the positions that an input of `input_len` bytes may have (more than
+    /// 4,294,967,295 count as that number, the greatest size of an input), and none for open containers yet: the depth
+    /// limit costs nothing before an input is as deep. `input_len` is a hint, and may be 0: what an input needs beyond it is
+    /// grown by the parse.
+    ///
+    /// Returns `OutOfMemory` where an allocation fails.
+    pub fn with_max_depth(a: A, input_len: usize, max_depth: usize) -> Result<Buffers<A>>
+        ensures made { IfOk result (λ buffers. buffers ≡ new_buffers input_len max_depth) }
+        ensures fault { IfErr result (λ e. (e ≡ whole_fault ErrorType.OutOfMemory) × (0 < input_len)) }
+    {
+        let mut buffers = Buffers::empty(a, max_depth);
+        buffers.reserve_lists(input_len.min(u32::MAX as usize))?;
+        Ok(buffers)
+    }
+
     // Lists nothing, and takes no memory.
     pub(crate) fn empty(a: A, max_depth: usize) -> Buffers<A>
-        ensures { (result.positions ≡ []) × (result.blocks ≡ []) × (result.limit ≡ max_depth) }
+        ensures { result ≡ new_buffers 0 max_depth }
     {
         Buffers {
             structural_indexes: Vec::new(a),
@@ -48,49 +83,90 @@ impl<A: Allocator + Copy> Buffers<A> {
             max_depth,
         }
     }
+
+    // The allocator of the lists.
+    pub(crate) fn allocator(&self) -> A {
+        *self.structural_indexes.allocator()
+    }
 }
 
 impl<A: Allocator> Buffers<A> {
-    // The structural positions of the input that was read last.
-    pub(crate) fn structural_indexes(&self) -> &[u32]
+    /// The structural positions of the input that was read last: the index of the opening quote of each string, and outside
+    /// strings of each structural character and of the first byte of each other token. They rise.
+    ///
+    /// There are none before the first parse, and none after one that answered an error without a character.
+    pub fn structural_indexes(&self) -> &[u32]
         ensures { result.now ≡ self.now.positions }
     {
         &self.structural_indexes[..self.used]
     }
 
+    /// Makes room for inputs of up to `input_len` bytes (more than 4,294,967,295 count as that number): for their positions,
+    /// and for as many open containers as they can have within the depth limit.
+    ///
+    /// With as much room on the tape no parse of such an input takes memory, as often as one is asked for, since no parse
+    /// gives up room. The positions that are listed stay.
+    ///
+    /// Returns `OutOfMemory` where an allocation fails; what room has been made by then stays.
+    pub fn reserve(&mut self, input_len: usize) -> Result<()>
+        ensures room { OnOk result (capped input_len ≤ room self.new) }
+        ensures kept { KeepsRooms self.old self.new }
+        ensures same { (self.new.positions ≡ self.old.positions) × (self.new.blocks ≡ self.old.blocks) × (self.new.limit ≡ self.old.limit) }
+        ensures fault { IfErr result (λ e. (e ≡ whole_fault ErrorType.OutOfMemory) × (room self.old < capped input_len)) }
+    {
+        let len = input_len.min(u32::MAX as usize);
+        self.reserve_lists(len)?;
+        lengthen(
+            &mut self.stack,
+            len.min(self.max_depth),
+            StackState::default(),
+        )
+    }
+
+    // Makes room for the positions of so many bytes, and for their blocks.
+    fn reserve_lists(&mut self, len: usize) -> Result<()>
+        ensures kept { KeepsRooms self.old self.new }
+        ensures same { (self.new.positions ≡ self.old.positions) × (self.new.blocks ≡ self.old.blocks) × (self.new.limit ≡ self.old.limit) × (self.new.stack_room ≡ self.old.stack_room) }
+        ensures room { OnOk result ((self.new.position_room ≡ max self.old.position_room len) × (self.new.block_room ≡ max self.old.block_room (blocks_in len))) }
+        ensures fault { IfErr result (λ e. (e ≡ whole_fault ErrorType.OutOfMemory)
+            × ((self.old.position_room < len) ⊎ (self.old.block_room < blocks_in len))) }
+    {
+        lengthen(&mut self.structural_indexes, len, 0)?;
+        lengthen(&mut self.escape_blocks, len.div_ceil(BLOCK_LEN), 0)
+    }
+
     // Lists nothing, and keeps its room.
     pub(crate) fn clear(&mut self)
-        ensures { self.new ≡ record { positions = []; blocks = []; limit = self.old.limit; tokens = self.old.tokens; room = self.old.room } }
+        ensures { self.new ≡ record self.old { positions = []; blocks = [] } }
     {
         self.used = 0;
         self.used_blocks = 0;
     }
 
     // Lists the structural positions of the input and its blocks that hold a backslash, and makes room for the containers
-    // that can open at the positions within the limit. Returns the first stage's fault, or `OutOfMemory` where a growth
-    // was refused.
+    // that can open at the positions within the limit. Answers the fault of the whole input, or `OutOfMemory` where a
+    // growth was refused, and lists nothing then.
     pub(crate) fn find_positions(&mut self, input: &[u8]) -> Result<()>
-        requires { length input.now < 2 ^ 32 }
-        ensures found { OnOk result ((self.new.positions ≡ positions input.now) × (scan_fault input.now ≡ None)) }
+        ensures found { OnOk result ((self.new.positions ≡ positions input.now) × (input_fault input.now ≡ None)) }
         ensures escapes { OnOk result (self.new.blocks ≡ backslash_blocks input.now) }
-        ensures enough { OnOk result (length (positions input.now) ≤ self.new.tokens) }
+        ensures stack { OnOk result (min (length (positions input.now)) self.new.limit ≤ self.new.stack_room) }
         ensures empty { OnErr result ((self.new.positions ≡ []) × (self.new.blocks ≡ [])) }
         ensures limit { self.new.limit ≡ self.old.limit }
-        ensures kept { self.old.room ≤ self.new.room }
-        ensures fault { IfErr result (λ e. (scan_fault input.now ≡ Some e)
-            ⊎ ((e ≡ whole_fault ErrorType.OutOfMemory) × (self.old.room < length input.now))) }
+        ensures kept { KeepsRooms self.old self.new }
+        ensures fault { IfErr result (λ e. (input_fault input.now ≡ Some e)
+            ⊎ (LacksMemory input.now e × (room self.old < length input.now))) }
     {
-        self.used = 0;
-        self.used_blocks = 0;
-        let found = PlainStage1Parse::find_structural_bits(
+        self.clear();
+        let found = BlockStage1Parse::find_structural_bits(
             input,
             &mut self.structural_indexes,
             &mut self.escape_blocks,
         )?;
-        let depth = found.positions.min(self.max_depth);
-        if self.stack.len() < depth {
-            self.stack.resize(depth, StackState::default())?;
-        }
+        lengthen(
+            &mut self.stack,
+            found.positions.min(self.max_depth),
+            StackState::default(),
+        )?;
         self.used = found.positions;
         self.used_blocks = found.escape_blocks;
         Ok(())

@@ -12,10 +12,13 @@
 #![tactic(auto)]
 
 mod buffers;
+pub mod laws;
 mod parse;
+mod room;
 pub mod value;
 
-pub use parse::to_tape;
+pub use buffers::Buffers;
+pub use parse::{fill_tape, fill_tape_padded, to_tape, to_tape_with_buffers};
 pub use simd_json_parts::error::{Error, ErrorType, Result};
 pub use simd_json_parts::node::{Node, StaticNode, TryTypeError, ValueType};
 pub use value::tape;
@@ -23,6 +26,9 @@ pub use value::tape::Tape;
 
 /// How many containers may be open at a time, unless another limit is asked for.
 pub const DEFAULT_MAX_DEPTH: usize = 1024;
+
+/// How many bytes [`fill_tape_padded`] asks for after its document.
+pub const INPUT_PADDING: usize = 64;
 
 #[cfg(test)]
 mod tests;

@@ -1,17 +1,20 @@
 //! The entry points.
-ghost use Rattle.std.specs.Prelude.{◌≡◌, ◌≤◌, ◌<◌, ◌⊎◌, [], length, IfOk, IfErr, OnOk, OnErr, Some, None, IsUtf8};
-ghost use Rattle.simd_json.specs.Parsed.{IsParsed, IsRefused, LacksMemory};
+ghost use Rattle.std.specs.Prelude.{◌≡◌, ◌≤◌, [], ℕ, List, length, min, IfErr, OnOk, OnErr, None, Err};
+ghost use Rattle.std.specs.Result.{result_err};
+ghost use Rattle.simd_json.specs.Parsed.{IsParse, IsPaddedParse, IsParsed, IsRefused, nodes_of};
+ghost use Rattle.simd_json.specs.Rooms.{KeepsRooms, room};
 ghost use Rattle.simd_json_parts.specs.InputFaults.{input_fault};
-ghost use Rattle.simd_json_parts.specs.Limits.{max_length, default_max_depth};
+ghost use Rattle.simd_json_parts.specs.Limits.{default_max_depth};
 ghost use Rattle.simd_json_parts.specs.Positions.{positions};
 ghost use Rattle.simd_json_stages.specs.EscapeBlocks.{backslash_blocks};
+ghost use Rattle.simd_json_stages.specs.Refusals.{IsTokenFault};
 
-use crate::DEFAULT_MAX_DEPTH;
 use crate::buffers::Buffers;
 use crate::tape::Tape;
+use crate::{DEFAULT_MAX_DEPTH, INPUT_PADDING};
 use simd_json_parts::error::{Error, ErrorType, Result};
 use simd_json_stages::stage2::build_tape;
-use std::alloc::{Allocator, Global};
+use std::alloc::Allocator;
 
 /// Reads the bytes of one document (RFC 8259) as a tape, with at most [`DEFAULT_MAX_DEPTH`] containers open at a time.
 ///
@@ -29,36 +32,142 @@ use std::alloc::{Allocator, Global};
 ///
 /// `OutOfMemory`, at index 0 without a character, comes where an allocation fails; no memory is taken before size and
 /// encoding are known to be right. After an error there is no tape, and what `s` holds is of no meaning.
-pub fn to_tape<'de>(a: Global, s: &'de mut [u8]) -> Result<Tape<'de>>
-    ensures tape { IfOk result (λ tape. IsParsed s.old default_max_depth tape.nodes) }
-    ensures fault { IfErr result (λ e. IsRefused s.old default_max_depth e ⊎ (LacksMemory s.old e × (0 < length s.old))) }
+///
+/// ```
+/// fn first_len(rt: &impl AllocGlobal) -> simd_json::Result<usize> {
+///     let mut input = *b"[1,[2,3],4]";
+///     let tape = simd_json::to_tape(rt.alloc(), &mut input)?;
+///     Ok(tape.nodes().len())
+/// }
+/// ```
+pub fn to_tape<'de, A: Allocator + Copy>(a: A, s: &'de mut [u8]) -> Result<Tape<'de, A>>
+    ensures { (listed : List ℕ) × IsParse s.old default_max_depth 0 (result_err result) (nodes_of result) listed }
 {
     let mut buffers = Buffers::empty(a, DEFAULT_MAX_DEPTH);
-    let mut tape = Tape::empty(a);
-    fill_tape(s, &mut buffers, &mut tape)?;
+    to_tape_with_buffers(s, &mut buffers)
+}
+
+/// Reads a document as [`to_tape`] does, but within the depth limit of the buffers and with their lists. The tape takes its
+/// memory from the allocator of the buffers.
+///
+/// The errors are those of [`to_tape`]. After one without a character `structural_indexes` of the buffers is empty; else it
+/// lists the positions of `s`. The buffers can be used again after every answer.
+///
+/// ```
+/// use simd_json::{Buffers, to_tape_with_buffers};
+///
+/// fn count_positions(rt: &impl AllocGlobal) -> simd_json::Result<usize> {
+///     let mut input = *b"[1,[2,3],4]";
+///     let mut buffers = Buffers::with_max_depth(rt.alloc(), input.len(), 2)?;
+///     let _tape = to_tape_with_buffers(&mut input, &mut buffers)?;
+///     Ok(buffers.structural_indexes().len())
+/// }
+/// ```
+pub fn to_tape_with_buffers<'de, A: Allocator + Copy>(
+    s: &'de mut [u8],
+    buffers: &mut Buffers<A>,
+) -> Result<Tape<'de, A>>
+    ensures parse { IsParse s.old buffers.old.limit 0 (result_err result) (nodes_of result) buffers.new.positions }
+    ensures limit { buffers.new.limit ≡ buffers.old.limit }
+    ensures rooms { KeepsRooms buffers.old buffers.new }
+{
+    let mut tape = Tape::empty(buffers.allocator());
+    fill_tape(s, buffers, &mut tape)?;
     Ok(tape)
 }
 
-// Reads a document within the limit of the buffers into a tape. What buffers and tape held does not matter.
-pub(crate) fn fill_tape<'de, A: Allocator, B: Allocator>(
+/// Reads a document into a tape that is there already, within the depth limit of the buffers and with their lists. What
+/// buffers and tape held before does not matter.
+///
+/// The errors are those of [`to_tape`]. After one the tape is empty. After one without a character `structural_indexes` of
+/// the buffers is empty too; else it lists the positions of `s`. Buffers and tape can be used again after every answer.
+///
+/// Where buffers and tape have room for as many bytes as `s` has, no memory is taken. No parse gives up room.
+///
+/// ```
+/// use simd_json::{Buffers, Tape, fill_tape};
+///
+/// fn count_nodes(rt: &impl AllocGlobal, log: &mut [u8]) -> simd_json::Result<usize> {
+///     let mut buffers = Buffers::new(rt.alloc(), 0)?;
+///     let mut tape = Tape::null(rt.alloc())?;
+///     buffers.reserve(log.len())?;
+///     tape.reserve(log.len())?;
+///     let mut nodes = 0usize;
+///     for line in log.split_mut(|byte| *byte == b'\n') {
+///         fill_tape(line, &mut buffers, &mut tape)?;
+///         nodes = nodes.saturating_add(tape.nodes().len());
+///     }
+///     Ok(nodes)
+/// }
+/// ```
+pub fn fill_tape<'de, A: Allocator, B: Allocator>(
     s: &'de mut [u8],
     buffers: &mut Buffers<A>,
     tape: &mut Tape<'de, B>,
 ) -> Result<()>
-    ensures tape { OnOk result (IsParsed s.old buffers.old.limit tape.new.nodes) }
-    ensures positions { OnOk result (buffers.new.positions ≡ positions s.old) }
-    ensures empty { OnErr result (tape.new.nodes ≡ []) }
+    ensures parse { IsParse s.old buffers.old.limit (min tape.old.room (room buffers.old)) (result_err result) tape.new.nodes buffers.new.positions }
     ensures limit { buffers.new.limit ≡ buffers.old.limit }
-    ensures rooms { (tape.old.room ≤ tape.new.room) × (buffers.old.room ≤ buffers.new.room) }
-    ensures fault { IfErr result (λ e. IsRefused s.old buffers.old.limit e
-        ⊎ (LacksMemory s.old e × ((tape.old.room < length s.old) ⊎ (buffers.old.room < length s.old)))) }
+    ensures rooms { KeepsRooms buffers.old buffers.new × (tape.old.room ≤ tape.new.room) }
 {
     tape.clear();
-    buffers.clear();
-    check_input(s)?;
     buffers.find_positions(s)?;
-    tape.reserve(buffers.structural_indexes().len())?;
+    if let Err(e) = tape.reserve(buffers.structural_indexes().len()) {
+        return refuse(e, buffers, tape);
+    }
     build(s, buffers, tape)
+}
+
+/// Reads the document in the first `len` bytes of `s` into a tape, as [`fill_tape`] does, where at least
+/// [`INPUT_PADDING`] bytes follow it. What these hold does not matter, and they stay as they are.
+///
+/// Returns `InsufficientPadding`, at index 0 without a character and before anything else is looked at, where fewer
+/// follow; the other errors are those of [`to_tape`] on the document. Tape and buffers are left as by [`fill_tape`].
+///
+/// ```
+/// use simd_json::{Buffers, INPUT_PADDING, Tape, fill_tape_padded};
+///
+/// fn read_padded(rt: &impl AllocGlobal) -> simd_json::Result<usize> {
+///     let mut input = [b'1'; 2 + INPUT_PADDING];
+///     let mut buffers = Buffers::new(rt.alloc(), 2)?;
+///     let mut tape = Tape::null(rt.alloc())?;
+///     fill_tape_padded(&mut input, 2, &mut buffers, &mut tape)?;
+///     Ok(tape.nodes().len())
+/// }
+/// ```
+pub fn fill_tape_padded<'de, A: Allocator, B: Allocator>(
+    s: &'de mut [u8],
+    len: usize,
+    buffers: &mut Buffers<A>,
+    tape: &mut Tape<'de, B>,
+) -> Result<()>
+    ensures parse { IsPaddedParse s.old len buffers.old.limit (min tape.old.room (room buffers.old)) (result_err result) tape.new.nodes buffers.new.positions }
+    ensures limit { buffers.new.limit ≡ buffers.old.limit }
+    ensures rooms { KeepsRooms buffers.old buffers.new × (tape.old.room ≤ tape.new.room) }
+{
+    if s.len().saturating_sub(len) < INPUT_PADDING {
+        return refuse(
+            Error::generic(ErrorType::InsufficientPadding),
+            buffers,
+            tape,
+        );
+    }
+    let (document, _) = s.split_at_mut(len);
+    fill_tape(document, buffers, tape)
+}
+
+// What a refusal without a character leaves: no position is listed, and the tape is empty.
+fn refuse<A: Allocator, B: Allocator>(
+    e: Error,
+    buffers: &mut Buffers<A>,
+    tape: &mut Tape<'_, B>,
+) -> Result<()>
+    ensures refused { result ≡ Err e }
+    ensures positions { buffers.new ≡ record buffers.old { positions = []; blocks = [] } }
+    ensures nodes { tape.new ≡ record { nodes = []; room = tape.old.room } }
+{
+    buffers.clear();
+    tape.clear();
+    Err(e)
 }
 
 // The second stage, where all room has been made.
@@ -69,13 +178,15 @@ fn build<'de, A: Allocator, B: Allocator>(
 ) -> Result<()>
     requires positions { (buffers.old.positions ≡ positions s.old) × (input_fault s.old ≡ None) }
     requires escapes { buffers.old.blocks ≡ backslash_blocks s.old }
-    requires rooms { (length (positions s.old) ≤ buffers.old.tokens) × (length (positions s.old) ≤ tape.old.room) }
+    requires stack { min (length (positions s.old)) buffers.old.limit ≤ buffers.old.stack_room }
+    requires nodes { length (positions s.old) ≤ tape.old.room }
     requires empty { tape.old.nodes ≡ [] }
     ensures tape { OnOk result (IsParsed s.old buffers.old.limit tape.new.nodes) }
+    ensures few { length tape.new.nodes ≤ length (positions s.old) }
     ensures empty { OnErr result (tape.new.nodes ≡ []) }
     ensures kept { buffers.new ≡ buffers.old }
     ensures room { tape.new.room ≡ tape.old.room }
-    ensures fault { IfErr result (IsRefused s.old buffers.old.limit) }
+    ensures fault { IfErr result (λ e. IsRefused s.old buffers.old.limit e × IsTokenFault e) }
 {
     tape.used = build_tape(
         s,
@@ -85,19 +196,5 @@ fn build<'de, A: Allocator, B: Allocator>(
         tape.list.as_mut_slice(),
         buffers.max_depth,
     )?;
-    Ok(())
-}
-
-// The faults that are reported before any memory is taken: the size, and then the encoding.
-fn check_input(s: &[u8]) -> Result<()>
-    ensures right { OnOk result ((length s.now ≤ max_length) × IsUtf8 s.now) }
-    ensures fault { IfErr result (λ e. input_fault s.now ≡ Some e) }
-{
-    if s.len() > u32::MAX as usize {
-        return Err(Error::generic(ErrorType::InputTooLarge));
-    }
-    if simdutf8::basic::from_utf8(s).is_err() {
-        return Err(Error::generic(ErrorType::InvalidUtf8));
-    }
     Ok(())
 }

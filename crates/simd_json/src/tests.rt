@@ -1,9 +1,10 @@
 use super::*;
-use crate::buffers::Buffers;
-use crate::parse::fill_tape;
-use linked_list_allocator::LocalHeap;
-use std::process::Abort;
 use std::test::Fail;
+
+mod blocks;
+mod examples;
+mod memory;
+mod reuse;
 
 type Tested = std::result::Result<(), Fail>;
 
@@ -145,60 +146,4 @@ fn depth_is_limited(rt: HostRuntime) -> Tested {
         assert_eq!(rt; fault_of(&rt, input.as_slice())?, wanted);
     }
     Ok(())
-}
-
-// What buffers and tape held does not matter, and rooms never fall.
-#[test]
-fn buffers_are_used_again(rt: HostRuntime) -> Tested {
-    let (mut first, mut second, mut third) = (*b"[[1],2,\"\\n\"]", *b"[", *b"\"u\"");
-    let mut buffers = Buffers::empty(rt.alloc(), 2);
-    let mut tape = Tape::empty(rt.alloc());
-    assert!(rt; fill_tape(&mut first, &mut buffers, &mut tape).is_ok());
-    assert_eq!(rt; tape.nodes().len(), 5);
-    assert_eq!(rt;
-        buffers.structural_indexes(),
-        [0, 1, 2, 3, 4, 5, 6, 7, 11].as_slice()
-    );
-    assert!(rt; fill_tape(&mut second, &mut buffers, &mut tape).is_err());
-    assert!(rt; tape.is_empty());
-    assert!(rt; fill_tape(&mut third, &mut buffers, &mut tape).is_ok());
-    assert_eq!(rt; tape.nodes(), [Node::String("u")].as_slice());
-    Ok(())
-}
-
-// A heap of each size refuses another growth, and then none. The answer is as usual, or for want of memory alone.
-fn refuses_growths(rt: &(impl AllocGlobal + Abort), input: &[u8], nodes: usize) -> Tested {
-    let mut refused = 0u32;
-    let mut filled = 0u32;
-    for units in 0..120usize {
-        let mut input = Vec::from_slice(rt.alloc(), input)?;
-        let heap = LocalHeap::new(rt.alloc(), 64 + units * 16)?;
-        let mut buffers = Buffers::empty(&heap, 8);
-        let mut tape = Tape::empty(&heap);
-        match fill_tape(input.as_mut_slice(), &mut buffers, &mut tape) {
-            Ok(()) => {
-                assert_eq!(rt; tape.nodes().len(), nodes);
-                filled = filled.saturating_add(1);
-            }
-            Err(e) => {
-                assert_eq!(rt; e, Error::generic(ErrorType::OutOfMemory));
-                assert!(rt; tape.is_empty());
-                refused = refused.saturating_add(1);
-            }
-        }
-    }
-    assert!(rt; refused > 10, "{refused} refusals");
-    assert!(rt; filled > 10, "{filled} tapes");
-    Ok(())
-}
-
-#[test]
-fn each_growth_is_refused(rt: HostRuntime) -> Tested {
-    refuses_growths(&rt, b"[[1,2],[3,[4]],5,6,7,8,9]", 13)
-}
-
-// The list of blocks grows too.
-#[test]
-fn each_growth_with_escapes_is_refused(rt: HostRuntime) -> Tested {
-    refuses_growths(&rt, b"[[1,\"\\n\"],{\"\\u0061\":[4]},5,6,7,8,9]", 13)
 }

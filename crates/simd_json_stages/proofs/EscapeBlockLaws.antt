@@ -13,7 +13,7 @@ use Rattle.simd_json_stages.proofs.CarryLaws.{filter-next}
 use Rattle.simd_json_stages.specs.EscapesAhead.{PlainFrom}
 
 -- Where no number of a range passes a test, the answer for the range is no.
-list_any-none_between : (p : ℕ → Bool) (a n : ℕ) → ((j : ℕ) → a ≤ j → j < a + n → p j ≡ false) → list_any p (range_with_len a n) ≡ false
+pub list_any-none_between : (p : ℕ → Bool) (a n : ℕ) → ((j : ℕ) → a ≤ j → j < a + n → p j ≡ false) → list_any p (range_with_len a n) ≡ false
 list_any-none_between p a n none =
     list_any_none p (range_with_len a n) (λ k d l.
     let inside : k < n = omega (arith, length-range_with_len a n) in
@@ -36,7 +36,7 @@ unfolding holds_backslash
 holds_backslash-at b i is = list_any-some_between (λ j. byte_at b j == backslash) (64 * (i / 64)) 64 i (omega arith) (omega arith) (ap (λ c. c == backslash) is)
 
 -- Numbers that do not pass add nothing.
-filter-stays : (p : ℕ → Bool) (m n : ℕ) → m ≤ n → ((k : ℕ) → m ≤ k → k < n → p k ≡ false) → filter p (range_with_len 0 n) ≡ filter p (range_with_len 0 m)
+pub filter-stays : (p : ℕ → Bool) (m n : ℕ) → m ≤ n → ((k : ℕ) → m ≤ k → k < n → p k ≡ false) → filter p (range_with_len 0 n) ≡ filter p (range_with_len 0 m)
 filter-stays p m n l none = let there : m + (n - m) ≡ n = omega arith in subst (λ k. filter p (range_with_len 0 k) ≡ filter p (range_with_len 0 m)) there (go (n - m) (omega arith))
   where
     go : (k : ℕ) → m + k ≤ n → filter p (range_with_len 0 (m + k)) ≡ filter p (range_with_len 0 m)

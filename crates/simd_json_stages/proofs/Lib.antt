@@ -15,3 +15,10 @@ mod EscapesPassed
 mod StringEnds
 mod ScalarPut
 mod StringPut
+mod Bits
+pub mod WholeFaults
+mod EncodingLaws
+mod BlockLaws
+mod BlockWords
+mod ScanLaws
+mod RestLaws

@@ -1,19 +1,24 @@
--- What a scan from left to right keeps of the bytes after it.
-use Rattle.std.specs.Prelude.{ℕ, List, Bool, not, ◌&&◌}
+-- What a scan from left to right keeps of the bytes before an index.
+use Rattle.std.specs.Prelude.{◌≡◌, ℕ, List, Bool, not, ◌&&◌}
 use Rattle.std.specs.List.{list_any, range_with_len}
 use Rattle.simd_json_parts.specs.Bytes.{is_control, byte_at}
 use Rattle.simd_json_parts.specs.Positions.{is_even, backslashes_before, real_quotes, is_inside, is_fresh}
-use Rattle.simd_json_stages.specs.declared.stage1.Carry.{Carry}
+
+-- the run of backslashes that ends just before index i has odd length
+abbrev pub is_escaped_at : List ℕ → ℕ → Bool
+is_escaped_at b i = not (is_even (backslashes_before b i))
+
+-- an odd number of real quotes stands before index i
+abbrev pub is_open_at : List ℕ → ℕ → Bool
+is_open_at b i = not (is_even (real_quotes b i))
 
 -- some byte below 0x20 is inside, of the first n
 abbrev pub has_control_before : List ℕ → ℕ → Bool
 has_control_before b n = list_any (λ k. is_inside b k && is_control (byte_at b k)) (range_with_len 0 n)
 
--- what is kept before the byte at index i
-abbrev pub carry_at : List ℕ → ℕ → Carry
-carry_at b i = record {
-  is_escaped = not (is_even (backslashes_before b i));
-  is_inside = not (is_even (real_quotes b i));
-  is_fresh = is_fresh b i;
-  has_control = has_control_before b i;
-}
+-- Byte by byte, these four are kept before index i.
+pub record IsKept (b : List ℕ) (i : ℕ) (escaped_now inside_now fresh_now control_so_far : Bool) : Type 0 where
+  pub escaped : escaped_now ≡ is_escaped_at b i
+  pub inside : inside_now ≡ is_open_at b i
+  pub fresh : fresh_now ≡ is_fresh b i
+  pub control : control_so_far ≡ has_control_before b i

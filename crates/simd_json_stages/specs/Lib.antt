@@ -1,5 +1,10 @@
 pub mod Carries
 pub mod EscapeBlocks
+pub mod Words
+pub mod Classes
+pub mod Blocks
+pub mod Stored
+pub mod Scans
 pub mod Left
 pub mod EscapesAhead
 pub mod Continued

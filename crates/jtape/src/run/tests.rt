@@ -1,7 +1,7 @@
 use super::*;
 use crate::settings::settings;
 use linked_list_allocator::LocalHeap;
-use simd_json::{ErrorType, Node, StaticNode};
+use simd_json::{DEFAULT_MAX_DEPTH, ErrorType, Node, StaticNode};
 use std::io;
 use std::test::Fail;
 
@@ -16,9 +16,13 @@ struct Ran {
 }
 
 fn run_over(rt: &impl AllocGlobal, input: &[u8]) -> Ran {
+    run_within(rt, DEFAULT_MAX_DEPTH, input)
+}
+
+fn run_within(rt: &impl AllocGlobal, depth: usize, input: &[u8]) -> Ran {
     let mut reader = Port::new(input);
     let mut writer = Port::new(Vec::new(rt.alloc()));
-    let answer = run(rt.alloc(), Mode::Tape, &mut reader, &mut writer);
+    let answer = run(rt.alloc(), Mode::Tape, depth, &mut reader, &mut writer);
     Ran {
         answer,
         has_ended: reader.ended(),
@@ -128,6 +132,32 @@ fn depth_is_limited(rt: HostRuntime) -> Tested {
     Ok(())
 }
 
+// The depth limit that is asked for holds, and no other.
+#[test]
+fn depth_is_as_asked(rt: HostRuntime) -> Tested {
+    let rows: [(usize, &[u8], Option<&[u8]>, &str); 5] = [
+        (7, b"7", Some(b"U64 7\n"), ""),
+        (0, b"7", Some(b"U64 7\n"), ""),
+        (0, b"[]", None, "DepthLimitExceeded at character 0 ('[')"),
+        (1, b"[[]]", None, "DepthLimitExceeded at character 1 ('[')"),
+        (2, b"[[]]", Some(b"Array 1 1\nArray 0 0\n"), ""),
+    ];
+    for (depth, input, lines, fault) in rows {
+        let ran = run_within(&rt, depth, input);
+        match (&ran.answer, lines) {
+            (Ok(true), Some(lines)) => assert_eq!(rt; ran.written.as_slice(), lines),
+            (Err(RunFault::Refused(e)), None) => {
+                assert_eq!(rt; format!(in rt.alloc(); "{e}")?.as_str(), fault);
+                assert_eq!(rt; ran.written.len(), 0);
+            }
+            _ => panic!(rt; "{input:?} within {depth}"),
+        }
+    }
+    let deep = run_within(&rt, 1025, nested(&rt, 1025)?.as_slice());
+    assert_eq!(rt; status(&deep.answer), 0);
+    Ok(())
+}
+
 // Gives its bytes one at a time, and fails after them if it is asked to.
 #[derive(Drop)]
 struct Slow<'a> {
@@ -161,7 +191,13 @@ fn slow_readers_are_read_to_their_end(rt: HostRuntime) -> Tested {
         fails: false,
     });
     let mut writer = Port::new(Vec::new(rt.alloc()));
-    let answer = run(rt.alloc(), Mode::Tape, &mut reader, &mut writer);
+    let answer = run(
+        rt.alloc(),
+        Mode::Tape,
+        DEFAULT_MAX_DEPTH,
+        &mut reader,
+        &mut writer,
+    );
     assert_eq!(rt; answer, Ok(true));
     assert!(rt; reader.ended() && !reader.failed());
     assert_eq!(rt;
@@ -178,7 +214,13 @@ fn failing_readers_print_nothing(rt: HostRuntime) -> Tested {
         fails: true,
     });
     let mut writer = Port::new(Vec::new(rt.alloc()));
-    let answer = run(rt.alloc(), Mode::Tape, &mut reader, &mut writer);
+    let answer = run(
+        rt.alloc(),
+        Mode::Tape,
+        DEFAULT_MAX_DEPTH,
+        &mut reader,
+        &mut writer,
+    );
     assert_eq!(rt; answer, Err(RunFault::Read));
     assert_eq!(rt; status(&answer), 3);
     assert!(rt; reader.failed() && !reader.ended());
@@ -214,7 +256,13 @@ fn failing_writers_are_reported(rt: HostRuntime) {
         for room in 0..6 {
             let mut reader = Port::new(b"[1]".as_slice());
             let mut writer = Port::new(Full { room, fails });
-            let answer = run(rt.alloc(), Mode::Tape, &mut reader, &mut writer);
+            let answer = run(
+                rt.alloc(),
+                Mode::Tape,
+                DEFAULT_MAX_DEPTH,
+                &mut reader,
+                &mut writer,
+            );
             assert_eq!(rt; answer, Err(RunFault::Write));
             assert_eq!(rt; status(&answer), 3);
             assert!(rt; reader.ended() && writer.failed());
@@ -236,20 +284,33 @@ fn statuses_are_returned(rt: HostRuntime) {
 
 #[test]
 fn words_are_understood(rt: HostRuntime) -> Tested {
-    let rows: [(&[&str], bool); 6] = [
-        (&["tape"], true),
-        (&[], false),
-        (&["tree"], false),
-        (&["tape", "8"], false),
-        (&[""], false),
-        (&["Tape"], false),
+    let rows: [(&[&str], Option<(Mode, usize)>); 16] = [
+        (&["tape"], Some((Mode::Tape, 1024))),
+        (&["tape", "8"], Some((Mode::Tape, 8))),
+        (&["tape", "007"], Some((Mode::Tape, 7))),
+        (&["tape", "0"], Some((Mode::Tape, 0))),
+        (
+            &["tape", "18446744073709551615"],
+            Some((Mode::Tape, usize::MAX)),
+        ),
+        (&["tape", "18446744073709551616"], None),
+        (&[], None),
+        (&["tree"], None),
+        (&["tree", "8"], None),
+        (&["tape", "1", "2"], None),
+        (&["tape", "x"], None),
+        (&["tape", "+1"], None),
+        (&["tape", "-1"], None),
+        (&["tape", ""], None),
+        (&[""], None),
+        (&["Tape"], None),
     ];
-    for (given, is_known) in rows {
+    for (given, wanted) in rows {
         let mut words = Vec::new(rt.alloc());
         for word in given {
             words.push(String::from_str(rt.alloc(), word)?)?;
         }
-        assert_eq!(rt; settings(words.as_slice()).is_some(), is_known);
+        assert_eq!(rt; settings(words.as_slice()), wanted, "{given:?}");
     }
     Ok(())
 }

@@ -1,9 +1,12 @@
 //! The tape: the nodes of one document.
-ghost use Rattle.std.specs.Prelude.{◌≡◌, ◌≤◌, ◌<◌, ◌↔◌, [], map, IsTrue, OnOk, OnErr, IfErr};
+ghost use Rattle.std.specs.Prelude.{◌≡◌, ◌≤◌, ◌<◌, ◌↔◌, [], map, IsTrue, OnOk, OnErr, IfOk, IfErr};
+ghost use Rattle.simd_json_parts.specs.Document.{null};
 ghost use Rattle.simd_json_parts.specs.Faults.{whole_fault};
+ghost use Rattle.simd_json_parts.specs.Listing.{listing};
 ghost use Rattle.simd_json_parts.specs.Nodes.{item_of};
 ghost use Rattle.simd_json_parts.specs.declared.error.ErrorType.{ErrorType};
 
+use crate::room::lengthen;
 use simd_json_parts::error::Result;
 pub use simd_json_parts::node::Node;
 use simd_json_parts::node::StaticNode;
@@ -35,6 +38,18 @@ impl<'input, A: Allocator> Model for Tape<'input, A> {
 }
 
 impl<'input, A: Allocator> Tape<'input, A> {
+    /// The tape of `null`: one node.
+    ///
+    /// Returns `OutOfMemory` where an allocation fails.
+    pub fn null(a: A) -> Result<Tape<'input, A>>
+        ensures tape { IfOk result (λ tape. tape.nodes ≡ listing null) }
+        ensures fault { IfErr result (λ e. e ≡ whole_fault ErrorType.OutOfMemory) }
+    {
+        let mut list = Vec::new(a);
+        list.push(Node::Static(StaticNode::Null))?;
+        Ok(Tape { list, used: 1 })
+    }
+
     // No node and no room: it takes no memory.
     pub(crate) fn empty(a: A) -> Tape<'input, A>
         ensures { result ≡ record { nodes = []; room = 0 } }
@@ -59,24 +74,32 @@ impl<'input, A: Allocator> Tape<'input, A> {
         &self.list[..self.used]
     }
 
+    /// Makes room for as many nodes in all, so for inputs of as many bytes, since no node takes less than a byte. Changes no
+    /// node, and gives up no room.
+    ///
+    /// Returns `OutOfMemory` where an allocation fails.
+    pub fn reserve(&mut self, nodes: usize) -> Result<()>
+        ensures nodes { self.new.nodes ≡ self.old.nodes }
+        ensures kept { self.old.room ≤ self.new.room }
+        ensures room { OnOk result (nodes ≤ self.new.room) }
+        ensures fault { IfErr result (λ e. (e ≡ whole_fault ErrorType.OutOfMemory) × (self.old.room < nodes)) }
+    {
+        lengthen(&mut self.list, nodes, Node::Static(StaticNode::Null))
+    }
+
     // No node, and the room that was there.
     pub(crate) fn clear(&mut self)
         ensures { self.new ≡ record { nodes = []; room = self.old.room } }
     {
         self.used = 0;
     }
+}
 
-    // Makes room for as many nodes in all. Returns `OutOfMemory` where an allocation fails. Changes no node.
-    pub(crate) fn reserve(&mut self, nodes: usize) -> Result<()>
-        ensures nodes { self.new.nodes ≡ self.old.nodes }
-        ensures kept { self.old.room ≤ self.new.room }
-        ensures room { OnOk result (nodes ≤ self.new.room) }
-        ensures full { OnErr result (self.old.room < nodes) }
-        ensures fault { IfErr result (λ e. e ≡ whole_fault ErrorType.OutOfMemory) }
+impl<'input, A: Allocator + Copy> Tape<'input, A> {
+    /// An empty tape for inputs of another lifetime. It takes no memory, and what room it has is not promised.
+    pub fn reset<'new>(self) -> Tape<'new, A>
+        ensures { result.nodes ≡ [] }
     {
-        if self.list.len() < nodes {
-            self.list.resize(nodes, Node::Static(StaticNode::Null))?;
-        }
-        Ok(())
+        Tape::empty(*self.list.allocator())
     }
 }

@@ -1,9 +1,15 @@
 use super::*;
-use linked_list_allocator::LocalHeap;
+use plain::PlainStage1Parse;
 use std::alloc::{AllocError, Global};
+use std::process::Abort;
 use std::test::Fail;
 
+mod growth;
 mod known;
+mod plain;
+mod random;
+
+type Tested = std::result::Result<(), Fail>;
 
 // A stretch of one byte between two strings.
 fn text(
@@ -23,21 +29,22 @@ fn text(
 }
 
 // The positions, and the blocks with a backslash, in lists that grow from nothing.
-fn found(alloc: Global, text: &[u8]) -> Result<(Vec<u32>, Vec<u32>)> {
-    if text.len() > u32::MAX as usize {
-        return Err(Error::generic(ErrorType::InputTooLarge));
-    }
+fn found_by<S: Stage1Parse>(alloc: Global, text: &[u8]) -> Result<(Vec<u32>, Vec<u32>)> {
     let mut positions = Vec::new(alloc);
     let mut blocks = Vec::new(alloc);
-    let found = PlainStage1Parse::find_structural_bits(text, &mut positions, &mut blocks)?;
+    let found = S::find_structural_bits(text, &mut positions, &mut blocks)?;
     positions.truncate(found.positions);
     blocks.truncate(found.escape_blocks);
     Ok((positions, blocks))
 }
 
+fn found(alloc: Global, text: &[u8]) -> Result<(Vec<u32>, Vec<u32>)> {
+    found_by::<BlockStage1Parse>(alloc, text)
+}
+
 // Tokens across the end of a block, after and round stretches of one byte.
 #[test]
-fn known_positions(rt: HostRuntime) -> std::result::Result<(), Fail> {
+fn known_positions(rt: HostRuntime) -> Tested {
     for (before, byte, len, after, want) in [
         (
             b"".as_slice(),
@@ -65,7 +72,7 @@ fn known_positions(rt: HostRuntime) -> std::result::Result<(), Fail> {
 }
 
 #[test]
-fn each_bracket_is_a_position(rt: HostRuntime) -> std::result::Result<(), Fail> {
+fn each_bracket_is_a_position(rt: HostRuntime) -> Tested {
     let mut text = text(rt.alloc(), b"", b'[', 100_000, b"")?;
     for _ in 0..100_000 {
         text.push(b']')?;
@@ -79,7 +86,7 @@ fn each_bracket_is_a_position(rt: HostRuntime) -> std::result::Result<(), Fail> 
 }
 
 #[test]
-fn known_escape_blocks(rt: HostRuntime) -> std::result::Result<(), Fail> {
+fn known_escape_blocks(rt: HostRuntime) -> Tested {
     for (before, byte, len, after, want) in [
         (
             b"{\"a\":\"no escape\"}".as_slice(),
@@ -107,7 +114,7 @@ fn known_escape_blocks(rt: HostRuntime) -> std::result::Result<(), Fail> {
 }
 
 #[test]
-fn known_faults(rt: HostRuntime) -> std::result::Result<(), Fail> {
+fn known_faults(rt: HostRuntime) -> Tested {
     for (before, byte, len, after, want) in [
         (b"".as_slice(), 0, 0, b"".as_slice(), ErrorType::Eof),
         (b"", b' ', 70, b"\t\n\r", ErrorType::Eof),
@@ -117,7 +124,12 @@ fn known_faults(rt: HostRuntime) -> std::result::Result<(), Fail> {
         (b"\"\n\"", 0, 0, b"", ErrorType::Syntax),
         (b"\"", b'\\', 65, b"\"", ErrorType::Syntax),
         (b"[\"", 0, 0, b"", ErrorType::Syntax),
-        (b"[\"\xff", 0, 0, b"", ErrorType::Syntax),
+        (b"[\xff]", 0, 0, b"", ErrorType::InvalidUtf8),
+        (b"[\"\xff", 0, 0, b"", ErrorType::InvalidUtf8),
+        (b"[\xff", b' ', 100, b"\"", ErrorType::InvalidUtf8),
+        (b"\xc3", 0, 0, b"", ErrorType::InvalidUtf8),
+        (b"\"", b'a', 62, b"\xc3\"", ErrorType::InvalidUtf8),
+        (b"\"", b'a', 63, b"\xa9\"", ErrorType::InvalidUtf8),
         (b"[1,] \"", 0, 0, b"", ErrorType::Syntax),
         (b"\"", b'a', 63, b"\n\"", ErrorType::Syntax),
         (b" \t\r\n", 0, 0, b"", ErrorType::Eof),
@@ -223,11 +235,10 @@ fn agrees_with_a_slow_reading(rt: HostRuntime) {
         ];
         for start in [0, 3] {
             let text = &text[start..];
-            assert_eq!(rt;
-                found(rt.alloc(), text),
-                found_slowly(rt.alloc(), text, 0),
-                "{text:?}"
-            );
+            let slowly = found_slowly(rt.alloc(), text, 0);
+            assert_eq!(rt; found(rt.alloc(), text), slowly, "{text:?}");
+            let plainly = found_by::<PlainStage1Parse>(rt.alloc(), text);
+            assert_eq!(rt; plainly, slowly, "{text:?}");
         }
     }
 }
@@ -246,82 +257,11 @@ fn agrees_with_a_slow_reading_across_blocks(rt: HostRuntime) {
             text[start + 3] = alphabet[n / 216 % 6];
             text[start + 4] = alphabet[n / 1296 % 6];
             let text = &text[..start + 5];
-            assert_eq!(rt;
-                found(rt.alloc(), text),
-                found_slowly(rt.alloc(), text, spaces),
-                "{text:?}"
-            );
+            let slowly = found_slowly(rt.alloc(), text, spaces);
+            assert_eq!(rt; found(rt.alloc(), text), slowly, "{text:?}");
+            let plainly = found_by::<PlainStage1Parse>(rt.alloc(), text);
+            assert_eq!(rt; plainly, slowly, "{text:?}");
         }
         text[start] = b' ';
     }
-}
-
-// A heap of each size refuses another growth, of the one list or of the other, or none. Where the last growth is
-// refused, there may be memory for lists with room for all from the start, and then no more is asked for.
-#[test]
-fn each_growth_refused(rt: HostRuntime) -> std::result::Result<(), Fail> {
-    for (before, byte, len, want, want_refused) in [
-        (
-            b"".as_slice(),
-            b',',
-            200,
-            Found {
-                positions: 200,
-                escape_blocks: 0,
-            },
-            [(0, 0), (16, 0), (32, 0), (64, 0), (128, 0)].as_slice(),
-        ),
-        (
-            b"\"",
-            b'\\',
-            2558,
-            Found {
-                positions: 1,
-                escape_blocks: 40,
-            },
-            &[(0, 0), (16, 0), (16, 16), (16, 32)],
-        ),
-    ] {
-        let text = text(rt.alloc(), before, byte, len, before)?;
-        assert!(rt; text.len() <= u32::MAX as usize);
-        let mut refused: Vec<(usize, usize)> = Vec::new(rt.alloc());
-        let mut whole = 0u32;
-        let mut kept = 0u32;
-        for size in 0..300usize {
-            let heap = LocalHeap::new(rt.alloc(), 16 * size)?;
-            let mut positions = Vec::new(&heap);
-            let mut blocks = Vec::new(&heap);
-            match PlainStage1Parse::find_structural_bits(&text, &mut positions, &mut blocks) {
-                Ok(found) => {
-                    assert_eq!(rt; found, want);
-                    whole = whole.saturating_add(1);
-                }
-                Err(e) => {
-                    assert_eq!(rt; e, Error::generic(ErrorType::OutOfMemory));
-                    let lengths = (positions.len(), blocks.len());
-                    if refused.last() != Some(&lengths) {
-                        refused.push(lengths)?;
-                    }
-                }
-            }
-            drop(positions);
-            drop(blocks);
-            let mut positions = Vec::new(&heap);
-            let mut blocks = Vec::new(&heap);
-            if positions.resize(want.positions, 0).is_ok()
-                && blocks.resize(want.escape_blocks, 0).is_ok()
-            {
-                let answer = PlainStage1Parse::find_structural_bits(
-                    &text,
-                    &mut positions,
-                    &mut blocks,
-                );
-                assert_eq!(rt; answer, Ok(want));
-                kept = kept.saturating_add(1);
-            }
-        }
-        assert_eq!(rt; refused.as_slice(), want_refused);
-        assert!(rt; 0 < whole && whole < kept, "{whole} and {kept}");
-    }
-    Ok(())
 }

@@ -1,21 +1,15 @@
 use super::*;
-use crate::stage1::{PlainStage1Parse, Stage1Parse};
+use crate::stage1::{BlockStage1Parse, Stage1Parse};
 use simd_json_parts::error::{Error, ErrorType};
 use simd_json_parts::node::StaticNode;
 use std::alloc::Global;
 use std::test::Fail;
 
-// The tape of an input, by the plain first stage.
+// The tape of an input, by the first stage.
 fn tape_of<'de>(alloc: Global, input: &'de mut [u8], max_depth: usize) -> Result<Vec<Node<'de>>> {
-    if input.len() > u32::MAX as usize {
-        return Err(Error::generic(ErrorType::InputTooLarge));
-    }
     let mut positions = Vec::new(alloc);
     let mut blocks = Vec::new(alloc);
-    let found = PlainStage1Parse::find_structural_bits(input, &mut positions, &mut blocks)?;
-    if std::str::from_utf8(input).is_err() {
-        return Err(Error::generic(ErrorType::InvalidUtf8));
-    }
+    let found = BlockStage1Parse::find_structural_bits(input, &mut positions, &mut blocks)?;
     let mut stack = Vec::new(alloc);
     stack.resize(found.positions.min(max_depth), StackState::default())?;
     let mut nodes = Vec::new(alloc);

@@ -1,8 +1,9 @@
 use Rattle.std.proofs.Common.{◌∙◌, ap, sym, subst, arith, take, length, inl, map}
 use Rattle.simd_json_parts.specs.Nodes.{item_of}
 use Rattle.simd_json.specs.Parsed.{IsParsed, IsRefused}
-use Rattle.simd_json.proofs.ParseLaws.{some-positions, written-over, tape-unused, tape-filled, parsed, tape-parsed, refused-token}
+use Rattle.simd_json.proofs.ParseLaws.{written-over, tape-unused, tape-filled, parsed, tape-parsed, refused-token}
 use Rattle.simd_json.proofs.parse.build.Goals as goal
+use Rattle.simd_json_stages.proofs.WholeFaults.{some-positions}
 use Rattle.simd_json_stages.proofs.Exits.{passed-on}
 
 pub build_tape-requires-clause-some : goal.build_tape-requires-clause-some
@@ -23,15 +24,17 @@ invariant_of-tape g c =
 
 pub returns-in_err-tape-inside-clause-fault : goal.returns-in_err-tape-inside-clause-fault
 returns-in_err-tape-inside-clause-fault g c =
-    passed-on c.from_residual.result _ _ c.from_residual.ensures.1
-    (subst (λ limit. IsRefused c.args.s.now limit c.in_err-tape-inside.field-0.0) (ap (λ r. r.limit) c.buffers.view_is)
-    (refused-token c.args.s.now c.buffers.inside.max_depth _ c.requires.positions.1 c.in_err-tape-inside.ensures.refused.1))
+    passed-on c.from_residual.result _ _ c.from_residual.ensures.1 (
+      subst (λ limit. IsRefused c.args.s.now limit c.in_err-tape-inside.field-0.0) (ap (λ r. r.limit) c.buffers.view_is)
+          (refused-token c.args.s.now c.buffers.inside.max_depth _ c.requires.positions.1 c.in_err-tape-inside.ensures.refused.0 c.in_err-tape-inside.ensures.refused.1),
+      c.in_err-tape-inside.ensures.refused.0,
+    )
 
 pub invariant_of-tape-2 : goal.invariant_of-tape-2
 invariant_of-tape-2 g c =
     let list = c.tape.inside.list in
     let same = c.in_ok-tape-inside.ensures.kept ∙ ap length c.as_mut_slice-2.ensures.value in
-    tape-filled list.items c.build_tape.new.nodes c.in_ok-tape-inside.field-0 list.len list.ok.0 same (omega (arith, same, c.in_ok-tape-inside.ensures.used, ap length (ap (take c.buffers.inside.used) c.deref.ensures.value ∙ ap (λ r. r.positions) c.buffers.view_is ∙ c.requires.positions.0), c.requires.rooms.1, ap (λ t. t.room) c.tape.view_is))
+    tape-filled list.items c.build_tape.new.nodes c.in_ok-tape-inside.field-0 list.len list.ok.0 same (omega (arith, same, c.in_ok-tape-inside.ensures.used, ap length (ap (take c.buffers.inside.used) c.deref.ensures.value ∙ ap (λ r. r.positions) c.buffers.view_is ∙ c.requires.positions.0), c.requires.nodes, ap (λ t. t.room) c.tape.view_is))
     (tape-parsed c.args.s.now c.buffers.inside.max_depth _ (parsed c.args.s.now c.buffers.inside.max_depth _ c.requires.positions.1 c.in_ok-tape-inside.ensures.built))
 
 pub returns-clause-tape : goal.returns-clause-tape

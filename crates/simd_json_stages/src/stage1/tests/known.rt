@@ -124,7 +124,7 @@ fn refused_inputs_have_positions(rt: HostRuntime) -> std::result::Result<(), Fai
         (b"\"a\" \"b\"", &[0, 4]),
         (b"\"a\"x", &[0, 3]),
         (b"[tru,[[", &[0, 1, 4, 5, 6]),
-        (b"[\xff]", &[0, 1, 2]),
+        (b"[\xc3\xbf]", &[0, 1, 3]),
     ] {
         let (positions, _) = found(rt.alloc(), text)?;
         assert_eq!(rt; positions.as_slice(), want, "{text:?}");

@@ -1,0 +1,72 @@
+#!/bin/sh
+# The benchmark: `make bench` calls it. From the top of the repository: sh bench/run.sh [FILE..]
+# Times the texts that bench/texts.py makes and each FILE, and prints two tables. ROUNDS says how often. With SAVE=1 the
+# tables are put into docs/SPEED.md, between its marks, and docs/speed.svg is drawn; without, build/bench has the chart.
+# It installs nothing: a parser whose package is absent is left out, and named.
+set -eu
+cd "$(dirname "$0")/.."
+OUT=$PWD/build/bench
+ROUNDS=${ROUNDS:-21}
+KIT=$(dirname "$(dirname "$(readlink -f "$(command -v rt)")")")
+mkdir -p "$OUT"
+
+say() { echo "bench: $*" >&2; }
+
+levels=x86-64-v2
+if grep -qw avx2 /proc/cpuinfo && grep -qw bmi2 /proc/cpuinfo; then
+    levels="$levels x86-64-v3"
+else
+    say "left out: level x86-64-v3, which this processor lacks"
+fi
+
+# Ours, at each level: a static library, and that as a shared one, so that both fit into one process.
+parses=
+scans=
+for level in $levels; do
+    say "proving and building the library at $level"
+    (cd crates/simd_json_bench && rt lib --cpu "$level") > "$OUT/$level.log" || { tail -n 20 "$OUT/$level.log" >&2; exit 1; }
+    cp crates/simd_json_bench/out/libsimd_json_bench.a "$OUT/$level.a"
+    cc -shared -o "$OUT/$level.so" -Wl,--whole-archive "$OUT/$level.a" -Wl,--no-whole-archive \
+        "$KIT/c/liblibc_c.a" "$KIT/c/libos_c.a" -Wl,-Bsymbolic
+    parses="$parses parse-${level#x86-64-}=$OUT/$level.so"
+    scans="$scans scan-${level#x86-64-}=$OUT/$level.so"
+done
+
+# The others, as far as they are installed. The harness finds their headers by itself.
+libraries=
+for library in simdjson yajl; do
+    if echo 'int main() {}' | c++ -x c++ - -o "$OUT/probe" -l$library 2> /dev/null; then libraries="$libraries -l$library"; fi
+done
+# shellcheck disable=SC2086
+c++ -std=c++20 -O3 -march=native -DNDEBUG -DRAPIDJSON_SSE42 bench/harness.cpp -o "$OUT/harness" $libraries -ldl
+
+REGISTRY=/usr/share/cargo/registry
+serde=
+if command -v cargo > /dev/null && ls -d $REGISTRY/serde_json-* > /dev/null 2>&1; then
+    mkdir -p "$OUT/serde_json"
+    cp bench/serde_json/Cargo.toml bench/serde_json/lib.rs "$OUT/serde_json/"
+    (cd "$OUT/serde_json" && RUSTFLAGS='-C target-cpu=native' cargo build --release --offline -q \
+        --config 'source.crates-io.replace-with="system"' --config "source.system.directory=\"$REGISTRY\"")
+    serde=serde_json=$OUT/serde_json/target/release/libserde_json_entry.so
+else
+    say "left out: serde_json, which is not installed"
+fi
+
+python3 bench/texts.py "$OUT/texts"
+say "timing"
+# shellcheck disable=SC2086
+"$OUT/harness" "$ROUNDS" "$OUT"/texts/kinds/*.json "$@" -- simdjson stage1 rapidjson yajl $serde $parses $scans > "$OUT/kinds.tsv"
+# shellcheck disable=SC2086
+"$OUT/harness" "$ROUNDS" "$OUT"/texts/sizes/*.json -- simdjson $parses > "$OUT/sizes.tsv"
+
+python3 bench/tables.py "$OUT/kinds.tsv" "$OUT/sizes.tsv" > "$OUT/tables.md"
+python3 bench/chart.py "$OUT/sizes.tsv" > "$OUT/speed.svg"
+cat "$OUT/tables.md"
+if [ "${SAVE:-}" = 1 ]; then
+    python3 bench/tables.py "$OUT/kinds.tsv" "$OUT/sizes.tsv" docs/SPEED.md
+    cp "$OUT/speed.svg" docs/speed.svg
+    say "docs/SPEED.md and docs/speed.svg have these results"
+else
+    say "the chart is $OUT/speed.svg; SAVE=1 puts both into docs/"
+fi
+say "what is left out comes with libsimdjson-dev, rapidjson-dev, libyajl-dev, librust-serde-json-dev and cargo (Debian)"

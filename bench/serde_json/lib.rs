@@ -1,0 +1,15 @@
+//! The entry through which the benchmark times serde_json.
+
+/// Reads a text as a `Value`, which is let go again. Negative where it was refused.
+///
+/// # Safety
+///
+/// `text` has `len` bytes.
+#[no_mangle]
+pub unsafe extern "C" fn serde_json_value(text: *const u8, len: usize) -> i64 {
+    let text = std::slice::from_raw_parts(text, len);
+    match serde_json::from_slice::<serde_json::Value>(text) {
+        Ok(_) => 0,
+        Err(_) => -1,
+    }
+}

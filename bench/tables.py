@@ -1,0 +1,105 @@
+"""tables.py KINDS.tsv SIZES.tsv [DOCUMENT]: what the harness measured, as two tables in Markdown.
+
+With a document, they stand there between the marks `<!-- results -->` and `<!-- end of results -->`; else they are printed."""
+import math
+import re
+import sys
+from pathlib import Path
+
+# The generated texts come first, in this order.
+KINDS = ["tweets", "tweets_ascii", "catalogue", "numbers", "escapes", "long_strings", "deep", "200_bytes"]
+
+
+class Results:
+    """`ns[path of a text, contender]`: the nanoseconds of a byte at the fastest round, or None where it was refused."""
+
+    def __init__(self, path):
+        self.sizes, self.parts, self.ns = {}, {}, {}
+        for line in Path(path).read_text().splitlines():
+            text, size, part, contender, ns = line.split("\t")
+            self.sizes[text] = int(size)
+            self.parts[contender] = part
+            self.ns[text, contender] = None if ns == "-" else float(ns)
+
+    def contenders(self, part, ours):
+        """Those of simd_json, or all others."""
+        return [c for c, of in self.parts.items() if of == part and c.startswith("simd_json ") == ours]
+
+    def has_simdjson(self):
+        return any(c.startswith("simdjson ") for c in self.parts)
+
+    def base(self, text, part):
+        """The fastest of simdjson's at this text. Where simdjson is absent, the fastest of all."""
+        of_part = [c for c, of in self.parts.items() if of == part and self.ns[text, c] is not None]
+        simdjson = [c for c in of_part if c.startswith("simdjson ")]
+        return min((self.ns[text, c] for c in simdjson or of_part), default=None)
+
+    def ratio(self, text, contender):
+        """How much faster than that, as a factor."""
+        ns = self.ns[text, contender]
+        return ns and self.base(text, self.parts[contender]) / ns
+
+
+def shown_size(size):
+    for unit, name in ((10**6, "MB"), (10**3, "kB")):
+        if size >= unit:
+            return f"{size / unit:g} {name}"
+    return f"{size} B"
+
+
+def shown(number):
+    return "-" if number is None else f"{number:.2f}"
+
+
+def rows(head, lines):
+    return "\n".join("| " + " | ".join(line) + " |" for line in [head, ["---"] * len(head), *lines])
+
+
+def mean(ratios):
+    return math.exp(sum(map(math.log, ratios)) / len(ratios)) if None not in ratios else None
+
+
+def table_of_kinds(results):
+    kinds = {t: Path(t).stem for t in results.sizes if "/texts/kinds/" in t}
+    texts = sorted(results.sizes, key=lambda t: KINDS.index(kinds[t]) if t in kinds else len(KINDS))
+    head = ["", *(kinds[t].replace("_", " ") if t in kinds else Path(t).name for t in texts), "geometric mean"]
+    lines = []
+    for part in ("parse", "scan"):
+        for contender in results.contenders(part, ours=False) + results.contenders(part, ours=True):
+            ratios = [results.ratio(t, contender) for t in texts]
+            lines.append([contender, *map(shown, [*ratios, mean(ratios)])])
+    return rows(head, lines)
+
+
+def table_of_sizes(results):
+    ours = results.contenders("parse", ours=True)
+    base = "simdjson DOM" if results.has_simdjson() else "the fastest"
+    head = ["size", f"{base}: ns per byte", *(f"{c.removeprefix('simd_json ')}: ns per byte (speed)" for c in ours)]
+    lines = [
+        [shown_size(size), shown(results.base(t, "parse")), *(f"{shown(results.ns[t, c])} ({shown(results.ratio(t, c))})" for c in ours)]
+        for t, size in results.sizes.items()
+    ]
+    return rows(head, lines)
+
+
+def main():
+    kinds, sizes = Results(sys.argv[1]), Results(sys.argv[2])
+    whole, scan = ("simdjson's best DOM parse", "its best stage 1") if kinds.has_simdjson() else ("the fastest", "the fastest")
+    text = (
+        f"Speed at the fastest round, as a multiple: of a whole parse over {whole}, of a scan over {scan}.\n\n"
+        f"{table_of_kinds(kinds)}\n\n"
+        f"Cost against size, over tweets; in brackets the speed over {whole}.\n\n"
+        f"{table_of_sizes(sizes)}\n"
+    )
+    if len(sys.argv) == 3:
+        print(text, end="")
+        return
+    document = Path(sys.argv[3])
+    marked = re.compile(r"(<!-- results -->\n).*(<!-- end of results -->)", re.DOTALL)
+    if not marked.search(document.read_text()):
+        sys.exit(f"{document} has no marks for the results")
+    document.write_text(marked.sub(lambda m: f"{m[1]}\n{text}\n{m[2]}", document.read_text()))
+
+
+if __name__ == "__main__":
+    main()

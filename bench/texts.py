@@ -1,0 +1,143 @@
+"""texts.py FOLDER: writes the texts of the benchmark, the same on every machine.
+
+FOLDER/kinds has one text of each kind, FOLDER/sizes tweets of about 1 kB, 4 kB and so on to 64 MB."""
+import itertools
+import json
+import random
+import sys
+from pathlib import Path
+
+# Bytes of a text of one kind: more than the caches near a core hold.
+KIND_BYTES = 1_000_000
+SIZES = [n * unit for unit in (1000, 1_000_000) for n in (1, 4, 16, 64, 256)][:-1]
+
+LATIN = """about after answer before between bread bridge carry city cloud could every field first garden great harbour
+house light little market morning mountain never night other paper people place quick river school second should small
+station stone street summer table their there though tower train under water where while window winter world write""".split()
+OTHER = "海の家 東京駅 ありがとう 朝ごはん 読む 雨 本日 привет река книга été déjà façade größer über señal 😀 🎉 🚆 ☕".split()
+
+
+class Source:
+    """What the texts are drawn from. Only `random()` is asked, whose numbers are the same in every Python."""
+
+    def __init__(self, seed):
+        self.random = random.Random(seed).random
+
+    def below(self, n):
+        return int(self.random() * n)
+
+    def one_of(self, choices):
+        return choices[self.below(len(choices))]
+
+    def words(self, count, others=0.0):
+        return " ".join(self.one_of(OTHER if self.random() < others else LATIN) for _ in range(count))
+
+
+def tweet(s, others):
+    number = 500_000_000_000_000_000 + s.below(10**17)
+    user = {
+        "id": s.below(10**9),
+        "name": s.words(2, others),
+        "screen_name": s.one_of(LATIN) + str(s.below(1000)),
+        "location": s.words(1, others),
+        "followers_count": s.below(5000),
+        "friends_count": s.below(900),
+        "verified": s.below(50) == 0,
+        "url": None if s.below(3) else f"http://example.org/{s.below(10**6)}",
+    }
+    tags = [{"text": s.one_of(LATIN), "indices": [i * 9, i * 9 + 7]} for i in range(s.below(3))]
+    return {
+        "created_at": f"Sun Aug 31 00:{s.below(60):02}:{s.below(60):02} +0000 2014",
+        "id": number,
+        "id_str": str(number),
+        "text": s.words(8 + s.below(12), others),
+        "source": '<a href="http://example.org/app">app</a>',
+        "user": user,
+        "entities": {"hashtags": tags, "urls": []},
+        "coordinates": None,
+        "retweet_count": s.below(100),
+        "favorited": False,
+        "lang": s.one_of(["ja", "ru", "fr", "en"]),
+    }
+
+
+def product(s):
+    prices = [{"amount": 100 + s.below(9000), "area": 205705993 + i, "seat": None} for i in range(1 + s.below(4))]
+    return {
+        "id": 138586341 + s.below(10**6),
+        "name": s.words(3),
+        "description": None,
+        "topics": [324846098 + s.below(10) for _ in range(s.below(5))],
+        "prices": prices,
+        "start": 1372701600000 + s.below(10**9),
+    }
+
+
+def number(s):
+    return s.one_of([s.below(10), s.below(10**6), -s.below(10**12), s.random() * 180 - 90, s.random(), s.random() * 1e-9])
+
+
+def paragraph(s):
+    lines = [s.words(12) for _ in range(5 + s.below(30))]
+    return {"name": s.words(2), "text": ".\n".join(lines) + ' "end"'}
+
+
+def chain(s):
+    value = s.below(100)
+    for _ in range(100):
+        value = [value] if s.below(2) else {"next": value}
+    return value
+
+
+def compact(value, ascii_only=False):
+    return json.dumps(value, separators=(",", ":"), ensure_ascii=ascii_only)
+
+
+def filled(size, elements):
+    """A list of the first elements, of about as many bytes."""
+    parts, length = [], 0
+    while length < size or not parts:
+        parts.append(next(elements))
+        length += len(parts[-1].encode()) + 1
+    return "[" + ",".join(parts) + "]"
+
+
+def kinds():
+    def of(element, seed):
+        s = Source(seed)
+        return filled(KIND_BYTES, iter(lambda: element(s), None))
+
+    yield "tweets", of(lambda s: compact(tweet(s, 0.5)), 1)
+    yield "tweets_ascii", of(lambda s: compact(tweet(s, 0.0)), 2)
+    yield "catalogue", of(lambda s: json.dumps(product(s), indent=4), 3)
+    yield "numbers", of(lambda s: compact([number(s) for _ in range(20)]), 4)
+    yield "escapes", of(lambda s: compact(tweet(s, 0.5), ascii_only=True), 5)
+    yield "long_strings", of(lambda s: compact(paragraph(s)), 6)
+    yield "deep", of(lambda s: compact(chain(s)), 7)
+    s = Source(8)
+    short = {"id": s.below(10**6), "name": s.words(2), "tags": [s.one_of(LATIN) for _ in range(6)], "price": 12.5}
+    short["text"] = s.words(20)[: 200 - len(compact(short | {"text": ""}))]
+    yield "200_bytes", compact(short)
+
+
+def tweets_of(size):
+    """A list of tweets of exactly that size: the last one's text is as long as it takes. Beyond 4 MB tweets come again."""
+    s = Source(9)
+    tweets = [compact(tweet(s, 0.5)) for _ in range(min(size // 600, 5000) + 1)]
+    last = tweet(s, 0.0) | {"text": ""}
+    front = filled(size - 1900, itertools.cycle(tweets))[:-1] + "," if size > 1900 else "["
+    last["text"] = s.words(500)[: size - len(front.encode()) - len(compact(last)) - 1]
+    return front + compact(last) + "]"
+
+
+def main():
+    folder = Path(sys.argv[1])
+    for name in ("kinds", "sizes"):
+        (folder / name).mkdir(parents=True, exist_ok=True)
+    for name, text in kinds():
+        (folder / "kinds" / f"{name}.json").write_bytes(text.encode())
+    for i, size in enumerate(SIZES):
+        (folder / "sizes" / f"{i}.json").write_bytes(tweets_of(size).encode())
+
+
+main()

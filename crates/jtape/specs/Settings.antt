@@ -1,0 +1,22 @@
+-- What the words after the program's name ask for.
+use Rattle.std.specs.Prelude.{ℕ, ◌^◌, List, [], ◌∷◌, length, codes, bytes_eq, Option, Some, None, option_map, option_and_then, ◌&&◌, nat_lt, if◌then◌else◌}
+use Rattle.std.specs.Char.{is_ascii_digit}
+use Rattle.std.specs.List.{list_all}
+use Rattle.std.specs.Str.Parse.{digits_value}
+use Rattle.jtape.specs.declared.settings.Mode.{Mode}
+use Rattle.jtape.specs.declared.settings.Mode.TheVariants.{Tape}
+use Rattle.simd_json_parts.specs.Limits.{default_max_depth}
+
+abbrev pub mode_of : List ℕ → Option Mode
+mode_of word = if bytes_eq word (codes "tape") then Some Tape else None
+
+-- one digit or more, of a number below 2^64
+abbrev pub depth_of : List ℕ → Option ℕ
+depth_of word =
+    if list_all is_ascii_digit word && nat_lt 0 (length word) && nat_lt (digits_value 10 word) (2 ^ 64) then Some (digits_value 10 word) else None
+
+-- a mode, and a depth limit after it or not
+abbrev pub settings_of : List (List ℕ) → Option (Mode × ℕ)
+settings_of (mode ∷ []) = option_map (λ m. (m, default_max_depth)) (mode_of mode)
+settings_of (mode ∷ depth ∷ []) = option_and_then (λ m. option_map (λ d. (m, d)) (depth_of depth)) (mode_of mode)
+settings_of _ = None

@@ -1,0 +1,198 @@
+-- How a parse ends: with a tape, with the fault of a token or of the whole input, or for want of memory.
+use Rattle.std.proofs.Common.{◌≡◌, ◌∙◌, ap, sym, subst, ◌<◌, ◌≤◌, ℕ, List, [], length, Bool, true, false, not, Some, None, Option, Ok, Err, refl, arith, cond, Result, min, ◌*◌, ◌⊎◌, inl, inr, IsUtf8, is_some, nat_lt, nat_eq, take}
+use Rattle.std.specs.Result.{IsErrAnd, IfErr, IfOk, OnOk, OnErr, result_err}
+use Rattle.std.specs.Str.{is_utf8}
+use Rattle.simd_json_parts.proofs.Positions.ScannedInputs.{fault-by_size, scanned}
+use Rattle.std.proofs.lemmas.List.{length-take-le}
+use Rattle.std.proofs.lemmas.Option.{none-some}
+use Rattle.std.proofs.lemmas.Str.{IsUtf8-from_is_utf8}
+use Rattle.std.proofs.lemmas.Bool.{ltb-false, ltb-true, lt-ltb, false≢true}
+use Rattle.simd_json_parts.specs.Faults.{whole_fault}
+use Rattle.simd_json_parts.specs.InputFaults.{input_fault, scan_fault, has_bad_string}
+use Rattle.simd_json_parts.specs.Limits.{max_length}
+use Rattle.simd_json_parts.specs.Nodes.{Item}
+use Rattle.simd_json_parts.specs.Positions.{positions}
+use Rattle.simd_json_parts.specs.declared.error.Error.{Error}
+use Rattle.simd_json_parts.specs.declared.error.ErrorType.{ErrorType}
+use Rattle.simd_json_parts.specs.declared.error.ErrorType.TheVariants.{InputTooLarge, InvalidUtf8, Syntax, Eof, OutOfMemory}
+use Rattle.simd_json_stages.specs.Refusals.{IsTokenFault}
+use Rattle.simd_json.specs.Parsed.{IsParse, IsParsed, IsRefused, LacksMemory}
+use Rattle.simd_json.specs.Rooms.{KeepsRooms, Rooms, room}
+use Rattle.simd_json.proofs.ParseLaws.{fault-answered, few-positions}
+
+-- ---- the character of a fault
+
+-- what is true of each fault of a whole input
+in_order : (t : Option Error → Bool) (p q r s : Bool) (e f g h : Error) → t None ≡ true → t (Some e) ≡ true → t (Some f) ≡ true → t (Some g) ≡ true → t (Some h) ≡ true
+    → t (cond p (Some e) (cond q (Some f) (cond r (Some g) (cond s (Some h) None)))) ≡ true
+in_order t true q r s e f g h n x y z w = x
+in_order t false true r s e f g h n x y z w = y
+in_order t false false true s e f g h n x y z w = z
+in_order t false false false true e f g h n x y z w = w
+in_order t false false false false e f g h n x y z w = n
+
+whole-passes : (t : Option Error → Bool) (b : List ℕ) (e : Error) → input_fault b ≡ Some e → t None ≡ true → t (Some (whole_fault InputTooLarge)) ≡ true → t (Some (whole_fault InvalidUtf8)) ≡ true
+    → t (Some (whole_fault Syntax)) ≡ true → t (Some (whole_fault Eof)) ≡ true → t (Some e) ≡ true
+whole-passes t b e is n x y z w =
+    subst (λ o. t o ≡ true) (sym (fault-by_size b) ∙ is)
+    (in_order t (nat_lt max_length (length b)) (not (is_utf8 b)) (has_bad_string b) (nat_eq (length (positions b)) 0) _ _ _ _ n x y z w)
+
+abbrev has_no_character : Option Error → Bool
+has_no_character None = true
+has_no_character (Some e) = not (is_some e.character)
+
+abbrev is_of_memory : ErrorType → Bool
+is_of_memory OutOfMemory = true
+is_of_memory _ = false
+
+abbrev is_not_of_memory : Option Error → Bool
+is_not_of_memory None = true
+is_not_of_memory (Some e) = not (is_of_memory e.error)
+
+not-true : (t : Bool) → not t ≡ true → t ≡ false
+not-true true is = sym is
+not-true false is = refl
+
+-- it has no character
+pub whole-character : (b : List ℕ) (e : Error) → input_fault b ≡ Some e → is_some e.character ≡ false
+whole-character b e is = not-true (is_some e.character) (whole-passes has_no_character b e is refl refl refl refl refl)
+
+-- it is not for want of memory
+pub whole-memory : (b : List ℕ) (e : Error) → input_fault b ≡ Some e → e ≡ whole_fault OutOfMemory → ⊥
+whole-memory b e is lacks = false≢true (sym (not-true (is_of_memory e.error) (whole-passes is_not_of_memory b e is refl refl refl refl refl)) ∙ ap (λ x. is_of_memory x.error) lacks)
+
+pub token-character : (e : Error) → IsTokenFault e → is_some e.character ≡ true
+token-character e (kind, i, byte, is) = ap (λ x. is_some x.character) is
+
+pub token-memory : (e : Error) → IsTokenFault e → e ≡ whole_fault OutOfMemory → ⊥
+token-memory e token lacks = false≢true (sym (ap (λ x. is_some x.character) lacks) ∙ token-character e token)
+
+-- ---- the four ends
+
+pub parse-done : (b : List ℕ) (limit room : ℕ) (nodes : List Item) → IsParsed b limit nodes → length nodes ≤ length (positions b) → IsParse b limit room None nodes (positions b)
+parse-done b limit room nodes p l = record { parsed = p; refused = tt; empty = tt; found = refl; few = (l, few-positions b) }
+
+pub parse-token : (b : List ℕ) (limit room : ℕ) (e : Error) → IsRefused b limit e → IsTokenFault e → IsParse b limit room (Some e) [] (positions b)
+parse-token b limit room e refused token = record {
+  parsed = tt;
+  refused = inl refused;
+  empty = refl;
+  found = ap (λ t. cond t (positions b) []) (sym (token-character e token));
+  few = (omega arith, few-positions b);
+}
+
+pub parse-whole : (b : List ℕ) (limit room : ℕ) (e : Error) → input_fault b ≡ Some e → IsParse b limit room (Some e) [] []
+parse-whole b limit room e is = record {
+  parsed = tt;
+  refused = inl (record { answered = fault-answered b limit e is; told = inl is });
+  empty = refl;
+  found = ap (λ t. cond t (positions b) []) (sym (whole-character b e is));
+  few = (omega arith, few-positions b);
+}
+
+pub parse-lacking : (b : List ℕ) (limit room : ℕ) (e : Error) → LacksMemory b e → room < length b → IsParse b limit room (Some e) [] []
+parse-lacking b limit room e lacks l = record {
+  parsed = tt;
+  refused = inr (lacks, l);
+  empty = refl;
+  found = ap (λ x. cond (is_some x.character) (positions b) []) (sym lacks.0);
+  few = (omega arith, few-positions b);
+}
+
+-- ---- as code leaves them
+
+pub parse-at : {b : List ℕ} {limit room : ℕ} (fault fault' : Option Error) (nodes nodes' : List Item) (listed listed' : List ℕ)
+    → fault' ≡ fault → nodes' ≡ nodes → listed' ≡ listed → IsParse b limit room fault nodes listed → IsParse b limit room fault' nodes' listed'
+parse-at {b} {limit} {room} fault fault' nodes nodes' listed listed' f n l p =
+    subst (λ f. IsParse b limit room f nodes' listed') (sym f) (subst (λ n. IsParse b limit room fault n listed') (sym n) (subst (λ l. IsParse b limit room fault nodes l) (sym l) p))
+
+pub err-of : {A : Type 0} (r : Result A Error) (e : Error) → IsErrAnd r (λ x. x ≡ e) → result_err r ≡ Some e
+err-of (Ok x) e is = absurd is
+err-of (Err x) e is = ap Some is
+
+pub on-err : {A E : Type 0} (r : Result A E) (P : Type 0) → P → OnErr r P
+on-err (Ok x) P p = tt
+on-err (Err e) P p = p
+
+less-min-left : (a b n : ℕ) → a < n → min a b < n
+less-min-left a b n l = omega (arith, l)
+
+less-min-right : (a b n : ℕ) → b < n → min a b < n
+less-min-right a b n l = omega (arith, l)
+
+-- nothing is listed, and there is no node, where the first stage refuses
+pub parse-unlisted : {A : Type 0} (r : Result A Error) (b : List ℕ) (limit tape_room room : ℕ) (e : Error) (nodes : List Item) (listed : List ℕ) → IsErrAnd r (λ x. x ≡ e) → nodes ≡ [] → listed ≡ []
+    → (input_fault b ≡ Some e) ⊎ (LacksMemory b e × (room < length b)) → IsParse b limit (min tape_room room) (result_err r) nodes listed
+parse-unlisted r b limit tape_room room e nodes listed err n l (inl whole) = parse-at (Some e) (result_err r) [] nodes [] listed (err-of r e err) n l (parse-whole b limit (min tape_room room) e whole)
+parse-unlisted r b limit tape_room room e nodes listed err n l (inr (lacks, short)) =
+    parse-at (Some e) (result_err r) [] nodes [] listed (err-of r e err) n l (parse-lacking b limit (min tape_room room) e lacks (less-min-right tape_room room (length b) short))
+
+-- ---- size and encoding
+
+right-in : (p q : Bool) (o : Option Error) (e f : Error) → cond p (Some e) (cond (not q) (Some f) o) ≡ None → (p ≡ false) × (q ≡ true)
+right-in true q o e f is = absurd (none-some e (sym is))
+right-in false true o e f is = (refl, refl)
+right-in false false o e f is = absurd (none-some f (sym is))
+
+-- where nothing is wrong with the whole, size and encoding are right
+pub right-input : (b : List ℕ) → input_fault b ≡ None → (length b ≤ max_length) × IsUtf8 b
+right-input b none =
+    let right = right-in (nat_lt max_length (length b)) (is_utf8 b) (scan_fault b) (whole_fault _) (whole_fault _) (sym (fault-by_size b) ∙ none) in
+    (ltb-false max_length (length b) right.0, IsUtf8-from_is_utf8 b right.1)
+
+-- ---- the second stage
+
+-- the second stage's end
+pub parse-built : {A : Type 0} (r : Result A Error) (b : List ℕ) (limit room : ℕ) (nodes : List Item) (listed : List ℕ) → OnOk r (IsParsed b limit nodes) → length nodes ≤ length (positions b) → OnErr r (nodes ≡ [])
+    → IfErr r (λ e. IsRefused b limit e × IsTokenFault e) → listed ≡ positions b → IsParse b limit room (result_err r) nodes listed
+parse-built (Ok x) b limit room nodes listed p few empty refused l = parse-at None None nodes nodes (positions b) listed refl refl l (parse-done b limit room nodes p few)
+parse-built (Err e) b limit room nodes listed p few empty refused l =
+    parse-at (Some e) (Some e) [] nodes (positions b) listed refl empty l (parse-token b limit room e refused.0 refused.1)
+
+-- the tape has no room for a node at each position
+pub parse-short : {A : Type 0} (r : Result A Error) (b : List ℕ) (limit tape_room room count : ℕ) (e : Error) (nodes : List Item) (listed : List ℕ) → r ≡ Err e → input_fault b ≡ None → e ≡ whole_fault OutOfMemory → tape_room < count → count ≡ length (positions b) → nodes ≡ [] → listed ≡ []
+    → IsParse b limit (min tape_room room) (result_err r) nodes listed
+parse-short r b limit tape_room room count e nodes listed err none is short same n l =
+    let right = right-input b none in
+    parse-at (Some e) (result_err r) [] nodes [] listed (ap result_err err) n l
+    (parse-lacking b limit (min tape_room room) e (is, right.0, right.1) (less-min-left tape_room room (length b) (omega (arith, short, same, few-positions b))))
+
+-- ---- the first stage, after the test of both
+
+pub scan-found : {T : Type 0} (r : Result T Error) (b : List ℕ) (P Q : T → Type 0) → length b ≤ max_length → IsUtf8 b
+    → IfOk r (λ x. P x × Q x × (scan_fault b ≡ None)) → IfOk r (λ x. P x × Q x × (input_fault b ≡ None))
+scan-found (Ok x) b P Q l text (p, q, none) = (p, q, scanned b l text ∙ none)
+scan-found (Err e) b P Q l text h = h
+
+pub scan-refused : {T : Type 0} (r : Result T Error) (b : List ℕ) (P : Type 0) → length b ≤ max_length → IsUtf8 b
+    → IfErr r (λ e. (scan_fault b ≡ Some e) ⊎ ((e ≡ whole_fault OutOfMemory) × P)) → IfErr r (λ e. (input_fault b ≡ Some e) ⊎ (LacksMemory b e × P))
+scan-refused (Ok x) b P l text h = h
+scan-refused (Err e) b P l text (inl is) = inl (scanned b l text ∙ is)
+scan-refused (Err e) b P l text (inr (is, p)) = inr ((is, l, text), p)
+
+-- ---- room
+
+-- a stack that is too short bounds the room
+pub short-stack : (r : Rooms) (count n : ℕ) → r.stack_room < min count r.limit → count ≤ n → room r < n
+short-stack r count n l m =
+    subst (λ t. min (cond t (min r.position_room r.stack_room) r.position_room) (64 * r.block_room) < n) (sym (lt-ltb r.stack_room r.limit (omega (arith, l))))
+    (omega (arith, l, m))
+
+-- ---- lists of which nothing is in use
+
+pub unlisted : (used : ℕ) (xs ys : List ℕ) → used ≤ length xs → take used xs ≡ [] → take used ys ≡ []
+unlisted used xs ys l none =
+    let zero_used : used ≡ 0 = omega (arith, ap length none, length-take-le used xs l) in ap (λ n. take n ys) zero_used
+
+open-kept : (t t2 : Bool) (p s l p2 s2 l2 : ℕ) → nat_lt s l ≡ t → nat_lt s2 l2 ≡ t2 → l2 ≡ l → p ≤ p2 → s ≤ s2 → cond t (min p s) p ≤ cond t2 (min p2 s2) p2
+open-kept true true p s l p2 s2 l2 a b same le_p le_s = omega (arith, le_p, le_s)
+open-kept true false p s l p2 s2 l2 a b same le_p le_s = omega (arith, le_p)
+open-kept false true p s l p2 s2 l2 a b same le_p le_s = absurd (omega (arith, ltb-false s l a, ltb-true s2 l2 b, same, le_s))
+open-kept false false p s l p2 s2 l2 a b same le_p le_s = le_p
+
+min-kept : (a b c d : ℕ) → a ≤ c → b ≤ d → min a b ≤ min c d
+min-kept a b c d l m = omega (arith, l, m)
+
+pub room-kept : (old new : Rooms) → new.limit ≡ old.limit → KeepsRooms old new → room old ≤ room new
+room-kept old new same kept =
+    min-kept _ _ _ _ (open-kept _ _ old.position_room old.stack_room old.limit new.position_room new.stack_room new.limit refl refl same kept.0 kept.2) (omega (arith, kept.1))

@@ -1,0 +1,5 @@
+use Rattle.simd_json.proofs.ParseAnswers.{as-answered}
+use Rattle.simd_json.proofs.laws.parses_are_answers.Goals as goal
+
+pub returns : goal.returns
+returns c b limit room fault nodes listed p memory = as-answered b limit room fault nodes listed p memory

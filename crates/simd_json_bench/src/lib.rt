@@ -1,0 +1,101 @@
+//! What a program in C calls to time the parser: a text with buffers made anew, and many texts with buffers that are kept.
+//!
+//! A text is a pointer and a length. A [`Global`] takes no bytes, so C passes nothing for it:
+//!
+//! ```c
+//! int64_t simd_json_bench_parse(uint8_t *text, size_t len);
+//! int64_t simd_json_bench_parse_all(uint8_t *texts, size_t size, size_t stride, size_t len);
+//! int64_t simd_json_bench_scan_all(const uint8_t *texts, size_t size, size_t stride, size_t len);
+//! ```
+//!
+//! Each answers a count, or -1 where a text was refused, or -2 where there is no telling: a growth was refused, or the
+//! count is too great. The last two take texts of `len` bytes, one at the front of each whole `stride` of `texts`.
+#![tactic(auto)]
+
+ghost use Rattle.std.specs.Prelude.{◌≡◌, ◌≢◌, ℕ, pos, Ok, Err};
+ghost use Rattle.simd_json_bench.specs.Reported.{HasFault, HasNodes, refused};
+ghost use Rattle.simd_json_parts.specs.declared.error.Error.{Error};
+ghost use Rattle.simd_json_parts.specs.declared.error.ErrorType.{ErrorType};
+
+use simd_json::{Buffers, ErrorType, Result, Tape, fill_tape, to_tape};
+use simd_json_stages::stage1::{BlockStage1Parse, Stage1Parse};
+use std::alloc::Global;
+
+#[cfg(test)]
+mod tests;
+
+const REFUSED: i64 = -1;
+
+const UNKNOWN: i64 = -2;
+
+fn reported(count: Result<usize>) -> i64
+    ensures count { (n : ℕ) → result ≡ pos n → count ≡ Ok n }
+    ensures refused { result ≡ refused → (e : Error) × (count ≡ Err e) × (e.error ≢ ErrorType.OutOfMemory) }
+{
+    match count {
+        Ok(count) => i64::try_from(count).unwrap_or(UNKNOWN),
+        Err(e) if *e.error() == ErrorType::OutOfMemory => UNKNOWN,
+        Err(_) => REFUSED,
+    }
+}
+
+/// Reads a text with buffers made anew. Answers the number of its nodes.
+#[unsafe(no_mangle)]
+pub extern "C" fn simd_json_bench_parse(alloc: Global, text: &mut [u8]) -> i64
+    ensures nodes { (n : ℕ) → result ≡ pos n → HasNodes text.old n }
+    ensures refused { result ≡ refused → HasFault text.old }
+{
+    reported(to_tape(alloc, text).map(|tape| tape.nodes().len()))
+}
+
+/// Reads texts with one pair of buffers and one tape. Answers the number of their nodes.
+#[unsafe(no_mangle)]
+pub extern "C" fn simd_json_bench_parse_all(
+    alloc: Global,
+    texts: &mut [u8],
+    stride: usize,
+    len: usize,
+) -> i64 {
+    reported(parse_all(alloc, texts, stride, len))
+}
+
+fn parse_all(alloc: Global, texts: &mut [u8], stride: usize, len: usize) -> Result<usize> {
+    let mut buffers = Buffers::new(alloc, len)?;
+    let mut tape = Tape::null(alloc)?;
+    let mut nodes = 0usize;
+    for slot in texts.chunks_exact_mut(stride.max(1)) {
+        if let Some(text) = slot.get_mut(..len) {
+            fill_tape(text, &mut buffers, &mut tape)?;
+            nodes = nodes.saturating_add(tape.nodes().len());
+        }
+    }
+    Ok(nodes)
+}
+
+/// The first stage alone, with lists that are kept. Answers the number of structural positions.
+#[unsafe(no_mangle)]
+pub extern "C" fn simd_json_bench_scan_all(
+    alloc: Global,
+    texts: &[u8],
+    stride: usize,
+    len: usize,
+) -> i64 {
+    reported(scan_all(alloc, texts, stride, len))
+}
+
+fn scan_all(alloc: Global, texts: &[u8], stride: usize, len: usize) -> Result<usize> {
+    let mut positions = Vec::new(alloc);
+    let mut escape_blocks = Vec::new(alloc);
+    let mut count = 0usize;
+    for slot in texts.chunks_exact(stride.max(1)) {
+        if let Some(text) = slot.get(..len) {
+            let found = BlockStage1Parse::find_structural_bits(
+                text,
+                &mut positions,
+                &mut escape_blocks,
+            )?;
+            count = count.saturating_add(found.positions);
+        }
+    }
+    Ok(count)
+}

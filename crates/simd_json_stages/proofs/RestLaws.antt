@@ -1,0 +1,150 @@
+-- The last block, which spaces fill up.
+use Rattle.std.proofs.Common.{◌≡◌, refl, sym, ◌∙◌, ap, ap₂, ℕ, zero, suc, ◌+◌, ◌-◌, ◌*◌, ◌/◌, ◌<◌, ◌≤◌, inl, inr, List, [], ◌∷◌, ◌++◌, length, get_or, take, drop, replicate, Bool, true, false, not, ◌&&◌, ◌||◌, ◌==◌, if◌then◌else◌, add-zero, add-suc, arith, length-drop, length-append}
+use Rattle.std.specs.List.{list_any, range_with_len, filter}
+use Rattle.std.proofs.lemmas.Bool.{cases_lt}
+use Rattle.std.proofs.lemmas.List.{get_or_past, get_or_default, get_or_append_left, get_or-append_right, get_or-replicate, get_or-drop, length-replicate, length-take-le}
+use Rattle.std.proofs.lemmas.List.Sums.{length-filter, count_by-le-length}
+use Rattle.std.proofs.lemmas.List.Folds.{list_any-append}
+use Rattle.std.proofs.lemmas.List.FromFn.{length-range_with_len}
+use lib.Bits.{bit_or}
+use lib.Count.{ones}
+use Rattle.simd_json_parts.specs.Bytes.{quote, is_whitespace, is_structural, is_control, byte_at}
+use Rattle.simd_json_parts.specs.Positions.{is_even, backslashes_before, is_real_quote, real_quotes, is_inside, is_fresh, is_position, positions, has_control_inside}
+use Rattle.simd_json_parts.specs.InputFaults.{has_bad_string}
+use Rattle.simd_json_stages.specs.Carries.{has_control_before}
+use Rattle.simd_json_stages.specs.EscapeBlocks.{blocks_in, holds_backslash, backslash_blocks}
+use Rattle.simd_json_stages.specs.Words.{set_bits}
+use Rattle.simd_json_stages.specs.Blocks.{all_bits, IsBlock, AreMarks, IsScanned}
+use Rattle.simd_json_stages.specs.declared.stage1.words.Marks.{Marks}
+use Rattle.simd_json_stages.specs.declared.stage1.scan.Scanned.{Scanned}
+use Rattle.simd_json_stages.proofs.CarryLaws.{filter-next}
+use Rattle.simd_json_stages.proofs.EscapeBlockLaws.{filter-stays, list_any-none_between, holds_backslash-plain, byte_at-past}
+use Rattle.simd_json_stages.proofs.Bits.Places.{length-ones}
+use Rattle.simd_json_stages.proofs.ScanLaws.{range-add, positions-next, control-next}
+
+-- how many whole blocks there are
+abbrev pub whole : List ℕ → ℕ
+whole b = length b / 64
+
+padded : (r p : ℕ) → r < 64 → p ≡ 64 - r → r + p ≡ 64
+padded r p h e = omega arith
+
+pub IsBlock-rest : (b rest bytes : List ℕ) → rest ≡ drop (length b / 64 * 64) b → bytes ≡ rest ++ replicate (64 - length rest) 32 → IsBlock b (64 * whole b) bytes
+IsBlock-rest b rest bytes e f =
+    let n = length-drop (length b / 64 * 64) b in
+    let long : length rest ≡ length b - length b / 64 * 64 = ap length e ∙ n in
+    let from : length b / 64 * 64 ≡ 64 * whole b = omega arith in
+    record {
+      len = ap length f ∙ length-append rest (replicate (64 - length rest) 32) ∙ padded (length rest) _ (omega arith) (length-replicate (64 - length rest) 32);
+      same = λ i l. ap (λ xs. get_or xs i 0) f ∙ elim (cases_lt i (length rest)) [
+        | inl h ↦
+            get_or_append_left rest (replicate (64 - length rest) 32) 0 i h ∙ ap (λ xs. get_or xs i 0) e ∙ get_or-drop (length b / 64 * 64) b i 0
+            ∙ ap (λ m. get_or b (m + i) 0) from ∙ get_or_default b (64 * whole b + i) 0 32 (omega arith)
+        | inr h ↦
+            get_or-append_right rest (replicate (64 - length rest) 32) (length rest) i 0 refl h ∙ get_or-replicate (64 - length rest) (i - length rest) 32 0 (omega arith)
+            ∙ sym (get_or_past b (64 * whole b + i) 32 (omega arith))
+      ];
+    }
+
+-- ---- past the end there are spaces
+
+space-past : (b : List ℕ) (i : ℕ) → length b ≤ i → byte_at b i ≡ 32
+space-past b i l = get_or_past b i 32 l
+
+real-past : (b : List ℕ) (i : ℕ) → length b ≤ i → is_real_quote b i ≡ false
+unfolding is_real_quote
+real-past b i l = ap (λ x. (x == quote) && is_even (backslashes_before b i)) (space-past b i l)
+
+and-false : (t : Bool) → (t && false) ≡ false
+and-false true = refl
+and-false false = refl
+
+position-past : (b : List ℕ) (i : ℕ) → length b ≤ i → is_position b i ≡ false
+unfolding is_position
+position-past b i l =
+    let n = is_inside b i in
+    ap₂ (λ q x. (q && n) || ((not n && not q) && (is_structural x || (not (is_whitespace x) && is_fresh b i)))) (real-past b i l) (space-past b i l) ∙ and-false (not n && true)
+
+quotes-past : (b : List ℕ) (n : ℕ) → real_quotes b (length b + n) ≡ real_quotes b (length b)
+unfolding real_quotes
+quotes-past b zero = ap (real_quotes b) (add-zero (length b))
+quotes-past b (suc n) =
+    ap (real_quotes b) (add-suc (length b) n) ∙ ap (λ t. if t then suc (real_quotes b (length b + n)) else real_quotes b (length b + n)) (real-past b (length b + n) (omega arith)) ∙ quotes-past b n
+
+pub positions-all : (b : List ℕ) (n : ℕ) → length b ≤ n → filter (is_position b) (range_with_len 0 n) ≡ positions b
+unfolding positions
+positions-all b n l = filter-stays (is_position b) (length b) n l (λ k f t. position-past b k f)
+
+or-false : (t : Bool) → (t || false) ≡ t
+or-false true = refl
+or-false false = refl
+
+control-all : (b : List ℕ) (n : ℕ) → has_control_before b (length b + n) ≡ has_control_inside b
+unfolding has_control_inside
+control-all b n =
+    let f = λ (i : ℕ). is_inside b i && is_control (byte_at b i) in
+    ap (list_any f) (range-add 0 (length b) n) ∙ list_any-append f (range_with_len 0 (length b)) (range_with_len (0 + length b) n)
+    ∙ ap (λ t. list_any f (range_with_len 0 (length b)) || t) (list_any-none_between f (0 + length b) n (λ j g h. ap (λ x. is_inside b j && is_control x) (space-past b j (omega arith)) ∙ and-false (is_inside b j)))
+    ∙ or-false (list_any f (range_with_len 0 (length b)))
+
+-- ---- what the last block adds
+
+not-not : (t : Bool) → not (not t) ≡ t
+not-not true = refl
+not-not false = refl
+
+all-zero : (t : Bool) → not (all_bits t == 0) ≡ t
+all-zero true = refl
+all-zero false = refl
+
+pub rest-bad : (b : List ℕ) (s : Scanned) (out listed : List ℕ) (m : Marks) → IsScanned b (whole b) s out listed → AreMarks b (64 * whole b) m
+    → (not (m.carry.inside == 0) || not (bit_or s.bad m.bad == 0)) ≡ has_bad_string b
+rest-bad b s out listed m h marks =
+    let k = whole b in
+    let n = 64 * k + 64 - length b in
+    let e : 64 * k + 64 ≡ length b + n = omega arith in
+    let f : 64 * (k + 1) ≡ length b + n = omega arith in
+    ap₂ (λ x y. x || y)
+    (ap (λ w. not (w == 0)) marks.carry.inside ∙ all-zero (not (is_even (real_quotes b (64 * k + 64)))) ∙ ap (λ j. not (is_even (real_quotes b j))) e ∙ ap (λ j. not (is_even j)) (quotes-past b n))
+    (ap not (control-next b k s.bad m.bad h.bad marks.bad) ∙ not-not (has_control_before b (64 * (k + 1))) ∙ ap (has_control_before b) f ∙ control-all b n)
+
+pub rest-positions : (b : List ℕ) (s : Scanned) (out listed : List ℕ) (m : Marks) → IsScanned b (whole b) s out listed → AreMarks b (64 * whole b) m
+    → (take s.used out ++ set_bits 64 (64 * (whole b - 1)) s.late) ++ set_bits 64 (64 * whole b) m.starts ≡ positions b
+rest-positions b s out listed m h marks =
+    let k = whole b in
+    ap (λ l. l ++ set_bits 64 (64 * k) m.starts) h.found ∙ positions-next (is_position b) k m.starts marks.starts ∙ positions-all b (64 * (k + 1)) (omega arith)
+
+few-positions : (b : List ℕ) → length (positions b) ≤ length b
+unfolding positions
+few-positions b = omega (arith, length-filter (is_position b) (range_with_len 0 (length b)), count_by-le-length (is_position b) (range_with_len 0 (length b)), length-range_with_len 0 (length b))
+
+pub rest-few : (b : List ℕ) (s : Scanned) (out listed : List ℕ) (m : Marks) → IsScanned b (whole b) s out listed → AreMarks b (64 * whole b) m → s.used + ones s.late + ones m.starts ≤ length b
+rest-few b s out listed m h marks =
+    let late = set_bits 64 (64 * (whole b - 1)) s.late in
+    let all = ap length (rest-positions b s out listed m h marks) in
+    let three = length-append (take s.used out ++ late) (set_bits 64 (64 * whole b) m.starts) in
+    let two = length-append (take s.used out) late in
+    let one = length-take-le s.used out h.within in
+    let late-bits = length-ones 64 (64 * (whole b - 1)) s.late h.late in
+    let bits = length-ones 64 (64 * whole b) m.starts marks.starts.small in
+    omega (arith, few-positions b)
+
+pub rest-listed : (b : List ℕ) (s : Scanned) (out listed : List ℕ) (m : Marks) → IsScanned b (whole b) s out listed → AreMarks b (64 * whole b) m → m.has_backslash ≡ true → s.listed < blocks_in (length b)
+unfolding holds_backslash
+rest-listed b s out listed m h marks e = elim (cases_lt (whole b) (blocks_in (length b))) [
+  | inl l ↦ (let few = h.few_blocks in omega arith)
+  | inr r ↦
+      let none : holds_backslash b (whole b) ≡ false = holds_backslash-plain b (whole b) (λ j f t. byte_at-past b j (omega arith)) in
+      let no : true ≡ false = sym e ∙ marks.escapes ∙ none in
+      absurd (cc)
+]
+
+-- the blocks that hold a backslash, where the last does or does not
+pub rest-blocks : (b : List ℕ) (s : Scanned) (out listed : List ℕ) (m : Marks) (t : Bool) → IsScanned b (whole b) s out listed → AreMarks b (64 * whole b) m → m.has_backslash ≡ t
+    → (if t then take s.listed listed ++ whole b ∷ [] else take s.listed listed) ≡ backslash_blocks b
+unfolding holds_backslash backslash_blocks
+rest-blocks b s out listed m t h marks e =
+    let k = whole b in
+    let holds = holds_backslash b in
+    ap (λ ks. if t then ks ++ k ∷ [] else ks) h.blocks_found ∙ sym (filter-next holds k t (sym marks.escapes ∙ e))
+    ∙ filter-stays holds (blocks_in (length b)) (k + 1) (omega arith) (λ j f l. holds_backslash-plain b j (λ i g u. byte_at-past b i (omega arith)))

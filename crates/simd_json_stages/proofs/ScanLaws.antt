@@ -1,0 +1,173 @@
+-- What a scan knows, a block further.
+use Rattle.std.proofs.Common.{◌≡◌, ◌≢◌, refl, sym, ◌∙◌, ap, ap₂, subst, ℕ, zero, suc, ◌+◌, ◌-◌, ◌*◌, ◌/◌, ◌%◌, ◌^◌, ◌<◌, ◌≤◌, inl, inr, List, [], ◌∷◌, ◌++◌, length, get_or, take, drop, slice_set, Bool, true, false, not, ◌&&◌, ◌||◌, ◌==◌, add-zero, zero-add, arith, pow-suc, eqb-true, eq-eqb}
+use Rattle.std.specs.List.{list_any, range_with_len, filter}
+use Rattle.std.proofs.lemmas.Bool.{cases_lt, ne_eqb, eqb-false}
+use Rattle.std.proofs.lemmas.Nat.Bits.{bit_at_lowest, bit_at-suc}
+use Rattle.std.proofs.lemmas.List.{take_more_set, take-set, take-take, take_at, drop-drop, get_or_default}
+use Rattle.std.proofs.lemmas.Simd.{length-chunk, get_or-chunk}
+use Rattle.std.specs.Simd.{first_chunks}
+use lib.Lanes.{chunk}
+use Rattle.std.proofs.lemmas.List.Elements.{filter-append}
+use Rattle.std.proofs.lemmas.List.Folds.{list_any-append}
+use lib.Bits.{bit_or, or_add_and, and_le_l}
+use Rattle.std.proofs.lemmas.Nat.{and_le_r}
+use mir.Val.{bool_byte}
+use Rattle.simd_json_parts.specs.Bytes.{is_control, byte_at}
+use Rattle.simd_json_parts.specs.Positions.{backslashes_before, real_quotes, is_inside, is_position}
+use Rattle.simd_json_stages.specs.Carries.{has_control_before}
+use Rattle.simd_json_stages.specs.EscapeBlocks.{holds_backslash}
+use Rattle.simd_json_stages.specs.Words.{is_set, HasBits, set_bits}
+use Rattle.simd_json_stages.specs.Blocks.{is_plain_before, IsCarried, AreBlocks, AreMarks, IsScanned}
+use Rattle.simd_json_stages.specs.declared.stage1.words.Marks.{Marks}
+use Rattle.simd_json_stages.specs.declared.stage1.scan.Scanned.{Scanned}
+use Rattle.simd_json_stages.proofs.CarryLaws.{filter-next}
+use Rattle.simd_json_stages.proofs.Bits.Places.{set_bits-filter, set_bits-zero}
+
+pub range-add : (a m n : ℕ) → range_with_len a (m + n) ≡ range_with_len a m ++ range_with_len (a + m) n
+range-add a zero n = ap₂ range_with_len (sym (add-zero a)) (zero-add n)
+range-add a (suc m) n =
+    let e : suc m + n ≡ suc (m + n) = omega arith in
+    let f : a + 1 + m ≡ a + suc m = omega arith in
+    ap (range_with_len a) e ∙ ap (λ l. a ∷ l) (range-add (a + 1) m n ∙ ap (λ j. range_with_len (a + 1) m ++ range_with_len j n) f)
+
+-- the indexes of one more block
+pub range-block : (k : ℕ) → range_with_len 0 (64 * (k + 1)) ≡ range_with_len 0 (64 * k) ++ range_with_len (64 * k) 64
+range-block k =
+    let e : 64 * (k + 1) ≡ 64 * k + 64 = omega arith in
+    ap (range_with_len 0) e ∙ range-add 0 (64 * k) 64 ∙ ap (λ j. range_with_len 0 (64 * k) ++ range_with_len j 64) (zero-add (64 * k))
+
+pub positions-next : (p : ℕ → Bool) (k w : ℕ) → HasBits w (λ i. p (64 * k + i)) → filter p (range_with_len 0 (64 * k)) ++ set_bits 64 (64 * k) w ≡ filter p (range_with_len 0 (64 * (k + 1)))
+positions-next p k w h =
+    ap (λ l. filter p (range_with_len 0 (64 * k)) ++ l) (set_bits-filter p 64 (64 * k) w h.bits) ∙ sym (filter-append p (range_with_len 0 (64 * k)) (range_with_len (64 * k) 64))
+    ∙ ap (filter p) (sym (range-block k))
+
+-- ---- a word is 0 where no bit is set
+
+zero-halves : (w : ℕ) → (w == 0) ≡ (not (w % 2 == 1) && (w / 2 == 0))
+zero-halves w = go (w % 2 == 1) refl
+  where
+    go : (t : Bool) → (w % 2 == 1) ≡ t → (w == 0) ≡ (not t && (w / 2 == 0))
+    go true e = let odd : w % 2 ≡ 1 = eqb-true _ _ e in ne_eqb w 0 (λ z. omega arith)
+    go false e = let even : w % 2 ≢ 1 = eqb-false _ _ e in elim (cases_lt 0 w) [
+      | inl l ↦ ne_eqb w 0 (λ z. omega arith) ∙ sym (ne_eqb (w / 2) 0 (λ z. omega arith))
+      | inr r ↦ (let n : w ≡ 0 = omega arith in let m : w / 2 ≡ 0 = omega arith in eq-eqb _ _ n ∙ sym (eq-eqb _ _ m))
+    ]
+
+neither : (s t : Bool) → (not s && not t) ≡ not (s || t)
+neither true t = refl
+neither false t = refl
+
+zero-bits : (f : ℕ → Bool) (k at w : ℕ) → w < 2 ^ k → ((i : ℕ) → i < k → is_set w i ≡ f (at + i)) → (w == 0) ≡ not (list_any f (range_with_len at k))
+unfolding is_set
+zero-bits f zero at w h e = let z : w ≡ 0 = omega arith in eq-eqb _ _ z
+zero-bits f (suc k) at w h e =
+    let first : (w % 2 == 1) ≡ f at = ap (λ n. n == 1) (sym (bit_at_lowest w)) ∙ e 0 (omega arith) ∙ ap f (add-zero at) in
+    let rest = zero-bits f k (at + 1) (w / 2) (omega (arith, pow-suc 2 k)) (λ i lt. ap (λ n. n == 1) (sym (bit_at-suc w i)) ∙ e (suc i) (omega arith) ∙ ap f (omega arith)) in
+    zero-halves w ∙ ap₂ (λ s t. not s && t) first rest ∙ neither (f at) (list_any f (range_with_len (at + 1) k))
+
+or-zero : (x y : ℕ) → (bit_or x y == 0) ≡ ((x == 0) && (y == 0))
+or-zero x y = go (x == 0) refl (y == 0) refl
+  where
+    go : (s : Bool) → (x == 0) ≡ s → (t : Bool) → (y == 0) ≡ t → (bit_or x y == 0) ≡ (s && t)
+    go true e true f =
+        let a : x ≡ 0 = eqb-true _ _ e in
+        let c : y ≡ 0 = eqb-true _ _ f in
+        let z : bit_or x y ≡ 0 = omega (arith, or_add_and x y) in
+        eq-eqb _ _ z
+    go true e false f = let c : y ≢ 0 = eqb-false _ _ f in ne_eqb (bit_or x y) 0 (λ z. omega (arith, or_add_and x y, and_le_l x y, and_le_r x y))
+    go false e t f = let a : x ≢ 0 = eqb-false _ _ e in ne_eqb (bit_or x y) 0 (λ z. omega (arith, or_add_and x y, and_le_l x y, and_le_r x y))
+
+pub control-next : (b : List ℕ) (k bad w : ℕ) → (bad == 0) ≡ not (has_control_before b (64 * k)) → HasBits w (λ i. is_inside b (64 * k + i) && is_control (byte_at b (64 * k + i)))
+    → (bit_or bad w == 0) ≡ not (has_control_before b (64 * (k + 1)))
+control-next b k bad w e h =
+    let f = λ (i : ℕ). is_inside b i && is_control (byte_at b i) in
+    or-zero bad w ∙ ap₂ (λ s t. s && t) e (zero-bits f 64 (64 * k) w h.small h.bits) ∙ neither (has_control_before b (64 * k)) (list_any f (range_with_len (64 * k) 64))
+    ∙ ap not (sym (ap (list_any f) (range-block k) ∙ list_any-append f (range_with_len 0 (64 * k)) (range_with_len (64 * k) 64)))
+
+-- ---- the list of blocks
+
+listed-next : (p : ℕ → Bool) (k n : ℕ) (listed : List ℕ) (t : Bool) → t ≡ p k → n < length listed → take n listed ≡ filter p (range_with_len 0 k)
+    → take (n + bool_byte t) (slice_set listed n k) ≡ filter p (range_with_len 0 (k + 1))
+listed-next p k n listed true e l h = take_more_set listed n k l ∙ ap (λ ks. ks ++ k ∷ []) h ∙ sym (filter-next p k true (sym e))
+listed-next p k n listed false e l h = ap (λ m. take m (slice_set listed n k)) (add-zero n) ∙ take-set listed n k ∙ h ∙ sym (filter-next p k false (sym e))
+
+pub bool-small : (t : Bool) → bool_byte t ≤ 1
+bool-small true = omega arith
+bool-small false = omega arith
+
+-- ---- all of it
+
+pub IsScanned-next : (b : List ℕ) (k : ℕ) (s : Scanned) (out listed : List ℕ) (m : Marks) (after : List ℕ) (used : ℕ) → IsScanned b k s out listed → AreMarks b (64 * k) m
+    → take used after ≡ take s.used out ++ set_bits 64 (64 * (k - 1)) s.late → used ≤ s.used + 64 → used ≤ length after → s.listed < length listed → length (slice_set listed s.listed k) ≡ length listed → (high : ℕ)
+    → IsScanned b (k + 1) (record { carry = m.carry; late = m.starts; bad = bit_or s.bad m.bad; high = high; used = used; listed = s.listed + bool_byte m.has_backslash }) after (slice_set listed s.listed k)
+unfolding holds_backslash
+IsScanned-next b k s out listed m after used h marks written few within room same high =
+    let e : 64 * k + 64 ≡ 64 * (k + 1) = omega arith in
+    let one = bool-small m.has_backslash in
+    record {
+      carried = subst (λ n. IsCarried b n m.carry) e marks.carry;
+      bad = control-next b k s.bad m.bad h.bad marks.bad;
+      few = let f = h.few in omega arith;
+      within = within;
+      late = marks.starts.small;
+      found =
+          let at : 64 * (k + 1 - 1) ≡ 64 * k = omega arith in
+          ap₂ (λ l n. l ++ set_bits 64 n m.starts) (written ∙ h.found) at ∙ positions-next (is_position b) k m.starts marks.starts;
+      few_blocks = let f = h.few_blocks in omega arith;
+      blocks_within = omega arith;
+      blocks_found = listed-next (holds_backslash b) k s.listed listed m.has_backslash marks.escapes room h.blocks_found;
+    }
+
+-- ---- at the start, and where lists grow
+
+pub IsScanned-none : (b : List ℕ) (out listed : List ℕ) → IsScanned b 0 (record { carry = record { escaped = 0; inside = 0; plain = 0 }; late = 0; bad = 0; high = 0; used = 0; listed = 0 }) out listed
+unfolding backslashes_before real_quotes is_plain_before
+IsScanned-none b out listed = record {
+  carried = record { escaped = refl; inside = refl; plain = refl };
+  bad = refl;
+  few = omega arith;
+  within = omega arith;
+  late = omega arith;
+  found = set_bits-zero 64 _;
+  few_blocks = omega arith;
+  blocks_within = omega arith;
+  blocks_found = refl;
+}
+
+pub prefix : (n : ℕ) (xs ys : List ℕ) → n ≤ length xs → take (length xs) ys ≡ xs → take n ys ≡ take n xs
+prefix n xs ys l e = sym (take-take n (length xs) ys l) ∙ ap (take n) e
+
+pub IsScanned-room : (b : List ℕ) (k : ℕ) (s : Scanned) (out listed more more_listed : List ℕ) → IsScanned b k s out listed → take (length out) more ≡ out → length out ≤ length more
+    → take (length listed) more_listed ≡ listed → length listed ≤ length more_listed → IsScanned b k s more more_listed
+IsScanned-room b k s out listed more more_listed h e l f m = record {
+  carried = h.carried;
+  bad = h.bad;
+  few = h.few;
+  within = let w = h.within in omega arith;
+  late = h.late;
+  found = ap (λ l. l ++ set_bits 64 (64 * (k - 1)) s.late) (prefix s.used out more h.within e) ∙ h.found;
+  few_blocks = h.few_blocks;
+  blocks_within = let w = h.blocks_within in omega arith;
+  blocks_found = prefix s.listed listed more_listed h.blocks_within f ∙ h.blocks_found;
+}
+
+-- ---- the blocks of an input
+
+chunk-at : (n m : ℕ) (xs : List ℕ) (k : ℕ) (d : List ℕ) → k < m → get_or (first_chunks n m xs) k d ≡ chunk (n * k) n xs
+chunk-at n zero xs k d l = absurd (omega arith)
+chunk-at n (suc m) xs zero d l = let e : 0 ≡ n * 0 = omega arith in ap (λ j. chunk j n xs) e
+chunk-at n (suc m) xs (suc k) d l =
+    let e : n * k + n ≡ n * suc k = omega arith in
+    chunk-at n m (drop n xs) k d (omega arith) ∙ ap (take n) (drop-drop (n * k) n xs ∙ ap (λ j. drop j xs) (omega arith))
+
+pub AreBlocks-chunks : (b : List ℕ) (blocks : List (List ℕ)) → blocks ≡ first_chunks 64 (length b / 64) b → length blocks ≡ length b / 64 → AreBlocks b blocks
+AreBlocks-chunks b blocks e long = λ k d l.
+    let within : k < length b / 64 = omega arith in
+    let is : get_or blocks k d ≡ chunk (64 * k) 64 b = ap (λ bs. get_or bs k d) e ∙ chunk-at 64 (length b / 64) b k d within in
+    record {
+      len = ap length is ∙ length-chunk (64 * k) 64 b (omega arith);
+      same = λ i h. ap (λ xs. get_or xs i 0) is ∙ get_or-chunk (64 * k) 64 b i 0 h ∙ get_or_default b (64 * k + i) 0 32 (omega arith);
+    }
+
+pub written-back : (xs ys : List ℕ) (n : ℕ) → length xs ≡ n → take n (xs ++ ys) ≡ xs
+written-back xs ys n e = take_at xs ys n e

@@ -1,0 +1,63 @@
+use Rattle.std.proofs.Common.{◌≡◌, ◌++◌, List, ℕ, length, take, drop, subst, sym, ap, eqb-true, arith}
+use Rattle.std.proofs.lemmas.Str.{IsUtf8-nil}
+use Rattle.simd_json_stages.specs.Blocks.{IsScanned}
+use Rattle.simd_json_stages.specs.declared.stage1.scan.Scanned.{Scanned}
+use Rattle.simd_json_stages.proofs.ScanLaws.{IsScanned-none, IsScanned-room, AreBlocks-chunks, written-back}
+use Rattle.simd_json_stages.proofs.stage1.scan.scan_blocks.Goals as goal
+
+pub loop-first-init : goal.loop-first-init
+loop-first-init g c =
+    record {
+      to = omega arith;
+      scanned = IsScanned-none c.args.input.now _ _;
+      within = omega arith;
+      utf8 = IsUtf8-nil;
+      longer = omega arith;
+      blocks_longer = omega arith;
+    }
+
+same : (b : List ℕ) (k : ℕ) (s : Scanned) (out listed more more_listed : List ℕ) → out ≡ more → listed ≡ more_listed → IsScanned b k s out listed → IsScanned b k s more more_listed
+same b k s out listed more more_listed e f h = subst (λ l. IsScanned b k s more l) f (subst (λ o. IsScanned b k s o listed) e h)
+
+pub check_window-requires-clause-ascii : goal.check_window-requires-clause-ascii
+check_window-requires-clause-ascii g c =
+    let b = c.args.input.now in
+    let l = c.loop-first in
+    let a = c.room_for.new.structural_indexes in
+    let z = c.room_for.new.escape_blocks in
+    let k = c.room_for.ensures.kept in
+    let more = c.room_for.ensures.longer in
+    let roomy = IsScanned-room b l.first l.done l.structural_indexes.items l.escape_blocks.items a.items z.items l.invariant.scanned k.0 more.0 k.1 more.1 in
+    let lent = same b l.first l.done _ _ _ _ (sym c.as_mut_slice.ensures.value) (sym c.as_mut_slice-in-loop-first.ensures.value) roomy in
+    λ zero. c.scan_window-done.ensures.ascii b (AreBlocks-chunks b c.args.blocks.now c.requires.blocks c.requires.len) lent (eqb-true _ _ zero)
+
+pub loop-first-preserved : goal.loop-first-preserved
+loop-first-preserved g c =
+    let b = c.args.input.now in
+    let l = c.loop-first in
+    let i = l.invariant in
+    let a = c.room_for.new.structural_indexes in
+    let z = c.room_for.new.escape_blocks in
+    let k = c.room_for.ensures.kept in
+    let more = c.room_for.ensures.longer in
+    let w = c.scan_window-done in
+    let roomy = IsScanned-room b l.first l.done l.structural_indexes.items l.escape_blocks.items a.items z.items i.scanned k.0 more.0 k.1 more.1 in
+    let lent = same b l.first l.done _ _ _ _ (sym c.as_mut_slice.ensures.value) (sym c.as_mut_slice-in-loop-first.ensures.value) roomy in
+    let done = w.ensures.scanned b (AreBlocks-chunks b c.args.blocks.now c.requires.blocks c.requires.len) lent in
+    let long : length w.new.out ≡ a.len = omega arith in
+    let long_listed : length w.new.listed ≡ z.len = omega arith in
+    let out : take a.len (w.new.out ++ drop (length w.new.out) a.items) ≡ w.new.out = written-back w.new.out _ a.len long in
+    let listed : take z.len (w.new.listed ++ drop (length w.new.listed) z.items) ≡ w.new.listed = written-back w.new.listed _ z.len long_listed in
+    let out_long = ap length out in
+    let listed_long = ap length listed in
+    let first = ap length c.as_mut_slice.ensures.value in
+    let second = ap length c.as_mut_slice-in-loop-first.ensures.value in
+    let checked = c.in_ok-checked-2.ensures.utf8 in
+    record {
+      to = omega arith;
+      scanned = same b _ w.result _ _ _ _ (sym out) (sym listed) done;
+      within = checked.0;
+      utf8 = checked.1;
+      longer = omega arith;
+      blocks_longer = omega arith;
+    }

@@ -1,0 +1,78 @@
+use Rattle.std.proofs.Common.{◌≡◌, ◌+◌, ◌-◌, ◌*◌, ◌≤◌, ◌<◌, ◌++◌, length, take, drop, subst, refl, sym, ap, ap₂, ◌∙◌, true, false, eqb-true, inr, arith}
+use lib.Count.{ones}
+use Rattle.simd_json_stages.specs.EscapeBlocks.{blocks_in, backslash_blocks}
+use Rattle.simd_json_stages.specs.Words.{set_bits}
+use Rattle.simd_json_stages.proofs.EncodingLaws.{utf8-reached}
+use Rattle.simd_json_stages.proofs.RestLaws.{whole, IsBlock-rest, rest-bad, rest-positions, rest-few, rest-listed, rest-blocks}
+use Rattle.simd_json_stages.proofs.ScanLaws.{written-back, prefix}
+use Rattle.simd_json_stages.proofs.stage1.scan.scan_rest.Goals as goal
+use Rattle.simd_json_stages.proofs.stage1.scan.scan_rest.Goals.{then-marks+in_ok-put, else-marks}
+use Rattle.simd_json_stages.proofs.Exits.{passed-on}
+
+pub check_window-requires-clause-ascii : goal.check_window-requires-clause-ascii
+check_window-requires-clause-ascii g c =
+    let b = c.args.input.now in
+    let s = c.requires.scanned in
+    let marks = c.block-marks.ensures b _ (IsBlock-rest b c.args.rest.now _ c.requires.rest c.last_block.ensures) s.carried in
+    λ zero i from end. marks.ascii (eqb-true _ _ zero) i from (omega arith)
+
+pub make_room-requires : goal.make_room-requires
+make_room-requires g c =
+    let b = c.args.input.now in
+    let s = c.requires.scanned in
+    rest-few b c.args.done _ _ c.block-marks.result s (c.block-marks.ensures b _ (IsBlock-rest b c.args.rest.now _ c.requires.rest c.last_block.ensures) s.carried)
+
+pub put-requires-clause-within : goal.put-requires-clause-within
+put-requires-clause-within g c =
+    let b = c.args.input.now in
+    let s = c.requires.scanned in
+    let l : c.args.done.listed < blocks_in (length b) =
+    rest-listed b c.args.done _ _ c.block-marks.result s (c.block-marks.ensures b _ (IsBlock-rest b c.args.rest.now _ c.requires.rest c.last_block.ensures) s.carried) c.if-marks.true in
+    omega (arith, c.div_ceil-max_blocks.ensures)
+
+pub returns-clause-found : goal.returns-clause-found
+returns-clause-found g c =
+    let b = c.args.input.now in
+    let s = c.requires.scanned in
+    let m = c.block-marks.result in
+    let marks = c.block-marks.ensures b _ (IsBlock-rest b c.args.rest.now _ c.requires.rest c.last_block.ensures) s.carried in
+    let a = c.make_room in
+    let v = c.write_exactly in
+    let w = c.write_exactly-2 in
+    let d = c.args.done in
+    let long : length w.new.out ≡ a.new.list.len = omega arith in
+    let out : take a.new.list.len (w.new.out ++ drop (length w.new.out) a.new.list.items) ≡ w.new.out = written-back w.new.out _ a.new.list.len long in
+    let first : v.result ≡ d.used + ones d.late = omega arith in
+    let total : w.result ≡ d.used + ones d.late + ones m.starts = omega arith in
+    let at : 64 * c.saturating_sub.result ≡ 64 * (whole b - 1) = omega arith in
+    let before : take d.used c.as_mut_slice-out.result.now ≡ take d.used c.args.structural_indexes.now.items = ap (take d.used) c.as_mut_slice-out.ensures.value ∙ prefix d.used _ _ s.within a.ensures.kept in
+    let late : take (d.used + ones d.late) v.new.out ≡ take d.used c.args.structural_indexes.now.items ++ set_bits 64 (64 * (whole b - 1)) d.late =
+    ap (λ n. take n v.new.out) (sym first) ∙ v.ensures.written ∙ ap₂ (λ l n. l ++ set_bits 64 n d.late) before at in
+    let room : d.used + ones d.late + ones m.starts ≤ length w.new.out = omega (arith, ap length c.as_mut_slice-out.ensures.value, c.in_ok-make_room.ensures.room) in
+    let utf8 = c.in_ok-check_window.ensures.utf8 in
+    let end : c.in_ok-check_window.field-0 ≡ length b = c.in_ok-check_window.ensures.whole refl in
+    let blocks : (c.if-marks.listed ≤ length c.if-marks.escape_blocks.items) × (take c.if-marks.listed c.if-marks.escape_blocks.items ≡ backslash_blocks b) =
+    elim c.if-marks.branch [
+      | then-marks+in_ok-put w ↦ let more : d.listed + 1 ≤ length w.put.new.list.items = omega (arith, w.in_ok-put.ensures.stored.0) in rw (w.escape_blocks-is, w.listed-is) (
+        more,
+        w.in_ok-put.ensures.stored.1 ∙ rest-blocks b d _ _ m true s marks w.if-marks.true,
+      )
+      | else-marks w ↦ rw (w.escape_blocks-is, w.listed-is) (s.blocks_within, rest-blocks b d _ _ m false s marks w.if-marks.false)
+    ] in
+    record {
+      encoding = utf8-reached b c.in_ok-check_window.field-0 end utf8.1;
+      bad = rest-bad b d _ _ m s marks;
+      within = subst (λ xs. d.used + ones d.late + ones m.starts ≤ length xs) (sym out) room;
+      listed = ap (take (d.used + ones d.late + ones m.starts)) out ∙ ap (λ n. take n w.new.out) (sym total) ∙ w.ensures.written ∙ ap (λ l. l ++ set_bits 64 (64 * whole b) m.starts) late
+          ∙ rest-positions b d _ _ m s marks;
+      blocks_within = blocks.0;
+      blocks_listed = blocks.1;
+    }
+
+pub returns-in_err-put-clause-fault : goal.returns-in_err-put-clause-fault
+returns-in_err-put-clause-fault g c =
+    let b = c.args.input.now in
+    let e = c.in_err-put.ensures.fault in
+    let end : c.in_ok-check_window.field-0 ≡ length b = c.in_ok-check_window.ensures.whole refl in
+    passed-on c.from_residual-in_err-put.result _ _ c.from_residual-in_err-put.ensures.1
+    (inr (e.0, c.requires.size, utf8-reached b c.in_ok-check_window.field-0 end c.in_ok-check_window.ensures.utf8.1, inr (omega (arith, e.1, c.div_ceil-max_blocks.ensures))))

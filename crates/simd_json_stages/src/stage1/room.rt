@@ -1,0 +1,49 @@
+// Room in the lists of a scan. They are kept filled, and grow by what is found.
+ghost use Rattle.std.specs.Prelude.{◌≡◌, ◌≤◌, ◌<◌, ◌+◌, ◌++◌, [], ◌∷◌, length, take, IfErr, OnOk};
+ghost use Rattle.simd_json_parts.specs.Faults.{whole_fault};
+ghost use Rattle.simd_json_parts.specs.declared.error.ErrorType.{ErrorType};
+
+use simd_json_parts::error::Result;
+use std::alloc::Allocator;
+
+// Makes a list as long as is needed, and longer by half or by what is guessed, but `max_len` long at most. What it held
+// stays, refused or not.
+#[inline(never)]
+pub(super) fn make_room<A: Allocator>(
+    list: &mut Vec<u32, A>,
+    need: usize,
+    guess: usize,
+    max_len: usize,
+) -> Result<()>
+    requires { need ≤ max_len }
+    ensures kept { take (length list.old.items) list.new.items ≡ list.old.items }
+    ensures room { OnOk result (need ≤ length list.new.items) }
+    ensures longer { length list.old.items ≤ length list.new.items }
+    ensures fault { IfErr result (λ e. (e ≡ whole_fault ErrorType.OutOfMemory) × (length list.old.items < max_len)) }
+{
+    if list.len() < need {
+        let half_more = list.len().saturating_add(list.len() / 2);
+        let len = guess.max(half_more).min(max_len).max(need);
+        list.resize(len, 0)?;
+    }
+    Ok(())
+}
+
+// Stores a number after the first `count`, in a list that may need to grow for it, to `max_len` at most.
+pub(super) fn put<A: Allocator>(
+    list: &mut Vec<u32, A>,
+    count: usize,
+    number: u32,
+    max_len: usize,
+) -> Result<()>
+    requires filled { count ≤ length list.old.items }
+    requires within { count < max_len }
+    ensures stored { OnOk result ((count < length list.new.items)
+        × (take (count + 1) list.new.items ≡ take count list.old.items ++ number ∷ [])) }
+    ensures fault { IfErr result (λ e. (e ≡ whole_fault ErrorType.OutOfMemory) × (length list.old.items < max_len)) }
+    ensures longer { length list.old.items ≤ length list.new.items }
+{
+    make_room(list, count + 1, 16, max_len)?;
+    list[count] = number;
+    Ok(())
+}

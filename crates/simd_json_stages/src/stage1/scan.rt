@@ -1,0 +1,268 @@
+// A scan of a whole input: its whole blocks in windows, and then what is left.
+ghost use Rattle.std.specs.Prelude.{◌≡◌, ◌+◌, ◌-◌, ◌*◌, ◌/◌, ◌^◌, ◌<◌, ◌≤◌, ◌⊎◌, ◌++◌, ℕ, List, length, take, drop, replicate, IfOk, IfErr, OnErr, IsUtf8};
+ghost use Rattle.std.specs.Simd.{first_chunks};
+ghost use Rattle.simd_json_parts.specs.Bytes.{byte_at};
+ghost use Rattle.simd_json_parts.specs.Limits.{max_length};
+ghost use Rattle.simd_json_stages.specs.Blocks.{AreBlocks, IsAscii, IsScanned};
+ghost use Rattle.simd_json_stages.specs.Scans.{IsBadEncoding, IsFound, LacksMemory};
+
+use super::encoding::{check_rest, check_window};
+use super::room::{make_room, put};
+use super::words::{Carry, block};
+use super::writing::{write, write_exactly};
+use super::{BLOCK_LEN, Found};
+use simd_json_parts::error::Result;
+use std::alloc::Allocator;
+
+// Blocks between two looks at the encoding and at the room of the lists: 8 KiB.
+const WINDOW: usize = 128;
+
+// The blocks from one to another.
+#[derive(Clone, Copy, Drop)]
+struct Window {
+    first: usize,
+    end: usize,
+}
+
+// What is known after some whole blocks. The indexes of the last block's positions, `late`, are still to be written:
+// their number is known early then, where the writing branches on it.
+#[derive(Clone, Copy, Drop)]
+struct Scanned {
+    carry: Carry,
+    late: u64,
+    // Not 0 where a control byte is inside.
+    bad: u64,
+    // Not 0 where a byte of the last window is no ASCII.
+    high: u64,
+    used: usize,
+    listed: usize,
+}
+
+const START: Scanned = Scanned {
+    carry: Carry {
+        escaped: 0,
+        inside: 0,
+        plain: 0,
+    },
+    late: 0,
+    bad: 0,
+    high: 0,
+    used: 0,
+    listed: 0,
+};
+
+// The blocks of a window, into lists with room for all that they may have.
+#[inline(never)]
+fn scan_window(
+    blocks: &[[u8; 64]],
+    window: Window,
+    out: &mut [u32],
+    listed: &mut [u32],
+    before: Scanned,
+) -> Scanned
+    requires within { (window.first ≤ window.end) × (window.end ≤ length blocks.now) }
+    requires short { 64 * window.end ≤ 2 ^ 32 }
+    requires room { before.used + 64 * (window.end - window.first) ≤ length out.old }
+    requires block_room { before.listed + (window.end - window.first) ≤ length listed.old }
+    ensures scanned { (b : List ℕ) → AreBlocks b blocks.now → IsScanned b window.first before out.old listed.old
+        → IsScanned b window.end result out.new listed.new }
+    ensures ascii { (b : List ℕ) → AreBlocks b blocks.now → IsScanned b window.first before out.old listed.old
+        → result.high ≡ 0 → IsAscii b (64 * window.first) (64 * window.end) }
+{
+    let mut carry = before.carry;
+    let mut late = before.late;
+    let mut late_at = (BLOCK_LEN * window.first.saturating_sub(1)) as u32;
+    let mut bad = before.bad;
+    let mut high = 0;
+    let mut used = before.used;
+    let mut count = before.listed;
+    let mut i = window.first;
+    while i < window.end {
+        let marks = block(&blocks[i], carry);
+        used = write(out, used, late_at, late);
+        late = marks.starts;
+        late_at = (BLOCK_LEN * i) as u32;
+        listed[count] = i as u32;
+        count += marks.has_backslash as usize;
+        bad |= marks.bad;
+        high |= marks.high;
+        carry = marks.carry;
+        i += 1;
+    }
+    Scanned {
+        carry,
+        late,
+        bad,
+        high,
+        used,
+        listed: count,
+    }
+}
+
+// Room for all that a window may have. Before a list grows, all of the input is known to be UTF-8. The list of positions
+// grows by how many there were so far.
+fn room_for<A: Allocator>(
+    input: &[u8],
+    checked: usize,
+    window: Window,
+    done: Scanned,
+    structural_indexes: &mut Vec<u32, A>,
+    escape_blocks: &mut Vec<u32, A>,
+) -> Result<usize>
+    requires size { length input.now ≤ max_length }
+    requires within { (window.first < window.end) × (64 * window.end ≤ length input.now) }
+    requires checked { (checked ≤ length input.now) × IsUtf8 (take checked input.now) }
+    requires used { (done.used ≤ 64 * window.first) × (done.listed ≤ window.first) }
+    ensures checked { IfOk result (λ to. (to ≤ length input.now) × IsUtf8 (take to input.now)) }
+    ensures positions { IfOk result (λ to. done.used + 64 * (window.end - window.first) ≤ length structural_indexes.new.items) }
+    ensures blocks { IfOk result (λ to. done.listed + (window.end - window.first) ≤ length escape_blocks.new.items) }
+    ensures kept { (take (length structural_indexes.old.items) structural_indexes.new.items ≡ structural_indexes.old.items)
+        × (take (length escape_blocks.old.items) escape_blocks.new.items ≡ escape_blocks.old.items) }
+    ensures longer { (length structural_indexes.old.items ≤ length structural_indexes.new.items)
+        × (length escape_blocks.old.items ≤ length escape_blocks.new.items) }
+    ensures fault { IfErr result (λ e. IsBadEncoding input.now e
+        ⊎ LacksMemory input.now e structural_indexes.old.items escape_blocks.old.items) }
+{
+    let count = window.end - window.first;
+    let positions = done.used + BLOCK_LEN * count;
+    let blocks = done.listed + count;
+    if positions <= structural_indexes.len() && blocks <= escape_blocks.len() {
+        return Ok(checked);
+    }
+    let checked = check_rest(input, checked)?;
+    let max_blocks = input.len().div_ceil(BLOCK_LEN);
+    let guess = (done.used / window.first.max(1) + 1)
+        .saturating_mul(max_blocks)
+        .saturating_add(BLOCK_LEN * WINDOW);
+    make_room(structural_indexes, positions, guess, input.len())?;
+    make_room(escape_blocks, blocks, 2 * WINDOW, max_blocks)?;
+    Ok(checked)
+}
+
+// The whole blocks, and how far the input is known to be UTF-8 after them.
+fn scan_blocks<A: Allocator>(
+    input: &[u8],
+    blocks: &[[u8; 64]],
+    structural_indexes: &mut Vec<u32, A>,
+    escape_blocks: &mut Vec<u32, A>,
+) -> Result<(Scanned, usize)>
+    requires size { length input.now ≤ max_length }
+    requires blocks { blocks.now ≡ first_chunks 64 (length input.now / 64) input.now }
+    requires len { length blocks.now ≡ length input.now / 64 }
+    ensures scanned { IfOk result (λ r. IsScanned input.now (length input.now / 64) r.0
+        structural_indexes.new.items escape_blocks.new.items) }
+    ensures checked { IfOk result (λ r. (r.1 ≤ length input.now) × IsUtf8 (take r.1 input.now)) }
+    ensures fault { IfErr result (λ e. IsBadEncoding input.now e
+        ⊎ LacksMemory input.now e structural_indexes.old.items escape_blocks.old.items) }
+    ensures longer { (length structural_indexes.old.items ≤ length structural_indexes.new.items)
+        × (length escape_blocks.old.items ≤ length escape_blocks.new.items) }
+{
+    let mut done = START;
+    let mut checked = 0;
+    let mut first = 0;
+    while first < blocks.len() {
+        let end = first + (blocks.len() - first).min(WINDOW);
+        let window = Window { first, end };
+        checked = room_for(
+            input,
+            checked,
+            window,
+            done,
+            structural_indexes,
+            escape_blocks,
+        )?;
+        done = scan_window(
+            blocks,
+            window,
+            structural_indexes.as_mut_slice(),
+            escape_blocks.as_mut_slice(),
+            done,
+        );
+        let is_ascii = done.high == 0;
+        checked = check_window(input, checked, BLOCK_LEN * first, BLOCK_LEN * end, is_ascii)?;
+        first = end;
+    }
+    Ok((done, checked))
+}
+
+// The bytes after the last whole block, and spaces.
+fn last_block(rest: &[u8]) -> [u8; 64]
+    requires { length rest.now < 64 }
+    ensures { result ≡ rest.now ++ replicate (64 - length rest.now) 32 }
+{
+    let mut block = [b' '; 64];
+    block[..rest.len()].copy_from_slice(rest);
+    block
+}
+
+// What is after the whole blocks, and the indexes that are still to be written.
+fn scan_rest<A: Allocator>(
+    input: &[u8],
+    rest: &[u8],
+    done: Scanned,
+    checked: usize,
+    structural_indexes: &mut Vec<u32, A>,
+    escape_blocks: &mut Vec<u32, A>,
+) -> Result<(bool, Found)>
+    requires size { length input.now ≤ max_length }
+    requires rest { rest.now ≡ drop (length input.now / 64 * 64) input.now }
+    requires len { length rest.now < 64 }
+    requires scanned { IsScanned input.now (length input.now / 64) done structural_indexes.old.items escape_blocks.old.items }
+    requires checked { (checked ≤ length input.now) × IsUtf8 (take checked input.now) }
+    ensures found { IfOk result (λ r. IsFound input.now r.0 r.1 structural_indexes.new.items escape_blocks.new.items) }
+    ensures fault { IfErr result (λ e. IsBadEncoding input.now e
+        ⊎ LacksMemory input.now e structural_indexes.old.items escape_blocks.old.items) }
+    ensures longer { (length structural_indexes.old.items ≤ length structural_indexes.new.items)
+        × (length escape_blocks.old.items ≤ length escape_blocks.new.items) }
+{
+    let number = input.len() / BLOCK_LEN;
+    let marks = block(&last_block(rest), done.carry);
+    let is_ascii = marks.high == 0;
+    check_window(input, checked, BLOCK_LEN * number, input.len(), is_ascii)?;
+    let written = done.used + done.late.count_ones() as usize;
+    let positions = written + marks.starts.count_ones() as usize;
+    make_room(structural_indexes, positions, positions, input.len())?;
+    let late_at = (BLOCK_LEN * number.saturating_sub(1)) as u32;
+    let out = structural_indexes.as_mut_slice();
+    write_exactly(out, done.used, late_at, done.late);
+    write_exactly(out, written, (BLOCK_LEN * number) as u32, marks.starts);
+    let mut listed = done.listed;
+    if marks.has_backslash {
+        let max_blocks = input.len().div_ceil(BLOCK_LEN);
+        put(escape_blocks, listed, number as u32, max_blocks)?;
+        listed += 1;
+    }
+    let is_open = marks.carry.inside != 0;
+    let has_control = (done.bad | marks.bad) != 0;
+    let found = Found {
+        positions,
+        escape_blocks: listed,
+    };
+    Ok((is_open | has_control, found))
+}
+
+// Writes the positions of the input to the front of one list, and the blocks with a backslash to the front of the other.
+// Answers whether some string is bad, and how many of each there are.
+pub(super) fn scan<A: Allocator>(
+    input: &[u8],
+    structural_indexes: &mut Vec<u32, A>,
+    escape_blocks: &mut Vec<u32, A>,
+) -> Result<(bool, Found)>
+    requires { length input.now ≤ max_length }
+    ensures found { IfOk result (λ r. IsFound input.now r.0 r.1 structural_indexes.new.items escape_blocks.new.items) }
+    ensures fault { IfErr result (λ e. IsBadEncoding input.now e
+        ⊎ LacksMemory input.now e structural_indexes.old.items escape_blocks.old.items) }
+    ensures longer { (length structural_indexes.old.items ≤ length structural_indexes.new.items)
+        × (length escape_blocks.old.items ≤ length escape_blocks.new.items) }
+{
+    let (blocks, rest) = input.as_chunks::<64>();
+    let (done, checked) = scan_blocks(input, blocks, structural_indexes, escape_blocks)?;
+    scan_rest(
+        input,
+        rest,
+        done,
+        checked,
+        structural_indexes,
+        escape_blocks,
+    )
+}

@@ -1,0 +1,77 @@
+// The indexes of a block's positions, from the word of their bits to the list.
+ghost use Rattle.std.specs.Prelude.{◌≡◌, ◌+◌, ◌^◌, ◌<◌, ◌≤◌, ◌++◌, ℕ, List, length, take};
+ghost use Rattle.std.specs.Int.RustNames.{count_ones};
+ghost use Rattle.simd_json_stages.specs.Words.{set_bits};
+ghost use Rattle.simd_json_stages.specs.Stored.{IsStored};
+
+// Stores the index of the lowest bit, and answers the others. Where there is no bit what is stored has no meaning.
+#[inline(always)]
+fn store_lowest(out: &mut [u32], at: usize, base: u32, bits: u64) -> u64
+    requires room { at < length out.old }
+    requires base { base + 64 ≤ 2 ^ 32 }
+    ensures { (before : List ℕ) (used : ℕ) (all : List ℕ) (k : ℕ) → at ≡ used + k
+        → IsStored before used all k base out.old bits → IsStored before used all (k + 1) base out.new result }
+{
+    out[at] = base.wrapping_add(bits.trailing_zeros());
+    bits & bits.wrapping_sub(1)
+}
+
+// The same four times, with no branch.
+#[inline(always)]
+fn store_four(out: &mut [u32], at: usize, base: u32, bits: u64) -> u64
+    requires room { at + 4 ≤ length out.old }
+    requires base { base + 64 ≤ 2 ^ 32 }
+    ensures { (before : List ℕ) (used : ℕ) (all : List ℕ) (k : ℕ) → at ≡ used + k
+        → IsStored before used all k base out.old bits → IsStored before used all (k + 4) base out.new result }
+{
+    let bits = store_lowest(out, at, base, bits);
+    let bits = store_lowest(out, at + 1, base, bits);
+    let bits = store_lowest(out, at + 2, base, bits);
+    store_lowest(out, at + 3, base, bits)
+}
+
+// Writes the indexes of a word's bits after those that are in use, and answers how many are in use then. Most blocks
+// have a few, so the branches are on their number, and some stores are in vain.
+#[inline(always)]
+pub(super) fn write(out: &mut [u32], used: usize, base: u32, bits: u64) -> usize
+    requires room { used + 64 ≤ length out.old }
+    requires base { base + 64 ≤ 2 ^ 32 }
+    ensures written { take result out.new ≡ take used out.old ++ set_bits 64 base bits }
+    ensures count { result ≤ used + 64 }
+{
+    let count = bits.count_ones() as usize;
+    let rest = store_four(out, used, base, bits);
+    if count <= 4 {
+        return used + count;
+    }
+    let rest = store_four(out, used + 4, base, rest);
+    if count <= 8 {
+        return used + count;
+    }
+    let rest = store_four(out, used + 8, base, rest);
+    if count <= 12 {
+        return used + count;
+    }
+    let rest = store_four(out, used + 12, base, rest);
+    if count <= 16 {
+        return used + count;
+    }
+    write_exactly(out, used + 16, base, rest)
+}
+
+// The same one by one, and nothing in vain.
+#[inline(always)]
+pub(super) fn write_exactly(out: &mut [u32], used: usize, base: u32, bits: u64) -> usize
+    requires room { used + count_ones bits ≤ length out.old }
+    requires base { base + 64 ≤ 2 ^ 32 }
+    ensures written { take result out.new ≡ take used out.old ++ set_bits 64 base bits }
+    ensures count { result ≡ used + count_ones bits }
+{
+    let mut rest = bits;
+    let mut end = used;
+    while rest != 0 {
+        rest = store_lowest(out, end, base, rest);
+        end += 1;
+    }
+    end
+}
