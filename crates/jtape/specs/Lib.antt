@@ -1,3 +1,5 @@
+pub mod Failures
+pub mod Lines
 pub mod Output
 pub mod Ports
 pub mod Runs

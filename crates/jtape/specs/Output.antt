@@ -1,30 +1,35 @@
--- What the program prints of a tape: a line for each node.
-use Rattle.std.specs.Prelude.{ℕ, List, [], ◌∷◌, ◌++◌, flat_map, codes}
-use Rattle.std.specs.Fmt.{decimal, signed_decimal}
-use Rattle.simd_json_parts.specs.Nodes.{Item, static_item, decimal_item, string_item, array_item, object_item}
-use Rattle.simd_json_parts.specs.Printed.{quoted, truth_text}
-use Rattle.simd_json_parts.specs.declared.node.StaticNode.{StaticNode}
-use Rattle.simd_json_parts.specs.declared.node.StaticNode.TheVariants.{Null, Bool, I64, U64}
+-- What the program writes and returns: a function of the mode, the depth limit and the input.
+use Rattle.std.specs.Prelude.{ℕ, List, [], Bool, true, Result, Ok, Err}
+use Rattle.jtape.specs.Lines.{lines}
+use Rattle.jtape.specs.declared.run.RunFault.{RunFault}
+use Rattle.jtape.specs.declared.run.RunFault.TheVariants.{Refused}
+use Rattle.jtape.specs.declared.settings.Mode.{Mode}
+use Rattle.jtape.specs.declared.settings.Mode.TheVariants.{Tape}
+use Rattle.simd_json_parts.specs.Answer.{answer}
+use Rattle.simd_json_parts.specs.Document.{Document}
+use Rattle.simd_json_parts.specs.Listing.{listing}
+use Rattle.simd_json_parts.specs.declared.error.Error.{Error}
 
-abbrev pub static_text : StaticNode → List ℕ
-static_text Null = codes "Null"
-static_text (Bool b) = codes "Bool " ++ truth_text b
-static_text (I64 z) = codes "I64 " ++ signed_decimal z
-static_text (U64 n) = codes "U64 " ++ decimal n
+-- the bytes that are written, and what is returned
+pub record Output : Type 0 where
+  pub bytes : List ℕ
+  pub returned : Result Bool RunFault
 
--- of a container: its kind, `len` and `count`
-abbrev pub header_text : List ℕ → ℕ → ℕ → List ℕ
-header_text kind len count = kind ++ decimal len ++ codes " " ++ decimal count
+-- what the mode prints of an input that is this document
+abbrev pub printed : Mode → List ℕ → Document → List ℕ
+printed Tape input d = lines (listing d)
 
-abbrev pub node_text : Item → List ℕ
-node_text (static_item s) = static_text s
-node_text (decimal_item literal) = codes "Decimal " ++ literal
-node_text (string_item t) = codes "String " ++ quoted t
-node_text (array_item len count) = header_text (codes "Array ") len count
-node_text (object_item len count) = header_text (codes "Object ") len count
+abbrev pub all_printed : List ℕ → Output
+all_printed bytes = record { bytes = bytes; returned = Ok true }
 
-abbrev pub line : Item → List ℕ
-line node = node_text node ++ 10 ∷ []
+-- nothing is written of what is refused
+abbrev pub nothing_printed : RunFault → Output
+nothing_printed fault = record { bytes = []; returned = Err fault }
 
-abbrev pub lines : List Item → List ℕ
-lines nodes = flat_map line nodes
+abbrev pub output_of : Mode → List ℕ → Result Document Error → Output
+output_of mode input (Ok d) = all_printed (printed mode input d)
+output_of mode input (Err e) = nothing_printed (Refused e)
+
+-- with at most so many containers open at a time
+abbrev pub output : Mode → ℕ → List ℕ → Output
+output mode depth input = output_of mode input (answer input depth)

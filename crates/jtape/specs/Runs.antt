@@ -1,53 +1,39 @@
 -- What a run of the program leaves.
-use Rattle.std.specs.Prelude.{◌≡◌, ◌⊎◌, ℕ, List, ⊤, true, false, Bool, Option, Result, Ok, Err}
+use Rattle.std.specs.Prelude.{◌≡◌, ◌⊎◌, ℕ, List, take, ⊤, true, false, Bool, Option, Result, Ok, Err}
 use Rattle.std.specs.Io.KnownBytes.{Appends, Consumes, IsAtEnd}
-use Rattle.jtape.specs.Output.{lines}
+use Rattle.jtape.specs.Output.{output}
 use Rattle.jtape.specs.declared.run.RunFault.{RunFault}
 use Rattle.jtape.specs.declared.run.RunFault.TheVariants.{Refused, Read}
-use Rattle.simd_json.specs.Parsed.{IsParsed, IsRefused}
+use Rattle.jtape.specs.declared.settings.Mode.{Mode}
 use Rattle.simd_json_parts.specs.Faults.{whole_fault}
-use Rattle.simd_json_parts.specs.Nodes.{Item}
-use Rattle.simd_json_parts.specs.declared.error.Error.{Error}
 use Rattle.simd_json_parts.specs.declared.error.ErrorType.TheVariants.{OutOfMemory}
 
--- the input is a document within the limits, with so many containers open at most, and these are the lines of its nodes
-pub record IsOutput (depth : ℕ) (input out : List ℕ) : Type 0 where
-  pub nodes : List Item
-  pub parsed : IsParsed input depth nodes
-  pub listed : out ≡ lines nodes
-
--- for want of memory, or by the definitions
-abbrev pub IsRefusal : ℕ → List ℕ → RunFault → Type 0
-IsRefusal depth input (Refused e) = (e ≡ whole_fault OutOfMemory) ⊎ IsRefused input depth e
-IsRefusal depth input _ = ⊥
+abbrev pub lacks_memory : RunFault
+lacks_memory = Refused (whole_fault OutOfMemory)
 
 -- Of a reader with these bytes left before and after, and a writer that held and holds these: the reader was read to its
--- end, and the output of what it gave was written.
-pub record HasPrinted (depth : ℕ) (before after held holds : Option (List ℕ)) : Type 0 where
+-- end, and the output of what it gave was written and returned.
+pub record HasRun (mode : Mode) (depth : ℕ) (before after held holds : Option (List ℕ)) (result : Result Bool RunFault) : Type 0 where
   pub input : List ℕ
   pub read : Consumes before after input
   pub end : IsAtEnd after
-  pub out : List ℕ
-  pub is_output : IsOutput depth input out
-  pub written : Appends held holds out
+  pub written : Appends held holds (output mode depth input).bytes
+  pub returned : result ≡ (output mode depth input).returned
 
--- the reader was read to its end, and what it gave is refused with this fault
-pub record HasRefused (depth : ℕ) (before after : Option (List ℕ)) (e : Error) : Type 0 where
+-- likewise, where the writer failed: a beginning of that output was written
+pub record HasBegun (mode : Mode) (depth : ℕ) (before after held holds : Option (List ℕ)) : Type 0 where
   pub input : List ℕ
   pub read : Consumes before after input
   pub end : IsAtEnd after
-  pub refused : IsRefused input depth e
+  pub count : ℕ
+  pub written : Appends held holds (take count (output mode depth input).bytes)
 
-abbrev pub OnRefused : RunFault → (Error → Type 0) → Type 0
-OnRefused (Refused e) P = P e
-OnRefused _ P = ⊤
+-- what is returned is for want of memory, or by P; nothing is asked where the reader or the writer failed
+abbrev pub OnAnswer : Result Bool RunFault → Type 0 → Type 0
+OnAnswer (Ok all) P = P
+OnAnswer (Err (Refused e)) P = (e ≡ whole_fault OutOfMemory) ⊎ P
+OnAnswer (Err _) P = ⊤
 
-abbrev pub status_of : Result Bool RunFault → ℕ
-status_of (Ok true) = 0
-status_of (Ok false) = 1
-status_of (Err (Refused e)) = 1
-status_of (Err _) = 3
-
--- of a reader's port that has failed or not: it has, or a growth was refused
+-- of a reader's port that has failed or not: it has, or an allocation failed
 abbrev pub IsReadFault : Bool → RunFault → Type 0
-IsReadFault failed fault = ((fault ≡ Read) × (failed ≡ true)) ⊎ ((fault ≡ Refused (whole_fault OutOfMemory)) × (failed ≡ false))
+IsReadFault failed fault = ((fault ≡ Read) × (failed ≡ true)) ⊎ ((fault ≡ lacks_memory) × (failed ≡ false))

@@ -5,7 +5,7 @@ use Rattle.std.specs.List.{list_all}
 use Rattle.std.specs.Str.Parse.{digits_value}
 use Rattle.jtape.specs.declared.settings.Mode.{Mode}
 use Rattle.jtape.specs.declared.settings.Mode.TheVariants.{Tape}
-use Rattle.simd_json_parts.specs.Limits.{default_max_depth}
+use Rattle.simd_json.specs.MaxDepth.{default_max_depth}
 
 abbrev pub mode_of : List ℕ → Option Mode
 mode_of word = if bytes_eq word (codes "tape") then Some Tape else None

@@ -3,41 +3,36 @@
 //! - [`settings`]: what the words ask for.
 //! - [`port`]: a reader or a writer, and whether it has failed or ended.
 //! - [`run`]: from a reader's bytes to a writer's lines.
+//! - [`failure`]: the arguments before it, and the line on standard error and the status after it.
 #![tactic(auto)]
 
+mod failure;
 mod lines;
 mod port;
 mod run;
 mod settings;
 
+use failure::{Failure, asked, exit_status};
 use port::Port;
-use run::{RunFault, run, status};
-use settings::{Mode, settings};
+use run::run;
 use std::process::ExitCode;
 use std::{env, io};
 
 fn main(rt: HostRuntime) -> ExitCode {
-    let Some((mode, depth)) = asked(&rt) else {
-        let _ = eprintln!(rt; "usage: jtape MODE [DEPTH]");
-        return ExitCode::from(2);
-    };
-    let mut reader = Port::new(rt.reader());
-    let mut writer = Port::new(io::writer(&rt));
-    let answer = run(rt.alloc(), mode, depth, &mut reader, &mut writer);
-    let _ = match &answer {
-        Ok(_) => Ok(()),
-        Err(RunFault::Refused(e)) => eprintln!(rt; "{e}"),
-        Err(RunFault::Read) => eprintln!(rt; "reading failed"),
-        Err(RunFault::Write) => eprintln!(rt; "writing failed"),
-    };
-    ExitCode::from(status(&answer))
+    let ended = program(&rt);
+    if let Err(failure) = &ended {
+        let _ = eprintln!(rt; "{failure}");
+    }
+    ExitCode::from(exit_status(ended))
 }
 
-// What the program's words ask for, where they can be read and are understood.
-fn asked(rt: &HostRuntime) -> Option<(Mode, usize)> {
-    let mut words = Vec::new(rt.alloc());
-    for word in env::args(rt).ok()?.skip(1) {
-        words.push(word).ok()?;
-    }
-    settings(words.as_slice())
+fn program(rt: &HostRuntime) -> Result<bool, Failure> {
+    let (mode, depth) = asked(arguments(rt))?;
+    let mut reader = Port::new(rt.reader());
+    let mut writer = Port::new(io::writer(rt));
+    Ok(run(rt.alloc(), mode, depth, &mut reader, &mut writer)?)
+}
+
+fn arguments(rt: &HostRuntime) -> io::Result<Vec<String>> {
+    Ok(env::args(rt)?.collect(rt.alloc())?)
 }

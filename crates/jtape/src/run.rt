@@ -1,19 +1,22 @@
 //! From a reader's bytes to a writer's lines.
-ghost use Rattle.std.specs.Prelude.{◌≡◌, ◌≢◌, ◌↔◌, ◌⊎◌, ◌<◌, ℕ, List, Option, length, true, false, IfOk, IfErr, OnOk, OnErr, Err};
+ghost use Rattle.std.specs.Prelude.{◌≡◌, ◌≢◌, ◌↔◌, ◌⊎◌, ◌<◌, ℕ, List, Option, length, take, true, false, IfOk, IfErr, OnOk, OnErr, Err};
 ghost use Rattle.std.specs.Io.KnownBytes.{Appends, Consumes, IsAtEnd, Keeps};
-ghost use Rattle.jtape.specs.Runs.{IsOutput, HasPrinted, IsRefusal, HasRefused, OnRefused, IsReadFault, status_of};
+ghost use Rattle.jtape.specs.Output.{output, all_printed, nothing_printed};
+ghost use Rattle.jtape.specs.Runs.{HasRun, HasBegun, IsReadFault, OnAnswer, lacks_memory};
 ghost use Rattle.jtape.specs.declared.run.RunFault.TheVariants as faults;
-ghost use Rattle.simd_json_parts.specs.Faults.{whole_fault};
-ghost use Rattle.simd_json_parts.specs.declared.error.ErrorType.{ErrorType};
 
 use crate::lines::append_lines;
 use crate::port::Port;
 use crate::settings::Mode;
 use simd_json::{Buffers, Error, to_tape_with_buffers};
-use std::alloc::{AllocError, Allocator, Global};
+use std::alloc::{AllocError, Allocator};
 use std::io::{Read, Write};
 
 type Result<T> = std::result::Result<T, RunFault>;
+
+/// What a run returns. `Ok` says whether all that was read is printed: `false` is for modes that print many documents, and
+/// go on after one that is refused. A mode of one document refuses it as a fault, and its `Ok` is `true`.
+pub type Answer = Result<bool>;
 
 /// Why a run wrote less than all lines.
 #[derive(Debug, Drop, PartialEq)]
@@ -51,25 +54,29 @@ impl From<AllocError> for RunFault {
 }
 
 /// Reads all that the reader gives, and writes what the mode asks for of the document that it read, in which at most
-/// `depth` containers may be open at a time.
+/// `depth` containers may be open at a time. So what is written and returned is a function of the mode, the depth limit and
+/// what the reader gave; but an allocation may fail (`OutOfMemory`), the reader (`Read`) or the writer (`Write`).
 ///
-/// Nothing is written before all is read, nor where the input is refused or a growth is. Returns `Read` exactly where
-/// the reader's port has failed, and `Write` exactly where the writer's has. `Ok` and a refusal of the input come only
-/// where the reader's port has ended.
-pub fn run<R: Read, W: Write>(
-    a: Global,
+/// Nothing is written before the reader's port has ended, nor where the input is refused, nor after `OutOfMemory` or `Read`;
+/// after `Write` a beginning of the output was. Returns `Read` exactly where the reader's port has failed, and `Write`
+/// exactly where the writer's has.
+pub fn run<A: Allocator + Copy, R: Read, W: Write>(
+    a: A,
     mode: Mode,
     depth: usize,
     reader: &mut Port<R>,
     writer: &mut Port<W>,
-) -> Result<bool>
+) -> Answer
     requires reader { (reader.old.failed ≡ false) × (reader.old.ended ≡ false) }
     requires writer { (writer.old.failed ≡ false) × (writer.old.ended ≡ false) }
-    ensures printed { IfOk result (λ all. (all ≡ true) × (reader.new.ended ≡ true)
-        × HasPrinted depth (R.remaining reader.old.inner) (R.remaining reader.new.inner) (W.contents writer.old.inner) (W.contents writer.new.inner)) }
-    ensures refused { IfErr result (λ fault. OnRefused fault (λ e. (e ≡ whole_fault ErrorType.OutOfMemory)
-        ⊎ ((reader.new.ended ≡ true) × HasRefused depth (R.remaining reader.old.inner) (R.remaining reader.new.inner) e))) }
-    ensures silent { IfErr result (λ fault. fault ≢ faults.Write → Keeps (W.contents writer.old.inner) (W.contents writer.new.inner)) }
+    ensures output { OnAnswer result ((reader.new.ended ≡ true)
+        × HasRun mode depth (R.remaining reader.old.inner) (R.remaining reader.new.inner)
+        (W.contents writer.old.inner) (W.contents writer.new.inner) result) }
+    ensures silent { IfErr result (λ fault. fault ≢ faults.Write
+        → Keeps (W.contents writer.old.inner) (W.contents writer.new.inner)) }
+    ensures begun { result ≡ Err faults.Write → (reader.new.ended ≡ true)
+        × HasBegun mode depth (R.remaining reader.old.inner) (R.remaining reader.new.inner)
+        (W.contents writer.old.inner) (W.contents writer.new.inner) }
     ensures read { (result ≡ Err faults.Read) ↔ (reader.new.failed ≡ true) }
     ensures write { (result ≡ Err faults.Write) ↔ (writer.new.failed ≡ true) }
 {
@@ -79,25 +86,14 @@ pub fn run<R: Read, W: Write>(
     Ok(true)
 }
 
-/// The status that the program ends with: 0 where all is well, 1 where the input is refused or a growth was, 3 where
-/// the reader or the writer failed.
-pub fn status(answer: &std::result::Result<bool, RunFault>) -> u8
-    ensures { result ≡ status_of answer.now }
-{
-    match answer {
-        Ok(true) => 0,
-        Ok(false) | Err(RunFault::Refused(_)) => 1,
-        Err(RunFault::Read | RunFault::Write) => 3,
-    }
-}
-
 // How many bytes are asked of the reader at a time.
 const BLOCK: usize = 16_384;
 
 // Reads to the reader's end.
 fn read_all<R: Read, A: Allocator>(a: A, reader: &mut Port<R>) -> Result<Vec<u8, A>>
     requires { (reader.old.failed ≡ false) × (reader.old.ended ≡ false) }
-    ensures all { IfOk result (λ input. Consumes (R.remaining reader.old.inner) (R.remaining reader.new.inner) input.items
+    ensures all { IfOk result (λ input.
+        Consumes (R.remaining reader.old.inner) (R.remaining reader.new.inner) input.items
         × IsAtEnd (R.remaining reader.new.inner) × (reader.new.ended ≡ true) × (reader.new.failed ≡ false)) }
     ensures fault { IfErr result (IsReadFault reader.new.failed) }
 {
@@ -116,10 +112,13 @@ fn read_more<R: Read, A: Allocator>(
     requires reader { (reader.old.failed ≡ false) × (reader.old.ended ≡ false) }
     requires room { 0 < length block.old }
     ensures kept { length block.new ≡ length block.old }
-    ensures read { OnOk result ((before : Option (List ℕ)) → Consumes before (R.remaining reader.old.inner) input.old.items
+    ensures read { OnOk result ((before : Option (List ℕ))
+        → Consumes before (R.remaining reader.old.inner) input.old.items
         → Consumes before (R.remaining reader.new.inner) input.new.items) }
-    ensures more { IfOk result (λ more. more ≡ true → (length input.old.items < length input.new.items) × (reader.new.ended ≡ false)) }
-    ensures end { IfOk result (λ more. more ≡ false → IsAtEnd (R.remaining reader.new.inner) × (reader.new.ended ≡ true)) }
+    ensures more { IfOk result (λ more. more ≡ true
+        → (length input.old.items < length input.new.items) × (reader.new.ended ≡ false)) }
+    ensures end { IfOk result (λ more. more ≡ false
+        → IsAtEnd (R.remaining reader.new.inner) × (reader.new.ended ≡ true)) }
     ensures sound { OnOk result (reader.new.failed ≡ false) }
     ensures fault { IfErr result (IsReadFault reader.new.failed) }
 {
@@ -134,26 +133,33 @@ fn read_more<R: Read, A: Allocator>(
 }
 
 // What is written of an input.
-fn output(a: Global, mode: Mode, depth: usize, input: &mut [u8]) -> Result<Vec<u8>>
-    ensures output { IfOk result (λ out. IsOutput depth input.old out.items) }
-    ensures fault { IfErr result (IsRefusal depth input.old) }
+fn output<A: Allocator + Copy>(
+    a: A,
+    mode: Mode,
+    depth: usize,
+    input: &mut [u8],
+) -> Result<Vec<u8, A>>
+    ensures output { IfOk result (λ out. output mode depth input.old ≡ all_printed out.items) }
+    ensures fault { IfErr result (λ fault. (fault ≡ lacks_memory)
+        ⊎ (output mode depth input.old ≡ nothing_printed fault)) }
 {
+    let mut buffers = Buffers::with_max_depth(a, 0, depth)?;
+    let tape = to_tape_with_buffers(input, &mut buffers)?;
+    let mut out = Vec::new(a);
     match mode {
-        Mode::Tape => {
-            let mut buffers = Buffers::with_max_depth(a, 0, depth)?;
-            let tape = to_tape_with_buffers(input, &mut buffers)?;
-            let mut out = Vec::new(a);
-            append_lines(&mut out, tape.nodes())?;
-            Ok(out)
-        }
+        Mode::Tape => append_lines(&mut out, tape.nodes())?,
     }
+    Ok(out)
 }
 
-// Writes all of the bytes.
+// Writes all of the bytes, or a beginning of them where the writer fails.
 fn write_all<W: Write>(writer: &mut Port<W>, bytes: &[u8]) -> Result<()>
     requires { writer.old.failed ≡ false }
-    ensures all { OnOk result (Appends (W.contents writer.old.inner) (W.contents writer.new.inner) bytes.now × (writer.new.failed ≡ false)) }
+    ensures all { OnOk result ((writer.new.failed ≡ false)
+        × Appends (W.contents writer.old.inner) (W.contents writer.new.inner) bytes.now) }
     ensures fault { IfErr result (λ fault. (fault ≡ faults.Write) × (writer.new.failed ≡ true)) }
+    ensures begun { OnErr result ((count : ℕ)
+        × Appends (W.contents writer.old.inner) (W.contents writer.new.inner) (take count bytes.now)) }
 {
     let mut done = 0;
     while done < bytes.len() {

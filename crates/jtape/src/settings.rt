@@ -47,3 +47,42 @@ fn has_digits_alone(word: &str) -> bool
 {
     word.as_bytes().iter().all(|byte| byte.is_ascii_digit())
 }
+
+#[cfg(test)]
+mod tests {
+    use super::*;
+    use std::test::Fail;
+
+    #[test]
+    fn words_are_understood(rt: HostRuntime) -> std::result::Result<(), Fail> {
+        let rows: [(&[&str], Option<(Mode, usize)>); 16] = [
+            (&["tape"], Some((Mode::Tape, 1024))),
+            (&["tape", "8"], Some((Mode::Tape, 8))),
+            (&["tape", "007"], Some((Mode::Tape, 7))),
+            (&["tape", "0"], Some((Mode::Tape, 0))),
+            (
+                &["tape", "18446744073709551615"],
+                Some((Mode::Tape, usize::MAX)),
+            ),
+            (&["tape", "18446744073709551616"], None),
+            (&[], None),
+            (&["tree"], None),
+            (&["tree", "8"], None),
+            (&["tape", "1", "2"], None),
+            (&["tape", "x"], None),
+            (&["tape", "+1"], None),
+            (&["tape", "-1"], None),
+            (&["tape", ""], None),
+            (&[""], None),
+            (&["Tape"], None),
+        ];
+        for (given, wanted) in rows {
+            let mut words = Vec::new(rt.alloc());
+            for word in given {
+                words.push(String::from_str(rt.alloc(), word)?)?;
+            }
+            assert_eq!(rt; settings(words.as_slice()), wanted, "{given:?}");
+        }
+        Ok(())
+    }
+}

@@ -1,3 +1,6 @@
 mod ParseLaws
 mod ParseEnds
 mod ParseAnswers
+pub mod Listed
+mod Compared
+mod Split

@@ -4,28 +4,29 @@ use Rattle.std.specs.Result.{result_err}
 use Rattle.std.proofs.lemmas.Bool.{false≢true}
 use Rattle.std.proofs.lemmas.Option.{none-some}
 use Rattle.simd_json_parts.specs.Answer.{answer}
+use Rattle.simd_json_parts.specs.FaultKinds.{IsOfInput, IsOfToken}
 use Rattle.simd_json_parts.specs.Faults.{whole_fault}
 use Rattle.simd_json_parts.specs.InputFaults.{input_fault}
 use Rattle.simd_json_parts.specs.Nodes.{Item}
 use Rattle.simd_json_parts.specs.declared.error.Error.{Error}
 use Rattle.simd_json_parts.specs.declared.error.ErrorType.TheVariants.{OutOfMemory}
-use Rattle.simd_json_stages.specs.Refusals.{IsTokenFault}
-use Rattle.simd_json.specs.Parsed.{HasMemory, IsParse, IsRefused, LacksMemory, answered_nodes, positions_behind}
-use Rattle.simd_json.proofs.ParseEnds.{token-character, token-memory, whole-character, whole-memory}
+use Rattle.simd_json.specs.Memory.{HasMemory, IsOutOfMemory, LacksMemory}
+use Rattle.simd_json.specs.Parsed.{IsParse, IsRefused, answered_nodes, positions_after}
+use Rattle.simd_json.proofs.ParseEnds.{input-character, input-memory, token-memory}
 
 abbrev AsAnswered : List ℕ → ℕ → Option Error → List Item → List ℕ → Type 0
 AsAnswered b limit fault nodes listed =
-    (fault ≡ result_err (answer b limit)) × (nodes ≡ answered_nodes (answer b limit)) × (listed ≡ positions_behind b (result_err (answer b limit)))
+    (fault ≡ result_err (answer b limit)) × (nodes ≡ answered_nodes (answer b limit)) × (listed ≡ positions_after b (result_err (answer b limit)))
 
 pub as-answered : (b : List ℕ) (limit room : ℕ) (fault : Option Error) (nodes : List Item) (listed : List ℕ) → IsParse b limit room fault nodes listed → HasMemory fault → AsAnswered b limit fault nodes listed
 as-answered b limit room None nodes listed p memory =
     let is = p.parsed.answered in
-    (ap result_err (sym is), p.parsed.listed ∙ ap answered_nodes (sym is), p.found ∙ ap (λ r. positions_behind b (result_err r)) (sym is))
+    (ap result_err (sym is), p.parsed.listed ∙ ap answered_nodes (sym is), p.found ∙ ap (λ r. positions_after b (result_err r)) (sym is))
 as-answered b limit room (Some e) nodes listed p memory = by_cause p.refused where
   by_cause : IsRefused b limit e ⊎ (LacksMemory b e × (room < length b)) → AsAnswered b limit (Some e) nodes listed
   by_cause (inl refused) =
       let is = refused.answered in
-      (ap result_err (sym is), p.empty ∙ ap answered_nodes (sym is), p.found ∙ ap (λ r. positions_behind b (result_err r)) (sym is))
+      (ap result_err (sym is), p.empty ∙ ap answered_nodes (sym is), p.found ∙ ap (λ r. positions_after b (result_err r)) (sym is))
   by_cause (inr (lacks, short)) = absurd (memory (ap Some lacks.0))
 
 some-same : (e f : Error) → Some e ≡ Some f → e ≡ f
@@ -34,18 +35,18 @@ some-same e f is = ap error_in is where
   error_in None = e
   error_in (Some x) = x
 
-refused-memory : (b : List ℕ) (e : Error) → e ≡ whole_fault OutOfMemory → (input_fault b ≡ Some e) ⊎ ((input_fault b ≡ None) × IsTokenFault e) → ⊥
-refused-memory b e lacks (inl is) = whole-memory b e is lacks
-refused-memory b e lacks (inr (none, token)) = token-memory e token lacks
+refused-memory : (b : List ℕ) (e : Error) → IsOutOfMemory e → ((input_fault b ≡ Some e) × IsOfInput e) ⊎ ((input_fault b ≡ None) × IsOfToken e) → ⊥
+refused-memory b e lacks (inl (is, named)) = input-memory e named lacks
+refused-memory b e lacks (inr (none, named)) = token-memory e named lacks
 
 pub has-memory : (b : List ℕ) (limit room : ℕ) (fault : Option Error) (nodes : List Item) (listed : List ℕ) → IsParse b limit room fault nodes listed → length b ≤ room → HasMemory fault
 has-memory b limit room None nodes listed p enough is = none-some _ is
 has-memory b limit room (Some e) nodes listed p enough is = by_cause p.refused where
   by_cause : IsRefused b limit e ⊎ (LacksMemory b e × (room < length b)) → ⊥
-  by_cause (inl refused) = refused-memory b e (some-same e (whole_fault OutOfMemory) is) refused.told
+  by_cause (inl refused) = refused-memory b e (some-same e (whole_fault OutOfMemory) is) refused.kinds
   by_cause (inr (lacks, short)) = omega (arith, short, enough)
 
 -- a character is a token's
-pub tokens-have-characters : (b : List ℕ) (e : Error) → (input_fault b ≡ Some e) ⊎ ((input_fault b ≡ None) × IsTokenFault e) → IsSome e.character ↔ (input_fault b ≡ None)
-tokens-have-characters b e (inl is) = (λ some. absurd (false≢true (sym (whole-character b e is) ∙ some)), λ none. absurd (none-some e (sym none ∙ is)))
-tokens-have-characters b e (inr (none, token)) = (λ _. none, λ _. token-character e token)
+pub tokens-have-characters : (b : List ℕ) (e : Error) → ((input_fault b ≡ Some e) × IsOfInput e) ⊎ ((input_fault b ≡ None) × IsOfToken e) → IsSome e.character ↔ (input_fault b ≡ None)
+tokens-have-characters b e (inl (is, named)) = (λ some. absurd (false≢true (sym (input-character e named) ∙ some)), λ none. absurd (none-some e (sym none ∙ is)))
+tokens-have-characters b e (inr (none, named)) = (λ _. none, λ _. named.1)

@@ -1,92 +1,74 @@
 -- How a parse ends: with a tape, with the fault of a token or of the whole input, or for want of memory.
-use Rattle.std.proofs.Common.{◌≡◌, ◌∙◌, ap, sym, subst, ◌<◌, ◌≤◌, ℕ, List, [], length, Bool, true, false, not, Some, None, Option, Ok, Err, refl, arith, cond, Result, min, ◌*◌, ◌⊎◌, inl, inr, IsUtf8, is_some, nat_lt, nat_eq, take}
+use Rattle.std.proofs.Common.{◌≡◌, ◌≢◌, ◌∙◌, ap, sym, subst, ◌<◌, ◌≤◌, ℕ, List, [], length, Bool, true, false, not, Some, None, Option, Ok, Err, refl, arith, cond, Result, min, ◌*◌, ◌⊎◌, inl, inr, IsUtf8, is_some, nat_lt, take}
 use Rattle.std.specs.Result.{IsErrAnd, IfErr, IfOk, OnOk, OnErr, result_err}
 use Rattle.std.specs.Str.{is_utf8}
+use Rattle.simd_json_parts.proofs.Faults.Kinds.{input-fault}
 use Rattle.simd_json_parts.proofs.Positions.ScannedInputs.{fault-by_size, scanned}
 use Rattle.std.proofs.lemmas.List.{length-take-le}
 use Rattle.std.proofs.lemmas.Option.{none-some}
 use Rattle.std.proofs.lemmas.Str.{IsUtf8-from_is_utf8}
 use Rattle.std.proofs.lemmas.Bool.{ltb-false, ltb-true, lt-ltb, false≢true}
+use Rattle.simd_json_parts.specs.Document.{Document, null, boolean, integer, decimal, string, array, object}
+use Rattle.simd_json_parts.specs.FaultKinds.{IsOfInput, IsOfToken, is_input_kind, is_token_kind}
 use Rattle.simd_json_parts.specs.Faults.{whole_fault}
-use Rattle.simd_json_parts.specs.InputFaults.{input_fault, scan_fault, has_bad_string}
+use Rattle.simd_json_parts.specs.InputFaults.{input_fault, scan_fault}
 use Rattle.simd_json_parts.specs.Limits.{max_length}
+use Rattle.simd_json_parts.specs.Listing.{listing}
 use Rattle.simd_json_parts.specs.Nodes.{Item}
 use Rattle.simd_json_parts.specs.Positions.{positions}
 use Rattle.simd_json_parts.specs.declared.error.Error.{Error}
-use Rattle.simd_json_parts.specs.declared.error.ErrorType.{ErrorType}
-use Rattle.simd_json_parts.specs.declared.error.ErrorType.TheVariants.{InputTooLarge, InvalidUtf8, Syntax, Eof, OutOfMemory}
-use Rattle.simd_json_stages.specs.Refusals.{IsTokenFault}
-use Rattle.simd_json.specs.Parsed.{IsParse, IsParsed, IsRefused, LacksMemory}
+use Rattle.simd_json_parts.specs.declared.error.ErrorType.TheVariants.{OutOfMemory}
+use Rattle.simd_json.specs.Memory.{IsOutOfMemory, LacksMemory}
+use Rattle.simd_json.specs.Parsed.{IsParse, IsParsed, IsRefused}
 use Rattle.simd_json.specs.Rooms.{KeepsRooms, Rooms, room}
-use Rattle.simd_json.proofs.ParseLaws.{fault-answered, few-positions}
+use Rattle.simd_json.proofs.ParseLaws.{few-positions, refused-whole}
 
--- ---- the character of a fault
+-- ---- what a fault carries
 
--- what is true of each fault of a whole input
-in_order : (t : Option Error → Bool) (p q r s : Bool) (e f g h : Error) → t None ≡ true → t (Some e) ≡ true → t (Some f) ≡ true → t (Some g) ≡ true → t (Some h) ≡ true
-    → t (cond p (Some e) (cond q (Some f) (cond r (Some g) (cond s (Some h) None)))) ≡ true
-in_order t true q r s e f g h n x y z w = x
-in_order t false true r s e f g h n x y z w = y
-in_order t false false true s e f g h n x y z w = z
-in_order t false false false true e f g h n x y z w = w
-in_order t false false false false e f g h n x y z w = n
-
-whole-passes : (t : Option Error → Bool) (b : List ℕ) (e : Error) → input_fault b ≡ Some e → t None ≡ true → t (Some (whole_fault InputTooLarge)) ≡ true → t (Some (whole_fault InvalidUtf8)) ≡ true
-    → t (Some (whole_fault Syntax)) ≡ true → t (Some (whole_fault Eof)) ≡ true → t (Some e) ≡ true
-whole-passes t b e is n x y z w =
-    subst (λ o. t o ≡ true) (sym (fault-by_size b) ∙ is)
-    (in_order t (nat_lt max_length (length b)) (not (is_utf8 b)) (has_bad_string b) (nat_eq (length (positions b)) 0) _ _ _ _ n x y z w)
-
-abbrev has_no_character : Option Error → Bool
-has_no_character None = true
-has_no_character (Some e) = not (is_some e.character)
-
-abbrev is_of_memory : ErrorType → Bool
-is_of_memory OutOfMemory = true
-is_of_memory _ = false
-
-abbrev is_not_of_memory : Option Error → Bool
-is_not_of_memory None = true
-is_not_of_memory (Some e) = not (is_of_memory e.error)
-
-not-true : (t : Bool) → not t ≡ true → t ≡ false
-not-true true is = sym is
-not-true false is = refl
-
--- it has no character
-pub whole-character : (b : List ℕ) (e : Error) → input_fault b ≡ Some e → is_some e.character ≡ false
-whole-character b e is = not-true (is_some e.character) (whole-passes has_no_character b e is refl refl refl refl refl)
+pub input-character : (e : Error) → IsOfInput e → is_some e.character ≡ false
+input-character e named = ap (λ x. is_some x.character) named.1
 
 -- it is not for want of memory
-pub whole-memory : (b : List ℕ) (e : Error) → input_fault b ≡ Some e → e ≡ whole_fault OutOfMemory → ⊥
-whole-memory b e is lacks = false≢true (sym (not-true (is_of_memory e.error) (whole-passes is_not_of_memory b e is refl refl refl refl refl)) ∙ ap (λ x. is_of_memory x.error) lacks)
+pub input-memory : (e : Error) → IsOfInput e → IsOutOfMemory e → ⊥
+input-memory e named lacks = false≢true (sym (ap (λ x. is_input_kind x.error) lacks) ∙ named.0)
 
-pub token-character : (e : Error) → IsTokenFault e → is_some e.character ≡ true
-token-character e (kind, i, byte, is) = ap (λ x. is_some x.character) is
+pub token-memory : (e : Error) → IsOfToken e → IsOutOfMemory e → ⊥
+token-memory e named lacks = false≢true (sym (ap (λ x. is_token_kind x.error) lacks) ∙ named.0)
 
-pub token-memory : (e : Error) → IsTokenFault e → e ≡ whole_fault OutOfMemory → ⊥
-token-memory e token lacks = false≢true (sym (ap (λ x. is_some x.character) lacks) ∙ token-character e token)
+-- ---- what is parsed has a node
+
+listing-some : (d : Document) → listing d ≢ []
+listing-some null h = cc
+listing-some (boolean b) h = cc
+listing-some (integer minus n) h = cc
+listing-some (decimal literal) h = cc
+listing-some (string t) h = cc
+listing-some (array ds) h = cc
+listing-some (object ms) h = cc
+
+pub parsed-some : (b : List ℕ) (limit : ℕ) (nodes : List Item) → IsParsed b limit nodes → nodes ≢ []
+parsed-some b limit nodes p none = listing-some p.document (sym p.listed ∙ none)
 
 -- ---- the four ends
 
 pub parse-done : (b : List ℕ) (limit room : ℕ) (nodes : List Item) → IsParsed b limit nodes → length nodes ≤ length (positions b) → IsParse b limit room None nodes (positions b)
 parse-done b limit room nodes p l = record { parsed = p; refused = tt; empty = tt; found = refl; few = (l, few-positions b) }
 
-pub parse-token : (b : List ℕ) (limit room : ℕ) (e : Error) → IsRefused b limit e → IsTokenFault e → IsParse b limit room (Some e) [] (positions b)
+pub parse-token : (b : List ℕ) (limit room : ℕ) (e : Error) → IsRefused b limit e → IsOfToken e → IsParse b limit room (Some e) [] (positions b)
 parse-token b limit room e refused token = record {
   parsed = tt;
   refused = inl refused;
   empty = refl;
-  found = ap (λ t. cond t (positions b) []) (sym (token-character e token));
+  found = ap (λ t. cond t (positions b) []) (sym token.1);
   few = (omega arith, few-positions b);
 }
 
 pub parse-whole : (b : List ℕ) (limit room : ℕ) (e : Error) → input_fault b ≡ Some e → IsParse b limit room (Some e) [] []
 parse-whole b limit room e is = record {
   parsed = tt;
-  refused = inl (record { answered = fault-answered b limit e is; told = inl is });
+  refused = inl (refused-whole b limit e is);
   empty = refl;
-  found = ap (λ t. cond t (positions b) []) (sym (whole-character b e is));
+  found = ap (λ t. cond t (positions b) []) (sym (input-character e (input-fault b e is)));
   few = (omega arith, few-positions b);
 }
 
@@ -144,7 +126,7 @@ right-input b none =
 
 -- the second stage's end
 pub parse-built : {A : Type 0} (r : Result A Error) (b : List ℕ) (limit room : ℕ) (nodes : List Item) (listed : List ℕ) → OnOk r (IsParsed b limit nodes) → length nodes ≤ length (positions b) → OnErr r (nodes ≡ [])
-    → IfErr r (λ e. IsRefused b limit e × IsTokenFault e) → listed ≡ positions b → IsParse b limit room (result_err r) nodes listed
+    → IfErr r (λ e. IsRefused b limit e × IsOfToken e) → listed ≡ positions b → IsParse b limit room (result_err r) nodes listed
 parse-built (Ok x) b limit room nodes listed p few empty refused l = parse-at None None nodes nodes (positions b) listed refl refl l (parse-done b limit room nodes p few)
 parse-built (Err e) b limit room nodes listed p few empty refused l =
     parse-at (Some e) (Some e) [] nodes (positions b) listed refl empty l (parse-token b limit room e refused.0 refused.1)

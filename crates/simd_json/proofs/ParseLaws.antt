@@ -1,20 +1,23 @@
 -- From what the steps of a parse find to what the definitions answer.
-use Rattle.std.proofs.Common.{◌≡◌, ◌∙◌, ap, sym, subst, ◌≤◌, ℕ, List, [], length, true, Some, None, Ok, Err, arith, take, drop, ◌++◌, Result, map, inr}
+use Rattle.std.proofs.Common.{◌≡◌, ◌∙◌, ap, sym, subst, ◌≤◌, ℕ, List, [], length, true, Some, None, Ok, Err, arith, take, drop, ◌++◌, Result, map, inl, inr, ◌⊎◌}
 use Rattle.std.specs.Result.{is_err, MatchResult}
 use Rattle.std.proofs.lemmas.List.{length-map, length-take-le}
 use Rattle.std.proofs.Math.Seq.{take-append_seam}
 use Rattle.std.proofs.lemmas.Bool.{false≢true}
 use Rattle.std.proofs.lemmas.List.Sums.{length-filter, count_by-le-length}
 use Rattle.std.proofs.lemmas.List.FromFn.{length-range_with_len}
+use Rattle.simd_json_parts.proofs.Complete.Answer.{answer-Denotes}
+use Rattle.simd_json_parts.proofs.Faults.Kinds.{input-fault, token-fault}
 use Rattle.simd_json_parts.proofs.Sound.Answer.{answer-sound}
 use Rattle.simd_json_parts.proofs.Documents.Spelling.{IsSpellable-denoted}
 use Rattle.simd_json_parts.specs.Answer.{answer, fault_or}
 use Rattle.simd_json_parts.specs.Bytes.{indices}
 use Rattle.simd_json_parts.specs.Descent.{descent}
+use Rattle.simd_json_parts.specs.Document.{Document}
+use Rattle.simd_json_parts.specs.FaultKinds.{IsOfInput, IsOfToken}
 use Rattle.simd_json_parts.specs.Nodes.{Item, item_of}
 use Rattle.simd_json_parts.specs.declared.node.Node.{Node}
 use Rattle.simd_json_stages.specs.Building.{IsListed}
-use Rattle.simd_json_stages.specs.Refusals.{IsTokenFault}
 use Rattle.simd_json.specs.Parsed.{IsParsed, IsRefused}
 use Rattle.simd_json_parts.specs.Listing.{IsTape}
 use Rattle.simd_json_parts.specs.InputFaults.{input_fault}
@@ -38,9 +41,22 @@ pub few-positions : (b : List ℕ) → length (positions b) ≤ length b
 unfolding positions
 few-positions b = omega (arith, length-filter (is_position b) (indices b), count_by-le-length (is_position b) (indices b), length-range_with_len 0 (length b))
 
+-- ---- refusals
+
+not-both : (d : Document) (e : Error) → Ok d ≡ Err e → ⊥
+not-both d e is = false≢true (ap is_err is)
+
+refused : (b : List ℕ) (limit : ℕ) (e : Error) → answer b limit ≡ Err e → ((input_fault b ≡ Some e) × IsOfInput e) ⊎ ((input_fault b ≡ None) × IsOfToken e) → IsRefused b limit e
+refused b limit e is kinds = record { answered = is; not_denoted = λ d denoted within. not-both d e (sym (answer-Denotes b d limit denoted within) ∙ is); kinds = kinds }
+
 -- what the second stage refuses
-pub refused-token : (b : List ℕ) (limit : ℕ) (e : Error) → input_fault b ≡ None → IsTokenFault e → descent b limit ≡ Err e → IsRefused b limit e
-refused-token b limit e none token is = record { answered = none-answered b limit none ∙ is; told = inr (none, token) }
+pub refused-token : (b : List ℕ) (limit : ℕ) (e : Error) → input_fault b ≡ None → descent b limit ≡ Err e → IsRefused b limit e
+refused-token b limit e none is =
+    refused b limit e (none-answered b limit none ∙ is) (inr (none, token-fault b limit e is))
+
+-- what the first stage refuses, or the tests before it
+pub refused-whole : (b : List ℕ) (limit : ℕ) (e : Error) → input_fault b ≡ Some e → IsRefused b limit e
+refused-whole b limit e is = refused b limit e (fault-answered b limit e is) (inl (is, input-fault b e is))
 
 -- ---- what the second stage lists
 

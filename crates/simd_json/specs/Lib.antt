@@ -1,4 +1,11 @@
+pub mod MaxDepth
 pub mod Tapes
 pub mod TapeView
 pub mod Rooms
+pub mod Memory
 pub mod Parsed
+pub mod Documents
+pub mod Viewed
+pub mod Answered
+pub mod Paired
+pub mod Iterated

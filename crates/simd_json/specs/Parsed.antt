@@ -1,17 +1,16 @@
 -- What a parse answers, and what it leaves.
-use Rattle.std.specs.Prelude.{◌≡◌, ◌≢◌, ◌≤◌, ◌<◌, ◌⊎◌, ℕ, List, [], length, take, Option, Some, None, is_some, IfNone, IfSome, OnSome, MatchOption, Result, Ok, Err, IsUtf8, if◌then◌else◌}
+use Rattle.std.specs.Prelude.{◌≡◌, ◌≤◌, ◌<◌, ◌⊎◌, ℕ, List, [], length, take, Option, Some, None, is_some, IfNone, IfSome, OnSome, MatchOption, Result, Ok, Err, if◌then◌else◌}
 use Rattle.simd_json_parts.specs.Answer.{answer}
 use Rattle.simd_json_parts.specs.Document.{Document}
-use Rattle.simd_json_parts.specs.Faults.{whole_fault}
+use Rattle.simd_json_parts.specs.FaultKinds.{IsOfInput, IsOfToken}
 use Rattle.simd_json_parts.specs.Grammar.{Denotes}
 use Rattle.simd_json_parts.specs.InputFaults.{input_fault, padding_fault}
-use Rattle.simd_json_parts.specs.Limits.{WithinLimits, max_length}
+use Rattle.simd_json_parts.specs.Limits.{WithinLimits}
 use Rattle.simd_json_parts.specs.Listing.{listing}
 use Rattle.simd_json_parts.specs.Nodes.{Item}
 use Rattle.simd_json_parts.specs.Positions.{positions}
 use Rattle.simd_json_parts.specs.declared.error.Error.{Error}
-use Rattle.simd_json_parts.specs.declared.error.ErrorType.TheVariants.{OutOfMemory}
-use Rattle.simd_json_stages.specs.Refusals.{IsTokenFault}
+use Rattle.simd_json.specs.Memory.{LacksMemory}
 use Rattle.simd_json.specs.Tapes.{Listed}
 
 -- b is a document within the limits, and these are its nodes
@@ -22,19 +21,17 @@ pub record IsParsed (b : List ℕ) (limit : ℕ) (nodes : List Item) : Type 0 wh
   pub answered : answer b limit ≡ Ok document
   pub listed : nodes ≡ listing document
 
--- the fault is the one that the definitions answer: the whole input's, which has no character, or else a token's, which has one
+-- b is no document within the limits, and the fault is the one that the definitions answer: the whole input's, of one of its
+-- kinds and without a character, or else a token's, of one of theirs and with its character
 pub record IsRefused (b : List ℕ) (limit : ℕ) (e : Error) : Type 0 where
   pub answered : answer b limit ≡ Err e
-  pub told : (input_fault b ≡ Some e) ⊎ ((input_fault b ≡ None) × IsTokenFault e)
-
--- for want of memory, which is asked for once the size and the encoding are known to be right
-abbrev pub LacksMemory : List ℕ → Error → Type 0
-LacksMemory b e = (e ≡ whole_fault OutOfMemory) × (length b ≤ max_length) × IsUtf8 b
+  pub not_denoted : (d : Document) → Denotes b d → WithinLimits b d limit → ⊥
+  pub kinds : ((input_fault b ≡ Some e) × IsOfInput e) ⊎ ((input_fault b ≡ None) × IsOfToken e)
 
 -- the positions that are listed afterwards: none after a fault without a character
-abbrev pub positions_behind : List ℕ → Option Error → List ℕ
-positions_behind b None = positions b
-positions_behind b (Some e) = if is_some e.character then positions b else []
+abbrev pub positions_after : List ℕ → Option Error → List ℕ
+positions_after b None = positions b
+positions_after b (Some e) = if is_some e.character then positions b else []
 
 -- A parse of b with so many containers open at most, where there was room for `room` bytes: the fault if there is one, and
 -- the nodes and the positions that are listed afterwards. Nothing else that buffers and tape held before is named.
@@ -42,17 +39,13 @@ pub record IsParse (b : List ℕ) (limit room : ℕ) (fault : Option Error) (nod
   pub parsed : IfNone fault (IsParsed b limit nodes)
   pub refused : IfSome fault (λ e. IsRefused b limit e ⊎ (LacksMemory b e × (room < length b)))
   pub empty : OnSome fault (nodes ≡ [])
-  pub found : listed ≡ positions_behind b fault
+  pub found : listed ≡ positions_after b fault
   pub few : (length nodes ≤ length (positions b)) × (length (positions b) ≤ length b)
 
 -- of the first `len` bytes of s; where too few follow them, only this is reported
 abbrev pub IsPaddedParse : List ℕ → ℕ → ℕ → ℕ → Option Error → List Item → List ℕ → Type 0
 IsPaddedParse s len limit room fault nodes listed =
     MatchOption (padding_fault s len) (IsParse (take len s) limit room fault nodes listed) (λ e. (fault ≡ Some e) × (nodes ≡ []) × (listed ≡ []))
-
--- a growth was not refused
-abbrev pub HasMemory : Option Error → Type 0
-HasMemory fault = fault ≢ Some (whole_fault OutOfMemory)
 
 -- the nodes of the document that the definitions answer, if they do
 abbrev pub answered_nodes : Result Document Error → List Item

@@ -1,5 +1,5 @@
 -- What a contract sees of buffers.
-use Rattle.std.specs.Prelude.{◌≤◌, ℕ, ◌*◌, List, [], length, take, min, nat_lt, if◌then◌else◌}
+use Rattle.std.specs.Prelude.{◌≡◌, ◌≤◌, ℕ, ◌*◌, List, [], length, take, min, nat_lt, if◌then◌else◌}
 use Rattle.simd_json_parts.specs.Limits.{max_length}
 use Rattle.simd_json_stages.specs.EscapeBlocks.{blocks_in}
 
@@ -28,6 +28,10 @@ capped len = min len max_length
 -- no list is shorter
 abbrev pub KeepsRooms : Rooms → Rooms → Type 0
 KeepsRooms old new = (old.position_room ≤ new.position_room) × (old.block_room ≤ new.block_room) × (old.stack_room ≤ new.stack_room)
+
+-- the same is listed, within the same limit
+abbrev pub ListsSame : Rooms → Rooms → Type 0
+ListsSame old new = (new.positions ≡ old.positions) × (new.blocks ≡ old.blocks) × (new.limit ≡ old.limit)
 
 -- nothing is listed, and there is room for the positions and blocks of so many bytes, but none for open containers
 abbrev pub new_buffers : ℕ → ℕ → Rooms

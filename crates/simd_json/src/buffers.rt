@@ -1,12 +1,10 @@
 //! Lists that parses use one after another.
 ghost use Rattle.std.specs.Prelude.{◌≡◌, ◌≤◌, ◌<◌, ◌⊎◌, [], length, min, max, OnOk, OnErr, IfOk, IfErr, Some, None};
-ghost use Rattle.simd_json.specs.Parsed.{LacksMemory};
-ghost use Rattle.simd_json.specs.Rooms.{KeepsRooms, room, capped, new_buffers};
-ghost use Rattle.simd_json_parts.specs.Faults.{whole_fault};
+ghost use Rattle.simd_json.specs.Memory.{IsOutOfMemory, LacksMemory};
+ghost use Rattle.simd_json.specs.Rooms.{KeepsRooms, ListsSame, room, capped, new_buffers};
 ghost use Rattle.simd_json_parts.specs.InputFaults.{input_fault};
-ghost use Rattle.simd_json_parts.specs.Limits.{default_max_depth};
+ghost use Rattle.simd_json.specs.MaxDepth.{default_max_depth};
 ghost use Rattle.simd_json_parts.specs.Positions.{positions};
-ghost use Rattle.simd_json_parts.specs.declared.error.ErrorType.{ErrorType};
 ghost use Rattle.simd_json_stages.specs.EscapeBlocks.{backslash_blocks, blocks_in};
 
 use crate::DEFAULT_MAX_DEPTH;
@@ -48,7 +46,7 @@ impl<A: Allocator + Copy> Buffers<A> {
     /// [`with_max_depth`](Buffers::with_max_depth).
     pub fn new(a: A, input_len: usize) -> Result<Buffers<A>>
         ensures made { IfOk result (λ buffers. buffers ≡ new_buffers input_len default_max_depth) }
-        ensures fault { IfErr result (λ e. (e ≡ whole_fault ErrorType.OutOfMemory) × (0 < input_len)) }
+        ensures fault { IfErr result (λ e. IsOutOfMemory e × (0 < input_len)) }
     {
         Buffers::with_max_depth(a, input_len, DEFAULT_MAX_DEPTH)
     }
@@ -63,7 +61,7 @@ impl<A: Allocator + Copy> Buffers<A> {
     /// Returns `OutOfMemory` where an allocation fails.
     pub fn with_max_depth(a: A, input_len: usize, max_depth: usize) -> Result<Buffers<A>>
         ensures made { IfOk result (λ buffers. buffers ≡ new_buffers input_len max_depth) }
-        ensures fault { IfErr result (λ e. (e ≡ whole_fault ErrorType.OutOfMemory) × (0 < input_len)) }
+        ensures fault { IfErr result (λ e. IsOutOfMemory e × (0 < input_len)) }
     {
         let mut buffers = Buffers::empty(a, max_depth);
         buffers.reserve_lists(input_len.min(u32::MAX as usize))?;
@@ -104,15 +102,15 @@ impl<A: Allocator> Buffers<A> {
     /// Makes room for inputs of up to `input_len` bytes (more than 4,294,967,295 count as that number): for their positions,
     /// and for as many open containers as they can have within the depth limit.
     ///
-    /// With as much room on the tape no parse of such an input takes memory, as often as one is asked for, since no parse
+    /// With as much room on the tape no parse of such an input returns `OutOfMemory`, however many follow, since no parse
     /// gives up room. The positions that are listed stay.
     ///
     /// Returns `OutOfMemory` where an allocation fails; what room has been made by then stays.
     pub fn reserve(&mut self, input_len: usize) -> Result<()>
         ensures room { OnOk result (capped input_len ≤ room self.new) }
         ensures kept { KeepsRooms self.old self.new }
-        ensures same { (self.new.positions ≡ self.old.positions) × (self.new.blocks ≡ self.old.blocks) × (self.new.limit ≡ self.old.limit) }
-        ensures fault { IfErr result (λ e. (e ≡ whole_fault ErrorType.OutOfMemory) × (room self.old < capped input_len)) }
+        ensures same { ListsSame self.old self.new }
+        ensures fault { IfErr result (λ e. IsOutOfMemory e × (room self.old < capped input_len)) }
     {
         let len = input_len.min(u32::MAX as usize);
         self.reserve_lists(len)?;
@@ -126,9 +124,10 @@ impl<A: Allocator> Buffers<A> {
     // Makes room for the positions of so many bytes, and for their blocks.
     fn reserve_lists(&mut self, len: usize) -> Result<()>
         ensures kept { KeepsRooms self.old self.new }
-        ensures same { (self.new.positions ≡ self.old.positions) × (self.new.blocks ≡ self.old.blocks) × (self.new.limit ≡ self.old.limit) × (self.new.stack_room ≡ self.old.stack_room) }
-        ensures room { OnOk result ((self.new.position_room ≡ max self.old.position_room len) × (self.new.block_room ≡ max self.old.block_room (blocks_in len))) }
-        ensures fault { IfErr result (λ e. (e ≡ whole_fault ErrorType.OutOfMemory)
+        ensures same { ListsSame self.old self.new × (self.new.stack_room ≡ self.old.stack_room) }
+        ensures room { OnOk result ((self.new.position_room ≡ max self.old.position_room len)
+            × (self.new.block_room ≡ max self.old.block_room (blocks_in len))) }
+        ensures fault { IfErr result (λ e. IsOutOfMemory e
             × ((self.old.position_room < len) ⊎ (self.old.block_room < blocks_in len))) }
     {
         lengthen(&mut self.structural_indexes, len, 0)?;
@@ -147,9 +146,11 @@ impl<A: Allocator> Buffers<A> {
     // that can open at the positions within the limit. Answers the fault of the whole input, or `OutOfMemory` where a
     // growth was refused, and lists nothing then.
     pub(crate) fn find_positions(&mut self, input: &[u8]) -> Result<()>
-        ensures found { OnOk result ((self.new.positions ≡ positions input.now) × (input_fault input.now ≡ None)) }
+        ensures found { OnOk result ((self.new.positions ≡ positions input.now)
+            × (input_fault input.now ≡ None)) }
         ensures escapes { OnOk result (self.new.blocks ≡ backslash_blocks input.now) }
-        ensures stack { OnOk result (min (length (positions input.now)) self.new.limit ≤ self.new.stack_room) }
+        ensures stack { OnOk result
+            (min (length (positions input.now)) self.new.limit ≤ self.new.stack_room) }
         ensures empty { OnErr result ((self.new.positions ≡ []) × (self.new.blocks ≡ [])) }
         ensures limit { self.new.limit ≡ self.old.limit }
         ensures kept { KeepsRooms self.old self.new }

@@ -1,35 +1,47 @@
-//! Laws of what a parse leaves, of which the entry points have one statement. Each function has an empty body: its contract
+//! Laws of what a parse leaves, of which the entry points have one statement, and of the documents that values stand for. Each function has an empty body: its contract
 //! is the law, and what it says is proved.
-ghost use Rattle.std.specs.Prelude.{◌≡◌, ◌≤◌, ◌↔◌, ℕ, List, length, take, Option, Some, None, IsSome};
+ghost use Rattle.std.specs.Prelude.{◌≡◌, ◌≤◌, ◌↔◌, ◌∷◌, ℕ, List, length, take, Option, Some, None, Ok, IsSome};
 ghost use Rattle.std.specs.Result.{result_err};
-ghost use Rattle.simd_json.specs.Parsed.{HasMemory, IsPaddedParse, IsParse, IsRefused, answered_nodes, positions_behind};
+ghost use Rattle.simd_json.specs.Memory.{HasMemory};
+ghost use Rattle.simd_json.specs.Parsed.{IsPaddedParse, IsParse, IsRefused, answered_nodes, positions_after};
 ghost use Rattle.simd_json.specs.Rooms.{KeepsRooms, Rooms, room};
 ghost use Rattle.simd_json_parts.specs.Answer.{answer};
+ghost use Rattle.simd_json_parts.specs.Document.{Document};
+ghost use Rattle.simd_json_parts.specs.Grammar.{Denotes};
 ghost use Rattle.simd_json_parts.specs.InputFaults.{input_fault, padding_fault};
-ghost use Rattle.simd_json_parts.specs.Nodes.{Item};
+ghost use Rattle.simd_json_parts.specs.Limits.{WithinLimits};
+ghost use Rattle.simd_json_parts.specs.Listing.{listing, member_count};
+ghost use Rattle.simd_json_parts.specs.Nodes.{Item, count_of, len_of};
 ghost use Rattle.simd_json_parts.specs.declared.error.Error.{Error};
 
-/// A parse for which no growth is refused answers as the definitions do, with the nodes of their document, and it lists the
-/// positions that belong to this answer.
+/// A parse in which no allocation fails returns what the definitions answer, with the nodes of their document, and it lists
+/// the positions that belong to this answer.
 pub fn parses_are_answers()
-    ensures { (b : List ℕ) (limit room : ℕ) (fault : Option Error) (nodes : List Item) (listed : List ℕ)
+    ensures { (b : List ℕ) (limit room : ℕ) (fault : Option Error)
+        (nodes : List Item) (listed : List ℕ)
         → IsParse b limit room fault nodes listed → HasMemory fault
-        → (fault ≡ result_err (answer b limit)) × (nodes ≡ answered_nodes (answer b limit)) × (listed ≡ positions_behind b (result_err (answer b limit))) }
+        → (fault ≡ result_err (answer b limit)) × (nodes ≡ answered_nodes (answer b limit))
+        × (listed ≡ positions_after b (result_err (answer b limit))) }
 {}
 
 /// So two parses of the same bytes within the same limit agree, whichever entry point they take and whatever the buffers,
 /// the tape and the padding held.
 pub fn parses_agree()
-    ensures same { (b : List ℕ) (limit room room2 : ℕ) (fault fault2 : Option Error) (nodes nodes2 : List Item) (listed listed2 : List ℕ)
-        → IsParse b limit room fault nodes listed → IsParse b limit room2 fault2 nodes2 listed2 → HasMemory fault → HasMemory fault2
+    ensures same { (b : List ℕ) (limit room room2 : ℕ) (fault fault2 : Option Error)
+        (nodes nodes2 : List Item) (listed listed2 : List ℕ)
+        → IsParse b limit room fault nodes listed → IsParse b limit room2 fault2 nodes2 listed2
+        → HasMemory fault → HasMemory fault2
         → (fault ≡ fault2) × (nodes ≡ nodes2) × (listed ≡ listed2) }
-    ensures padded { (s : List ℕ) (len limit room : ℕ) (fault : Option Error) (nodes : List Item) (listed : List ℕ)
-        → padding_fault s len ≡ None → IsPaddedParse s len limit room fault nodes listed → IsParse (take len s) limit room fault nodes listed }
+    ensures padded { (s : List ℕ) (len limit room : ℕ) (fault : Option Error)
+        (nodes : List Item) (listed : List ℕ) → padding_fault s len ≡ None
+        → IsPaddedParse s len limit room fault nodes listed
+        → IsParse (take len s) limit room fault nodes listed }
 {}
 
-/// No growth is refused for a parse that has room for its bytes.
+/// A parse that has room for its bytes does not return `OutOfMemory`.
 pub fn room_suffices()
-    ensures { (b : List ℕ) (limit room : ℕ) (fault : Option Error) (nodes : List Item) (listed : List ℕ)
+    ensures { (b : List ℕ) (limit room : ℕ) (fault : Option Error)
+        (nodes : List Item) (listed : List ℕ)
         → IsParse b limit room fault nodes listed → length b ≤ room → HasMemory fault }
 {}
 
@@ -40,5 +52,23 @@ pub fn kept_lists_keep_room()
 
 /// A fault has a character exactly where it is a token's: where the input as a whole has none.
 pub fn faults_of_tokens_have_characters()
-    ensures { (b : List ℕ) (limit : ℕ) (e : Error) → IsRefused b limit e → (IsSome e.character ↔ (input_fault b ≡ None)) }
+    ensures { (b : List ℕ) (limit : ℕ) (e : Error) → IsRefused b limit e
+        → (IsSome e.character ↔ (input_fault b ≡ None)) }
+{}
+
+/// A document is known by its listing.
+pub fn documents_are_known_by_their_listing()
+    ensures { (d e : Document) → listing d ≡ listing e → d ≡ e }
+{}
+
+/// So the value that a parsed tape is read as, whose listing is the tape's, stands for the document that the bytes denote.
+pub fn values_stand_for_parsed_documents()
+    ensures { (b : List ℕ) (limit room : ℕ) (nodes : List Item) (listed : List ℕ) (d : Document) → IsParse b limit room None nodes listed → listing d ≡ nodes
+        → Denotes b d × WithinLimits b d limit × (answer b limit ≡ Ok d) }
+{}
+
+/// The first node of a listing says how many nodes lie beneath it, and how many members the document has.
+pub fn headers_count_nodes_and_members()
+    ensures { (d : Document) (header : Item) (beneath : List Item) → listing d ≡ header ∷ beneath
+        → (length beneath ≡ count_of header) × (len_of header ≡ member_count d) }
 {}

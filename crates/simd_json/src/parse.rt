@@ -1,13 +1,13 @@
 //! The entry points.
-ghost use Rattle.std.specs.Prelude.{◌≡◌, ◌≤◌, [], ℕ, List, length, min, IfErr, OnOk, OnErr, None, Err};
+ghost use Rattle.std.specs.Prelude.{◌≡◌, ◌≢◌, ◌≤◌, [], ℕ, List, length, min, IfErr, IfOk, OnOk, OnErr, None, Err};
 ghost use Rattle.std.specs.Result.{result_err};
 ghost use Rattle.simd_json.specs.Parsed.{IsParse, IsPaddedParse, IsParsed, IsRefused, nodes_of};
 ghost use Rattle.simd_json.specs.Rooms.{KeepsRooms, room};
+ghost use Rattle.simd_json_parts.specs.FaultKinds.{IsOfToken};
 ghost use Rattle.simd_json_parts.specs.InputFaults.{input_fault};
-ghost use Rattle.simd_json_parts.specs.Limits.{default_max_depth};
+ghost use Rattle.simd_json.specs.MaxDepth.{default_max_depth};
 ghost use Rattle.simd_json_parts.specs.Positions.{positions};
 ghost use Rattle.simd_json_stages.specs.EscapeBlocks.{backslash_blocks};
-ghost use Rattle.simd_json_stages.specs.Refusals.{IsTokenFault};
 
 use crate::buffers::Buffers;
 use crate::tape::Tape;
@@ -30,8 +30,8 @@ use std::alloc::Allocator;
 ///   byte after it, and `InvalidUnicodeCodepoint` at a backslash, with the character `u` (section 7), and
 ///   `DepthLimitExceeded` at the bracket that opens one container too many (section 9).
 ///
-/// `OutOfMemory`, at index 0 without a character, comes where an allocation fails; no memory is taken before size and
-/// encoding are known to be right. After an error there is no tape, and what `s` holds is of no meaning.
+/// `OutOfMemory`, at index 0 without a character, comes where an allocation fails, and only where size and encoding are
+/// right. After an error there is no tape, and what `s` holds is of no meaning.
 ///
 /// ```
 /// fn first_len(rt: &impl AllocGlobal) -> simd_json::Result<usize> {
@@ -41,7 +41,9 @@ use std::alloc::Allocator;
 /// }
 /// ```
 pub fn to_tape<'de, A: Allocator + Copy>(a: A, s: &'de mut [u8]) -> Result<Tape<'de, A>>
-    ensures { (listed : List ℕ) × IsParse s.old default_max_depth 0 (result_err result) (nodes_of result) listed }
+    ensures parse { (listed : List ℕ)
+        × IsParse s.old default_max_depth 0 (result_err result) (nodes_of result) listed }
+    ensures some { IfOk result (λ tape. tape.nodes ≢ []) }
 {
     let mut buffers = Buffers::empty(a, DEFAULT_MAX_DEPTH);
     to_tape_with_buffers(s, &mut buffers)
@@ -67,7 +69,9 @@ pub fn to_tape_with_buffers<'de, A: Allocator + Copy>(
     s: &'de mut [u8],
     buffers: &mut Buffers<A>,
 ) -> Result<Tape<'de, A>>
-    ensures parse { IsParse s.old buffers.old.limit 0 (result_err result) (nodes_of result) buffers.new.positions }
+    ensures parse { IsParse s.old buffers.old.limit 0
+        (result_err result) (nodes_of result) buffers.new.positions }
+    ensures some { IfOk result (λ tape. tape.nodes ≢ []) }
     ensures limit { buffers.new.limit ≡ buffers.old.limit }
     ensures rooms { KeepsRooms buffers.old buffers.new }
 {
@@ -82,7 +86,7 @@ pub fn to_tape_with_buffers<'de, A: Allocator + Copy>(
 /// The errors are those of [`to_tape`]. After one the tape is empty. After one without a character `structural_indexes` of
 /// the buffers is empty too; else it lists the positions of `s`. Buffers and tape can be used again after every answer.
 ///
-/// Where buffers and tape have room for as many bytes as `s` has, no memory is taken. No parse gives up room.
+/// Where buffers and tape have room for as many bytes as `s` has, `OutOfMemory` is not returned. No parse gives up room.
 ///
 /// ```
 /// use simd_json::{Buffers, Tape, fill_tape};
@@ -105,7 +109,9 @@ pub fn fill_tape<'de, A: Allocator, B: Allocator>(
     buffers: &mut Buffers<A>,
     tape: &mut Tape<'de, B>,
 ) -> Result<()>
-    ensures parse { IsParse s.old buffers.old.limit (min tape.old.room (room buffers.old)) (result_err result) tape.new.nodes buffers.new.positions }
+    ensures parse { IsParse s.old buffers.old.limit (min tape.old.room (room buffers.old))
+        (result_err result) tape.new.nodes buffers.new.positions }
+    ensures some { OnOk result (tape.new.nodes ≢ []) }
     ensures limit { buffers.new.limit ≡ buffers.old.limit }
     ensures rooms { KeepsRooms buffers.old buffers.new × (tape.old.room ≤ tape.new.room) }
 {
@@ -140,7 +146,9 @@ pub fn fill_tape_padded<'de, A: Allocator, B: Allocator>(
     buffers: &mut Buffers<A>,
     tape: &mut Tape<'de, B>,
 ) -> Result<()>
-    ensures parse { IsPaddedParse s.old len buffers.old.limit (min tape.old.room (room buffers.old)) (result_err result) tape.new.nodes buffers.new.positions }
+    ensures parse { IsPaddedParse s.old len buffers.old.limit (min tape.old.room (room buffers.old))
+        (result_err result) tape.new.nodes buffers.new.positions }
+    ensures some { OnOk result (tape.new.nodes ≢ []) }
     ensures limit { buffers.new.limit ≡ buffers.old.limit }
     ensures rooms { KeepsRooms buffers.old buffers.new × (tape.old.room ≤ tape.new.room) }
 {
@@ -182,11 +190,12 @@ fn build<'de, A: Allocator, B: Allocator>(
     requires nodes { length (positions s.old) ≤ tape.old.room }
     requires empty { tape.old.nodes ≡ [] }
     ensures tape { OnOk result (IsParsed s.old buffers.old.limit tape.new.nodes) }
+    ensures some { OnOk result (tape.new.nodes ≢ []) }
     ensures few { length tape.new.nodes ≤ length (positions s.old) }
     ensures empty { OnErr result (tape.new.nodes ≡ []) }
     ensures kept { buffers.new ≡ buffers.old }
     ensures room { tape.new.room ≡ tape.old.room }
-    ensures fault { IfErr result (λ e. IsRefused s.old buffers.old.limit e × IsTokenFault e) }
+    ensures fault { IfErr result (λ e. IsRefused s.old buffers.old.limit e × IsOfToken e) }
 {
     tape.used = build_tape(
         s,

@@ -1,7 +1,6 @@
 //! Lists that are kept filled up to their room, so that a store into them needs no memory.
 ghost use Rattle.std.specs.Prelude.{◌≡◌, ◌<◌, length, max, take, OnOk, IfErr};
-ghost use Rattle.simd_json_parts.specs.Faults.{whole_fault};
-ghost use Rattle.simd_json_parts.specs.declared.error.ErrorType.{ErrorType};
+ghost use Rattle.simd_json.specs.Memory.{IsOutOfMemory};
 
 use simd_json_parts::error::Result;
 use std::alloc::Allocator;
@@ -14,7 +13,8 @@ pub(crate) fn lengthen<T: Copy, A: Allocator>(
 ) -> Result<()>
     ensures kept { take (length list.old.items) list.new.items ≡ list.old.items }
     ensures longer { OnOk result (length list.new.items ≡ max (length list.old.items) len) }
-    ensures refused { IfErr result (λ e. (e ≡ whole_fault ErrorType.OutOfMemory) × (list.new.items ≡ list.old.items) × (length list.old.items < len)) }
+    ensures refused { IfErr result (λ e. IsOutOfMemory e × (list.new.items ≡ list.old.items)
+        × (length list.old.items < len)) }
 {
     if list.len() < len {
         list.resize(len, filler)?;

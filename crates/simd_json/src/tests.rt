@@ -1,9 +1,11 @@
 use super::*;
 use std::test::Fail;
 
+mod accessors;
 mod blocks;
 mod examples;
 mod memory;
+mod reading;
 mod reuse;
 
 type Tested = std::result::Result<(), Fail>;
@@ -25,6 +27,7 @@ fn documents_are_listed(rt: HostRuntime) -> Tested {
     ];
     assert_eq!(rt; tape.nodes(), nodes.as_slice());
     assert!(rt; !tape.is_empty());
+    assert!(rt; format!(in rt.alloc(); "{tape:?}")?.starts_with("Tape"));
     Ok(())
 }
 

@@ -1,3 +1,5 @@
 //! What a parse answers.
 
+mod accessors;
+mod cmp;
 pub mod tape;

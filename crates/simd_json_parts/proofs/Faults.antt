@@ -1,4 +1,4 @@
--- Faults are reported in time: `Root`.
+-- Faults are reported in time: `Root`. They are of the kinds that are named: `Kinds`.
 mod Follows
 mod ScalarFollows
 mod ArrayFollows
@@ -10,3 +10,4 @@ mod Objects
 mod Descent
 mod LastRead
 pub mod Root
+pub mod Kinds

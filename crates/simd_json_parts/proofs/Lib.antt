@@ -6,6 +6,7 @@ pub mod Positions
 pub mod Sound
 pub mod Complete
 mod Unique
-mod Faults
+pub mod Faults
 pub mod Documents
+pub mod Printing
 mod Rows

@@ -4,4 +4,6 @@ pub mod Prefixes
 pub mod Steps
 pub mod Values
 pub mod Reader
+pub mod DigitRuns
+pub mod Looks
 pub mod LeadingZeros

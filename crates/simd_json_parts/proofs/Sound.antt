@@ -6,6 +6,7 @@ pub mod ScalarFaults
 mod Scalars
 mod Escapes
 mod Strings
+pub mod LongestPieces
 mod StringsInPlace
 mod Tokens
 pub mod TokensInPlace

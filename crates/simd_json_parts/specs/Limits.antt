@@ -1,9 +1,7 @@
 -- How deep a document nests, and what a parser accepts of the grammar (RFC 8259, section 9). Acceptance rests on it.
-use Rattle.std.specs.Prelude.{ℕ, suc, ◌≤◌, max, List, length, ⊤, IsUtf8}
+use Rattle.std.specs.Prelude.{ℕ, suc, ◌≤◌, max, List, length, ⊤}
 use Rattle.simd_json_parts.specs.Document.{Document, null, boolean, integer, decimal, string, array, object, Elements, no_elements, element, Members, no_members, member}
 use Rattle.simd_json_parts.specs.Integers.{max_magnitude}
-use Rattle.simd_json_parts.specs.Numbers.{decimal_literal}
-use Rattle.simd_json_parts.specs.Patterns.{Matches}
 
 abbrev mutual
   pub depth : Document → ℕ
@@ -43,31 +41,8 @@ abbrev mutual
   MembersFit no_members = ⊤
   MembersFit (member k d ms) = IntegersFit d × MembersFit ms
 
--- Each decimal is a literal, and each string and name is UTF-8. So it is for what bytes denote, and only such a document can be printed and read again.
-abbrev mutual
-  pub IsSpellable : Document → Type 0
-  IsSpellable null = ⊤
-  IsSpellable (boolean b) = ⊤
-  IsSpellable (integer minus n) = ⊤
-  IsSpellable (decimal literal) = Matches decimal_literal literal
-  IsSpellable (string t) = IsUtf8 t
-  IsSpellable (array ds) = ElementsSpellable ds
-  IsSpellable (object ms) = MembersSpellable ms
-
-  pub ElementsSpellable : Elements → Type 0
-  ElementsSpellable no_elements = ⊤
-  ElementsSpellable (element d ds) = IsSpellable d × ElementsSpellable ds
-
-  pub MembersSpellable : Members → Type 0
-  MembersSpellable no_members = ⊤
-  MembersSpellable (member k d ms) = IsUtf8 k × IsSpellable d × MembersSpellable ms
-
 abbrev pub max_length : ℕ
 max_length = 4_294_967_295
-
--- how many containers may be open at a time, where no other limit is asked for
-abbrev pub default_max_depth : ℕ
-default_max_depth = 1024
 
 pub record WithinLimits (b : List ℕ) (d : Document) (limit : ℕ) : Type 0 where
   pub size : length b ≤ max_length

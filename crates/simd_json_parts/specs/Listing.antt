@@ -2,7 +2,8 @@
 use Rattle.std.specs.Prelude.{◌≡◌, ◌⊎◌, ℕ, List, [], ◌∷◌, ◌++◌, length, map}
 use Rattle.simd_json_parts.specs.Document.{Document, null, boolean, integer, decimal, string, array, object, Elements, no_elements, element, elements, Members, no_members, member, members}
 use Rattle.simd_json_parts.specs.Integers.{integer_node}
-use Rattle.simd_json_parts.specs.Limits.{IsSpellable, IntegersFit}
+use Rattle.simd_json_parts.specs.Limits.{IntegersFit}
+use Rattle.simd_json_parts.specs.Spellable.{IsSpellable}
 use Rattle.simd_json_parts.specs.Nodes.{Item, static_item, decimal_item, string_item, array_item, object_item, item_of}
 use Rattle.simd_json_parts.specs.declared.node.StaticNode.TheVariants as fixed
 use Rattle.simd_json_parts.specs.declared.node.Node.{Node}

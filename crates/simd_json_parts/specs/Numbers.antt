@@ -1,7 +1,8 @@
 -- Number literals (RFC 8259, section 6), in the words of its grammar, and what an integer's literal means. Acceptance rests on it.
-use Rattle.std.specs.Prelude.{ℕ, List, drop, map, Bool, cond, ◌==◌, get_or}
+use Rattle.std.specs.Prelude.{ℕ, List, drop, map, Bool, cond, ◌==◌}
 use Rattle.std.specs.Char.{digit_value}
 use Rattle.std.specs.Int.Digits.{number_from_digits}
+use Rattle.simd_json_parts.specs.Bytes.{minus_sign, byte_at}
 use Rattle.simd_json_parts.specs.Patterns.{Pattern, range, ◌then◌, ◌or◌, many, byte, optional, at_least_one}
 
 -- + - . 0
@@ -49,7 +50,7 @@ abbrev pub decimal_literal : Pattern
 decimal_literal = optional minus then int then (frac then optional exp or exp)
 
 abbrev pub has_minus : List ℕ → Bool
-has_minus bs = get_or bs 0 32 == 45
+has_minus bs = byte_at bs 0 == minus_sign
 
 -- the value of the digits after the sign
 abbrev pub magnitude : List ℕ → ℕ

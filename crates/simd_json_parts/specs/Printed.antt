@@ -1,22 +1,22 @@
 -- The two printed forms of a document: compact, and pretty with a line for each member. Both are JSON texts (RFC 8259, section 2). Neither acceptance nor faults rest on it.
-use Rattle.std.specs.Prelude.{ℕ, suc, ◌*◌, ◌/◌, ◌%◌, List, [], ◌∷◌, ◌++◌, replicate, flat_map, Bool, true, false, ◌==◌, nat_lt, if◌then◌else◌, codes}
+use Rattle.std.specs.Prelude.{ℕ, suc, ◌*◌, ◌/◌, ◌%◌, List, [], ◌∷◌, ◌++◌, replicate, flat_map, Bool, true, false, ◌==◌, if◌then◌else◌, codes}
 use Rattle.std.specs.Fmt.{signed_decimal}
 use Rattle.std.specs.Char.{digit_char}
 use Rattle.simd_json_parts.specs.Document.{Document, null, boolean, integer, decimal, string, array, object, Elements, no_elements, element, Members, no_members, member}
-use Rattle.simd_json_parts.specs.Bytes.{quote, comma, colon, left_bracket, right_bracket, left_brace, right_brace}
+use Rattle.simd_json_parts.specs.Bytes.{backspace, tab, line_feed, form_feed, carriage_return, space, quote, comma, colon, left_bracket, backslash, right_bracket, left_brace, right_brace, is_control}
 use Rattle.simd_json_parts.specs.Integers.{number_of}
 
 -- a byte of a string as it is printed: a quote, a backslash and what is below 0x20 are escaped
 abbrev pub escaped_byte : ℕ → List ℕ
 escaped_byte x =
-    if x == 34 then codes "\\\""
-    else if x == 92 then codes "\\\\"
-    else if x == 8 then codes "\\b"
-    else if x == 9 then codes "\\t"
-    else if x == 10 then codes "\\n"
-    else if x == 12 then codes "\\f"
-    else if x == 13 then codes "\\r"
-    else if nat_lt x 32 then codes "\\u00" ++ digit_char (x / 16) ∷ digit_char (x % 16) ∷ []
+    if x == quote then codes "\\\""
+    else if x == backslash then codes "\\\\"
+    else if x == backspace then codes "\\b"
+    else if x == tab then codes "\\t"
+    else if x == line_feed then codes "\\n"
+    else if x == form_feed then codes "\\f"
+    else if x == carriage_return then codes "\\r"
+    else if is_control x then codes "\\u00" ++ digit_char (x / 16) ∷ digit_char (x % 16) ∷ []
     else x ∷ []
 
 unfoldable pub quoted : List ℕ → List ℕ
@@ -55,7 +55,7 @@ abbrev mutual
 
 -- a line feed, and two spaces for each open container
 abbrev pub new_line : ℕ → List ℕ
-new_line open_containers = 10 ∷ replicate (2 * open_containers) 32
+new_line open_containers = line_feed ∷ replicate (2 * open_containers) space
 
 -- with n containers open around it
 abbrev mutual

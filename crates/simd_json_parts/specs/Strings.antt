@@ -1,16 +1,18 @@
 -- String literals (RFC 8259, section 7; RFC 3629, section 3). Acceptance rests on it.
-use Rattle.std.specs.Prelude.{◌≡◌, ◌≢◌, ◌≤◌, ◌⊎◌, ℕ, ◌+◌, ◌-◌, ◌*◌, List, [], ◌∷◌, ◌++◌, Bool, cond, ◌&&◌, ◌||◌, ◌==◌, nat_lt, nat_le, Option, Some, None, IsTrue, IsFalse, encode_utf8, encode_utf8_all}
+use Rattle.std.specs.Prelude.{◌≡◌, ◌≢◌, ◌≤◌, ◌⊎◌, ℕ, ◌+◌, ◌-◌, ◌*◌, List, [], ◌∷◌, ◌++◌, Bool, cond, ◌&&◌, ◌||◌, ◌==◌, nat_lt, nat_le, if◌then◌else◌, Option, Some, None, IsTrue, IsFalse, encode_utf8, encode_utf8_all}
 use Rattle.std.specs.Char.{digit_value, is_digit, IsScalar}
-use Rattle.simd_json_parts.specs.Bytes.{quote, backslash}
-
-abbrev pub lower_u : ℕ
-lower_u = 117
+use Rattle.simd_json_parts.specs.Bytes.{quote, backslash, slash, backspace, tab, line_feed, form_feed, carriage_return, lower_b, lower_f, lower_n, lower_r, lower_t, lower_u}
 
 -- the character of the escape with this letter: \" \\ \/ \b \f \n \r \t
 abbrev pub escaped_character : ℕ → Option ℕ
 escaped_character x =
-    cond ((x == quote) || (x == backslash) || (x == 47)) (Some x)
-    (cond (x == 98) (Some 8) (cond (x == 102) (Some 12) (cond (x == 110) (Some 10) (cond (x == 114) (Some 13) (cond (x == 116) (Some 9) None)))))
+    if (x == quote) || (x == backslash) || (x == slash) then Some x
+    else if x == lower_b then Some backspace
+    else if x == lower_f then Some form_feed
+    else if x == lower_n then Some line_feed
+    else if x == lower_r then Some carriage_return
+    else if x == lower_t then Some tab
+    else None
 
 -- the number that four hexadecimal digits spell, in either case
 abbrev pub hex_value : ℕ → ℕ → ℕ → ℕ → Option ℕ

@@ -100,11 +100,11 @@ values ms = map (λ (m : List ℕ × Document). m.1) (members ms)
 
 -- ---- the `try_` forms: the kind that was expected, and what `as_T` answers
 
-abbrev pub refusal : ValueType → Document → TryTypeError
-refusal expected d = record { expected = expected; got = value_type d }
+abbrev pub mismatch : ValueType → Document → TryTypeError
+mismatch expected d = record { expected = expected; got = value_type d }
 
 abbrev pub try_as : {A : Type 0} → ValueType → (Document → Option A) → Document → Result A TryTypeError
-try_as expected as_t d = ok_or (as_t d) (refusal expected d)
+try_as expected as_t d = ok_or (as_t d) (mismatch expected d)
 
 abbrev pub some_ok : {A : Type 0} → Result A TryTypeError → Result (Option A) TryTypeError
 some_ok (Ok x) = Ok (Some x)
@@ -116,14 +116,14 @@ try_at try_t (Some d) = some_ok (try_t d)
 
 abbrev pub try_get_as : {A : Type 0} → (Document → Result A TryTypeError) → List ℕ → Document → Result (Option A) TryTypeError
 try_get_as try_t key (object ms) = try_at try_t (first_with key ms)
-try_get_as try_t key d = Err (refusal kinds.Object d)
+try_get_as try_t key d = Err (mismatch kinds.Object d)
 
 abbrev pub try_get : List ℕ → Document → Result (Option Document) TryTypeError
 try_get = try_get_as Ok
 
 abbrev pub try_get_idx : ℕ → Document → Result (Option Document) TryTypeError
 try_get_idx i (array ds) = Ok (slice_get (elements ds) i)
-try_get_idx i d = Err (refusal kinds.Array d)
+try_get_idx i d = Err (mismatch kinds.Array d)
 
 -- ---- comparisons with values that are no documents
 

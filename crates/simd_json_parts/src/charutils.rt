@@ -1,19 +1,17 @@
 //! Classes of bytes (RFC 8259, section 2), hexadecimal digits, and characters as UTF-8 (RFC 3629, section 3).
 ghost use Rattle.std.specs.Prelude.{◌≡◌, ◌≤◌, ◌++◌, if◌then◌else◌, not, length, drop, slice_index, encode_utf8};
 ghost use Rattle.std.specs.Char.{len_utf8, is_digit, digit_value};
-ghost use Rattle.simd_json_parts.specs.Bytes.{is_terminator};
+ghost use Rattle.simd_json_parts.specs.Bytes.{is_terminator, byte_at};
 ghost use Rattle.simd_json_parts.specs.Strings.{hex_value};
 
 /// Whether the byte is structural, `[ ] { } : ,`, or whitespace: space, tab, line feed or carriage return.
 ///
 /// A number, `true`, `false` and `null` end before such a byte, and before no other.
+#[inline]
 pub fn is_structural_or_whitespace(c: u8) -> bool
     ensures { result ≡ is_terminator c }
 {
-    matches!(
-        c,
-        b'[' | b']' | b'{' | b'}' | b':' | b',' | b' ' | b'\t' | b'\n' | b'\r'
-    )
+    TERMINATORS[c as usize]
 }
 
 /// Whether the byte is neither structural nor whitespace: the opposite of [`is_structural_or_whitespace`].
@@ -23,12 +21,21 @@ pub fn is_not_structural_or_whitespace(c: u8) -> bool
     !is_structural_or_whitespace(c)
 }
 
+/// The byte at an index, or a space past the end: a number, `true`, `false` and `null` may end there.
+#[inline]
+pub fn byte_or_space(bytes: &[u8], i: usize) -> u8
+    ensures { result ≡ byte_at bytes.now i }
+{
+    if i < bytes.len() { bytes[i] } else { b' ' }
+}
+
 /// The number that four hexadecimal digits spell, in either case; none if one of them is no such digit.
 ///
 /// No digit is looked at by itself: one test of the sum tells whether all four are digits.
 #[inline]
 pub fn hex_to_u32_nocheck(digits: [u8; 4]) -> Option<u32>
-    ensures { result ≡ hex_value (slice_index digits 0) (slice_index digits 1) (slice_index digits 2) (slice_index digits 3) }
+    ensures { result ≡ hex_value (slice_index digits 0) (slice_index digits 1)
+        (slice_index digits 2) (slice_index digits 3) }
 {
     let value = digit_or_none(digits[0]) * 4096
         + digit_or_none(digits[1]) * 256
@@ -65,6 +72,25 @@ pub fn codepoint_to_utf8(cp: char, bytes: &mut [u8]) -> usize
         4
     }
 }
+
+// Of each byte, from 0 on, whether it is structural or whitespace.
+const TERMINATORS: [bool; 256] = [
+    NO, NO, NO, NO, NO, NO, NO, NO, NO, YES, YES, NO, NO, YES, NO, NO, NO, NO, NO, NO, NO, NO, NO,
+    NO, NO, NO, NO, NO, NO, NO, NO, NO, YES, NO, NO, NO, NO, NO, NO, NO, NO, NO, NO, NO, YES, NO,
+    NO, NO, NO, NO, NO, NO, NO, NO, NO, NO, NO, NO, YES, NO, NO, NO, NO, NO, NO, NO, NO, NO, NO,
+    NO, NO, NO, NO, NO, NO, NO, NO, NO, NO, NO, NO, NO, NO, NO, NO, NO, NO, NO, NO, NO, NO, YES,
+    NO, YES, NO, NO, NO, NO, NO, NO, NO, NO, NO, NO, NO, NO, NO, NO, NO, NO, NO, NO, NO, NO, NO,
+    NO, NO, NO, NO, NO, NO, NO, NO, YES, NO, YES, NO, NO, NO, NO, NO, NO, NO, NO, NO, NO, NO, NO,
+    NO, NO, NO, NO, NO, NO, NO, NO, NO, NO, NO, NO, NO, NO, NO, NO, NO, NO, NO, NO, NO, NO, NO, NO,
+    NO, NO, NO, NO, NO, NO, NO, NO, NO, NO, NO, NO, NO, NO, NO, NO, NO, NO, NO, NO, NO, NO, NO, NO,
+    NO, NO, NO, NO, NO, NO, NO, NO, NO, NO, NO, NO, NO, NO, NO, NO, NO, NO, NO, NO, NO, NO, NO, NO,
+    NO, NO, NO, NO, NO, NO, NO, NO, NO, NO, NO, NO, NO, NO, NO, NO, NO, NO, NO, NO, NO, NO, NO, NO,
+    NO, NO, NO, NO, NO, NO, NO, NO, NO, NO, NO, NO, NO, NO, NO, NO, NO, NO, NO, NO, NO, NO,
+];
+
+const YES: bool = true;
+
+const NO: bool = false;
 
 // What a byte counts that is no hexadecimal digit: more than four digits can spell.
 const NONE: u32 = 0x10000;
@@ -108,6 +134,14 @@ mod tests {
             assert_eq!(rt; is_structural_or_whitespace(c), is_listed, "{c}");
             assert_eq!(rt; is_not_structural_or_whitespace(c), !is_listed, "{c}");
         }
+    }
+
+    #[test]
+    fn the_end_reads_as_a_space(rt: HostRuntime) {
+        assert_eq!(rt; byte_or_space(b"1,", 0), b'1');
+        assert_eq!(rt; byte_or_space(b"1,", 1), b',');
+        assert_eq!(rt; byte_or_space(b"1,", 2), b' ');
+        assert_eq!(rt; byte_or_space(b"", usize::MAX), b' ');
     }
 
     #[test]

@@ -3,31 +3,39 @@ ghost use Rattle.std.specs.Prelude.{◌≡◌, ◌≢◌, ◌↔◌, ◌≤◌, 
 ghost use Rattle.std.specs.Char.{is_ascii_digit};
 ghost use Rattle.std.specs.Cmp.{IsEquivalence};
 ghost use Rattle.std.specs.List.Sorted.{IsStrictlyIncreasing};
-ghost use Rattle.simd_json_parts.specs.Answer.{answer};
+ghost use Rattle.simd_json_parts.specs.Answer.{answer, padded_answer};
+ghost use Rattle.simd_json_parts.specs.Accessors.{Accessor, as_t, try_as_t, get_t, try_get_t};
 ghost use Rattle.simd_json_parts.specs.Bytes.{quote, is_terminator, is_whitespace, byte_at};
 ghost use Rattle.simd_json_parts.specs.Derivatives.{matches, is_possible, longest_prefix};
-ghost use Rattle.simd_json_parts.specs.Descent.{descent};
+ghost use Rattle.simd_json_parts.specs.Descent.{descent, value_from, element_and, elements_by, member_and, members_by};
 ghost use Rattle.simd_json_parts.specs.Document.{Document, integer, decimal};
 ghost use Rattle.simd_json_parts.specs.Equality.{equal, normalized};
 ghost use Rattle.simd_json_parts.specs.ErrorKinds.{is_unexpected_token};
+ghost use Rattle.simd_json_parts.specs.FaultKinds.{IsOfInput, IsOfToken, IsNamedFault};
+ghost use Rattle.simd_json_parts.specs.Faults.{whole_fault};
 ghost use Rattle.simd_json_parts.specs.Grammar.{Denotes, IsBeginning};
 ghost use Rattle.simd_json_parts.specs.Headers.{IsHeaded};
 ghost use Rattle.simd_json_parts.specs.InputFaults.{input_fault, has_bad_string};
 ghost use Rattle.simd_json_parts.specs.Integers.{max_magnitude};
-ghost use Rattle.simd_json_parts.specs.Limits.{IsSpellable, WithinLimits};
+ghost use Rattle.simd_json_parts.specs.Limits.{depth, max_length, IntegersFit, WithinLimits};
 ghost use Rattle.simd_json_parts.specs.Listing.{listing};
+ghost use Rattle.simd_json_parts.specs.NodeEquality.{same_items};
 ghost use Rattle.simd_json_parts.specs.Nodes.{Item};
 ghost use Rattle.simd_json_parts.specs.NumberAt.{number_at};
 ghost use Rattle.simd_json_parts.specs.Numbers.{number_literal, integer_literal, decimal_literal, has_minus, magnitude};
 ghost use Rattle.simd_json_parts.specs.Patterns.{Pattern, Matches, Begins};
-ghost use Rattle.simd_json_parts.specs.Positions.{positions, is_position, is_inside};
+ghost use Rattle.simd_json_parts.specs.Positions.{positions, is_position, is_inside, is_real_quote};
+ghost use Rattle.simd_json_parts.specs.Printed.{compact, pretty};
+ghost use Rattle.simd_json_parts.specs.Spellable.{IsSpellable};
 ghost use Rattle.simd_json_parts.specs.Strings.{ArePieces};
-ghost use Rattle.simd_json_parts.specs.StringAt.{string_at, closing_quote};
+ghost use Rattle.simd_json_parts.specs.StringAt.{string_at, closing_quote, read_pieces};
 ghost use Rattle.simd_json_parts.specs.StringRead.{further};
-ghost use Rattle.simd_json_parts.specs.TokenEnds.{token_end};
-ghost use Rattle.simd_json_parts.specs.Tokens.{Token, tokens};
+ghost use Rattle.simd_json_parts.specs.Tokens.{Token, token_end, tokens};
 ghost use Rattle.simd_json_parts.specs.TokensAlong.{tokens_along};
+ghost use Rattle.simd_json_parts.specs.Views.{mismatch};
 ghost use Rattle.simd_json_parts.specs.declared.error.Error.{Error};
+ghost use Rattle.simd_json_parts.specs.declared.error.ErrorType.{ErrorType};
+ghost use Rattle.simd_json_parts.specs.declared.error.ErrorType.TheVariants.{ExpectedObjectKey, InsufficientPadding};
 
 /// The test of a pattern is its set.
 pub fn patterns_are_sets()
@@ -36,63 +44,92 @@ pub fn patterns_are_sets()
 
 /// The longest prefix is one that goes on to a list of the set, and no longer prefix does.
 pub fn longest_prefixes()
-    ensures begins { (p : Pattern) (bs : List ℕ) → is_possible p ≡ true → Begins p (take (longest_prefix p bs) bs) }
-    ensures longest { (p : Pattern) (bs : List ℕ) (n : ℕ) → n ≤ length bs → Begins p (take n bs) → n ≤ longest_prefix p bs }
+    ensures begins { (p : Pattern) (bs : List ℕ) → is_possible p ≡ true
+        → Begins p (take (longest_prefix p bs) bs) }
+    ensures longest { (p : Pattern) (bs : List ℕ) (n : ℕ) → n ≤ length bs → Begins p (take n bs)
+        → n ≤ longest_prefix p bs }
 {}
 
 /// A number literal is an integer's or a decimal's, and no literal is both.
 pub fn numbers_are_integers_or_decimals()
-    ensures either { (bs : List ℕ) → Matches number_literal bs ↔ (Matches integer_literal bs ⊎ Matches decimal_literal bs) }
+    ensures either { (bs : List ℕ) → Matches number_literal bs
+        ↔ (Matches integer_literal bs ⊎ Matches decimal_literal bs) }
     ensures not_both { (bs : List ℕ) → Matches integer_literal bs → Matches decimal_literal bs → ⊥ }
 {}
 
 /// A zero that begins a number stands alone before the fraction and the exponent: no digit follows it.
 pub fn leading_zeros_stand_alone()
-    ensures unsigned { (x : ℕ) (bs : List ℕ) → IsTrue (is_ascii_digit x) → Matches number_literal (48 ∷ x ∷ bs) → ⊥ }
-    ensures signed { (x : ℕ) (bs : List ℕ) → IsTrue (is_ascii_digit x) → Matches number_literal (45 ∷ 48 ∷ x ∷ bs) → ⊥ }
+    ensures unsigned { (x : ℕ) (bs : List ℕ) → IsTrue (is_ascii_digit x)
+        → Matches number_literal (48 ∷ x ∷ bs) → ⊥ }
+    ensures signed { (x : ℕ) (bs : List ℕ) → IsTrue (is_ascii_digit x)
+        → Matches number_literal (45 ∷ 48 ∷ x ∷ bs) → ⊥ }
 {}
 
-/// A number of the grammar that stands at an index, with a terminator or the end after it, is read whole.
+/// A number of the grammar that stands at an index, with a terminator or the end after it, is read whole; an integer, where it
+/// is in the range of its sign.
 pub fn numbers_are_read()
-    ensures integers { (b : List ℕ) (i : ℕ) (xs rest : List ℕ) → drop i b ≡ xs ++ rest → IsTrue (is_terminator (byte_at rest 0))
-        → Matches integer_literal xs → magnitude xs ≤ max_magnitude (has_minus xs) → number_at b i ≡ Ok (integer (has_minus xs) (magnitude xs), i + length xs) }
-    ensures decimals { (b : List ℕ) (i : ℕ) (xs rest : List ℕ) → drop i b ≡ xs ++ rest → IsTrue (is_terminator (byte_at rest 0))
+    ensures integers { (b : List ℕ) (i : ℕ) (xs rest : List ℕ) → drop i b ≡ xs ++ rest
+        → IsTrue (is_terminator (byte_at rest 0))
+        → Matches integer_literal xs → magnitude xs ≤ max_magnitude (has_minus xs)
+        → number_at b i ≡ Ok (integer (has_minus xs) (magnitude xs), i + length xs) }
+    ensures decimals { (b : List ℕ) (i : ℕ) (xs rest : List ℕ) → drop i b ≡ xs ++ rest
+        → IsTrue (is_terminator (byte_at rest 0))
         → Matches decimal_literal xs → number_at b i ≡ Ok (decimal xs, i + length xs) }
 {}
 
 /// Pieces spell one string.
 pub fn pieces_spell_one_string()
-    ensures { (bs cs ds : List ℕ) → ArePieces bs cs → ArePieces bs ds → encode_utf8_all cs ≡ encode_utf8_all ds }
+    ensures { (bs cs ds : List ℕ) → ArePieces bs cs → ArePieces bs ds
+        → encode_utf8_all cs ≡ encode_utf8_all ds }
 {}
 
-/// A string literal of the grammar that stands at an index is read as its string, up to its closing quote, whatever stands before and after.
+/// A string literal of the grammar that stands at an index is read as its string, up to its closing quote, whatever stands
+/// before and after.
 pub fn strings_are_read()
-    ensures { (b : List ℕ) (i : ℕ) (content rest cs : List ℕ) → drop i b ≡ quote ∷ (content ++ quote ∷ rest) → ArePieces content cs
+    ensures { (b : List ℕ) (i : ℕ) (content rest cs : List ℕ)
+        → drop i b ≡ quote ∷ (content ++ quote ∷ rest) → ArePieces content cs
         → string_at b i ≡ Ok (encode_utf8_all cs, suc (suc i + length content)) }
+{}
+
+/// Of the content of a string, which is UTF-8 without a control byte and without a quote that would end it, a prefix is read
+/// that is pieces, as the string of their characters, and no longer prefix is pieces.
+pub fn longest_pieces()
+    ensures pieces { (bs : List ℕ) → IsUtf8 bs → ((i : ℕ) → i < length bs → 32 ≤ byte_at bs i)
+        → ((i : ℕ) → i < length bs → IsFalse (is_real_quote bs i))
+        → (own : List ℕ) × (cs : List ℕ) × (bs ≡ own ++ (read_pieces 0 bs).1) × ArePieces own cs
+        × ((read_pieces 0 bs).0 ≡ encode_utf8_all cs) }
+    ensures longest { (bs : List ℕ) (n : ℕ) (cs : List ℕ) → n ≤ length bs → ArePieces (take n bs) cs
+        → n + length (read_pieces 0 bs).1 ≤ length bs }
 {}
 
 /// A string is determined by the bytes from its opening quote on, which are UTF-8 if all are: what stands before does not matter.
 pub fn strings_stand_by_themselves()
-    ensures string { (b : List ℕ) (i : ℕ) → byte_at b i ≡ quote → string_at b i ≡ further i (string_at (drop i b) 0) }
-    ensures closing { (b : List ℕ) (i : ℕ) → byte_at b i ≡ quote → closing_quote b i ≡ i + closing_quote (drop i b) 0 }
-    ensures utf8 { (b : List ℕ) (i : ℕ) → i < length b → byte_at b i ≡ quote → IsUtf8 b → IsUtf8 (drop i b) }
+    ensures string { (b : List ℕ) (i : ℕ) → byte_at b i ≡ quote
+        → string_at b i ≡ further i (string_at (drop i b) 0) }
+    ensures closing { (b : List ℕ) (i : ℕ) → byte_at b i ≡ quote
+        → closing_quote b i ≡ i + closing_quote (drop i b) 0 }
+    ensures utf8 { (b : List ℕ) (i : ℕ) → i < length b → byte_at b i ≡ quote → IsUtf8 b
+        → IsUtf8 (drop i b) }
 {}
 
 /// Where no string is bad, each string that is opened is closed.
 pub fn opened_strings_are_closed()
-    ensures { (b : List ℕ) (i : ℕ) → i < length b → IsTrue (is_inside b i) → IsFalse (has_bad_string b) → closing_quote b i < length b }
+    ensures { (b : List ℕ) (i : ℕ) → i < length b → IsTrue (is_inside b i)
+        → IsFalse (has_bad_string b) → closing_quote b i < length b }
 {}
 
 /// Positions rise, and they are the indexes that the definition picks.
 pub fn positions_rise()
     ensures rise { (b : List ℕ) → IsStrictlyIncreasing (positions b) }
-    ensures picked { (b : List ℕ) (i : ℕ) → Contains (positions b) i ↔ ((i < length b) × IsTrue (is_position b i)) }
+    ensures picked { (b : List ℕ) (i : ℕ) → Contains (positions b) i
+        ↔ ((i < length b) × IsTrue (is_position b i)) }
 {}
 
 /// Where some byte is inside a string, and so where some string is bad, there is a position. So an input without positions
 /// has no bad string, and it does not matter which of these two faults is asked for first.
 pub fn strings_have_positions()
-    ensures inside { (b : List ℕ) (i : ℕ) → i < length b → IsTrue (is_inside b i) → positions b ≢ [] }
+    ensures inside { (b : List ℕ) (i : ℕ) → i < length b → IsTrue (is_inside b i)
+        → positions b ≢ [] }
     ensures bad { (b : List ℕ) → IsTrue (has_bad_string b) → positions b ≢ [] }
 {}
 
@@ -103,7 +140,8 @@ pub fn listings_are_headed()
 
 /// A listing is of one document, and ends where that document does.
 pub fn listings_are_of_one_document()
-    ensures { (d e : Document) (xs ys : List Item) → listing d ++ xs ≡ listing e ++ ys → (d ≡ e) × (xs ≡ ys) }
+    ensures { (d e : Document) (xs ys : List Item) → listing d ++ xs ≡ listing e ++ ys
+        → (d ≡ e) × (xs ≡ ys) }
 {}
 
 /// Equality of documents is an equivalence: they are equal exactly if they are the same but for the sign of a zero.
@@ -114,8 +152,34 @@ pub fn equality_is_an_equivalence()
 
 /// The answer is the fault of the whole input where there is one, and else the descent's.
 pub fn input_faults_come_first()
-    ensures fault { (b : List ℕ) (limit : ℕ) (e : Error) → input_fault b ≡ Some e → answer b limit ≡ Err e }
-    ensures none { (b : List ℕ) (limit : ℕ) → input_fault b ≡ None → answer b limit ≡ descent b limit }
+    ensures fault { (b : List ℕ) (limit : ℕ) (e : Error) → input_fault b ≡ Some e
+        → answer b limit ≡ Err e }
+    ensures none { (b : List ℕ) (limit : ℕ) → input_fault b ≡ None
+        → answer b limit ≡ descent b limit }
+{}
+
+/// The bound on the turns of the descent is never met: elements and members are read as by equations that have none.
+pub fn turns_are_enough()
+    ensures elements { (b : List ℕ) (missing : Error) (levels : ℕ) (ts : List Token)
+        → elements_by b missing (value_from b missing levels) ts
+        ≡ element_and b missing (value_from b missing levels)
+        (elements_by b missing (value_from b missing levels)) ts }
+    ensures members { (b : List ℕ) (missing : Error) (levels : ℕ) (kind : ErrorType)
+        (ts : List Token)
+        → members_by b missing (value_from b missing levels) kind ts
+        ≡ member_and b missing (value_from b missing levels)
+        (members_by b missing (value_from b missing levels) ExpectedObjectKey) kind ts }
+{}
+
+/// Each refusal is of a named kind: a fault of the whole input is of one of four, at index 0 and without a character, and a
+/// fault of a token is of one of fourteen, with a character. For the padded form padding may be lacking too.
+pub fn refusals_are_of_named_kinds()
+    ensures input { (b : List ℕ) (e : Error) → input_fault b ≡ Some e → IsOfInput e }
+    ensures token { (b : List ℕ) (limit : ℕ) (e : Error) → descent b limit ≡ Err e → IsOfToken e }
+    ensures either { (b : List ℕ) (limit : ℕ) (e : Error) → answer b limit ≡ Err e
+        → IsNamedFault e }
+    ensures padded { (s : List ℕ) (len limit : ℕ) (e : Error) → padded_answer s len limit ≡ Err e
+        → IsNamedFault e ⊎ (e ≡ whole_fault InsufficientPadding) }
 {}
 
 /// Tokens stand at positions: the tokens that the descent reads, up to the first that has a fault or is stray, are those
@@ -127,30 +191,38 @@ pub fn tokens_stand_at_positions()
 /// The first byte of each token that the descent reads is a position, no other byte of it is one, and between its end and
 /// the next position there is only whitespace.
 pub fn only_whitespace_stands_between_tokens()
-    ensures first { (b : List ℕ) (t : Token) → Contains (tokens b) t → Contains (positions b) t.index }
-    ensures within { (b : List ℕ) (t : Token) (end k : ℕ) → Contains (tokens b) t → token_end t ≡ Some end → t.index < k → k < end → IsFalse (is_position b k) }
-    ensures after { (b : List ℕ) (t : Token) (end k : ℕ) → Contains (tokens b) t → token_end t ≡ Some end → end ≤ k → k < length b
-        → ((j : ℕ) → end ≤ j → j ≤ k → IsFalse (is_position b j)) → IsTrue (is_whitespace (byte_at b k)) }
+    ensures first { (b : List ℕ) (t : Token) → Contains (tokens b) t
+        → Contains (positions b) t.index }
+    ensures within { (b : List ℕ) (t : Token) (end k : ℕ) → Contains (tokens b) t
+        → token_end t ≡ Some end → t.index < k → k < end → IsFalse (is_position b k) }
+    ensures after { (b : List ℕ) (t : Token) (end k : ℕ) → Contains (tokens b) t
+        → token_end t ≡ Some end → end ≤ k → k < length b
+        → ((j : ℕ) → end ≤ j → j ≤ k → IsFalse (is_position b j))
+        → IsTrue (is_whitespace (byte_at b k)) }
 {}
 
 /// So a string that is closed ends at the byte before the next position, or before the end of the input, where that byte is
 /// a quote: its closing quote is known without reading it.
 pub fn strings_end_before_the_next_position()
-    ensures { (b : List ℕ) (t : Token) (next : ℕ) → Contains (tokens b) t → byte_at b t.index ≡ quote → closing_quote b t.index < length b
-        → t.index + 1 < next → Contains (positions b) next ⊎ (next ≡ length b) → ((j : ℕ) → t.index < j → j < next → IsFalse (is_position b j))
+    ensures { (b : List ℕ) (t : Token) (next : ℕ) → Contains (tokens b) t
+        → byte_at b t.index ≡ quote → closing_quote b t.index < length b
+        → t.index + 1 < next → Contains (positions b) next ⊎ (next ≡ length b)
+        → ((j : ℕ) → t.index < j → j < next → IsFalse (is_position b j))
         → byte_at b (next - 1) ≡ quote → closing_quote b t.index + 1 ≡ next }
 {}
 
 /// At each position the descent reads a token, unless it has stopped at a token before, which has a fault or is stray.
 pub fn positions_without_a_token_lie_after_a_fault()
-    ensures { (b : List ℕ) (i : ℕ) → Contains (positions b) i → ((t : Token) × Contains (tokens b) t × (t.index ≡ i))
+    ensures { (b : List ℕ) (i : ℕ) → Contains (positions b) i
+        → ((t : Token) × Contains (tokens b) t × (t.index ≡ i))
         ⊎ ((t : Token) × Contains (tokens b) t × (token_end t ≡ None) × (t.index < i)) }
 {}
 
 /// An answer is a document: the whole input denotes it, and its length, its nesting and its integers are within the
 /// limits. So nothing outside the grammar is ever accepted.
 pub fn answers_are_documents()
-    ensures { (b : List ℕ) (limit : ℕ) (d : Document) → answer b limit ≡ Ok d → Denotes b d × WithinLimits b d limit }
+    ensures { (b : List ℕ) (limit : ℕ) (d : Document) → answer b limit ≡ Ok d
+        → Denotes b d × WithinLimits b d limit }
 {}
 
 /// What bytes denote can be spelled: its decimals are literals, and its strings and names are UTF-8.
@@ -165,7 +237,8 @@ pub fn documents_are_utf8()
 
 /// Bytes that denote a document within the limits are answered with that document.
 pub fn documents_are_answered()
-    ensures { (b : List ℕ) (d : Document) (limit : ℕ) → Denotes b d → WithinLimits b d limit → answer b limit ≡ Ok d }
+    ensures { (b : List ℕ) (d : Document) (limit : ℕ) → Denotes b d → WithinLimits b d limit
+        → answer b limit ≡ Ok d }
 {}
 
 /// Bytes denote one document at most, however deep it nests and however great its integers are: the grammar is unambiguous.
@@ -176,12 +249,82 @@ pub fn bytes_denote_one_document()
 /// No fault is reported late: where the input has no fault of the whole, the bytes before the index of a fault go on to a
 /// document. So up to there nothing is wrong yet.
 pub fn faults_are_not_reported_late()
-    ensures { (b : List ℕ) (limit : ℕ) (e : Error) → input_fault b ≡ None → descent b limit ≡ Err e → IsBeginning (take e.index b) }
+    ensures { (b : List ℕ) (limit : ℕ) (e : Error) → input_fault b ≡ None → descent b limit ≡ Err e
+        → IsBeginning (take e.index b) }
 {}
 
-/// No token is refused early: where an array or an object does not expect a token, the bytes go on to no document once
-/// they have the first byte of that token.
+/// No token is refused early after an element (`ExpectedArrayContent`), where a key is expected (`ExpectedObjectContent`,
+/// `ExpectedObjectKey`), after a key (`ExpectedObjectColon`) or after a member (`ExpectedObjectContent`): the bytes go on to no
+/// document once they have the first byte of that token.
 pub fn unexpected_tokens_are_not_reported_early()
-    ensures { (b : List ℕ) (limit : ℕ) (e : Error) → input_fault b ≡ None → descent b limit ≡ Err e → is_unexpected_token e.error ≡ true
+    ensures { (b : List ℕ) (limit : ℕ) (e : Error) → input_fault b ≡ None → descent b limit ≡ Err e
+        → is_unexpected_token e.error ≡ true
         → IsBeginning (take (suc e.index) b) → ⊥ }
+{}
+
+/// A printed text denotes the document that is printed, with no sign on a zero: a document that is equal to it, and nests
+/// as deep. So it is for each document whose decimals are literals, whose strings and names are UTF-8, and whose integers
+/// are in the ranges of their signs.
+pub fn printed_texts_denote_their_documents()
+    ensures compact { (d : Document) → IsSpellable d → IntegersFit d → Denotes (compact d) (normalized d) }
+    ensures pretty { (d : Document) → IsSpellable d → IntegersFit d → Denotes (pretty d) (normalized d) }
+    ensures equal { (d : Document) → equal (normalized d) d ≡ true }
+    ensures depth { (d : Document) → depth (normalized d) ≡ depth d }
+{}
+
+/// So a printed text is UTF-8.
+pub fn printed_texts_are_utf8()
+    ensures compact { (d : Document) → IsSpellable d → IntegersFit d → IsUtf8 (compact d) }
+    ensures pretty { (d : Document) → IsSpellable d → IntegersFit d → IsUtf8 (pretty d) }
+{}
+
+/// Equal documents are printed alike.
+pub fn equal_documents_are_printed_alike()
+    ensures compact { (d e : Document) → equal d e ≡ true → compact d ≡ compact e }
+    ensures pretty { (d e : Document) → equal d e ≡ true → pretty d ≡ pretty e }
+{}
+
+/// And documents that are printed alike are equal.
+pub fn printed_texts_are_of_one_document()
+    ensures compact { (d e : Document) → IsSpellable d → IntegersFit d → IsSpellable e → IntegersFit e
+        → compact d ≡ compact e → equal d e ≡ true }
+    ensures pretty { (d e : Document) → IsSpellable d → IntegersFit d → IsSpellable e → IntegersFit e
+        → pretty d ≡ pretty e → equal d e ≡ true }
+{}
+
+/// A printed text whose length and nesting are within the limits is answered with the document that was printed, with no
+/// sign on a zero.
+pub fn printed_texts_are_read_again()
+    ensures compact { (d : Document) (limit : ℕ) → IsSpellable d → IntegersFit d
+        → length (compact d) ≤ max_length → depth d ≤ limit → answer (compact d) limit ≡ Ok (normalized d) }
+    ensures pretty { (d : Document) (limit : ℕ) → IsSpellable d → IntegersFit d
+        → length (pretty d) ≤ max_length → depth d ≤ limit → answer (pretty d) limit ≡ Ok (normalized d) }
+{}
+
+/// Compact text is the shortest: no fewer bytes denote the document.
+pub fn compact_texts_are_shortest()
+    ensures { (b : List ℕ) (d : Document) → Denotes b d → IntegersFit d → length (compact d) ≤ length b }
+{}
+
+/// So what is answered can be printed and read again within the same limits: compactly always, and pretty where that text
+/// is not too long.
+pub fn answers_are_printed_and_read_again()
+    ensures compact { (b : List ℕ) (limit : ℕ) (d : Document) → answer b limit ≡ Ok d
+        → answer (compact d) limit ≡ Ok (normalized d) }
+    ensures pretty { (b : List ℕ) (limit : ℕ) (d : Document) → answer b limit ≡ Ok d
+        → length (pretty d) ≤ max_length → answer (pretty d) limit ≡ Ok (normalized d) }
+{}
+
+/// Documents are equal exactly if their nodes are, one by one: so one comparison of nodes compares values.
+pub fn documents_are_compared_node_by_node()
+    ensures { (d e : Document) → same_items (listing d) (listing e) ≡ equal d e }
+{}
+
+/// An accessor and its `try_` form agree, also at a key: one answers a value exactly where the other does, and then the
+/// same. Where there is none, the refusal names the kind that the accessor expects and the kind that the value has.
+pub fn accessors_agree<T>()
+    ensures value { (t : Accessor T) (d : Document) (x : T) → (try_as_t t d ≡ Ok x) ↔ (as_t t d ≡ Some x) }
+    ensures refused { (t : Accessor T) (d : Document) → as_t t d ≡ None → try_as_t t d ≡ Err (mismatch t.expected d) }
+    ensures at_key { (t : Accessor T) (key : List ℕ) (d : Document) (x : T)
+        → (try_get_t t key d ≡ Ok (Some x)) ↔ (get_t t key d ≡ Some x) }
 {}

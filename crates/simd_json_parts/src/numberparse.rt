@@ -1,23 +1,29 @@
 //! Reads one number (RFC 8259, section 6).
-ghost use Rattle.std.specs.Prelude.{◌≡◌, ◌≢◌, ◌+◌, ◌++◌, ◌==◌, ◌≤◌, ◌<◌, ℕ, List, length, take, drop, false, MatchResult, MatchOption, IsTrue, if◌then◌else◌};
+ghost use Rattle.std.specs.Prelude.{◌≡◌, ◌≢◌, ◌+◌, ◌++◌, ◌==◌, ◌≤◌, ◌<◌, ℕ, List, length, take, drop, map, false, MatchResult, MatchOption, IsTrue, if◌then◌else◌};
 ghost use Rattle.std.specs.Char.{is_ascii_digit};
 ghost use Rattle.std.specs.List.{prefix_len};
+ghost use Rattle.std.specs.Simd.Lanes.{mask_l};
 ghost use Rattle.std.specs.Str.Parse.{AllDigits, digits_value};
 ghost use Rattle.simd_json_parts.specs.Bytes.{byte_at, is_terminator};
 ghost use Rattle.simd_json_parts.specs.Derivatives.{longest_prefix, matches};
+ghost use Rattle.simd_json_parts.specs.DigitRuns.{is_no_digit};
 ghost use Rattle.simd_json_parts.specs.Integers.{max_magnitude, integer_node};
 ghost use Rattle.simd_json_parts.specs.NumberRead.{IsNumberAt};
 ghost use Rattle.simd_json_parts.specs.Numbers.{frac, exp, integer_literal};
 ghost use Rattle.simd_json_parts.specs.Patterns.{Matches, optional, ◌then◌};
 
-use crate::charutils::is_structural_or_whitespace;
+use crate::charutils::{byte_or_space, is_structural_or_whitespace};
 use crate::node::StaticNode;
+use std::simd::prelude::*;
+
+#[cfg(test)]
+mod tests;
 
 /// What stands at the front of some bytes, read as a number.
 #[derive(Clone, Copy, Debug, Drop, PartialEq, Eq)]
 pub enum Number {
-    /// An integer, as a node.
-    Integer(StaticNode),
+    /// An integer, as a node, whose literal has so many bytes.
+    Integer(StaticNode, usize),
     /// A number with a fraction or an exponent, whose literal has so many bytes.
     Decimal(usize),
     /// No number, or an integer out of range: the fault is reported so many bytes after the first.
@@ -33,7 +39,64 @@ pub fn is_integer(c: u8) -> bool
 
 /// Reads the number at the front of `bytes`, which are the rest of an input from some index on: an integer in range, a
 /// decimal, or where it is refused. A number ends before a structural character, whitespace or the end.
+#[inline]
 pub fn parse_number(bytes: &[u8]) -> Number
+    ensures { (b : List ℕ) (i : ℕ) → drop i b ≡ bytes.now → IsNumberAt b i result }
+{
+    if bytes.len() < 32 {
+        return parse_plainly(bytes);
+    }
+    let stops = non_digits(u8x32::from_slice(bytes));
+    let start = if bytes[0] == b'-' { 1 } else { 0 };
+    let whole = run_end(stops, start);
+    if whole >= 32 || whole == start || (bytes[start] == b'0' && whole != start + 1) {
+        return parse_plainly(bytes);
+    }
+    let end = if bytes[whole] == b'.' {
+        run_end(stops, whole + 1)
+    } else {
+        whole
+    };
+    if end >= 32 || end == whole + 1 {
+        return parse_plainly(bytes);
+    }
+    if is_structural_or_whitespace(bytes[end]) {
+        return if end == whole {
+            integer(&bytes[..end])
+        } else {
+            Number::Decimal(end)
+        };
+    }
+    match exponent_end(bytes, end) {
+        Err(offset) => Number::Invalid(offset),
+        Ok(end) if is_structural_or_whitespace(byte_or_space(bytes, end)) => Number::Decimal(end),
+        Ok(end) => Number::Invalid(end),
+    }
+}
+
+// A bit for each of the bytes, whether it is no digit.
+#[inline]
+fn non_digits(bytes: u8x32) -> u64
+    ensures { result ≡ mask_l (map is_no_digit bytes) }
+{
+    (bytes - u8x32::splat(b'0'))
+        .simd_ge(u8x32::splat(10))
+        .to_bitmask()
+}
+
+// Where the digits from an index on end, if they do so among the first 32 bytes, for each of which there is a bit.
+#[inline]
+fn run_end(stops: u64, from: usize) -> usize
+    requires { from ≤ 32 }
+    ensures { (b : List ℕ) → 32 ≤ length b → stops ≡ mask_l (map is_no_digit (take 32 b)) → result < 32
+        → result ≡ from + prefix_len is_ascii_digit (drop from b) }
+{
+    from + (stops >> from).trailing_zeros() as usize
+}
+
+// The same, byte by byte: of what is left at the end of an input, of long numbers and of most that are refused.
+#[inline(never)]
+fn parse_plainly(bytes: &[u8]) -> Number
     ensures { (b : List ℕ) (i : ℕ) → drop i b ≡ bytes.now → IsNumberAt b i result }
 {
     let start = if byte_or_space(bytes, 0) == b'-' {
@@ -57,14 +120,6 @@ pub fn parse_number(bytes: &[u8]) -> Number
             }
         }
     }
-}
-
-// Past the end every byte reads as a space, before which a number may end.
-#[inline]
-fn byte_or_space(bytes: &[u8], i: usize) -> u8
-    ensures { result ≡ byte_at bytes.now i }
-{
-    if i < bytes.len() { bytes[i] } else { b' ' }
 }
 
 fn digits_end(bytes: &[u8], from: usize) -> usize
@@ -130,6 +185,7 @@ fn exponent_end(bytes: &[u8], from: usize) -> Result<usize, usize>
 }
 
 // A literal in front of a terminator or the end, as a node or as what puts it out of range.
+#[inline(always)]
 fn integer(literal: &[u8]) -> Number
     requires { Matches integer_literal literal.now }
     ensures { (b : List ℕ) (i : ℕ) (rest : List ℕ) → drop i b ≡ literal.now ++ rest → IsTrue (is_terminator (byte_at rest 0))
@@ -139,7 +195,7 @@ fn integer(literal: &[u8]) -> Number
     let start = minus as usize;
     match magnitude(&literal[start..]) {
         Ok(value) => match node(minus, value) {
-            Some(node) => Number::Integer(node),
+            Some(node) => Number::Integer(node, literal.len()),
             None => Number::Invalid(literal.len()),
         },
         Err(offset) => Number::Invalid(start + offset),
@@ -206,73 +262,4 @@ fn long_magnitude(digits: &[u8]) -> Result<u64, usize>
         value = value * 10 + digit;
     }
     Ok(value)
-}
-
-#[cfg(test)]
-mod tests {
-    use super::*;
-
-    #[test]
-    fn numbers_are_read(rt: HostRuntime) {
-        let nines = [b'9'; 10_001];
-        let mut negative = nines;
-        negative[0] = b'-';
-        let rows: [(&[u8], Number); 45] = [
-            (b"0", Number::Integer(StaticNode::U64(0))),
-            (b"-0", Number::Integer(StaticNode::I64(0))),
-            (b"-1", Number::Integer(StaticNode::I64(-1))),
-            (b"257", Number::Integer(StaticNode::U64(257))),
-            (
-                b"18446744073709551615",
-                Number::Integer(StaticNode::U64(u64::MAX)),
-            ),
-            (
-                b"-9223372036854775808",
-                Number::Integer(StaticNode::I64(i64::MIN)),
-            ),
-            (b"123]", Number::Integer(StaticNode::U64(123))),
-            (b"123,", Number::Integer(StaticNode::U64(123))),
-            (b"123 ", Number::Integer(StaticNode::U64(123))),
-            (b"1e309", Number::Decimal(5)),
-            (b"1E-7", Number::Decimal(4)),
-            (b"-0.0", Number::Decimal(4)),
-            (b"1.50", Number::Decimal(4)),
-            (b"0e99999999999", Number::Decimal(13)),
-            (b"", Number::Invalid(0)),
-            (b"x", Number::Invalid(0)),
-            (b"18446744073709551616", Number::Invalid(19)),
-            (b"18446744073709551616x", Number::Invalid(20)),
-            (b"-9223372036854775809", Number::Invalid(20)),
-            (b"-18446744073709551616", Number::Invalid(20)),
-            (b"01", Number::Invalid(1)),
-            (b"-01", Number::Invalid(2)),
-            (b"1a", Number::Invalid(1)),
-            (b"123a", Number::Invalid(3)),
-            (b"1_000", Number::Invalid(1)),
-            (b"0x1", Number::Invalid(1)),
-            (b"-", Number::Invalid(1)),
-            (b"-x", Number::Invalid(1)),
-            (b"-.5", Number::Invalid(1)),
-            (b"1e", Number::Invalid(2)),
-            (b"1e+", Number::Invalid(3)),
-            (b"1e]", Number::Invalid(2)),
-            (b"9e-]", Number::Invalid(3)),
-            (b"0.1.2", Number::Invalid(3)),
-            (b"-1.0.", Number::Invalid(4)),
-            (b"1.2a-3", Number::Invalid(3)),
-            (b"1.8011670033376514H-308", Number::Invalid(18)),
-            (b"1.", Number::Invalid(2)),
-            (b"1.e", Number::Invalid(2)),
-            (b"1.0e", Number::Invalid(4)),
-            (b"0e99999999999x", Number::Invalid(13)),
-            (b"0e99999999999.5", Number::Invalid(13)),
-            (b"1\"a\"", Number::Invalid(1)),
-            (&nines[1..], Number::Invalid(19)),
-            (&negative, Number::Invalid(20)),
-        ];
-        for (bytes, number) in &rows {
-            assert_eq!(rt; parse_number(bytes), *number);
-        }
-        assert!(rt; matches!(parse_number(b"-0"), Number::Integer(StaticNode::I64(0))));
-    }
 }

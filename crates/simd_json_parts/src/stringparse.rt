@@ -103,7 +103,8 @@ fn unescape(unread: &mut [u8], from: usize) -> Result<Ends, BadEscape>
     requires goes_on { IsOpen unread.old from }
     requires stops { is_plain (byte_at unread.old from) ≡ false }
     ensures { MatchResult result
-        (λ ends. IsDecoded unread.old from from unread.new ends.read ends.written × (byte_at unread.old ends.read ≡ quote))
+        (λ ends. IsDecoded unread.old from from unread.new ends.read ends.written
+        × (byte_at unread.old ends.read ≡ quote))
         (λ bad. IsLeft unread.old from bad) }
 {
     let mut ends = Ends {
@@ -131,7 +132,8 @@ fn unescape_one(unread: &mut [u8], ends: Ends) -> Option<Ends>
     requires order { ends.written ≤ ends.read }
     ensures { MatchOption result
         ((escape_at (drop ends.read unread.old) ≡ None) × (unread.new ≡ unread.old))
-        (λ next. IsDecoded unread.old ends.read ends.written unread.new next.read next.written × (ends.read < next.read)) }
+        (λ next. IsDecoded unread.old ends.read ends.written unread.new next.read next.written
+        × (ends.read < next.read)) }
 {
     let (character, more) = escape(&unread[ends.read..])?;
     let written = put(unread, ends.written, character);
@@ -173,7 +175,8 @@ fn put(bytes: &mut [u8], at: usize, character: char) -> usize
 fn move_down(bytes: &mut [u8], from: usize, end: usize, to: usize) -> usize
     requires { (to ≤ from) × (from ≤ end) × (end ≤ length bytes.old) }
     ensures end { result ≡ to + (end - from) }
-    ensures written { take result bytes.new ≡ take to bytes.old ++ take (end - from) (drop from bytes.old) }
+    ensures written { take result bytes.new
+        ≡ take to bytes.old ++ take (end - from) (drop from bytes.old) }
     ensures unread { drop end bytes.new ≡ drop end bytes.old }
     ensures same_length { length bytes.new ≡ length bytes.old }
 {
@@ -207,7 +210,8 @@ fn move_few(bytes: &mut [u8], from: usize, end: usize, to: usize)
 // The character of the escape at the front, and how many bytes of it follow the backslash.
 fn escape(bytes: &[u8]) -> Option<(char, usize)>
     requires { 2 ≤ length bytes.now }
-    ensures value { MatchOption result (escape_at bytes.now ≡ None) (λ e. escape_at bytes.now ≡ Some (encode_utf8 e.0, e.1)) }
+    ensures value { MatchOption result (escape_at bytes.now ≡ None)
+        (λ e. escape_at bytes.now ≡ Some (encode_utf8 e.0, e.1)) }
     ensures shorter { IfSome result (λ e. len_utf8 e.0 ≤ e.1) }
 {
     if bytes[1] == b'u' {
@@ -219,7 +223,8 @@ fn escape(bytes: &[u8]) -> Option<(char, usize)>
 
 // A code unit, or two that are a high and a low surrogate.
 fn unicode_escape(bytes: &[u8]) -> Option<(char, usize)>
-    ensures value { let piece = unicode_piece (code_unit_at bytes.now) (code_unit_at (drop 6 bytes.now)) in
+    ensures value { let piece =
+        unicode_piece (code_unit_at bytes.now) (code_unit_at (drop 6 bytes.now)) in
         MatchOption result (piece ≡ None) (λ e. piece ≡ Some (encode_utf8 e.0, e.1)) }
     ensures shorter { IfSome result (λ e. len_utf8 e.0 ≤ e.1) }
 {

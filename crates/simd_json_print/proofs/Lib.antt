@@ -1,1 +1,2 @@
 pub mod FlatMaps
+pub mod Prefixes

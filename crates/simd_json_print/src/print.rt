@@ -3,17 +3,19 @@ ghost use Rattle.std.specs.Prelude.{◌≡◌, ◌<◌, ◌++◌, ℕ, List, [],
 ghost use Rattle.std.specs.Char.{digit_char};
 ghost use Rattle.simd_json_parts.specs.Bytes.{quote};
 ghost use Rattle.simd_json_parts.specs.Printed.{escaped_byte, quoted};
+ghost use Rattle.simd_json_print.specs.Prefix.{IsPrefix};
 
 use std::alloc::{AllocError, Allocator};
 
 /// Appends a string as it is printed: between quotes, with a quote, a backslash and what is below 0x20 escaped.
 ///
-/// Fails where an allocation fails, and then a part of the string may have been appended.
+/// Fails where an allocation fails. What `out` held is then still in front, and a part of the string may stand after it.
 pub fn append_quoted<A: Allocator>(
     out: &mut Vec<u8, A>,
     string: &str,
 ) -> std::result::Result<(), AllocError>
-    ensures { OnOk result (out.new.items ≡ out.old.items ++ quoted string.now) }
+    ensures appended { OnOk result (out.new.items ≡ out.old.items ++ quoted string.now) }
+    ensures kept { IsPrefix out.old.items out.new.items }
 {
     out.push(b'"')?;
     for &byte in string.as_bytes() {
@@ -25,7 +27,8 @@ pub fn append_quoted<A: Allocator>(
 
 // Appends one byte of a string.
 fn append_byte<A: Allocator>(out: &mut Vec<u8, A>, byte: u8) -> std::result::Result<(), AllocError>
-    ensures { OnOk result (out.new.items ≡ out.old.items ++ escaped_byte byte) }
+    ensures appended { OnOk result (out.new.items ≡ out.old.items ++ escaped_byte byte) }
+    ensures kept { IsPrefix out.old.items out.new.items }
 {
     match byte {
         b'"' => out.extend_from_slice(b"\\\""),
@@ -46,7 +49,8 @@ fn append_control<A: Allocator>(
     byte: u8,
 ) -> std::result::Result<(), AllocError>
     requires { byte < 32 }
-    ensures { OnOk result (out.new.items ≡ out.old.items ++ codes "\\u00" ++ digit_char (byte / 16) ∷ digit_char (byte % 16) ∷ []) }
+    ensures appended { OnOk result (out.new.items ≡ out.old.items ++ codes "\\u00" ++ digit_char (byte / 16) ∷ digit_char (byte % 16) ∷ []) }
+    ensures kept { IsPrefix out.old.items out.new.items }
 {
     let tens = if byte < 16 { b'0' } else { b'1' };
     out.extend_from_slice(&[b'\\', b'u', b'0', b'0', tens, hex_digit(byte % 16)])

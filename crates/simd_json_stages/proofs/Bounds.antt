@@ -1,16 +1,17 @@
 -- What the machine counts stays within bounds from one token to the next.
-use Rattle.std.proofs.Common.{inl, inr, ◌≡◌, refl, sym, ◌∙◌, ap, subst, ℕ, ◌+◌, ◌-◌, ◌<◌, ◌≤◌, List, [], ◌∷◌, ◌++◌, length, get_or, drop, Contains, arith}
-use Rattle.std.specs.Prelude.{Some}
+use Rattle.std.proofs.Common.{inl, inr, ◌≡◌, ◌≢◌, refl, sym, ◌∙◌, ap, subst, ℕ, ◌+◌, ◌-◌, ◌<◌, ◌≤◌, List, [], ◌∷◌, ◌++◌, length, get_or, drop, Contains, arith}
+use Rattle.std.specs.Prelude.{Some, slice_index}
+use Rattle.std.proofs.lemmas.Bool.{cases_lt}
 use Rattle.simd_json_parts.specs.Bytes.{byte_at}
 use Rattle.simd_json_parts.specs.Positions.{positions}
-use Rattle.simd_json_parts.specs.TokenEnds.{form_end, token_end}
+use Rattle.simd_json_parts.specs.Tokens.{form_end, token_end}
 use Rattle.simd_json_parts.specs.Tokens.{Token, tokens, string_token}
 use Rattle.simd_json_parts.specs.TokensAlong.{tokens_along}
 use Rattle.simd_json_parts.specs.declared.error.ErrorType.{ErrorType}
 use Rattle.simd_json_parts.specs.declared.node.Node.{Node}
 use Rattle.simd_json_stages.specs.Building.{AtValue, AtName, Tells}
 use Rattle.simd_json_stages.specs.Left.{Left}
-use Rattle.simd_json_stages.specs.Progresses.{IsRead, IsBefore, IsAfter}
+use Rattle.simd_json_stages.specs.Progresses.{EndsClosed, IsRead, IsBefore, IsAfter}
 use Rattle.simd_json_stages.specs.declared.stage2.Container.{Container}
 use Rattle.simd_json_stages.specs.Put.{IsStringPut, IsScalarPut}
 use Rattle.simd_json_stages.specs.declared.stage2.Progress.{Progress}
@@ -25,6 +26,20 @@ pub told-at : (b ps : List ℕ) (limit : ℕ) (kind : FaultKind) (p : Progress) 
     → Tells b ps limit (record { kind = kind; index = p.at; byte = byte_at b p.at }) → Tells b ps limit f
 told-at b ps limit kind p f is first told =
     subst (Tells b ps limit) (sym is) (subst (λ x. Tells b ps limit (record { kind = kind; index = p.at; byte = x })) (sym first) told)
+
+-- where the last position holds a closing bracket, after any other token a position is left
+pub some-left : (b ps : List ℕ) (p : Progress) → EndsClosed b ps → IsRead b ps p → p.byte ≢ 93 → p.byte ≢ 125 → p.read < length ps
+some-left b ps p closed r x y =
+    elim (cases_lt p.read (length ps)) [
+      | inl h ↦ h
+      | inr h ↦
+          let all : p.read ≡ length ps = omega (arith, r.within) in
+          let byte : p.byte ≡ byte_at b (slice_index ps (length ps - 1)) = r.first ∙ ap (byte_at b) (r.last ∙ ap (λ n. slice_index ps (n - 1)) all) in
+          absurd (elim closed [
+            | inl is ↦ x (byte ∙ is)
+            | inr is ↦ y (byte ∙ is)
+          ])
+    ]
 
 module _ (b ps : List ℕ) (e : ps ≡ positions b) where
   lift : (P : List ℕ → Type 0) → P (positions b) → P ps

@@ -9,17 +9,16 @@ use Rattle.simd_json_parts.specs.declared.node.Node.TheVariants.{Static}
 use Rattle.simd_json_parts.specs.declared.node.StaticNode.TheVariants.{Null}
 use Rattle.simd_json_parts.specs.Nodes.{item_of}
 use Rattle.simd_json_stages.specs.Continued.{Open}
-use Rattle.simd_json_stages.specs.Building.{closer, end_kind, frames, top, patch, HoldsValue, AtValue, AtName, AtMember, AtMemberOf, AfterValue, Opens, Goes, Tells}
+use Rattle.simd_json_stages.specs.Building.{closer, end_kind, frames, top, patch, HoldsValue, AtValue, AfterValue, Goes, Takes, Tells}
 use Rattle.simd_json_stages.specs.EscapesAhead.{AreAhead}
-use Rattle.simd_json_stages.specs.Refusals.{error_type}
 use Rattle.simd_json_stages.specs.Left.{Left}
-use Rattle.simd_json_stages.specs.Progresses.{IsRead, IsBefore, IsAfter, IsWithin, IsAhead, Advances, Passes}
-use Rattle.simd_json_stages.specs.declared.stage2.Container.TheVariants.{Array, Object}
+use Rattle.simd_json_stages.specs.Progresses.{IsRead, IsBefore, IsAfter, IsTurned, Turns}
+use Rattle.simd_json_stages.specs.declared.stage2.Container.TheVariants.{Array}
 use Rattle.simd_json_stages.specs.declared.stage2.Follower.{Follower}
-use Rattle.simd_json_stages.specs.declared.stage2.Value.{Value}
-use Rattle.simd_json_stages.specs.declared.stage2.Value.TheVariants.{Opened, Read}
+use Rattle.simd_json_stages.specs.declared.stage2.Turn.{Turn}
+use Rattle.simd_json_stages.specs.declared.stage2.Turn.TheVariants as turns
 use Rattle.simd_json_stages.specs.declared.stage2.escapes.Escapes.{Escapes}
-use Rattle.simd_json_stages.specs.declared.stage2.Follower.TheVariants.{Next, End}
+use Rattle.simd_json_stages.specs.declared.stage2.Follower.TheVariants.{End}
 use Rattle.simd_json_stages.specs.declared.stage2.Progress.{Progress}
 use Rattle.simd_json_stages.specs.declared.stage2.StackState.{StackState}
 use Rattle.simd_json_stages.specs.declared.stage2.fault.Fault.{Fault}
@@ -44,8 +43,8 @@ module _ (b ps : List ℕ) (e : ps ≡ positions b) where
   two_more-is p = let two : (p.read + 1) + 1 ≡ p.read + 2 = omega arith in ap (λ n. record p { read = n; at = get_or ps (p.read + 1) 0; byte = byte_at b (get_or ps (p.read + 1) 0) }) two
 
   -- what `next_member` answers, told of the progress before the comma
-  abbrev pub Answers : Progress → Result Follower Fault → Type 0
-  Answers p r = MatchResult r (λ f. (p.read + 1 < length ps) × (f ≡ Next (two_more p)))
+  abbrev pub Answers : Progress → Result Turn Fault → Type 0
+  Answers p r = MatchResult r (λ f. (p.read + 1 < length ps) × (f ≡ turns.Next (two_more p)))
       (λ fault. (length ps ≤ p.read + 1) × (fault ≡ record { kind = kinds.Syntax; index = get_or ps p.read 0; byte = byte_at b (get_or ps p.read 0) }))
 
   -- the second of two positions is after the first
@@ -59,27 +58,27 @@ module _ (b ps : List ℕ) (e : ps ≡ positions b) where
       let l : get_or ps p.read 0 < get_or ps (p.read + 1) 0 = rises p r.read k in
       subst (λ n. (u.at ≤ get_or ps n 0) × (get_or ps n 0 < u.at + length u.bytes)) (sym read) (looks b ps e u (get_or ps (p.read + 1) 0) r.same (omega (arith, r.before more)) (inside b ps e (p.read + 1) k))
 
-  pub answers : (u : Left) (p q : Progress) (r : Result Follower Fault) → IsAfter b ps u p → p.read < length ps → q ≡ one_more p
-      → MatchResult r (λ f. (q.read < length ps) × (f ≡ Next (record q { read = q.read + 1; at = get_or ps q.read 0; byte = byte_at u.bytes (get_or ps q.read 0 - u.at) })))
+  pub answers : (u : Left) (p q : Progress) (r : Result Turn Fault) → IsAfter b ps u p → p.read < length ps → q ≡ one_more p
+      → MatchResult r (λ f. (q.read < length ps) × (f ≡ turns.Next (record q { read = q.read + 1; at = get_or ps q.read 0; byte = byte_at u.bytes (get_or ps q.read 0 - u.at) })))
       (λ fault. (length ps ≤ q.read) × (fault ≡ record { kind = kinds.Syntax; index = q.at; byte = q.byte })) → Answers p r
   answers u p q r after more is h =
-      go r (subst (λ (q : Progress). MatchResult r (λ f. (q.read < length ps) × (f ≡ Next (record q { read = q.read + 1; at = get_or ps q.read 0; byte = byte_at u.bytes (get_or ps q.read 0 - u.at) })))
+      go r (subst (λ (q : Progress). MatchResult r (λ f. (q.read < length ps) × (f ≡ turns.Next (record q { read = q.read + 1; at = get_or ps q.read 0; byte = byte_at u.bytes (get_or ps q.read 0 - u.at) })))
       (λ fault. (length ps ≤ q.read) × (fault ≡ record { kind = kinds.Syntax; index = q.at; byte = q.byte }))) is h)
     where
-      go : (r : Result Follower Fault) → MatchResult r (λ f. (p.read + 1 < length ps) × (f ≡ Next (record p { read = (p.read + 1) + 1; at = get_or ps (p.read + 1) 0; byte = byte_at u.bytes (get_or ps (p.read + 1) 0 - u.at) })))
+      go : (r : Result Turn Fault) → MatchResult r (λ f. (p.read + 1 < length ps) × (f ≡ turns.Next (record p { read = (p.read + 1) + 1; at = get_or ps (p.read + 1) 0; byte = byte_at u.bytes (get_or ps (p.read + 1) 0 - u.at) })))
           (λ fault. (length ps ≤ p.read + 1) × (fault ≡ record { kind = kinds.Syntax; index = get_or ps p.read 0; byte = byte_at b (get_or ps p.read 0) })) → Answers p r
       go (Ok f) (k, next) =
           let l : get_or ps p.read 0 < get_or ps (p.read + 1) 0 = rises p after.read k in
           let byte : byte_at u.bytes (get_or ps (p.read + 1) 0 - u.at) ≡ byte_at b (get_or ps (p.read + 1) 0) = looked b ps e u (get_or ps (p.read + 1) 0) _ after.same (omega (arith, after.before more)) refl in
-          (k, next ∙ ap (λ x. Next (record p { read = (p.read + 1) + 1; at = get_or ps (p.read + 1) 0; byte = x })) byte ∙ ap Next (two_more-is p))
+          (k, next ∙ ap (λ x. turns.Next (record p { read = (p.read + 1) + 1; at = get_or ps (p.read + 1) 0; byte = x })) byte ∙ ap turns.Next (two_more-is p))
       go (Err fault) h = h
 
-  pub next-progress : (u : Left) (p : Progress) (r : Result Follower Fault) → IsAfter b ps u p → p.read < length ps → Answers p r → IfOk r (IsAhead b ps u)
+  pub next-progress : (u : Left) (p : Progress) (r : Result Turn Fault) → IsAfter b ps u p → p.read < length ps → Answers p r → IfOk r (IsTurned b ps u)
   next-progress u p (Err fault) after more h = tt
   next-progress u p (Ok f) after more (k, is) =
       let first : IsRead b ps (one_more p) = read-next b ps e p (one_more p) after.read more refl refl refl in
       let l : get_or ps p.read 0 < get_or ps (p.read + 1) 0 = rises p after.read k in
-      subst (IsAhead b ps u) (sym is)
+      subst (IsTurned b ps u) (sym is)
       (record {
         read = read-next b ps e (one_more p) (two_more p) first k (omega arith) refl refl;
         used = omega (arith, after.used);
@@ -88,25 +87,24 @@ module _ (b ps : List ℕ) (e : ps ≡ positions b) where
         unread = record { same = after.same; before = omega (arith, after.before more) };
       })
 
-  -- said of the progress s that it began with
-  pub next-passed : (u : Left) (s p : Progress) (r : Result Follower Fault) → IsAfter b ps u p → p.read < length ps → s.read ≤ p.read → s.at ≤ p.at → p.depth ≤ s.depth → Answers p r → IfOk r (Passes s)
-  next-passed u s p (Err fault) after more i j k h = tt
-  next-passed u s p (Ok f) after more i j k (two, is) =
+  pub next-passed : (u : Left) (p : Progress) (r : Result Turn Fault) → IsAfter b ps u p → p.read < length ps → Answers p r → IfOk r (Turns p)
+  next-passed u p (Err fault) after more h = tt
+  next-passed u p (Ok f) after more (two, is) =
       let l : get_or ps p.read 0 < get_or ps (p.read + 1) 0 = rises p after.read two in
       let m : p.at < get_or ps p.read 0 = later b ps e p after.read more in
-      subst (Passes s) (sym is) (omega arith, omega arith, omega arith)
+      subst (Turns p) (sym is) (omega arith, omega arith, refl, refl)
 
   -- a fault at the next token
   pub told-next : (limit : ℕ) (kind : FaultKind) (p q : Progress) (f : Fault) → q ≡ one_more p → f ≡ record { kind = kind; index = q.at; byte = q.byte }
       → Tells b ps limit (record { kind = kind; index = get_or ps p.read 0; byte = byte_at b (get_or ps p.read 0) }) → Tells b ps limit f
   told-next limit kind p q f is fault told = subst (Tells b ps limit) (sym (fault ∙ ap (λ (q : Progress). record { kind = kind; index = q.at; byte = q.byte }) is)) told
 
-  pub next-goes : (limit : ℕ) (stack : List StackState) (nodes : List Node) (p : Progress) (r : Result Follower Fault) → AfterValue b ps limit stack nodes p → 0 < p.depth → p.read < length ps → byte_at b (get_or ps p.read 0) ≡ 44 → Answers p r
-      → IfOk r (Goes b ps limit stack nodes)
+  pub next-goes : (limit : ℕ) (stack : List StackState) (nodes : List Node) (p : Progress) (r : Result Turn Fault) → AfterValue b ps limit stack nodes p → 0 < p.depth → p.read < length ps → byte_at b (get_or ps p.read 0) ≡ 44 → Answers p r
+      → IfOk r (Takes b ps limit stack nodes)
   next-goes limit stack nodes p (Err fault) at some more comma h = tt
-  next-goes limit stack nodes p (Ok f) at some more comma (k, is) = subst (Goes b ps limit stack nodes) (sym is) (step-comma b ps limit stack nodes p at some more comma k)
+  next-goes limit stack nodes p (Ok f) at some more comma (k, is) = subst (Takes b ps limit stack nodes) (sym is) (step-comma b ps limit stack nodes p at some more comma k)
 
-  pub next-tells : (limit : ℕ) (stack : List StackState) (nodes : List Node) (p : Progress) (r : Result Follower Fault) → AfterValue b ps limit stack nodes p → 0 < p.depth → p.read < length ps → byte_at b (get_or ps p.read 0) ≡ 44 → Answers p r
+  pub next-tells : (limit : ℕ) (stack : List StackState) (nodes : List Node) (p : Progress) (r : Result Turn Fault) → AfterValue b ps limit stack nodes p → 0 < p.depth → p.read < length ps → byte_at b (get_or ps p.read 0) ≡ 44 → Answers p r
       → IfErr r (Tells b ps limit)
   next-tells limit stack nodes p (Ok f) at some more comma h = tt
   next-tells limit stack nodes p (Err fault) at some more comma (k, is) = subst (Tells b ps limit) (sym is) (tells-comma_end b ps limit stack nodes p at some more comma (omega arith))
@@ -165,11 +163,11 @@ module _ (b ps : List ℕ) (e : ps ≡ positions b) where
         unread = record { same = same; before = omega arith };
       })
 
-  pub named-advances : (p s : Progress) → IsRead b ps p → p.read + 1 < length ps → s ≡ two_more p → (p.read < s.read) × (p.at ≤ s.at) × (s.depth ≡ p.depth)
+  pub named-advances : (p s : Progress) → IsRead b ps p → p.read + 1 < length ps → s ≡ two_more p → (p.read < s.read) × (p.at ≤ s.at) × (s.depth ≡ p.depth) × (s.container ≡ p.container)
   named-advances p s r k is =
       let l : get_or ps p.read 0 < get_or ps (p.read + 1) 0 = rises p r k in
       let m : p.at < get_or ps p.read 0 = later b ps e p r (omega arith) in
-      subst (λ (s : Progress). (p.read < s.read) × (p.at ≤ s.at) × (s.depth ≡ p.depth)) (sym is) (omega arith, omega arith, refl)
+      subst (λ (s : Progress). (p.read < s.read) × (p.at ≤ s.at) × (s.depth ≡ p.depth) × (s.container ≡ p.container)) (sym is) (omega arith, omega arith, refl, refl)
 
   -- after the root, as `end` answers
   pub end-goes : (limit : ℕ) (stack : List StackState) (nodes : List Node) (p : Progress) (r : Result Follower Fault) (Q : Fault → Type 0) → AfterValue b ps limit stack nodes p → p.depth ≡ 0
@@ -190,34 +188,6 @@ some-node b ps limit stack nodes p at none l = go at.opens at.deep at.holds
     go : (opens : List Open) → length opens ≡ p.depth → HoldsValue opens at.last p.container (frames stack p.depth) p.len (map item_of (take p.used nodes)) → 0 < p.used
     go [] deep (fs, items) = omega (arith, listing-some at.last, ap length items, items-length nodes p.used l)
     go (o ∷ outer) deep h = absurd (omega (arith, deep, none))
-
--- ---- the first token of the next member, with the fault where an object has no name there
-
-pub record IsReady (b ps : List ℕ) (limit : ℕ) (u : Left) (e : Escapes) (stack : List StackState) (nodes : List Node) (p : Progress) (k : Progress × FaultKind) : Type 0 where
-  pub progress : IsBefore b ps u k.0
-  pub escapes : AreAhead b e k.0.at
-  pub member : AtMember b ps limit k.1 stack nodes k.0
-  pub further : p.read < k.0.read
-  pub deep : k.0.depth ≤ limit
-
-pub ready-opened : (b ps : List ℕ) (limit : ℕ) (u : Left) (e : Escapes) (stack : List StackState) (nodes : List Node) (p q : Progress) (x : Value) (k : Progress × FaultKind) → x ≡ Opened q → k ≡ (q, kinds.ExpectedObjectContent)
-    → IsWithin b ps u x → AreAhead b e p.at → Advances limit p x → Opens b ps limit stack nodes x → IsReady b ps limit u e stack nodes p k
-ready-opened b ps limit u e stack nodes p q x k is kind within ahead advances opens =
-    let along : (p.read < q.read) × (p.at ≤ q.at) × (q.depth ≤ limit) = subst (Advances limit p) is advances in
-    subst (IsReady b ps limit u e stack nodes p) (sym kind)
-    (record { progress = subst (IsWithin b ps u) is within; escapes = ahead-later b e p.at ahead q.at along.1; member = subst (Opens b ps limit stack nodes) is opens; further = along.0; deep = along.2 })
-
-pub ready-next : (b ps : List ℕ) (limit : ℕ) (u : Left) (e : Escapes) (stack : List StackState) (nodes : List Node) (p q s : Progress) (x : Value) (f : Follower) (k : Progress × FaultKind) → x ≡ Read q → f ≡ Next s → k ≡ (s, kinds.ExpectedObjectKey)
-    → IsAhead b ps u f → AreAhead b e p.at → Advances limit p x → Passes q f → Goes b ps limit stack nodes f → IsReady b ps limit u e stack nodes p k
-ready-next b ps limit u e stack nodes p q s x f k is next kind within ahead advances passes goes =
-    let along : (p.read ≤ q.read) × (p.at ≤ q.at) × (q.depth ≤ limit) = subst (Advances limit p) is advances in
-    let passed : (q.read < s.read) × (q.at ≤ s.at) × (s.depth ≤ q.depth) = subst (Passes q) next passes in
-    subst (IsReady b ps limit u e stack nodes p) (sym kind)
-    (record { progress = subst (IsAhead b ps u) next within; escapes = ahead-later b e p.at ahead s.at (omega (arith, along.1, passed.1)); member = subst (Goes b ps limit stack nodes) next goes; further = omega (arith, along.0, passed.0); deep = omega (arith, along.2, passed.2) })
-
--- in an object it is a name
-pub ready-name : (b ps : List ℕ) (limit : ℕ) (stack : List StackState) (nodes : List Node) (q : Progress) (kind : FaultKind) → AtMember b ps limit kind stack nodes q → q.container ≡ Object → AtName b ps limit (error_type kind) stack nodes q
-ready-name b ps limit stack nodes q kind at is = subst (λ c. AtMemberOf b ps limit c (error_type kind) stack nodes q) is at
 
 -- ---- the first token
 

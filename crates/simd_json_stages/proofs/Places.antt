@@ -9,7 +9,7 @@ use Rattle.simd_json_parts.specs.Bytes.{quote, is_whitespace, is_structural, byt
 use Rattle.simd_json_parts.specs.InputFaults.{input_fault, has_bad_string}
 use Rattle.simd_json_parts.specs.Positions.{is_real_quote, is_inside, is_fresh, is_position, positions}
 use Rattle.simd_json_parts.specs.StringAt.{closing_quote}
-use Rattle.simd_json_parts.specs.TokenEnds.{token_end}
+use Rattle.simd_json_parts.specs.Tokens.{token_end}
 use Rattle.simd_json_parts.specs.Tokens.{Token, form_at, tokens}
 use Rattle.simd_json_parts.specs.TokensAlong.{tokens_along}
 use Rattle.simd_json_parts.proofs.Positions.Between.{no_position-within}

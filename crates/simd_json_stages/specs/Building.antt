@@ -20,6 +20,8 @@ use Rattle.simd_json_stages.specs.declared.stage2.Follower.{Follower}
 use Rattle.simd_json_stages.specs.declared.stage2.Follower.TheVariants.{Next, End}
 use Rattle.simd_json_stages.specs.declared.stage2.Progress.{Progress}
 use Rattle.simd_json_stages.specs.declared.stage2.StackState.{StackState}
+use Rattle.simd_json_stages.specs.declared.stage2.Turn.{Turn}
+use Rattle.simd_json_stages.specs.declared.stage2.Turn.TheVariants as turns
 use Rattle.simd_json_stages.specs.declared.stage2.Value.{Value}
 use Rattle.simd_json_stages.specs.declared.stage2.Value.TheVariants.{Opened, Read}
 use Rattle.simd_json_stages.specs.declared.stage2.fault.Fault.{Fault}
@@ -169,6 +171,11 @@ module _ (b ps : List ℕ) (limit : ℕ) where
   abbrev pub Opens : List StackState → List Node → Value → Type 0
   Opens stack nodes (Opened p) = AtMember kinds.ExpectedObjectContent stack nodes p
   Opens stack nodes (Read p) = AfterValue stack nodes p
+
+  -- what follows a member
+  abbrev pub Takes : List StackState → List Node → Turn → Type 0
+  Takes stack nodes (turns.Next p) = AtMember kinds.ExpectedObjectKey stack nodes p
+  Takes stack nodes (turns.Closed p) = AfterValue stack nodes p
 
   -- what follows a value
   abbrev pub Goes : List StackState → List Node → Follower → Type 0

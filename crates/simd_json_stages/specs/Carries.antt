@@ -1,4 +1,4 @@
--- What a scan from left to right keeps of the bytes before an index.
+-- What a scan from left to right keeps of the bytes before an index. It serves proofs: only the crate's private clauses cite it.
 use Rattle.std.specs.Prelude.{◌≡◌, ℕ, List, Bool, not, ◌&&◌}
 use Rattle.std.specs.List.{list_any, range_with_len}
 use Rattle.simd_json_parts.specs.Bytes.{is_control, byte_at}

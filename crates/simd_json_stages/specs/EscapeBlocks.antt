@@ -1,4 +1,4 @@
--- The blocks of 64 bytes that hold a backslash. A string that lies in other blocks has no escape.
+-- The blocks of 64 bytes that hold a backslash. A string that lies in other blocks has no escape. Public contracts rest on it.
 use Rattle.std.specs.Prelude.{ℕ, ◌+◌, ◌*◌, ◌/◌, List, length, get_or, filter, Bool, ◌==◌}
 use Rattle.std.specs.List.{list_any, range_with_len}
 use Rattle.simd_json_parts.specs.Bytes.{backslash, byte_at}

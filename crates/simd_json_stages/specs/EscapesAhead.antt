@@ -8,9 +8,13 @@ use Rattle.simd_json_stages.specs.declared.stage2.escapes.Escapes.{Escapes}
 abbrev pub PlainFrom : List ℕ → ℕ → ℕ → Type 0
 PlainFrom b k m = (j : ℕ) → k ≤ j → j < m → byte_at b j ≢ backslash
 
--- the walk is along the blocks of b, its mark is where the next one begins, and from index `at` up to there no backslash stands
+-- The listed blocks before this number are passed: from index `at` up to where the next one begins no backslash stands.
+pub record ArePassed (b listed : List ℕ) (next at : ℕ) : Type 0 where
+  pub blocks : listed ≡ backslash_blocks b
+  pub within : next ≤ length listed
+  pub plain : PlainFrom b at (listed_start b next)
+
+-- so far the walk has come, and its mark is where the next block begins
 pub record AreAhead (b : List ℕ) (e : Escapes) (at : ℕ) : Type 0 where
-  pub blocks : e.blocks.now ≡ backslash_blocks b
-  pub next : e.next ≤ length e.blocks.now
+  pub passed : ArePassed b e.blocks.now e.next at
   pub mark : e.next < length e.blocks.now → e.mark ≡ listed_start b e.next
-  pub plain : PlainFrom b at (listed_start b e.next)

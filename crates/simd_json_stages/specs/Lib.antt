@@ -1,15 +1,19 @@
-pub mod Carries
+-- What the public contracts of the first stage rest on: the blocks that it lists, and how it answers where memory is short.
 pub mod EscapeBlocks
+pub mod Scans
+-- What serves the proofs of the first stage alone: only the crate's private clauses cite it.
+pub mod Carries
 pub mod Words
 pub mod Classes
 pub mod Blocks
 pub mod Stored
-pub mod Scans
+-- The second stage.
 pub mod Left
 pub mod EscapesAhead
 pub mod Continued
 pub mod ScalarRead
 pub mod Building
 pub mod Progresses
+pub mod Members
 pub mod Put
 pub mod Refusals

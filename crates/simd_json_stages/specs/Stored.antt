@@ -1,4 +1,4 @@
--- How far the indexes of a block's positions are stored.
+-- How far the indexes of a block's positions are stored. It serves proofs: only the crate's private clauses cite it.
 use Rattle.std.specs.Prelude.{◌≡◌, ℕ, ◌+◌, ◌^◌, ◌<◌, ◌++◌, List, length, take, drop, min}
 use Rattle.simd_json_stages.specs.Words.{set_bits}
 

@@ -5,12 +5,14 @@ ghost use Rattle.simd_json_stages.specs.EscapeBlocks.{backslash_blocks, listed_s
 
 /// Each backslash lies in a listed block of 64 bytes. So a string all of whose bytes lie in other blocks has no escape.
 pub fn backslashes_lie_in_listed_blocks()
-    ensures { (b : List ℕ) (i : ℕ) → i < length b → byte_at b i ≡ backslash → Contains (backslash_blocks b) (i / 64) }
+    ensures { (b : List ℕ) (i : ℕ) → i < length b → byte_at b i ≡ backslash
+        → Contains (backslash_blocks b) (i / 64) }
 {}
 
 /// No backslash stands before the first listed block, nor between one and the next. So a reader that steps through both lists
 /// knows of each string that ends before the next listed block that it has no escape.
 pub fn no_backslash_stands_between_listed_blocks()
     ensures first { (b : List ℕ) (i : ℕ) → i < listed_start b 0 → byte_at b i ≢ backslash }
-    ensures next { (b : List ℕ) (m i : ℕ) → m < length (backslash_blocks b) → listed_start b m + 64 ≤ i → i < listed_start b (suc m) → byte_at b i ≢ backslash }
+    ensures next { (b : List ℕ) (m i : ℕ) → m < length (backslash_blocks b)
+        → listed_start b m + 64 ≤ i → i < listed_start b (suc m) → byte_at b i ≢ backslash }
 {}

@@ -47,9 +47,12 @@ pub trait Stage1Parse {
         structural_indexes: &mut Vec<u32, A>,
         escape_blocks: &mut Vec<u32, A>,
     ) -> Result<Found>
-        ensures found { IfOk result (λ found. (found.positions ≤ length structural_indexes.new.items)
-            × (take found.positions structural_indexes.new.items ≡ positions input.now) × (input_fault input.now ≡ None)) }
-        ensures escapes { IfOk result (λ found. (found.escape_blocks ≤ length escape_blocks.new.items)
+        ensures found { IfOk result (λ found.
+            (found.positions ≤ length structural_indexes.new.items)
+            × (take found.positions structural_indexes.new.items ≡ positions input.now)
+            × (input_fault input.now ≡ None)) }
+        ensures escapes { IfOk result (λ found.
+            (found.escape_blocks ≤ length escape_blocks.new.items)
             × (take found.escape_blocks escape_blocks.new.items ≡ backslash_blocks input.now)) }
         ensures fault { IfErr result (λ e. (input_fault input.now ≡ Some e)
             ⊎ LacksMemory input.now e structural_indexes.old.items escape_blocks.old.items) }

@@ -2,6 +2,17 @@
 use crate::tests::Tested;
 use std::test::Fail;
 
+mod first_call {
+    use crate::{Result, to_tape};
+
+    // What stands at the key `the_answer`, where it is an integer that fits.
+    pub(super) fn the_answer(rt: &impl AllocGlobal) -> Result<Option<u64>> {
+        let mut input = *br#"{"the_answer": 42}"#;
+        let tape = to_tape(rt.alloc(), &mut input)?;
+        Ok(tape.as_value().get_u64("the_answer"))
+    }
+}
+
 mod service {
     use crate::{Buffers, Result, Tape, fill_tape};
 
@@ -63,6 +74,12 @@ mod entry_points {
         fill_tape_padded(&mut input, 2, &mut buffers, &mut tape)?;
         Ok(tape.nodes().len())
     }
+}
+
+#[test]
+fn a_value_is_read(rt: HostRuntime) -> Tested {
+    assert_eq!(rt; first_call::the_answer(&rt)?, Some(42));
+    Ok(())
 }
 
 #[test]

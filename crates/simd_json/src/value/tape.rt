@@ -1,24 +1,30 @@
 //! The tape: the nodes of one document.
-ghost use Rattle.std.specs.Prelude.{◌≡◌, ◌≤◌, ◌<◌, ◌↔◌, [], map, IsTrue, OnOk, OnErr, IfOk, IfErr};
+ghost use Rattle.std.specs.Prelude.{◌≡◌, ◌≤◌, ◌<◌, ◌↔◌, [], map, IsTrue, OnOk, OnErr, IfOk, IfErr, ◌≢◌};
+ghost use Rattle.simd_json.specs.Memory.{IsOutOfMemory};
 ghost use Rattle.simd_json_parts.specs.Document.{null};
-ghost use Rattle.simd_json_parts.specs.Faults.{whole_fault};
 ghost use Rattle.simd_json_parts.specs.Listing.{listing};
 ghost use Rattle.simd_json_parts.specs.Nodes.{item_of};
-ghost use Rattle.simd_json_parts.specs.declared.error.ErrorType.{ErrorType};
+
+pub mod array;
+pub mod object;
+mod value;
 
 use crate::room::lengthen;
+pub use array::Array;
+pub use object::Object;
 use simd_json_parts::error::Result;
 pub use simd_json_parts::node::Node;
 use simd_json_parts::node::StaticNode;
 use std::alloc::{Allocator, Global};
 use std::marker::Model;
+pub use value::Value;
 
 /// The nodes of one document in preorder, or no node.
 ///
 /// A scalar is one node. A container is a header with `len`, the number of its members, and `count`, the number of all
 /// nodes beneath it, and then its members' nodes; a pair of an object is its key's node and then its value's nodes.
 // The list is kept filled up to its room.
-#[derive(Drop)]
+#[derive(Debug, Drop)]
 pub struct Tape<'input, A: Allocator = Global> {
     pub(crate) list: Vec<Node<'input>, A>,
     pub(crate) used: usize,
@@ -38,12 +44,14 @@ impl<'input, A: Allocator> Model for Tape<'input, A> {
 }
 
 impl<'input, A: Allocator> Tape<'input, A> {
+    ghost use Rattle.simd_json.specs.Viewed.{doc};
+
     /// The tape of `null`: one node.
     ///
     /// Returns `OutOfMemory` where an allocation fails.
     pub fn null(a: A) -> Result<Tape<'input, A>>
         ensures tape { IfOk result (λ tape. tape.nodes ≡ listing null) }
-        ensures fault { IfErr result (λ e. e ≡ whole_fault ErrorType.OutOfMemory) }
+        ensures fault { IfErr result IsOutOfMemory }
     {
         let mut list = Vec::new(a);
         list.push(Node::Static(StaticNode::Null))?;
@@ -74,6 +82,27 @@ impl<'input, A: Allocator> Tape<'input, A> {
         &self.list[..self.used]
     }
 
+    /// The document of the tape, which has one: it is not empty.
+    ///
+    /// ```
+    /// // How many sizes the document lists.
+    /// fn sizes(rt: &impl AllocGlobal) -> simd_json::Result<usize> {
+    ///     let mut input = *b"{\"name\":\"tape\",\"sizes\":[1,[2,3],4]}";
+    ///     let tape = simd_json::to_tape(rt.alloc(), &mut input)?;
+    ///     let sizes = tape
+    ///         .as_value()
+    ///         .get("sizes")
+    ///         .and_then(|value| value.as_array());
+    ///     Ok(sizes.map_or(0, |array| array.len()))
+    /// }
+    /// ```
+    pub fn as_value(&self) -> Value<'_, 'input>
+        requires { self.now.nodes ≢ [] }
+        ensures { listing (doc result) ≡ self.now.nodes }
+    {
+        Value::new(&self.list.as_slice()[..self.used])
+    }
+
     /// Makes room for as many nodes in all, so for inputs of as many bytes, since no node takes less than a byte. Changes no
     /// node, and gives up no room.
     ///
@@ -82,7 +111,7 @@ impl<'input, A: Allocator> Tape<'input, A> {
         ensures nodes { self.new.nodes ≡ self.old.nodes }
         ensures kept { self.old.room ≤ self.new.room }
         ensures room { OnOk result (nodes ≤ self.new.room) }
-        ensures fault { IfErr result (λ e. (e ≡ whole_fault ErrorType.OutOfMemory) × (self.old.room < nodes)) }
+        ensures fault { IfErr result (λ e. IsOutOfMemory e × (self.old.room < nodes)) }
     {
         lengthen(&mut self.list, nodes, Node::Static(StaticNode::Null))
     }
@@ -103,3 +132,6 @@ impl<'input, A: Allocator + Copy> Tape<'input, A> {
         Tape::empty(*self.list.allocator())
     }
 }
+
+#[cfg(test)]
+mod tests;

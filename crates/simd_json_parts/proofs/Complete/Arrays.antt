@@ -10,7 +10,7 @@ use Rattle.simd_json_parts.proofs.Lists.Drops.{drop-tail}
 use Rattle.simd_json_parts.proofs.Complete.ArrayTurns.{turn, elements_by-turn}
 use Rattle.simd_json_parts.proofs.Complete.Shrinking.{value_from-takes}
 use Rattle.simd_json_parts.proofs.Positions.TokensAtPositions.{tokens_at}
-use Rattle.simd_json_parts.proofs.Complete.TokensHere.{Ended, Got, ReadsHere, ReadsUpTo, AfterSpace, past_space, spaced, token_here}
+use Rattle.simd_json_parts.proofs.Complete.TokensHere.{Ended, Got, ReadsHere, ReadsUpTo, AfterSpace, past_space, spaced, byte_here}
 
 -- A comma or a closing bracket ends what stands before it.
 ended-elements : (ds : Elements) (xs rest : List ℕ) → AreMoreElements ds xs → Ended (xs ++ 93 ∷ rest)
@@ -49,12 +49,12 @@ module _ (b : List ℕ) (missing : Error) (levels : ℕ) where
   more_read : (ds : Elements) → ElementsRead ds → ReadsUpTo b 93 more ds (AreMoreElements ds)
   more_read no_elements reads k xs rest h e =
       let f : drop k b ≡ 93 ∷ rest = e ∙ ap (λ us. us ++ 93 ∷ rest) h in
-      record { end = suc k; there = drop-tail k b 93 rest f; is = ap more (token_here b k 93 rest end_array f refl refl) }
+      record { end = suc k; there = drop-tail k b 93 rest f; is = ap more (byte_here b k 93 rest end_array refl f refl refl) }
   more_read (element d ds) reads k xs rest h e =
       let f : drop k b ≡ 44 ∷ (h.0 ++ 93 ∷ rest) = e ∙ ap (λ us. us ++ 93 ∷ rest) h.1 in
       let g : Got b (elements_by b missing value (tokens_at b (suc k))) (element d ds) rest =
       joined d ds reads.0 (more_read ds reads.1) (suc k) h.0 rest h.2 (drop-tail k b 44 (h.0 ++ 93 ∷ rest) f) in
-      record { end = g.end; there = g.there; is = ap more (token_here b k 44 (h.0 ++ 93 ∷ rest) value_separator f refl refl) ∙ g.is }
+      record { end = g.end; there = g.there; is = ap more (byte_here b k 44 (h.0 ++ 93 ∷ rest) value_separator refl f refl refl) ∙ g.is }
 
   -- where elements are read no closing bracket stands
   not_empty : (ds : Elements) (us ts : List Token) → elements_by b missing value ts ≡ Ok (ds, us) → array_from b missing value ts ≡ elements_by b missing value ts
@@ -77,7 +77,7 @@ module _ (b : List ℕ) (missing : Error) (levels : ℕ) where
       record {
         end = suc p.end;
         there = drop-tail p.end b 93 rest p.there;
-        is = ap (array_from b missing value) (p.same ∙ token_here b p.end 93 rest end_array p.there refl refl);
+        is = ap (array_from b missing value) (p.same ∙ byte_here b p.end 93 rest end_array refl p.there refl refl);
       }
   elements_read (element d ds) reads k xs rest h e =
       let g : Got b (elements_by b missing value (tokens_at b k)) (element d ds) rest = joined d ds reads.0 (more_read ds reads.1) k xs rest h e in
@@ -92,5 +92,5 @@ module _ (b : List ℕ) (missing : Error) (levels : ℕ) where
       record {
         end = g.end;
         there = g.there;
-        is = ap (value_from b missing (suc levels)) (token_here b k 91 (inner ++ 93 ∷ rest) begin_array f refl refl) ∙ ap (λ r. r >>= λ inner. Ok (array inner.0, inner.1)) g.is;
+        is = ap (value_from b missing (suc levels)) (byte_here b k 91 (inner ++ 93 ∷ rest) begin_array refl f refl refl) ∙ ap (λ r. r >>= λ inner. Ok (array inner.0, inner.1)) g.is;
       }

@@ -11,7 +11,7 @@ use Rattle.simd_json_parts.specs.InputFaults.{has_bad_string}
 use Rattle.simd_json_parts.specs.Positions.{is_even, backslashes_before, real_quotes, is_inside, has_control_inside}
 use Rattle.simd_json_parts.specs.Strings.{IsStringLiteral}
 use Rattle.simd_json_parts.proofs.Positions.Boundaries.{no_real_quote}
-use Rattle.simd_json_parts.proofs.Complete.Concatenations.{IsClosed, is_plain, of_denoted}
+use Rattle.simd_json_parts.proofs.Complete.Concatenations.{IsClosed, is_unquoted, of_denoted}
 use Rattle.simd_json_parts.proofs.Lists.Drops.{drop-head, drop-tail}
 use Rattle.simd_json_parts.proofs.Strings.Quotes.{run_ends, real_quote, Passed, pass_pieces}
 use Rattle.simd_json_parts.proofs.Positions.Scan.{NoneBetween, is_closed, is_closed-quote, is_closed-other, is_closed-through, is_inside-at}
@@ -50,7 +50,7 @@ module _ (b : List ℕ) where
       }
 
   -- a byte that is neither a quote nor a backslash
-  cleared-plain : (c : ℕ) → is_plain c ≡ true → (k : ℕ) (zs : List ℕ) → drop k b ≡ c ∷ zs → Outside k → Cleared k (c ∷ []) zs
+  cleared-plain : (c : ℕ) → is_unquoted c ≡ true → (k : ℕ) (zs : List ℕ) → drop k b ≡ c ∷ zs → Outside k → Cleared k (c ∷ []) zs
   cleared-plain c plain k zs e out =
       let both : ((nat_lt c 128 && not (c == quote)) ≡ true) × (not (c == backslash) ≡ true) = and_parts (nat_lt c 128 && not (c == quote)) (not (c == backslash)) plain in
       let no_quote : (c == quote) ≡ false = not-true (c == quote) (and_parts (nat_lt c 128) (not (c == quote)) both.0).1 in

@@ -19,11 +19,11 @@ pub record IsClosed (P : List ℕ → Type 0) : Type 0 where
   pub append : (xs ys : List ℕ) → P xs → P ys → P (xs ++ ys)
 
 -- ASCII, but no quote and no backslash: so is each byte that is not in a string
-abbrev pub is_plain : ℕ → Bool
-is_plain c = nat_lt c 128 && not (c == quote) && not (c == backslash)
+abbrev pub is_unquoted : ℕ → Bool
+is_unquoted c = nat_lt c 128 && not (c == quote) && not (c == backslash)
 
-is_plain-space : (c : ℕ) → is_whitespace c ≡ true → is_plain c ≡ true
-is_plain-space c h = grind (arith, nat_tests)
+is_unquoted-space : (c : ℕ) → is_whitespace c ≡ true → is_unquoted c ≡ true
+is_unquoted-space c h = grind (arith, nat_tests)
 
 module _ (P : List ℕ → Type 0) (closed : IsClosed P) where
   -- What holds of each byte that passes a test holds of lists of such bytes.
@@ -33,15 +33,15 @@ module _ (P : List ℕ → Type 0) (closed : IsClosed P) where
       let both : (test x ≡ true) × IsTrue (list_all test xs) = and_parts _ _ h in
       closed.append (x ∷ []) xs (each x both.0) (of_bytes test each xs both.1)
 
-  module _ (plain : (c : ℕ) → is_plain c ≡ true → P (c ∷ [])) (strings : (xs t : List ℕ) → IsStringLiteral xs t → P xs) where
+  module _ (plain : (c : ℕ) → is_unquoted c ≡ true → P (c ∷ [])) (strings : (xs t : List ℕ) → IsStringLiteral xs t → P xs) where
     -- whitespace and numbers
     of_space : (xs : List ℕ) → IsWhitespace xs → P xs
-    of_space = of_bytes is_whitespace (λ c h. plain c (is_plain-space c h))
+    of_space = of_bytes is_whitespace (λ c h. plain c (is_unquoted-space c h))
 
     of_number : (xs : List ℕ) → Matches number_literal xs → P xs
     of_number xs m =
-        of_bytes is_plain plain xs
-        (list_all-from_AllPass is_plain xs (λ i c l. not-false _ (All-Matches (λ x. not (is_plain x)) number_literal xs refl m i c l)))
+        of_bytes is_unquoted plain xs
+        (list_all-from_AllPass is_unquoted xs (λ i c l. not-false _ (All-Matches (λ x. not (is_unquoted x)) number_literal xs refl m i c l)))
 
     -- concatenations, and what stands after or between structural characters
     of_spaced : (Q : List ℕ → Type 0) → ((xs : List ℕ) → Q xs → P xs) → (xs : List ℕ) → Spaced Q xs → P xs
@@ -51,10 +51,10 @@ module _ (P : List ℕ → Type 0) (closed : IsClosed P) where
     of_joined : (Q R : List ℕ → Type 0) → ((xs : List ℕ) → Q xs → P xs) → ((xs : List ℕ) → R xs → P xs) → (xs : List ℕ) → Joined Q R xs → P xs
     of_joined Q R of more xs j = subst P (sym j.whole) (closed.append j.left j.right (of j.left j.left_holds) (more j.right j.right_holds))
 
-    of_after : (c : ℕ) → is_plain c ≡ true → (xs ys : List ℕ) → xs ≡ c ∷ ys → P ys → P xs
+    of_after : (c : ℕ) → is_unquoted c ≡ true → (xs ys : List ℕ) → xs ≡ c ∷ ys → P ys → P xs
     of_after c is xs ys e h = subst P (sym e) (closed.append (c ∷ []) ys (plain c is) h)
 
-    of_between : (first last : ℕ) → is_plain first ≡ true → is_plain last ≡ true → (xs ys : List ℕ) → xs ≡ first ∷ (ys ++ last ∷ []) → P ys → P xs
+    of_between : (first last : ℕ) → is_unquoted first ≡ true → is_unquoted last ≡ true → (xs ys : List ℕ) → xs ≡ first ∷ (ys ++ last ∷ []) → P ys → P xs
     of_between first last is is' xs ys e h = of_after first is xs (ys ++ last ∷ []) e (closed.append ys (last ∷ []) h (plain last is'))
 
     -- a member and what follows it
@@ -67,9 +67,9 @@ module _ (P : List ℕ → Type 0) (closed : IsClosed P) where
     -- documents, and their elements and members
     mutual
       of_value : (d : Document) (xs : List ℕ) → IsValue d xs → P xs
-      of_value null xs h = of_bytes is_plain plain xs (subst (λ us. IsTrue (list_all is_plain us)) (sym h) refl)
-      of_value (boolean true) xs h = of_bytes is_plain plain xs (subst (λ us. IsTrue (list_all is_plain us)) (sym h) refl)
-      of_value (boolean false) xs h = of_bytes is_plain plain xs (subst (λ us. IsTrue (list_all is_plain us)) (sym h) refl)
+      of_value null xs h = of_bytes is_unquoted plain xs (subst (λ us. IsTrue (list_all is_unquoted us)) (sym h) refl)
+      of_value (boolean true) xs h = of_bytes is_unquoted plain xs (subst (λ us. IsTrue (list_all is_unquoted us)) (sym h) refl)
+      of_value (boolean false) xs h = of_bytes is_unquoted plain xs (subst (λ us. IsTrue (list_all is_unquoted us)) (sym h) refl)
       of_value (integer minus n) xs h = of_number xs (integer-number xs h.0)
       of_value (decimal literal) xs h = of_number xs (decimal-number xs h.0)
       of_value (string t) xs h = strings xs t h

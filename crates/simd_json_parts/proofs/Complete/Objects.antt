@@ -15,7 +15,7 @@ use Rattle.simd_json_parts.proofs.Complete.ObjectTurns.{rest_after_value, after_
 use Rattle.simd_json_parts.proofs.Complete.Scalars.{name_reads}
 use Rattle.simd_json_parts.proofs.Complete.Shrinking.{value_from-takes}
 use Rattle.simd_json_parts.proofs.Positions.TokensAtPositions.{tokens_at}
-use Rattle.simd_json_parts.proofs.Complete.TokensHere.{Ended, Got, ReadsHere, ReadsUpTo, AfterSpace, past_space, spaced, token_here}
+use Rattle.simd_json_parts.proofs.Complete.TokensHere.{Ended, Got, ReadsHere, ReadsUpTo, AfterSpace, past_space, spaced, byte_here}
 
 -- A comma or a closing brace ends what stands before it.
 ended-members : (ms : Members) (xs rest : List ℕ) → AreMoreMembers ms xs → Ended (xs ++ 125 ∷ rest)
@@ -57,7 +57,7 @@ module _ (b : List ℕ) (missing : Error) (levels : ℕ) where
 
   -- the colon after a name
   colon_read : (k : ℕ) (tail : List ℕ) → drop k b ≡ 58 ∷ tail → name_end b missing (tokens_at b k) ≡ Ok (tokens_at b (suc k))
-  colon_read k tail e = ap (name_end b missing) (token_here b k 58 tail name_separator e refl refl)
+  colon_read k tail e = ap (name_end b missing) (byte_here b k 58 tail name_separator refl e refl refl)
 
   -- a member and those after it
   abbrev MemberOn : List ℕ → Document → Members → List ℕ → Type 0
@@ -85,12 +85,12 @@ module _ (b : List ℕ) (missing : Error) (levels : ℕ) where
   more_read : (ms : Members) → MembersRead ms → ReadsUpTo b 125 more ms (AreMoreMembers ms)
   more_read no_members reads k xs rest h e =
       let f : drop k b ≡ 125 ∷ rest = e ∙ ap (λ us. us ++ 125 ∷ rest) h in
-      record { end = suc k; there = drop-tail k b 125 rest f; is = ap more (token_here b k 125 rest end_object f refl refl) }
+      record { end = suc k; there = drop-tail k b 125 rest f; is = ap more (byte_here b k 125 rest end_object refl f refl refl) }
   more_read (member name d ms) reads k xs rest h e =
       let f : drop k b ≡ 44 ∷ (h.0 ++ 125 ∷ rest) = e ∙ ap (λ us. us ++ 125 ∷ rest) h.1 in
       let g : Got b (members_on ExpectedObjectKey (tokens_at b (suc k))) (member name d ms) rest =
       member_on ExpectedObjectKey name d ms reads.0 (more_read ms reads.1) (suc k) h.0 rest h.2 (drop-tail k b 44 (h.0 ++ 125 ∷ rest) f) in
-      record { end = g.end; there = g.there; is = ap more (token_here b k 44 (h.0 ++ 125 ∷ rest) value_separator f refl refl) ∙ g.is }
+      record { end = g.end; there = g.there; is = ap more (byte_here b k 44 (h.0 ++ 125 ∷ rest) value_separator refl f refl refl) ∙ g.is }
 
   -- where members are read no closing brace stands
   not_empty : (ms : Members) (us ts : List Token) → members_on ExpectedObjectContent ts ≡ Ok (ms, us) → object_from b missing value ts ≡ members_on ExpectedObjectContent ts
@@ -112,7 +112,7 @@ module _ (b : List ℕ) (missing : Error) (levels : ℕ) where
       record {
         end = suc p.end;
         there = drop-tail p.end b 125 rest p.there;
-        is = ap (object_from b missing value) (p.same ∙ token_here b p.end 125 rest end_object p.there refl refl);
+        is = ap (object_from b missing value) (p.same ∙ byte_here b p.end 125 rest end_object refl p.there refl refl);
       }
   members_read (member name d ms) reads k xs rest h e =
       let g : Got b (members_on ExpectedObjectContent (tokens_at b k)) (member name d ms) rest = member_on ExpectedObjectContent name d ms reads.0 (more_read ms reads.1) k xs rest h e in
@@ -127,5 +127,5 @@ module _ (b : List ℕ) (missing : Error) (levels : ℕ) where
       record {
         end = g.end;
         there = g.there;
-        is = ap (value_from b missing (suc levels)) (token_here b k 123 (inner ++ 125 ∷ rest) begin_object f refl refl) ∙ ap (λ r. r >>= λ inner. Ok (object inner.0, inner.1)) g.is;
+        is = ap (value_from b missing (suc levels)) (byte_here b k 123 (inner ++ 125 ∷ rest) begin_object refl f refl refl) ∙ ap (λ r. r >>= λ inner. Ok (object inner.0, inner.1)) g.is;
       }

@@ -1,12 +1,13 @@
 -- What is read where the list from an index on is known: space is passed, a token is read, and the rest stands after it.
 use Rattle.std.proofs.Common.{◌≡◌, refl, ◌∙◌, ap, ℕ, suc, ◌+◌, ◌-◌, ◌≤◌, List, [], ◌∷◌, ◌++◌, drop, append_assoc, true, false, arith}
-use Rattle.std.specs.Prelude.{Result, Ok}
+use Rattle.std.specs.Prelude.{Some, Result, Ok}
+use Rattle.std.specs.Option.{option_map_or}
 use Rattle.std.proofs.lemmas.Bool.{and_parts, or_right}
 use Rattle.simd_json_parts.specs.Bytes.{is_whitespace, is_terminator, byte_at}
 use Rattle.simd_json_parts.specs.Document.{Document}
 use Rattle.simd_json_parts.specs.Grammar.{IsWhitespace, Spaced}
 use Rattle.simd_json_parts.specs.StringAt.{string_at}
-use Rattle.simd_json_parts.specs.Tokens.{Token, Form, string_token, scalar, form_of, form_at, after_token, tokens_from}
+use Rattle.simd_json_parts.specs.Tokens.{Token, Form, string_token, scalar, form_of, form_at, form_end, after_token, tokens_from}
 use Rattle.simd_json_parts.specs.Descent.{Reads}
 use Rattle.simd_json_parts.specs.declared.error.Error.{Error}
 use Rattle.simd_json_parts.proofs.Lists.Drops.{drop-head, drop-tail, drop-inside}
@@ -68,24 +69,33 @@ module _ (b : List ℕ) where
   after k form = record { index = k; form = form } ∷ after_token k form (λ n. tokens_from b (suc k) n (drop (suc k) b))
 
   -- A token at index k, by its first byte.
-  pub token_here : (k c : ℕ) (rest : List ℕ) (form : Form) → drop k b ≡ c ∷ rest → is_whitespace c ≡ false → form_of b k c ≡ form
+  token_here : (k c : ℕ) (rest : List ℕ) (form : Form) → drop k b ≡ c ∷ rest → is_whitespace c ≡ false → form_of b k c ≡ form
       → tokens_at b k ≡ record { index = k; form = form } ∷ after_token k form (λ n. tokens_from b (suc k) n (drop (suc k) b))
   unfolding form_at after
   token_here k c rest form e token is =
       let first : byte_at b k ≡ c = drop-head k b c rest e in
       tokens_at-token b k (drop-inside k b c rest e) (ap is_whitespace first ∙ token) ∙ ap (after k) (ap (form_of b k) first ∙ is)
 
-  -- A string and a scalar that are read have the tokens from their end on after them.
-  module _ (k end : ℕ) (rest : List ℕ) (l : suc k ≤ end) where
-    skipped : tokens_from b (suc k) (end - suc k) (drop (suc k) b) ≡ tokens_at b end
-    skipped = let there : suc k + (end - suc k) ≡ end = omega arith in tokens_from-skip b (suc k) (end - suc k) ∙ ap (tokens_at b) there
+  -- A token that has an end has the tokens from there on after it:
+  ended_here : (k end c : ℕ) (rest : List ℕ) (form : Form) → suc k ≤ end → form_end k form ≡ Some end → drop k b ≡ c ∷ rest → is_whitespace c ≡ false → form_of b k c ≡ form
+      → tokens_at b k ≡ record { index = k; form = form } ∷ tokens_at b end
+  ended_here k end c rest form l ends e token is =
+      let there : suc k + (end - suc k) ≡ end = omega arith in
+      token_here k c rest form e token is
+      ∙ ap (λ o. record { index = k; form = form } ∷ option_map_or (λ end. tokens_from b (suc k) (end - suc k) (drop (suc k) b)) o []) ends
+      ∙ ap (λ ts. record { index = k; form = form } ∷ ts) (tokens_from-skip b (suc k) (end - suc k) ∙ ap (tokens_at b) there)
 
+  -- a structural character,
+  pub byte_here : (k c : ℕ) (rest : List ℕ) (form : Form) → form_end k form ≡ Some (suc k) → drop k b ≡ c ∷ rest → is_whitespace c ≡ false → form_of b k c ≡ form
+      → tokens_at b k ≡ record { index = k; form = form } ∷ tokens_at b (suc k)
+  byte_here k c rest form ends e token is = ended_here k (suc k) c rest form (omega arith) ends e token is
+
+  -- and a string and a scalar that are read.
+  module _ (k end : ℕ) (rest : List ℕ) (l : suc k ≤ end) where
     pub string_here : (string : List ℕ) → drop k b ≡ 34 ∷ rest → string_at b k ≡ Ok (string, end)
         → tokens_at b k ≡ record { index = k; form = string_token (Ok (string, end)) } ∷ tokens_at b end
-    string_here string e is =
-        token_here k 34 rest (string_token (Ok (string, end))) e refl (ap string_token is) ∙ ap (λ ts. record { index = k; form = string_token (Ok (string, end)) } ∷ ts) skipped
+    string_here string e is = ended_here k end 34 rest (string_token (Ok (string, end))) l refl e refl (ap string_token is)
 
     pub scalar_here : (c : ℕ) (d : Document) → drop k b ≡ c ∷ rest → is_whitespace c ≡ false → form_of b k c ≡ scalar (Ok (d, end))
         → tokens_at b k ≡ record { index = k; form = scalar (Ok (d, end)) } ∷ tokens_at b end
-    scalar_here c d e token is =
-        token_here k c rest (scalar (Ok (d, end))) e token is ∙ ap (λ ts. record { index = k; form = scalar (Ok (d, end)) } ∷ ts) skipped
+    scalar_here c d e token is = ended_here k end c rest (scalar (Ok (d, end))) l refl e token is

@@ -10,7 +10,7 @@ use Rattle.simd_json_parts.specs.declared.error.ErrorType.TheVariants.{ExpectedA
 use Rattle.simd_json_parts.proofs.Faults.Follows.{ValueThen, CanFollow, value_then-NoSpace, value_then-some}
 use Rattle.simd_json_parts.proofs.Faults.ArrayFollows.{ElementsThen, FirstElementThen, elements_then-CanFollow, elements_then-byte, array_closes, array_goes_on, empty_array_closes, first_element-value}
 use Rattle.simd_json_parts.proofs.Faults.Expectations.{Expects, ExpectsAt}
-use Rattle.simd_json_parts.proofs.Sound.TokensInPlace.{FormHere, AreHere}
+use Rattle.simd_json_parts.proofs.Sound.TokensInPlace.{FormInPlace, AreHere}
 use Rattle.simd_json_parts.proofs.Faults.AtTokens.{took-one, took-fewer, Reported, OkOrReported, bind-OkOrReported, weaken-OkOrReported, Next, next-more, IsBeginning-whole, token-reported, expects-token, expects-own, expects-narrow, form-byte}
 
 -- a reader of values, with what its faults report
@@ -29,7 +29,7 @@ module _ (b : List ℕ) (missing : Error) (missed : IsBeginning b → Reported b
       at : ExpectsAt b (ElementsThen A) t.index
       at = expects-token b (ElementsThen A) t (AreHere b ts) k x h
 
-      go : (form : Form) → form_at b t.index ≡ form → FormHere b form (AreHere b ts) t.index → OkOrReported b (after_element b missing t form ts more) (λ p. Next b A (t ∷ ts) p.1)
+      go : (form : Form) → form_at b t.index ≡ form → FormInPlace b form (AreHere b ts) t.index → OkOrReported b (after_element b missing t form ts more) (λ p. Next b A (t ∷ ts) p.1)
       go value_separator is (o, after) =
           weaken-OkOrReported b (more ts) (λ p. Next b A ts p.1) (λ p. Next b A (t ∷ ts) p.1) (λ p n. next-more b A (t ∷ ts) ts p.1 (took-one t ts) n)
           (row (suc t.index) ts (omega arith)
@@ -72,7 +72,7 @@ module _ (b : List ℕ) (missing : Error) (missed : IsBeginning b → Reported b
           elements_from-reported (length (t ∷ ts)) k (t ∷ ts) (omega arith)
           (expects-narrow b (FirstElementThen A) (ValueThen (ElementsThen A)) t (AreHere b ts) k x h (λ rest v. inr v) (λ rest. first_element-value A (byte_at b t.index) rest other)) h
 
-      go : (form : Form) → form_at b t.index ≡ form → FormHere b form (AreHere b ts) t.index
+      go : (form : Form) → form_at b t.index ≡ form → FormInPlace b form (AreHere b ts) t.index
           → OkOrReported b (first_element b missing form (t ∷ ts) ts (elements_by b missing value)) (λ p. Next b A (t ∷ ts) p.1)
       go end_array is (o, after) = record {
         at = suc t.index;

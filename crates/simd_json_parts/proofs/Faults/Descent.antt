@@ -19,7 +19,7 @@ use Rattle.simd_json_parts.proofs.Sound.SpelledTokens.{Accepted, Owned}
 use Rattle.simd_json_parts.proofs.Sound.ScalarFaults.{IsSomeValue}
 use Rattle.simd_json_parts.proofs.Sound.FaultsWithin.{IsString}
 use Rattle.simd_json_parts.proofs.Faults.Expectations.{Expects, ExpectsAt}
-use Rattle.simd_json_parts.proofs.Sound.TokensInPlace.{FormHere, AreHere}
+use Rattle.simd_json_parts.proofs.Sound.TokensInPlace.{FormInPlace, AreHere}
 use Rattle.simd_json_parts.proofs.Faults.Arrays.{ValueReported, array_from-reported}
 use Rattle.simd_json_parts.proofs.Faults.Objects.{object_from-reported}
 use Rattle.simd_json_parts.proofs.Faults.AtTokens.{took-one, Reported, OkOrReported, bind-OkOrReported, Next, next-more, IsBeginning-whole, token-reported, within-reported, expects-token, expects-own}
@@ -58,7 +58,7 @@ module _ (b : List ℕ) (missing : Error) (missed : IsBeginning b → Reported b
         at : ExpectsAt b (ValueThen A) t.index
         at = expects-token b (ValueThen A) t (AreHere b ts) k x h
 
-        go : (form : Form) → FormHere b form (AreHere b ts) t.index → OkOrReported b (value_of b missing arrays objects t form ts) (λ p. Next b A (t ∷ ts) p.1)
+        go : (form : Form) → FormInPlace b form (AreHere b ts) t.index → OkOrReported b (value_of b missing arrays objects t form ts) (λ p. Next b A (t ∷ ts) p.1)
         go begin_array (o, after) =
             bind-OkOrReported b (arrays t ts) _ (λ p. Next b A ts p.1) (λ p. Next b A (t ∷ ts) p.1)
             (array-reported t ts at h.within

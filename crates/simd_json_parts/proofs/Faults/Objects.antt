@@ -18,7 +18,7 @@ use Rattle.simd_json_parts.proofs.Unique.OneDocument.{IsName}
 use Rattle.simd_json_parts.proofs.Faults.Expectations.{Expects, ExpectsAt}
 use Rattle.simd_json_parts.proofs.Sound.FaultsWithin.{IsString}
 use Rattle.simd_json_parts.proofs.Sound.SpelledTokens.{Owned}
-use Rattle.simd_json_parts.proofs.Sound.TokensInPlace.{FormHere, AreHere}
+use Rattle.simd_json_parts.proofs.Sound.TokensInPlace.{FormInPlace, AreHere}
 use Rattle.simd_json_parts.proofs.Faults.Arrays.{ValueReported}
 use Rattle.simd_json_parts.proofs.Faults.AtTokens.{Took, took-one, took-more, took-fewer, Reported, OkOrReported, bind-OkOrReported, weaken-OkOrReported, Next, next-more, IsBeginning-whole, token-reported, within-reported, expects-token, expects-own, expects-narrow, form-byte}
 
@@ -52,7 +52,7 @@ module _ (b : List ℕ) (missing : Error) (missed : IsBeginning b → Reported b
         at : ExpectsAt b (NameThen A) t.index
         at = expects-token b (NameThen A) t (AreHere b ts) k x h
 
-        go : (form : Form) → form_at b t.index ≡ form → FormHere b form (AreHere b ts) t.index
+        go : (form : Form) → form_at b t.index ≡ form → FormInPlace b form (AreHere b ts) t.index
             → OkOrReported b {A = List ℕ × List Token} (name_of b missing kind t form >>= λ name. Ok (name.0, ts)) (λ p. Next b (NamedThen A) (t ∷ ts) p.1)
         go (string_token (Ok r)) is (o, after) = record { at = r.1; expects = expects-named t.index r.1 r.0 at o; here = after; took = took-one t ts }
         go (string_token (Err e)) is f = within-reported b (NameThen A) IsString t.index e at name-some f
@@ -68,7 +68,7 @@ module _ (b : List ℕ) (missing : Error) (missed : IsBeginning b → Reported b
         at : ExpectsAt b (NamedThen A) t.index
         at = expects-token b (NamedThen A) t (AreHere b ts) k x h
 
-        go : (form : Form) → form_at b t.index ≡ form → FormHere b form (AreHere b ts) t.index → OkOrReported b (after_name b missing t form ts) (λ us. Next b (ValueThen (MembersThen A)) (t ∷ ts) us)
+        go : (form : Form) → form_at b t.index ≡ form → FormInPlace b form (AreHere b ts) t.index → OkOrReported b (after_name b missing t form ts) (λ us. Next b (ValueThen (MembersThen A)) (t ∷ ts) us)
         go name_separator is (o, after) = record {
           at = suc t.index;
           expects = expects-own b (NamedThen A) (ValueThen (MembersThen A)) t.index (suc t.index) o.own [] colon at o.split o.holds
@@ -93,7 +93,7 @@ module _ (b : List ℕ) (missing : Error) (missed : IsBeginning b → Reported b
         at : ExpectsAt b (MembersThen A) t.index
         at = expects-token b (MembersThen A) t (AreHere b ts) k x h
 
-        go : (form : Form) → form_at b t.index ≡ form → FormHere b form (AreHere b ts) t.index → OkOrReported b (after_member b missing t form ts more) (λ p. Next b A (t ∷ ts) p.1)
+        go : (form : Form) → form_at b t.index ≡ form → FormInPlace b form (AreHere b ts) t.index → OkOrReported b (after_member b missing t form ts more) (λ p. Next b A (t ∷ ts) p.1)
         go value_separator is (o, after) =
             weaken-OkOrReported b (more ts) (λ p. Next b A ts p.1) (λ p. Next b A (t ∷ ts) p.1) (λ p n. next-more b A (t ∷ ts) ts p.1 (took-one t ts) n)
             (row (suc t.index) ts (omega arith)
@@ -138,7 +138,7 @@ module _ (b : List ℕ) (missing : Error) (missed : IsBeginning b → Reported b
             members_from-reported (length (t ∷ ts)) ExpectedObjectContent k (t ∷ ts) (omega arith)
             (expects-narrow b (FirstMemberThen A) (NameThen A) t (AreHere b ts) k x h (λ rest v. inr v) (λ rest. first_member-name A (byte_at b t.index) rest other)) h
 
-        go : (form : Form) → form_at b t.index ≡ form → FormHere b form (AreHere b ts) t.index
+        go : (form : Form) → form_at b t.index ≡ form → FormInPlace b form (AreHere b ts) t.index
             → OkOrReported b (first_member b missing form (t ∷ ts) ts (members_by b missing value ExpectedObjectContent)) (λ p. Next b A (t ∷ ts) p.1)
         go end_object is (o, after) = record {
           at = suc t.index;

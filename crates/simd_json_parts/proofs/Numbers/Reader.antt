@@ -4,7 +4,7 @@ use Rattle.std.proofs.lemmas.Bool.{and_left, and_right, both_ways, cond-false}
 use Rattle.std.proofs.lemmas.List.{take-append-drop, get_or-drop, length-take-le, drop_all}
 use Rattle.simd_json_parts.specs.Bytes.{is_terminator, byte_at}
 use Rattle.simd_json_parts.specs.Document.{decimal}
-use Rattle.simd_json_parts.specs.Patterns.{empty, Matches}
+use Rattle.simd_json_parts.specs.Patterns.{Pattern, empty, Matches}
 use Rattle.simd_json_parts.specs.Derivatives.{matches, longest_prefix}
 use Rattle.simd_json_parts.specs.Numbers.{number_literal, integer_literal, decimal_literal}
 use Rattle.simd_json_parts.specs.NumberAt.{number_at, number_between}
@@ -18,6 +18,13 @@ use Rattle.simd_json_parts.proofs.Numbers.Steps.{IsWhole}
 reported-Ok : (t : Bool) (n k : ℕ) → Ok k ≡ reported t n → (t ≡ true) × (k ≡ n)
 reported-Ok true n k e = (refl, cc)
 reported-Ok false n k e = cc
+
+-- what is read ends no earlier than it begins
+pub read-onward : (p : Pattern) (b : List ℕ) (i k : ℕ) → Reads p b i (Ok k) → i ≤ k
+read-onward p b i k r =
+    let n : ℕ = longest_prefix p (drop i b) in
+    let w : (matches p (take n (drop i b)) ≡ true) × (k ≡ i + n) = reported-Ok _ _ _ r in
+    omega arith
 
 reported-Err : (t : Bool) (n k : ℕ) → Err k ≡ reported t n → (t ≡ false) × (k ≡ n)
 reported-Err true n k e = cc

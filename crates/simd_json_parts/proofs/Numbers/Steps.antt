@@ -3,7 +3,7 @@ use Rattle.std.proofs.Common.{◌≡◌, ◌≢◌, refl, sym, ◌∙◌, ap, su
 use Rattle.std.specs.Char.{is_ascii_digit}
 use Rattle.std.specs.List.{prefix_len}
 use Rattle.std.proofs.lemmas.Bool.{cases_Bool, cond-true, cond-false, both_ways, and_parts, and_from, le-leb, leb-true, eqb-true, eqb-false, false_from_ne_true}
-use Rattle.simd_json_parts.specs.Bytes.{byte_at}
+use Rattle.simd_json_parts.specs.Bytes.{byte_at, is_terminator}
 use Rattle.simd_json_parts.specs.Patterns.{Pattern, never, empty, ◌then◌, ◌or◌, many, optional, at_least_one}
 use Rattle.simd_json_parts.specs.Numbers.{number_literal, integer_literal, int, frac, exp, digit, minus, plus}
 use Rattle.simd_json_parts.specs.Derivatives.{derivative}
@@ -100,6 +100,12 @@ exponent-part b i j end m run none =
     let x : Leads b (optional exp) i exp_digits j = IsMarked-Leads b i j m in
     Leads-Reads b (optional exp) exp_digits i j (Err end) x (Reads-part b exp_digits j end (no_digits b exp_digits j end x.inside run none refl no_exp_digit))
 
+-- Nothing of it stands before a terminator.
+pub no-exponent : (b : List ℕ) (i : ℕ) → i ≤ length b → is_terminator (byte_at b i) ≡ true → Reads (optional exp) b i (Ok i)
+no-exponent b i inside t =
+    let other : (d : ℕ) → is_terminator d ≡ false → byte_at b i ≢ d = λ d f e. both_ways (is_terminator d) f (ap is_terminator (sym e) ∙ t) in
+    Reads-whole b (optional exp) i i (stay b (optional exp) empty i inside refl (rw (no_byte 101 _ (other 101 refl), no_byte 69 _ (other 69 refl)) refl))
+
 -- ---- the fraction
 
 abbrev pub after_int : Pattern
@@ -131,6 +137,10 @@ fraction-part b i end e run none =
     let x : Leads b after_int i after_point (i + 1) = over_point b i e in
     Leads-Reads b after_int after_point i (i + 1) (Err end) x
     (Reads-part b after_point (i + 1) end (no_digits b after_point (i + 1) end x.inside run none refl no_fraction_digit))
+
+-- at another byte than the point
+pub no-fraction : (b : List ℕ) (i : ℕ) (result : Result ℕ ℕ) → i ≤ length b → byte_at b i ≢ 46 → Reads (optional exp) b i result → Reads after_int b i result
+no-fraction b i result inside n r = Leads-Reads b after_int (optional exp) i i result (stay b after_int (optional exp) i inside refl (rw (no_byte 46 _ n) refl)) r
 
 pub fraction-exponent : (b : List ℕ) (i end : ℕ) (result : Result ℕ ℕ) → byte_at b i ≡ 46
     → end ≡ i + 1 + prefix_len is_ascii_digit (drop (i + 1) b) → i + 1 < end

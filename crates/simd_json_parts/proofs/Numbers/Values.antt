@@ -60,11 +60,11 @@ many_digits [] all = tt
 many_digits (x ∷ parts) ((c, e, low, high), all) = subst (λ bs. AllDigits 10 (bs ++ concat parts)) (sym e) (digit_value-lt c low high, many_digits parts all)
 
 -- digits, of which the first is no sign
-record AreUnsigned (bs : List ℕ) : Type 0 where
-  digits : AllDigits 10 bs
-  sign : has_minus bs ≡ false
+pub record AreUnsigned (bs : List ℕ) : Type 0 where
+  pub digits : AllDigits 10 bs
+  pub sign : has_minus bs ≡ false
 
-int-digits : (bs : List ℕ) → Matches int bs → AreUnsigned bs
+pub int-digits : (bs : List ℕ) → Matches int bs → AreUnsigned bs
 int-digits bs (inl (c, e, low, high)) =
     subst AreUnsigned (sym e) (record { digits = (digit_value-lt c low (omega arith), tt); sign = ne_eqb c 45 (λ h. omega arith) })
 int-digits bs (inr (xs, ys, e, (c, f, low, high), (parts, g, all))) =
@@ -94,13 +94,13 @@ integer-digits xs (us, vs, e, inr (c, h, low, high), m) =
 abbrev pub after_start : List ℕ → List ℕ
 after_start xs = take (length xs - start xs) (drop (start xs) xs)
 
-after_start-is : (xs : List ℕ) → after_start xs ≡ drop (start xs) xs
+pub after_start-is : (xs : List ℕ) → after_start xs ≡ drop (start xs) xs
 after_start-is xs = take_rest xs (start xs)
 
 pub integer-AllDigits : (xs : List ℕ) → Matches integer_literal xs → AllDigits 10 (after_start xs)
 integer-AllDigits xs m = subst (AllDigits 10) (sym (after_start-is xs)) (integer-digits xs m)
 
-magnitude-is : (xs : List ℕ) → magnitude xs ≡ digits_value 10 (after_start xs)
+pub magnitude-is : (xs : List ℕ) → magnitude xs ≡ digits_value 10 (after_start xs)
 magnitude-is xs =
     ap (λ k. number_from_digits 10 (map digit_value (drop k xs))) (cond-bool_byte (has_minus xs))
     ∙ sym (ap (digits_value 10) (after_start-is xs) ∙ digits_value_is 10 (drop (start xs) xs))
@@ -142,12 +142,11 @@ module _ (b : List ℕ) (i : ℕ) (xs rest : List ℕ) (e : drop i b ≡ xs ++ r
   number_at-range = number_at-literal b i xs rest e t (integer-number xs m) ∙ cond-true _ _ _ (Matches-matches integer_literal xs m)
 
   pub number_at-node : (value : ℕ) (node : StaticNode) → value ≡ digits_value 10 (after_start xs) → value ≤ max_magnitude (has_minus xs)
-      → node ≡ integer_node (has_minus xs) value → IsNumberAt b i (Integer node)
+      → node ≡ integer_node (has_minus xs) value → IsNumberAt b i (Integer node (length xs))
   number_at-node value node v fits n =
       let same : value ≡ magnitude xs = v ∙ sym (magnitude-is xs) in (
         has_minus xs,
         magnitude xs,
-        i + length xs,
         number_at-integer b i xs rest e t m (subst (λ k. k ≤ max_magnitude (has_minus xs)) same fits),
         n ∙ ap (integer_node (has_minus xs)) same,
       )

@@ -10,8 +10,7 @@ use Rattle.std.proofs.lemmas.List.Elements.{All-cons, All-contains}
 use Rattle.simd_json_parts.specs.Bytes.{quote, is_whitespace, byte_at}
 use Rattle.simd_json_parts.specs.Positions.{real_quotes, is_position, positions}
 use Rattle.simd_json_parts.specs.StringAt.{closing_quote}
-use Rattle.simd_json_parts.specs.Tokens.{Form, string_token, scalar, stray, Token, form_at, after_token, tokens_from, tokens}
-use Rattle.simd_json_parts.specs.TokenEnds.{form_end, token_end}
+use Rattle.simd_json_parts.specs.Tokens.{Form, string_token, scalar, stray, Token, form_at, form_end, token_end, after_token, tokens_from, tokens}
 use Rattle.simd_json_parts.specs.TokensAlong.{goes_on, tokens_along}
 use Rattle.simd_json_parts.proofs.Positions.Scan.{NoneBetween}
 use Rattle.simd_json_parts.proofs.Positions.Boundaries.{Boundary, EndsBefore, is_position-token, boundary-space, ends-string}
@@ -38,14 +37,14 @@ module _ (b : List ℕ) where
   after-skip : (k end n : ℕ) → suc k + n ≡ end → AllStand (tokens_at b end) → AllStand (tokens_from b (suc k) n (drop (suc k) b))
   after-skip k end n e all = subst AllStand (sym (tokens_from-skip b (suc k) n ∙ ap (tokens_at b) e)) all
 
-  after-form : (k : ℕ) (form : Form) → IsEnded b k form → ((end : ℕ) → EndsBefore b k end → AllStand (tokens_at b end))
+  all-after : (k : ℕ) (form : Form) → IsEnded b k form → ((end : ℕ) → EndsBefore b k end → AllStand (tokens_at b end))
       → AllStand (after_token k form (λ n. tokens_from b (suc k) n (drop (suc k) b)))
-  after-form k (string_token (Ok r)) ends more = after-skip k r.1 (r.1 - suc k) (omega (arith, ends.after)) (more r.1 ends)
-  after-form k (string_token (Err e)) ends more = none-stand
-  after-form k (scalar (Ok r)) ends more = after-skip k r.1 (r.1 - suc k) (omega (arith, ends.after)) (more r.1 ends)
-  after-form k (scalar (Err e)) ends more = none-stand
-  after-form k stray ends more = none-stand
-  after-form k _ ends more = after-skip k (suc k) 0 (omega arith) (more (suc k) ends)
+  all-after k (string_token (Ok r)) ends more = after-skip k r.1 (r.1 - suc k) (omega (arith, ends.after)) (more r.1 ends)
+  all-after k (string_token (Err e)) ends more = none-stand
+  all-after k (scalar (Ok r)) ends more = after-skip k r.1 (r.1 - suc k) (omega (arith, ends.after)) (more r.1 ends)
+  all-after k (scalar (Err e)) ends more = none-stand
+  all-after k stray ends more = none-stand
+  all-after k _ ends more = after-skip k (suc k) (suc k - suc k) (omega arith) (more (suc k) ends)
 
   -- From a boundary on, or from the end, all tokens stand; n bytes are left at most.
   all-stand : (n k : ℕ) → length b ≤ k + n → (k < length b → Boundary b k) → AllStand (tokens_at b k)
@@ -55,7 +54,7 @@ module _ (b : List ℕ) where
         | inl h ↦ elim (cases_Bool (is_whitespace (byte_at b k))) [
           | inl space ↦ subst AllStand (sym (tokens_at-space b k h space)) (all-stand n (suc k) (omega arith) (λ _. boundary-space b k (at h) space))
           | inr token ↦
-              let later = after-form k (form_at b k) (IsEnded-form b k (at h)) (λ end ends. all-stand n end (omega (arith, ends.after)) ends.boundary) in
+              let later = all-after k (form_at b k) (IsEnded-form b k (at h)) (λ end ends. all-stand n end (omega (arith, ends.after)) ends.boundary) in
               let here : Standing b (record { index = k; form = form_at b k }) = record { within = h; at = at h; token = token; is = refl } in
               subst AllStand (sym (tokens_at-token b k h token)) (All-cons (Standing b) (record { index = k; form = form_at b k }) (after_token k (form_at b k) (λ n. tokens_from b (suc k) n (drop (suc k) b))) here later)
         ]

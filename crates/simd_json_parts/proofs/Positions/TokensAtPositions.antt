@@ -146,26 +146,26 @@ module _ (b : List ℕ) where
 
   -- ---- the tokens from a boundary on
 
-  abbrev Stands : ℕ → Type 0
-  Stands k = tokens_at b k ≡ tokens_along b (positions_from b k)
+  abbrev AtPositions : ℕ → Type 0
+  AtPositions k = tokens_at b k ≡ tokens_along b (positions_from b k)
 
   -- after a token that goes on
-  after : (k end n : ℕ) → suc k + n ≡ end → EndsBefore b k end → Stands end → tokens_from b (suc k) n (drop (suc k) b) ≡ tokens_along b (positions_from b (suc k))
+  after : (k end n : ℕ) → suc k + n ≡ end → EndsBefore b k end → AtPositions end → tokens_from b (suc k) n (drop (suc k) b) ≡ tokens_along b (positions_from b (suc k))
   after k end n e ends more =
       tokens_from-skip b (suc k) n ∙ ap (tokens_at b) e ∙ more ∙ ap (tokens_along b) (sym (positions_from-through b (suc k) end ends.after ends.none))
 
   -- after a token of each form
-  after-form : (k : ℕ) (form : Form) → IsEnded b k form → ((end : ℕ) → EndsBefore b k end → Stands end)
+  along-after : (k : ℕ) (form : Form) → IsEnded b k form → ((end : ℕ) → EndsBefore b k end → AtPositions end)
       → after_token k form (λ n. tokens_from b (suc k) n (drop (suc k) b)) ≡ cond (goes_on form) (tokens_along b (positions_from b (suc k))) []
-  after-form k (string_token (Ok r)) ends more = after k r.1 (r.1 - suc k) (omega (arith, ends.after)) ends (more r.1 ends)
-  after-form k (string_token (Err e)) ends more = refl
-  after-form k (scalar (Ok r)) ends more = after k r.1 (r.1 - suc k) (omega (arith, ends.after)) ends (more r.1 ends)
-  after-form k (scalar (Err e)) ends more = refl
-  after-form k stray ends more = refl
-  after-form k _ ends more = after k (suc k) 0 (omega arith) ends (more (suc k) ends)
+  along-after k (string_token (Ok r)) ends more = after k r.1 (r.1 - suc k) (omega (arith, ends.after)) ends (more r.1 ends)
+  along-after k (string_token (Err e)) ends more = refl
+  along-after k (scalar (Ok r)) ends more = after k r.1 (r.1 - suc k) (omega (arith, ends.after)) ends (more r.1 ends)
+  along-after k (scalar (Err e)) ends more = refl
+  along-after k stray ends more = refl
+  along-after k _ ends more = after k (suc k) (suc k - suc k) (omega arith) ends (more (suc k) ends)
 
   -- From a boundary on, or from the end, the tokens are those at the positions; n bytes are left at most.
-  stands : (n k : ℕ) → length b ≤ k + n → (k < length b → Boundary b k) → Stands k
+  stands : (n k : ℕ) → length b ≤ k + n → (k < length b → Boundary b k) → AtPositions k
   stands zero k l at = tokens_at-end b k (omega arith) ∙ ap (tokens_along b) (sym (positions_from-end b k (omega arith)))
   stands (suc n) k l at =
       elim (cases_lt k (length b)) [
@@ -176,7 +176,7 @@ module _ (b : List ℕ) where
           | inr token ↦
               tokens_at-token b k h token
               ∙ ap (λ ts. record { index = k; form = form_at b k } ∷ ts)
-              (after-form k (form_at b k) (IsEnded-form k (at h)) (λ end ends. stands n end (omega (arith, ends.after)) ends.boundary))
+              (along-after k (form_at b k) (IsEnded-form k (at h)) (λ end ends. stands n end (omega (arith, ends.after)) ends.boundary))
               ∙ ap (tokens_along b) (sym (positions_from-position b k h (is_position-token b k (at h) token)))
         ]
         | inr h ↦ tokens_at-end b k h ∙ ap (tokens_along b) (sym (positions_from-end b k h))

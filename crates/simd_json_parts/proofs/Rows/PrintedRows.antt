@@ -25,6 +25,13 @@ rows =
     ∷ (codes "[null,true,false,-12,[],\"a\"]", codes "[null,true,false,-12,[],\"a\"]", codes "[\n  null,\n  true,\n  false,\n  -12,\n  [],\n  \"a\"\n]")
     ∷ (codes " {\"a\": 1}", codes "{\"a\":1}", codes "{\n  \"a\": 1\n}")
     ∷ (codes " 2 ", codes "2", codes "2")
+    ∷ (codes "[ ]", codes "[]", codes "[]")
+    ∷ (codes "{ }", codes "{}", codes "{}")
+    ∷ (
+      codes "[18446744073709551615,-9223372036854775808]",
+      codes "[18446744073709551615,-9223372036854775808]",
+      codes "[\n  18446744073709551615,\n  -9223372036854775808\n]",
+    )
     ∷ []
 
 rows-compact : map (λ (row : Row). compact (parsed row.0)) rows ≡ map (λ (row : Row). row.1) rows
@@ -39,3 +46,8 @@ rows-pretty = refl
 escapes-quoted : quoted (0x22 ∷ 0x5c ∷ 0x2f ∷ 0x08 ∷ 0x0c ∷ 0x0a ∷ 0x0d ∷ 0x09 ∷ 0x01 ∷ 0x7f ∷ []) ≡ codes "\"\\\"\\\\/\\b\\f\\n\\r\\t\\u0001\u{7f}\""
 unfolding quoted
 escapes-quoted = refl
+
+-- the digits of a code unit in lower case
+code_units-quoted : quoted (0x00 ∷ 0x0b ∷ 0x1a ∷ 0x1f ∷ 0x20 ∷ []) ≡ codes "\"\\u0000\\u000b\\u001a\\u001f \""
+unfolding quoted
+code_units-quoted = refl

@@ -1,7 +1,9 @@
 -- Worked rows of views: what each answers on the document of an input.
-use Rattle.std.proofs.Common.{◌≡◌, refl, ℕ, List, [], ◌∷◌, map, true, false, nat_eq}
-use Rattle.std.specs.Prelude.{codes, pos, negsuc, Option, Some, None, option_map, option_and_then, Ok, Err}
-use Rattle.simd_json_parts.specs.Document.{Document, Members, no_members, integer, object}
+use Rattle.std.proofs.Common.{◌≡◌, refl, ℕ, suc, ◌-◌, List, [], ◌∷◌, map, Bool, true, false, nat_eq}
+use Rattle.std.specs.Prelude.{codes, is_some, ℤ, pos, negsuc, Option, Some, None, option_map, option_and_then, Ok, Err}
+use Rattle.simd_json_parts.specs.Accessors as accessors
+use Rattle.simd_json_parts.specs.Accessors.{Accessor, as_t, try_as_t, get_t, try_get_t, eq_t}
+use Rattle.simd_json_parts.specs.Document.{Document, Members, no_members, null, integer, object}
 use Rattle.simd_json_parts.specs.Views as views
 use Rattle.simd_json_parts.specs.declared.node.TryTypeError.{TryTypeError}
 use Rattle.simd_json_parts.specs.declared.node.ValueType.{ValueType}
@@ -24,7 +26,7 @@ the_answer-get : views.try_get (codes "the_answer") the_answer ≡ Ok (Some (num
 unfolding computes
 the_answer-get = refl
 
-the_answer-eq : option_map (views.eq_as nat_eq (views.as_unsigned 64) 42) (views.get (codes "the_answer") the_answer) ≡ Some true
+the_answer-eq : option_map (eq_t nat_eq accessors.u64 42) (views.get (codes "the_answer") the_answer) ≡ Some true
 unfolding computes
 the_answer-eq = refl
 
@@ -45,7 +47,7 @@ nested_list-items : map (λ i. views.get_idx i nested_list) (1 ∷ 2 ∷ 3 ∷ [
 unfolding computes
 nested_list-items = refl
 
-nested_list-bytes : option_map (map (views.as_unsigned 8)) (views.as_array nested_list) ≡ Some (Some 1 ∷ None ∷ Some 4 ∷ [])
+nested_list-bytes : option_map (map (as_t accessors.u8)) (views.as_array nested_list) ≡ Some (Some 1 ∷ None ∷ Some 4 ∷ [])
 unfolding computes
 nested_list-bytes = refl
 
@@ -76,33 +78,33 @@ snot-missing = refl
 abbrev mixed : Document
 mixed = parsed (codes "{\"snot\": 1, \"badger\":[2, 2.5], \"cake\":{\"frosting\": 3}, \"cookie\":4}")
 
-mixed-values : option_map (map (λ (m : List ℕ × Document). views.as_unsigned 64 m.1)) (views.as_object mixed) ≡ Some (Some 1 ∷ None ∷ None ∷ Some 4 ∷ [])
+mixed-values : option_map (map (λ (m : List ℕ × Document). as_t accessors.u64 m.1)) (views.as_object mixed) ≡ Some (Some 1 ∷ None ∷ None ∷ Some 4 ∷ [])
 unfolding computes
 mixed-values = refl
 
-mixed-decimal : option_and_then views.as_decimal (option_and_then (views.get_idx 1) (views.get (codes "badger") mixed)) ≡ Some (codes "2.5")
+mixed-decimal : option_and_then (as_t accessors.decimal) (option_and_then (views.get_idx 1) (views.get (codes "badger") mixed)) ≡ Some (codes "2.5")
 unfolding computes
 mixed-decimal = refl
 
 abbrev containers : Document
 containers = parsed (codes "{\"array\":[\"a\",\"b\",\"c\"],\"object\":{\"x\":1,\"y\":2,\"z\":3}}")
 
-containers-array : option_map (map views.as_str) (views.get_as views.as_array (codes "array") containers) ≡ Some (Some (codes "a") ∷ Some (codes "b") ∷ Some (codes "c") ∷ [])
+containers-array : option_map (map (as_t accessors.str)) (get_t accessors.array (codes "array") containers) ≡ Some (Some (codes "a") ∷ Some (codes "b") ∷ Some (codes "c") ∷ [])
 unfolding computes
 containers-array = refl
 
-containers-object : option_map (map (λ (m : List ℕ × Document). m.0)) (views.get_as views.as_object (codes "object") containers) ≡ Some (codes "x" ∷ codes "y" ∷ codes "z" ∷ [])
+containers-object : option_map (map (λ (m : List ℕ × Document). m.0)) (get_t accessors.object (codes "object") containers) ≡ Some (codes "x" ∷ codes "y" ∷ codes "z" ∷ [])
 unfolding computes
 containers-object = refl
 
 abbrev empty_containers : Document
 empty_containers = parsed (codes "{\"array\":[],\"object\":{}}")
 
-empty_containers-array : views.try_get_as (views.try_as kinds.Array views.as_array) (codes "array") empty_containers ≡ Ok (Some [])
+empty_containers-array : try_get_t accessors.array (codes "array") empty_containers ≡ Ok (Some [])
 unfolding computes
 empty_containers-array = refl
 
-empty_containers-object : views.try_get_as (views.try_as kinds.Object views.as_object) (codes "object") empty_containers ≡ Ok (Some [])
+empty_containers-object : try_get_t accessors.object (codes "object") empty_containers ≡ Ok (Some [])
 unfolding computes
 empty_containers-object = refl
 
@@ -133,7 +135,7 @@ twice-inner_end : option_map (λ d. views.get_idx 2 d) inner_array ≡ Some None
 unfolding computes
 twice-inner_end = refl
 
-twice-values : map (views.as_unsigned 64) (views.values (members_in twice)) ≡ None ∷ Some 2 ∷ []
+twice-values : map (as_t accessors.u64) (views.values (members_in twice)) ≡ None ∷ Some 2 ∷ []
 unfolding computes
 twice-values = refl
 
@@ -145,11 +147,11 @@ first_is_taken : views.get (codes "a") (parsed (codes "{\"a\":1,\"a\":2}")) ≡ 
 unfolding computes
 first_is_taken = refl
 
-first_is_no_array : views.get_as views.as_array (codes "a") (parsed (codes "{\"a\":1,\"a\":[2]}")) ≡ None
+first_is_no_array : get_t accessors.array (codes "a") (parsed (codes "{\"a\":1,\"a\":[2]}")) ≡ None
 unfolding computes
 first_is_no_array = refl
 
-first_is_refused : views.try_get_as (views.try_as kinds.Array views.as_array) (codes "a") (parsed (codes "{\"a\":1,\"a\":[2]}")) ≡ Err (expected_got kinds.Array kinds.U64)
+first_is_refused : try_get_t accessors.array (codes "a") (parsed (codes "{\"a\":1,\"a\":[2]}")) ≡ Err (expected_got kinds.Array kinds.U64)
 unfolding computes
 first_is_refused = refl
 
@@ -158,74 +160,115 @@ first_is_refused = refl
 abbrev minus_one : Document
 minus_one = integer true 1
 
-minus_one-signed : map (λ bits. views.as_signed bits minus_one) (8 ∷ 128 ∷ []) ≡ Some (negsuc 0) ∷ Some (negsuc 0) ∷ []
-minus_one-signed = refl
+minus_one-i8 : as_t accessors.i8 minus_one ≡ Some (negsuc 0)
+minus_one-i8 = refl
 
-minus_one-unsigned : map (λ bits. views.as_unsigned bits minus_one) (8 ∷ 128 ∷ []) ≡ None ∷ None ∷ []
-minus_one-unsigned = refl
+minus_one-i128 : as_t accessors.i128 minus_one ≡ Some (negsuc 0)
+minus_one-i128 = refl
 
-minus_one-refused : views.try_as kinds.U64 (views.as_unsigned 64) minus_one ≡ Err (expected_got kinds.U64 kinds.I64)
+minus_one-u8 : as_t accessors.u8 minus_one ≡ None
+minus_one-u8 = refl
+
+minus_one-u128 : as_t accessors.u128 minus_one ≡ None
+minus_one-u128 = refl
+
+minus_one-refused : try_as_t accessors.u64 minus_one ≡ Err (expected_got kinds.U64 kinds.I64)
 minus_one-refused = refl
 
-byte_max-unsigned : views.as_unsigned 8 (number 255) ≡ Some 255
-byte_max-unsigned = refl
+byte_max-u8 : as_t accessors.u8 (number 255) ≡ Some 255
+byte_max-u8 = refl
 
-byte_max-signed : views.as_signed 8 (number 255) ≡ None
-byte_max-signed = refl
+byte_max-i8 : as_t accessors.i8 (number 255) ≡ None
+byte_max-i8 = refl
 
-byte_max-refused : views.try_as kinds.I64 (views.as_signed 8) (number 255) ≡ Err (expected_got kinds.I64 kinds.U64)
+byte_max-refused : try_as_t accessors.i8 (number 255) ≡ Err (expected_got kinds.I64 kinds.U64)
 byte_max-refused = refl
 
-three_hundred-unsigned : map (λ bits. views.as_unsigned bits (number 300)) (8 ∷ 16 ∷ []) ≡ None ∷ Some 300 ∷ []
-three_hundred-unsigned = refl
+three_hundred-u8 : as_t accessors.u8 (number 300) ≡ None
+three_hundred-u8 = refl
 
-three_hundred-signed : views.as_signed 64 (number 300) ≡ Some (pos 300)
-three_hundred-signed = refl
+three_hundred-u16 : as_t accessors.u16 (number 300) ≡ Some 300
+three_hundred-u16 = refl
 
-three_hundred-decimal : views.as_decimal (number 300) ≡ None
+three_hundred-i64 : as_t accessors.i64 (number 300) ≡ Some (pos 300)
+three_hundred-i64 = refl
+
+three_hundred-decimal : as_t accessors.decimal (number 300) ≡ None
 three_hundred-decimal = refl
 
-three_hundred-refused : views.try_as kinds.U64 (views.as_unsigned 8) (number 300) ≡ Err (expected_got kinds.U64 kinds.U64)
+three_hundred-refused : try_as_t accessors.u8 (number 300) ≡ Err (expected_got kinds.U64 kinds.U64)
 three_hundred-refused = refl
+
+-- the first and the last number that fit, and those next to them that do not
+abbrev signed_ends : Accessor ℤ → ℕ → List Bool
+signed_ends t end = map (λ d. is_some (as_t t d)) (integer true (suc end) ∷ integer true end ∷ integer false (end - 1) ∷ integer false end ∷ [])
+
+abbrev fit_within : List Bool
+fit_within = false ∷ true ∷ true ∷ false ∷ []
+
+signed-ends : map (λ (p : Accessor ℤ × ℕ). signed_ends p.0 p.1) ((accessors.i8, 128) ∷ (accessors.i16, 32768) ∷ (accessors.i32, 2147483648) ∷ (accessors.i64, 9223372036854775808) ∷ []) ≡ fit_within ∷ fit_within ∷ fit_within ∷ fit_within ∷ []
+signed-ends = refl
+
+abbrev unsigned_ends : Accessor ℕ → ℕ → List Bool
+unsigned_ends t max = map (λ d. is_some (as_t t d)) (integer true 1 ∷ integer true 0 ∷ integer false max ∷ integer false (suc max) ∷ [])
+
+unsigned-ends : map (λ (p : Accessor ℕ × ℕ). unsigned_ends p.0 p.1) ((accessors.u8, 255) ∷ (accessors.u16, 65535) ∷ (accessors.u32, 4294967295) ∷ (accessors.u64, 18446744073709551615) ∷ (accessors.usize, 18446744073709551615) ∷ []) ≡ fit_within ∷ fit_within ∷ fit_within ∷ fit_within ∷ fit_within ∷ []
+unsigned-ends = refl
+
+-- the kinds that refusals expect
+signed-expected : map (λ (t : Accessor ℤ). t.expected) (accessors.i8 ∷ accessors.i16 ∷ accessors.i32 ∷ accessors.i64 ∷ accessors.i128 ∷ []) ≡ kinds.I64 ∷ kinds.I64 ∷ kinds.I64 ∷ kinds.I64 ∷ kinds.I128 ∷ []
+signed-expected = refl
+
+unsigned-expected : map (λ (t : Accessor ℕ). t.expected) (accessors.u8 ∷ accessors.u16 ∷ accessors.u32 ∷ accessors.u64 ∷ accessors.usize ∷ accessors.u128 ∷ []) ≡ kinds.U64 ∷ kinds.U64 ∷ kinds.U64 ∷ kinds.U64 ∷ kinds.U64 ∷ kinds.U128 ∷ []
+unsigned-expected = refl
+
+string-expected : map (λ (t : Accessor (List ℕ)). t.expected) (accessors.str ∷ accessors.decimal ∷ []) ≡ kinds.String ∷ kinds.Decimal ∷ []
+string-expected = refl
+
+null-refused : try_as_t accessors.null (number 0) ≡ Err (expected_got kinds.Null kinds.U64)
+null-refused = refl
+
+bool-refused : try_as_t accessors.bool null ≡ Err (expected_got kinds.Bool kinds.Null)
+bool-refused = refl
 
 abbrev one_and_a_half : Document
 one_and_a_half = parsed (codes "1.50")
 
-one_and_a_half-decimal : views.as_decimal one_and_a_half ≡ Some (codes "1.50")
+one_and_a_half-decimal : as_t accessors.decimal one_and_a_half ≡ Some (codes "1.50")
 unfolding computes
 one_and_a_half-decimal = refl
 
-one_and_a_half-signed : views.as_signed 64 one_and_a_half ≡ None
+one_and_a_half-i64 : as_t accessors.i64 one_and_a_half ≡ None
 unfolding computes
-one_and_a_half-signed = refl
+one_and_a_half-i64 = refl
 
 minus_zero-type : views.value_type (parsed (codes "-0")) ≡ kinds.I64
 unfolding computes
 minus_zero-type = refl
 
-minus_zero-unsigned : views.as_unsigned 8 (parsed (codes "-0")) ≡ Some 0
+minus_zero-u8 : as_t accessors.u8 (parsed (codes "-0")) ≡ Some 0
 unfolding computes
-minus_zero-unsigned = refl
+minus_zero-u8 = refl
 
-minus_zero-eq : views.eq_as nat_eq (views.as_unsigned 64) 0 (parsed (codes "-0")) ≡ true
+minus_zero-eq : eq_t nat_eq accessors.u64 0 (parsed (codes "-0")) ≡ true
 unfolding computes
 minus_zero-eq = refl
 
 abbrev with_null : Document
 with_null = parsed (codes "{\"a\":null}")
 
-with_null-str : views.get_as views.as_str (codes "a") with_null ≡ None
+with_null-str : get_t accessors.str (codes "a") with_null ≡ None
 unfolding computes
 with_null-str = refl
 
-with_null-refused : views.try_get_as (views.try_as kinds.String views.as_str) (codes "a") with_null ≡ Err (expected_got kinds.String kinds.Null)
+with_null-refused : try_get_t accessors.str (codes "a") with_null ≡ Err (expected_got kinds.String kinds.Null)
 unfolding computes
 with_null-refused = refl
 
-with_null-missing : views.try_get_as (views.try_as kinds.String views.as_str) (codes "b") with_null ≡ Ok None
+with_null-missing : try_get_t accessors.str (codes "b") with_null ≡ Ok None
 unfolding computes
 with_null-missing = refl
 
-no_object-refused : views.try_get_as (views.try_as kinds.Bool views.as_bool) (codes "a") (parsed (codes "[]")) ≡ Err (expected_got kinds.Object kinds.Array)
+no_object-refused : try_get_t accessors.bool (codes "a") (parsed (codes "[]")) ≡ Err (expected_got kinds.Object kinds.Array)
 unfolding computes
 no_object-refused = refl

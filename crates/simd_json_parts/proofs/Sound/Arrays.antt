@@ -8,7 +8,7 @@ use Rattle.simd_json_parts.specs.Grammar.{Spaced, Joined, IsValue, AreElements, 
 use Rattle.simd_json_parts.specs.Tokens.{Token, Form, end_array, value_separator}
 use Rattle.simd_json_parts.specs.Descent.{Reads, after_element, element_end, elements_from, elements_by, first_element, array_from}
 use Rattle.simd_json_parts.specs.declared.error.Error.{Error}
-use Rattle.simd_json_parts.proofs.Sound.SpelledTokens.{Accepted, Prefix, Stands, AreTokens, Closed, SpaceClosed, after_comma, at_close, bind-IfOk}
+use Rattle.simd_json_parts.proofs.Sound.SpelledTokens.{Accepted, Prefix, FormSpelled, AreTokens, Closed, SpaceClosed, after_comma, at_close, bind-IfOk}
 
 -- one element at least, without the comma before it
 abbrev AreSomeElements : Elements → List ℕ → Type 0
@@ -35,31 +35,31 @@ row-more levels (element d ds) bs h = record { denotes = (bs, refl, h.denotes); 
 module _ (b : List ℕ) (missing : Error) (levels : ℕ) (value : Reads Document)
     (sound : (ts : List Token) (bs : List ℕ) → AreTokens ts bs → IfOk (value ts) (λ p. Prefix (Accepted levels p.0) (AreTokens p.1) bs)) where
   -- elements up to the closing bracket
-  abbrev AreRead : List ℕ → Elements × List Token → Type 0
-  AreRead bs p = Closed (AcceptedElements AreSomeElements levels p.0) right_bracket p.1 bs
+  abbrev AreElementsRead : List ℕ → Elements × List Token → Type 0
+  AreElementsRead bs p = Closed (AcceptedElements AreSomeElements levels p.0) right_bracket p.1 bs
 
   -- what stands after an element
   abbrev AreReadAfter : List ℕ → Elements × List Token → Type 0
   AreReadAfter bs p = SpaceClosed (AcceptedElements AreMoreElements levels p.0) right_bracket p.1 bs
 
   -- After an element more are read, or none.
-  element_end-sound : (more : Reads Elements) → ((us : List Token) (bs : List ℕ) → AreTokens us bs → IfOk (more us) (AreRead bs))
+  element_end-sound : (more : Reads Elements) → ((us : List Token) (bs : List ℕ) → AreTokens us bs → IfOk (more us) (AreElementsRead bs))
       → (ts : List Token) (bs : List ℕ) → AreTokens ts bs → IfOk (element_end b missing ts more) (AreReadAfter bs)
   element_end-sound more row [] bs h = tt
   element_end-sound more row (t ∷ ts) bs h = go t.form h
     where
-      go : (form : Form) → Stands form ts bs → IfOk (after_element b missing t form ts more) (AreReadAfter bs)
+      go : (form : Form) → FormSpelled form ts bs → IfOk (after_element b missing t form ts more) (AreReadAfter bs)
       go value_separator h = after_comma (AcceptedElements AreSomeElements levels) (AcceptedElements AreMoreElements levels) right_bracket (row-more levels) ts bs (h refl) (more ts) (row ts)
       go end_array h = at_close (AcceptedElements AreMoreElements levels no_elements) right_bracket ts bs (record { denotes = refl; integers = tt; nesting = omega arith }) (h refl)
       go _ h = tt
 
   -- Elements are read up to the closing bracket, by induction on the turns.
-  elements_from-sound : (turns : ℕ) (ts : List Token) (bs : List ℕ) → AreTokens ts bs → IfOk (elements_from b missing value turns ts) (AreRead bs)
+  elements_from-sound : (turns : ℕ) (ts : List Token) (bs : List ℕ) → AreTokens ts bs → IfOk (elements_from b missing value turns ts) (AreElementsRead bs)
   unfolding elements_from
   elements_from-sound zero ts bs h = tt
   elements_from-sound (suc turns) ts bs h =
-      bind-IfOk (value ts) _ (λ p. Prefix (Accepted levels p.0) (AreTokens p.1) bs) (AreRead bs) (sound ts bs h)
-      (λ first f. bind-IfOk (element_end b missing first.1 (elements_from b missing value turns)) _ (AreReadAfter f.left) (AreRead bs)
+      bind-IfOk (value ts) _ (λ p. Prefix (Accepted levels p.0) (AreTokens p.1) bs) (AreElementsRead bs) (sound ts bs h)
+      (λ first f. bind-IfOk (element_end b missing first.1 (elements_from b missing value turns)) _ (AreReadAfter f.left) (AreElementsRead bs)
       (element_end-sound (elements_from b missing value turns) (elements_from-sound turns) first.1 f.left f.more)
       (λ rest g. record {
         inner = ((f.before ++ f.inner) ++ g.after) ++ g.inner;
@@ -84,11 +84,11 @@ module _ (b : List ℕ) (missing : Error) (levels : ℕ) (value : Reads Document
   array_from-sound [] bs h = tt
   array_from-sound (t ∷ ts) bs h = go t.form h
     where
-      some : (r : Result (Elements × List Token) Error) → IfOk r (AreRead bs) → IfOk r (λ p. Closed (AcceptedElements AreElements levels p.0) right_bracket p.1 bs)
+      some : (r : Result (Elements × List Token) Error) → IfOk r (AreElementsRead bs) → IfOk r (λ p. Closed (AcceptedElements AreElements levels p.0) right_bracket p.1 bs)
       some (Ok p) g = record { inner = g.inner; left = g.left; whole = g.whole; holds = row-elements levels p.0 g.inner g.holds; more = g.more }
       some (Err e) g = tt
 
-      go : (form : Form) → Stands form ts bs → IfOk (first_element b missing form (t ∷ ts) ts (elements_by b missing value)) (λ p. Closed (AcceptedElements AreElements levels p.0) right_bracket p.1 bs)
+      go : (form : Form) → FormSpelled form ts bs → IfOk (first_element b missing form (t ∷ ts) ts (elements_by b missing value)) (λ p. Closed (AcceptedElements AreElements levels p.0) right_bracket p.1 bs)
       go end_array k =
           let f : SpaceClosed (λ xs. xs ≡ []) right_bracket ts bs = at_close (λ xs. xs ≡ []) right_bracket ts bs refl (k refl) in
           record {

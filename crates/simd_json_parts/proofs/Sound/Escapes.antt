@@ -3,8 +3,8 @@ use Rattle.std.proofs.Common.{◌≡◌, refl, sym, ◌∙◌, ap, subst, ℕ, �
 use Rattle.std.specs.Prelude.{Option, Some, None}
 use Rattle.std.proofs.lemmas.Bool.{cases_Bool, and_parts, eqb-true, cond-true, cond-false}
 use Rattle.std.proofs.lemmas.Str.{encode_ascii, IsUtf8-past_char}
-use Rattle.simd_json_parts.specs.Bytes.{backslash}
-use Rattle.simd_json_parts.specs.Strings.{lower_u, escaped_character, hex_value, is_high_surrogate, is_low_surrogate, paired, IsCodeUnit, IsPiece}
+use Rattle.simd_json_parts.specs.Bytes.{backslash, lower_u}
+use Rattle.simd_json_parts.specs.Strings.{escaped_character, hex_value, is_high_surrogate, is_low_surrogate, paired, IsCodeUnit, IsPiece}
 use Rattle.simd_json_parts.specs.StringAt.{code_unit_at, simple_piece, pair_piece, unicode_piece, escape_at}
 use Rattle.simd_json_parts.proofs.Strings.Escapes.{AreHexDigits, hex_value-digits, hex_digit-small, escaped_character-small}
 

@@ -11,7 +11,7 @@ use Rattle.simd_json_parts.specs.Descent.{◌>>=◌, Reads, name_of, name_from, 
 use Rattle.simd_json_parts.specs.declared.error.Error.{Error}
 use Rattle.simd_json_parts.specs.declared.error.ErrorType.{ErrorType}
 use Rattle.simd_json_parts.specs.declared.error.ErrorType.TheVariants.{ExpectedObjectKey, ExpectedObjectContent}
-use Rattle.simd_json_parts.proofs.Sound.SpelledTokens.{Accepted, Prefix, Stands, AreTokens, Closed, SpaceClosed, after_comma, at_close, bind-IfOk}
+use Rattle.simd_json_parts.proofs.Sound.SpelledTokens.{Accepted, Prefix, FormSpelled, AreTokens, Closed, SpaceClosed, after_comma, at_close, bind-IfOk}
 
 -- one member at least, without the comma before it
 abbrev AreSomeMembers : Members → List ℕ → Type 0
@@ -49,7 +49,7 @@ module _ (b : List ℕ) (missing : Error) where
   name_from-sound kind [] bs h = tt
   name_from-sound kind (t ∷ ts) bs h = go t.form h
     where
-      go : (form : Form) → Stands form ts bs → IfOk (name_of b missing kind t form >>= λ name. Ok (name.0, ts)) (IsNameRead bs)
+      go : (form : Form) → FormSpelled form ts bs → IfOk (name_of b missing kind t form >>= λ name. Ok (name.0, ts)) (IsNameRead bs)
       go (string_token (Ok r)) h = h refl
       go (string_token (Err e)) h = tt
       go _ h = tt
@@ -59,7 +59,7 @@ module _ (b : List ℕ) (missing : Error) where
   name_end-sound [] bs h = tt
   name_end-sound (t ∷ ts) bs h = go t.form h
     where
-      go : (form : Form) → Stands form ts bs → IfOk (after_name b missing t form ts) (IsColonRead bs)
+      go : (form : Form) → FormSpelled form ts bs → IfOk (after_name b missing t form ts) (IsColonRead bs)
       go name_separator h = h refl
       go _ h = tt
 
@@ -69,27 +69,27 @@ module _ (b : List ℕ) (missing : Error) where
 module _ (b : List ℕ) (missing : Error) (levels : ℕ) (value : Reads Document)
     (sound : (ts : List Token) (bs : List ℕ) → AreTokens ts bs → IfOk (value ts) (λ p. Prefix (Accepted levels p.0) (AreTokens p.1) bs)) where
   -- members up to the closing brace
-  abbrev AreRead : List ℕ → Members × List Token → Type 0
-  AreRead bs p = Closed (AcceptedMembers AreSomeMembers levels p.0) right_brace p.1 bs
+  abbrev AreMembersRead : List ℕ → Members × List Token → Type 0
+  AreMembersRead bs p = Closed (AcceptedMembers AreSomeMembers levels p.0) right_brace p.1 bs
 
   -- what stands after a member
   abbrev AreReadAfter : List ℕ → Members × List Token → Type 0
   AreReadAfter bs p = SpaceClosed (AcceptedMembers AreMoreMembers levels p.0) right_brace p.1 bs
 
   -- After a member more are read, or none.
-  member_end-sound : (more : Reads Members) → ((us : List Token) (bs : List ℕ) → AreTokens us bs → IfOk (more us) (AreRead bs))
+  member_end-sound : (more : Reads Members) → ((us : List Token) (bs : List ℕ) → AreTokens us bs → IfOk (more us) (AreMembersRead bs))
       → (ts : List Token) (bs : List ℕ) → AreTokens ts bs → IfOk (member_end b missing ts more) (AreReadAfter bs)
   member_end-sound more row [] bs h = tt
   member_end-sound more row (t ∷ ts) bs h = go t.form h
     where
-      go : (form : Form) → Stands form ts bs → IfOk (after_member b missing t form ts more) (AreReadAfter bs)
+      go : (form : Form) → FormSpelled form ts bs → IfOk (after_member b missing t form ts more) (AreReadAfter bs)
       go value_separator h = after_comma (AcceptedMembers AreSomeMembers levels) (AcceptedMembers AreMoreMembers levels) right_brace (row-more levels) ts bs (h refl) (more ts) (row ts)
       go end_object h = at_close (AcceptedMembers AreMoreMembers levels no_members) right_brace ts bs (record { denotes = refl; integers = tt; nesting = omega arith }) (h refl)
       go _ h = tt
 
   -- A name, a colon, a value and what stands after are members.
   a_member : (bs : List ℕ) (name : List ℕ × List Token) (colon : List Token) (first : Document × List Token) (rest : Members × List Token) (n : IsNameRead bs name) (c : IsColonRead n.left colon)
-      (f : Prefix (Accepted levels first.0) (AreTokens first.1) c.left) → AreReadAfter f.left rest → AreRead bs (member name.0 first.0 rest.0, rest.1)
+      (f : Prefix (Accepted levels first.0) (AreTokens first.1) c.left) → AreReadAfter f.left rest → AreMembersRead bs (member name.0 first.0 rest.0, rest.1)
   a_member bs name us first rest n c f g =
       let left : List ℕ = (n.before ++ n.inner) ++ c.before in
       let value : List ℕ = (f.before ++ f.inner) ++ g.after in
@@ -125,14 +125,14 @@ module _ (b : List ℕ) (missing : Error) (levels : ℕ) (value : Reads Document
       }
 
   -- Members are read up to the closing brace, by induction on the turns.
-  members_from-sound : (turns : ℕ) (kind : ErrorType) (ts : List Token) (bs : List ℕ) → AreTokens ts bs → IfOk (members_from b missing value turns kind ts) (AreRead bs)
+  members_from-sound : (turns : ℕ) (kind : ErrorType) (ts : List Token) (bs : List ℕ) → AreTokens ts bs → IfOk (members_from b missing value turns kind ts) (AreMembersRead bs)
   unfolding members_from
   members_from-sound zero kind ts bs h = tt
   members_from-sound (suc turns) kind ts bs h =
-      bind-IfOk (name_from b missing kind ts) _ (IsNameRead bs) (AreRead bs) (name_from-sound b missing kind ts bs h)
-      (λ name n. bind-IfOk (name_end b missing name.1) _ (IsColonRead n.left) (AreRead bs) (name_end-sound b missing name.1 n.left n.more)
-      (λ us c. bind-IfOk (value us) _ (λ p. Prefix (Accepted levels p.0) (AreTokens p.1) c.left) (AreRead bs) (sound us c.left c.more)
-      (λ first f. bind-IfOk (member_end b missing first.1 (members_from b missing value turns ExpectedObjectKey)) _ (AreReadAfter f.left) (AreRead bs)
+      bind-IfOk (name_from b missing kind ts) _ (IsNameRead bs) (AreMembersRead bs) (name_from-sound b missing kind ts bs h)
+      (λ name n. bind-IfOk (name_end b missing name.1) _ (IsColonRead n.left) (AreMembersRead bs) (name_end-sound b missing name.1 n.left n.more)
+      (λ us c. bind-IfOk (value us) _ (λ p. Prefix (Accepted levels p.0) (AreTokens p.1) c.left) (AreMembersRead bs) (sound us c.left c.more)
+      (λ first f. bind-IfOk (member_end b missing first.1 (members_from b missing value turns ExpectedObjectKey)) _ (AreReadAfter f.left) (AreMembersRead bs)
       (member_end-sound (members_from b missing value turns ExpectedObjectKey) (members_from-sound turns ExpectedObjectKey) first.1 f.left f.more)
       (λ rest g. a_member bs name us first rest n c f g))))
 
@@ -141,11 +141,11 @@ module _ (b : List ℕ) (missing : Error) (levels : ℕ) (value : Reads Document
   object_from-sound [] bs h = tt
   object_from-sound (t ∷ ts) bs h = go t.form h
     where
-      some : (r : Result (Members × List Token) Error) → IfOk r (AreRead bs) → IfOk r (λ p. Closed (AcceptedMembers AreMembers levels p.0) right_brace p.1 bs)
+      some : (r : Result (Members × List Token) Error) → IfOk r (AreMembersRead bs) → IfOk r (λ p. Closed (AcceptedMembers AreMembers levels p.0) right_brace p.1 bs)
       some (Ok p) g = record { inner = g.inner; left = g.left; whole = g.whole; holds = row-members levels p.0 g.inner g.holds; more = g.more }
       some (Err e) g = tt
 
-      go : (form : Form) → Stands form ts bs → IfOk (first_member b missing form (t ∷ ts) ts (members_by b missing value ExpectedObjectContent)) (λ p. Closed (AcceptedMembers AreMembers levels p.0) right_brace p.1 bs)
+      go : (form : Form) → FormSpelled form ts bs → IfOk (first_member b missing form (t ∷ ts) ts (members_by b missing value ExpectedObjectContent)) (λ p. Closed (AcceptedMembers AreMembers levels p.0) right_brace p.1 bs)
       go end_object k =
           let f : SpaceClosed (λ xs. xs ≡ []) right_brace ts bs = at_close (λ xs. xs ≡ []) right_brace ts bs refl (k refl) in
           record {

@@ -45,8 +45,8 @@ AreTokens [] bs = IsWhitespace bs
 AreTokens (t ∷ ts) bs = goes_on t.form ≡ true → Prefix (IsOwn t.form) (AreTokens ts) bs
 
 -- a token of this form, with these after it
-abbrev pub Stands : Form → List Token → List ℕ → Type 0
-Stands form ts bs = goes_on form ≡ true → Prefix (IsOwn form) (AreTokens ts) bs
+abbrev pub FormSpelled : Form → List Token → List ℕ → Type 0
+FormSpelled form ts bs = goes_on form ≡ true → Prefix (IsOwn form) (AreTokens ts) bs
 
 -- ---- what a reader answers of them
 

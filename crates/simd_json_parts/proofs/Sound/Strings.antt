@@ -70,7 +70,7 @@ module _ (b : List ℕ) (start stop : ℕ) (zs : List ℕ) (none : NoneBetween (
     pub utf8 : IsUtf8 bs
 
   -- pieces up to what is left, for characters of which the string is the UTF-8
-  pub record AreRead (bs : List ℕ) (r : List ℕ × List ℕ) : Type 0 where
+  pub record ArePiecesRead (bs : List ℕ) (r : List ℕ × List ℕ) : Type 0 where
     pub own : List ℕ
     pub characters : List ℕ
     pub whole : bs ≡ own ++ r.1
@@ -78,8 +78,8 @@ module _ (b : List ℕ) (start stop : ℕ) (zs : List ℕ) (none : NoneBetween (
     pub string : r.0 ≡ encode_utf8_all characters
 
   -- A piece and those after it are pieces.
-  pieces-step : (n m : ℕ) (bs : List ℕ) → ((k : ℕ) (us : List ℕ) → IsContent n k us → AreRead us (read_pieces 0 us)) → IsContent (suc n) m bs → HasPiece bs → AreRead bs (read_pieces 0 bs)
-  pieces-step n m bs after h p = subst (AreRead bs) (sym same) (record {
+  pieces-step : (n m : ℕ) (bs : List ℕ) → ((k : ℕ) (us : List ℕ) → IsContent n k us → ArePiecesRead us (read_pieces 0 us)) → IsContent (suc n) m bs → HasPiece bs → ArePiecesRead bs (read_pieces 0 bs)
+  pieces-step n m bs after h p = subst (ArePiecesRead bs) (sym same) (record {
     own = p.piece ++ more.own;
     characters = p.character ∷ more.characters;
     whole = p.whole ∙ ap (λ us. p.piece ++ us) more.whole ∙ sym (append_assoc p.piece more.own rest.1);
@@ -99,7 +99,7 @@ module _ (b : List ℕ) (start stop : ℕ) (zs : List ℕ) (none : NoneBetween (
       whole : length bs ≡ length p.piece + length p.after
       whole = ap length p.whole ∙ length-append p.piece p.after
 
-      more : AreRead p.after rest
+      more : ArePiecesRead p.after rest
       more = after passed.end p.after (record {
         short = omega (arith, h.short, whole, p.some);
         from = omega (arith, h.from, passed.at);
@@ -110,11 +110,11 @@ module _ (b : List ℕ) (start stop : ℕ) (zs : List ℕ) (none : NoneBetween (
       })
 
   -- Nothing is read where nothing is read first.
-  nothing : (bs : List ℕ) → read_pieces 0 bs ≡ ([], bs) → AreRead bs (read_pieces 0 bs)
-  nothing bs e = subst (AreRead bs) (sym e) (record { own = []; characters = []; whole = refl; pieces = refl; string = refl })
+  nothing : (bs : List ℕ) → read_pieces 0 bs ≡ ([], bs) → ArePiecesRead bs (read_pieces 0 bs)
+  nothing bs e = subst (ArePiecesRead bs) (sym e) (record { own = []; characters = []; whole = refl; pieces = refl; string = refl })
 
   -- What is read is pieces.
-  pub pieces-read : (n m : ℕ) (bs : List ℕ) → IsContent n m bs → AreRead bs (read_pieces 0 bs)
+  pub pieces-read : (n m : ℕ) (bs : List ℕ) → IsContent n m bs → ArePiecesRead bs (read_pieces 0 bs)
   unfolding read_pieces
   pieces-read n m [] h = nothing [] refl
   pieces-read zero m (x ∷ bs) h = absurd (omega (arith, h.short))

@@ -7,10 +7,10 @@ use Rattle.std.proofs.lemmas.List.{take-append-drop, drop-drop, length-take-le}
 use Rattle.std.proofs.lemmas.Str.{IsUtf8-between, IsCharBoundary-after_ascii, IsCharBoundary-before_ascii}
 use Rattle.std.proofs.Math.Seq.{drop-cons}
 use Rattle.std.specs.Prelude.{encode_utf8_all}
-use Rattle.simd_json_parts.specs.Bytes.{quote, byte_at, is_control}
+use Rattle.simd_json_parts.specs.Bytes.{quote, byte_at, is_control, lower_u}
 use Rattle.simd_json_parts.specs.ErrorKinds.{is_unexpected_token}
 use Rattle.simd_json_parts.specs.declared.error.ErrorType.TheVariants.{InvalidEscape, InvalidUnicodeCodepoint}
-use Rattle.simd_json_parts.specs.Strings.{lower_u, ArePieces}
+use Rattle.simd_json_parts.specs.Strings.{ArePieces}
 use Rattle.simd_json_parts.specs.Positions.{is_even, is_real_quote, is_inside}
 use Rattle.simd_json_parts.specs.StringAt.{closing_quote, read_pieces, string_read, string_at}
 use Rattle.simd_json_parts.proofs.Positions.Boundaries.{Boundary, closing_quote-next, closed-inside}
@@ -19,7 +19,7 @@ use Rattle.simd_json_parts.proofs.Strings.Quotes.{run_ends}
 use Rattle.simd_json_parts.proofs.Positions.Scan.{NoneBetween, is_inside-at}
 use Rattle.simd_json_parts.proofs.Sound.Tokens.{StringStands}
 use Rattle.simd_json_parts.proofs.Sound.FaultsWithin.{StringFault}
-use Rattle.simd_json_parts.proofs.Sound.Strings.{AreRead, pieces-read}
+use Rattle.simd_json_parts.proofs.Sound.Strings.{ArePiecesRead, pieces-read}
 use Rattle.simd_json_parts.proofs.Sound.CleanInputs.{IsClean, control-inside}
 
 -- the string that opens at a boundary of such an input
@@ -79,7 +79,7 @@ module _ (b : List ℕ) (fine : IsClean b) (k : ℕ) (l : k < length b) (at : Bo
       (IsCharBoundary-before_ascii b close closes (quote-ascii close closes at_close))
 
   -- It is read as pieces, up to what is left.
-  content-read : AreRead b (suc k) close after next.1 printed content (read_pieces 0 content)
+  content-read : ArePiecesRead b (suc k) close after next.1 printed content (read_pieces 0 content)
   content-read = pieces-read b (suc k) close after next.1 printed (length content) (suc k) content (record {
     short = omega arith;
     from = omega arith;
@@ -90,7 +90,7 @@ module _ (b : List ℕ) (fine : IsClean b) (k : ℕ) (l : k < length b) (at : Bo
   })
 
   -- So the string stands there, unless something is left.
-  read-stands : (r : List ℕ × List ℕ) → AreRead b (suc k) close after next.1 printed content r → StringStands b k (string_read r close)
+  read-stands : (r : List ℕ × List ℕ) → ArePiecesRead b (suc k) close after next.1 printed content r → StringStands b k (string_read r close)
   read-stands (t, []) h =
       let whole : h.own ≡ content = sym (h.whole ∙ append-nil h.own) in
       record {
@@ -106,7 +106,7 @@ module _ (b : List ℕ) (fine : IsClean b) (k : ℕ) (l : k < length b) (at : Bo
   string-stands = read-stands (read_pieces 0 content) content-read
 
   -- What is left begins where the fault is reported, and the pieces before it go on to a string.
-  read-fault : (r : List ℕ × List ℕ) → AreRead b (suc k) close after next.1 printed content r → StringFault b k (string_read r close)
+  read-fault : (r : List ℕ × List ℕ) → ArePiecesRead b (suc k) close after next.1 printed content r → StringFault b k (string_read r close)
   read-fault (t, []) h = tt
   read-fault (t, x ∷ left) h =
       let there : suc k + length h.own ≡ close - length (x ∷ left) = omega (arith, size, ap length h.whole, length-append h.own (x ∷ left)) in

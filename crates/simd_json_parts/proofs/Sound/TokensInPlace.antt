@@ -23,13 +23,13 @@ use Rattle.simd_json_parts.proofs.Sound.ScalarFaults.{IsSomeValue, ScalarReporte
 module _ (b : List ℕ) where
   -- A token of this form stands at index k, and `More` holds where the tokens after it are looked for. Nothing is said of tokens
   -- after one that has a fault or is stray: none is looked for.
-  abbrev pub FormHere : Form → (ℕ → Type 0) → ℕ → Type 0
-  FormHere (string_token (Ok r)) More k = Owned b k (λ xs. IsStringLiteral xs r.0) r.1 × More r.1
-  FormHere (string_token (Err e)) More k = FaultWithin b k IsString e
-  FormHere (scalar (Ok r)) More k = Owned b k (Accepted 0 r.0) r.1 × (is_terminator (byte_at b r.1) ≡ true) × More r.1
-  FormHere (scalar (Err e)) More k = FaultWithin b k IsSomeValue e
-  FormHere stray More k = Unit {0}
-  FormHere form More k = Owned b k (IsOwn form) (suc k) × More (suc k)
+  abbrev pub FormInPlace : Form → (ℕ → Type 0) → ℕ → Type 0
+  FormInPlace (string_token (Ok r)) More k = Owned b k (λ xs. IsStringLiteral xs r.0) r.1 × More r.1
+  FormInPlace (string_token (Err e)) More k = FaultWithin b k IsString e
+  FormInPlace (scalar (Ok r)) More k = Owned b k (Accepted 0 r.0) r.1 × (is_terminator (byte_at b r.1) ≡ true) × More r.1
+  FormInPlace (scalar (Err e)) More k = FaultWithin b k IsSomeValue e
+  FormInPlace stray More k = Unit {0}
+  FormInPlace form More k = Owned b k (IsOwn form) (suc k) × More (suc k)
 
   -- the token stands after space from index k on
   pub record TokenHere (t : Token) (More : ℕ → Type 0) (k : ℕ) : Type 0 where
@@ -39,7 +39,7 @@ module _ (b : List ℕ) where
     pub within : t.index < length b
     pub no_space : is_whitespace (byte_at b t.index) ≡ false
     pub form : form_at b t.index ≡ t.form
-    pub stands : FormHere t.form More t.index
+    pub stands : FormInPlace t.form More t.index
 
   -- from index k on there are these tokens, and space
   abbrev pub AreHere : List Token → ℕ → Type 0
@@ -94,13 +94,13 @@ module _ (b : List ℕ) where
 
     -- A token of each form stands where it is read.
     token-here : (k : ℕ) (form : Form) → FormStands b k form → FormReported k form → IsEnded b k form → ((end : ℕ) → EndsBefore b k end → Here end)
-        → FormHere form (AreHere (after_token k form (λ n. tokens_from b (suc k) n (drop (suc k) b)))) k
+        → FormInPlace form (AreHere (after_token k form (λ n. tokens_from b (suc k) n (drop (suc k) b)))) k
     token-here k (string_token (Ok r)) o reported ends more = (o, after k r.1 (r.1 - suc k) (omega (arith, ends.after)) (more r.1 ends))
     token-here k (string_token (Err e)) o reported ends more = reported
     token-here k (scalar (Ok r)) o reported ends more = (o, reported, after k r.1 (r.1 - suc k) (omega (arith, ends.after)) (more r.1 ends))
     token-here k (scalar (Err e)) o reported ends more = reported
     token-here k stray o reported ends more = tt
-    token-here k form o reported ends more = (o, after k (suc k) 0 (omega arith) (more (suc k) ends))
+    token-here k form o reported ends more = (o, after k (suc k) (suc k - suc k) (omega arith) (more (suc k) ends))
 
     -- No tokens stand at the end.
     end-here : (k : ℕ) → length b ≤ k → Here k
@@ -141,13 +141,13 @@ module _ (b : List ℕ) where
 
   -- A token, where those after it are theirs.
   own-spelled : (ts : List Token) → ((k : ℕ) → AreHere ts k → AreTokens ts (drop k b)) → (k j : ℕ) (space : List ℕ) → IsWhitespace space → drop k b ≡ space ++ drop j b
-      → (form : Form) → FormHere form (AreHere ts) j → goes_on form ≡ true → Prefix (IsOwn form) (AreTokens ts) (drop k b)
+      → (form : Form) → FormInPlace form (AreHere ts) j → goes_on form ≡ true → Prefix (IsOwn form) (AreTokens ts) (drop k b)
   own-spelled ts more k j space w e = go
     where
       prefix : (P : List ℕ → Type 0) (end : ℕ) → Owned b j P end → AreHere ts end → Prefix P (AreTokens ts) (drop k b)
       prefix P end o h = record { before = space; inner = o.own; left = drop end b; whole = e ∙ ap (λ us. space ++ us) o.split; space = w; holds = o.holds; more = more end h }
 
-      go : (form : Form) → FormHere form (AreHere ts) j → goes_on form ≡ true → Prefix (IsOwn form) (AreTokens ts) (drop k b)
+      go : (form : Form) → FormInPlace form (AreHere ts) j → goes_on form ≡ true → Prefix (IsOwn form) (AreTokens ts) (drop k b)
       go (string_token (Ok r)) h goes = prefix _ r.1 h.0 h.1
       go (string_token (Err e)) h goes = cc
       go (scalar (Ok r)) h goes = prefix _ r.1 h.0 h.2

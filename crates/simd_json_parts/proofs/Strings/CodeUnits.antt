@@ -25,12 +25,12 @@ pub digit-ascii : (c : ℕ) → is_digit c 16 ≡ true → c < 128
 digit-ascii c e = grind (arith, nat_tests)
 
 -- a content begins with its first byte, if not with the closing quote
-data Prefix (y : ℕ) (bs : List ℕ) : Type 0 where
-  none : bs ≡ [] → Prefix y bs
-  first : (r : List ℕ) → bs ≡ y ∷ r → Prefix y bs
+data FirstByte (y : ℕ) (bs : List ℕ) : Type 0 where
+  none : bs ≡ [] → FirstByte y bs
+  first : (r : List ℕ) → bs ≡ y ∷ r → FirstByte y bs
 
 -- a content is empty or begins with the first byte
-content-prefix : (y : ℕ) (ys : List ℕ) → Prefix y (content (y ∷ ys))
+content-prefix : (y : ℕ) (ys : List ℕ) → FirstByte y (content (y ∷ ys))
 unfolding content_from
 content-prefix y ys =
     elim (cases_Bool (nat_eq y 34)) [
@@ -39,7 +39,7 @@ content-prefix y ys =
     ]
 
 -- after a byte that is no digit there are not so many digits
-no_digits : (n y : ℕ) (bs : List ℕ) → Prefix y bs → is_digit y 16 ≡ false → begins_with_digits (suc n) bs ≡ false
+no_digits : (n y : ℕ) (bs : List ℕ) → FirstByte y bs → is_digit y 16 ≡ false → begins_with_digits (suc n) bs ≡ false
 no_digits n y bs (none e) h = ap (begins_with_digits (suc n)) e
 no_digits n y bs (first r e) h = ap (begins_with_digits (suc n)) e ∙ ap (λ t. t && begins_with_digits n r) h
 
@@ -174,7 +174,7 @@ pub code_unit-anywhere : (zs : List ℕ) → code_unit_at (content zs) ≡ code_
 code_unit-anywhere [] = ap code_unit_at content-nil
 code_unit-anywhere (x ∷ r) = elim (cases_Bool (nat_eq x 92)) [ inl h ↦ subst (λ y. code_unit_at (content (y ∷ r)) ≡ code_unit_at (y ∷ r)) (sym (eqb-true x 92 h)) (backslashed r) | inr h ↦ other (content-prefix x r) h ∙ sym (no_backslash x r h) ]
   where
-    other : Prefix x (content (x ∷ r)) → nat_eq x 92 ≡ false → code_unit_at (content (x ∷ r)) ≡ None
+    other : FirstByte x (content (x ∷ r)) → nat_eq x 92 ≡ false → code_unit_at (content (x ∷ r)) ≡ None
     other (none e) h = ap code_unit_at e
     other (first s e) h = ap code_unit_at e ∙ no_backslash x s h
 

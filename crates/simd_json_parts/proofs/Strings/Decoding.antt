@@ -15,13 +15,13 @@ use Rattle.simd_json_parts.specs.StringDecoded.{IsOpen, IsDecoded, IsLeft}
 use Rattle.simd_json_parts.specs.declared.stringparse.BadEscape.{BadEscape}
 use Rattle.simd_json_parts.proofs.Lists.Drops.{drop-further, drop-byte}
 use Rattle.simd_json_parts.proofs.Strings.Content.{content-dangling, content-escape}
-use Rattle.simd_json_parts.proofs.Strings.Steps.{Passes, plain-passes, Escapes, escape-extent, escape-passes, escape-stops}
+use Rattle.simd_json_parts.proofs.Strings.Steps.{PassesPieces, plain-passes, Escapes, escape-extent, escape-passes, escape-stops}
 
 -- ---- a run of plain bytes
 
 -- the run ends before the closing quote,
 pub run-inside : (bs : List ℕ) (r : ℕ) → r + length (content (drop r bs)) < length bs → r + prefix_len is_plain (drop r bs) < length bs
-run-inside bs r l = let p : Passes (drop r bs) (prefix_len is_plain (drop r bs)) _ = plain-passes (drop r bs) in omega (arith, p.size)
+run-inside bs r l = let p : PassesPieces (drop r bs) (prefix_len is_plain (drop r bs)) _ = plain-passes (drop r bs) in omega (arith, p.size)
 
 -- at a byte that is not plain,
 pub run-stops : (bs : List ℕ) (r s : ℕ) → IsOpen bs r → s ≡ r + prefix_len is_plain (drop r bs) → is_plain (byte_at bs s) ≡ false
@@ -48,7 +48,7 @@ pub decoded-run : (old new : List ℕ) (r w s v : ℕ) → IsOpen old r → w �
 decoded-run old new r w s v goes_on after e f written unread same =
     let n : ℕ = prefix_len is_plain (drop r old) in
     let run : s - r ≡ n = omega arith in
-    let p : Passes (drop r old) n (take n (drop r old)) = plain-passes (drop r old) in
+    let p : PassesPieces (drop r old) n (take n (drop r old)) = plain-passes (drop r old) in
     let rest : drop n (drop r old) ≡ drop s old = drop-drop n r old ∙ ap (λ i. drop i old) (sym e) in
     let boundary : IsCharBoundary (drop r old) n = run-boundary old r goes_on in
     let size : r + length (content (drop r old)) ≡ s + length (content (drop s old)) = omega (arith, p.size, ap (λ us. length (content us)) rest) in
@@ -96,7 +96,7 @@ backslash-fits bs r goes_on here = let b : Backslash (drop r bs) = backslash-at 
 pub escape-fits : (bs string : List ℕ) (r more : ℕ) → IsOpen bs r → byte_at bs r ≡ backslash → escape_at (drop r bs) ≡ Some (string, more) → r + 1 + more < length bs
 escape-fits bs string r more goes_on here e =
     let b : Backslash (drop r bs) = backslash-at bs r goes_on here in
-    let p : Passes (drop r bs) (suc more) string = subst (λ us. Passes us (suc more) string) (sym b.is) (escape-passes b.letter b.rest string more (ap escape_at (sym b.is) ∙ e)) in
+    let p : PassesPieces (drop r bs) (suc more) string = subst (λ us. PassesPieces us (suc more) string) (sym b.is) (escape-passes b.letter b.rest string more (ap escape_at (sym b.is) ∙ e)) in
     omega (arith, p.size, goes_on.closed)
 
 -- An escape whose character is written is read and written.
@@ -107,7 +107,7 @@ decoded-escape old new r w v c more goes_on here after utf8 e shorter f written 
     let b : Backslash (drop r old) = backslash-at old r goes_on here in
     let gives : escape_at (92 ∷ b.letter ∷ b.rest) ≡ Some (encode_utf8 c, more) = ap escape_at (sym b.is) ∙ e in
     let x : Escapes (drop r old) more = subst (λ us. Escapes us more) (sym b.is) (escape-extent b.letter b.rest (encode_utf8 c, more) gives) in
-    let p : Passes (drop r old) (suc more) (encode_utf8 c) = subst (λ us. Passes us (suc more) (encode_utf8 c)) (sym b.is) (escape-passes b.letter b.rest (encode_utf8 c) more gives) in
+    let p : PassesPieces (drop r old) (suc more) (encode_utf8 c) = subst (λ us. PassesPieces us (suc more) (encode_utf8 c)) (sym b.is) (escape-passes b.letter b.rest (encode_utf8 c) more gives) in
     let end : r + suc more ≡ r + 1 + more = omega arith in
     let rest : drop (suc more) (drop r old) ≡ drop (r + 1 + more) old = drop-drop (suc more) r old ∙ ap (λ i. drop i old) end in
     let next : more + 1 ≡ suc more = omega arith in

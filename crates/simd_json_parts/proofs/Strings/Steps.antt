@@ -14,7 +14,7 @@ use Rattle.simd_json_parts.proofs.Strings.Content.{content-byte, content-escape}
 use Rattle.simd_json_parts.proofs.Strings.CodeUnits.{FourDigits, code_unit-some, code_unit-content, code_unit-anywhere, code_unit-begins, digit-ascii}
 
 -- the first n bytes are a piece, or pieces, that give the string
-pub record Passes (bs : List ℕ) (n : ℕ) (string : List ℕ) : Type 0 where
+pub record PassesPieces (bs : List ℕ) (n : ℕ) (string : List ℕ) : Type 0 where
   pub size : length (content bs) ≡ n + length (content (drop n bs))
   pub read : read_pieces 0 (content bs) ≡ with_prefix string (read_pieces 0 (content (drop n bs)))
 
@@ -27,7 +27,7 @@ neither false true e = absurd (false≢true e)
 neither false false e = (refl, refl)
 
 -- a plain byte in front of what passes
-plain-byte : (x : ℕ) (xs : List ℕ) (n : ℕ) (string : List ℕ) → is_plain x ≡ true → Passes xs n string → Passes (x ∷ xs) (suc n) (x ∷ string)
+plain-byte : (x : ℕ) (xs : List ℕ) (n : ℕ) (string : List ℕ) → is_plain x ≡ true → PassesPieces xs n string → PassesPieces (x ∷ xs) (suc n) (x ∷ string)
 plain-byte x xs n string e more =
     let stops : (nat_eq x 34 ≡ false) × (nat_eq x 92 ≡ false) = neither (nat_eq x 34) (nat_eq x 92) e in
     let prefix : content (x ∷ xs) ≡ x ∷ content xs = content-byte x xs stops.0 stops.1 in
@@ -37,25 +37,25 @@ plain-byte x xs n string e more =
     }
 
 -- nothing passes as nothing
-no-bytes : (bs : List ℕ) → Passes bs 0 []
+no-bytes : (bs : List ℕ) → PassesPieces bs 0 []
 no-bytes bs = record { size = omega arith; read = refl }
 
 -- a run of plain bytes, whose length is named
-plain-run : (bs : List ℕ) (n : ℕ) → prefix_len is_plain bs ≡ n → Passes bs n (take n bs)
-plain-run [] n e = subst (λ k. Passes [] k (take k [])) e (no-bytes [])
+plain-run : (bs : List ℕ) (n : ℕ) → prefix_len is_plain bs ≡ n → PassesPieces bs n (take n bs)
+plain-run [] n e = subst (λ k. PassesPieces [] k (take k [])) e (no-bytes [])
 plain-run (x ∷ xs) n e =
     elim (cases_Bool (is_plain x)) [
       | inl h ↦
           let m : ℕ = prefix_len is_plain xs in
           let size : suc m ≡ n = omega (arith, sym (cond-true (is_plain x) (1 + m) 0 h) ∙ e) in
-          subst (λ k. Passes (x ∷ xs) k (take k (x ∷ xs))) size (plain-byte x xs m (take m xs) h (plain-run xs m refl))
+          subst (λ k. PassesPieces (x ∷ xs) k (take k (x ∷ xs))) size (plain-byte x xs m (take m xs) h (plain-run xs m refl))
       | inr h ↦
           let size : 0 ≡ n = sym (cond-false (is_plain x) (1 + prefix_len is_plain xs) 0 h) ∙ e in
-          subst (λ k. Passes (x ∷ xs) k (take k (x ∷ xs))) size (no-bytes (x ∷ xs))
+          subst (λ k. PassesPieces (x ∷ xs) k (take k (x ∷ xs))) size (no-bytes (x ∷ xs))
     ]
 
 -- A run of plain bytes stands for itself.
-pub plain-passes : (bs : List ℕ) → Passes bs (prefix_len is_plain bs) (take (prefix_len is_plain bs) bs)
+pub plain-passes : (bs : List ℕ) → PassesPieces bs (prefix_len is_plain bs) (take (prefix_len is_plain bs) bs)
 plain-passes bs = plain-run bs (prefix_len is_plain bs) refl
 
 -- ---- the extent of an escape
@@ -190,7 +190,7 @@ unfolding read_pieces piece_at
 read-backslash bs o e = ap (λ q. with_piece q (92 ∷ bs) (λ n. read_pieces n bs)) e
 
 -- An escape gives its character,
-pub escape-passes : (letter : ℕ) (ys string : List ℕ) (more : ℕ) → escape_at (92 ∷ letter ∷ ys) ≡ Some (string, more) → Passes (92 ∷ letter ∷ ys) (suc more) string
+pub escape-passes : (letter : ℕ) (ys string : List ℕ) (more : ℕ) → escape_at (92 ∷ letter ∷ ys) ≡ Some (string, more) → PassesPieces (92 ∷ letter ∷ ys) (suc more) string
 escape-passes letter ys string more e =
     let x : Escapes (92 ∷ letter ∷ ys) more = escape-extent letter ys (string, more) e in
     let prefix : List ℕ = take more (letter ∷ ys) in

@@ -1,7 +1,7 @@
 //! The blocks ahead that hold a backslash.
 ghost use Rattle.std.specs.Prelude.{◌≡◌, ◌≤◌, ◌<◌, ◌+◌, ◌*◌, ◌^◌, ℕ, List, length, slice_index, IsFalse};
 ghost use Rattle.simd_json_stages.specs.EscapeBlocks.{backslash_blocks};
-ghost use Rattle.simd_json_stages.specs.EscapesAhead.{AreAhead, PlainFrom};
+ghost use Rattle.simd_json_stages.specs.EscapesAhead.{AreAhead, ArePassed, PlainFrom};
 
 use crate::stage1::BLOCK_LEN;
 
@@ -35,30 +35,32 @@ impl<'a> Escapes<'a> {
         if end <= self.mark {
             return false;
         }
-        *self = self.passed(at);
+        if self.mark.saturating_add(BLOCK_LEN) > at {
+            return true;
+        }
+        self.next = passed(self.blocks, self.next, at);
+        self.mark = mark(self.blocks, self.next);
         self.mark < end
-    }
-
-    // Without the blocks that lie before an index.
-    #[inline(never)]
-    fn passed(self, at: usize) -> Escapes<'a>
-        ghost b: { List ℕ }
-        requires { AreAhead b self at }
-        ensures { AreAhead b result at }
-    {
-        let mut next = self.next;
-        while next < self.blocks.len() && self.blocks[next] as usize * BLOCK_LEN + BLOCK_LEN <= at {
-            next += 1;
-        }
-        Escapes {
-            blocks: self.blocks,
-            next,
-            mark: mark(self.blocks, next),
-        }
     }
 }
 
+// The number of the first block, from this one on, that does not lie before an index. It is out of line, and takes numbers
+// alone, since whatever is lent to such a call stays in memory.
+#[inline(never)]
+fn passed(blocks: &[u32], next: usize, at: usize) -> usize
+    ghost b: { List ℕ }
+    requires { ArePassed b blocks.now next at }
+    ensures { ArePassed b blocks.now result at }
+{
+    let mut next = next;
+    while next < blocks.len() && blocks[next] as usize * BLOCK_LEN + BLOCK_LEN <= at {
+        next += 1;
+    }
+    next
+}
+
 // Where the block of this number in the list begins, or past every input where there is none.
+#[inline(always)]
 fn mark(blocks: &[u32], next: usize) -> usize
     ensures { next < length blocks.now → result ≡ 64 * slice_index blocks.now next }
 {

@@ -9,9 +9,12 @@ ghost use Rattle.simd_json_stages.specs.Refusals.{refused_kind, number_refusal, 
 ghost use Rattle.simd_json_stages.specs.ScalarRead.{IsScalarAt};
 
 use crate::stage2::fault::{Fault, FaultKind};
-use simd_json_parts::charutils::is_structural_or_whitespace;
+use simd_json_parts::charutils::{byte_or_space, is_structural_or_whitespace};
 use simd_json_parts::node::StaticNode;
 use simd_json_parts::numberparse::{Number, is_integer, parse_number};
+
+#[cfg(test)]
+mod tests;
 
 // A scalar that is no string: a node, the length of a decimal's literal, how far after its first byte a number is
 // refused, or no value of these kinds.
@@ -125,13 +128,6 @@ fn invalid_number(rest: &[u8], at: usize, offset: usize) -> Fault
     }
 }
 
-// Past the end every byte reads as a space.
-fn byte_or_space(bytes: &[u8], i: usize) -> u8
-    ensures { result ≡ byte_at bytes.now i }
-{
-    if i < bytes.len() { bytes[i] } else { b' ' }
-}
-
 // Whether a number may begin with the byte.
 #[inline(always)]
 fn begins_number(c: u8) -> bool
@@ -146,7 +142,7 @@ fn read_number(rest: &[u8]) -> Scalar
     ensures { (b : List ℕ) (i : ℕ) → drop i b ≡ rest.now → form_at b i ≡ scalar (number_at b i) → IsScalarAt b i result }
 {
     match parse_number(rest) {
-        Number::Integer(node) => Scalar::Value(node),
+        Number::Integer(node, _) => Scalar::Value(node),
         Number::Decimal(len) => Scalar::Decimal(len),
         Number::Invalid(offset) => Scalar::Invalid(offset),
     }

@@ -2,8 +2,9 @@
 ghost use Rattle.std.specs.Prelude.{◌≡◌, ◌≢◌, ◌≤◌, ◌<◌, ◌+◌, ◌-◌, ◌^◌, ℕ, List, length, take, drop, MatchResult, Ok, Err, IsUtf8};
 ghost use Rattle.simd_json_parts.specs.Bytes.{quote, backslash, byte_at};
 ghost use Rattle.simd_json_parts.specs.StringAt.{closing_quote, string_at, escape_fault};
+ghost use Rattle.simd_json_parts.specs.StringRead.{IsStringAt};
 
-use simd_json_parts::stringparse::{BadEscape, parse_str, share_str};
+use simd_json_parts::stringparse::{BadEscape, ParsedString, parse_str, share_str};
 use std::marker::Model;
 
 // All from some index on, lent for writing. Bytes are looked at by their index in the input; they are split off where
@@ -105,7 +106,7 @@ impl<'de> Unread<'de> {
     }
 
     // The string whose opening quote has index i, or its first invalid escape.
-    #[inline(never)]
+    #[inline(always)]
     pub(crate) fn parse_string(&mut self, i: usize) -> Result<&'de str, BadEscape>
         requires bounds { (self.old.at ≤ i) × (i ≤ self.old.at + length self.old.bytes) }
         requires opening { byte_at (drop (i - self.old.at) self.old.bytes) 0 ≡ quote }
@@ -116,9 +117,20 @@ impl<'de> Unread<'de> {
             (λ bad. string_at b i ≡ Err (escape_fault (i + bad.offset) bad.letter)) }
     {
         let _ = self.split(i);
-        let string = parse_str(std::mem::take(&mut self.rest))?;
+        let string = decode(std::mem::take(&mut self.rest))?;
         self.at += string.len;
         self.rest = string.rest;
         Ok(string.string)
     }
+}
+
+// `parse_str`, out of line. It takes the bytes alone, since whatever is lent to such a call stays in memory.
+#[inline(never)]
+fn decode<'de>(unread: &'de mut [u8]) -> Result<ParsedString<'de>, BadEscape>
+    requires opening { byte_at unread.old 0 ≡ quote }
+    requires closing { closing_quote unread.old 0 < length unread.old }
+    requires utf8 { IsUtf8 unread.old }
+    ensures { (b : List ℕ) (i : ℕ) → drop i b ≡ unread.old → IsStringAt b i result }
+{
+    parse_str(unread)
 }

@@ -1,6 +1,6 @@
 use Rattle.std.proofs.Common.{◌≡◌, ◌++◌, take, map}
 use Rattle.simd_json_parts.specs.Nodes.{item_of}
-use Rattle.jtape.specs.Output.{lines}
+use Rattle.jtape.specs.Lines.{lines}
 use Rattle.jtape.proofs.lines.append_lines.Given as goal
 
 abbrev pub invariant-loop-node : goal.invariant-loop-node

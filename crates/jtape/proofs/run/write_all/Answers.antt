@@ -28,4 +28,4 @@ loop-done-preserved g c =
 pub returns-clause-all : goal.returns-clause-all
 returns-clause-all g c =
     let done : c.loop-done.done ≡ length c.args.bytes.now = omega arith in
-    (subst (Appends (g.W.Write.contents c.args.writer.now.inner) (g.W.Write.contents c.loop-done.writer.inner)) (ap (λ n. take n c.args.bytes.now) done ∙ take-length c.args.bytes.now) c.loop-done.invariant.written, c.loop-done.invariant.sound)
+    (c.loop-done.invariant.sound, subst (Appends (g.W.Write.contents c.args.writer.now.inner) (g.W.Write.contents c.loop-done.writer.inner)) (ap (λ n. take n c.args.bytes.now) done ∙ take-length c.args.bytes.now) c.loop-done.invariant.written)

@@ -1,18 +1,11 @@
 use Rattle.std.proofs.Common.{◌∙◌, ap, sym, subst, arith, take, length, inl, map}
+use Rattle.simd_json_parts.proofs.Faults.Kinds.{token-fault}
 use Rattle.simd_json_parts.specs.Nodes.{item_of}
 use Rattle.simd_json.specs.Parsed.{IsParsed, IsRefused}
+use Rattle.simd_json.proofs.ParseEnds.{parsed-some}
 use Rattle.simd_json.proofs.ParseLaws.{written-over, tape-unused, tape-filled, parsed, tape-parsed, refused-token}
 use Rattle.simd_json.proofs.parse.build.Goals as goal
-use Rattle.simd_json_stages.proofs.WholeFaults.{some-positions}
 use Rattle.simd_json_stages.proofs.Exits.{passed-on}
-
-pub build_tape-requires-clause-some : goal.build_tape-requires-clause-some
-build_tape-requires-clause-some g c =
-    omega (
-      arith,
-      some-positions c.args.s.now c.requires.positions.1,
-      ap length (ap (take c.buffers.inside.used) c.deref.ensures.value ∙ ap (λ r. r.positions) c.buffers.view_is ∙ c.requires.positions.0),
-    )
 
 pub invariant_of-tape : goal.invariant_of-tape
 invariant_of-tape g c =
@@ -24,10 +17,10 @@ invariant_of-tape g c =
 
 pub returns-in_err-tape-inside-clause-fault : goal.returns-in_err-tape-inside-clause-fault
 returns-in_err-tape-inside-clause-fault g c =
+    let refused = c.in_err-tape-inside.ensures.refused.1 in
     passed-on c.from_residual.result _ _ c.from_residual.ensures.1 (
-      subst (λ limit. IsRefused c.args.s.now limit c.in_err-tape-inside.field-0.0) (ap (λ r. r.limit) c.buffers.view_is)
-          (refused-token c.args.s.now c.buffers.inside.max_depth _ c.requires.positions.1 c.in_err-tape-inside.ensures.refused.0 c.in_err-tape-inside.ensures.refused.1),
-      c.in_err-tape-inside.ensures.refused.0,
+      subst (λ limit. IsRefused c.args.s.now limit c.in_err-tape-inside.field-0.0) (ap (λ r. r.limit) c.buffers.view_is) (refused-token c.args.s.now c.buffers.inside.max_depth _ c.requires.positions.1 refused),
+      token-fault c.args.s.now c.buffers.inside.max_depth _ refused,
     )
 
 pub invariant_of-tape-2 : goal.invariant_of-tape-2
@@ -44,3 +37,10 @@ returns-clause-tape g c =
     subst (λ nodes. IsParsed c.args.s.now c.args.buffers.now.limit (map item_of (take c.in_ok-tape-inside.field-0 nodes))) (sym (written-over list.items c.build_tape.new.nodes list.len list.ok.0 same))
     (subst (λ limit. IsParsed c.args.s.now limit (map item_of (take c.in_ok-tape-inside.field-0 c.build_tape.new.nodes))) (ap (λ r. r.limit) c.buffers.view_is)
     (parsed c.args.s.now c.buffers.inside.max_depth _ c.requires.positions.1 c.in_ok-tape-inside.ensures.built))
+
+pub returns-clause-some : goal.returns-clause-some
+returns-clause-some g c none =
+    let list = c.tape.inside.list in
+    let same = c.in_ok-tape-inside.ensures.kept ∙ ap length c.as_mut_slice-2.ensures.value in
+    parsed-some c.args.s.now c.buffers.inside.max_depth _ (parsed c.args.s.now c.buffers.inside.max_depth _ c.requires.positions.1 c.in_ok-tape-inside.ensures.built)
+    (sym (ap (λ nodes. map item_of (take c.in_ok-tape-inside.field-0 nodes)) (written-over list.items c.build_tape.new.nodes list.len list.ok.0 same)) ∙ none)

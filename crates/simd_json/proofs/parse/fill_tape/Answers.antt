@@ -1,6 +1,6 @@
 use Rattle.std.proofs.Common.{◌∙◌, ◌<◌, ap, length, subst}
 use Rattle.std.specs.Result.{IfErr, OnOk}
-use Rattle.simd_json_stages.specs.Refusals.{IsTokenFault}
+use Rattle.simd_json_parts.specs.FaultKinds.{IsOfToken}
 use Rattle.simd_json.specs.Parsed.{IsParsed, IsRefused}
 use Rattle.simd_json.specs.Rooms.{room}
 use Rattle.simd_json.proofs.ParseEnds.{parse-built, parse-short, parse-unlisted}
@@ -28,5 +28,5 @@ returns-clause-parse g c =
     (subst (λ l. OnOk c.build.result (IsParsed c.args.s.now l c.build.new.tape.nodes)) found.limit c.build.ensures.tape)
     c.build.ensures.few
     c.build.ensures.empty
-    (subst (λ l. IfErr c.build.result (λ e. IsRefused c.args.s.now l e × IsTokenFault e)) found.limit c.build.ensures.fault)
+    (subst (λ l. IfErr c.build.result (λ e. IsRefused c.args.s.now l e × IsOfToken e)) found.limit c.build.ensures.fault)
     (ap (λ r. r.positions) c.build.ensures.kept ∙ found.found.0)

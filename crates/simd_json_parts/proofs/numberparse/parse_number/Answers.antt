@@ -1,52 +1,93 @@
 use Rattle.std.proofs.Common.{◌≡◌, sym, ap, ◌∙◌, drop, Ok, true, false, arith}
+use Rattle.std.proofs.lemmas.Bool.Decides.{nat_tests}
+use Rattle.std.proofs.lemmas.List.{get_or_default}
 use Rattle.simd_json_parts.specs.Bytes.{byte_at, is_terminator}
 use Rattle.simd_json_parts.specs.Numbers.{number_literal}
-use Rattle.simd_json_parts.proofs.Numbers.Prefixes.{Reads, Reads-part, Leads-Reads}
-use Rattle.simd_json_parts.proofs.Numbers.Steps.{SignEnd, IsWhole, int-whole, int-none}
+use Rattle.simd_json_parts.proofs.Numbers.Prefixes.{Reads}
+use Rattle.simd_json_parts.proofs.Numbers.Steps.{SignEnd, IsWhole}
 use Rattle.simd_json_parts.proofs.Numbers.Reader.{number_at-part, number_at-after, number_at-longer, integer-literal, read-split, read-after}
+use Rattle.simd_json_parts.proofs.Numbers.Looks.{run-whole, IsFraction, seen-number, seen-end, seen-longer}
 use Rattle.simd_json_parts.proofs.numberparse.parse_number.Goals as goal
-
-pub returns-then-whole-start : goal.returns-then-whole-start
-returns-then-whole-start c b i e =
-    let sign : SignEnd c.args.bytes.now c.if-byte_or_space-eq45.start = grind arith in
-    rw (← c.if-whole-start.true)
-    (number_at-part b i c.args.bytes.now e c.int_end-whole.result (Reads-part _ _ _ _ (int-none _ _ _ sign c.int_end-whole.ensures.value c.if-whole-start.true)))
 
 pub integer-requires : goal.integer-requires
 integer-requires c =
-    let sign : SignEnd c.args.bytes.now c.if-byte_or_space-eq45.start = grind arith in
-    let whole : IsWhole c.args.bytes.now c.int_end-whole.result = int-whole _ _ _ sign c.int_end-whole.ensures.value c.if-whole-start.false in
-    rw c.if-end-whole.true (integer-literal _ _ whole)
+    let l = c.args.bytes.now in
+    let first = get_or_default l 0 32 0 (omega arith) in
+    let sign : SignEnd l c.if-bytes-eq45.start = grind (arith, first) in
+    let run = c.run_end-whole.ensures l (omega arith) c.non_digits-stops.ensures (omega arith) in
+    let digit = get_or_default l c.if-bytes-eq45.start 32 0 (omega arith) in
+    let whole : IsWhole l c.run_end-whole.result = run-whole l _ _ sign run c.if-whole-start.false (λ e. grind (arith, e, digit, nat_tests)) in
+    rw c.if-end-whole-2.true (integer-literal _ _ whole)
+
+pub returns-then-end-whole-2 : goal.returns-then-end-whole-2
+returns-then-end-whole-2 c b i e =
+    let l = c.args.bytes.now in
+    let first = get_or_default l 0 32 0 (omega arith) in
+    let sign : SignEnd l c.if-bytes-eq45.start = grind (arith, first) in
+    let run = c.run_end-whole.ensures l (omega arith) c.non_digits-stops.ensures (omega arith) in
+    let digit = get_or_default l c.if-bytes-eq45.start 32 0 (omega arith) in
+    let whole : IsWhole l c.run_end-whole.result = run-whole l _ _ sign run c.if-whole-start.false (λ e. grind (arith, e, digit, nat_tests)) in
+    let point = get_or_default l c.run_end-whole.result 32 0 (omega arith) in
+    let fraction : IsFraction l c.run_end-whole.result c.if-bytes-whole-eq46.end = grind (arith, point, c.non_digits-stops.ensures) in
+    let after : is_terminator (byte_at l c.if-bytes-whole-eq46.end) ≡ true =
+    ap is_terminator (get_or_default l c.if-bytes-whole-eq46.end 32 0 (omega arith)) ∙ sym c.is_structural_or_whitespace.ensures ∙ c.if-is_structural_or_whitespace.true in
+    let reads : Reads number_literal l 0 (Ok c.if-bytes-whole-eq46.end) = seen-end l _ _ whole fraction (omega arith) after in
+    c.integer.ensures b i (drop c.if-bytes-whole-eq46.end l) (read-split b i l e _ reads) (read-after b i l e _ reads after)
+
+pub returns-else-end-whole-2 : goal.returns-else-end-whole-2
+returns-else-end-whole-2 c b i e =
+    let l = c.args.bytes.now in
+    let first = get_or_default l 0 32 0 (omega arith) in
+    let sign : SignEnd l c.if-bytes-eq45.start = grind (arith, first) in
+    let run = c.run_end-whole.ensures l (omega arith) c.non_digits-stops.ensures (omega arith) in
+    let digit = get_or_default l c.if-bytes-eq45.start 32 0 (omega arith) in
+    let whole : IsWhole l c.run_end-whole.result = run-whole l _ _ sign run c.if-whole-start.false (λ e. grind (arith, e, digit, nat_tests)) in
+    let point = get_or_default l c.run_end-whole.result 32 0 (omega arith) in
+    let fraction : IsFraction l c.run_end-whole.result c.if-bytes-whole-eq46.end = grind (arith, point, c.non_digits-stops.ensures) in
+    let after : is_terminator (byte_at l c.if-bytes-whole-eq46.end) ≡ true =
+    ap is_terminator (get_or_default l c.if-bytes-whole-eq46.end 32 0 (omega arith)) ∙ sym c.is_structural_or_whitespace.ensures ∙ c.if-is_structural_or_whitespace.true in
+    let reads : Reads number_literal l 0 (Ok c.if-bytes-whole-eq46.end) = seen-end l _ _ whole fraction (omega arith) after in
+    number_at-longer b i l e _ reads _ whole c.if-end-whole-2.false after
 
 pub returns-in-Err : goal.returns-in-Err
 returns-in-Err c b i e =
-    let sign : SignEnd c.args.bytes.now c.if-byte_or_space-eq45.start = grind arith in
-    let whole : IsWhole c.args.bytes.now c.int_end-whole.result = int-whole _ _ _ sign c.int_end-whole.ensures.value c.if-whole-start.false in
-    number_at-part b i c.args.bytes.now e c.in-Err.offset (Leads-Reads _ _ _ _ _ _ whole.number c.in-Err.ensures)
+    let l = c.args.bytes.now in
+    let first = get_or_default l 0 32 0 (omega arith) in
+    let sign : SignEnd l c.if-bytes-eq45.start = grind (arith, first) in
+    let run = c.run_end-whole.ensures l (omega arith) c.non_digits-stops.ensures (omega arith) in
+    let digit = get_or_default l c.if-bytes-eq45.start 32 0 (omega arith) in
+    let whole : IsWhole l c.run_end-whole.result = run-whole l _ _ sign run c.if-whole-start.false (λ e. grind (arith, e, digit, nat_tests)) in
+    let point = get_or_default l c.run_end-whole.result 32 0 (omega arith) in
+    let fraction : IsFraction l c.run_end-whole.result c.if-bytes-whole-eq46.end = grind (arith, point, c.non_digits-stops.ensures) in
+    number_at-part b i l e _ (seen-number l _ _ whole fraction _ c.in-Err.ensures)
 
-pub returns-then-not-is_structural_or_whitespace : goal.returns-then-not-is_structural_or_whitespace
-returns-then-not-is_structural_or_whitespace c b i e =
-    let sign : SignEnd c.args.bytes.now c.if-byte_or_space-eq45.start = grind arith in
-    let whole : IsWhole c.args.bytes.now c.int_end-whole.result = int-whole _ _ _ sign c.int_end-whole.ensures.value c.if-whole-start.false in
-    let reads : Reads number_literal c.args.bytes.now 0 (Ok c.in-Ok.end) = Leads-Reads _ _ _ _ _ _ whole.number c.in-Ok.ensures in
-    let other : is_terminator (byte_at c.args.bytes.now c.in-Ok.end) ≡ false =
-    sym (ap is_terminator c.byte_or_space-in-Ok.ensures) ∙ sym c.is_structural_or_whitespace.ensures ∙ c.if-not-is_structural_or_whitespace.true in
-    number_at-after b i c.args.bytes.now e c.in-Ok.end reads other
+pub returns-in-Ok : goal.returns-in-Ok
+returns-in-Ok c b i e =
+    let l = c.args.bytes.now in
+    let first = get_or_default l 0 32 0 (omega arith) in
+    let sign : SignEnd l c.if-bytes-eq45.start = grind (arith, first) in
+    let run = c.run_end-whole.ensures l (omega arith) c.non_digits-stops.ensures (omega arith) in
+    let digit = get_or_default l c.if-bytes-eq45.start 32 0 (omega arith) in
+    let whole : IsWhole l c.run_end-whole.result = run-whole l _ _ sign run c.if-whole-start.false (λ e. grind (arith, e, digit, nat_tests)) in
+    let point = get_or_default l c.run_end-whole.result 32 0 (omega arith) in
+    let fraction : IsFraction l c.run_end-whole.result c.if-bytes-whole-eq46.end = grind (arith, point, c.non_digits-stops.ensures) in
+    let reads : Reads number_literal l 0 (Ok c.in-Ok.end) = seen-number l _ _ whole fraction _ c.in-Ok.ensures in
+    let other : is_terminator (byte_at l c.if-bytes-whole-eq46.end) ≡ false =
+    ap is_terminator (get_or_default l c.if-bytes-whole-eq46.end 32 0 (omega arith)) ∙ sym c.is_structural_or_whitespace.ensures ∙ c.if-is_structural_or_whitespace.false in
+    let after : is_terminator (byte_at l c.in-Ok.end) ≡ true = sym (ap is_terminator c.byte_or_space.ensures) ∙ sym c.if-is_structural_or_whitespace-2.ensures in
+    number_at-longer b i l e _ reads _ whole (seen-longer l _ _ whole fraction _ c.in-Ok.ensures other after) after
 
-pub returns-then-end-whole : goal.returns-then-end-whole
-returns-then-end-whole c b i e =
-    let sign : SignEnd c.args.bytes.now c.if-byte_or_space-eq45.start = grind arith in
-    let whole : IsWhole c.args.bytes.now c.int_end-whole.result = int-whole _ _ _ sign c.int_end-whole.ensures.value c.if-whole-start.false in
-    let reads : Reads number_literal c.args.bytes.now 0 (Ok c.in-Ok.end) = Leads-Reads _ _ _ _ _ _ whole.number c.in-Ok.ensures in
-    let ends : is_terminator (byte_at c.args.bytes.now c.in-Ok.end) ≡ true =
-    sym (ap is_terminator c.byte_or_space-in-Ok.ensures) ∙ sym c.is_structural_or_whitespace.ensures ∙ c.if-not-is_structural_or_whitespace.false in
-    c.integer.ensures b i (drop c.in-Ok.end c.args.bytes.now) (read-split b i c.args.bytes.now e c.in-Ok.end reads) (read-after b i c.args.bytes.now e c.in-Ok.end reads ends)
-
-pub returns-else-end-whole : goal.returns-else-end-whole
-returns-else-end-whole c b i e =
-    let sign : SignEnd c.args.bytes.now c.if-byte_or_space-eq45.start = grind arith in
-    let whole : IsWhole c.args.bytes.now c.int_end-whole.result = int-whole _ _ _ sign c.int_end-whole.ensures.value c.if-whole-start.false in
-    let reads : Reads number_literal c.args.bytes.now 0 (Ok c.in-Ok.end) = Leads-Reads _ _ _ _ _ _ whole.number c.in-Ok.ensures in
-    let ends : is_terminator (byte_at c.args.bytes.now c.in-Ok.end) ≡ true =
-    sym (ap is_terminator c.byte_or_space-in-Ok.ensures) ∙ sym c.is_structural_or_whitespace.ensures ∙ c.if-not-is_structural_or_whitespace.false in
-    number_at-longer b i c.args.bytes.now e c.in-Ok.end reads c.int_end-whole.result whole c.if-end-whole.false ends
+pub returns-in-Ok-2 : goal.returns-in-Ok-2
+returns-in-Ok-2 c b i e =
+    let l = c.args.bytes.now in
+    let first = get_or_default l 0 32 0 (omega arith) in
+    let sign : SignEnd l c.if-bytes-eq45.start = grind (arith, first) in
+    let run = c.run_end-whole.ensures l (omega arith) c.non_digits-stops.ensures (omega arith) in
+    let digit = get_or_default l c.if-bytes-eq45.start 32 0 (omega arith) in
+    let whole : IsWhole l c.run_end-whole.result = run-whole l _ _ sign run c.if-whole-start.false (λ e. grind (arith, e, digit, nat_tests)) in
+    let point = get_or_default l c.run_end-whole.result 32 0 (omega arith) in
+    let fraction : IsFraction l c.run_end-whole.result c.if-bytes-whole-eq46.end = grind (arith, point, c.non_digits-stops.ensures) in
+    let reads : Reads number_literal l 0 (Ok c.in-Ok.end) = seen-number l _ _ whole fraction _ c.in-Ok.ensures in
+    let other : is_terminator (byte_at l c.in-Ok.end) ≡ false =
+    sym (ap is_terminator c.byte_or_space.ensures) ∙ sym c.if-is_structural_or_whitespace-2.ensures in
+    number_at-after b i l e _ reads other

@@ -3,6 +3,9 @@ use Rattle.simd_json_stages.specs.Building.{AfterValue}
 use Rattle.simd_json_stages.specs.Progresses.{IsAfter}
 use Rattle.simd_json_stages.proofs.stage2.follow.Given as goal
 
+abbrev pub ghost-after_member : goal.ghost-after_member
+ghost-after_member g a = g.b
+
 abbrev pub invariant-loop-p : goal.invariant-loop-p
 invariant-loop-p g l = record {
   progress : IsAfter g.b l.indexes l.unread l.p;

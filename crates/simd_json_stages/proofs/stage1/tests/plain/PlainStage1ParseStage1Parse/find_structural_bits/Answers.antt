@@ -1,4 +1,4 @@
-use Rattle.std.proofs.Common.{◌≡◌, ◌≢◌, ◌∙◌, ap, sym, Some, None, length, take, inl, inr, true, false, ◌==◌, eq-eqb, refl, arith}
+use Rattle.std.proofs.Common.{◌≡◌, ◌≢◌, ◌∙◌, ap, sym, Some, length, inl, eq-eqb, refl, arith}
 use Rattle.std.proofs.lemmas.Bool.{false≢true, ne_eqb}
 use Rattle.std.proofs.lemmas.List.{length-take-le}
 use Rattle.simd_json_parts.proofs.Positions.ScannedInputs.{too_large, bad_encoding}

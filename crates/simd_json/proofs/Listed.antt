@@ -1,0 +1,196 @@
+-- A listing read backwards is its document.
+use Rattle.std.proofs.Common.{◌≡◌, ◌≢◌, ◌∙◌, ap, sym, refl, ◌<◌, ◌≤◌, ◌+◌, ℕ, zero, suc, pos, neg_ℤ, true, false, List, [], ◌∷◌, ◌++◌, length, length-append, get_or, map, take, drop, append_assoc, arith, inl, inr}
+use Rattle.std.proofs.Math.Seq.{take-append_seam, drop-append_seam}
+use Rattle.std.proofs.lemmas.List.{append-nil, length-map, take-map, drop-map}
+use Rattle.simd_json_parts.proofs.Documents.Listing.{IsHeaded-document}
+use Rattle.simd_json_parts.specs.Document.{Document, null, boolean, integer, decimal, string, array, object, Elements, no_elements, element, elements, Members, no_members, member, members}
+use Rattle.simd_json_parts.specs.Listing.{listing, elements_listing, members_listing, IsTape, member_count}
+use Rattle.simd_json_parts.specs.Nodes.{Item, array_item, object_item, item_of, count_of, len_of}
+use Rattle.simd_json_parts.specs.declared.node.Node.{Node}
+use Rattle.simd_json_parts.specs.declared.node.Node.TheVariants as nodes
+use Rattle.simd_json.specs.Documents.{magnitude_below, first, front, others, in_pairs, front_pairs, other_pairs, elements_of, document_of, members_of, IsListing, AreElements, AreMembers}
+
+magnitude-below : (n : ℕ) → magnitude_below (neg_ℤ (pos n)) ≡ n
+magnitude-below zero = refl
+magnitude-below (suc n) = refl
+
+-- ---- documents in a row
+
+abbrev joined : Elements → Elements → Elements
+joined no_elements es = es
+joined (element d ds) es = element d (joined ds es)
+
+-- pairs as the documents that their nodes list
+abbrev flat : Members → Elements → Elements
+flat no_members es = es
+flat (member k d ms) es = element (string k) (element d (flat ms es))
+
+joined-none : (ds : Elements) → joined ds no_elements ≡ ds
+joined-none no_elements = refl
+joined-none (element d ds) = ap (element d) (joined-none ds)
+
+front-joined : (ds es : Elements) → front (length (elements ds)) (joined ds es) ≡ ds
+front-joined no_elements es = refl
+front-joined (element d ds) es = ap (element d) (front-joined ds es)
+
+others-joined : (ds es : Elements) → others (length (elements ds)) (joined ds es) ≡ es
+others-joined no_elements es = refl
+others-joined (element d ds) es = others-joined ds es
+
+front-flat : (ms : Members) (es : Elements) → front_pairs (length (members ms)) (flat ms es) ≡ ms
+front-flat no_members es = refl
+front-flat (member k d ms) es = ap (member k d) (front-flat ms es)
+
+others-flat : (ms : Members) (es : Elements) → other_pairs (length (members ms)) (flat ms es) ≡ es
+others-flat no_members es = refl
+others-flat (member k d ms) es = others-flat ms es
+
+in_pairs-flat : (ms : Members) → in_pairs (flat ms no_elements) ≡ ms
+in_pairs-flat no_members = refl
+in_pairs-flat (member k d ms) = ap (member k d) (in_pairs-flat ms)
+
+-- ---- listings
+
+mutual
+  pub elements_of-listing : (d : Document) (ns : List Item) → elements_of (listing d ++ ns) ≡ element d (elements_of ns)
+  elements_of-listing null ns = refl
+  elements_of-listing (boolean b) ns = refl
+  elements_of-listing (integer true n) ns = ap (λ m. element (integer true m) (elements_of ns)) (magnitude-below n)
+  elements_of-listing (integer false n) ns = refl
+  elements_of-listing (decimal literal) ns = refl
+  elements_of-listing (string t) ns = refl
+  elements_of-listing (array ds) ns =
+      let e = elements_of-elements ds ns in
+      rw (e, front-joined, others-joined)
+  elements_of-listing (object ms) ns =
+      let e = elements_of-members ms ns in
+      rw (e, front-flat, others-flat)
+
+  elements_of-elements : (ds : Elements) (ns : List Item) → elements_of (elements_listing ds ++ ns) ≡ joined ds (elements_of ns)
+  elements_of-elements no_elements ns = refl
+  elements_of-elements (element d ds) ns =
+      rw append_assoc (elements_of-listing d (elements_listing ds ++ ns) ∙ ap (element d) (elements_of-elements ds ns))
+
+  elements_of-members : (ms : Members) (ns : List Item) → elements_of (members_listing ms ++ ns) ≡ flat ms (elements_of ns)
+  elements_of-members no_members ns = refl
+  elements_of-members (member k d ms) ns =
+      ap (element (string k))
+      (ap elements_of (append_assoc (listing d) (members_listing ms) ns) ∙ elements_of-listing d (members_listing ms ++ ns) ∙ ap (element d) (elements_of-members ms ns))
+
+pub document_of-listing : (d : Document) → document_of (listing d) ≡ d
+document_of-listing d = ap document_of (sym (append-nil (listing d))) ∙ ap first (elements_of-listing d [])
+
+pub elements_of-all : (ds : Elements) → elements_of (elements_listing ds) ≡ ds
+elements_of-all ds = ap elements_of (sym (append-nil (elements_listing ds))) ∙ elements_of-elements ds [] ∙ joined-none ds
+
+pub members_of-all : (ms : Members) → members_of (members_listing ms) ≡ ms
+members_of-all ms = ap members_of (sym (append-nil (members_listing ms))) ∙ ap in_pairs (elements_of-members ms []) ∙ in_pairs-flat ms
+
+-- ---- beneath a header
+
+pub record IsArrayOf (xs : List Item) (len : ℕ) (ns : List Item) : Type 0 where
+  pub listed : AreElements ns
+  pub counted : len ≡ length (elements (elements_of ns))
+  pub whole : document_of xs ≡ array (elements_of ns)
+
+pub array-of : (xs ns : List Item) (len count : ℕ) → IsListing xs → xs ≡ array_item len count ∷ ns → IsArrayOf xs len ns
+array-of xs ns len count is headed =
+    let ds = front len (elements_of ns) in
+    let whole : document_of xs ≡ array ds = ap document_of headed in
+    let same : listing (array ds) ≡ array_item len count ∷ ns = ap listing (sym whole) ∙ is ∙ headed in
+    let nodes : elements_listing ds ≡ ns = cc in
+    let back : elements_of ns ≡ ds = ap elements_of (sym nodes) ∙ elements_of-all ds in
+    let counted : length (elements ds) ≡ len = cc in
+    record {
+      listed = ap elements_listing back ∙ nodes;
+      counted = sym (ap (λ es. length (elements es)) back ∙ counted);
+      whole = whole ∙ ap array (sym back);
+    }
+
+pub record IsObjectOf (xs : List Item) (len : ℕ) (ns : List Item) : Type 0 where
+  pub listed : AreMembers ns
+  pub counted : len ≡ length (members (members_of ns))
+  pub whole : document_of xs ≡ object (members_of ns)
+
+pub object-of : (xs ns : List Item) (len count : ℕ) → IsListing xs → xs ≡ object_item len count ∷ ns → IsObjectOf xs len ns
+object-of xs ns len count is headed =
+    let ms = front_pairs len (elements_of ns) in
+    let whole : document_of xs ≡ object ms = ap document_of headed in
+    let same : listing (object ms) ≡ object_item len count ∷ ns = ap listing (sym whole) ∙ is ∙ headed in
+    let nodes : members_listing ms ≡ ns = cc in
+    let back : members_of ns ≡ ms = ap members_of (sym nodes) ∙ members_of-all ms in
+    let counted : length (members ms) ≡ len = cc in
+    record {
+      listed = ap members_listing back ∙ nodes;
+      counted = sym (ap (λ ns. length (members ns)) back ∙ counted);
+      whole = whole ∙ ap object (sym back);
+    }
+
+pub array-at : (xs ns : List Node) (x : Node) (len count : ℕ) → IsListing (map item_of xs) → map item_of xs ≡ item_of x ∷ map item_of (drop 1 xs)
+    → x ≡ nodes.Array len count → ns ≡ drop 1 xs → IsArrayOf (map item_of xs) len (map item_of ns)
+array-at xs ns x len count is headed kind beneath =
+    array-of (map item_of xs) (map item_of ns) len count is (headed ∙ ap (λ y. item_of y ∷ map item_of (drop 1 xs)) kind ∙ ap (λ ys. array_item len count ∷ map item_of ys) (sym beneath))
+
+pub object-at : (xs ns : List Node) (x : Node) (len count : ℕ) → IsListing (map item_of xs) → map item_of xs ≡ item_of x ∷ map item_of (drop 1 xs)
+    → x ≡ nodes.Object len count → ns ≡ drop 1 xs → IsObjectOf (map item_of xs) len (map item_of ns)
+object-at xs ns x len count is headed kind beneath =
+    object-of (map item_of xs) (map item_of ns) len count is (headed ∙ ap (λ y. item_of y ∷ map item_of (drop 1 xs)) kind ∙ ap (λ ys. object_item len count ∷ map item_of ys) (sym beneath))
+
+-- ---- a document at the front of nodes
+
+pub positive : (d : Document) → 0 < length (listing d)
+positive d = let h = IsHeaded-document d in omega (arith, ap length h.whole)
+
+-- it has as many nodes as its first node says
+pub sized : (ns : List Node) (default x : Node) (d : Document) (rest : List Item) → map item_of ns ≡ listing d ++ rest → get_or ns 0 default ≡ x → count_of (item_of x) + 1 ≡ length (listing d)
+sized [] default x d rest is at = absurd (omega (arith, positive d, ap length is, length-append (listing d) rest))
+sized (y ∷ ns) default x d rest is at =
+    let h = IsHeaded-document d in
+    let front : item_of y ∷ map item_of ns ≡ h.first ∷ (h.rest ++ rest) = is ∙ ap (λ xs. xs ++ rest) h.whole in
+    let same : item_of x ≡ h.first = ap item_of (sym at) ∙ cc in
+    omega (arith, ap count_of same, h.beneath, ap length h.whole)
+
+-- a node that is no header has none beneath
+scalar-count : (x : Node) → ((len count : ℕ) → x ≡ nodes.Array len count → ⊥) → ((len count : ℕ) → x ≡ nodes.Object len count → ⊥) → count_of (item_of x) ≡ 0
+scalar-count (nodes.String s) no_array no_object = refl
+scalar-count (nodes.Decimal s) no_array no_object = refl
+scalar-count (nodes.Static s) no_array no_object = refl
+scalar-count (nodes.Array len count) no_array no_object = absurd (no_array len count refl)
+scalar-count (nodes.Object len count) no_array no_object = absurd (no_object len count refl)
+
+pub sized-scalar : (ns : List Node) (default : Node) (d : Document) (rest : List Item) → map item_of ns ≡ listing d ++ rest
+    → ((len count : ℕ) → get_or ns 0 default ≡ nodes.Array len count → ⊥) → ((len count : ℕ) → get_or ns 0 default ≡ nodes.Object len count → ⊥) → 1 ≡ length (listing d)
+sized-scalar ns default d rest is no_array no_object =
+    omega (arith, sized ns default (get_or ns 0 default) d rest is refl, scalar-count (get_or ns 0 default) no_array no_object)
+
+-- no more than there are
+pub within : (ns : List Node) (d : Document) (rest : List Item) → map item_of ns ≡ listing d ++ rest → length (listing d) ≤ length ns
+within ns d rest is = omega (arith, ap length is, length-append (listing d) rest, length-map ns item_of)
+
+-- they are its listing
+pub front-listed : (ns : List Node) (d : Document) (rest : List Item) (n : ℕ) → map item_of ns ≡ listing d ++ rest → n ≡ length (listing d)
+    → (map item_of (take n ns) ≡ listing d) × (map item_of (drop n ns) ≡ rest)
+front-listed ns d rest n is whole = (
+  sym (take-map item_of n ns) ∙ ap (take n) is ∙ ap (λ k. take k (listing d ++ rest)) whole ∙ take-append_seam (listing d) rest,
+  sym (drop-map item_of n ns) ∙ ap (drop n) is ∙ ap (λ k. drop k (listing d ++ rest)) whole ∙ drop-append_seam (listing d) rest,
+)
+
+pub listing-listed : (xs : List Item) (d : Document) → xs ≡ listing d → IsListing xs
+listing-listed xs d is = ap (λ ns. listing (document_of ns)) is ∙ ap listing (document_of-listing d) ∙ sym is
+
+pub tape-listed : (xs : List Item) → IsTape xs → xs ≢ [] → IsListing xs
+tape-listed xs (inl none) some = absurd (some none)
+tape-listed xs (inr (d, spelled, fit, is)) some = listing-listed xs d is
+
+-- ---- what a listing says of its document
+
+pub known : (d e : Document) → listing d ≡ listing e → d ≡ e
+known d e is = sym (document_of-listing d) ∙ ap document_of is ∙ document_of-listing e
+
+pub counted : (d : Document) (header : Item) (beneath : List Item) → listing d ≡ header ∷ beneath → (length beneath ≡ count_of header) × (len_of header ≡ member_count d)
+counted d header beneath is =
+    let h = IsHeaded-document d in
+    let same : h.first ∷ h.rest ≡ header ∷ beneath = sym h.whole ∙ is in
+    let first : h.first ≡ header = cc in
+    let rest : h.rest ≡ beneath = cc in
+    (ap length (sym rest) ∙ h.beneath ∙ ap count_of first, ap len_of (sym first) ∙ h.len)

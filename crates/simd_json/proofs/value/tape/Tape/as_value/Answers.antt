@@ -1,0 +1,17 @@
+use Rattle.std.proofs.Common.{◌∙◌, ap, map, subst, sym, take}
+use Rattle.simd_json.specs.Documents.{IsListing}
+use Rattle.simd_json_parts.specs.Listing.{listing}
+use Rattle.simd_json_parts.specs.Nodes.{item_of}
+use Rattle.simd_json.proofs.Listed.{tape-listed}
+use Rattle.simd_json.proofs.value.tape.Tape.as_value.Goals as goal
+
+pub new-requires : goal.new-requires
+new-requires g c =
+    let list = tape-listed _ c.self.invariant.1 (λ none. c.requires (ap (λ t. t.nodes) (sym c.self.view_is) ∙ none)) in
+    subst (λ xs. IsListing (map item_of (take c.self.inside.used xs))) (sym c.as_slice.ensures.value) list
+
+pub returns : goal.returns
+returns g c =
+    let list = tape-listed _ c.self.invariant.1 (λ none. c.requires (ap (λ t. t.nodes) (sym c.self.view_is) ∙ none)) in
+    ap listing c.new.ensures ∙ subst (λ xs. IsListing (map item_of (take c.self.inside.used xs))) (sym c.as_slice.ensures.value) list
+    ∙ ap (λ xs. map item_of (take c.self.inside.used xs)) c.as_slice.ensures.value ∙ ap (λ t. t.nodes) c.self.view_is

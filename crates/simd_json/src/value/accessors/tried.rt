@@ -1,0 +1,134 @@
+//! `try_as_T`: the value as a `T`, or an error with the kind that was expected and the kind of the value.
+use crate::value::tape::Value;
+use simd_json_parts::node::{TryTypeError, ValueType};
+
+impl<'tape, 'input> Value<'tape, 'input> {
+    ghost use Rattle.std.specs.Prelude.{◌≡◌, ok_or};
+    ghost use Rattle.simd_json.specs.Answered.{ok_map};
+    ghost use Rattle.simd_json.specs.Viewed.{doc};
+    ghost use Rattle.simd_json_parts.specs.Accessors as accessors;
+    ghost use Rattle.simd_json_parts.specs.Accessors.{try_as_t};
+    ghost use Rattle.simd_json_parts.specs.Views.{mismatch};
+
+    // What an accessor answers, or the error that names the kind that it expects.
+    pub(super) fn or_refusal<T>(
+        &self,
+        answer: Option<T>,
+        expected: ValueType,
+    ) -> Result<T, TryTypeError>
+        ensures { result ≡ ok_or answer (mismatch expected (doc self.now)) }
+    {
+        match answer {
+            Some(value) => Ok(value),
+            None => Err(TryTypeError {
+                expected,
+                got: self.value_type(),
+            }),
+        }
+    }
+
+    /// `Ok` where the value is null.
+    pub fn try_as_null(&self) -> Result<(), TryTypeError>
+        ensures { result ≡ try_as_t accessors.null (doc self.now) }
+    {
+        self.or_refusal(self.as_null(), ValueType::Null)
+    }
+
+    /// The truth value.
+    pub fn try_as_bool(&self) -> Result<bool, TryTypeError>
+        ensures { result ≡ try_as_t accessors.bool (doc self.now) }
+    {
+        self.or_refusal(self.as_bool(), ValueType::Bool)
+    }
+
+    /// The integer, where it fits `i8`.
+    pub fn try_as_i8(&self) -> Result<i8, TryTypeError>
+        ensures { result ≡ try_as_t accessors.i8 (doc self.now) }
+    {
+        self.or_refusal(self.as_i8(), ValueType::I64)
+    }
+
+    /// The integer, where it fits `i16`.
+    pub fn try_as_i16(&self) -> Result<i16, TryTypeError>
+        ensures { result ≡ try_as_t accessors.i16 (doc self.now) }
+    {
+        self.or_refusal(self.as_i16(), ValueType::I64)
+    }
+
+    /// The integer, where it fits `i32`.
+    pub fn try_as_i32(&self) -> Result<i32, TryTypeError>
+        ensures { result ≡ try_as_t accessors.i32 (doc self.now) }
+    {
+        self.or_refusal(self.as_i32(), ValueType::I64)
+    }
+
+    /// The integer, where it fits `i64`.
+    pub fn try_as_i64(&self) -> Result<i64, TryTypeError>
+        ensures { result ≡ try_as_t accessors.i64 (doc self.now) }
+    {
+        self.or_refusal(self.as_i64(), ValueType::I64)
+    }
+
+    /// The integer, where it fits `i128`.
+    pub fn try_as_i128(&self) -> Result<i128, TryTypeError>
+        ensures { result ≡ try_as_t accessors.i128 (doc self.now) }
+    {
+        self.or_refusal(self.as_i128(), ValueType::I128)
+    }
+
+    /// The integer, where it fits `u8`.
+    pub fn try_as_u8(&self) -> Result<u8, TryTypeError>
+        ensures { result ≡ try_as_t accessors.u8 (doc self.now) }
+    {
+        self.or_refusal(self.as_u8(), ValueType::U64)
+    }
+
+    /// The integer, where it fits `u16`.
+    pub fn try_as_u16(&self) -> Result<u16, TryTypeError>
+        ensures { result ≡ try_as_t accessors.u16 (doc self.now) }
+    {
+        self.or_refusal(self.as_u16(), ValueType::U64)
+    }
+
+    /// The integer, where it fits `u32`.
+    pub fn try_as_u32(&self) -> Result<u32, TryTypeError>
+        ensures { result ≡ try_as_t accessors.u32 (doc self.now) }
+    {
+        self.or_refusal(self.as_u32(), ValueType::U64)
+    }
+
+    /// The integer, where it fits `u64`.
+    pub fn try_as_u64(&self) -> Result<u64, TryTypeError>
+        ensures { result ≡ try_as_t accessors.u64 (doc self.now) }
+    {
+        self.or_refusal(self.as_u64(), ValueType::U64)
+    }
+
+    /// The integer, where it is not negative.
+    pub fn try_as_u128(&self) -> Result<u128, TryTypeError>
+        ensures { result ≡ try_as_t accessors.u128 (doc self.now) }
+    {
+        self.or_refusal(self.as_u128(), ValueType::U128)
+    }
+
+    /// The integer, where it fits `usize`.
+    pub fn try_as_usize(&self) -> Result<usize, TryTypeError>
+        ensures { result ≡ try_as_t accessors.usize (doc self.now) }
+    {
+        self.or_refusal(self.as_usize(), ValueType::U64)
+    }
+
+    /// The string.
+    pub fn try_as_str(&self) -> Result<&'input str, TryTypeError>
+        ensures { ok_map (λ s. s.now) result ≡ try_as_t accessors.str (doc self.now) }
+    {
+        self.or_refusal(self.as_str(), ValueType::String)
+    }
+
+    /// The literal of a decimal.
+    pub fn try_as_decimal(&self) -> Result<&'input str, TryTypeError>
+        ensures { ok_map (λ s. s.now) result ≡ try_as_t accessors.decimal (doc self.now) }
+    {
+        self.or_refusal(self.as_decimal(), ValueType::Decimal)
+    }
+}

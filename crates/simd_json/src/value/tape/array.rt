@@ -1,0 +1,126 @@
+//! An array of a tape, and the iterator over its values.
+ghost use Rattle.std.specs.Prelude.{◌≡◌, map, length};
+ghost use Rattle.simd_json.specs.Documents.{AreElements, elements_of};
+ghost use Rattle.simd_json_parts.specs.Document.{elements};
+ghost use Rattle.simd_json_parts.specs.Nodes.{item_of};
+
+use crate::value::tape::Value;
+use simd_json_parts::node::Node;
+use std::iter::FusedIterator;
+
+/// An array on a tape: a list of values, in the document's order.
+#[derive(Clone, Copy, Debug)]
+pub struct Array<'tape, 'input> {
+    pub(super) len: usize,
+    pub(super) nodes: &'tape [Node<'input>],
+    ghost listed: { AreElements (map item_of nodes.now) },
+    ghost counted: { len ≡ length (elements (elements_of (map item_of nodes.now))) },
+}
+
+impl<'tape, 'input> Array<'tape, 'input> {
+    ghost use Rattle.std.specs.Prelude.{◌≡◌, ◌↔◌, IsTrue, MatchOption, [], length, option_map, slice_get};
+    ghost use Rattle.simd_json.specs.Iterated.{elements_left};
+    ghost use Rattle.simd_json.specs.Viewed.{doc, docs};
+    ghost use Rattle.simd_json_parts.specs.Document.{no_elements, element, elements};
+
+    /// The value at an index, or `None` where the array has no more than `index` values.
+    ///
+    /// The values before it are passed over, each in one step whatever it holds: to look at all of them, use
+    /// [`iter`](Array::iter).
+    pub fn get(&self, index: usize) -> Option<Value<'tape, 'input>>
+        ensures { option_map doc result ≡ slice_get (elements (docs self.now)) index }
+    {
+        self.iter().nth(index)
+    }
+
+    /// An iterator over the values.
+    pub fn iter(&self) -> Iter<'tape, 'input>
+        ensures { elements_left result ≡ elements (docs self.now) }
+    {
+        Iter { left: *self }
+    }
+
+    /// How many values the array has. It is read at once.
+    pub fn len(&self) -> usize
+        ensures { result ≡ length (elements (docs self.now)) }
+    {
+        self.len
+    }
+
+    /// Whether the array has no value.
+    pub fn is_empty(&self) -> bool
+        ensures { IsTrue result ↔ (elements (docs self.now) ≡ []) }
+    {
+        self.len == 0
+    }
+
+    // The first value, and the array of the others.
+    fn split_first(self) -> Option<(Value<'tape, 'input>, Array<'tape, 'input>)>
+        ensures { MatchOption result (docs self.entry ≡ no_elements) (λ r. docs self.entry ≡ element (doc r.0) (docs r.1)) }
+    {
+        if self.len == 0 {
+            return None;
+        }
+        let (value, nodes) = Value::split(self.nodes);
+        Some((
+            value,
+            Array {
+                len: self.len - 1,
+                nodes,
+            },
+        ))
+    }
+}
+
+impl<'tape, 'input> IntoIterator for &Array<'tape, 'input> {
+    type Item = Value<'tape, 'input>;
+
+    type IntoIter = Iter<'tape, 'input>;
+
+    ghost use Rattle.std.specs.Prelude.{◌≡◌};
+    ghost use Rattle.simd_json.specs.Iterated.{elements_left};
+    ghost use Rattle.simd_json.specs.Viewed.{docs};
+    ghost use Rattle.simd_json_parts.specs.Document.{elements};
+
+    ghost into_iter_gives = { λ a it. elements_left it ≡ elements (docs a.now) };
+
+    fn into_iter(self) -> Iter<'tape, 'input> {
+        self.iter()
+    }
+}
+
+/// An iterator over the values of an array, in order. A step reads one header.
+#[derive(Clone, Copy, Debug)]
+pub struct Iter<'tape, 'input> {
+    left: Array<'tape, 'input>,
+}
+
+impl<'tape, 'input> Iterator for Iter<'tape, 'input> {
+    type Item = Value<'tape, 'input>;
+
+    ghost use Rattle.std.specs.Iterator.{YieldsFirstBy, item_count};
+    ghost use Rattle.simd_json.specs.Iterated.{elements_left};
+    ghost use Rattle.simd_json.specs.Viewed.{doc};
+
+    ghost next_gives = { YieldsFirstBy doc elements_left };
+
+    ghost remaining = { item_count elements_left };
+
+    fn next(&mut self) -> Option<Value<'tape, 'input>> {
+        let (value, left) = self.left.split_first()?;
+        *self = Iter { left };
+        Some(value)
+    }
+
+    fn size_hint(&self) -> (usize, Option<usize>) {
+        (self.left.len, Some(self.left.len))
+    }
+}
+
+impl<'tape, 'input> ExactSizeIterator for Iter<'tape, 'input> {
+    fn len(&self) -> usize {
+        self.left.len
+    }
+}
+
+impl<'tape, 'input> FusedIterator for Iter<'tape, 'input> {}

@@ -1,0 +1,201 @@
+//! A value of a tape.
+ghost use Rattle.std.specs.Prelude.{◌≡◌, ◌++◌, List, length, map};
+ghost use Rattle.simd_json.specs.Documents.{IsListing};
+ghost use Rattle.simd_json_parts.specs.Document.{Document};
+ghost use Rattle.simd_json_parts.specs.Listing.{StandsFor, listing};
+ghost use Rattle.simd_json_parts.specs.Nodes.{Item, item_of};
+
+use crate::value::tape::array::Array;
+use crate::value::tape::object::Object;
+use simd_json_parts::node::{Node, StaticNode, ValueType};
+
+/// A document on a tape, or a document within it: what its nodes stand for is read from them as it is asked for.
+///
+/// It is a copy of a reference, and no call of it takes memory but those that print.
+///
+/// ```
+/// use simd_json::tape::Value;
+///
+/// // How many arrays there are among the members of a value.
+/// fn arrays_in(value: Value<'_, '_>) -> usize {
+///     let mut count = 0usize;
+///     if let Some(array) = value.as_array() {
+///         for element in &array {
+///             if element.is_array() {
+///                 count = count.saturating_add(1);
+///             }
+///         }
+///     }
+///     if let Some(object) = value.as_object() {
+///         for (_, member) in &object {
+///             if member.is_array() {
+///                 count = count.saturating_add(1);
+///             }
+///         }
+///     }
+///     count
+/// }
+/// ```
+#[derive(Clone, Copy, Debug)]
+pub struct Value<'tape, 'input> {
+    nodes: &'tape [Node<'input>],
+    ghost listed: { IsListing (map item_of nodes.now) },
+}
+
+impl<'tape, 'input> Value<'tape, 'input> {
+    ghost use Rattle.std.specs.Prelude.{◌≡◌, ◌++◌, ◌∷◌, map, drop, is_some, IfSome, option_map};
+    ghost use Rattle.simd_json.specs.Documents.{IsListing, IsFirst, document_of};
+    ghost use Rattle.simd_json.specs.Viewed.{doc, docs, pairs};
+    ghost use Rattle.simd_json_parts.specs.Document.{Document, null, array, object};
+    ghost use Rattle.simd_json_parts.specs.Listing.{StandsFor, listing};
+    ghost use Rattle.simd_json_parts.specs.Nodes.{Item, item_of};
+    ghost use Rattle.simd_json_parts.specs.Views.{value_type, is_array, is_object, get, get_idx, contains_key};
+
+    /// The value `null`.
+    pub fn null() -> Value<'static, 'static>
+        ensures { doc result ≡ null }
+    {
+        Value {
+            nodes: &[Node::Static(StaticNode::Null)],
+        }
+    }
+
+    // Of the nodes of one document.
+    pub(super) fn new(nodes: &'tape [Node<'input>]) -> Value<'tape, 'input>
+        requires { IsListing (map item_of nodes.now) }
+        ensures { doc result ≡ document_of (map item_of nodes.now) }
+    {
+        Value { nodes }
+    }
+
+    // The first value, and the nodes after it.
+    pub(super) fn split(
+        nodes: &'tape [Node<'input>],
+    ) -> (Value<'tape, 'input>, &'tape [Node<'input>])
+        requires { (d : Document) × StandsFor nodes.now d }
+        ensures { map item_of nodes.now ≡ listing (doc result.0) ++ map item_of result.1.now }
+    {
+        let (first, others) = nodes.split_at(size(nodes));
+        (Value { nodes: first }, others)
+    }
+
+    // The first node: a scalar's only one, or a container's header.
+    pub(crate) fn node(&self) -> Node<'input>
+        ensures first { IsFirst (item_of result) (doc self.now) }
+        ensures header { map item_of self.now.nodes.now ≡ item_of result ∷ map item_of (drop 1 self.now.nodes.now) }
+    {
+        self.nodes[0]
+    }
+
+    // All of them.
+    pub(crate) fn nodes(&self) -> &'tape [Node<'input>]
+        ensures { result.now ≡ self.now.nodes.now }
+    {
+        self.nodes
+    }
+
+    // The nodes after the first one.
+    fn beneath(&self) -> &'tape [Node<'input>]
+        ensures { result.now ≡ drop 1 self.now.nodes.now }
+    {
+        &self.nodes[1..]
+    }
+
+    /// The kind of the value.
+    pub fn value_type(&self) -> ValueType
+        ensures { result ≡ value_type (doc self.now) }
+    {
+        self.node().value_type()
+    }
+
+    /// Whether the value is an array.
+    pub fn is_array(&self) -> bool
+        ensures { result ≡ is_array (doc self.now) }
+    {
+        matches!(self.node(), Node::Array { .. })
+    }
+
+    /// Whether the value is an object.
+    pub fn is_object(&self) -> bool
+        ensures { result ≡ is_object (doc self.now) }
+    {
+        matches!(self.node(), Node::Object { .. })
+    }
+
+    /// The array that the value is, or `None` where it is of another kind.
+    pub fn as_array(&self) -> Option<Array<'tape, 'input>>
+        ensures kind { is_some result ≡ is_array (doc self.now) }
+        ensures array { IfSome result (λ a. doc self.now ≡ array (docs a)) }
+    {
+        match self.node() {
+            Node::Array { len, .. } => Some(Array {
+                len,
+                nodes: self.beneath(),
+            }),
+            _ => None,
+        }
+    }
+
+    /// The same as [`as_array`](Value::as_array).
+    pub fn into_array(self) -> Option<Array<'tape, 'input>>
+        ensures kind { is_some result ≡ is_array (doc self.entry) }
+        ensures array { IfSome result (λ a. doc self.entry ≡ array (docs a)) }
+    {
+        self.as_array()
+    }
+
+    /// The object that the value is, or `None` where it is of another kind.
+    pub fn as_object(&self) -> Option<Object<'tape, 'input>>
+        ensures kind { is_some result ≡ is_object (doc self.now) }
+        ensures object { IfSome result (λ o. doc self.now ≡ object (pairs o)) }
+    {
+        match self.node() {
+            Node::Object { len, .. } => Some(Object {
+                len,
+                nodes: self.beneath(),
+            }),
+            _ => None,
+        }
+    }
+
+    /// The same as [`as_object`](Value::as_object).
+    pub fn into_object(self) -> Option<Object<'tape, 'input>>
+        ensures kind { is_some result ≡ is_object (doc self.entry) }
+        ensures object { IfSome result (λ o. doc self.entry ≡ object (pairs o)) }
+    {
+        self.as_object()
+    }
+
+    /// The value of the first pair with that key, where the value is an object that has one.
+    pub fn get(&self, k: &str) -> Option<Value<'tape, 'input>>
+        ensures { option_map doc result ≡ get k.now (doc self.now) }
+    {
+        self.as_object()?.get(k)
+    }
+
+    /// The value at an index, where the value is an array that has more than `i` values.
+    pub fn get_idx(&self, i: usize) -> Option<Value<'tape, 'input>>
+        ensures { option_map doc result ≡ get_idx i (doc self.now) }
+    {
+        self.as_array()?.get(i)
+    }
+
+    /// Whether the value is an object that has a pair with that key: whether [`get`](Value::get) answers a value.
+    pub fn contains_key(&self, k: &str) -> bool
+        ensures { result ≡ contains_key k.now (doc self.now) }
+    {
+        self.get(k).is_some()
+    }
+}
+
+// How many nodes the document has that the nodes begin with.
+fn size(nodes: &[Node<'_>]) -> usize
+    requires { (d : Document) × StandsFor nodes.now d }
+    ensures { (d : Document) (rest : List Item) → map item_of nodes.now ≡ listing d ++ rest → result ≡ length (listing d) }
+{
+    match nodes[0] {
+        Node::Array { count, .. } => count + 1,
+        Node::Object { count, .. } => count + 1,
+        _ => 1,
+    }
+}

@@ -1,0 +1,133 @@
+use super::*;
+use std::test::Fail;
+
+#[test]
+fn numbers_are_read(rt: HostRuntime) {
+    let nines = [b'9'; 10_001];
+    let mut negative = nines;
+    negative[0] = b'-';
+    let rows: [(&[u8], Number); 45] = [
+        (b"0", Number::Integer(StaticNode::U64(0), 1)),
+        (b"-0", Number::Integer(StaticNode::I64(0), 2)),
+        (b"-1", Number::Integer(StaticNode::I64(-1), 2)),
+        (b"257", Number::Integer(StaticNode::U64(257), 3)),
+        (
+            b"18446744073709551615",
+            Number::Integer(StaticNode::U64(u64::MAX), 20),
+        ),
+        (
+            b"-9223372036854775808",
+            Number::Integer(StaticNode::I64(i64::MIN), 20),
+        ),
+        (b"123]", Number::Integer(StaticNode::U64(123), 3)),
+        (b"123,", Number::Integer(StaticNode::U64(123), 3)),
+        (b"123 ", Number::Integer(StaticNode::U64(123), 3)),
+        (b"1e309", Number::Decimal(5)),
+        (b"1E-7", Number::Decimal(4)),
+        (b"-0.0", Number::Decimal(4)),
+        (b"1.50", Number::Decimal(4)),
+        (b"0e99999999999", Number::Decimal(13)),
+        (b"", Number::Invalid(0)),
+        (b"x", Number::Invalid(0)),
+        (b"18446744073709551616", Number::Invalid(19)),
+        (b"18446744073709551616x", Number::Invalid(20)),
+        (b"-9223372036854775809", Number::Invalid(20)),
+        (b"-18446744073709551616", Number::Invalid(20)),
+        (b"01", Number::Invalid(1)),
+        (b"-01", Number::Invalid(2)),
+        (b"1a", Number::Invalid(1)),
+        (b"123a", Number::Invalid(3)),
+        (b"1_000", Number::Invalid(1)),
+        (b"0x1", Number::Invalid(1)),
+        (b"-", Number::Invalid(1)),
+        (b"-x", Number::Invalid(1)),
+        (b"-.5", Number::Invalid(1)),
+        (b"1e", Number::Invalid(2)),
+        (b"1e+", Number::Invalid(3)),
+        (b"1e]", Number::Invalid(2)),
+        (b"9e-]", Number::Invalid(3)),
+        (b"0.1.2", Number::Invalid(3)),
+        (b"-1.0.", Number::Invalid(4)),
+        (b"1.2a-3", Number::Invalid(3)),
+        (b"1.8011670033376514H-308", Number::Invalid(18)),
+        (b"1.", Number::Invalid(2)),
+        (b"1.e", Number::Invalid(2)),
+        (b"1.0e", Number::Invalid(4)),
+        (b"0e99999999999x", Number::Invalid(13)),
+        (b"0e99999999999.5", Number::Invalid(13)),
+        (b"1\"a\"", Number::Invalid(1)),
+        (&nines[1..], Number::Invalid(19)),
+        (&negative, Number::Invalid(20)),
+    ];
+    for (bytes, number) in &rows {
+        assert_eq!(rt; parse_number(bytes), *number);
+    }
+    assert!(rt; matches!(parse_number(b"-0"), Number::Integer(StaticNode::I64(0), 2)));
+}
+
+#[test]
+fn ten_bytes_are_digits(rt: HostRuntime) {
+    for c in 0..=u8::MAX {
+        assert_eq!(rt; is_integer(c), b"0123456789".contains(&c), "{c}");
+    }
+}
+
+// Whether one look at 32 bytes reads what is read byte by byte, where so many bytes follow.
+fn agrees(
+    rt: &HostRuntime,
+    number: &[u8],
+    more: u8,
+    count: usize,
+) -> std::result::Result<bool, Fail> {
+    let mut bytes = Vec::from_slice(rt.alloc(), number)?;
+    for _ in 0..count {
+        bytes.push(more)?;
+    }
+    Ok(parse_number(bytes.as_slice()) == parse_plainly(bytes.as_slice()))
+}
+
+#[test]
+fn five_bytes_are_read_at_one_look(rt: HostRuntime) -> std::result::Result<(), Fail> {
+    let pieces = [b'0', b'7', b'-', b'.', b'e', b',', b'x'];
+    for n in 0..16_807 {
+        let mut number = Vec::new(rt.alloc());
+        let mut rest = n;
+        for _ in 0..5 {
+            if let Some(c) = pieces.get(rest % 7) {
+                number.push(*c)?;
+            }
+            rest /= 7;
+        }
+        for more in [b' ', b'9', b'.'] {
+            assert!(rt; agrees(&rt, number.as_slice(), more, 30)?, "{n} {more}");
+        }
+    }
+    Ok(())
+}
+
+#[test]
+fn numbers_of_every_length_are_read_at_one_look(rt: HostRuntime) -> std::result::Result<(), Fail> {
+    for whole in 0..36 {
+        for fraction in 0..36 {
+            let mut number = Vec::new(rt.alloc());
+            for _ in 0..whole {
+                number.push(b'1')?;
+            }
+            assert!(rt;
+                agrees(&rt, number.as_slice(), b']', fraction)?,
+                "{whole} {fraction}"
+            );
+            number.push(b'.')?;
+            for _ in 0..fraction {
+                number.push(b'2')?;
+            }
+            for more in [b',', b'e'] {
+                assert!(rt;
+                    agrees(&rt, number.as_slice(), more, 32)?,
+                    "{whole} {fraction}"
+                );
+            }
+        }
+    }
+    Ok(())
+}
