@@ -34,7 +34,7 @@ impl<T> Port<T> {
         self.failed
     }
 
-    /// Whether a read into a buffer that has room gave no byte.
+    /// Whether a read into a buffer that is not empty gave no byte.
     pub fn ended(&self) -> bool
         ensures { result ≡ self.now.ended }
     {

@@ -110,7 +110,7 @@ fn read_more<R: Read, A: Allocator>(
     input: &mut Vec<u8, A>,
 ) -> Result<bool>
     requires reader { (reader.old.failed ≡ false) × (reader.old.ended ≡ false) }
-    requires room { 0 < length block.old }
+    requires capacity { 0 < length block.old }
     ensures kept { length block.new ≡ length block.old }
     ensures read { OnOk result ((before : Option (List ℕ))
         → Consumes before (R.remaining reader.old.inner) input.old.items

@@ -18,12 +18,12 @@ abbrev AsAnswered : List ℕ → ℕ → Option Error → List Item → List ℕ
 AsAnswered b limit fault nodes listed =
     (fault ≡ result_err (answer b limit)) × (nodes ≡ answered_nodes (answer b limit)) × (listed ≡ positions_after b (result_err (answer b limit)))
 
-pub as-answered : (b : List ℕ) (limit room : ℕ) (fault : Option Error) (nodes : List Item) (listed : List ℕ) → IsParse b limit room fault nodes listed → HasMemory fault → AsAnswered b limit fault nodes listed
-as-answered b limit room None nodes listed p memory =
+pub as-answered : (b : List ℕ) (limit capacity : ℕ) (fault : Option Error) (nodes : List Item) (listed : List ℕ) → IsParse b limit capacity fault nodes listed → HasMemory fault → AsAnswered b limit fault nodes listed
+as-answered b limit capacity None nodes listed p memory =
     let is = p.parsed.answered in
     (ap result_err (sym is), p.parsed.listed ∙ ap answered_nodes (sym is), p.found ∙ ap (λ r. positions_after b (result_err r)) (sym is))
-as-answered b limit room (Some e) nodes listed p memory = by_cause p.refused where
-  by_cause : IsRefused b limit e ⊎ (LacksMemory b e × (room < length b)) → AsAnswered b limit (Some e) nodes listed
+as-answered b limit capacity (Some e) nodes listed p memory = by_cause p.refused where
+  by_cause : IsRefused b limit e ⊎ (LacksMemory b e × (capacity < length b)) → AsAnswered b limit (Some e) nodes listed
   by_cause (inl refused) =
       let is = refused.answered in
       (ap result_err (sym is), p.empty ∙ ap answered_nodes (sym is), p.found ∙ ap (λ r. positions_after b (result_err r)) (sym is))
@@ -39,10 +39,10 @@ refused-memory : (b : List ℕ) (e : Error) → IsOutOfMemory e → ((input_faul
 refused-memory b e lacks (inl (is, named)) = input-memory e named lacks
 refused-memory b e lacks (inr (none, named)) = token-memory e named lacks
 
-pub has-memory : (b : List ℕ) (limit room : ℕ) (fault : Option Error) (nodes : List Item) (listed : List ℕ) → IsParse b limit room fault nodes listed → length b ≤ room → HasMemory fault
-has-memory b limit room None nodes listed p enough is = none-some _ is
-has-memory b limit room (Some e) nodes listed p enough is = by_cause p.refused where
-  by_cause : IsRefused b limit e ⊎ (LacksMemory b e × (room < length b)) → ⊥
+pub has-memory : (b : List ℕ) (limit capacity : ℕ) (fault : Option Error) (nodes : List Item) (listed : List ℕ) → IsParse b limit capacity fault nodes listed → length b ≤ capacity → HasMemory fault
+has-memory b limit capacity None nodes listed p enough is = none-some _ is
+has-memory b limit capacity (Some e) nodes listed p enough is = by_cause p.refused where
+  by_cause : IsRefused b limit e ⊎ (LacksMemory b e × (capacity < length b)) → ⊥
   by_cause (inl refused) = refused-memory b e (some-same e (whole_fault OutOfMemory) is) refused.kinds
   by_cause (inr (lacks, short)) = omega (arith, short, enough)
 

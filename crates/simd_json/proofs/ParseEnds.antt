@@ -20,7 +20,7 @@ use Rattle.simd_json_parts.specs.declared.error.Error.{Error}
 use Rattle.simd_json_parts.specs.declared.error.ErrorType.TheVariants.{OutOfMemory}
 use Rattle.simd_json.specs.Memory.{IsOutOfMemory, LacksMemory}
 use Rattle.simd_json.specs.Parsed.{IsParse, IsParsed, IsRefused}
-use Rattle.simd_json.specs.Rooms.{KeepsRooms, Rooms, room}
+use Rattle.simd_json.specs.Capacities.{KeepsCapacities, Capacities, capacity}
 use Rattle.simd_json.proofs.ParseLaws.{few-positions, refused-whole}
 
 -- ---- what a fault carries
@@ -51,11 +51,11 @@ parsed-some b limit nodes p none = listing-some p.document (sym p.listed ∙ non
 
 -- ---- the four ends
 
-pub parse-done : (b : List ℕ) (limit room : ℕ) (nodes : List Item) → IsParsed b limit nodes → length nodes ≤ length (positions b) → IsParse b limit room None nodes (positions b)
-parse-done b limit room nodes p l = record { parsed = p; refused = tt; empty = tt; found = refl; few = (l, few-positions b) }
+pub parse-done : (b : List ℕ) (limit capacity : ℕ) (nodes : List Item) → IsParsed b limit nodes → length nodes ≤ length (positions b) → IsParse b limit capacity None nodes (positions b)
+parse-done b limit capacity nodes p l = record { parsed = p; refused = tt; empty = tt; found = refl; few = (l, few-positions b) }
 
-pub parse-token : (b : List ℕ) (limit room : ℕ) (e : Error) → IsRefused b limit e → IsOfToken e → IsParse b limit room (Some e) [] (positions b)
-parse-token b limit room e refused token = record {
+pub parse-token : (b : List ℕ) (limit capacity : ℕ) (e : Error) → IsRefused b limit e → IsOfToken e → IsParse b limit capacity (Some e) [] (positions b)
+parse-token b limit capacity e refused token = record {
   parsed = tt;
   refused = inl refused;
   empty = refl;
@@ -63,8 +63,8 @@ parse-token b limit room e refused token = record {
   few = (omega arith, few-positions b);
 }
 
-pub parse-whole : (b : List ℕ) (limit room : ℕ) (e : Error) → input_fault b ≡ Some e → IsParse b limit room (Some e) [] []
-parse-whole b limit room e is = record {
+pub parse-whole : (b : List ℕ) (limit capacity : ℕ) (e : Error) → input_fault b ≡ Some e → IsParse b limit capacity (Some e) [] []
+parse-whole b limit capacity e is = record {
   parsed = tt;
   refused = inl (refused-whole b limit e is);
   empty = refl;
@@ -72,8 +72,8 @@ parse-whole b limit room e is = record {
   few = (omega arith, few-positions b);
 }
 
-pub parse-lacking : (b : List ℕ) (limit room : ℕ) (e : Error) → LacksMemory b e → room < length b → IsParse b limit room (Some e) [] []
-parse-lacking b limit room e lacks l = record {
+pub parse-lacking : (b : List ℕ) (limit capacity : ℕ) (e : Error) → LacksMemory b e → capacity < length b → IsParse b limit capacity (Some e) [] []
+parse-lacking b limit capacity e lacks l = record {
   parsed = tt;
   refused = inr (lacks, l);
   empty = refl;
@@ -83,10 +83,10 @@ parse-lacking b limit room e lacks l = record {
 
 -- ---- as code leaves them
 
-pub parse-at : {b : List ℕ} {limit room : ℕ} (fault fault' : Option Error) (nodes nodes' : List Item) (listed listed' : List ℕ)
-    → fault' ≡ fault → nodes' ≡ nodes → listed' ≡ listed → IsParse b limit room fault nodes listed → IsParse b limit room fault' nodes' listed'
-parse-at {b} {limit} {room} fault fault' nodes nodes' listed listed' f n l p =
-    subst (λ f. IsParse b limit room f nodes' listed') (sym f) (subst (λ n. IsParse b limit room fault n listed') (sym n) (subst (λ l. IsParse b limit room fault nodes l) (sym l) p))
+pub parse-at : {b : List ℕ} {limit capacity : ℕ} (fault fault' : Option Error) (nodes nodes' : List Item) (listed listed' : List ℕ)
+    → fault' ≡ fault → nodes' ≡ nodes → listed' ≡ listed → IsParse b limit capacity fault nodes listed → IsParse b limit capacity fault' nodes' listed'
+parse-at {b} {limit} {capacity} fault fault' nodes nodes' listed listed' f n l p =
+    subst (λ f. IsParse b limit capacity f nodes' listed') (sym f) (subst (λ n. IsParse b limit capacity fault n listed') (sym n) (subst (λ l. IsParse b limit capacity fault nodes l) (sym l) p))
 
 pub err-of : {A : Type 0} (r : Result A Error) (e : Error) → IsErrAnd r (λ x. x ≡ e) → result_err r ≡ Some e
 err-of (Ok x) e is = absurd is
@@ -103,11 +103,11 @@ less-min-right : (a b n : ℕ) → b < n → min a b < n
 less-min-right a b n l = omega (arith, l)
 
 -- nothing is listed, and there is no node, where the first stage refuses
-pub parse-unlisted : {A : Type 0} (r : Result A Error) (b : List ℕ) (limit tape_room room : ℕ) (e : Error) (nodes : List Item) (listed : List ℕ) → IsErrAnd r (λ x. x ≡ e) → nodes ≡ [] → listed ≡ []
-    → (input_fault b ≡ Some e) ⊎ (LacksMemory b e × (room < length b)) → IsParse b limit (min tape_room room) (result_err r) nodes listed
-parse-unlisted r b limit tape_room room e nodes listed err n l (inl whole) = parse-at (Some e) (result_err r) [] nodes [] listed (err-of r e err) n l (parse-whole b limit (min tape_room room) e whole)
-parse-unlisted r b limit tape_room room e nodes listed err n l (inr (lacks, short)) =
-    parse-at (Some e) (result_err r) [] nodes [] listed (err-of r e err) n l (parse-lacking b limit (min tape_room room) e lacks (less-min-right tape_room room (length b) short))
+pub parse-unlisted : {A : Type 0} (r : Result A Error) (b : List ℕ) (limit tape_capacity capacity : ℕ) (e : Error) (nodes : List Item) (listed : List ℕ) → IsErrAnd r (λ x. x ≡ e) → nodes ≡ [] → listed ≡ []
+    → (input_fault b ≡ Some e) ⊎ (LacksMemory b e × (capacity < length b)) → IsParse b limit (min tape_capacity capacity) (result_err r) nodes listed
+parse-unlisted r b limit tape_capacity capacity e nodes listed err n l (inl whole) = parse-at (Some e) (result_err r) [] nodes [] listed (err-of r e err) n l (parse-whole b limit (min tape_capacity capacity) e whole)
+parse-unlisted r b limit tape_capacity capacity e nodes listed err n l (inr (lacks, short)) =
+    parse-at (Some e) (result_err r) [] nodes [] listed (err-of r e err) n l (parse-lacking b limit (min tape_capacity capacity) e lacks (less-min-right tape_capacity capacity (length b) short))
 
 -- ---- size and encoding
 
@@ -125,19 +125,19 @@ right-input b none =
 -- ---- the second stage
 
 -- the second stage's end
-pub parse-built : {A : Type 0} (r : Result A Error) (b : List ℕ) (limit room : ℕ) (nodes : List Item) (listed : List ℕ) → OnOk r (IsParsed b limit nodes) → length nodes ≤ length (positions b) → OnErr r (nodes ≡ [])
-    → IfErr r (λ e. IsRefused b limit e × IsOfToken e) → listed ≡ positions b → IsParse b limit room (result_err r) nodes listed
-parse-built (Ok x) b limit room nodes listed p few empty refused l = parse-at None None nodes nodes (positions b) listed refl refl l (parse-done b limit room nodes p few)
-parse-built (Err e) b limit room nodes listed p few empty refused l =
-    parse-at (Some e) (Some e) [] nodes (positions b) listed refl empty l (parse-token b limit room e refused.0 refused.1)
+pub parse-built : {A : Type 0} (r : Result A Error) (b : List ℕ) (limit capacity : ℕ) (nodes : List Item) (listed : List ℕ) → OnOk r (IsParsed b limit nodes) → length nodes ≤ length (positions b) → OnErr r (nodes ≡ [])
+    → IfErr r (λ e. IsRefused b limit e × IsOfToken e) → listed ≡ positions b → IsParse b limit capacity (result_err r) nodes listed
+parse-built (Ok x) b limit capacity nodes listed p few empty refused l = parse-at None None nodes nodes (positions b) listed refl refl l (parse-done b limit capacity nodes p few)
+parse-built (Err e) b limit capacity nodes listed p few empty refused l =
+    parse-at (Some e) (Some e) [] nodes (positions b) listed refl empty l (parse-token b limit capacity e refused.0 refused.1)
 
--- the tape has no room for a node at each position
-pub parse-short : {A : Type 0} (r : Result A Error) (b : List ℕ) (limit tape_room room count : ℕ) (e : Error) (nodes : List Item) (listed : List ℕ) → r ≡ Err e → input_fault b ≡ None → e ≡ whole_fault OutOfMemory → tape_room < count → count ≡ length (positions b) → nodes ≡ [] → listed ≡ []
-    → IsParse b limit (min tape_room room) (result_err r) nodes listed
-parse-short r b limit tape_room room count e nodes listed err none is short same n l =
+-- the tape has no capacity for a node at each position
+pub parse-short : {A : Type 0} (r : Result A Error) (b : List ℕ) (limit tape_capacity capacity count : ℕ) (e : Error) (nodes : List Item) (listed : List ℕ) → r ≡ Err e → input_fault b ≡ None → e ≡ whole_fault OutOfMemory → tape_capacity < count → count ≡ length (positions b) → nodes ≡ [] → listed ≡ []
+    → IsParse b limit (min tape_capacity capacity) (result_err r) nodes listed
+parse-short r b limit tape_capacity capacity count e nodes listed err none is short same n l =
     let right = right-input b none in
     parse-at (Some e) (result_err r) [] nodes [] listed (ap result_err err) n l
-    (parse-lacking b limit (min tape_room room) e (is, right.0, right.1) (less-min-left tape_room room (length b) (omega (arith, short, same, few-positions b))))
+    (parse-lacking b limit (min tape_capacity capacity) e (is, right.0, right.1) (less-min-left tape_capacity capacity (length b) (omega (arith, short, same, few-positions b))))
 
 -- ---- the first stage, after the test of both
 
@@ -152,12 +152,12 @@ scan-refused (Ok x) b P l text h = h
 scan-refused (Err e) b P l text (inl is) = inl (scanned b l text ∙ is)
 scan-refused (Err e) b P l text (inr (is, p)) = inr ((is, l, text), p)
 
--- ---- room
+-- ---- capacity
 
--- a stack that is too short bounds the room
-pub short-stack : (r : Rooms) (count n : ℕ) → r.stack_room < min count r.limit → count ≤ n → room r < n
+-- a stack that is too short bounds the capacity
+pub short-stack : (r : Capacities) (count n : ℕ) → r.stack_capacity < min count r.limit → count ≤ n → capacity r < n
 short-stack r count n l m =
-    subst (λ t. min (cond t (min r.position_room r.stack_room) r.position_room) (64 * r.block_room) < n) (sym (lt-ltb r.stack_room r.limit (omega (arith, l))))
+    subst (λ t. min (cond t (min r.position_capacity r.stack_capacity) r.position_capacity) (64 * r.block_capacity) < n) (sym (lt-ltb r.stack_capacity r.limit (omega (arith, l))))
     (omega (arith, l, m))
 
 -- ---- lists of which nothing is in use
@@ -175,6 +175,6 @@ open-kept false false p s l p2 s2 l2 a b same le_p le_s = le_p
 min-kept : (a b c d : ℕ) → a ≤ c → b ≤ d → min a b ≤ min c d
 min-kept a b c d l m = omega (arith, l, m)
 
-pub room-kept : (old new : Rooms) → new.limit ≡ old.limit → KeepsRooms old new → room old ≤ room new
-room-kept old new same kept =
-    min-kept _ _ _ _ (open-kept _ _ old.position_room old.stack_room old.limit new.position_room new.stack_room new.limit refl refl same kept.0 kept.2) (omega (arith, kept.1))
+pub capacity-kept : (old new : Capacities) → new.limit ≡ old.limit → KeepsCapacities old new → capacity old ≤ capacity new
+capacity-kept old new same kept =
+    min-kept _ _ _ _ (open-kept _ _ old.position_capacity old.stack_capacity old.limit new.position_capacity new.stack_capacity new.limit refl refl same kept.0 kept.2) (omega (arith, kept.1))

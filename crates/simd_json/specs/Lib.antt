@@ -1,7 +1,7 @@
 pub mod MaxDepth
 pub mod Tapes
 pub mod TapeView
-pub mod Rooms
+pub mod Capacities
 pub mod Memory
 pub mod Parsed
 pub mod Documents

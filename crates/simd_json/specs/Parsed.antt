@@ -33,19 +33,19 @@ abbrev pub positions_after : List ℕ → Option Error → List ℕ
 positions_after b None = positions b
 positions_after b (Some e) = if is_some e.character then positions b else []
 
--- A parse of b with so many containers open at most, where there was room for `room` bytes: the fault if there is one, and
+-- A parse of b with so many containers open at most, where there was capacity for `capacity` bytes: the fault if there is one, and
 -- the nodes and the positions that are listed afterwards. Nothing else that buffers and tape held before is named.
-pub record IsParse (b : List ℕ) (limit room : ℕ) (fault : Option Error) (nodes : List Item) (listed : List ℕ) : Type 0 where
+pub record IsParse (b : List ℕ) (limit capacity : ℕ) (fault : Option Error) (nodes : List Item) (listed : List ℕ) : Type 0 where
   pub parsed : IfNone fault (IsParsed b limit nodes)
-  pub refused : IfSome fault (λ e. IsRefused b limit e ⊎ (LacksMemory b e × (room < length b)))
+  pub refused : IfSome fault (λ e. IsRefused b limit e ⊎ (LacksMemory b e × (capacity < length b)))
   pub empty : OnSome fault (nodes ≡ [])
   pub found : listed ≡ positions_after b fault
   pub few : (length nodes ≤ length (positions b)) × (length (positions b) ≤ length b)
 
 -- of the first `len` bytes of s; where too few follow them, only this is reported
 abbrev pub IsPaddedParse : List ℕ → ℕ → ℕ → ℕ → Option Error → List Item → List ℕ → Type 0
-IsPaddedParse s len limit room fault nodes listed =
-    MatchOption (padding_fault s len) (IsParse (take len s) limit room fault nodes listed) (λ e. (fault ≡ Some e) × (nodes ≡ []) × (listed ≡ []))
+IsPaddedParse s len limit capacity fault nodes listed =
+    MatchOption (padding_fault s len) (IsParse (take len s) limit capacity fault nodes listed) (λ e. (fault ≡ Some e) × (nodes ≡ []) × (listed ≡ []))
 
 -- the nodes of the document that the definitions answer, if they do
 abbrev pub answered_nodes : Result Document Error → List Item

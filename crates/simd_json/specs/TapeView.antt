@@ -5,4 +5,4 @@ use Rattle.simd_json_parts.specs.declared.node.Node.{Node}
 use Rattle.simd_json.specs.Tapes.{Listed}
 
 abbrev pub listed_of : List Node → ℕ → Listed
-listed_of list used = record { nodes = map item_of (take used list); room = length list }
+listed_of list used = record { nodes = map item_of (take used list); capacity = length list }

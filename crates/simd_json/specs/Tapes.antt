@@ -2,7 +2,7 @@
 use Rattle.std.specs.Prelude.{ℕ, List}
 use Rattle.simd_json_parts.specs.Nodes.{Item}
 
--- the nodes, and for how many there is room
+-- the nodes, and for how many there is capacity
 pub record Listed : Type 0 where
   pub nodes : List Item
-  pub room : ℕ
+  pub capacity : ℕ

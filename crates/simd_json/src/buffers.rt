@@ -1,14 +1,14 @@
 //! Lists that parses use one after another.
 ghost use Rattle.std.specs.Prelude.{◌≡◌, ◌≤◌, ◌<◌, ◌⊎◌, [], length, min, max, OnOk, OnErr, IfOk, IfErr, Some, None};
 ghost use Rattle.simd_json.specs.Memory.{IsOutOfMemory, LacksMemory};
-ghost use Rattle.simd_json.specs.Rooms.{KeepsRooms, ListsSame, room, capped, new_buffers};
+ghost use Rattle.simd_json.specs.Capacities.{KeepsCapacities, ListsSame, capacity, capped, new_buffers};
 ghost use Rattle.simd_json_parts.specs.InputFaults.{input_fault};
 ghost use Rattle.simd_json.specs.MaxDepth.{default_max_depth};
 ghost use Rattle.simd_json_parts.specs.Positions.{positions};
 ghost use Rattle.simd_json_stages.specs.EscapeBlocks.{backslash_blocks, blocks_in};
 
 use crate::DEFAULT_MAX_DEPTH;
-use crate::room::lengthen;
+use crate::capacity::lengthen;
 use simd_json_parts::error::Result;
 use simd_json_stages::stage1::{BLOCK_LEN, BlockStage1Parse, Stage1Parse};
 use simd_json_stages::stage2::StackState;
@@ -19,7 +19,7 @@ use std::marker::Model;
 /// the stack of the open containers, of which there may be so many.
 ///
 /// Each list grows by what an input needs, and is never given up. What buffers held before does not change an answer.
-// The lists are kept filled up to their room.
+// The lists are kept filled up to their capacity.
 #[derive(Drop)]
 pub struct Buffers<A: Allocator = Global> {
     pub(crate) structural_indexes: Vec<u32, A>,
@@ -32,11 +32,11 @@ pub struct Buffers<A: Allocator = Global> {
 
 impl<A: Allocator> Model for Buffers<A> {
     ghost use Rattle.std.specs.Prelude.{◌≤◌, length};
-    ghost use Rattle.simd_json.specs.Rooms.{Rooms, rooms_of};
+    ghost use Rattle.simd_json.specs.Capacities.{Capacities, capacities_of};
 
-    ghost Value = { Rooms };
+    ghost Value = { Capacities };
 
-    ghost view = { λ b. rooms_of b.structural_indexes.items b.used b.escape_blocks.items b.used_blocks (length b.stack.items) b.max_depth };
+    ghost view = { λ b. capacities_of b.structural_indexes.items b.used b.escape_blocks.items b.used_blocks (length b.stack.items) b.max_depth };
 
     ghost invariant = { λ b. (b.used ≤ length b.structural_indexes.items) × (b.used_blocks ≤ length b.escape_blocks.items) };
 }
@@ -53,7 +53,7 @@ impl<A: Allocator + Copy> Buffers<A> {
 
     /// Buffers with which at most `max_depth` containers may be open at a time; 0 leaves scalars alone.
     ///
-    /// They list no position. There is room for the positions that an input of `input_len` bytes may have (more than
+    /// They list no position. There is capacity for the positions that an input of `input_len` bytes may have (more than
     /// 4,294,967,295 count as that number, the greatest size of an input), and none for open containers yet: the depth
     /// limit costs nothing before an input is as deep. `input_len` is a hint, and may be 0: what an input needs beyond it is
     /// grown by the parse.
@@ -99,18 +99,18 @@ impl<A: Allocator> Buffers<A> {
         &self.structural_indexes[..self.used]
     }
 
-    /// Makes room for inputs of up to `input_len` bytes (more than 4,294,967,295 count as that number): for their positions,
+    /// Reserves capacity for inputs of up to `input_len` bytes (more than 4,294,967,295 count as that number): for their positions,
     /// and for as many open containers as they can have within the depth limit.
     ///
-    /// With as much room on the tape no parse of such an input returns `OutOfMemory`, however many follow, since no parse
-    /// gives up room. The positions that are listed stay.
+    /// With as much capacity on the tape no parse of such an input returns `OutOfMemory`, however many follow, since no parse
+    /// gives up capacity. The positions that are listed stay.
     ///
-    /// Returns `OutOfMemory` where an allocation fails; what room has been made by then stays.
+    /// Returns `OutOfMemory` where an allocation fails; what capacity has been reserved by then stays.
     pub fn reserve(&mut self, input_len: usize) -> Result<()>
-        ensures room { OnOk result (capped input_len ≤ room self.new) }
-        ensures kept { KeepsRooms self.old self.new }
+        ensures capacity { OnOk result (capped input_len ≤ capacity self.new) }
+        ensures kept { KeepsCapacities self.old self.new }
         ensures same { ListsSame self.old self.new }
-        ensures fault { IfErr result (λ e. IsOutOfMemory e × (room self.old < capped input_len)) }
+        ensures fault { IfErr result (λ e. IsOutOfMemory e × (capacity self.old < capped input_len)) }
     {
         let len = input_len.min(u32::MAX as usize);
         self.reserve_lists(len)?;
@@ -121,20 +121,20 @@ impl<A: Allocator> Buffers<A> {
         )
     }
 
-    // Makes room for the positions of so many bytes, and for their blocks.
+    // Reserves capacity for the positions of so many bytes, and for their blocks.
     fn reserve_lists(&mut self, len: usize) -> Result<()>
-        ensures kept { KeepsRooms self.old self.new }
-        ensures same { ListsSame self.old self.new × (self.new.stack_room ≡ self.old.stack_room) }
-        ensures room { OnOk result ((self.new.position_room ≡ max self.old.position_room len)
-            × (self.new.block_room ≡ max self.old.block_room (blocks_in len))) }
+        ensures kept { KeepsCapacities self.old self.new }
+        ensures same { ListsSame self.old self.new × (self.new.stack_capacity ≡ self.old.stack_capacity) }
+        ensures capacity { OnOk result ((self.new.position_capacity ≡ max self.old.position_capacity len)
+            × (self.new.block_capacity ≡ max self.old.block_capacity (blocks_in len))) }
         ensures fault { IfErr result (λ e. IsOutOfMemory e
-            × ((self.old.position_room < len) ⊎ (self.old.block_room < blocks_in len))) }
+            × ((self.old.position_capacity < len) ⊎ (self.old.block_capacity < blocks_in len))) }
     {
         lengthen(&mut self.structural_indexes, len, 0)?;
         lengthen(&mut self.escape_blocks, len.div_ceil(BLOCK_LEN), 0)
     }
 
-    // Lists nothing, and keeps its room.
+    // Lists nothing, and keeps its capacity.
     pub(crate) fn clear(&mut self)
         ensures { self.new ≡ record self.old { positions = []; blocks = [] } }
     {
@@ -142,7 +142,7 @@ impl<A: Allocator> Buffers<A> {
         self.used_blocks = 0;
     }
 
-    // Lists the structural positions of the input and its blocks that hold a backslash, and makes room for the containers
+    // Lists the structural positions of the input and its blocks that hold a backslash, and reserves capacity for the containers
     // that can open at the positions within the limit. Answers the fault of the whole input, or `OutOfMemory` where a
     // growth was refused, and lists nothing then.
     pub(crate) fn find_positions(&mut self, input: &[u8]) -> Result<()>
@@ -150,12 +150,12 @@ impl<A: Allocator> Buffers<A> {
             × (input_fault input.now ≡ None)) }
         ensures escapes { OnOk result (self.new.blocks ≡ backslash_blocks input.now) }
         ensures stack { OnOk result
-            (min (length (positions input.now)) self.new.limit ≤ self.new.stack_room) }
+            (min (length (positions input.now)) self.new.limit ≤ self.new.stack_capacity) }
         ensures empty { OnErr result ((self.new.positions ≡ []) × (self.new.blocks ≡ [])) }
         ensures limit { self.new.limit ≡ self.old.limit }
-        ensures kept { KeepsRooms self.old self.new }
+        ensures kept { KeepsCapacities self.old self.new }
         ensures fault { IfErr result (λ e. (input_fault input.now ≡ Some e)
-            ⊎ (LacksMemory input.now e × (room self.old < length input.now))) }
+            ⊎ (LacksMemory input.now e × (capacity self.old < length input.now))) }
     {
         self.clear();
         let found = BlockStage1Parse::find_structural_bits(

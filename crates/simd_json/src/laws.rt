@@ -4,7 +4,7 @@ ghost use Rattle.std.specs.Prelude.{◌≡◌, ◌≤◌, ◌↔◌, ◌∷◌, 
 ghost use Rattle.std.specs.Result.{result_err};
 ghost use Rattle.simd_json.specs.Memory.{HasMemory};
 ghost use Rattle.simd_json.specs.Parsed.{IsPaddedParse, IsParse, IsRefused, answered_nodes, positions_after};
-ghost use Rattle.simd_json.specs.Rooms.{KeepsRooms, Rooms, room};
+ghost use Rattle.simd_json.specs.Capacities.{KeepsCapacities, Capacities, capacity};
 ghost use Rattle.simd_json_parts.specs.Answer.{answer};
 ghost use Rattle.simd_json_parts.specs.Document.{Document};
 ghost use Rattle.simd_json_parts.specs.Grammar.{Denotes};
@@ -17,9 +17,9 @@ ghost use Rattle.simd_json_parts.specs.declared.error.Error.{Error};
 /// A parse in which no allocation fails returns what the definitions answer, with the nodes of their document, and it lists
 /// the positions that belong to this answer.
 pub fn parses_are_answers()
-    ensures { (b : List ℕ) (limit room : ℕ) (fault : Option Error)
+    ensures { (b : List ℕ) (limit capacity : ℕ) (fault : Option Error)
         (nodes : List Item) (listed : List ℕ)
-        → IsParse b limit room fault nodes listed → HasMemory fault
+        → IsParse b limit capacity fault nodes listed → HasMemory fault
         → (fault ≡ result_err (answer b limit)) × (nodes ≡ answered_nodes (answer b limit))
         × (listed ≡ positions_after b (result_err (answer b limit))) }
 {}
@@ -27,27 +27,27 @@ pub fn parses_are_answers()
 /// So two parses of the same bytes within the same limit agree, whichever entry point they take and whatever the buffers,
 /// the tape and the padding held.
 pub fn parses_agree()
-    ensures same { (b : List ℕ) (limit room room2 : ℕ) (fault fault2 : Option Error)
+    ensures same { (b : List ℕ) (limit capacity capacity2 : ℕ) (fault fault2 : Option Error)
         (nodes nodes2 : List Item) (listed listed2 : List ℕ)
-        → IsParse b limit room fault nodes listed → IsParse b limit room2 fault2 nodes2 listed2
+        → IsParse b limit capacity fault nodes listed → IsParse b limit capacity2 fault2 nodes2 listed2
         → HasMemory fault → HasMemory fault2
         → (fault ≡ fault2) × (nodes ≡ nodes2) × (listed ≡ listed2) }
-    ensures padded { (s : List ℕ) (len limit room : ℕ) (fault : Option Error)
+    ensures padded { (s : List ℕ) (len limit capacity : ℕ) (fault : Option Error)
         (nodes : List Item) (listed : List ℕ) → padding_fault s len ≡ None
-        → IsPaddedParse s len limit room fault nodes listed
-        → IsParse (take len s) limit room fault nodes listed }
+        → IsPaddedParse s len limit capacity fault nodes listed
+        → IsParse (take len s) limit capacity fault nodes listed }
 {}
 
-/// A parse that has room for its bytes does not return `OutOfMemory`.
-pub fn room_suffices()
-    ensures { (b : List ℕ) (limit room : ℕ) (fault : Option Error)
+/// A parse that has capacity for its bytes does not return `OutOfMemory`.
+pub fn capacity_suffices()
+    ensures { (b : List ℕ) (limit capacity : ℕ) (fault : Option Error)
         (nodes : List Item) (listed : List ℕ)
-        → IsParse b limit room fault nodes listed → length b ≤ room → HasMemory fault }
+        → IsParse b limit capacity fault nodes listed → length b ≤ capacity → HasMemory fault }
 {}
 
-/// Where no list gets shorter and the limit stays, there is as much room as before.
-pub fn kept_lists_keep_room()
-    ensures { (old new : Rooms) → new.limit ≡ old.limit → KeepsRooms old new → room old ≤ room new }
+/// Where no list gets shorter and the limit stays, there is as much capacity as before.
+pub fn kept_lists_keep_capacity()
+    ensures { (old new : Capacities) → new.limit ≡ old.limit → KeepsCapacities old new → capacity old ≤ capacity new }
 {}
 
 /// A fault has a character exactly where it is a token's: where the input as a whole has none.
@@ -63,7 +63,7 @@ pub fn documents_are_known_by_their_listing()
 
 /// So the value that a parsed tape is read as, whose listing is the tape's, stands for the document that the bytes denote.
 pub fn values_stand_for_parsed_documents()
-    ensures { (b : List ℕ) (limit room : ℕ) (nodes : List Item) (listed : List ℕ) (d : Document) → IsParse b limit room None nodes listed → listing d ≡ nodes
+    ensures { (b : List ℕ) (limit capacity : ℕ) (nodes : List Item) (listed : List ℕ) (d : Document) → IsParse b limit capacity None nodes listed → listing d ≡ nodes
         → Denotes b d × WithinLimits b d limit × (answer b limit ≡ Ok d) }
 {}
 

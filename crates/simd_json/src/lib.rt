@@ -14,7 +14,7 @@
 mod buffers;
 pub mod laws;
 mod parse;
-mod room;
+mod capacity;
 pub mod value;
 
 pub use buffers::Buffers;

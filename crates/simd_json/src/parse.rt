@@ -2,7 +2,7 @@
 ghost use Rattle.std.specs.Prelude.{◌≡◌, ◌≢◌, ◌≤◌, [], ℕ, List, length, min, IfErr, IfOk, OnOk, OnErr, None, Err};
 ghost use Rattle.std.specs.Result.{result_err};
 ghost use Rattle.simd_json.specs.Parsed.{IsParse, IsPaddedParse, IsParsed, IsRefused, nodes_of};
-ghost use Rattle.simd_json.specs.Rooms.{KeepsRooms, room};
+ghost use Rattle.simd_json.specs.Capacities.{KeepsCapacities, capacity};
 ghost use Rattle.simd_json_parts.specs.FaultKinds.{IsOfToken};
 ghost use Rattle.simd_json_parts.specs.InputFaults.{input_fault};
 ghost use Rattle.simd_json.specs.MaxDepth.{default_max_depth};
@@ -73,7 +73,7 @@ pub fn to_tape_with_buffers<'de, A: Allocator + Copy>(
         (result_err result) (nodes_of result) buffers.new.positions }
     ensures some { IfOk result (λ tape. tape.nodes ≢ []) }
     ensures limit { buffers.new.limit ≡ buffers.old.limit }
-    ensures rooms { KeepsRooms buffers.old buffers.new }
+    ensures capacities { KeepsCapacities buffers.old buffers.new }
 {
     let mut tape = Tape::empty(buffers.allocator());
     fill_tape(s, buffers, &mut tape)?;
@@ -86,7 +86,7 @@ pub fn to_tape_with_buffers<'de, A: Allocator + Copy>(
 /// The errors are those of [`to_tape`]. After one the tape is empty. After one without a character `structural_indexes` of
 /// the buffers is empty too; else it lists the positions of `s`. Buffers and tape can be used again after every answer.
 ///
-/// Where buffers and tape have room for as many bytes as `s` has, `OutOfMemory` is not returned. No parse gives up room.
+/// Where buffers and tape have capacity for as many bytes as `s` has, `OutOfMemory` is not returned. No parse gives up capacity.
 ///
 /// ```
 /// use simd_json::{Buffers, Tape, fill_tape};
@@ -109,11 +109,11 @@ pub fn fill_tape<'de, A: Allocator, B: Allocator>(
     buffers: &mut Buffers<A>,
     tape: &mut Tape<'de, B>,
 ) -> Result<()>
-    ensures parse { IsParse s.old buffers.old.limit (min tape.old.room (room buffers.old))
+    ensures parse { IsParse s.old buffers.old.limit (min tape.old.capacity (capacity buffers.old))
         (result_err result) tape.new.nodes buffers.new.positions }
     ensures some { OnOk result (tape.new.nodes ≢ []) }
     ensures limit { buffers.new.limit ≡ buffers.old.limit }
-    ensures rooms { KeepsRooms buffers.old buffers.new × (tape.old.room ≤ tape.new.room) }
+    ensures capacities { KeepsCapacities buffers.old buffers.new × (tape.old.capacity ≤ tape.new.capacity) }
 {
     tape.clear();
     buffers.find_positions(s)?;
@@ -146,11 +146,11 @@ pub fn fill_tape_padded<'de, A: Allocator, B: Allocator>(
     buffers: &mut Buffers<A>,
     tape: &mut Tape<'de, B>,
 ) -> Result<()>
-    ensures parse { IsPaddedParse s.old len buffers.old.limit (min tape.old.room (room buffers.old))
+    ensures parse { IsPaddedParse s.old len buffers.old.limit (min tape.old.capacity (capacity buffers.old))
         (result_err result) tape.new.nodes buffers.new.positions }
     ensures some { OnOk result (tape.new.nodes ≢ []) }
     ensures limit { buffers.new.limit ≡ buffers.old.limit }
-    ensures rooms { KeepsRooms buffers.old buffers.new × (tape.old.room ≤ tape.new.room) }
+    ensures capacities { KeepsCapacities buffers.old buffers.new × (tape.old.capacity ≤ tape.new.capacity) }
 {
     if s.len().saturating_sub(len) < INPUT_PADDING {
         return refuse(
@@ -171,14 +171,14 @@ fn refuse<A: Allocator, B: Allocator>(
 ) -> Result<()>
     ensures refused { result ≡ Err e }
     ensures positions { buffers.new ≡ record buffers.old { positions = []; blocks = [] } }
-    ensures nodes { tape.new ≡ record { nodes = []; room = tape.old.room } }
+    ensures nodes { tape.new ≡ record { nodes = []; capacity = tape.old.capacity } }
 {
     buffers.clear();
     tape.clear();
     Err(e)
 }
 
-// The second stage, where all room has been made.
+// The second stage, where all capacity is reserved.
 fn build<'de, A: Allocator, B: Allocator>(
     s: &'de mut [u8],
     buffers: &mut Buffers<A>,
@@ -186,15 +186,15 @@ fn build<'de, A: Allocator, B: Allocator>(
 ) -> Result<()>
     requires positions { (buffers.old.positions ≡ positions s.old) × (input_fault s.old ≡ None) }
     requires escapes { buffers.old.blocks ≡ backslash_blocks s.old }
-    requires stack { min (length (positions s.old)) buffers.old.limit ≤ buffers.old.stack_room }
-    requires nodes { length (positions s.old) ≤ tape.old.room }
+    requires stack { min (length (positions s.old)) buffers.old.limit ≤ buffers.old.stack_capacity }
+    requires nodes { length (positions s.old) ≤ tape.old.capacity }
     requires empty { tape.old.nodes ≡ [] }
     ensures tape { OnOk result (IsParsed s.old buffers.old.limit tape.new.nodes) }
     ensures some { OnOk result (tape.new.nodes ≢ []) }
     ensures few { length tape.new.nodes ≤ length (positions s.old) }
     ensures empty { OnErr result (tape.new.nodes ≡ []) }
     ensures kept { buffers.new ≡ buffers.old }
-    ensures room { tape.new.room ≡ tape.old.room }
+    ensures capacity { tape.new.capacity ≡ tape.old.capacity }
     ensures fault { IfErr result (λ e. IsRefused s.old buffers.old.limit e × IsOfToken e) }
 {
     tape.used = build_tape(

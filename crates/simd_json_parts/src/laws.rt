@@ -1,5 +1,5 @@
 //! Laws of the definitions. Each function has an empty body: its contract is the law, and what it says is proved.
-ghost use Rattle.std.specs.Prelude.{◌≡◌, ◌≢◌, ◌↔◌, ◌≤◌, ◌<◌, ◌+◌, ◌-◌, ◌++◌, ◌∷◌, [], ◌⊎◌, ℕ, suc, List, length, take, drop, IsTrue, Contains, IsUtf8, encode_utf8_all, Option, Some, None, Ok, Err, true, IsFalse};
+ghost use Rattle.std.specs.Prelude.{◌≡◌, ◌≢◌, ◌↔◌, ◌≤◌, ◌<◌, ◌+◌, ◌-◌, ◌++◌, ◌∷◌, [], ◌⊎◌, ℕ, suc, List, length, take, drop, IsTrue, Contains, IsUtf8, encode_utf8_all, Some, None, Ok, Err, true, IsFalse};
 ghost use Rattle.std.specs.Char.{is_ascii_digit};
 ghost use Rattle.std.specs.Cmp.{IsEquivalence};
 ghost use Rattle.std.specs.List.Sorted.{IsStrictlyIncreasing};
@@ -17,7 +17,7 @@ ghost use Rattle.simd_json_parts.specs.Grammar.{Denotes, IsBeginning};
 ghost use Rattle.simd_json_parts.specs.Headers.{IsHeaded};
 ghost use Rattle.simd_json_parts.specs.InputFaults.{input_fault, has_bad_string};
 ghost use Rattle.simd_json_parts.specs.Integers.{max_magnitude};
-ghost use Rattle.simd_json_parts.specs.Limits.{depth, max_length, IntegersFit, WithinLimits};
+ghost use Rattle.simd_json_parts.specs.Limits.{WithinLimits};
 ghost use Rattle.simd_json_parts.specs.Listing.{listing};
 ghost use Rattle.simd_json_parts.specs.NodeEquality.{same_items};
 ghost use Rattle.simd_json_parts.specs.Nodes.{Item};
@@ -25,7 +25,6 @@ ghost use Rattle.simd_json_parts.specs.NumberAt.{number_at};
 ghost use Rattle.simd_json_parts.specs.Numbers.{number_literal, integer_literal, decimal_literal, has_minus, magnitude};
 ghost use Rattle.simd_json_parts.specs.Patterns.{Pattern, Matches, Begins};
 ghost use Rattle.simd_json_parts.specs.Positions.{positions, is_position, is_inside, is_real_quote};
-ghost use Rattle.simd_json_parts.specs.Printed.{compact, pretty};
 ghost use Rattle.simd_json_parts.specs.Spellable.{IsSpellable};
 ghost use Rattle.simd_json_parts.specs.Strings.{ArePieces};
 ghost use Rattle.simd_json_parts.specs.StringAt.{string_at, closing_quote, read_pieces};
@@ -36,6 +35,8 @@ ghost use Rattle.simd_json_parts.specs.Views.{mismatch};
 ghost use Rattle.simd_json_parts.specs.declared.error.Error.{Error};
 ghost use Rattle.simd_json_parts.specs.declared.error.ErrorType.{ErrorType};
 ghost use Rattle.simd_json_parts.specs.declared.error.ErrorType.TheVariants.{ExpectedObjectKey, InsufficientPadding};
+
+pub mod printing;
 
 /// The test of a pattern is its set.
 pub fn patterns_are_sets()
@@ -260,59 +261,6 @@ pub fn unexpected_tokens_are_not_reported_early()
     ensures { (b : List ℕ) (limit : ℕ) (e : Error) → input_fault b ≡ None → descent b limit ≡ Err e
         → is_unexpected_token e.error ≡ true
         → IsBeginning (take (suc e.index) b) → ⊥ }
-{}
-
-/// A printed text denotes the document that is printed, with no sign on a zero: a document that is equal to it, and nests
-/// as deep. So it is for each document whose decimals are literals, whose strings and names are UTF-8, and whose integers
-/// are in the ranges of their signs.
-pub fn printed_texts_denote_their_documents()
-    ensures compact { (d : Document) → IsSpellable d → IntegersFit d → Denotes (compact d) (normalized d) }
-    ensures pretty { (d : Document) → IsSpellable d → IntegersFit d → Denotes (pretty d) (normalized d) }
-    ensures equal { (d : Document) → equal (normalized d) d ≡ true }
-    ensures depth { (d : Document) → depth (normalized d) ≡ depth d }
-{}
-
-/// So a printed text is UTF-8.
-pub fn printed_texts_are_utf8()
-    ensures compact { (d : Document) → IsSpellable d → IntegersFit d → IsUtf8 (compact d) }
-    ensures pretty { (d : Document) → IsSpellable d → IntegersFit d → IsUtf8 (pretty d) }
-{}
-
-/// Equal documents are printed alike.
-pub fn equal_documents_are_printed_alike()
-    ensures compact { (d e : Document) → equal d e ≡ true → compact d ≡ compact e }
-    ensures pretty { (d e : Document) → equal d e ≡ true → pretty d ≡ pretty e }
-{}
-
-/// And documents that are printed alike are equal.
-pub fn printed_texts_are_of_one_document()
-    ensures compact { (d e : Document) → IsSpellable d → IntegersFit d → IsSpellable e → IntegersFit e
-        → compact d ≡ compact e → equal d e ≡ true }
-    ensures pretty { (d e : Document) → IsSpellable d → IntegersFit d → IsSpellable e → IntegersFit e
-        → pretty d ≡ pretty e → equal d e ≡ true }
-{}
-
-/// A printed text whose length and nesting are within the limits is answered with the document that was printed, with no
-/// sign on a zero.
-pub fn printed_texts_are_read_again()
-    ensures compact { (d : Document) (limit : ℕ) → IsSpellable d → IntegersFit d
-        → length (compact d) ≤ max_length → depth d ≤ limit → answer (compact d) limit ≡ Ok (normalized d) }
-    ensures pretty { (d : Document) (limit : ℕ) → IsSpellable d → IntegersFit d
-        → length (pretty d) ≤ max_length → depth d ≤ limit → answer (pretty d) limit ≡ Ok (normalized d) }
-{}
-
-/// Compact text is the shortest: no fewer bytes denote the document.
-pub fn compact_texts_are_shortest()
-    ensures { (b : List ℕ) (d : Document) → Denotes b d → IntegersFit d → length (compact d) ≤ length b }
-{}
-
-/// So what is answered can be printed and read again within the same limits: compactly always, and pretty where that text
-/// is not too long.
-pub fn answers_are_printed_and_read_again()
-    ensures compact { (b : List ℕ) (limit : ℕ) (d : Document) → answer b limit ≡ Ok d
-        → answer (compact d) limit ≡ Ok (normalized d) }
-    ensures pretty { (b : List ℕ) (limit : ℕ) (d : Document) → answer b limit ≡ Ok d
-        → length (pretty d) ≤ max_length → answer (pretty d) limit ≡ Ok (normalized d) }
 {}
 
 /// Documents are equal exactly if their nodes are, one by one: so one comparison of nodes compares values.

@@ -171,10 +171,10 @@ module _ (b ps : List ℕ) (limit : ℕ) where
   opened : (c : Container) (stack : List StackState) (nodes : List Node) (p : Progress) (at : AtValue b ps limit stack nodes p) → p.depth < limit → form_at b p.at ≡ opening_form c → p.read < length ps
       → whole b ps limit ≡ at_container b (missing b ps) limit c at.opens (tokens_along b (get_or ps p.read 0 ∷ drop (p.read + 1) ps))
   opened c stack nodes p at l is k =
-      let room : length at.opens < limit = omega (arith, at.deep) in
+      let capacity : length at.opens < limit = omega (arith, at.deep) in
       at.same
       ∙ ap (at_value b (missing b ps) limit at.opens) (along-form b p.at (drop p.read ps) (opening_form c) is (opening-goes_on c))
-      ∙ container-open b (missing b ps) limit c at.opens (token b p.at) (tokens_along b (drop p.read ps)) room is
+      ∙ container-open b (missing b ps) limit c at.opens (token b p.at) (tokens_along b (drop p.read ps)) capacity is
       ∙ ap (at_container b (missing b ps) limit c at.opens) (next b ps p.read k)
 
   -- and the tokens up to there
@@ -186,7 +186,7 @@ module _ (b ps : List ℕ) (limit : ℕ) where
   pub step-empty : (c : Container) (stack : List StackState) (nodes : List Node) (p : Progress) → AtValue b ps limit stack nodes p → p.used < length nodes → p.depth < limit → byte_at b p.at + 2 ≡ closer c
       → p.read < length ps → byte_at b (get_or ps p.read 0) ≡ closer c
       → AfterValue b ps limit stack (set nodes p.used (header_of c 0 0)) (record p { read = p.read + 1; at = get_or ps p.read 0; byte = byte_at b (get_or ps p.read 0); used = p.used + 1; len = p.len + 1 })
-  step-empty c stack nodes p at l room o k e =
+  step-empty c stack nodes p at l capacity o k e =
       let i : ℕ = get_or ps p.read 0 in
       let rest : List ℕ = drop (p.read + 1) ps in
       let is : form_at b p.at ≡ opening_form c = opening-form b c p.at o in
@@ -194,7 +194,7 @@ module _ (b ps : List ℕ) (limit : ℕ) where
       record {
         opens = at.opens;
         last = empty_of c;
-        same = opened c stack nodes p at room is k ∙ ap (at_container b (missing b ps) limit c at.opens) (along-form b i rest (ending_form c) ends (ending-goes_on c)) ∙ container-close b (missing b ps) limit c at.opens (token b i) (tokens_along b rest) ends;
+        same = opened c stack nodes p at capacity is k ∙ ap (at_container b (missing b ps) limit c at.opens) (along-form b i rest (ending_form c) ends (ending-goes_on c)) ∙ container-close b (missing b ps) limit c at.opens (token b i) (tokens_along b rest) ends;
         before = (at.before ++ token b p.at ∷ []) ++ token b i ∷ [];
         along = extended (at.before ++ token b p.at ∷ []) i rest (ending_form c) ends (ending-goes_on c) (opened-along c stack nodes p at is k);
         reached = last_index-append (at.before ++ token b p.at ∷ []) (token b i);
@@ -207,20 +207,20 @@ module _ (b ps : List ℕ) (limit : ℕ) where
       → p.read < length ps → byte_at b (get_or ps p.read 0) ≢ closer c
       → AtMember b ps limit kinds.ExpectedObjectContent (set stack p.depth (record { header = p.used; outer = p.container; len = p.len })) nodes
       (record { read = p.read + 1; at = get_or ps p.read 0; byte = byte_at b (get_or ps p.read 0); used = p.used + 1; depth = p.depth + 1; container = c; len = 0 })
-  step-open Array stack nodes p at l s room o k e =
+  step-open Array stack nodes p at l s capacity o k e =
       let i : ℕ = get_or ps p.read 0 in
       let rest : List ℕ = drop (p.read + 1) ps in
       let f : StackState = record { header = p.used; outer = p.container; len = p.len } in
       let is : form_at b p.at ≡ begin_array = opening-form b Array p.at o in
       record {
         opens = in_array [] ∷ at.opens;
-        same = opened Array stack nodes p at room is k ∙ at_array-element b (missing b ps) limit at.opens (token b i) (cond (goes_on (form_at b i)) (tokens_along b rest) []) (form_at b i) refl (no_end b i e);
+        same = opened Array stack nodes p at capacity is k ∙ at_array-element b (missing b ps) limit at.opens (token b i) (cond (goes_on (form_at b i)) (tokens_along b rest) []) (form_at b i) refl (no_end b i e);
         before = at.before ++ token b p.at ∷ [];
         along = opened-along Array stack nodes p at is k;
         holds = subst (λ fs. Holds (in_array [] ∷ at.opens) Array fs 0 (map item_of (take (p.used + 1) nodes))) (sym (frames-push stack f p.depth s)) (subst (Holds (in_array [] ∷ at.opens) Array (f ∷ frames stack p.depth) 0) (sym (items-more nodes p.used l)) (Holds-open at.opens p.container (frames stack p.depth) f p.len (map item_of (take p.used nodes)) (item_of (get_or nodes p.used (Static Null))) at.holds (sym (items-length nodes p.used (omega arith))) refl refl));
         deep = omega (arith, at.deep);
       }
-  step-open Object stack nodes p at l s room o k e =
+  step-open Object stack nodes p at l s capacity o k e =
       let i : ℕ = get_or ps p.read 0 in
       let rest : List ℕ = drop (p.read + 1) ps in
       let f : StackState = record { header = p.used; outer = p.container; len = p.len } in
@@ -228,7 +228,7 @@ module _ (b ps : List ℕ) (limit : ℕ) where
       record {
         members = [];
         outer = at.opens;
-        same = opened Object stack nodes p at room is k ∙ at_object-name b (missing b ps) limit at.opens (token b i) (cond (goes_on (form_at b i)) (tokens_along b rest) []) (form_at b i) refl (no_end_object b i e);
+        same = opened Object stack nodes p at capacity is k ∙ at_object-name b (missing b ps) limit at.opens (token b i) (cond (goes_on (form_at b i)) (tokens_along b rest) []) (form_at b i) refl (no_end_object b i e);
         before = at.before ++ token b p.at ∷ [];
         along = opened-along Object stack nodes p at is k;
         holds = subst (λ fs. HoldsMembers [] at.opens Object fs 0 (map item_of (take (p.used + 1) nodes))) (sym (frames-push stack f p.depth s)) (subst (HoldsMembers [] at.opens Object (f ∷ frames stack p.depth) 0) (sym (items-more nodes p.used l)) (Holds-open_object at.opens p.container (frames stack p.depth) f p.len (map item_of (take p.used nodes)) (item_of (get_or nodes p.used (Static Null))) at.holds (sym (items-length nodes p.used (omega arith))) refl refl));

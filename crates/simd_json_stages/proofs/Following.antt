@@ -195,13 +195,13 @@ abbrev pub first_token : List ℕ → ℕ → Progress
 first_token ps x = record { read = 1; at = get_or ps 0 0; byte = x; used = 0; depth = 0; container = Array; len = 0 }
 
 -- All of the input is unread there.
-pub at-first : (input ps : List ℕ) (u : Left) (e : Escapes) (stack : List StackState) (nodes : List Node) (limit x room : ℕ) → u ≡ record { at = 0; bytes = input } → ps ≡ positions input → input_fault input ≡ None → 0 < length ps → AreAhead input e 0
-    → x ≡ byte_at u.bytes (get_or ps 0 0 - u.at) → length ps ≤ length nodes → room ≤ length stack
-    → ((ps ≡ positions u.bytes) × (input_fault u.bytes ≡ None)) × (IsBefore u.bytes ps u (first_token ps x) × (AreAhead u.bytes e (get_or ps 0 0) × ((0 ≤ limit) × ((length ps ≤ length nodes) × ((room ≤ length stack) × AtValue u.bytes ps limit stack nodes (first_token ps x))))))
-at-first input ps u e stack nodes limit x room is ps-is good some ahead byte l k =
+pub at-first : (input ps : List ℕ) (u : Left) (e : Escapes) (stack : List StackState) (nodes : List Node) (limit x capacity : ℕ) → u ≡ record { at = 0; bytes = input } → ps ≡ positions input → input_fault input ≡ None → 0 < length ps → AreAhead input e 0
+    → x ≡ byte_at u.bytes (get_or ps 0 0 - u.at) → length ps ≤ length nodes → capacity ≤ length stack
+    → ((ps ≡ positions u.bytes) × (input_fault u.bytes ≡ None)) × (IsBefore u.bytes ps u (first_token ps x) × (AreAhead u.bytes e (get_or ps 0 0) × ((0 ≤ limit) × ((length ps ≤ length nodes) × ((capacity ≤ length stack) × AtValue u.bytes ps limit stack nodes (first_token ps x))))))
+at-first input ps u e stack nodes limit x capacity is ps-is good some ahead byte l k =
     let none : get_or ps 0 0 - 0 ≡ get_or ps 0 0 = omega arith in
     let byte' : x ≡ byte_at input (get_or ps 0 0 - 0) = subst (λ (u : Left). x ≡ byte_at u.bytes (get_or ps 0 0 - u.at)) is byte in
-    subst (λ (u : Left). ((ps ≡ positions u.bytes) × (input_fault u.bytes ≡ None)) × (IsBefore u.bytes ps u (first_token ps x) × (AreAhead u.bytes e (get_or ps 0 0) × ((0 ≤ limit) × ((length ps ≤ length nodes) × ((room ≤ length stack) × AtValue u.bytes ps limit stack nodes (first_token ps x))))))) (sym is) (
+    subst (λ (u : Left). ((ps ≡ positions u.bytes) × (input_fault u.bytes ≡ None)) × (IsBefore u.bytes ps u (first_token ps x) × (AreAhead u.bytes e (get_or ps 0 0) × ((0 ≤ limit) × ((length ps ≤ length nodes) × ((capacity ≤ length stack) × AtValue u.bytes ps limit stack nodes (first_token ps x))))))) (sym is) (
       (ps-is, good),
       (
         record {

@@ -107,19 +107,19 @@ module _ (b ps : List ℕ) (limit : ℕ) where
       → Tells b ps limit (record { kind = kinds.Syntax; index = p.at; byte = byte_at b p.at })
   tells-open_end c stack nodes p at l e end = told (record { kind = kinds.Syntax; index = p.at; byte = byte_at b p.at }) (at.same ∙ go c e)
     where
-      room : length at.opens < limit
-      room = omega (arith, at.deep)
+      capacity : length at.opens < limit
+      capacity = omega (arith, at.deep)
 
       go : (c : Container) → byte_at b p.at + 2 ≡ closer c → at_value b (missing b ps) limit at.opens (tokens_along b (p.at ∷ drop p.read ps)) ≡ Err (fault_at b Syntax p.at)
       go Array e =
           let o : byte_at b p.at ≡ 91 = omega (arith, e) in
           ap (at_value b (missing b ps) limit at.opens) (only p.at p.read begin_array (opens b p.at o) refl end)
-          ∙ at_value-open b (missing b ps) limit at.opens (token b p.at) [] room (opens b p.at o) ∙ at_array-missing b (missing b ps) limit at.opens
+          ∙ at_value-open b (missing b ps) limit at.opens (token b p.at) [] capacity (opens b p.at o) ∙ at_array-missing b (missing b ps) limit at.opens
           ∙ ap Err (ends_at at.before p.at p.read begin_array (opens b p.at o) refl end at.along)
       go Object e =
           let o : byte_at b p.at ≡ 123 = omega (arith, e) in
           ap (at_value b (missing b ps) limit at.opens) (only p.at p.read begin_object (opens_object b p.at o) refl end)
-          ∙ at_value-open_object b (missing b ps) limit at.opens (token b p.at) [] room (opens_object b p.at o) ∙ at_object-missing b (missing b ps) limit at.opens
+          ∙ at_value-open_object b (missing b ps) limit at.opens (token b p.at) [] capacity (opens_object b p.at o) ∙ at_object-missing b (missing b ps) limit at.opens
           ∙ ap Err (ends_at at.before p.at p.read begin_object (opens_object b p.at o) refl end at.along)
 
   -- a scalar that is refused, or a token that begins no value

@@ -101,7 +101,7 @@ pub IsScanned-next : (b : List ℕ) (k : ℕ) (s : Scanned) (out listed : List �
     → take used after ≡ take s.used out ++ set_bits 64 (64 * (k - 1)) s.late → used ≤ s.used + 64 → used ≤ length after → s.listed < length listed → length (slice_set listed s.listed k) ≡ length listed → (high : ℕ)
     → IsScanned b (k + 1) (record { carry = m.carry; late = m.starts; bad = bit_or s.bad m.bad; high = high; used = used; listed = s.listed + bool_byte m.has_backslash }) after (slice_set listed s.listed k)
 unfolding holds_backslash
-IsScanned-next b k s out listed m after used h marks written few within room same high =
+IsScanned-next b k s out listed m after used h marks written few within capacity same high =
     let e : 64 * k + 64 ≡ 64 * (k + 1) = omega arith in
     let one = bool-small m.has_backslash in
     record {
@@ -115,7 +115,7 @@ IsScanned-next b k s out listed m after used h marks written few within room sam
           ap₂ (λ l n. l ++ set_bits 64 n m.starts) (written ∙ h.found) at ∙ positions-next (is_position b) k m.starts marks.starts;
       few_blocks = let f = h.few_blocks in omega arith;
       blocks_within = omega arith;
-      blocks_found = listed-next (holds_backslash b) k s.listed listed m.has_backslash marks.escapes room h.blocks_found;
+      blocks_found = listed-next (holds_backslash b) k s.listed listed m.has_backslash marks.escapes capacity h.blocks_found;
     }
 
 -- ---- at the start, and where lists grow
@@ -137,9 +137,9 @@ IsScanned-none b out listed = record {
 pub prefix : (n : ℕ) (xs ys : List ℕ) → n ≤ length xs → take (length xs) ys ≡ xs → take n ys ≡ take n xs
 prefix n xs ys l e = sym (take-take n (length xs) ys l) ∙ ap (take n) e
 
-pub IsScanned-room : (b : List ℕ) (k : ℕ) (s : Scanned) (out listed more more_listed : List ℕ) → IsScanned b k s out listed → take (length out) more ≡ out → length out ≤ length more
+pub IsScanned-capacity : (b : List ℕ) (k : ℕ) (s : Scanned) (out listed more more_listed : List ℕ) → IsScanned b k s out listed → take (length out) more ≡ out → length out ≤ length more
     → take (length listed) more_listed ≡ listed → length listed ≤ length more_listed → IsScanned b k s more more_listed
-IsScanned-room b k s out listed more more_listed h e l f m = record {
+IsScanned-capacity b k s out listed more more_listed h e l f m = record {
   carried = h.carried;
   bad = h.bad;
   few = h.few;

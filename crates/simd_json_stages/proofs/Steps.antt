@@ -103,11 +103,11 @@ module _ (b : List ℕ) (missing : Error) (limit : ℕ) where
       → at_value b missing limit outer (t ∷ ts) ≡ at_array b missing limit outer ts
   unfolding value_from
   at_value-open outer t ts l is =
-      let room : ℕ = limit - suc (length outer) in
-      let one_less : limit - length outer ≡ suc room = omega arith in
+      let capacity : ℕ = limit - suc (length outer) in
+      let one_less : limit - length outer ≡ suc capacity = omega arith in
       ap (λ n. value_from b missing n (t ∷ ts) >>= λ r. after_value b missing limit outer r.0 r.1) one_less
-      ∙ ap (λ form. value_of b missing (λ _. array_from b missing (value_from b missing room)) (λ _. object_from b missing (value_from b missing room)) t form ts >>= λ r. after_value b missing limit outer r.0 r.1) is
-      ∙ bind-bind (array_from b missing (value_from b missing room) ts) _ _
+      ∙ ap (λ form. value_of b missing (λ _. array_from b missing (value_from b missing capacity)) (λ _. object_from b missing (value_from b missing capacity)) t form ts >>= λ r. after_value b missing limit outer r.0 r.1) is
+      ∙ bind-bind (array_from b missing (value_from b missing capacity) ts) _ _
 
   -- after an opening bracket: its closing bracket, or an element
   pub at_array-close : (outer : List Open) (t : Token) (ts : List Token) → t.form ≡ end_array
@@ -144,9 +144,9 @@ module _ (b : List ℕ) (missing : Error) (limit : ℕ) where
   unfolding value_from
   at_value-scalar open_containers t ts d end is = go (limit - length open_containers)
     where
-      go : (room : ℕ) → (value_from b missing room (t ∷ ts) >>= λ r. after_value b missing limit open_containers r.0 r.1) ≡ after_value b missing limit open_containers d ts
+      go : (capacity : ℕ) → (value_from b missing capacity (t ∷ ts) >>= λ r. after_value b missing limit open_containers r.0 r.1) ≡ after_value b missing limit open_containers d ts
       go zero = ap (λ form. value_of b missing (too_deep b missing) (too_deep b missing) t form ts >>= λ r. after_value b missing limit open_containers r.0 r.1) is
-      go (suc room) = ap (λ form. value_of b missing (λ _. array_from b missing (value_from b missing room)) (λ _. object_from b missing (value_from b missing room)) t form ts >>= λ r. after_value b missing limit open_containers r.0 r.1) is
+      go (suc capacity) = ap (λ form. value_of b missing (λ _. array_from b missing (value_from b missing capacity)) (λ _. object_from b missing (value_from b missing capacity)) t form ts >>= λ r. after_value b missing limit open_containers r.0 r.1) is
 
   -- with nothing open, the value is the whole
   pub after_value-root : (d : Document) (ts : List Token) → after_value b missing limit [] d ts ≡ Ok (d, ts)
@@ -159,9 +159,9 @@ module _ (b : List ℕ) (missing : Error) (limit : ℕ) where
   unfolding value_from
   at_value-missing open_containers = go (limit - length open_containers)
     where
-      go : (room : ℕ) → (value_from b missing room [] >>= λ r. after_value b missing limit open_containers r.0 r.1) ≡ Err missing
+      go : (capacity : ℕ) → (value_from b missing capacity [] >>= λ r. after_value b missing limit open_containers r.0 r.1) ≡ Err missing
       go zero = refl
-      go (suc room) = refl
+      go (suc capacity) = refl
 
   pub at_array-missing : (outer : List Open) → at_array b missing limit outer [] ≡ Err missing
   at_array-missing outer = refl
@@ -181,9 +181,9 @@ module _ (b : List ℕ) (missing : Error) (limit : ℕ) where
   unfolding value_from
   at_value-fault open_containers t ts e is = go (limit - length open_containers)
     where
-      go : (room : ℕ) → (value_from b missing room (t ∷ ts) >>= λ r. after_value b missing limit open_containers r.0 r.1) ≡ Err e
+      go : (capacity : ℕ) → (value_from b missing capacity (t ∷ ts) >>= λ r. after_value b missing limit open_containers r.0 r.1) ≡ Err e
       go zero = ap (λ form. value_of b missing (too_deep b missing) (too_deep b missing) t form ts >>= λ r. after_value b missing limit open_containers r.0 r.1) is
-      go (suc room) = ap (λ form. value_of b missing (λ _. array_from b missing (value_from b missing room)) (λ _. object_from b missing (value_from b missing room)) t form ts >>= λ r. after_value b missing limit open_containers r.0 r.1) is
+      go (suc capacity) = ap (λ form. value_of b missing (λ _. array_from b missing (value_from b missing capacity)) (λ _. object_from b missing (value_from b missing capacity)) t form ts >>= λ r. after_value b missing limit open_containers r.0 r.1) is
 
   pub at_value-unexpected : (open_containers : List Open) (t : Token) (ts : List Token) (form : Form) → t.form ≡ form → begins_value form ≡ false → at_value b missing limit open_containers (t ∷ ts) ≡ Err (fault_at b InternalError t.index)
   unfolding value_from
@@ -196,11 +196,11 @@ module _ (b : List ℕ) (missing : Error) (limit : ℕ) where
       refused arrays objects (scalar read) h = cc
       refused arrays objects _ h = refl
 
-      go : (room : ℕ) → (value_from b missing room (t ∷ ts) >>= λ r. after_value b missing limit open_containers r.0 r.1) ≡ Err (fault_at b InternalError t.index)
+      go : (capacity : ℕ) → (value_from b missing capacity (t ∷ ts) >>= λ r. after_value b missing limit open_containers r.0 r.1) ≡ Err (fault_at b InternalError t.index)
       go zero = ap (λ r. r >>= λ r. after_value b missing limit open_containers r.0 r.1) (ap (λ form. value_of b missing (too_deep b missing) (too_deep b missing) t form ts) is ∙ refused (too_deep b missing) (too_deep b missing) form none)
-      go (suc room) =
+      go (suc capacity) =
           ap (λ r. r >>= λ r. after_value b missing limit open_containers r.0 r.1)
-          (ap (λ form. value_of b missing (λ _. array_from b missing (value_from b missing room)) (λ _. object_from b missing (value_from b missing room)) t form ts) is ∙ refused (λ _. array_from b missing (value_from b missing room)) (λ _. object_from b missing (value_from b missing room)) form none)
+          (ap (λ form. value_of b missing (λ _. array_from b missing (value_from b missing capacity)) (λ _. object_from b missing (value_from b missing capacity)) t form ts) is ∙ refused (λ _. array_from b missing (value_from b missing capacity)) (λ _. object_from b missing (value_from b missing capacity)) form none)
 
 -- ---- either container
 
@@ -252,11 +252,11 @@ module _ (b : List ℕ) (missing : Error) (limit : ℕ) where
       → at_value b missing limit outer (t ∷ ts) ≡ at_object b missing limit outer ts
   unfolding value_from
   at_value-open_object outer t ts l is =
-      let room : ℕ = limit - suc (length outer) in
-      let one_less : limit - length outer ≡ suc room = omega arith in
+      let capacity : ℕ = limit - suc (length outer) in
+      let one_less : limit - length outer ≡ suc capacity = omega arith in
       ap (λ n. value_from b missing n (t ∷ ts) >>= λ r. after_value b missing limit outer r.0 r.1) one_less
-      ∙ ap (λ form. value_of b missing (λ _. array_from b missing (value_from b missing room)) (λ _. object_from b missing (value_from b missing room)) t form ts >>= λ r. after_value b missing limit outer r.0 r.1) is
-      ∙ bind-bind (object_from b missing (value_from b missing room) ts) _ _
+      ∙ ap (λ form. value_of b missing (λ _. array_from b missing (value_from b missing capacity)) (λ _. object_from b missing (value_from b missing capacity)) t form ts >>= λ r. after_value b missing limit outer r.0 r.1) is
+      ∙ bind-bind (object_from b missing (value_from b missing capacity) ts) _ _
 
   pub at_value-object_too_deep : (outer : List Open) (t : Token) (ts : List Token) → limit ≤ length outer → t.form ≡ begin_object
       → at_value b missing limit outer (t ∷ ts) ≡ Err (fault_at b DepthLimitExceeded t.index)
@@ -294,9 +294,9 @@ module _ (b : List ℕ) (missing : Error) (limit : ℕ) where
   at_name-turn : (kind : ErrorType) (ms : List (List ℕ × Document)) (outer : List Open) (ts : List Token) → at_name b missing limit kind ms outer ts ≡ (name_from b missing kind ts >>= rest_after_name ms outer)
   unfolding after_value
   at_name-turn kind ms outer ts =
-      let room : ℕ = limit - suc (length outer) in
-      let v : Reads Document = value_from b missing room in
-      ap (λ r. r >>= λ r. after_value b missing limit outer (object (members_onto ms r.0)) r.1) (members_by-turn b missing v (value_from-takes b missing room) kind ts)
+      let capacity : ℕ = limit - suc (length outer) in
+      let v : Reads Document = value_from b missing capacity in
+      ap (λ r. r >>= λ r. after_value b missing limit outer (object (members_onto ms r.0)) r.1) (members_by-turn b missing v (value_from-takes b missing capacity) kind ts)
       ∙ bind-bind (name_from b missing kind ts) _ _
       ∙ bind_same (name_from b missing kind ts) _ _ (λ name. bind-bind (name_end b missing name.1) _ _
       ∙ bind_same (name_end b missing name.1) _ _ (λ us. bind-bind (v us) _ _
@@ -359,14 +359,14 @@ module _ (b : List ℕ) (missing : Error) (limit : ℕ) where
   unfolding value_from
   at_value-string open_containers t ts s end is = go (limit - length open_containers)
     where
-      go : (room : ℕ) → (value_from b missing room (t ∷ ts) >>= λ r. after_value b missing limit open_containers r.0 r.1) ≡ after_value b missing limit open_containers (string s) ts
+      go : (capacity : ℕ) → (value_from b missing capacity (t ∷ ts) >>= λ r. after_value b missing limit open_containers r.0 r.1) ≡ after_value b missing limit open_containers (string s) ts
       go zero = ap (λ form. value_of b missing (too_deep b missing) (too_deep b missing) t form ts >>= λ r. after_value b missing limit open_containers r.0 r.1) is
-      go (suc room) = ap (λ form. value_of b missing (λ _. array_from b missing (value_from b missing room)) (λ _. object_from b missing (value_from b missing room)) t form ts >>= λ r. after_value b missing limit open_containers r.0 r.1) is
+      go (suc capacity) = ap (λ form. value_of b missing (λ _. array_from b missing (value_from b missing capacity)) (λ _. object_from b missing (value_from b missing capacity)) t form ts >>= λ r. after_value b missing limit open_containers r.0 r.1) is
 
   pub at_value-string_fault : (open_containers : List Open) (t : Token) (ts : List Token) (e : Error) → t.form ≡ string_token (Err e) → at_value b missing limit open_containers (t ∷ ts) ≡ Err e
   unfolding value_from
   at_value-string_fault open_containers t ts e is = go (limit - length open_containers)
     where
-      go : (room : ℕ) → (value_from b missing room (t ∷ ts) >>= λ r. after_value b missing limit open_containers r.0 r.1) ≡ Err e
+      go : (capacity : ℕ) → (value_from b missing capacity (t ∷ ts) >>= λ r. after_value b missing limit open_containers r.0 r.1) ≡ Err e
       go zero = ap (λ form. value_of b missing (too_deep b missing) (too_deep b missing) t form ts >>= λ r. after_value b missing limit open_containers r.0 r.1) is
-      go (suc room) = ap (λ form. value_of b missing (λ _. array_from b missing (value_from b missing room)) (λ _. object_from b missing (value_from b missing room)) t form ts >>= λ r. after_value b missing limit open_containers r.0 r.1) is
+      go (suc capacity) = ap (λ form. value_of b missing (λ _. array_from b missing (value_from b missing capacity)) (λ _. object_from b missing (value_from b missing capacity)) t form ts >>= λ r. after_value b missing limit open_containers r.0 r.1) is

@@ -16,5 +16,5 @@ unfolding string_at
 string_at-end b i t end h = string_read-end (read_pieces 0 (slice_range b (suc i) (closing_quote b i))) (closing_quote b i) t end h
 
 -- so it is no longer than the bytes that it begins, and what is after it is shorter by its length
-pub string-room : (bs : List ℕ) (at : ℕ) (t : ParsedString) → IsStringAt bs 0 (Ok t) → closing_quote bs 0 < length bs → at + t.len + length t.rest.now ≡ at + length bs
-string-room bs at t (read, rest) closing = omega (arith, string_at-end bs 0 t.string.now (0 + t.len) read, ap length rest, length-drop (0 + t.len) bs)
+pub string-capacity : (bs : List ℕ) (at : ℕ) (t : ParsedString) → IsStringAt bs 0 (Ok t) → closing_quote bs 0 < length bs → at + t.len + length t.rest.now ≡ at + length bs
+string-capacity bs at t (read, rest) closing = omega (arith, string_at-end bs 0 t.string.now (0 + t.len) read, ap length rest, length-drop (0 + t.len) bs)

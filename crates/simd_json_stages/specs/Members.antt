@@ -16,15 +16,15 @@ use Rattle.simd_json_stages.specs.declared.stage2.Value.TheVariants.{Opened, Rea
 use Rattle.simd_json_stages.specs.declared.stage2.escapes.Escapes.{Escapes}
 use Rattle.simd_json_stages.specs.declared.stage2.fault.FaultKind.{FaultKind}
 
--- ps are the positions of b, and there is room for a node and a frame each
-pub record HasRoom (b ps : List ℕ) (limit : ℕ) (stack : List StackState) (nodes : List Node) : Type 0 where
+-- ps are the positions of b, and there is capacity for a node and a frame each
+pub record HasCapacity (b ps : List ℕ) (limit : ℕ) (stack : List StackState) (nodes : List Node) : Type 0 where
   pub positions : ps ≡ positions b
-  pub node_room : length ps ≤ length nodes
-  pub frame_room : min (length ps) limit ≤ length stack
+  pub node_capacity : length ps ≤ length nodes
+  pub frame_capacity : min (length ps) limit ≤ length stack
 
 -- at the first token of an element of an array
 pub record AtElement (b ps : List ℕ) (limit : ℕ) (u : Left) (e : Escapes) (stack : List StackState) (nodes : List Node) (p : Progress) : Type 0 where
-  pub room : HasRoom b ps limit stack nodes
+  pub capacity : HasCapacity b ps limit stack nodes
   pub progress : IsBefore b ps u p
   pub escapes : AreAhead b e p.at
   pub depth : p.depth ≤ limit
@@ -34,7 +34,7 @@ pub record AtElement (b ps : List ℕ) (limit : ℕ) (u : Left) (e : Escapes) (s
 
 -- at the first token of a member of an object, where a fault of this kind is reported if it is no name
 pub record AtPair (b ps : List ℕ) (limit : ℕ) (u : Left) (e : Escapes) (stack : List StackState) (nodes : List Node) (p : Progress) (kind : FaultKind) : Type 0 where
-  pub room : HasRoom b ps limit stack nodes
+  pub capacity : HasCapacity b ps limit stack nodes
   pub progress : IsBefore b ps u p
   pub escapes : AreAhead b e p.at
   pub depth : p.depth ≤ limit
@@ -42,7 +42,7 @@ pub record AtPair (b ps : List ℕ) (limit : ℕ) (u : Left) (e : Escapes) (stac
 
 -- after a member of a container of this kind
 pub record AfterMember (b ps : List ℕ) (limit : ℕ) (u : Left) (stack : List StackState) (nodes : List Node) (p : Progress) (c : Container) : Type 0 where
-  pub room : HasRoom b ps limit stack nodes
+  pub capacity : HasCapacity b ps limit stack nodes
   pub progress : IsAfter b ps u p
   pub depth : p.depth ≤ limit
   pub inside : 0 < p.depth

@@ -10,7 +10,7 @@ use std::alloc::Allocator;
 
 mod classes;
 mod encoding;
-mod room;
+mod capacity;
 mod scan;
 #[cfg(test)]
 mod tests;
@@ -33,7 +33,7 @@ pub struct Found {
 pub trait Stage1Parse {
     /// Writes the structural positions of `input` to the front of one list, and to the front of the other the numbers
     /// of the blocks of 64 bytes that hold a backslash, so that a string in other blocks is known to have no escape.
-    /// Both rise, and the answer is how many there are. The lists are kept filled up to their room, and grow by what
+    /// Both rise, and the answer is how many there are. The lists are kept filled up to their capacity, and grow by what
     /// is found.
     ///
     /// Answers the fault of the whole input, if it has one: `InputTooLarge` where it has more than 4,294,967,295 bytes,
@@ -56,8 +56,8 @@ pub trait Stage1Parse {
             × (take found.escape_blocks escape_blocks.new.items ≡ backslash_blocks input.now)) }
         ensures fault { IfErr result (λ e. (input_fault input.now ≡ Some e)
             ⊎ LacksMemory input.now e structural_indexes.old.items escape_blocks.old.items) }
-        ensures room { length structural_indexes.old.items ≤ length structural_indexes.new.items }
-        ensures block_room { length escape_blocks.old.items ≤ length escape_blocks.new.items };
+        ensures capacity { length structural_indexes.old.items ≤ length structural_indexes.new.items }
+        ensures block_capacity { length escape_blocks.old.items ≤ length escape_blocks.new.items };
 }
 
 /// A block of 64 bytes after another, by lanes and words.

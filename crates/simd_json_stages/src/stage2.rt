@@ -235,7 +235,7 @@ fn put_string<'de>(
     requires read { IsRead b indexes.now p }
     requires token { Contains (tokens b) (record { index = p.at; form = form_at b p.at }) }
     requires string { p.byte ≡ quote }
-    requires room { p.used < length nodes.old }
+    requires capacity { p.used < length nodes.old }
     ensures kept { length nodes.new ≡ length nodes.old }
     ensures escapes { AreAhead b escapes.new p.at }
     ensures put { OnOk result (IsStringPut b p.at p.used nodes.old nodes.new unread.new) }
@@ -319,7 +319,7 @@ fn put_scalar<'de>(
     requires unread { IsUnread b unread.old p.at }
     requires at { (p.at < length b) × (p.byte ≡ byte_at b p.at) }
     requires other { (p.byte ≢ 34) × (p.byte ≢ 91) × (p.byte ≢ 123) }
-    requires room { p.used < length nodes.old }
+    requires capacity { p.used < length nodes.old }
     ensures kept { length nodes.new ≡ length nodes.old }
     ensures put { OnOk result (IsScalarPut b p.at p.used nodes.old nodes.new unread.new) }
     ensures refused { IfErr result (IsNoScalar b p.at) }

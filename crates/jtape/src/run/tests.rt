@@ -216,18 +216,18 @@ fn failing_readers_print_nothing(rt: HostRuntime) -> Tested {
 #[derive(Drop)]
 struct Full {
     taken: Vec<u8>,
-    room: usize,
+    capacity: usize,
     fails: bool,
 }
 
 impl Write for Full {
     fn write(&mut self, buf: &[u8]) -> io::Result<usize> {
-        if self.room == 0 && self.fails {
+        if self.capacity == 0 && self.fails {
             return Err(io::Error::from(io::ErrorKind::Interrupted));
         }
-        let piece = &buf[..buf.len().min(self.room).min(3)];
+        let piece = &buf[..buf.len().min(self.capacity).min(3)];
         self.taken.extend_from_slice(piece)?;
-        self.room -= piece.len();
+        self.capacity -= piece.len();
         Ok(piece.len())
     }
 
@@ -241,11 +241,11 @@ impl Write for Full {
 fn failing_writers_are_reported(rt: HostRuntime) {
     let lines = b"Array 1 1\nU64 1\n";
     for fails in [false, true] {
-        for room in 0..18 {
+        for capacity in 0..18 {
             let mut reader = Port::new(b"[1]".as_slice());
             let mut writer = Port::new(Full {
                 taken: Vec::new(rt.alloc()),
-                room,
+                capacity,
                 fails,
             });
             let answer = run(
@@ -256,12 +256,12 @@ fn failing_writers_are_reported(rt: HostRuntime) {
                 &mut writer,
             );
             assert!(rt; reader.ended());
-            assert_eq!(rt; writer.failed(), room < 16);
+            assert_eq!(rt; writer.failed(), capacity < 16);
             let taken = writer.into_inner().taken;
-            if room < 16 {
+            if capacity < 16 {
                 assert_eq!(rt; answer, Err(RunFault::Write));
                 assert_eq!(rt; status(&answer), 3);
-                assert_eq!(rt; taken.len(), room);
+                assert_eq!(rt; taken.len(), capacity);
                 assert!(rt; lines.starts_with(taken.as_slice()));
             } else {
                 assert_eq!(rt; answer, Ok(true));

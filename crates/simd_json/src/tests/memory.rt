@@ -32,7 +32,7 @@ const DOCUMENT: &[u8] = b"{\"the_answer\": 42}";
 
 const REFUSED: &[u8] = b"[[[[[[[[[[[[[[[[[[";
 
-// With room for their bytes, documents and refusals alternate while every growth is refused.
+// With capacity for their bytes, documents and refusals alternate while every growth is refused.
 #[test]
 fn reserved_parses_take_no_memory(rt: HostRuntime) -> Tested {
     let mut pieces = Vec::new(rt.alloc());

@@ -9,7 +9,7 @@ pub mod array;
 pub mod object;
 mod value;
 
-use crate::room::lengthen;
+use crate::capacity::lengthen;
 pub use array::Array;
 pub use object::Object;
 use simd_json_parts::error::Result;
@@ -23,7 +23,7 @@ pub use value::Value;
 ///
 /// A scalar is one node. A container is a header with `len`, the number of its members, and `count`, the number of all
 /// nodes beneath it, and then its members' nodes; a pair of an object is its key's node and then its value's nodes.
-// The list is kept filled up to its room.
+// The list is kept filled up to its capacity.
 #[derive(Debug, Drop)]
 pub struct Tape<'input, A: Allocator = Global> {
     pub(crate) list: Vec<Node<'input>, A>,
@@ -58,9 +58,9 @@ impl<'input, A: Allocator> Tape<'input, A> {
         Ok(Tape { list, used: 1 })
     }
 
-    // No node and no room: it takes no memory.
+    // No node and no capacity: it takes no memory.
     pub(crate) fn empty(a: A) -> Tape<'input, A>
-        ensures { result ≡ record { nodes = []; room = 0 } }
+        ensures { result ≡ record { nodes = []; capacity = 0 } }
     {
         Tape {
             list: Vec::new(a),
@@ -103,29 +103,29 @@ impl<'input, A: Allocator> Tape<'input, A> {
         Value::new(&self.list.as_slice()[..self.used])
     }
 
-    /// Makes room for as many nodes in all, so for inputs of as many bytes, since no node takes less than a byte. Changes no
-    /// node, and gives up no room.
+    /// Reserves capacity for as many nodes in all, so for inputs of as many bytes, since no node takes less than a byte. Changes no
+    /// node, and gives up no capacity.
     ///
     /// Returns `OutOfMemory` where an allocation fails.
     pub fn reserve(&mut self, nodes: usize) -> Result<()>
         ensures nodes { self.new.nodes ≡ self.old.nodes }
-        ensures kept { self.old.room ≤ self.new.room }
-        ensures room { OnOk result (nodes ≤ self.new.room) }
-        ensures fault { IfErr result (λ e. IsOutOfMemory e × (self.old.room < nodes)) }
+        ensures kept { self.old.capacity ≤ self.new.capacity }
+        ensures capacity { OnOk result (nodes ≤ self.new.capacity) }
+        ensures fault { IfErr result (λ e. IsOutOfMemory e × (self.old.capacity < nodes)) }
     {
         lengthen(&mut self.list, nodes, Node::Static(StaticNode::Null))
     }
 
-    // No node, and the room that was there.
+    // No node, and the capacity that was there.
     pub(crate) fn clear(&mut self)
-        ensures { self.new ≡ record { nodes = []; room = self.old.room } }
+        ensures { self.new ≡ record { nodes = []; capacity = self.old.capacity } }
     {
         self.used = 0;
     }
 }
 
 impl<'input, A: Allocator + Copy> Tape<'input, A> {
-    /// An empty tape for inputs of another lifetime. It takes no memory, and what room it has is not promised.
+    /// An empty tape for inputs of another lifetime. It takes no memory, and what capacity it has is not promised.
     pub fn reset<'new>(self) -> Tape<'new, A>
         ensures { result.nodes ≡ [] }
     {

@@ -33,7 +33,7 @@ all-dropped (suc k) (y ∷ ys) l = all-dropped k ys (omega arith)
 take-set-before : (xs : List ℕ) (m i v : ℕ) → m ≤ i → take m (slice_set xs i v) ≡ take m xs
 take-set-before xs m i v l = sym (take-take m i (slice_set xs i v) l) ∙ ap (take m) (take-set xs i v) ∙ take-take m i xs l
 
-module _ (before : List ℕ) (used : ℕ) (all : List ℕ) (k base : ℕ) (now : List ℕ) (left : ℕ) (h : IsStored before used all k base now left) (room : used + k < length now) (fits : base + 64 ≤ 2 ^ 32) where
+module _ (before : List ℕ) (used : ℕ) (all : List ℕ) (k base : ℕ) (now : List ℕ) (left : ℕ) (h : IsStored before used all k base now left) (capacity : used + k < length now) (fits : base + 64 ≤ 2 ^ 32) where
   stored-none : (v rest : ℕ) → left ≡ 0 → rest ≡ 0 → IsStored before used all (k + 1) base (slice_set now (used + k) v) rest
   stored-none v rest e z =
       let none : drop k all ≡ [] = sym h.others ∙ ap (set_bits 64 base) e ∙ set_bits-zero 64 base in
@@ -60,7 +60,7 @@ module _ (before : List ℕ) (used : ℕ) (all : List ℕ) (k base : ℕ) (now :
       record {
         len = length-set now (used + k) v ∙ h.len;
         small = let l = and_le_l left (left - 1) in omega (arith, h.small);
-        stored = ap (λ n. take (used + n) (slice_set now (used + k) v)) there ∙ ap (λ n. take n (slice_set now (used + k) v)) up ∙ take_more_set now (used + k) v room
+        stored = ap (λ n. take (used + n) (slice_set now (used + k) v)) there ∙ ap (λ n. take n (slice_set now (used + k) v)) up ∙ take_more_set now (used + k) v capacity
             ∙ ap₂ (λ l n. l ++ n ∷ []) so-far is ∙ append_assoc (take used before) (take k all) ((base + count_trailing_zeros 64 left) ∷ []) ∙ ap (λ l. take used before ++ l) (sym next.1 ∙ ap (λ n. take n all) (sym (add-one k)));
         others = sym next.2 ∙ ap (λ n. drop n all) (sym (add-one k));
       }
@@ -68,18 +68,18 @@ module _ (before : List ℕ) (used : ℕ) (all : List ℕ) (k base : ℕ) (now :
 -- One more, where there is one: what is stored after the last has no meaning.
 pub stored-next : (before : List ℕ) (used : ℕ) (all : List ℕ) (k base : ℕ) (now : List ℕ) (left : ℕ) → IsStored before used all k base now left → used + k < length now → base + 64 ≤ 2 ^ 32
     → (v less : ℕ) → v ≡ (base + trailing_zeros w64 left) % 2 ^ 32 → less ≡ (left + (2 ^ 64 - 1)) % 2 ^ 64 → IsStored before used all (k + 1) base (slice_set now (used + k) v) (bit_and left less)
-stored-next before used all k base now left h room fits v less e f = elim (cases_lt 0 left) [
+stored-next before used all k base now left h capacity fits v less e f = elim (cases_lt 0 left) [
   | inl some ↦
       let is : less ≡ left - 1 = let s = h.small in omega arith in
-      subst (λ n. IsStored before used all (k + 1) base (slice_set now (used + k) v) (bit_and left n)) (sym is) (stored-some before used all k base now left h room fits v some e)
+      subst (λ n. IsStored before used all (k + 1) base (slice_set now (used + k) v) (bit_and left n)) (sym is) (stored-some before used all k base now left h capacity fits v some e)
   | inr none ↦
       let z : left ≡ 0 = omega arith in
-      stored-none before used all k base now left h room fits v (bit_and left less) z (ap (λ n. bit_and n less) z ∙ and_zero_l less)
+      stored-none before used all k base now left h capacity fits v (bit_and left less) z (ap (λ n. bit_and n less) z ∙ and_zero_l less)
 ]
 
 pub stored-at : (before : List ℕ) (used : ℕ) (all : List ℕ) (k base : ℕ) (now : List ℕ) (left at : ℕ) → at ≡ used + k → IsStored before used all k base now left → at < length now → base + 64 ≤ 2 ^ 32
     → IsStored before used all (k + 1) base (slice_set now at ((base + trailing_zeros w64 left) % 2 ^ 32)) (bit_and left ((left + (2 ^ 64 - 1)) % 2 ^ 64))
-stored-at before used all k base now left at e h room fits =
+stored-at before used all k base now left at e h capacity fits =
     let next = stored-next before used all k base now left h (omega arith) fits ((base + trailing_zeros w64 left) % 2 ^ 32) ((left + (2 ^ 64 - 1)) % 2 ^ 64) refl refl in
     subst (λ i. IsStored before used all (k + 1) base (slice_set now i ((base + trailing_zeros w64 left) % 2 ^ 32)) (bit_and left ((left + (2 ^ 64 - 1)) % 2 ^ 64))) (sym e) next
 

@@ -7,14 +7,14 @@ ghost use Rattle.simd_json_stages.specs.Blocks.{AreBlocks, IsAscii, IsScanned};
 ghost use Rattle.simd_json_stages.specs.Scans.{IsBadEncoding, IsFound, LacksMemory};
 
 use super::encoding::{check_rest, check_window};
-use super::room::{make_room, put};
+use super::capacity::{grow, put};
 use super::words::{Carry, block};
 use super::writing::{write, write_exactly};
 use super::{BLOCK_LEN, Found};
 use simd_json_parts::error::Result;
 use std::alloc::Allocator;
 
-// Blocks between two looks at the encoding and at the room of the lists: 8 KiB.
+// Blocks between two looks at the encoding and at the capacity of the lists: 8 KiB.
 const WINDOW: usize = 128;
 
 // The blocks from one to another.
@@ -51,7 +51,7 @@ const START: Scanned = Scanned {
     listed: 0,
 };
 
-// The blocks of a window, into lists with room for all that they may have.
+// The blocks of a window, into lists with capacity for all that they may have.
 #[inline(never)]
 fn scan_window(
     blocks: &[[u8; 64]],
@@ -62,8 +62,8 @@ fn scan_window(
 ) -> Scanned
     requires within { (window.first ≤ window.end) × (window.end ≤ length blocks.now) }
     requires short { 64 * window.end ≤ 2 ^ 32 }
-    requires room { before.used + 64 * (window.end - window.first) ≤ length out.old }
-    requires block_room { before.listed + (window.end - window.first) ≤ length listed.old }
+    requires capacity { before.used + 64 * (window.end - window.first) ≤ length out.old }
+    requires block_capacity { before.listed + (window.end - window.first) ≤ length listed.old }
     ensures scanned { (b : List ℕ) → AreBlocks b blocks.now → IsScanned b window.first before out.old listed.old
         → IsScanned b window.end result out.new listed.new }
     ensures ascii { (b : List ℕ) → AreBlocks b blocks.now → IsScanned b window.first before out.old listed.old
@@ -99,9 +99,9 @@ fn scan_window(
     }
 }
 
-// Room for all that a window may have. Before a list grows, all of the input is known to be UTF-8. The list of positions
+// Capacity for all that a window may have. Before a list grows, all of the input is known to be UTF-8. The list of positions
 // grows by how many there were so far.
-fn room_for<A: Allocator>(
+fn capacity_for<A: Allocator>(
     input: &[u8],
     checked: usize,
     window: Window,
@@ -134,8 +134,8 @@ fn room_for<A: Allocator>(
     let guess = (done.used / window.first.max(1) + 1)
         .saturating_mul(max_blocks)
         .saturating_add(BLOCK_LEN * WINDOW);
-    make_room(structural_indexes, positions, guess, input.len())?;
-    make_room(escape_blocks, blocks, 2 * WINDOW, max_blocks)?;
+    grow(structural_indexes, positions, guess, input.len())?;
+    grow(escape_blocks, blocks, 2 * WINDOW, max_blocks)?;
     Ok(checked)
 }
 
@@ -163,7 +163,7 @@ fn scan_blocks<A: Allocator>(
     while first < blocks.len() {
         let end = first + (blocks.len() - first).min(WINDOW);
         let window = Window { first, end };
-        checked = room_for(
+        checked = capacity_for(
             input,
             checked,
             window,
@@ -221,7 +221,7 @@ fn scan_rest<A: Allocator>(
     check_window(input, checked, BLOCK_LEN * number, input.len(), is_ascii)?;
     let written = done.used + done.late.count_ones() as usize;
     let positions = written + marks.starts.count_ones() as usize;
-    make_room(structural_indexes, positions, positions, input.len())?;
+    grow(structural_indexes, positions, positions, input.len())?;
     let late_at = (BLOCK_LEN * number.saturating_sub(1)) as u32;
     let out = structural_indexes.as_mut_slice();
     write_exactly(out, done.used, late_at, done.late);

@@ -7,7 +7,7 @@ ghost use Rattle.simd_json_stages.specs.Stored.{IsStored};
 // Stores the index of the lowest bit, and answers the others. Where there is no bit what is stored has no meaning.
 #[inline(always)]
 fn store_lowest(out: &mut [u32], at: usize, base: u32, bits: u64) -> u64
-    requires room { at < length out.old }
+    requires capacity { at < length out.old }
     requires base { base + 64 ≤ 2 ^ 32 }
     ensures { (before : List ℕ) (used : ℕ) (all : List ℕ) (k : ℕ) → at ≡ used + k
         → IsStored before used all k base out.old bits → IsStored before used all (k + 1) base out.new result }
@@ -19,7 +19,7 @@ fn store_lowest(out: &mut [u32], at: usize, base: u32, bits: u64) -> u64
 // The same four times, with no branch.
 #[inline(always)]
 fn store_four(out: &mut [u32], at: usize, base: u32, bits: u64) -> u64
-    requires room { at + 4 ≤ length out.old }
+    requires capacity { at + 4 ≤ length out.old }
     requires base { base + 64 ≤ 2 ^ 32 }
     ensures { (before : List ℕ) (used : ℕ) (all : List ℕ) (k : ℕ) → at ≡ used + k
         → IsStored before used all k base out.old bits → IsStored before used all (k + 4) base out.new result }
@@ -34,7 +34,7 @@ fn store_four(out: &mut [u32], at: usize, base: u32, bits: u64) -> u64
 // have a few, so the branches are on their number, and some stores are in vain.
 #[inline(always)]
 pub(super) fn write(out: &mut [u32], used: usize, base: u32, bits: u64) -> usize
-    requires room { used + 64 ≤ length out.old }
+    requires capacity { used + 64 ≤ length out.old }
     requires base { base + 64 ≤ 2 ^ 32 }
     ensures written { take result out.new ≡ take used out.old ++ set_bits 64 base bits }
     ensures count { result ≤ used + 64 }
@@ -62,7 +62,7 @@ pub(super) fn write(out: &mut [u32], used: usize, base: u32, bits: u64) -> usize
 // The same one by one, and nothing in vain.
 #[inline(always)]
 pub(super) fn write_exactly(out: &mut [u32], used: usize, base: u32, bits: u64) -> usize
-    requires room { used + count_ones bits ≤ length out.old }
+    requires capacity { used + count_ones bits ≤ length out.old }
     requires base { base + 64 ≤ 2 ^ 32 }
     ensures written { take result out.new ≡ take used out.old ++ set_bits 64 base bits }
     ensures count { result ≡ used + count_ones bits }

@@ -4,7 +4,7 @@ use Rattle.jtape.proofs.run.read_all.Given as goal
 
 abbrev pub invariant-loop-input : goal.invariant-loop-input
 invariant-loop-input g l = record {
-  room : 0 < length l.block;
+  capacity : 0 < length l.block;
   read : Consumes (g.R.Read.remaining l.initial.reader.inner) (g.R.Read.remaining l.reader.inner) l.input.items;
   sound : l.reader.failed ≡ false;
   going : l.reader.ended ≡ false;

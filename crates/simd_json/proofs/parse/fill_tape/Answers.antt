@@ -2,20 +2,20 @@ use Rattle.std.proofs.Common.{◌∙◌, ◌<◌, ap, length, subst}
 use Rattle.std.specs.Result.{IfErr, OnOk}
 use Rattle.simd_json_parts.specs.FaultKinds.{IsOfToken}
 use Rattle.simd_json.specs.Parsed.{IsParsed, IsRefused}
-use Rattle.simd_json.specs.Rooms.{room}
+use Rattle.simd_json.specs.Capacities.{capacity}
 use Rattle.simd_json.proofs.ParseEnds.{parse-built, parse-short, parse-unlisted}
 use Rattle.simd_json.proofs.parse.fill_tape.Goals as goal
 
 pub returns-in_err-find_positions-clause-parse : goal.returns-in_err-find_positions-clause-parse
 returns-in_err-find_positions-clause-parse g c =
-    parse-unlisted c.from_residual.result c.args.s.now c.args.buffers.now.limit c.args.tape.now.room (room c.args.buffers.now) _ _ _ c.from_residual.ensures.1 (ap (λ t. t.nodes) c.clear.ensures)
+    parse-unlisted c.from_residual.result c.args.s.now c.args.buffers.now.limit c.args.tape.now.capacity (capacity c.args.buffers.now) _ _ _ c.from_residual.ensures.1 (ap (λ t. t.nodes) c.clear.ensures)
     c.in_err-find_positions.ensures.empty.0 c.in_err-find_positions.ensures.fault
 
 pub returns-in-Err-clause-parse : goal.returns-in-Err-clause-parse
 returns-in-Err-clause-parse g c =
     let found = c.in_ok-find_positions.ensures.found in
-    parse-short c.refuse.result c.args.s.now c.args.buffers.now.limit c.args.tape.now.room (room c.args.buffers.now) (length c.structural_indexes.result.now) _ _ _ c.refuse.ensures.refused found.1 c.in-Err.ensures.fault.0
-    (subst (λ r. r < length c.structural_indexes.result.now) (ap (λ t. t.room) c.clear.ensures) c.in-Err.ensures.fault.1)
+    parse-short c.refuse.result c.args.s.now c.args.buffers.now.limit c.args.tape.now.capacity (capacity c.args.buffers.now) (length c.structural_indexes.result.now) _ _ _ c.refuse.ensures.refused found.1 c.in-Err.ensures.fault.0
+    (subst (λ r. r < length c.structural_indexes.result.now) (ap (λ t. t.capacity) c.clear.ensures) c.in-Err.ensures.fault.1)
     (ap length (c.structural_indexes.ensures ∙ found.0))
     (ap (λ t. t.nodes) c.refuse.ensures.nodes)
     (ap (λ r. r.positions) c.refuse.ensures.positions)

@@ -10,7 +10,7 @@ use Rattle.simd_json_stages.proofs.stage2.follow.Goals as goal
 pub after_member-requires : goal.after_member-requires
 after_member-requires g c = (
   record {
-    room = record { positions = c.requires.1.0; node_room = omega (arith, c.loop-p.invariant.nodes, c.requires.1.1.1.1.0); frame_room = c.requires.1.1.1.1.1.0 };
+    capacity = record { positions = c.requires.1.0; node_capacity = omega (arith, c.loop-p.invariant.nodes, c.requires.1.1.1.1.0); frame_capacity = c.requires.1.1.1.1.1.0 };
     progress = c.loop-p.invariant.progress;
     depth = omega (arith, c.loop-p.invariant.depth, c.requires.1.1.1.0);
     inside = c.loop-p-test.true;

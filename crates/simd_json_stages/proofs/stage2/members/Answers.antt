@@ -7,8 +7,8 @@ use Rattle.simd_json_stages.proofs.stage2.members.Goals as goal
 pub read_name-requires : goal.read_name-requires
 read_name-requires g c =
     let s = c.pairs.invariant.pair in
-    let token = name-token g.b c.args.indexes.now s.room.positions c.args.max_depth (error_type c.pairs.kind) c.pairs.stack c.pairs.nodes c.pairs.p s.name in
-    (c.requires.1.1, ((s.room.positions, c.requires.0), (s.progress, (s.escapes, (token, s.room.node_room)))))
+    let token = name-token g.b c.args.indexes.now s.capacity.positions c.args.max_depth (error_type c.pairs.kind) c.pairs.stack c.pairs.nodes c.pairs.p s.name in
+    (c.requires.1.1, ((s.capacity.positions, c.requires.0), (s.progress, (s.escapes, (token, s.capacity.node_capacity)))))
 
 pub returns-in_err-value-clause-refused : goal.returns-in_err-value-clause-refused
 returns-in_err-value-clause-refused g c =

@@ -47,9 +47,9 @@ returns-clause-progress g c =
 pub returns-clause-step : goal.returns-clause-step
 returns-clause-step g c =
     let r = c.requires.1.1.0 in
-    let room : c.args.p.used < length c.args.nodes.now = omega (arith, r.used, r.read.within, c.requires.1.1.1.1.1.0) in
+    let capacity : c.args.p.used < length c.args.nodes.now = omega (arith, r.used, r.read.within, c.requires.1.1.1.1.1.0) in
     subst (AfterValue g.b c.args.indexes.now c.args.max_depth c.args.stack.now c.if-p-eq34.nodes) (sym c.with_value.ensures)
     (elim c.if-p-eq34.branch [
-      | then-p-eq34+in_ok-put_string w ↦ rw w.nodes-is (step-string g.b c.args.indexes.now c.args.max_depth c.args.stack.now c.args.nodes.now _ c.args.p _ c.requires.1.1.1.1.1.1.1 room (sym r.read.first ∙ w.if-p-eq34.true) w.in_ok-put_string.ensures.put)
-      | else-p-eq34+in_ok-put_scalar w ↦ rw w.nodes-is (step-scalar g.b c.args.indexes.now c.args.max_depth c.args.stack.now c.args.nodes.now _ c.args.p _ c.requires.1.1.1.1.1.1.1 room w.in_ok-put_scalar.ensures.put)
+      | then-p-eq34+in_ok-put_string w ↦ rw w.nodes-is (step-string g.b c.args.indexes.now c.args.max_depth c.args.stack.now c.args.nodes.now _ c.args.p _ c.requires.1.1.1.1.1.1.1 capacity (sym r.read.first ∙ w.if-p-eq34.true) w.in_ok-put_string.ensures.put)
+      | else-p-eq34+in_ok-put_scalar w ↦ rw w.nodes-is (step-scalar g.b c.args.indexes.now c.args.max_depth c.args.stack.now c.args.nodes.now _ c.args.p _ c.requires.1.1.1.1.1.1.1 capacity w.in_ok-put_scalar.ensures.put)
     ])

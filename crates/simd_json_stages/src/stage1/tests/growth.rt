@@ -3,7 +3,7 @@ use super::*;
 use linked_list_allocator::LocalHeap;
 
 // The lengths that the lists have where a growth is refused, one after another, as the heap gets larger by steps. Where no
-// growth is refused, the answer is the wanted one; lists that have room for all from the start ask for no more.
+// growth is refused, the answer is the wanted one; lists that have capacity for all from the start ask for no more.
 fn refused_lengths(
     rt: &(impl AllocGlobal + Abort),
     text: &[u8],
@@ -148,7 +148,7 @@ fn the_encoding_comes_before_memory(rt: HostRuntime) -> Tested {
     Ok(())
 }
 
-// With room from the start, windows are tested one by one, and characters across their ends are whole.
+// With capacity from the start, windows are tested one by one, and characters across their ends are whole.
 #[test]
 fn characters_across_windows_are_read(rt: HostRuntime) -> Tested {
     for character in ["\u{e9}", "\u{20ac}", "\u{1f600}"] {

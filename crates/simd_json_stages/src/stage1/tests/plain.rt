@@ -6,7 +6,7 @@ ghost use Rattle.simd_json_parts.specs.Positions.{is_position};
 ghost use Rattle.simd_json_stages.specs.Carries.{IsKept};
 ghost use Rattle.simd_json_stages.specs.Scans.{IsFound, LacksMemory};
 
-use crate::stage1::room::put;
+use crate::stage1::capacity::put;
 use crate::stage1::{BLOCK_LEN, Found, Stage1Parse};
 use simd_json_parts::error::{Error, ErrorType, Result};
 use std::alloc::Allocator;

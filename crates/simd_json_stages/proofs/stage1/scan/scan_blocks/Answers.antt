@@ -2,7 +2,7 @@ use Rattle.std.proofs.Common.{◌≡◌, ◌++◌, List, ℕ, length, take, drop
 use Rattle.std.proofs.lemmas.Str.{IsUtf8-nil}
 use Rattle.simd_json_stages.specs.Blocks.{IsScanned}
 use Rattle.simd_json_stages.specs.declared.stage1.scan.Scanned.{Scanned}
-use Rattle.simd_json_stages.proofs.ScanLaws.{IsScanned-none, IsScanned-room, AreBlocks-chunks, written-back}
+use Rattle.simd_json_stages.proofs.ScanLaws.{IsScanned-none, IsScanned-capacity, AreBlocks-chunks, written-back}
 use Rattle.simd_json_stages.proofs.stage1.scan.scan_blocks.Goals as goal
 
 pub loop-first-init : goal.loop-first-init
@@ -23,12 +23,12 @@ pub check_window-requires-clause-ascii : goal.check_window-requires-clause-ascii
 check_window-requires-clause-ascii g c =
     let b = c.args.input.now in
     let l = c.loop-first in
-    let a = c.room_for.new.structural_indexes in
-    let z = c.room_for.new.escape_blocks in
-    let k = c.room_for.ensures.kept in
-    let more = c.room_for.ensures.longer in
-    let roomy = IsScanned-room b l.first l.done l.structural_indexes.items l.escape_blocks.items a.items z.items l.invariant.scanned k.0 more.0 k.1 more.1 in
-    let lent = same b l.first l.done _ _ _ _ (sym c.as_mut_slice.ensures.value) (sym c.as_mut_slice-in-loop-first.ensures.value) roomy in
+    let a = c.capacity_for.new.structural_indexes in
+    let z = c.capacity_for.new.escape_blocks in
+    let k = c.capacity_for.ensures.kept in
+    let more = c.capacity_for.ensures.longer in
+    let wide = IsScanned-capacity b l.first l.done l.structural_indexes.items l.escape_blocks.items a.items z.items l.invariant.scanned k.0 more.0 k.1 more.1 in
+    let lent = same b l.first l.done _ _ _ _ (sym c.as_mut_slice.ensures.value) (sym c.as_mut_slice-in-loop-first.ensures.value) wide in
     λ zero. c.scan_window-done.ensures.ascii b (AreBlocks-chunks b c.args.blocks.now c.requires.blocks c.requires.len) lent (eqb-true _ _ zero)
 
 pub loop-first-preserved : goal.loop-first-preserved
@@ -36,13 +36,13 @@ loop-first-preserved g c =
     let b = c.args.input.now in
     let l = c.loop-first in
     let i = l.invariant in
-    let a = c.room_for.new.structural_indexes in
-    let z = c.room_for.new.escape_blocks in
-    let k = c.room_for.ensures.kept in
-    let more = c.room_for.ensures.longer in
+    let a = c.capacity_for.new.structural_indexes in
+    let z = c.capacity_for.new.escape_blocks in
+    let k = c.capacity_for.ensures.kept in
+    let more = c.capacity_for.ensures.longer in
     let w = c.scan_window-done in
-    let roomy = IsScanned-room b l.first l.done l.structural_indexes.items l.escape_blocks.items a.items z.items i.scanned k.0 more.0 k.1 more.1 in
-    let lent = same b l.first l.done _ _ _ _ (sym c.as_mut_slice.ensures.value) (sym c.as_mut_slice-in-loop-first.ensures.value) roomy in
+    let wide = IsScanned-capacity b l.first l.done l.structural_indexes.items l.escape_blocks.items a.items z.items i.scanned k.0 more.0 k.1 more.1 in
+    let lent = same b l.first l.done _ _ _ _ (sym c.as_mut_slice.ensures.value) (sym c.as_mut_slice-in-loop-first.ensures.value) wide in
     let done = w.ensures.scanned b (AreBlocks-chunks b c.args.blocks.now c.requires.blocks c.requires.len) lent in
     let long : length w.new.out ≡ a.len = omega arith in
     let long_listed : length w.new.listed ≡ z.len = omega arith in

@@ -16,8 +16,8 @@ check_window-requires-clause-ascii g c =
     let marks = c.block-marks.ensures b _ (IsBlock-rest b c.args.rest.now _ c.requires.rest c.last_block.ensures) s.carried in
     λ zero i from end. marks.ascii (eqb-true _ _ zero) i from (omega arith)
 
-pub make_room-requires : goal.make_room-requires
-make_room-requires g c =
+pub grow-requires : goal.grow-requires
+grow-requires g c =
     let b = c.args.input.now in
     let s = c.requires.scanned in
     rest-few b c.args.done _ _ c.block-marks.result s (c.block-marks.ensures b _ (IsBlock-rest b c.args.rest.now _ c.requires.rest c.last_block.ensures) s.carried)
@@ -36,7 +36,7 @@ returns-clause-found g c =
     let s = c.requires.scanned in
     let m = c.block-marks.result in
     let marks = c.block-marks.ensures b _ (IsBlock-rest b c.args.rest.now _ c.requires.rest c.last_block.ensures) s.carried in
-    let a = c.make_room in
+    let a = c.grow in
     let v = c.write_exactly in
     let w = c.write_exactly-2 in
     let d = c.args.done in
@@ -48,7 +48,7 @@ returns-clause-found g c =
     let before : take d.used c.as_mut_slice-out.result.now ≡ take d.used c.args.structural_indexes.now.items = ap (take d.used) c.as_mut_slice-out.ensures.value ∙ prefix d.used _ _ s.within a.ensures.kept in
     let late : take (d.used + ones d.late) v.new.out ≡ take d.used c.args.structural_indexes.now.items ++ set_bits 64 (64 * (whole b - 1)) d.late =
     ap (λ n. take n v.new.out) (sym first) ∙ v.ensures.written ∙ ap₂ (λ l n. l ++ set_bits 64 n d.late) before at in
-    let room : d.used + ones d.late + ones m.starts ≤ length w.new.out = omega (arith, ap length c.as_mut_slice-out.ensures.value, c.in_ok-make_room.ensures.room) in
+    let capacity : d.used + ones d.late + ones m.starts ≤ length w.new.out = omega (arith, ap length c.as_mut_slice-out.ensures.value, c.in_ok-grow.ensures.capacity) in
     let utf8 = c.in_ok-check_window.ensures.utf8 in
     let end : c.in_ok-check_window.field-0 ≡ length b = c.in_ok-check_window.ensures.whole refl in
     let blocks : (c.if-marks.listed ≤ length c.if-marks.escape_blocks.items) × (take c.if-marks.listed c.if-marks.escape_blocks.items ≡ backslash_blocks b) =
@@ -62,7 +62,7 @@ returns-clause-found g c =
     record {
       encoding = utf8-reached b c.in_ok-check_window.field-0 end utf8.1;
       bad = rest-bad b d _ _ m s marks;
-      within = subst (λ xs. d.used + ones d.late + ones m.starts ≤ length xs) (sym out) room;
+      within = subst (λ xs. d.used + ones d.late + ones m.starts ≤ length xs) (sym out) capacity;
       listed = ap (take (d.used + ones d.late + ones m.starts)) out ∙ ap (λ n. take n w.new.out) (sym total) ∙ w.ensures.written ∙ ap (λ l. l ++ set_bits 64 (64 * whole b) m.starts) late
           ∙ rest-positions b d _ _ m s marks;
       blocks_within = blocks.0;

@@ -19,8 +19,8 @@ loop-i-preserved c =
     record {
       from = omega arith;
       to = omega arith;
-      room = omega arith;
-      block_room = omega arith;
+      capacity = omega arith;
+      block_capacity = omega arith;
       place = omega arith;
       scanned = λ b blocks before.
           let h = i.scanned b blocks before in

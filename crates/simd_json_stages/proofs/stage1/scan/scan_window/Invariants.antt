@@ -6,8 +6,8 @@ abbrev pub invariant-loop-i : goal.invariant-loop-i
 invariant-loop-i l = record {
   from : l.window.first ≤ l.i;
   to : l.i ≤ l.window.end;
-  room : l.used + 64 * (l.window.end - l.i) ≤ length l.out;
-  block_room : l.count + (l.window.end - l.i) ≤ length l.listed;
+  capacity : l.used + 64 * (l.window.end - l.i) ≤ length l.out;
+  block_capacity : l.count + (l.window.end - l.i) ≤ length l.listed;
   place : l.late_at ≡ 64 * (l.i - 1);
   scanned : (b : List ℕ) → AreBlocks b l.blocks → IsScanned b l.window.first l.fn.before l.fn.out l.fn.listed
       → IsScanned b l.i (record { carry = l.carry; late = l.late; bad = l.bad; high = l.high; used = l.used; listed = l.count }) l.out l.listed;

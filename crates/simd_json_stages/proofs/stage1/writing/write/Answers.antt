@@ -54,8 +54,8 @@ returns-then-count-le16-clause-written c =
     let s4 = c.store_four-rest-4.ensures out used all 12 refl s3 in
     stored-all out used c.args.base c.args.bits 16 _ _ small s4 (omega arith)
 
-pub write_exactly-requires-clause-room : goal.write_exactly-requires-clause-room
-write_exactly-requires-clause-room c =
+pub write_exactly-requires-clause-capacity : goal.write_exactly-requires-clause-capacity
+write_exactly-requires-clause-capacity c =
     let out = c.args.out.now in
     let used = c.args.used in
     let all = set_bits 64 c.args.base c.args.bits in

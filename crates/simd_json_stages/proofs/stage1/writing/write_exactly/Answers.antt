@@ -15,8 +15,8 @@ loop-rest-init c =
           (stored-first c.args.out.now c.args.used c.args.base c.args.bits c.ranges.bits.fits);
     }
 
-pub store_lowest-rest-requires-clause-room : goal.store_lowest-rest-requires-clause-room
-store_lowest-rest-requires-clause-room c =
+pub store_lowest-rest-requires-clause-capacity : goal.store_lowest-rest-requires-clause-capacity
+store_lowest-rest-requires-clause-capacity c =
     let i = c.loop-rest.invariant in
     let more = stored-more c.args.out.now c.args.used c.args.base c.args.bits _ _ _ c.ranges.bits.fits i.stored (omega arith) in
     omega (arith, i.stored.len)

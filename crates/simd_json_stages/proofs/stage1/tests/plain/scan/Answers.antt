@@ -28,7 +28,7 @@ loop-i-preserved g c =
         | then-is_position+in_ok-put w ↦ rw (w.structural_indexes-is, w.positions-is) (w.in_ok-put.ensures.stored.1 ∙ ap (λ ps. ps ++ i ∷ []) c.loop-i.invariant.so_far ∙ sym (filter-next (is_position b) i true (sym stepped.1 ∙ w.if-is_position.true)))
         | else-is_position w ↦ rw (w.structural_indexes-is, w.positions-is) (c.loop-i.invariant.so_far ∙ sym (filter-next (is_position b) i false (sym stepped.1 ∙ w.if-is_position.false)))
       ];
-      room = grind arith;
+      capacity = grind arith;
       few_blocks = grind arith;
       blocks_within = grind arith;
       blocks_so_far = elim c.if-is_backslash.branch [
@@ -38,7 +38,7 @@ loop-i-preserved g c =
           | else-is_backslash-via-else-is_backslash v ↦ rw (w.escape_blocks-is, w.blocks-is, w.next_block-is) (ListsBlocks-other listed (λ e. v.if-is_backslash.false (byte ∙ e)))
         ]
       ];
-      block_room = grind arith;
+      block_capacity = grind arith;
     }
 
 pub returns-clause-found : goal.returns-clause-found

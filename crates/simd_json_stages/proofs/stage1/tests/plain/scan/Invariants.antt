@@ -11,9 +11,9 @@ invariant-loop-i g l = record {
   few : l.positions ≤ l.i;
   within : l.positions ≤ length l.structural_indexes.items;
   so_far : take l.positions l.structural_indexes.items ≡ filter (is_position l.input) (range_with_len 0 l.i);
-  room : length l.initial.structural_indexes.items ≤ length l.structural_indexes.items;
+  capacity : length l.initial.structural_indexes.items ≤ length l.structural_indexes.items;
   few_blocks : l.blocks ≤ l.next_block;
   blocks_within : l.blocks ≤ length l.escape_blocks.items;
   blocks_so_far : ListsBlocks l.input l.i l.next_block (take l.blocks l.escape_blocks.items);
-  block_room : length l.initial.escape_blocks.items ≤ length l.escape_blocks.items;
+  block_capacity : length l.initial.escape_blocks.items ≤ length l.escape_blocks.items;
 }

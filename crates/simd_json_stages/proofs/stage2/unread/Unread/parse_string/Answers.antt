@@ -1,7 +1,7 @@
 use Rattle.std.proofs.Common.{◌≡◌, refl, sym, subst, ◌∙◌, ap, ℕ, List, ◌<◌, ◌-◌, length, drop, arith}
 use Rattle.simd_json_parts.specs.StringAt.{closing_quote}
 use Rattle.simd_json_stages.specs.Left.{Left}
-use Rattle.simd_json_stages.proofs.StringEnds.{string-room}
+use Rattle.simd_json_stages.proofs.StringEnds.{string-capacity}
 use Rattle.simd_json_stages.proofs.stage2.unread.Unread.parse_string.Goals as goal
 
 pub overflow_add-self : goal.overflow_add-self
@@ -10,8 +10,8 @@ overflow_add-self c =
     let same : bs ≡ c.self.inside.rest.now = ap (λ r. r.now) c.take.ensures.value in
     let is : bs ≡ drop (c.args.i - c.args.self.now.at) c.args.self.now.bytes = same ∙ ap (λ (u : Left). u.bytes) c.self.view_is ∙ ap (λ (u : Left). u.bytes) c.split.ensures.rest in
     let closing : closing_quote bs 0 < length bs = subst (λ us. closing_quote us 0 < length us) (sym is) c.requires.closing in
-    let room = string-room bs c.self.inside.at c.in_ok-string.string (c.in_ok-string.ensures bs 0 refl) closing in
-    omega (arith, room, ap length same)
+    let capacity = string-capacity bs c.self.inside.at c.in_ok-string.string (c.in_ok-string.ensures bs 0 refl) closing in
+    omega (arith, capacity, ap length same)
 
 pub invariant_of-self-2 : goal.invariant_of-self-2
 invariant_of-self-2 c =
@@ -19,5 +19,5 @@ invariant_of-self-2 c =
     let same : bs ≡ c.self.inside.rest.now = ap (λ r. r.now) c.take.ensures.value in
     let is : bs ≡ drop (c.args.i - c.args.self.now.at) c.args.self.now.bytes = same ∙ ap (λ (u : Left). u.bytes) c.self.view_is ∙ ap (λ (u : Left). u.bytes) c.split.ensures.rest in
     let closing : closing_quote bs 0 < length bs = subst (λ us. closing_quote us 0 < length us) (sym is) c.requires.closing in
-    let room = string-room bs c.self.inside.at c.in_ok-string.string (c.in_ok-string.ensures bs 0 refl) closing in
-    omega (arith, room, ap length same)
+    let capacity = string-capacity bs c.self.inside.at c.in_ok-string.string (c.in_ok-string.ensures bs 0 refl) closing in
+    omega (arith, capacity, ap length same)

@@ -1,7 +1,7 @@
 use Rattle.simd_json_parts.specs.Printed.{pretty}
 use Rattle.simd_json_parts.proofs.Printing.Again.{answer-again, compact-again}
 use Rattle.simd_json_parts.proofs.Printing.Pretty.{Denotes-pretty}
-use Rattle.simd_json_parts.proofs.laws.answers_are_printed_and_read_again.Goals as goal
+use Rattle.simd_json_parts.proofs.laws.printing.answers_are_printed_and_read_again.Goals as goal
 
 pub returns-clause-compact : goal.returns-clause-compact
 returns-clause-compact c = compact-again

@@ -1,4 +1,4 @@
-//! Lists that are kept filled up to their room, so that a store into them needs no memory.
+//! Lists that are kept filled up to their capacity, so that a store into them needs no memory.
 ghost use Rattle.std.specs.Prelude.{◌≡◌, ◌<◌, length, max, take, OnOk, IfErr};
 ghost use Rattle.simd_json.specs.Memory.{IsOutOfMemory};
 

@@ -1,7 +1,7 @@
 use Rattle.simd_json_parts.proofs.Printing.Compact.{Denotes-compact}
 use Rattle.simd_json_parts.proofs.Printing.Normalized.{equal-normalized, depth-normalized}
 use Rattle.simd_json_parts.proofs.Printing.Pretty.{Denotes-pretty}
-use Rattle.simd_json_parts.proofs.laws.printed_texts_denote_their_documents.Goals as goal
+use Rattle.simd_json_parts.proofs.laws.printing.printed_texts_denote_their_documents.Goals as goal
 
 pub returns-clause-compact : goal.returns-clause-compact
 returns-clause-compact c = Denotes-compact

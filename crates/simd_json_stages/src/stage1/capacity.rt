@@ -1,4 +1,4 @@
-// Room in the lists of a scan. They are kept filled, and grow by what is found.
+// Capacity in the lists of a scan. They are kept filled, and grow by what is found.
 ghost use Rattle.std.specs.Prelude.{◌≡◌, ◌≤◌, ◌<◌, ◌+◌, ◌++◌, [], ◌∷◌, length, take, IfErr, OnOk};
 ghost use Rattle.simd_json_parts.specs.Faults.{whole_fault};
 ghost use Rattle.simd_json_parts.specs.declared.error.ErrorType.{ErrorType};
@@ -9,7 +9,7 @@ use std::alloc::Allocator;
 // Makes a list as long as is needed, and longer by half or by what is guessed, but `max_len` long at most. What it held
 // stays, refused or not.
 #[inline(never)]
-pub(super) fn make_room<A: Allocator>(
+pub(super) fn grow<A: Allocator>(
     list: &mut Vec<u32, A>,
     need: usize,
     guess: usize,
@@ -17,7 +17,7 @@ pub(super) fn make_room<A: Allocator>(
 ) -> Result<()>
     requires { need ≤ max_len }
     ensures kept { take (length list.old.items) list.new.items ≡ list.old.items }
-    ensures room { OnOk result (need ≤ length list.new.items) }
+    ensures capacity { OnOk result (need ≤ length list.new.items) }
     ensures longer { length list.old.items ≤ length list.new.items }
     ensures fault { IfErr result (λ e. (e ≡ whole_fault ErrorType.OutOfMemory) × (length list.old.items < max_len)) }
 {
@@ -43,7 +43,7 @@ pub(super) fn put<A: Allocator>(
     ensures fault { IfErr result (λ e. (e ≡ whole_fault ErrorType.OutOfMemory) × (length list.old.items < max_len)) }
     ensures longer { length list.old.items ≤ length list.new.items }
 {
-    make_room(list, count + 1, 16, max_len)?;
+    grow(list, count + 1, 16, max_len)?;
     list[count] = number;
     Ok(())
 }
