@@ -1,7 +1,7 @@
 # Two commands: `make` proves and builds what there is and shows the first run, `make test` passes the gate.
 # Both need the toolchain's command `rt` on the PATH, and nothing else. Besides, `make CPU=x86-64-v3` builds for processors of
 # that level, and `make bench` measures: bench/run.sh says what it takes.
-.PHONY: all library test bench clean has-rt
+.PHONY: all library test bench install uninstall clean has-rt
 
 # The level that programs are built for. Empty: the toolchain's default.
 CPU =
@@ -28,6 +28,17 @@ test: has-rt
 # Beside the parsers that are installed, over generated texts and FILES. SAVE=1 puts the results into docs/.
 bench: has-rt
 	SAVE=$(SAVE) sh bench/run.sh $(FILES)
+
+# The program and its manual page, under PREFIX.
+PREFIX = /usr/local
+install:
+	test -x build/jtape || $(MAKE) all
+	install -d $(DESTDIR)$(PREFIX)/bin $(DESTDIR)$(PREFIX)/share/man/man1
+	install -m 755 build/jtape $(DESTDIR)$(PREFIX)/bin/jtape
+	install -m 644 man/jtape.1 $(DESTDIR)$(PREFIX)/share/man/man1/jtape.1
+
+uninstall:
+	rm -f $(DESTDIR)$(PREFIX)/bin/jtape $(DESTDIR)$(PREFIX)/share/man/man1/jtape.1
 
 has-rt:
 	@command -v rt >/dev/null || { echo "rt is not on the PATH: put the folder bin of a Rattle kit there, as in PATH=KIT/bin:\$$PATH, and run make again" >&2; exit 1; }

@@ -1,7 +1,8 @@
 // Times parsers over the same texts, in one process and in turn. run.sh builds and runs it:
 //   harness ROUNDS TEXT.. -- CONTENDER..
-// A contender is simdjson, stage1 (simdjson's), rapidjson, yajl, serde_json=LIBRARY.so, or ours: parse-LEVEL=LIBRARY.so or
-// scan-LEVEL=LIBRARY.so.
+// A sample reads copies of one text, of 1 MiB together or of SAMPLE bytes, where that is in the environment.
+// A contender is simdjson, stage1 (simdjson's), rapidjson, yajl, serde_json=LIBRARY.so, or ours: parse-LEVEL=LIBRARY.so,
+// scan-LEVEL=LIBRARY.so, or refuse-LEVEL=LIBRARY.so, which is timed at texts that it refuses, and at no other.
 // Writes a line for each text and contender: its path, its bytes, what is timed, the contender, and the nanoseconds of a
 // byte at the fastest round, or `-` where the text was refused. A contender that is not installed is named on standard
 // error. Those who count, count the same, or nothing is told: that is the test that each did the work.
@@ -36,12 +37,17 @@
     exit(1);
 }
 
+static size_t sample_bytes() {
+    const char *asked = getenv("SAMPLE");
+    return asked ? strtoull(asked, nullptr, 10) : 1 << 20;
+}
+
 // As many copies of a text as one sample reads, each with 64 zero bytes behind it. Parsers may write to them.
 class Copies {
   public:
     explicit Copies(const std::string &text)
         : text(text), stride((text.size() + 64 + 63) / 64 * 64),
-          count(std::clamp<size_t>((1 << 20) / text.size(), 3, 4096)), room(stride * count + 64) {
+          count(std::clamp<size_t>(sample_bytes() / text.size(), 3, 4096)), room(stride * count + 64) {
         size_t past = reinterpret_cast<uintptr_t>(room.data()) % 64;
         first = room.data() + (64 - past) % 64;
     }
@@ -171,6 +177,13 @@ static void add_parse(std::vector<Contender> &all, const std::string &level, con
     all.push_back({Contender::Parse, "simd_json fresh, " + level, each(parse)});
 }
 
+static void add_refuse(std::vector<Contender> &all, const std::string &level, const std::string &path) {
+    auto *parse = symbol<int64_t(uint8_t *, size_t)>(path, "simd_json_bench_parse");
+    all.push_back({Contender::Parse, "simd_json refusing, " + level, each([parse](uint8_t *text, size_t len) -> int64_t {
+                       return parse(text, len) == -1 ? 0 : -1;
+                   })});
+}
+
 static void add_scan(std::vector<Contender> &all, const std::string &level, const std::string &path) {
     all.push_back({Contender::Scan, "simd_json scan, " + level, all_by(path, "simd_json_bench_scan_all"), true});
 }
@@ -184,6 +197,7 @@ static void add(std::vector<Contender> &all, const std::string &word) {
     else if (name == "yajl") add_yajl(all);
     else if (name == "serde_json") add_serde_json(all, path);
     else if (name.rfind("parse-", 0) == 0) add_parse(all, name.substr(6), path);
+    else if (name.rfind("refuse-", 0) == 0) add_refuse(all, name.substr(7), path);
     else if (name.rfind("scan-", 0) == 0) add_scan(all, name.substr(5), path);
     else stop("no contender " + word);
 }

@@ -1,6 +1,7 @@
 #!/bin/sh
 # The benchmark: `make bench` calls it. From the top of the repository: sh bench/run.sh [FILE..]
-# Times the texts that bench/texts.py makes and each FILE, and prints two tables. ROUNDS says how often. With SAVE=1 the
+# Times the texts that bench/texts.py makes, each FILE, and the shapes of bench/shapes.py, which are made to be slow, and prints
+# three tables. ROUNDS says how often. With SAVE=1 the
 # tables are put into docs/SPEED.md, between its marks, and docs/speed.svg is drawn; without, build/bench has the chart.
 # It installs nothing: a parser whose package is absent is left out, and named.
 set -eu
@@ -22,6 +23,7 @@ fi
 # Ours, at each level: a static library, and that as a shared one, so that both fit into one process.
 parses=
 scans=
+refusals=
 for level in $levels; do
     say "proving and building the library at $level"
     (cd crates/simd_json_bench && rt lib --cpu "$level") > "$OUT/$level.log" || { tail -n 20 "$OUT/$level.log" >&2; exit 1; }
@@ -30,6 +32,7 @@ for level in $levels; do
         "$KIT/c/liblibc_c.a" "$KIT/c/libos_c.a" -Wl,-Bsymbolic
     parses="$parses parse-${level#x86-64-}=$OUT/$level.so"
     scans="$scans scan-${level#x86-64-}=$OUT/$level.so"
+    refusals="$refusals refuse-${level#x86-64-}=$OUT/$level.so"
 done
 
 # The others, as far as they are installed. The harness finds their headers by itself.
@@ -58,12 +61,14 @@ say "timing"
 "$OUT/harness" "$ROUNDS" "$OUT"/texts/kinds/*.json "$@" -- simdjson stage1 rapidjson yajl $serde $parses $scans > "$OUT/kinds.tsv"
 # shellcheck disable=SC2086
 "$OUT/harness" "$ROUNDS" "$OUT"/texts/sizes/*.json -- simdjson $parses > "$OUT/sizes.tsv"
+# shellcheck disable=SC2086
+sh bench/shapes.sh "$OUT" "$ROUNDS" "$OUT/x86-64-v2.so" $parses $refusals
 
-python3 bench/tables.py "$OUT/kinds.tsv" "$OUT/sizes.tsv" > "$OUT/tables.md"
+python3 bench/tables.py "$OUT/kinds.tsv" "$OUT/sizes.tsv" "$OUT/shapes.tsv" "$OUT/memory.tsv" > "$OUT/tables.md"
 python3 bench/chart.py "$OUT/sizes.tsv" > "$OUT/speed.svg"
 cat "$OUT/tables.md"
 if [ "${SAVE:-}" = 1 ]; then
-    python3 bench/tables.py "$OUT/kinds.tsv" "$OUT/sizes.tsv" docs/SPEED.md
+    python3 bench/tables.py "$OUT/kinds.tsv" "$OUT/sizes.tsv" "$OUT/shapes.tsv" "$OUT/memory.tsv" docs/SPEED.md
     cp "$OUT/speed.svg" docs/speed.svg
     say "docs/SPEED.md and docs/speed.svg have these results"
 else

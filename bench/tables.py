@@ -1,4 +1,4 @@
-"""tables.py KINDS.tsv SIZES.tsv [DOCUMENT]: what the harness measured, as two tables in Markdown.
+"""tables.py KINDS.tsv SIZES.tsv SHAPES.tsv MEMORY.tsv [DOCUMENT]: what the harness measured, as three tables in Markdown.
 
 With a document, they stand there between the marks `<!-- results -->` and `<!-- end of results -->`; else they are printed."""
 import math
@@ -8,6 +8,8 @@ from pathlib import Path
 
 # The generated texts come first, in this order.
 KINDS = ["tweets", "tweets_ascii", "catalogue", "numbers", "escapes", "long_strings", "deep", "200_bytes"]
+# The sizes of the shapes that are made to be slow.
+SHAPE_BYTES = [10**6, 64 * 10**6]
 
 
 class Results:
@@ -82,19 +84,45 @@ def table_of_sizes(results):
     return rows(head, lines)
 
 
+def table_of_shapes(shapes, memory):
+    """Nanoseconds of a byte at both sizes and their ratio; for kept buffers besides how often that is a tweet's, at most."""
+    kept = [c for c in shapes.contenders("parse", ours=True) if " kept, " in c]
+    pairs = [(c, c.replace("kept", "fresh"), c.replace("kept", "refusing")) for c in kept]
+    names = list(dict.fromkeys(Path(t).stem for t in shapes.sizes))
+    texts = {(Path(t).stem, i): t for i, n in enumerate(SHAPE_BYTES) for t in shapes.sizes if f"/{n}/" in t}
+
+    def cell(name, *contenders):
+        found = [next((shapes.ns[texts[name, i], c] for c in contenders if shapes.ns[texts[name, i], c]), None) for i in (0, 1)]
+        return "-" if None in found else f"{found[0]:.2f}, {found[1]:.2f} ({found[1] / found[0]:.2f})"
+
+    def of_a_tweet(name):
+        costs = [(shapes.ns[texts[name, i], c], shapes.ns[texts["tweets", i], c]) for i in (0, 1) for c in kept]
+        return "-" if None in [ns for ns, _ in costs] else f"{max(ns / tweet for ns, tweet in costs):.2f}"
+
+    head = ["shape", *(n.removeprefix("simd_json ") for c, fresh, _ in pairs for n in (c, fresh)), "of a tweet's byte", "memory a byte"]
+    used = dict(line.split("\t") for line in Path(memory).read_text().splitlines())
+    lines = [
+        [n, *(x for c, fresh, refusing in pairs for x in (cell(n, c), cell(n, fresh, refusing))), of_a_tweet(n), used[n]]
+        for n in names
+    ]
+    return rows(head, lines)
+
+
 def main():
-    kinds, sizes = Results(sys.argv[1]), Results(sys.argv[2])
+    kinds, sizes, shapes, memory = *map(Results, sys.argv[1:4]), sys.argv[4]
     whole, scan = ("simdjson's best DOM parse", "its best stage 1") if kinds.has_simdjson() else ("the fastest", "the fastest")
     text = (
         f"Speed at the fastest round, as a multiple: of a whole parse over {whole}, of a scan over {scan}.\n\n"
         f"{table_of_kinds(kinds)}\n\n"
         f"Cost against size, over tweets; in brackets the speed over {whole}.\n\n"
-        f"{table_of_sizes(sizes)}\n"
+        f"{table_of_sizes(sizes)}\n\n"
+        f"Shapes that are made to be slow: nanoseconds of a byte at 1 MB, at 64 MB (and how many times as much that is).\n\n"
+        f"{table_of_shapes(shapes, memory)}\n"
     )
-    if len(sys.argv) == 3:
+    if len(sys.argv) == 5:
         print(text, end="")
         return
-    document = Path(sys.argv[3])
+    document = Path(sys.argv[5])
     marked = re.compile(r"(<!-- results -->\n).*(<!-- end of results -->)", re.DOTALL)
     if not marked.search(document.read_text()):
         sys.exit(f"{document} has no marks for the results")

@@ -38,10 +38,20 @@ given '7' tape 007
 wanted 'a depth with zeros in front' 0 'U64 7\n' ''
 given '7' tape 0
 wanted 'a scalar within depth 0' 0 'U64 7\n' ''
+given '{"the_answer": 42}' positions
+wanted 'positions' 0 '0\n1\n13\n15\n17\n' ''
+given ' { "a" : [ 1 , {} ] } ' compact
+wanted 'a compact text' 0 '{"a":[1,{}]}\n' ''
+given '{"a":[1,{}]}' pretty 2
+wanted 'a pretty text that is too deep' 1 '' "DepthLimitExceeded at character 8 ('{')\n"
+given '{"a":[1,{}]}' pretty 3
+wanted 'a pretty text within depth 3' 0 '{\n  "a": [\n    1,\n    {}\n  ]\n}\n' ''
 
 # What is refused is reported, and nothing is written.
-given '[1,]' tape
-wanted 'a comma too many' 1 '' "InternalError at character 3 (']')\n"
+for mode in tape positions compact pretty; do
+    given '[1,]' "$mode"
+    wanted "a comma too many, $mode" 1 '' "InternalError at character 3 (']')\n"
+done
 given '' tape
 wanted 'empty input' 1 '' 'Eof at character 0\n'
 given '[\377]' tape
@@ -54,7 +64,7 @@ wanted '1,025 brackets' 1 '' "DepthLimitExceeded at character 1024 ('[')\n"
 # Arguments that are not understood, or can't be read.
 given '1'
 wanted 'no mode' 2 '' "$usage"
-for mode in tree Tape '' positions; do
+for mode in tree Tape '' position lines; do
     given '1' "$mode"
     wanted "the mode '$mode'" 2 '' "$usage"
 done
@@ -67,26 +77,27 @@ wanted 'a word too many' 2 '' "$usage"
 given '1' tape "$(printf '\377')"
 wanted 'an argument that is no UTF-8' 2 '' "$usage"
 
-# Input that can't be read, and output that can't be written.
-: > "$room/out"
-"$program" tape < / > "$room/out" 2> "$room/err"
-status=$?
-wanted 'a folder as input' 3 '' 'reading failed\n'
-"$program" tape <&- > "$room/out" 2> "$room/err"
-status=$?
-wanted 'closed input' 3 '' 'reading failed\n'
-: > "$room/out"
-echo '[1]' | "$program" tape >&- 2> "$room/err"
-status=$?
-wanted 'closed output' 3 '' 'writing failed\n'
-echo '[1' | "$program" tape >&- 2> "$room/err"
-status=$?
-wanted 'a refused document and closed output' 1 '' "Syntax at character 1 ('1')\n"
-if [ -w /dev/full ]; then
-    echo '[1]' | "$program" tape > /dev/full 2> "$room/err"
+# Input that can't be read, and output that can't be written, in each mode.
+for mode in tape positions compact pretty; do
+    "$program" "$mode" < / > "$room/out" 2> "$room/err"
     status=$?
-    wanted 'a full disk' 3 '' 'writing failed\n'
-fi
+    wanted "a folder as input, $mode" 3 '' 'reading failed\n'
+    "$program" "$mode" <&- > "$room/out" 2> "$room/err"
+    status=$?
+    wanted "closed input, $mode" 3 '' 'reading failed\n'
+    : > "$room/out"
+    echo '[1]' | "$program" "$mode" >&- 2> "$room/err"
+    status=$?
+    wanted "closed output, $mode" 3 '' 'writing failed\n'
+    echo '[1' | "$program" "$mode" >&- 2> "$room/err"
+    status=$?
+    wanted "a refused document and closed output, $mode" 1 '' "Syntax at character 1 ('1')\n"
+    if [ -w /dev/full ]; then
+        echo '[1]' | "$program" "$mode" > /dev/full 2> "$room/err"
+        status=$?
+        wanted "a full disk, $mode" 3 '' 'writing failed\n'
+    fi
+done
 : > "$room/err"
 echo '[1' | "$program" tape > "$room/out" 2>&-
 status=$?

@@ -1,6 +1,7 @@
--- The lines that the program prints of a tape, one for each node.
+-- The lines that the program prints: of a tape one for each node, of positions one for each.
 use Rattle.std.specs.Prelude.{ℕ, List, [], ◌∷◌, ◌++◌, flat_map, codes}
 use Rattle.std.specs.Fmt.{decimal, signed_decimal}
+use Rattle.simd_json_parts.specs.Bytes.{line_feed}
 use Rattle.simd_json_parts.specs.Nodes.{Item, static_item, decimal_item, string_item, array_item, object_item}
 use Rattle.simd_json_parts.specs.Printed.{quoted, truth_text}
 use Rattle.simd_json_parts.specs.declared.node.StaticNode.{StaticNode}
@@ -24,7 +25,14 @@ node_text (array_item len count) = header_text (codes "Array ") len count
 node_text (object_item len count) = header_text (codes "Object ") len count
 
 abbrev pub line : Item → List ℕ
-line node = node_text node ++ 10 ∷ []
+line node = node_text node ++ line_feed ∷ []
 
 abbrev pub lines : List Item → List ℕ
 lines nodes = flat_map line nodes
+
+-- a number in decimal
+abbrev pub number_line : ℕ → List ℕ
+number_line n = decimal n ++ line_feed ∷ []
+
+abbrev pub number_lines : List ℕ → List ℕ
+number_lines numbers = flat_map number_line numbers

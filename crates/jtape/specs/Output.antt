@@ -1,13 +1,16 @@
 -- What the program writes and returns: a function of the mode, the depth limit and the input.
-use Rattle.std.specs.Prelude.{ℕ, List, [], Bool, true, Result, Ok, Err}
-use Rattle.jtape.specs.Lines.{lines}
+use Rattle.std.specs.Prelude.{ℕ, List, [], ◌∷◌, ◌++◌, Bool, true, Result, Ok, Err}
+use Rattle.jtape.specs.Lines.{lines, number_lines}
 use Rattle.jtape.specs.declared.run.RunFault.{RunFault}
 use Rattle.jtape.specs.declared.run.RunFault.TheVariants.{Refused}
 use Rattle.jtape.specs.declared.settings.Mode.{Mode}
-use Rattle.jtape.specs.declared.settings.Mode.TheVariants.{Tape}
+use Rattle.jtape.specs.declared.settings.Mode.TheVariants.{Tape, Positions, Compact, Pretty}
 use Rattle.simd_json_parts.specs.Answer.{answer}
+use Rattle.simd_json_parts.specs.Bytes.{line_feed}
 use Rattle.simd_json_parts.specs.Document.{Document}
 use Rattle.simd_json_parts.specs.Listing.{listing}
+use Rattle.simd_json_parts.specs.Positions.{positions}
+use Rattle.simd_json_parts.specs.Printed.{compact, pretty}
 use Rattle.simd_json_parts.specs.declared.error.Error.{Error}
 
 -- the bytes that are written, and what is returned
@@ -18,6 +21,9 @@ pub record Output : Type 0 where
 -- what the mode prints of an input that is this document
 abbrev pub printed : Mode → List ℕ → Document → List ℕ
 printed Tape input d = lines (listing d)
+printed Positions input d = number_lines (positions input)
+printed Compact input d = compact d ++ line_feed ∷ []
+printed Pretty input d = pretty d ++ line_feed ∷ []
 
 abbrev pub all_printed : List ℕ → Output
 all_printed bytes = record { bytes = bytes; returned = Ok true }

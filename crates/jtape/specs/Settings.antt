@@ -4,11 +4,16 @@ use Rattle.std.specs.Char.{is_ascii_digit}
 use Rattle.std.specs.List.{list_all}
 use Rattle.std.specs.Str.Parse.{digits_value}
 use Rattle.jtape.specs.declared.settings.Mode.{Mode}
-use Rattle.jtape.specs.declared.settings.Mode.TheVariants.{Tape}
+use Rattle.jtape.specs.declared.settings.Mode.TheVariants.{Tape, Positions, Compact, Pretty}
 use Rattle.simd_json.specs.MaxDepth.{default_max_depth}
 
 abbrev pub mode_of : List ℕ → Option Mode
-mode_of word = if bytes_eq word (codes "tape") then Some Tape else None
+mode_of word =
+    if bytes_eq word (codes "tape") then Some Tape
+    else if bytes_eq word (codes "positions") then Some Positions
+    else if bytes_eq word (codes "compact") then Some Compact
+    else if bytes_eq word (codes "pretty") then Some Pretty
+    else None
 
 -- one digit or more, of a number below 2^64
 abbrev pub depth_of : List ℕ → Option ℕ

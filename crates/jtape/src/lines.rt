@@ -84,7 +84,10 @@ fn append_header<A: Allocator>(
     append_integer(out, count)
 }
 
-fn append_integer<A: Allocator, I: Integer>(out: &mut Vec<u8, A>, number: I) -> Result<()>
+pub(crate) fn append_integer<A: Allocator, I: Integer>(
+    out: &mut Vec<u8, A>,
+    number: I,
+) -> Result<()>
     ensures appended { OnOk result (out.new.items ≡ out.old.items ++ I.text number) }
     ensures kept { IsPrefix out.old.items out.new.items }
 {

@@ -2,13 +2,17 @@
 //!
 //! - [`settings`]: what the words ask for.
 //! - [`port`]: a reader or a writer, and whether it has failed or ended.
-//! - [`run`]: from a reader's bytes to a writer's lines.
+//! - [`run`]: from a reader's bytes to a writer's.
+//! - [`output`]: from an input to all that is written of it.
+//! - [`lines`], [`positions`]: the lines of nodes and of positions.
 //! - [`failure`]: the arguments before it, and the line on standard error and the status after it.
 #![tactic(auto)]
 
 mod failure;
 mod lines;
+mod output;
 mod port;
+mod positions;
 mod run;
 mod settings;
 

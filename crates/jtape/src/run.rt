@@ -1,14 +1,13 @@
-//! From a reader's bytes to a writer's lines.
+//! From a reader's bytes to a writer's.
 ghost use Rattle.std.specs.Prelude.{◌≡◌, ◌≢◌, ◌↔◌, ◌⊎◌, ◌<◌, ℕ, List, Option, length, take, true, false, IfOk, IfErr, OnOk, OnErr, Err};
 ghost use Rattle.std.specs.Io.KnownBytes.{Appends, Consumes, IsAtEnd, Keeps};
-ghost use Rattle.jtape.specs.Output.{output, all_printed, nothing_printed};
-ghost use Rattle.jtape.specs.Runs.{HasRun, HasBegun, IsReadFault, OnAnswer, lacks_memory};
+ghost use Rattle.jtape.specs.Runs.{HasRun, HasBegun, IsReadFault, OnAnswer};
 ghost use Rattle.jtape.specs.declared.run.RunFault.TheVariants as faults;
 
-use crate::lines::append_lines;
+use crate::output::output;
 use crate::port::Port;
 use crate::settings::Mode;
-use simd_json::{Buffers, Error, to_tape_with_buffers};
+use simd_json::Error;
 use std::alloc::{AllocError, Allocator};
 use std::io::{Read, Write};
 
@@ -18,7 +17,7 @@ type Result<T> = std::result::Result<T, RunFault>;
 /// go on after one that is refused. A mode of one document refuses it as a fault, and its `Ok` is `true`.
 pub type Answer = Result<bool>;
 
-/// Why a run wrote less than all lines.
+/// Why a run wrote less than all of its output.
 #[derive(Debug, Drop, PartialEq)]
 pub enum RunFault {
     /// The input was refused, or a growth was.
@@ -130,26 +129,6 @@ fn read_more<R: Read, A: Allocator>(
         }
         Err(_) => Err(RunFault::Read),
     }
-}
-
-// What is written of an input.
-fn output<A: Allocator + Copy>(
-    a: A,
-    mode: Mode,
-    depth: usize,
-    input: &mut [u8],
-) -> Result<Vec<u8, A>>
-    ensures output { IfOk result (λ out. output mode depth input.old ≡ all_printed out.items) }
-    ensures fault { IfErr result (λ fault. (fault ≡ lacks_memory)
-        ⊎ (output mode depth input.old ≡ nothing_printed fault)) }
-{
-    let mut buffers = Buffers::with_max_depth(a, 0, depth)?;
-    let tape = to_tape_with_buffers(input, &mut buffers)?;
-    let mut out = Vec::new(a);
-    match mode {
-        Mode::Tape => append_lines(&mut out, tape.nodes())?,
-    }
-    Ok(out)
 }
 
 // Writes all of the bytes, or a beginning of them where the writer fails.

@@ -11,10 +11,17 @@ use simd_json::DEFAULT_MAX_DEPTH;
 pub enum Mode {
     /// A line for each node of the tape.
     Tape,
+    /// A line for each structural position, in decimal.
+    Positions,
+    /// The document without whitespace between tokens, and a line feed.
+    Compact,
+    /// The document with a line for each member, and a line feed.
+    Pretty,
 }
 
-/// What the words after the program's name ask for: a mode, which is `tape` today, and after it, or not, how many
-/// containers may be open at a time, in digits; without it [`DEFAULT_MAX_DEPTH`] may. `None` where they are not understood.
+/// What the words after the program's name ask for: a mode, which is `tape`, `positions`, `compact` or `pretty`, and after
+/// it, or not, how many containers may be open at a time, in digits; without it [`DEFAULT_MAX_DEPTH`] may. `None` where they
+/// are not understood.
 pub fn settings(words: &[String]) -> Option<(Mode, usize)>
     ensures { result ≡ settings_of (map string_bytes words.now) }
 {
@@ -28,7 +35,13 @@ pub fn settings(words: &[String]) -> Option<(Mode, usize)>
 fn mode_named(word: &str) -> Option<Mode>
     ensures { result ≡ mode_of word.now }
 {
-    (word == "tape").then_some(Mode::Tape)
+    match word {
+        "tape" => Some(Mode::Tape),
+        "positions" => Some(Mode::Positions),
+        "compact" => Some(Mode::Compact),
+        "pretty" => Some(Mode::Pretty),
+        _ => None,
+    }
 }
 
 // The number of a word of digits, and of nothing else, where it fits.
@@ -55,8 +68,12 @@ mod tests {
 
     #[test]
     fn words_are_understood(rt: HostRuntime) -> std::result::Result<(), Fail> {
-        let rows: [(&[&str], Option<(Mode, usize)>); 16] = [
+        let rows: [(&[&str], Option<(Mode, usize)>); 21] = [
             (&["tape"], Some((Mode::Tape, 1024))),
+            (&["positions"], Some((Mode::Positions, 1024))),
+            (&["compact"], Some((Mode::Compact, 1024))),
+            (&["pretty"], Some((Mode::Pretty, 1024))),
+            (&["pretty", "2"], Some((Mode::Pretty, 2))),
             (&["tape", "8"], Some((Mode::Tape, 8))),
             (&["tape", "007"], Some((Mode::Tape, 7))),
             (&["tape", "0"], Some((Mode::Tape, 0))),
@@ -75,6 +92,7 @@ mod tests {
             (&["tape", ""], None),
             (&[""], None),
             (&["Tape"], None),
+            (&["position"], None),
         ];
         for (given, wanted) in rows {
             let mut words = Vec::new(rt.alloc());

@@ -4,3 +4,6 @@ mod ParseAnswers
 pub mod Listed
 mod Compared
 mod Split
+mod MapCompared
+mod Printable
+mod Encoded

@@ -10,7 +10,7 @@ use Rattle.simd_json_parts.specs.declared.node.Node.{Node}
 use Rattle.simd_json_parts.specs.declared.node.Node.TheVariants as nodes
 use Rattle.simd_json.specs.Documents.{magnitude_below, first, front, others, in_pairs, front_pairs, other_pairs, elements_of, document_of, members_of, IsListing, AreElements, AreMembers}
 
-magnitude-below : (n : ℕ) → magnitude_below (neg_ℤ (pos n)) ≡ n
+pub magnitude-below : (n : ℕ) → magnitude_below (neg_ℤ (pos n)) ≡ n
 magnitude-below zero = refl
 magnitude-below (suc n) = refl
 

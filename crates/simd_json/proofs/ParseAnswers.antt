@@ -1,17 +1,17 @@
 -- What a parse leaves is what the definitions answer.
-use Rattle.std.proofs.Common.{◌≡◌, ◌∙◌, ap, sym, ◌<◌, ◌≤◌, ℕ, List, length, Some, None, Option, arith, ◌⊎◌, inl, inr, ◌↔◌, IsSome}
+use Rattle.std.proofs.Common.{◌≡◌, ◌∙◌, ap, sym, subst, ◌<◌, ◌≤◌, ℕ, List, [], length, take, Some, None, Option, arith, ◌⊎◌, inl, inr, ◌↔◌, IsSome, MatchOption}
 use Rattle.std.specs.Result.{result_err}
 use Rattle.std.proofs.lemmas.Bool.{false≢true}
 use Rattle.std.proofs.lemmas.Option.{none-some}
 use Rattle.simd_json_parts.specs.Answer.{answer}
 use Rattle.simd_json_parts.specs.FaultKinds.{IsOfInput, IsOfToken}
 use Rattle.simd_json_parts.specs.Faults.{whole_fault}
-use Rattle.simd_json_parts.specs.InputFaults.{input_fault}
+use Rattle.simd_json_parts.specs.InputFaults.{input_fault, padding_fault}
 use Rattle.simd_json_parts.specs.Nodes.{Item}
 use Rattle.simd_json_parts.specs.declared.error.Error.{Error}
 use Rattle.simd_json_parts.specs.declared.error.ErrorType.TheVariants.{OutOfMemory}
 use Rattle.simd_json.specs.Memory.{HasMemory, IsOutOfMemory, LacksMemory}
-use Rattle.simd_json.specs.Parsed.{IsParse, IsRefused, answered_nodes, positions_after}
+use Rattle.simd_json.specs.Parsed.{IsParse, IsPaddedParse, IsRefused, answered_nodes, positions_after}
 use Rattle.simd_json.proofs.ParseEnds.{input-character, input-memory, token-memory}
 
 abbrev AsAnswered : List ℕ → ℕ → Option Error → List Item → List ℕ → Type 0
@@ -28,6 +28,18 @@ as-answered b limit capacity (Some e) nodes listed p memory = by_cause p.refused
       let is = refused.answered in
       (ap result_err (sym is), p.empty ∙ ap answered_nodes (sym is), p.found ∙ ap (λ r. positions_after b (result_err r)) (sym is))
   by_cause (inr (lacks, short)) = absurd (memory (ap Some lacks.0))
+
+pub agreed : (b : List ℕ) (limit capacity capacity2 : ℕ) (fault fault2 : Option Error) (nodes nodes2 : List Item) (listed listed2 : List ℕ) → IsParse b limit capacity fault nodes listed → IsParse b limit capacity2 fault2 nodes2 listed2
+    → HasMemory fault → HasMemory fault2 → (fault ≡ fault2) × (nodes ≡ nodes2) × (listed ≡ listed2)
+agreed b limit capacity capacity2 fault fault2 nodes nodes2 listed listed2 p q memory memory2 =
+    let a = as-answered b limit capacity fault nodes listed p memory in
+    let z = as-answered b limit capacity2 fault2 nodes2 listed2 q memory2 in
+    (a.0 ∙ sym z.0, a.1 ∙ sym z.1, a.2 ∙ sym z.2)
+
+-- where enough bytes follow the document, they do not matter
+pub unpadded : (s : List ℕ) (len limit capacity : ℕ) (fault : Option Error) (nodes : List Item) (listed : List ℕ) → padding_fault s len ≡ None → IsPaddedParse s len limit capacity fault nodes listed → IsParse (take len s) limit capacity fault nodes listed
+unpadded s len limit capacity fault nodes listed none p =
+    subst (λ o. MatchOption o (IsParse (take len s) limit capacity fault nodes listed) (λ e. (fault ≡ Some e) × (nodes ≡ []) × (listed ≡ []))) none p
 
 some-same : (e f : Error) → Some e ≡ Some f → e ≡ f
 some-same e f is = ap error_in is where

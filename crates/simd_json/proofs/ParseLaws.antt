@@ -1,5 +1,5 @@
 -- From what the steps of a parse find to what the definitions answer.
-use Rattle.std.proofs.Common.{◌≡◌, ◌∙◌, ap, sym, subst, ◌≤◌, ℕ, List, [], length, true, Some, None, Ok, Err, arith, take, drop, ◌++◌, Result, map, inl, inr, ◌⊎◌}
+use Rattle.std.proofs.Common.{◌≡◌, ◌∙◌, ap, sym, subst, ◌≤◌, ℕ, List, [], length, true, Some, None, Ok, Err, arith, take, drop, ◌++◌, Result, map, inl, inr, false, refl, is_some}
 use Rattle.std.specs.Result.{is_err, MatchResult}
 use Rattle.std.proofs.lemmas.List.{length-map, length-take-le}
 use Rattle.std.proofs.Math.Seq.{take-append_seam}
@@ -8,13 +8,17 @@ use Rattle.std.proofs.lemmas.List.Sums.{length-filter, count_by-le-length}
 use Rattle.std.proofs.lemmas.List.FromFn.{length-range_with_len}
 use Rattle.simd_json_parts.proofs.Complete.Answer.{answer-Denotes}
 use Rattle.simd_json_parts.proofs.Faults.Kinds.{input-fault, token-fault}
+use Rattle.simd_json_parts.proofs.Faults.Root.{fault-reported}
 use Rattle.simd_json_parts.proofs.Sound.Answer.{answer-sound}
 use Rattle.simd_json_parts.proofs.Documents.Spelling.{IsSpellable-denoted}
 use Rattle.simd_json_parts.specs.Answer.{answer, fault_or}
 use Rattle.simd_json_parts.specs.Bytes.{indices}
 use Rattle.simd_json_parts.specs.Descent.{descent}
 use Rattle.simd_json_parts.specs.Document.{Document}
-use Rattle.simd_json_parts.specs.FaultKinds.{IsOfInput, IsOfToken}
+use Rattle.simd_json_parts.specs.ErrorKinds.{is_unexpected_token}
+use Rattle.simd_json_parts.specs.FaultKinds.{is_input_kind}
+use Rattle.simd_json_parts.specs.Grammar.{Denotes}
+use Rattle.simd_json_parts.specs.Limits.{WithinLimits}
 use Rattle.simd_json_parts.specs.Nodes.{Item, item_of}
 use Rattle.simd_json_parts.specs.declared.node.Node.{Node}
 use Rattle.simd_json_stages.specs.Building.{IsListed}
@@ -23,6 +27,8 @@ use Rattle.simd_json_parts.specs.Listing.{IsTape}
 use Rattle.simd_json_parts.specs.InputFaults.{input_fault}
 use Rattle.simd_json_parts.specs.Positions.{positions, is_position}
 use Rattle.simd_json_parts.specs.declared.error.Error.{Error}
+use Rattle.simd_json_parts.specs.declared.error.ErrorType.{ErrorType}
+use Rattle.simd_json_parts.specs.declared.error.ErrorType.TheVariants as errors
 
 -- ---- the answer
 
@@ -46,17 +52,40 @@ few-positions b = omega (arith, length-filter (is_position b) (indices b), count
 not-both : (d : Document) (e : Error) → Ok d ≡ Err e → ⊥
 not-both d e is = false≢true (ap is_err is)
 
-refused : (b : List ℕ) (limit : ℕ) (e : Error) → answer b limit ≡ Err e → ((input_fault b ≡ Some e) × IsOfInput e) ⊎ ((input_fault b ≡ None) × IsOfToken e) → IsRefused b limit e
-refused b limit e is kinds = record { answered = is; not_denoted = λ d denoted within. not-both d e (sym (answer-Denotes b d limit denoted within) ∙ is); kinds = kinds }
+not-answered : (b : List ℕ) (limit : ℕ) (e : Error) → answer b limit ≡ Err e → (d : Document) → Denotes b d → WithinLimits b d limit → ⊥
+not-answered b limit e is d denoted within = not-both d e (sym (answer-Denotes b d limit denoted within) ∙ is)
 
 -- what the second stage refuses
 pub refused-token : (b : List ℕ) (limit : ℕ) (e : Error) → input_fault b ≡ None → descent b limit ≡ Err e → IsRefused b limit e
 refused-token b limit e none is =
-    refused b limit e (none-answered b limit none ∙ is) (inr (none, token-fault b limit e is))
+    let answered = none-answered b limit none ∙ is in
+    let reported = fault-reported b limit e none is in record {
+      answered = answered;
+      not_denoted = not-answered b limit e answered;
+      kinds = inr (none, token-fault b limit e is);
+      not_late = λ _. reported.not_late;
+      not_early = λ unexpected. reported.not_early unexpected;
+    }
+
+-- the kinds of a whole input's fault are no token's that is not expected
+input-expected : (kind : ErrorType) → is_input_kind kind ≡ true → is_unexpected_token kind ≡ false
+input-expected errors.InputTooLarge is = refl
+input-expected errors.InvalidUtf8 is = refl
+input-expected errors.Syntax is = refl
+input-expected errors.Eof is = refl
+input-expected _ is = absurd (false≢true is)
 
 -- what the first stage refuses, or the tests before it
 pub refused-whole : (b : List ℕ) (limit : ℕ) (e : Error) → input_fault b ≡ Some e → IsRefused b limit e
-refused-whole b limit e is = refused b limit e (fault-answered b limit e is) (inl (is, input-fault b e is))
+refused-whole b limit e is =
+    let answered = fault-answered b limit e is in
+    let of_input = input-fault b e is in record {
+      answered = answered;
+      not_denoted = not-answered b limit e answered;
+      kinds = inl (is, of_input);
+      not_late = λ some. absurd (false≢true (sym (ap (λ x. is_some x.character) of_input.1) ∙ some));
+      not_early = λ unexpected. absurd (false≢true (sym (input-expected e.error of_input.0) ∙ unexpected));
+    }
 
 -- ---- what the second stage lists
 

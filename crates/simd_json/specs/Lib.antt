@@ -1,11 +1,15 @@
 pub mod MaxDepth
 pub mod Tapes
 pub mod TapeView
+pub mod Steps
 pub mod Capacities
 pub mod Memory
 pub mod Parsed
 pub mod Documents
+pub mod Printable
+pub mod PrintedAgain
 pub mod Viewed
 pub mod Answered
 pub mod Paired
 pub mod Iterated
+pub mod MapCompared

@@ -1,9 +1,10 @@
 -- What a parse answers, and what it leaves.
-use Rattle.std.specs.Prelude.{◌≡◌, ◌≤◌, ◌<◌, ◌⊎◌, ℕ, List, [], length, take, Option, Some, None, is_some, IfNone, IfSome, OnSome, MatchOption, Result, Ok, Err, if◌then◌else◌}
+use Rattle.std.specs.Prelude.{◌≡◌, ◌≤◌, ◌<◌, ◌⊎◌, ℕ, suc, List, [], length, take, Option, Some, None, is_some, IsSome, IsTrue, IfNone, IfSome, OnSome, MatchOption, Result, Ok, Err, if◌then◌else◌}
 use Rattle.simd_json_parts.specs.Answer.{answer}
 use Rattle.simd_json_parts.specs.Document.{Document}
+use Rattle.simd_json_parts.specs.ErrorKinds.{is_unexpected_token}
 use Rattle.simd_json_parts.specs.FaultKinds.{IsOfInput, IsOfToken}
-use Rattle.simd_json_parts.specs.Grammar.{Denotes}
+use Rattle.simd_json_parts.specs.Grammar.{Denotes, IsBeginning}
 use Rattle.simd_json_parts.specs.InputFaults.{input_fault, padding_fault}
 use Rattle.simd_json_parts.specs.Limits.{WithinLimits}
 use Rattle.simd_json_parts.specs.Listing.{listing}
@@ -22,11 +23,15 @@ pub record IsParsed (b : List ℕ) (limit : ℕ) (nodes : List Item) : Type 0 wh
   pub listed : nodes ≡ listing document
 
 -- b is no document within the limits, and the fault is the one that the definitions answer: the whole input's, of one of its
--- kinds and without a character, or else a token's, of one of theirs and with its character
+-- kinds and without a character, or else a token's, of one of theirs and with its character. A fault with a character is not
+-- reported late: the bytes before it go on to a document. Where it is a token that an array or an object does not expect
+-- after an element, at a name, after a name or after a member, it is not early: with that token's first byte they do not.
 pub record IsRefused (b : List ℕ) (limit : ℕ) (e : Error) : Type 0 where
   pub answered : answer b limit ≡ Err e
   pub not_denoted : (d : Document) → Denotes b d → WithinLimits b d limit → ⊥
   pub kinds : ((input_fault b ≡ Some e) × IsOfInput e) ⊎ ((input_fault b ≡ None) × IsOfToken e)
+  pub not_late : IsSome e.character → IsBeginning (take e.index b)
+  pub not_early : IsTrue (is_unexpected_token e.error) → IsBeginning (take (suc e.index) b) → ⊥
 
 -- the positions that are listed afterwards: none after a fault without a character
 abbrev pub positions_after : List ℕ → Option Error → List ℕ

@@ -9,9 +9,13 @@ ghost use Rattle.simd_json_parts.specs.Answer.{answer};
 ghost use Rattle.simd_json_parts.specs.Document.{Document};
 ghost use Rattle.simd_json_parts.specs.Grammar.{Denotes};
 ghost use Rattle.simd_json_parts.specs.InputFaults.{input_fault, padding_fault};
-ghost use Rattle.simd_json_parts.specs.Limits.{WithinLimits};
+ghost use Rattle.simd_json_parts.specs.Limits.{WithinLimits, depth, max_length};
 ghost use Rattle.simd_json_parts.specs.Listing.{listing, member_count};
 ghost use Rattle.simd_json_parts.specs.Nodes.{Item, count_of, len_of};
+ghost use Rattle.simd_json_parts.specs.Printed.{compact, pretty};
+ghost use Rattle.simd_json.specs.PrintedAgain.{IsParsedAgain};
+ghost use Rattle.simd_json.specs.Viewed.{doc};
+ghost use Rattle.simd_json.specs.declared.value.tape.value.Value.{Value};
 ghost use Rattle.simd_json_parts.specs.declared.error.Error.{Error};
 
 /// A parse in which no allocation fails returns what the definitions answer, with the nodes of their document, and it lists
@@ -24,8 +28,8 @@ pub fn parses_are_answers()
         × (listed ≡ positions_after b (result_err (answer b limit))) }
 {}
 
-/// So two parses of the same bytes within the same limit agree, whichever entry point they take and whatever the buffers,
-/// the tape and the padding held.
+/// So two parses of the same bytes within the same limit agree, whichever entry point they take and whatever buffers and
+/// tape held. A parse of the padded form is one of its document's bytes, and what the padding holds does not matter.
 pub fn parses_agree()
     ensures same { (b : List ℕ) (limit capacity capacity2 : ℕ) (fault fault2 : Option Error)
         (nodes nodes2 : List Item) (listed listed2 : List ℕ)
@@ -36,6 +40,12 @@ pub fn parses_agree()
         (nodes : List Item) (listed : List ℕ) → padding_fault s len ≡ None
         → IsPaddedParse s len limit capacity fault nodes listed
         → IsParse (take len s) limit capacity fault nodes listed }
+    ensures padding { (s s2 : List ℕ) (len limit capacity capacity2 : ℕ) (fault fault2 : Option Error)
+        (nodes nodes2 : List Item) (listed listed2 : List ℕ)
+        → padding_fault s len ≡ None → padding_fault s2 len ≡ None → take len s ≡ take len s2
+        → IsPaddedParse s len limit capacity fault nodes listed
+        → IsPaddedParse s2 len limit capacity2 fault2 nodes2 listed2 → HasMemory fault → HasMemory fault2
+        → (fault ≡ fault2) × (nodes ≡ nodes2) × (listed ≡ listed2) }
 {}
 
 /// A parse that has capacity for its bytes does not return `OutOfMemory`.
@@ -71,4 +81,17 @@ pub fn values_stand_for_parsed_documents()
 pub fn headers_count_nodes_and_members()
     ensures { (d : Document) (header : Item) (beneath : List Item) → listing d ≡ header ∷ beneath
         → (length beneath ≡ count_of header) × (len_of header ≡ member_count d) }
+{}
+
+/// What a value is printed as, parsed again within a limit of no less than its depth, is the document of the value with no
+/// sign on a zero, which is equal to it. So it is wherever memory is found and the text is not too long.
+pub fn printed_values_are_parsed_again()
+    ensures compact { (v : Value) (limit capacity : ℕ) (fault : Option Error) (nodes : List Item) (listed : List ℕ)
+        → length (compact (doc v)) ≤ max_length → depth (doc v) ≤ limit
+        → IsParse (compact (doc v)) limit capacity fault nodes listed → HasMemory fault
+        → IsParsedAgain (doc v) fault nodes }
+    ensures pretty { (v : Value) (limit capacity : ℕ) (fault : Option Error) (nodes : List Item) (listed : List ℕ)
+        → length (pretty (doc v)) ≤ max_length → depth (doc v) ≤ limit
+        → IsParse (pretty (doc v)) limit capacity fault nodes listed → HasMemory fault
+        → IsParsedAgain (doc v) fault nodes }
 {}

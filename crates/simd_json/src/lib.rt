@@ -12,12 +12,14 @@
 #![tactic(auto)]
 
 mod buffers;
+mod capacity;
+mod deserializer;
 pub mod laws;
 mod parse;
-mod capacity;
 pub mod value;
 
 pub use buffers::Buffers;
+pub use deserializer::Deserializer;
 pub use parse::{fill_tape, fill_tape_padded, to_tape, to_tape_with_buffers};
 pub use simd_json_parts::error::{Error, ErrorType, Result};
 pub use simd_json_parts::node::{Node, StaticNode, TryTypeError, ValueType};
@@ -29,6 +31,3 @@ pub const DEFAULT_MAX_DEPTH: usize = 1024;
 
 /// How many bytes [`fill_tape_padded`] asks for after its document.
 pub const INPUT_PADDING: usize = 64;
-
-#[cfg(test)]
-mod tests;

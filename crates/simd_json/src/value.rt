@@ -2,4 +2,5 @@
 
 mod accessors;
 mod cmp;
+mod encode;
 pub mod tape;

@@ -36,6 +36,7 @@ ghost use Rattle.simd_json_parts.specs.declared.error.Error.{Error};
 ghost use Rattle.simd_json_parts.specs.declared.error.ErrorType.{ErrorType};
 ghost use Rattle.simd_json_parts.specs.declared.error.ErrorType.TheVariants.{ExpectedObjectKey, InsufficientPadding};
 
+pub mod errors;
 pub mod printing;
 
 /// The test of a pattern is its set.

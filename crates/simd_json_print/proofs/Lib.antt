@@ -1,2 +1,9 @@
 pub mod FlatMaps
 pub mod Prefixes
+pub mod Places
+pub mod Sent
+pub mod Walk
+pub mod Turns
+pub mod Layouts
+pub mod Lines
+pub mod Runs

@@ -1,1 +1,4 @@
 pub mod Prefix
+pub mod Sent
+pub mod Places
+pub mod Layout

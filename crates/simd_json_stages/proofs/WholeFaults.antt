@@ -1,5 +1,5 @@
 -- The fault of the whole input, from what a scan finds.
-use Rattle.std.proofs.Common.{◌≡◌, ◌∙◌, ap, ap₂, sym, ◌<◌, ◌≤◌, ℕ, zero, suc, List, length, Bool, true, false, not, cond, nat_lt, nat_eq, Option, Some, None, IsUtf8, ◌==◌, if◌then◌else◌, refl, arith}
+use Rattle.std.proofs.Common.{◌≡◌, ◌∙◌, ap, ap₂, sym, subst, ◌<◌, ◌≤◌, ℕ, zero, suc, List, length, Bool, true, false, not, cond, nat_lt, nat_eq, Option, Some, None, IsUtf8, ◌==◌, if◌then◌else◌, refl, arith}
 use Rattle.std.specs.Str.{is_utf8}
 use Rattle.std.proofs.lemmas.Bool.{true≢false}
 use Rattle.simd_json_parts.proofs.Positions.ScannedInputs.{by_size, fault-by_size, scanned}
@@ -45,3 +45,6 @@ some-positions b none = by_length (length (positions b)) refl where
   by_length zero is =
       absurd (true≢false (ap is_none (sym none ∙ fault-by_size b ∙ ap fault-at is) ∙ some_fault (nat_lt max_length (length b)) (not (is_utf8 b)) (has_bad_string b) _ _ _ _))
   by_length (suc n) is = omega arith
+
+pub some-listed : (b ps : List ℕ) → ps ≡ positions b → input_fault b ≡ None → 0 < length ps
+some-listed b ps is none = subst (λ ps. 0 < length ps) (sym is) (some-positions b none)

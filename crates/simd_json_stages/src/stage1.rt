@@ -8,9 +8,9 @@ ghost use Rattle.simd_json_stages.specs.Scans.{LacksMemory};
 use simd_json_parts::error::{Error, ErrorType, Result};
 use std::alloc::Allocator;
 
+mod capacity;
 mod classes;
 mod encoding;
-mod capacity;
 mod scan;
 #[cfg(test)]
 mod tests;

@@ -113,6 +113,19 @@ impl<'tape, 'input> Value<'tape, 'input> {
     }
 
     /// The integer, where it fits `u64`.
+    ///
+    /// ```
+    /// use simd_json::tape::Value;
+    ///
+    /// fn total(numbers: &Value<'_, '_>) -> Option<u64> {
+    ///     let array = numbers.as_array()?;
+    ///     let mut total = 0u64;
+    ///     for value in &array {
+    ///         total = total.checked_add(value.as_u64()?)?;
+    ///     }
+    ///     Some(total)
+    /// }
+    /// ```
     pub fn as_u64(&self) -> Option<u64>
         ensures { result ≡ as_t accessors.u64 (doc self.now) }
     {

@@ -1,4 +1,6 @@
 //! Comparisons of values.
+mod map;
+
 use crate::value::tape::Value;
 
 /// Two values are equal if they have the same shape and order and the same truth values, their integers the same numbers
@@ -51,6 +53,14 @@ impl<'tape, 'input> Value<'tape, 'input> {
     }
 
     /// Whether the value is that string.
+    ///
+    /// ```
+    /// use simd_json::tape::Value;
+    ///
+    /// fn is_answer(value: &Value<'_, '_>) -> bool {
+    ///     value.eq_u64(42) || value.eq_str("42")
+    /// }
+    /// ```
     pub fn eq_str(&self, other: &str) -> bool
         ensures { result ≡ eq_t bytes_eq accessors.str other.now (doc self.now) }
     {

@@ -132,6 +132,3 @@ impl<'input, A: Allocator + Copy> Tape<'input, A> {
         Tape::empty(*self.list.allocator())
     }
 }
-
-#[cfg(test)]
-mod tests;

@@ -67,24 +67,111 @@ fn reports_a_refused_growth(rt: HostRuntime) {
     }
 }
 
+// Which of `is_io`, `is_eof`, `is_syntax` and `is_data` is true.
+const IO: [bool; 4] = [true, false, false, false];
+
+const EOF: [bool; 4] = [false, true, false, false];
+
+const SYNTAX: [bool; 4] = [false, false, true, false];
+
+const DATA: [bool; 4] = [false, false, false, true];
+
+// All 44 kinds: what is printed of each, how many have each class, and that each equals itself and no other.
 #[test]
-fn is_of_one_class(rt: HostRuntime) {
-    let errors = [
-        (ErrorType::InputTooLarge, [true, false, false, false]),
-        (ErrorType::Eof, [false, true, false, false]),
-        (ErrorType::Overflow, [false, false, true, false]),
-        (ErrorType::DepthLimitExceeded, [false, false, false, true]),
+fn kinds_are_printed_classed_and_compared(rt: HostRuntime) -> std::result::Result<(), Fail> {
+    let message = String::from_str(rt.alloc(), "a")?;
+    let rows: [(ErrorType, &str, [bool; 4]); 44] = [
+        (ErrorType::InputTooLarge, "InputTooLarge", IO),
+        (ErrorType::InsufficientPadding, "InsufficientPadding", IO),
+        (ErrorType::OutOfMemory, "OutOfMemory", IO),
+        (ErrorType::Eof, "Eof", EOF),
+        (ErrorType::InternalError, "InternalError", SYNTAX),
+        (ErrorType::BadKeyType, "BadKeyType", SYNTAX),
+        (ErrorType::ExpectedArrayComma, "ExpectedArrayComma", SYNTAX),
+        (
+            ErrorType::ExpectedObjectColon,
+            "ExpectedObjectColon",
+            SYNTAX,
+        ),
+        (ErrorType::ExpectedMapComma, "ExpectedMapComma", SYNTAX),
+        (ErrorType::ExpectedMapEnd, "ExpectedMapEnd", SYNTAX),
+        (ErrorType::InvalidEscape, "InvalidEscape", SYNTAX),
+        (ErrorType::InvalidExponent, "InvalidExponent", SYNTAX),
+        (ErrorType::InvalidNumber, "InvalidNumber", SYNTAX),
+        (ErrorType::InvalidUtf8, "InvalidUtf8", SYNTAX),
+        (
+            ErrorType::InvalidUnicodeEscape,
+            "InvalidUnicodeEscape",
+            SYNTAX,
+        ),
+        (
+            ErrorType::InvalidUnicodeCodepoint,
+            "InvalidUnicodeCodepoint",
+            SYNTAX,
+        ),
+        (ErrorType::KeyMustBeAString, "KeyMustBeAString", SYNTAX),
+        (ErrorType::NoStructure, "NoStructure", SYNTAX),
+        (ErrorType::Parser, "Parser", SYNTAX),
+        (ErrorType::Syntax, "Syntax", SYNTAX),
+        (ErrorType::TrailingData, "TrailingData", SYNTAX),
+        (
+            ErrorType::UnexpectedCharacter,
+            "UnexpectedCharacter",
+            SYNTAX,
+        ),
+        (ErrorType::UnterminatedString, "UnterminatedString", SYNTAX),
+        (
+            ErrorType::ExpectedArrayContent,
+            "ExpectedArrayContent",
+            SYNTAX,
+        ),
+        (
+            ErrorType::ExpectedObjectContent,
+            "ExpectedObjectContent",
+            SYNTAX,
+        ),
+        (ErrorType::ExpectedObjectKey, "ExpectedObjectKey", SYNTAX),
+        (ErrorType::Overflow, "Overflow", SYNTAX),
+        (ErrorType::SimdUnsupported, "SimdUnsupported", SYNTAX),
+        (ErrorType::ExpectedArray, "ExpectedArray", DATA),
+        (ErrorType::ExpectedBoolean, "ExpectedBoolean", DATA),
+        (ErrorType::ExpectedEnum, "ExpectedEnum", DATA),
+        (ErrorType::ExpectedFloat, "ExpectedFloat", DATA),
+        (ErrorType::ExpectedInteger, "ExpectedInteger", DATA),
+        (ErrorType::ExpectedMap, "ExpectedMap", DATA),
+        (ErrorType::ExpectedNull, "ExpectedNull", DATA),
+        (ErrorType::ExpectedTrue, "ExpectedTrue", DATA),
+        (ErrorType::ExpectedFalse, "ExpectedFalse", DATA),
+        (ErrorType::ExpectedNumber, "ExpectedNumber", DATA),
+        (ErrorType::ExpectedSigned, "ExpectedSigned", DATA),
+        (ErrorType::ExpectedString, "ExpectedString", DATA),
+        (ErrorType::ExpectedUnsigned, "ExpectedUnsigned", DATA),
+        (ErrorType::DepthLimitExceeded, "DepthLimitExceeded", DATA),
+        (
+            ErrorType::Unexpected(Some(ValueType::I64), None),
+            "Unexpected(Some(I64), None)",
+            DATA,
+        ),
+        (ErrorType::Serde(message), "Serde(a)", DATA),
     ];
-    for (kind, classes) in errors {
-        let error = Error::generic(kind);
+    for (class, count) in [(IO, 3), (EOF, 1), (SYNTAX, 24), (DATA, 16)] {
+        assert_eq!(rt; rows.iter().filter(|row| row.2 == class).count(), count);
+    }
+    for (i, (kind, name, _)) in rows.iter().enumerate() {
+        assert_eq!(rt; kind.to_string(rt.alloc())?.as_str(), *name);
         assert_eq!(rt;
-            [
-                error.is_io(),
-                error.is_eof(),
-                error.is_syntax(),
-                error.is_data()
-            ],
-            classes
+            rows.iter().position(|row| row.0 == *kind),
+            Some(i),
+            "{name}"
         );
     }
+    for (kind, name, classes) in rows {
+        let e = Error::generic(kind);
+        assert_eq!(rt;
+            [e.is_io(), e.is_eof(), e.is_syntax(), e.is_data()],
+            classes,
+            "{name}"
+        );
+    }
+    Ok(())
 }

@@ -6,8 +6,8 @@ ghost use Rattle.simd_json_parts.specs.Limits.{max_length};
 ghost use Rattle.simd_json_stages.specs.Blocks.{AreBlocks, IsAscii, IsScanned};
 ghost use Rattle.simd_json_stages.specs.Scans.{IsBadEncoding, IsFound, LacksMemory};
 
-use super::encoding::{check_rest, check_window};
 use super::capacity::{grow, put};
+use super::encoding::{check_rest, check_window};
 use super::words::{Carry, block};
 use super::writing::{write, write_exactly};
 use super::{BLOCK_LEN, Found};

@@ -64,6 +64,15 @@ impl<'tape, 'input> Value<'tape, 'input> {
     }
 
     /// The integer at the key, where it fits `u16`.
+    ///
+    /// ```
+    /// use simd_json::TryTypeError;
+    /// use simd_json::tape::Value;
+    ///
+    /// fn port(settings: &Value<'_, '_>) -> Result<Option<u16>, TryTypeError> {
+    ///     settings.try_get_u16("port")
+    /// }
+    /// ```
     pub fn try_get_u16(&self, k: &str) -> Result<Option<u16>, TryTypeError>
         ensures { result ≡ try_get_t accessors.u16 k.now (doc self.now) }
     {

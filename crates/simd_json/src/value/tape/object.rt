@@ -1,6 +1,7 @@
 //! An object of a tape, and the iterators over its pairs, its keys and its values.
 ghost use Rattle.std.specs.Prelude.{◌≡◌, map, length};
 ghost use Rattle.simd_json.specs.Documents.{AreMembers, members_of};
+ghost use Rattle.simd_json.specs.Printable.{ArePrintable};
 ghost use Rattle.simd_json_parts.specs.Document.{members};
 ghost use Rattle.simd_json_parts.specs.Nodes.{item_of};
 
@@ -14,6 +15,7 @@ pub struct Object<'tape, 'input> {
     pub(super) len: usize,
     pub(super) nodes: &'tape [Node<'input>],
     ghost listed: { AreMembers (map item_of nodes.now) },
+    ghost printable: { ArePrintable nodes.now },
     ghost counted: { len ≡ length (members (members_of (map item_of nodes.now))) },
 }
 
@@ -75,7 +77,9 @@ impl<'tape, 'input> Object<'tape, 'input> {
     }
 
     // The first pair, and the object of the others.
-    fn split_first(self) -> Option<(&'input str, Value<'tape, 'input>, Object<'tape, 'input>)>
+    pub(crate) fn split_first(
+        self,
+    ) -> Option<(&'input str, Value<'tape, 'input>, Object<'tape, 'input>)>
         ensures { MatchOption result (pairs self.entry ≡ no_members) (λ r. pairs self.entry ≡ member r.0.now (doc r.1) (pairs r.2)) }
     {
         if self.len == 0 {

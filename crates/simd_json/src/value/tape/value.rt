@@ -1,6 +1,7 @@
 //! A value of a tape.
 ghost use Rattle.std.specs.Prelude.{◌≡◌, ◌++◌, List, length, map};
 ghost use Rattle.simd_json.specs.Documents.{IsListing};
+ghost use Rattle.simd_json.specs.Printable.{ArePrintable};
 ghost use Rattle.simd_json_parts.specs.Document.{Document};
 ghost use Rattle.simd_json_parts.specs.Listing.{StandsFor, listing};
 ghost use Rattle.simd_json_parts.specs.Nodes.{Item, item_of};
@@ -40,11 +41,13 @@ use simd_json_parts::node::{Node, StaticNode, ValueType};
 pub struct Value<'tape, 'input> {
     nodes: &'tape [Node<'input>],
     ghost listed: { IsListing (map item_of nodes.now) },
+    ghost printable: { ArePrintable nodes.now },
 }
 
 impl<'tape, 'input> Value<'tape, 'input> {
     ghost use Rattle.std.specs.Prelude.{◌≡◌, ◌++◌, ◌∷◌, map, drop, is_some, IfSome, option_map};
     ghost use Rattle.simd_json.specs.Documents.{IsListing, IsFirst, document_of};
+    ghost use Rattle.simd_json.specs.Printable.{ArePrintable};
     ghost use Rattle.simd_json.specs.Viewed.{doc, docs, pairs};
     ghost use Rattle.simd_json_parts.specs.Document.{Document, null, array, object};
     ghost use Rattle.simd_json_parts.specs.Listing.{StandsFor, listing};
@@ -62,7 +65,8 @@ impl<'tape, 'input> Value<'tape, 'input> {
 
     // Of the nodes of one document.
     pub(super) fn new(nodes: &'tape [Node<'input>]) -> Value<'tape, 'input>
-        requires { IsListing (map item_of nodes.now) }
+        requires listed { IsListing (map item_of nodes.now) }
+        requires printable { ArePrintable nodes.now }
         ensures { doc result ≡ document_of (map item_of nodes.now) }
     {
         Value { nodes }
@@ -72,8 +76,10 @@ impl<'tape, 'input> Value<'tape, 'input> {
     pub(super) fn split(
         nodes: &'tape [Node<'input>],
     ) -> (Value<'tape, 'input>, &'tape [Node<'input>])
-        requires { (d : Document) × StandsFor nodes.now d }
-        ensures { map item_of nodes.now ≡ listing (doc result.0) ++ map item_of result.1.now }
+        requires listed { (d : Document) × StandsFor nodes.now d }
+        requires printable { ArePrintable nodes.now }
+        ensures whole { map item_of nodes.now ≡ listing (doc result.0) ++ map item_of result.1.now }
+        ensures printable { ArePrintable result.1.now }
     {
         let (first, others) = nodes.split_at(size(nodes));
         (Value { nodes: first }, others)

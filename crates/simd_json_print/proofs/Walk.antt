@@ -1,0 +1,182 @@
+-- What a walk over nodes meets, turn by turn.
+use Rattle.std.proofs.Common.{◌≡◌, ◌∙◌, ap, sym, refl, ◌<◌, ◌+◌, ◌-◌, min, ℕ, suc, Bool, true, false, List, [], ◌∷◌, ◌++◌, length, length-append, map, take, drop, get_or, append_assoc, codes, arith}
+use Rattle.std.proofs.Math.Seq.{take-append_seam, drop-append_seam}
+use Rattle.std.proofs.lemmas.List.{length-map, take-map, drop-map}
+use Rattle.simd_json_parts.proofs.Documents.Listing.{IsHeaded-document}
+use Rattle.simd_json_parts.specs.Bytes.{left_bracket, right_bracket, left_brace, right_brace}
+use Rattle.simd_json_parts.specs.Document.{Document, null, boolean, integer, decimal, string, array, object, Elements, no_elements, element, elements, Members, no_members, member, members}
+use Rattle.simd_json_parts.specs.Listing.{listing, elements_listing, members_listing}
+use Rattle.simd_json_parts.specs.Nodes.{Item, static_item, decimal_item, string_item, array_item, object_item, item_of, count_of}
+use Rattle.simd_json_parts.specs.Integers.{integer_node}
+use Rattle.simd_json_parts.specs.declared.node.Node.{Node}
+use Rattle.simd_json_parts.specs.declared.node.Node.TheVariants as nodes
+use Rattle.simd_json_parts.specs.declared.node.StaticNode.TheVariants as fixed
+use Rattle.simd_json_print.specs.Layout.{line, scalar_text, text, elements_text, members_text}
+
+positive : (d : Document) → 0 < length (listing d)
+positive d =
+    let h = IsHeaded-document d in
+    omega (arith, ap length h.whole)
+
+-- ---- how many nodes a value has
+
+pub sized : (ns : List Node) (default : Node) (n : ℕ) (d : Document) (rest : List Item) → n ≡ count_of (item_of (get_or ns 0 default)) → map item_of ns ≡ listing d ++ rest
+    → min n (length ns - 1) + 1 ≡ length (listing d)
+sized [] default n d rest counted is = absurd (omega (arith, positive d, ap length is, length-append (listing d) rest))
+sized (x ∷ ns) default n d rest counted is =
+    let h = IsHeaded-document d in
+    let front : item_of x ∷ map item_of ns ≡ h.first ∷ (h.rest ++ rest) = is ∙ ap (λ xs. xs ++ rest) h.whole in
+    let same : item_of x ≡ h.first = cc in
+    omega (arith, counted, ap count_of same, h.beneath, ap length h.whole, ap length is, length-append (listing d) rest, length-map ns item_of)
+
+-- ---- elements
+
+none-listed : (ns : List Node) (ds : Elements) → length ns ≡ 0 → map item_of ns ≡ elements_listing ds → ds ≡ no_elements
+none-listed ns no_elements none is = refl
+none-listed ns (element d ds) none is = absurd (omega (arith, positive d, ap length is, length-append (listing d) (elements_listing ds), length-map ns item_of))
+
+pub empty-array : (p : Bool) (n : ℕ) (ns : List Node) (ds : Elements) → length ns ≡ 0 → map item_of ns ≡ elements_listing ds → codes "[]" ≡ text p (array ds) n
+empty-array p n ns ds none is = ap (λ es. text p (array es) n) (sym (none-listed ns ds none is))
+
+pub array-begins : (p : Bool) (n : ℕ) (ns : List Node) (ds : Elements) → 0 < length ns → map item_of ns ≡ elements_listing ds
+    → elements_text p left_bracket ds (n + 1) ++ (line p n ++ right_bracket ∷ []) ≡ text p (array ds) n
+array-begins p n ns no_elements some is = absurd (omega (arith, ap length is, length-map ns item_of))
+array-begins p n ns (element d ds) some is =
+    let one : n + 1 ≡ suc n = omega arith in
+    ap (λ k. elements_text p left_bracket (element d ds) k ++ (line p n ++ right_bracket ∷ [])) one
+
+pub elements-end : (p : Bool) (before n : ℕ) (ns : List Node) (ds : Elements) → length ns ≡ 0 → map item_of ns ≡ elements_listing ds → elements_text p before ds n ≡ []
+elements-end p before n ns ds none is = ap (λ es. elements_text p before es n) (none-listed ns ds none is)
+
+-- the first element's nodes, and those of the others
+pub record AreParted (ds : Elements) (first rest : List Node) : Type 0 where
+  pub d : Document
+  pub others : Elements
+  pub whole : ds ≡ element d others
+  pub front : map item_of first ≡ listing d
+  pub back : map item_of rest ≡ elements_listing others
+
+seam : (ns first rest : List Node) (d : Document) (others : List Item) (k : ℕ) → map item_of ns ≡ listing d ++ others → k ≡ length (listing d) → first ≡ take k ns → rest ≡ drop k ns
+    → (map item_of first ≡ listing d) × (map item_of rest ≡ others)
+seam ns first rest d others k is whole front back = (
+  ap (map item_of) front ∙ sym (take-map item_of k ns) ∙ ap (take k) is ∙ ap (λ j. take j (listing d ++ others)) whole ∙ take-append_seam (listing d) others,
+  ap (map item_of) back ∙ sym (drop-map item_of k ns) ∙ ap (drop k) is ∙ ap (λ j. drop j (listing d ++ others)) whole ∙ drop-append_seam (listing d) others,
+)
+
+pub parted : (ns first rest : List Node) (ds : Elements) (k : ℕ) → 0 < length ns → map item_of ns ≡ elements_listing ds
+    → ((d : Document) (others : List Item) → map item_of ns ≡ listing d ++ others → k ≡ length (listing d)) → first ≡ take k ns → rest ≡ drop k ns → AreParted ds first rest
+parted ns first rest no_elements k some is whole front back = absurd (omega (arith, ap length is, length-map ns item_of))
+parted ns first rest (element d ds) k some is whole front back =
+    let s = seam ns first rest d (elements_listing ds) k is (whole d (elements_listing ds) is) front back in
+    record { d = d; others = ds; whole = refl; front = s.0; back = s.1 }
+
+-- a turn's text
+pub element-turn : (before : ℕ) (done l t more close whole : List ℕ) → done ++ ((before ∷ (l ++ (t ++ more))) ++ close) ≡ whole
+    → (done ++ ((before ∷ []) ++ (l ++ t))) ++ (more ++ close) ≡ whole
+element-turn before done l t more close whole is =
+    append_assoc done (before ∷ (l ++ t)) (more ++ close)
+    ∙ ap (λ us. done ++ (before ∷ us)) (append_assoc l t (more ++ close) ∙ ap (λ us. l ++ us) (sym (append_assoc t more close)) ∙ sym (append_assoc l (t ++ more) close)) ∙ is
+
+-- ---- members
+
+none-paired : (ns : List Node) (ms : Members) → length ns ≡ 0 → map item_of ns ≡ members_listing ms → ms ≡ no_members
+none-paired ns no_members none is = refl
+none-paired ns (member k d ms) none is = absurd (omega (arith, ap length is, length-map ns item_of))
+
+pub empty-object : (p : Bool) (n : ℕ) (ns : List Node) (ms : Members) → length ns ≡ 0 → map item_of ns ≡ members_listing ms → codes "{}" ≡ text p (object ms) n
+empty-object p n ns ms none is = ap (λ es. text p (object es) n) (sym (none-paired ns ms none is))
+
+pub object-begins : (p : Bool) (n : ℕ) (ns : List Node) (ms : Members) → 0 < length ns → map item_of ns ≡ members_listing ms
+    → members_text p left_brace ms (n + 1) ++ (line p n ++ right_brace ∷ []) ≡ text p (object ms) n
+object-begins p n ns no_members some is = absurd (omega (arith, ap length is, length-map ns item_of))
+object-begins p n ns (member k d ms) some is =
+    let one : n + 1 ≡ suc n = omega arith in
+    ap (λ j. members_text p left_brace (member k d ms) j ++ (line p n ++ right_brace ∷ [])) one
+
+pub members-end : (p : Bool) (before n : ℕ) (ns : List Node) (ms : Members) → length ns ≡ 0 → map item_of ns ≡ members_listing ms → members_text p before ms n ≡ []
+members-end p before n ns ms none is = ap (λ es. members_text p before es n) (none-paired ns ms none is)
+
+-- the first member's name, the nodes of its value, and those of the other members
+pub record ArePaired (ms : Members) (name : Item) (value rest : List Node) : Type 0 where
+  pub k : List ℕ
+  pub d : Document
+  pub others : Members
+  pub whole : ms ≡ member k d others
+  pub named : name ≡ string_item k
+  pub front : map item_of value ≡ listing d
+  pub back : map item_of rest ≡ members_listing others
+
+headed : (ns : List Node) (default : Node) (k : Item) (others : List Item) → map item_of ns ≡ k ∷ others → (item_of (get_or (take 1 ns) 0 default) ≡ k) × (map item_of (drop 1 ns) ≡ others)
+headed [] default k others is = cc
+headed (n ∷ ns) default k others is = (cc, cc)
+
+pub paired : (ns names values value rest : List Node) (default : Node) (ms : Members) (j : ℕ) → 0 < length ns → map item_of ns ≡ members_listing ms → names ≡ take 1 ns → values ≡ drop 1 ns
+    → ((d : Document) (others : List Item) → map item_of values ≡ listing d ++ others → j ≡ length (listing d)) → value ≡ take j values → rest ≡ drop j values
+    → ArePaired ms (item_of (get_or names 0 default)) value rest
+paired ns names values value rest default no_members j some is at after whole front back = absurd (omega (arith, ap length is, length-map ns item_of))
+paired ns names values value rest default (member k d ms) j some is at after whole front back =
+    let h = headed ns default (string_item k) (listing d ++ members_listing ms) is in
+    let within : map item_of values ≡ listing d ++ members_listing ms = ap (map item_of) after ∙ h.1 in
+    let s = seam values value rest d (members_listing ms) j within (whole d (members_listing ms) within) front back in
+    record { k = k; d = d; others = ms; whole = refl; named = ap (λ xs. item_of (get_or xs 0 default)) at ∙ h.0; front = s.0; back = s.1 }
+
+pub member-turn : (before : ℕ) (done l name t more close whole : List ℕ) → done ++ ((before ∷ (l ++ (name ++ (t ++ more)))) ++ close) ≡ whole
+    → (done ++ ((before ∷ []) ++ (l ++ (name ++ t)))) ++ (more ++ close) ≡ whole
+member-turn before done l name t more close whole is =
+    element-turn before done l (name ++ t) more close whole
+    (ap (λ us. done ++ ((before ∷ (l ++ us)) ++ close)) (append_assoc name t more) ∙ is)
+
+-- ---- a value
+
+pub no-document : (ns : List Node) (d : Document) → length ns ≡ 0 → map item_of ns ≡ listing d → ⊥
+no-document ns d none is = omega (arith, positive d, ap length is, length-map ns item_of)
+
+first-item : (ns : List Node) (default : Node) (d : Document) → map item_of ns ≡ listing d → map item_of ns ≡ item_of (get_or ns 0 default) ∷ map item_of (drop 1 ns)
+first-item [] default d is = absurd (no-document [] d refl is)
+first-item (x ∷ ns) default d is = refl
+
+pub array-beneath : (ns beneath : List Node) (default : Node) (d : Document) (len count : ℕ) → get_or ns 0 default ≡ nodes.Array len count → beneath ≡ drop 1 ns → map item_of ns ≡ listing d
+    → (ds : Elements) × (d ≡ array ds) × (map item_of beneath ≡ elements_listing ds)
+array-beneath ns beneath default d len count kind after is =
+    array-of d len count (map item_of beneath)
+    (sym is ∙ first-item ns default d is ∙ ap (λ x. item_of x ∷ map item_of (drop 1 ns)) kind ∙ ap (λ xs. array_item len count ∷ map item_of xs) (sym after))
+  where
+    array-of : (e : Document) (l c : ℕ) (xs : List Item) → listing e ≡ array_item l c ∷ xs → (ds : Elements) × (e ≡ array ds) × (xs ≡ elements_listing ds)
+    array-of (array ds) l c xs same = (ds, refl, cc)
+    array-of (integer true m) l c xs same = cc
+    array-of _ l c xs same = cc
+
+pub object-beneath : (ns beneath : List Node) (default : Node) (d : Document) (len count : ℕ) → get_or ns 0 default ≡ nodes.Object len count → beneath ≡ drop 1 ns → map item_of ns ≡ listing d
+    → (ms : Members) × (d ≡ object ms) × (map item_of beneath ≡ members_listing ms)
+object-beneath ns beneath default d len count kind after is =
+    object-of d len count (map item_of beneath)
+    (sym is ∙ first-item ns default d is ∙ ap (λ x. item_of x ∷ map item_of (drop 1 ns)) kind ∙ ap (λ xs. object_item len count ∷ map item_of xs) (sym after))
+  where
+    object-of : (e : Document) (l c : ℕ) (xs : List Item) → listing e ≡ object_item l c ∷ xs → (ms : Members) × (e ≡ object ms) × (xs ≡ members_listing ms)
+    object-of (object ms) l c xs same = (ms, refl, cc)
+    object-of (integer true m) l c xs same = cc
+    object-of _ l c xs same = cc
+
+of-item : (p : Bool) (n : ℕ) (x : Item) (d : Document) (rest : List Item) → ((len count : ℕ) → x ≡ array_item len count → ⊥) → ((len count : ℕ) → x ≡ object_item len count → ⊥)
+    → x ∷ rest ≡ listing d → scalar_text x ≡ text p d n
+of-item p n x null rest no_array no_object is = let same : x ≡ static_item fixed.Null = cc in ap scalar_text same
+of-item p n x (boolean b) rest no_array no_object is = let same : x ≡ static_item (fixed.Bool b) = cc in ap scalar_text same
+of-item p n x (integer true m) rest no_array no_object is = let same : x ≡ static_item (integer_node true m) = cc in ap scalar_text same
+of-item p n x (integer false m) rest no_array no_object is = let same : x ≡ static_item (integer_node false m) = cc in ap scalar_text same
+of-item p n x (decimal literal) rest no_array no_object is = let same : x ≡ decimal_item literal = cc in ap scalar_text same
+of-item p n x (string t) rest no_array no_object is = let same : x ≡ string_item t = cc in ap scalar_text same
+of-item p n x (array ds) rest no_array no_object is = absurd (no_array (length (elements ds)) (length (elements_listing ds)) (cc))
+of-item p n x (object ms) rest no_array no_object is = absurd (no_object (length (members ms)) (length (members_listing ms)) (cc))
+
+-- a node that is no header is all of its value
+scalar-of : (p : Bool) (n : ℕ) (x : Node) (d : Document) (rest : List Item) → ((len count : ℕ) → x ≡ nodes.Array len count → ⊥) → ((len count : ℕ) → x ≡ nodes.Object len count → ⊥)
+    → item_of x ∷ rest ≡ listing d → scalar_text (item_of x) ≡ text p d n
+scalar-of p n (nodes.Array len count) d rest no_array no_object is = absurd (no_array len count refl)
+scalar-of p n (nodes.Object len count) d rest no_array no_object is = absurd (no_object len count refl)
+scalar-of p n (nodes.String s) d rest no_array no_object is = of-item p n (string_item s.now) d rest (λ l c e. cc) (λ l c e. cc) is
+scalar-of p n (nodes.Static s) d rest no_array no_object is = of-item p n (static_item s) d rest (λ l c e. cc) (λ l c e. cc) is
+scalar-of p n (nodes.Decimal s) d rest no_array no_object is = of-item p n (decimal_item s.now) d rest (λ l c e. cc) (λ l c e. cc) is
+
+pub scalar-text : (p : Bool) (n : ℕ) (ns : List Node) (default : Node) (d : Document) → ((len count : ℕ) → get_or ns 0 default ≡ nodes.Array len count → ⊥)
+    → ((len count : ℕ) → get_or ns 0 default ≡ nodes.Object len count → ⊥) → map item_of ns ≡ listing d → scalar_text (item_of (get_or ns 0 default)) ≡ text p d n
+scalar-text p n ns default d no_array no_object is = scalar-of p n (get_or ns 0 default) d (map item_of (drop 1 ns)) no_array no_object (sym (first-item ns default d is) ∙ is)

@@ -1,0 +1,15 @@
+use Rattle.simd_json_print.proofs.Sent.{given-begun, finished-all, finished-some}
+use Rattle.simd_json_print.proofs.place.writer.Writing.finish.Goals as goal
+
+pub returns-then-self-clause-some : goal.returns-then-self-clause-some
+returns-then-self-clause-some g c bytes before given = given-begun before (g.W.Write.contents c.args.writer.now) _ bytes given
+
+pub returns-clause-all : goal.returns-clause-all
+returns-clause-all g c bytes before given =
+    finished-all c.flush.result before (g.W.Write.contents c.args.writer.now) (g.W.Write.contents c.flush.new.writer) c.args.self.now.pieces c.flush.new.self bytes c.args.self.now.has_stopped c.if-self.false given
+    c.flush.ensures.sent c.flush.ensures.empty
+
+pub returns-clause-some : goal.returns-clause-some
+returns-clause-some g c bytes before given =
+    finished-some c.flush.result before (g.W.Write.contents c.args.writer.now) (g.W.Write.contents c.flush.new.writer) c.args.self.now.pieces c.flush.new.self bytes c.args.self.now.has_stopped c.if-self.false given
+    c.flush.ensures.sent

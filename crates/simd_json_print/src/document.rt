@@ -1,0 +1,83 @@
+//! The printed text of a document, from its nodes: compact, or pretty with a line for each member.
+ghost use Rattle.std.specs.Prelude.{◌≡◌, ◌++◌, ℕ, map, take, OnOk, OnErr};
+ghost use Rattle.std.specs.Io.KnownBytes.{Appends};
+ghost use Rattle.simd_json_parts.specs.Document.{Document};
+ghost use Rattle.simd_json_parts.specs.Listing.{listing};
+ghost use Rattle.simd_json_parts.specs.Nodes.{item_of};
+ghost use Rattle.simd_json_parts.specs.Printed.{compact, pretty};
+ghost use Rattle.simd_json_print.specs.Prefix.{IsPrefix};
+
+mod scalar;
+#[cfg(test)]
+mod tests;
+mod walk;
+
+use crate::document::walk::put_value;
+use crate::place::list::Appending;
+use crate::place::writer::Writing;
+use simd_json_parts::node::Node;
+use std::alloc::{AllocError, Allocator};
+use std::io;
+use std::io::Write;
+
+/// Appends the compact text of the document that the nodes list.
+///
+/// Fails where an allocation fails. What `out` held is then still in front, and a part of the text may stand after it.
+pub fn append_compact<A: Allocator>(
+    out: &mut Vec<u8, A>,
+    nodes: &[Node<'_>],
+) -> std::result::Result<(), AllocError>
+    ensures appended { (d : Document) → map item_of nodes.now ≡ listing d
+        → OnOk result (out.new.items ≡ out.old.items ++ compact d) }
+    ensures kept { IsPrefix out.old.items out.new.items }
+{
+    let mut sink = Appending::new();
+    put_value::<_, _, false>(&mut sink, out, nodes, 0);
+    sink.result()
+}
+
+/// Appends the pretty text of the document that the nodes list.
+///
+/// Fails where an allocation fails. What `out` held is then still in front, and a part of the text may stand after it.
+pub fn append_pretty<A: Allocator>(
+    out: &mut Vec<u8, A>,
+    nodes: &[Node<'_>],
+) -> std::result::Result<(), AllocError>
+    ensures appended { (d : Document) → map item_of nodes.now ≡ listing d
+        → OnOk result (out.new.items ≡ out.old.items ++ pretty d) }
+    ensures kept { IsPrefix out.old.items out.new.items }
+{
+    let mut sink = Appending::new();
+    put_value::<_, _, true>(&mut sink, out, nodes, 0);
+    sink.result()
+}
+
+/// Writes the compact text of the document that the nodes list.
+///
+/// Where the writer fails, or takes no byte of a piece that is not empty, that ends it at once: with the writer's own error,
+/// or one of kind `WriteZero`. What was written by then is a prefix of the text. It takes no memory.
+pub fn write_compact<W: Write>(writer: &mut W, nodes: &[Node<'_>]) -> io::Result<()>
+    ensures written { (d : Document) → map item_of nodes.now ≡ listing d
+        → OnOk result (Appends (W.contents writer.old) (W.contents writer.new) (compact d)) }
+    ensures begun { (d : Document) → map item_of nodes.now ≡ listing d
+        → OnErr result ((count : ℕ) × Appends (W.contents writer.old) (W.contents writer.new) (take count (compact d))) }
+{
+    let mut sink = Writing::new();
+    put_value::<_, _, false>(&mut sink, writer, nodes, 0);
+    sink.finish(writer)
+}
+
+/// Writes the pretty text of the document that the nodes list.
+///
+/// Where the writer fails, or takes no byte of a piece that is not empty, that ends it at once: with the writer's own error,
+/// or one of kind `WriteZero`. What was written by then is a prefix of the text. It takes no memory.
+pub fn write_pretty<W: Write>(writer: &mut W, nodes: &[Node<'_>]) -> io::Result<()>
+    ensures written { (d : Document) → map item_of nodes.now ≡ listing d
+        → OnOk result (Appends (W.contents writer.old) (W.contents writer.new) (pretty d)) }
+    ensures begun { (d : Document) → map item_of nodes.now ≡ listing d
+        → OnErr result ((count : ℕ) × Appends (W.contents writer.old) (W.contents writer.new) (take count (pretty d))) }
+{
+    let mut sink = Writing::new();
+    put_value::<_, _, true>(&mut sink, writer, nodes, 0);
+    sink.finish(writer)
+}

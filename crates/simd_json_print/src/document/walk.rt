@@ -1,0 +1,128 @@
+//! The one walk over the nodes of a document that prints it.
+ghost use Rattle.std.specs.Prelude.{◌≡◌, ◌+◌, ◌<◌, ◌≤◌, ◌^◌, ◌++◌, List, length, map};
+ghost use Rattle.simd_json_parts.specs.Bytes.{left_bracket};
+ghost use Rattle.simd_json_parts.specs.Document.{Document, Elements, array, Members, object};
+ghost use Rattle.simd_json_parts.specs.Listing.{listing, elements_listing, members_listing};
+ghost use Rattle.simd_json_parts.specs.Nodes.{Item, count_of, item_of};
+ghost use Rattle.simd_json_print.specs.Layout.{text};
+ghost use Rattle.simd_json_print.specs.Places.{Gives, Grows};
+
+use crate::document::scalar::{put_line, put_name, put_scalar};
+use crate::place::Sink;
+use simd_json_parts::node::Node;
+
+/// Puts the value that the nodes are, with `depth` containers open around it.
+#[inline(always)]
+#[cycle(value)]
+pub(crate) fn put_value<P, S: Sink<P>, const PRETTY: bool>(
+    sink: &mut S,
+    target: &mut P,
+    nodes: &[Node<'_>],
+    depth: usize,
+)
+    requires { depth + length nodes.now < 2 ^ 64 }
+    ensures kept { Grows (S.place sink.old target.old) (S.place sink.new target.new) }
+    ensures given { (d : Document) → map item_of nodes.now ≡ listing d
+        → Gives (S.place sink.old target.old) (S.place sink.new target.new) (text PRETTY d depth) }
+{
+    if nodes.is_empty() {
+        return;
+    }
+    match nodes[0] {
+        Node::Array { .. } => put_array::<P, S, PRETTY>(sink, target, nodes.split_at(1).1, depth),
+        Node::Object { .. } => put_object::<P, S, PRETTY>(sink, target, nodes.split_at(1).1, depth),
+        scalar => put_scalar(sink, target, scalar),
+    }
+}
+
+// An array, from the nodes beneath its header.
+#[cycle(value)]
+fn put_array<P, S: Sink<P>, const PRETTY: bool>(
+    sink: &mut S,
+    target: &mut P,
+    nodes: &[Node<'_>],
+    depth: usize,
+)
+    requires { depth + length nodes.now + 1 < 2 ^ 64 }
+    ensures kept { Grows (S.place sink.old target.old) (S.place sink.new target.new) }
+    ensures given { (ds : Elements) → map item_of nodes.now ≡ elements_listing ds
+        → Gives (S.place sink.old target.old) (S.place sink.new target.new) (text PRETTY (array ds) depth) }
+{
+    if nodes.is_empty() {
+        return sink.put(target, b"[]");
+    }
+    let mut at = 0;
+    let mut before = b'[';
+    while at < nodes.len() {
+        if sink.has_stopped(target) {
+            return;
+        }
+        let left = nodes.split_at(at).1;
+        let first = left.split_at(size(left)).0;
+        sink.put(target, &[before]);
+        put_line::<P, S, PRETTY>(sink, target, depth + 1);
+        put_value::<P, S, PRETTY>(sink, target, first, depth + 1);
+        before = b',';
+        at += first.len();
+    }
+    put_line::<P, S, PRETTY>(sink, target, depth);
+    sink.put(target, b"]");
+}
+
+// An object, from the nodes beneath its header.
+#[cycle(value)]
+fn put_object<P, S: Sink<P>, const PRETTY: bool>(
+    sink: &mut S,
+    target: &mut P,
+    nodes: &[Node<'_>],
+    depth: usize,
+)
+    requires { depth + length nodes.now + 1 < 2 ^ 64 }
+    ensures kept { Grows (S.place sink.old target.old) (S.place sink.new target.new) }
+    ensures given { (ms : Members) → map item_of nodes.now ≡ members_listing ms
+        → Gives (S.place sink.old target.old) (S.place sink.new target.new) (text PRETTY (object ms) depth) }
+{
+    if nodes.is_empty() {
+        return sink.put(target, b"{}");
+    }
+    let mut at = 0;
+    let mut before = b'{';
+    while at < nodes.len() {
+        if sink.has_stopped(target) {
+            return;
+        }
+        let (name, left) = nodes.split_at(at).1.split_at(1);
+        let value = left.split_at(size(left)).0;
+        sink.put(target, &[before]);
+        put_line::<P, S, PRETTY>(sink, target, depth + 1);
+        put_name::<P, S, PRETTY>(sink, target, name[0]);
+        put_value::<P, S, PRETTY>(sink, target, value, depth + 1);
+        before = b',';
+        at += 1 + value.len();
+    }
+    put_line::<P, S, PRETTY>(sink, target, depth);
+    sink.put(target, b"}");
+}
+
+// How many of the nodes are the first value, at most all.
+fn size(nodes: &[Node<'_>]) -> usize
+    ensures within { result ≤ length nodes.now }
+    ensures some { 0 < length nodes.now → 0 < result }
+    ensures whole { (d : Document) (rest : List Item) → map item_of nodes.now ≡ listing d ++ rest → result ≡ length (listing d) }
+{
+    if nodes.is_empty() {
+        return 0;
+    }
+    beneath(nodes[0]).min(nodes.len() - 1) + 1
+}
+
+// How many nodes a node says lie beneath it.
+fn beneath(node: Node<'_>) -> usize
+    ensures { result ≡ count_of (item_of node.entry) }
+{
+    match node {
+        Node::Array { count, .. } => count,
+        Node::Object { count, .. } => count,
+        _ => 0,
+    }
+}

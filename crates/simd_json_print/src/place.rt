@@ -1,0 +1,23 @@
+//! The places that printed text is given to: a list, or a writer by way of pieces.
+ghost use Rattle.simd_json_print.specs.Places.{Place};
+
+pub(crate) mod list;
+pub(crate) mod pieces;
+pub(crate) mod quoted;
+pub(crate) mod writer;
+
+/// How text gets to a place, and what is collected for it on the way.
+///
+/// Where the place fails, that is kept, and all that follows is dropped.
+pub(crate) trait Sink<P> {
+    ghost use Rattle.std.specs.Prelude.{IsTrue};
+    ghost use Rattle.simd_json_print.specs.Places.{Place, Gives, HasStopped};
+
+    ghost place: { Self → P → Place };
+
+    fn put(&mut self, target: &mut P, bytes: &[u8])
+        ensures { Gives (place self.old target.old) (place self.new target.new) bytes.now };
+
+    fn has_stopped(&self, target: &P) -> bool
+        ensures { IsTrue result → HasStopped (place self.now target.now) };
+}

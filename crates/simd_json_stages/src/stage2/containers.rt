@@ -1,0 +1,91 @@
+//! Containers open and close.
+ghost use Rattle.std.specs.Prelude.{◌≡◌, ◌<◌, ◌≤◌, ◌+◌, ◌-◌, ℕ, List, length, min, IfOk, IfErr, IsTrue};
+ghost use Rattle.simd_json_parts.specs.Positions.{positions};
+ghost use Rattle.simd_json_stages.specs.Building.{AtValue, Opens, Tells, top, patch, closer};
+ghost use Rattle.simd_json_stages.specs.Progresses.{EndsClosed, IsBefore, IsWithin, Advances};
+
+use super::fault::{Fault, FaultKind};
+use super::unread::Unread;
+use super::{Container, Progress, StackState, Value};
+use simd_json_parts::node::Node;
+
+// The container that opens at the last token: the token after it tells whether it is empty.
+#[inline(always)]
+pub(super) fn open<'de>(
+    unread: &Unread<'de>,
+    indexes: &[u32],
+    stack: &mut [StackState],
+    nodes: &mut [Node<'de>],
+    p: Progress,
+    container: Container,
+    max_depth: usize,
+    closed: bool,
+) -> std::result::Result<Value, Fault>
+    ghost b: { List ℕ }
+    requires closed { IsTrue closed → EndsClosed b indexes.now }
+    requires input { indexes.now ≡ positions b }
+    requires progress { IsBefore b indexes.now unread.now p }
+    requires opener { p.byte + 2 ≡ closer container }
+    requires depth { p.depth ≤ max_depth }
+    requires nodes { length indexes.now ≤ length nodes.old }
+    requires stack { min (length indexes.now) max_depth ≤ length stack.old }
+    requires value { AtValue b indexes.now max_depth stack.old nodes.old p }
+    ensures kept { (length nodes.new ≡ length nodes.old) × (length stack.new ≡ length stack.old) }
+    ensures progress { IfOk result (IsWithin b indexes.now unread.now) }
+    ensures advances { IfOk result (Advances max_depth p) }
+    ensures step { IfOk result (Opens b indexes.now max_depth stack.new nodes.new) }
+    ensures refused { IfErr result (Tells b indexes.now max_depth) }
+{
+    if p.depth == max_depth {
+        return Err(p.fault(FaultKind::DepthLimitExceeded));
+    }
+    if p.is_last(indexes, closed) {
+        return Err(p.fault(FaultKind::Syntax));
+    }
+    let at = indexes[p.read] as usize;
+    let byte = unread.byte(at);
+    let q = p.at_next(at, byte);
+    if byte == container.closer() {
+        nodes[p.used] = container.header(0, 0);
+        return Ok(Value::Read(q.with_value()));
+    }
+    stack[p.depth] = StackState {
+        header: p.used,
+        outer: p.container,
+        len: p.len,
+    };
+    Ok(Value::Opened(Progress {
+        used: p.used + 1,
+        depth: p.depth + 1,
+        container,
+        len: 0,
+        ..q
+    }))
+}
+
+// The innermost container is closed at the last token: its header is patched, and it is one more member of the container
+// round it.
+#[inline(always)]
+pub(super) fn close<'de>(
+    stack: &[StackState],
+    nodes: &mut [Node<'de>],
+    p: Progress,
+    container: Container,
+) -> Progress
+    requires depth { (0 < p.depth) × (p.depth ≤ length stack.now) }
+    requires header { (top stack.now p.depth).header < p.used }
+    requires nodes { p.used ≤ length nodes.old }
+    requires len { (top stack.now p.depth).len < p.used }
+    requires container { container ≡ p.container }
+    ensures progress { result ≡ record p { depth = p.depth - 1; container = (top stack.now p.depth).outer; len = (top stack.now p.depth).len + 1 } }
+    ensures nodes { nodes.new ≡ patch nodes.old (top stack.now p.depth) p }
+{
+    let frame = stack[p.depth - 1];
+    nodes[frame.header] = container.header(p.len, p.used - frame.header - 1);
+    Progress {
+        depth: p.depth - 1,
+        container: frame.outer,
+        len: frame.len + 1,
+        ..p
+    }
+}

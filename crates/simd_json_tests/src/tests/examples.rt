@@ -1,0 +1,143 @@
+// The examples of the README, of the entry points and of the views, as they stand there.
+use crate::tests::Tested;
+use std::test::Fail;
+
+mod first_call {
+    use simd_json::{Result, to_tape};
+
+    // What stands at the key `the_answer`, where it is an integer that fits.
+    pub(super) fn the_answer(rt: &impl AllocGlobal) -> Result<Option<u64>> {
+        let mut input = *br#"{"the_answer": 42}"#;
+        let tape = to_tape(rt.alloc(), &mut input)?;
+        Ok(tape.as_value().get_u64("the_answer"))
+    }
+}
+
+mod service {
+    use simd_json::{Buffers, Result, Tape, fill_tape};
+
+    // Reads a log of one document a line, each of at most 4,096 bytes, and returns how many nodes they have in all.
+    pub(super) fn read_log(rt: &HostRuntime, log: &mut [u8]) -> Result<usize> {
+        let mut buffers = Buffers::new(rt.alloc(), 0)?;
+        let mut tape = Tape::null(rt.alloc())?;
+        buffers.reserve(4096)?;
+        tape.reserve(4096)?;
+        let mut nodes = 0usize;
+        for line in log.split_mut(|byte| *byte == b'\n') {
+            match fill_tape(line, &mut buffers, &mut tape) {
+                Ok(()) => nodes = nodes.saturating_add(tape.nodes().len()),
+                Err(fault) => {
+                    let _ = eprintln!(rt; "refused: {fault}");
+                }
+            }
+        }
+        Ok(nodes)
+    }
+}
+
+mod entry_points {
+    use simd_json::{
+        Buffers, INPUT_PADDING, Result, Tape, fill_tape, fill_tape_padded, to_tape,
+        to_tape_with_buffers,
+    };
+
+    pub(super) fn first_len(rt: &impl AllocGlobal) -> Result<usize> {
+        let mut input = *b"[1,[2,3],4]";
+        let tape = to_tape(rt.alloc(), &mut input)?;
+        Ok(tape.nodes().len())
+    }
+
+    pub(super) fn count_positions(rt: &impl AllocGlobal) -> Result<usize> {
+        let mut input = *b"[1,[2,3],4]";
+        let mut buffers = Buffers::with_max_depth(rt.alloc(), input.len(), 2)?;
+        let _tape = to_tape_with_buffers(&mut input, &mut buffers)?;
+        Ok(buffers.structural_indexes().len())
+    }
+
+    pub(super) fn count_nodes(rt: &impl AllocGlobal, log: &mut [u8]) -> Result<usize> {
+        let mut buffers = Buffers::new(rt.alloc(), 0)?;
+        let mut tape = Tape::null(rt.alloc())?;
+        buffers.reserve(log.len())?;
+        tape.reserve(log.len())?;
+        let mut nodes = 0usize;
+        for line in log.split_mut(|byte| *byte == b'\n') {
+            fill_tape(line, &mut buffers, &mut tape)?;
+            nodes = nodes.saturating_add(tape.nodes().len());
+        }
+        Ok(nodes)
+    }
+
+    pub(super) fn read_padded(rt: &impl AllocGlobal) -> Result<usize> {
+        let mut input = [b'1'; 2 + INPUT_PADDING];
+        let mut buffers = Buffers::new(rt.alloc(), 2)?;
+        let mut tape = Tape::null(rt.alloc())?;
+        fill_tape_padded(&mut input, 2, &mut buffers, &mut tape)?;
+        Ok(tape.nodes().len())
+    }
+}
+
+mod views {
+    use simd_json::TryTypeError;
+    use simd_json::tape::Value;
+
+    pub(super) fn port(settings: &Value<'_, '_>) -> Result<Option<u16>, TryTypeError> {
+        settings.try_get_u16("port")
+    }
+
+    pub(super) fn is_answer(value: &Value<'_, '_>) -> bool {
+        value.eq_u64(42) || value.eq_str("42")
+    }
+
+    pub(super) fn total(numbers: &Value<'_, '_>) -> Option<u64> {
+        let array = numbers.as_array()?;
+        let mut total = 0u64;
+        for value in &array {
+            total = total.checked_add(value.as_u64()?)?;
+        }
+        Some(total)
+    }
+}
+
+#[test]
+fn views_are_used_as_shown(rt: HostRuntime) -> Tested {
+    let mut input = *b"{\"port\":8080,\"answer\":\"42\",\"numbers\":[1,2,3]}";
+    let tape = simd_json::to_tape(rt.alloc(), &mut input)?;
+    assert!(rt; !tape.is_empty());
+    let value = tape.as_value();
+    assert_eq!(rt; views::port(&value), Ok(Some(8080)));
+    assert!(rt;
+        value
+            .get("answer")
+            .is_some_and(|answer| views::is_answer(&answer))
+    );
+    assert_eq!(rt;
+        value
+            .get("numbers")
+            .and_then(|numbers| views::total(&numbers)),
+        Some(6)
+    );
+    Ok(())
+}
+
+#[test]
+fn a_value_is_read(rt: HostRuntime) -> Tested {
+    assert_eq!(rt; first_call::the_answer(&rt)?, Some(42));
+    Ok(())
+}
+
+#[test]
+fn a_service_goes_on(rt: HostRuntime) -> std::result::Result<(), Fail> {
+    let mut log = *b"{\"a\":1}\n[1,]\n[true,\"\\u0041\"]";
+    assert_eq!(rt; service::read_log(&rt, &mut log)?, 6);
+    Ok(())
+}
+
+#[test]
+fn entry_points_are_used_as_shown(rt: HostRuntime) -> Tested {
+    let mut log = *b"[1]\n{}\n3";
+    assert_eq!(rt; entry_points::first_len(&rt)?, 6);
+    assert_eq!(rt; entry_points::count_positions(&rt)?, 11);
+    assert_eq!(rt; entry_points::count_nodes(&rt, &mut log)?, 4);
+    assert_eq!(rt; entry_points::read_padded(&rt)?, 1);
+    Ok(())
+}

@@ -1,0 +1,132 @@
+// Reservations, and what is told without memory.
+use crate::tests::Tested;
+use linked_list_allocator::LocalHeap;
+use simd_json::{Buffers, Error, ErrorType, Tape, fill_tape};
+use std::alloc::{AllocError, Global};
+
+pub(super) type Ballast<'h> = std::result::Result<Vec<Vec<u8, &'h LocalHeap>>, AllocError>;
+
+// Takes what is free in the heap, but for so many bytes in one piece.
+pub(super) fn ballast(alloc: Global, heap: &LocalHeap, left: usize) -> Ballast<'_> {
+    let spare = Vec::<u8, &LocalHeap>::with_capacity(heap, left)?;
+    let mut pieces = Vec::new(alloc);
+    for size in [
+        32_768, 16_384, 8192, 4096, 2048, 1024, 512, 256, 128, 64, 32, 16,
+    ] {
+        for _ in 0..8 {
+            if let Ok(piece) = Vec::with_capacity(heap, size) {
+                pieces.push(piece)?;
+            }
+        }
+    }
+    drop(spare);
+    Ok(pieces)
+}
+
+const DOCUMENT: &[u8] = b"{\"the_answer\": 42}";
+
+const REFUSED: &[u8] = b"[[[[[[[[[[[[[[[[[[";
+
+// With capacity for their bytes, documents and refusals alternate while every growth is refused.
+#[test]
+fn reserved_parses_take_no_memory(rt: HostRuntime) -> Tested {
+    let mut pieces = Vec::new(rt.alloc());
+    for _ in 0..50 {
+        pieces.extend_from_slice(DOCUMENT)?;
+        pieces.extend_from_slice(REFUSED)?;
+    }
+    let heap = LocalHeap::new(rt.alloc(), 1 << 16)?;
+    let mut buffers = Buffers::new(&heap, 0)?;
+    let mut tape = Tape::null(&heap)?;
+    buffers.reserve(18)?;
+    tape.reserve(18)?;
+    let _ballast = ballast(rt.alloc(), &heap, 0)?;
+    assert_eq!(rt; heap.free(), 0);
+    let mut documents = 0u32;
+    for piece in pieces.chunks_exact_mut(18) {
+        let is_document = piece[0] == b'{';
+        let answer = fill_tape(piece, &mut buffers, &mut tape);
+        if is_document {
+            assert_eq!(rt; answer, Ok(()));
+            assert_eq!(rt; tape.nodes().len(), 3);
+            assert_eq!(rt; buffers.structural_indexes(), [0, 1, 13, 15, 17].as_slice());
+            documents = documents.saturating_add(1);
+        } else {
+            let wanted = Error::new(17, Some('['), ErrorType::Syntax);
+            assert_eq!(rt; answer, Err(wanted));
+            assert!(rt; tape.is_empty());
+            assert_eq!(rt; buffers.structural_indexes().len(), 18);
+        }
+    }
+    assert_eq!(rt; documents, 50);
+    Ok(())
+}
+
+// A log of 10,000 lines over one pair that was reserved once: no allocation is made, since none could be.
+#[test]
+fn a_log_takes_no_memory(rt: HostRuntime) -> Tested {
+    let mut log = Vec::new(rt.alloc());
+    for _ in 0..2_500 {
+        log.extend_from_slice(b"{\"level\":\"info\",\"text\":\"\\u0041\\n\",\"n\":[1,-2,3.5]}\n")?;
+        log.extend_from_slice(b"[[[[[[[[[]]]]]]]]]\n[1,]\n\"\n")?;
+    }
+    let heap = LocalHeap::new(rt.alloc(), 1 << 16)?;
+    let mut buffers = Buffers::with_max_depth(&heap, 0, 16)?;
+    let mut tape = Tape::null(&heap)?;
+    buffers.reserve(64)?;
+    tape.reserve(64)?;
+    let _ballast = ballast(rt.alloc(), &heap, 0)?;
+    let used = heap.used();
+    let (mut nodes, mut refused, mut bad) = (0u32, 0u32, 0u32);
+    for line in log.split_mut(|byte| *byte == b'\n') {
+        match fill_tape(line, &mut buffers, &mut tape) {
+            Ok(()) => nodes = nodes.saturating_add(tape.nodes().len() as u32),
+            Err(e) if *e.error() == ErrorType::InternalError => refused = refused.saturating_add(1),
+            Err(e) if *e.error() == ErrorType::Syntax => bad = bad.saturating_add(1),
+            Err(e) => assert_eq!(rt; e, Error::generic(ErrorType::Eof)),
+        }
+        assert_eq!(rt; heap.free(), 0);
+    }
+    assert_eq!(rt; (nodes, refused, bad), (2_500 * (10 + 9), 2_500, 2_500));
+    assert_eq!(rt; heap.used(), used);
+    Ok(())
+}
+
+// A reservation that is refused changes nothing that is listed.
+#[test]
+fn reservations_are_refused(rt: HostRuntime) -> Tested {
+    let mut input = *b"[1,2]";
+    let heap = LocalHeap::new(rt.alloc(), 1 << 16)?;
+    let mut buffers = Buffers::new(&heap, 0)?;
+    let mut tape = Tape::null(&heap)?;
+    fill_tape(&mut input, &mut buffers, &mut tape)?;
+    let wanted = Error::generic(ErrorType::OutOfMemory);
+    assert_eq!(rt; tape.reserve(usize::MAX).err().as_ref(), Some(&wanted));
+    let full = ballast(rt.alloc(), &heap, 0)?;
+    assert_eq!(rt; buffers.reserve(1000).err().as_ref(), Some(&wanted));
+    assert_eq!(rt; tape.reserve(1000).err().as_ref(), Some(&wanted));
+    assert_eq!(rt; buffers.structural_indexes(), [0, 1, 2, 3, 4].as_slice());
+    assert_eq!(rt; tape.nodes().len(), 3);
+    drop(full);
+    assert_eq!(rt; buffers.reserve(1000), Ok(()));
+    assert_eq!(rt; tape.reserve(1000), Ok(()));
+    assert_eq!(rt; buffers.structural_indexes(), [0, 1, 2, 3, 4].as_slice());
+    assert_eq!(rt; tape.nodes().len(), 3);
+    Ok(())
+}
+
+// A refusal for size, padding or encoding comes also where no memory is left.
+#[test]
+fn encoding_is_told_without_memory(rt: HostRuntime) -> Tested {
+    let mut input = *b"[\xff]";
+    let heap = LocalHeap::new(rt.alloc(), 1 << 10)?;
+    let mut buffers = Buffers::new(&heap, 0)?;
+    let mut tape: Tape<'_, &LocalHeap> = Tape::null(&heap)?.reset();
+    let _ballast = ballast(rt.alloc(), &heap, 0)?;
+    assert_eq!(rt;
+        fill_tape(&mut input, &mut buffers, &mut tape),
+        Err(Error::generic(ErrorType::InvalidUtf8))
+    );
+    assert_eq!(rt; tape.nodes(), [].as_slice());
+    Ok(())
+}

@@ -1,0 +1,143 @@
+// Printed values, and printed texts read again.
+use crate::tests::Tested;
+use linked_list_allocator::LocalHeap;
+use simd_json::{Error, ErrorType, to_tape};
+use std::io;
+use std::io::{ErrorKind, Write};
+
+// Each row is an input, its compact text, and its pretty text.
+#[test]
+fn values_are_printed(rt: HostRuntime) -> Tested {
+    let rows: [(&[u8], &str, &str); 4] = [
+        (
+            b"[-0,0,1e309,1.50]",
+            "[0,0,1e309,1.50]",
+            "[\n  0,\n  0,\n  1e309,\n  1.50\n]",
+        ),
+        (
+            b"{\"a\":[1],\"b\":{}}",
+            "{\"a\":[1],\"b\":{}}",
+            "{\n  \"a\": [\n    1\n  ],\n  \"b\": {}\n}",
+        ),
+        (
+            b" { \"k\\u0009\" : [ -0 , 1E5 , \"\\u00e9\" ] , \"\" : {} } ",
+            "{\"k\\t\":[0,1E5,\"\u{e9}\"],\"\":{}}",
+            "{\n  \"k\\t\": [\n    0,\n    1E5,\n    \"\u{e9}\"\n  ],\n  \"\": {}\n}",
+        ),
+        (b" null ", "null", "null"),
+    ];
+    for (input, compact, pretty) in rows {
+        let mut read = Vec::from_slice(rt.alloc(), input)?;
+        let tape = to_tape(rt.alloc(), read.as_mut_slice())?;
+        let value = tape.as_value();
+        assert_eq!(rt; value.encode(rt.alloc())?.as_str(), compact);
+        assert_eq!(rt; value.encode_pp(rt.alloc())?.as_str(), pretty);
+        let mut written = Vec::new(rt.alloc());
+        value.write(&mut written)?;
+        assert_eq!(rt; written.as_slice(), compact.as_bytes());
+        written.clear();
+        value.write_pp(&mut written)?;
+        assert_eq!(rt; written.as_slice(), pretty.as_bytes());
+    }
+    Ok(())
+}
+
+// A value that is printed and parsed again is equal.
+#[test]
+fn printed_values_are_parsed_again(rt: HostRuntime) -> Tested {
+    let rows: [&[u8]; 6] = [
+        b"{\"the_answer\": 42}",
+        b"[1,[2,3],4]",
+        b"[-0,0,-9223372036854775808,18446744073709551615]",
+        b"\"\\\"\\\\\\/\\b\\f\\n\\r\\t\\u0001\\ud83d\\ude00\"",
+        b"[[],{},[{}],1.5e-3,-0.0,true,false,null]",
+        b"{\"a\":1,\"a\":[2],\"\":\"\x7f\"}",
+    ];
+    for input in rows {
+        let mut read = Vec::from_slice(rt.alloc(), input)?;
+        let tape = to_tape(rt.alloc(), read.as_mut_slice())?;
+        let mut compact = tape.as_value().encode(rt.alloc())?.into_bytes();
+        let mut pretty = tape.as_value().encode_pp(rt.alloc())?.into_bytes();
+        let from_compact = to_tape(rt.alloc(), compact.as_mut_slice())?;
+        let from_pretty = to_tape(rt.alloc(), pretty.as_mut_slice())?;
+        assert!(rt; from_compact.as_value() == tape.as_value(), "{input:?}");
+        assert!(rt; from_pretty.as_value() == tape.as_value(), "{input:?}");
+    }
+    Ok(())
+}
+
+// Each heap is larger than the one before, so that another growth of the text is refused, and then none.
+#[test]
+fn each_growth_is_refused(rt: HostRuntime) -> Tested {
+    let mut input = *b"[\"0123456789012345678901234567890123456789\",[[[1,2,3,4,5,6,7,8]]]]";
+    let whole = input;
+    let tape = to_tape(rt.alloc(), &mut input)?;
+    let (mut refused, mut printed) = (0u32, 0u32);
+    for units in 0..32usize {
+        let heap = LocalHeap::new(rt.alloc(), 64 + units * 16)?;
+        match tape.as_value().encode(&heap) {
+            Ok(text) => {
+                assert_eq!(rt; text.as_bytes(), whole.as_slice());
+                printed = printed.saturating_add(1);
+            }
+            Err(e) => {
+                assert_eq!(rt; e, Error::generic(ErrorType::OutOfMemory));
+                refused = refused.saturating_add(1);
+            }
+        }
+        assert_eq!(rt; heap.used(), 0);
+    }
+    assert!(rt; refused > 0 && printed > 0, "{refused}, {printed}");
+    Ok(())
+}
+
+// Takes at most three bytes a call and a few in all, and then none or fails.
+#[derive(Drop)]
+struct Full {
+    taken: Vec<u8>,
+    capacity: usize,
+    fails: bool,
+}
+
+impl Write for Full {
+    fn write(&mut self, buf: &[u8]) -> io::Result<usize> {
+        if self.capacity == 0 && self.fails {
+            return Err(io::Error::from(ErrorKind::Interrupted));
+        }
+        let piece = &buf[..buf.len().min(self.capacity).min(3)];
+        self.taken.extend_from_slice(piece)?;
+        self.capacity -= piece.len();
+        Ok(piece.len())
+    }
+
+    fn flush(&mut self) -> io::Result<()> {
+        Ok(())
+    }
+}
+
+// The text has 13 bytes. A writer that takes fewer in all ends it with an error, and took a prefix.
+#[test]
+fn failing_writers_end_a_text(rt: HostRuntime) -> Tested {
+    let mut input = *b"{\"a\":[1,\"x\"]}";
+    let text = input;
+    let tape = to_tape(rt.alloc(), &mut input)?;
+    for calls in 0..32usize {
+        let (capacity, fails) = (calls / 2, calls % 2 == 0);
+        let mut writer = Full {
+            taken: Vec::new(rt.alloc()),
+            capacity,
+            fails,
+        };
+        let kind = tape.as_value().write(&mut writer).err().map(|e| e.kind());
+        let wanted = if capacity >= 13 {
+            None
+        } else if fails {
+            Some(ErrorKind::Interrupted)
+        } else {
+            Some(ErrorKind::WriteZero)
+        };
+        assert_eq!(rt; kind, wanted, "{capacity}");
+        assert_eq!(rt; writer.taken.as_slice(), &text[..capacity.min(13)]);
+    }
+    Ok(())
+}
