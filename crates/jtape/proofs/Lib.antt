@@ -1,1 +1,5 @@
 mod DepthWords
+mod Given
+mod Outputs
+mod Pieces
+mod Streams

@@ -1,10 +1,11 @@
 -- What the program writes and returns: a function of the mode, the depth limit and the input.
 use Rattle.std.specs.Prelude.{ℕ, List, [], ◌∷◌, ◌++◌, Bool, true, Result, Ok, Err}
 use Rattle.jtape.specs.Lines.{lines, number_lines}
+use Rattle.jtape.specs.Pieces.{pieces, pieces_text, all_clean}
 use Rattle.jtape.specs.declared.run.RunFault.{RunFault}
 use Rattle.jtape.specs.declared.run.RunFault.TheVariants.{Refused}
 use Rattle.jtape.specs.declared.settings.Mode.{Mode}
-use Rattle.jtape.specs.declared.settings.Mode.TheVariants.{Tape, Positions, Compact, Pretty}
+use Rattle.jtape.specs.declared.settings.Mode.TheVariants.{Tape, Positions, Compact, Pretty, Lines}
 use Rattle.simd_json_parts.specs.Answer.{answer}
 use Rattle.simd_json_parts.specs.Bytes.{line_feed}
 use Rattle.simd_json_parts.specs.Document.{Document}
@@ -18,12 +19,13 @@ pub record Output : Type 0 where
   pub bytes : List ℕ
   pub returned : Result Bool RunFault
 
--- what the mode prints of an input that is this document
+-- what the mode prints of an input that is this document; in mode `lines`, of a piece that is
 abbrev pub printed : Mode → List ℕ → Document → List ℕ
 printed Tape input d = lines (listing d)
 printed Positions input d = number_lines (positions input)
 printed Compact input d = compact d ++ line_feed ∷ []
 printed Pretty input d = pretty d ++ line_feed ∷ []
+printed Lines input d = compact d ++ line_feed ∷ []
 
 abbrev pub all_printed : List ℕ → Output
 all_printed bytes = record { bytes = bytes; returned = Ok true }
@@ -36,6 +38,17 @@ abbrev pub output_of : Mode → List ℕ → Result Document Error → Output
 output_of mode input (Ok d) = all_printed (printed mode input d)
 output_of mode input (Err e) = nothing_printed (Refused e)
 
--- with at most so many containers open at a time
+-- of an input that is read as one document, with at most so many containers open at a time
+abbrev pub document_output : Mode → ℕ → List ℕ → Output
+document_output mode depth input = output_of mode input (answer input depth)
+
+-- of an input of many pieces, each with at most so many open; `true` is returned where each is blank or a document
+abbrev pub stream_output : ℕ → List ℕ → Output
+stream_output depth input = record { bytes = pieces_text depth (pieces input); returned = Ok (all_clean depth (pieces input)) }
+
 abbrev pub output : Mode → ℕ → List ℕ → Output
-output mode depth input = output_of mode input (answer input depth)
+output Tape depth input = document_output Tape depth input
+output Positions depth input = document_output Positions depth input
+output Compact depth input = document_output Compact depth input
+output Pretty depth input = document_output Pretty depth input
+output Lines depth input = stream_output depth input

@@ -1,7 +1,8 @@
 -- What a run of the program leaves.
-use Rattle.std.specs.Prelude.{◌≡◌, ◌⊎◌, ℕ, List, take, ⊤, true, false, Bool, Option, Result, Ok, Err}
+use Rattle.std.specs.Prelude.{◌≡◌, ◌⊎◌, ◌∷◌, ◌++◌, ℕ, List, take, ⊤, true, false, Bool, Option, Result, Ok, Err}
 use Rattle.std.specs.Io.KnownBytes.{Appends, Consumes, IsAtEnd}
 use Rattle.jtape.specs.Output.{output}
+use Rattle.jtape.specs.Pieces.{pieces, pieces_text}
 use Rattle.jtape.specs.declared.run.RunFault.{RunFault}
 use Rattle.jtape.specs.declared.run.RunFault.TheVariants.{Refused, Read}
 use Rattle.jtape.specs.declared.settings.Mode.{Mode}
@@ -27,6 +28,21 @@ pub record HasBegun (mode : Mode) (depth : ℕ) (before after held holds : Optio
   pub end : IsAtEnd after
   pub count : ℕ
   pub written : Appends held holds (take count (output mode depth input).bytes)
+
+-- of an input of pieces, the text of all before one of them was written, and nothing else
+pub record HasWritten (depth : ℕ) (input : List ℕ) (held holds : Option (List ℕ)) : Type 0 where
+  pub earlier : List (List ℕ)
+  pub piece : List ℕ
+  pub later : List (List ℕ)
+  pub cut : pieces input ≡ earlier ++ piece ∷ later
+  pub written : Appends held holds (pieces_text depth earlier)
+
+-- in mode `lines`, where an allocation failed at a piece
+pub record HasStopped (depth : ℕ) (before after held holds : Option (List ℕ)) : Type 0 where
+  pub input : List ℕ
+  pub read : Consumes before after input
+  pub end : IsAtEnd after
+  pub written : HasWritten depth input held holds
 
 -- what is returned is for want of memory, or by P; nothing is asked where the reader or the writer failed
 abbrev pub OnAnswer : Result Bool RunFault → Type 0 → Type 0

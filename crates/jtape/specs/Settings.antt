@@ -4,7 +4,7 @@ use Rattle.std.specs.Char.{is_ascii_digit}
 use Rattle.std.specs.List.{list_all}
 use Rattle.std.specs.Str.Parse.{digits_value}
 use Rattle.jtape.specs.declared.settings.Mode.{Mode}
-use Rattle.jtape.specs.declared.settings.Mode.TheVariants.{Tape, Positions, Compact, Pretty}
+use Rattle.jtape.specs.declared.settings.Mode.TheVariants.{Tape, Positions, Compact, Pretty, Lines}
 use Rattle.simd_json.specs.MaxDepth.{default_max_depth}
 
 abbrev pub mode_of : List ℕ → Option Mode
@@ -13,6 +13,7 @@ mode_of word =
     else if bytes_eq word (codes "positions") then Some Positions
     else if bytes_eq word (codes "compact") then Some Compact
     else if bytes_eq word (codes "pretty") then Some Pretty
+    else if bytes_eq word (codes "lines") then Some Lines
     else None
 
 -- one digit or more, of a number below 2^64

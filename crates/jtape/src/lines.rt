@@ -1,104 +1,92 @@
-//! The lines of a tape. What `out` held stays in front, also where an allocation fails; then a part may stand after it.
-ghost use Rattle.std.specs.Prelude.{◌≡◌, ◌++◌, List, ℕ, map, OnOk};
+//! The lines of a tape.
+ghost use Rattle.std.specs.Prelude.{◌≡◌, ◌++◌, ◌∷◌, [], List, ℕ, codes, map};
 ghost use Rattle.jtape.specs.Lines.{header_text, line, lines, node_text, static_text};
 ghost use Rattle.simd_json_parts.specs.Nodes.{item_of};
-ghost use Rattle.simd_json_print.specs.Prefix.{IsPrefix};
+ghost use Rattle.simd_json_print.specs.Places.{Gives};
 
 use itoa::{Buffer, Integer};
 use simd_json::{Node, StaticNode};
-use simd_json_print::print::append_quoted;
-use std::alloc::{AllocError, Allocator};
+use simd_json_print::place::Sink;
+use simd_json_print::print::put_quoted;
 
-type Result<T> = std::result::Result<T, AllocError>;
-
-// Appends the lines of the nodes.
-pub(crate) fn append_lines<A: Allocator>(out: &mut Vec<u8, A>, nodes: &[Node<'_>]) -> Result<()>
-    ensures appended { OnOk result (out.new.items ≡ out.old.items ++ lines (map item_of nodes.now)) }
-    ensures kept { IsPrefix out.old.items out.new.items }
+// Gives a place the lines of the nodes.
+pub(crate) fn put_lines<P, S: Sink<P>>(sink: &mut S, target: &mut P, nodes: &[Node<'_>])
+    ensures { Gives (S.place sink.old target.old) (S.place sink.new target.new) (lines (map item_of nodes.now)) }
 {
     for node in nodes {
-        append_line(out, node)?;
+        if sink.has_stopped(target) {
+            return;
+        }
+        put_line(sink, target, node);
     }
-    Ok(())
 }
 
-fn append_line<A: Allocator>(out: &mut Vec<u8, A>, node: &Node<'_>) -> Result<()>
-    ensures appended { OnOk result (out.new.items ≡ out.old.items ++ line (item_of node.now)) }
-    ensures kept { IsPrefix out.old.items out.new.items }
+fn put_line<P, S: Sink<P>>(sink: &mut S, target: &mut P, node: &Node<'_>)
+    ensures { Gives (S.place sink.old target.old) (S.place sink.new target.new) (line (item_of node.now)) }
 {
-    append_node(out, node)?;
-    out.push(b'\n')?;
-    Ok(())
+    put_node(sink, target, node);
+    sink.put(target, b"\n");
 }
 
-fn append_node<A: Allocator>(out: &mut Vec<u8, A>, node: &Node<'_>) -> Result<()>
-    ensures appended { OnOk result (out.new.items ≡ out.old.items ++ node_text (item_of node.now)) }
-    ensures kept { IsPrefix out.old.items out.new.items }
+fn put_node<P, S: Sink<P>>(sink: &mut S, target: &mut P, node: &Node<'_>)
+    ensures { Gives (S.place sink.old target.old) (S.place sink.new target.new) (node_text (item_of node.now)) }
 {
     match *node {
-        Node::Static(value) => append_static(out, value),
+        Node::Static(value) => put_static(sink, target, value),
         Node::Decimal(literal) => {
-            out.extend_from_slice(b"Decimal ")?;
-            out.extend_from_slice(literal.as_bytes())
+            sink.put(target, b"Decimal ");
+            sink.put(target, literal.as_bytes());
         }
         Node::String(text) => {
-            out.extend_from_slice(b"String ")?;
-            append_quoted(out, text)
+            sink.put(target, b"String ");
+            put_quoted(sink, target, text);
         }
-        Node::Array { len, count } => append_header(out, b"Array ", len, count),
-        Node::Object { len, count } => append_header(out, b"Object ", len, count),
+        Node::Array { len, count } => put_header(sink, target, b"Array ", len, count),
+        Node::Object { len, count } => put_header(sink, target, b"Object ", len, count),
     }
 }
 
-fn append_static<A: Allocator>(out: &mut Vec<u8, A>, value: StaticNode) -> Result<()>
-    ensures appended { OnOk result (out.new.items ≡ out.old.items ++ static_text value) }
-    ensures kept { IsPrefix out.old.items out.new.items }
+fn put_static<P, S: Sink<P>>(sink: &mut S, target: &mut P, value: StaticNode)
+    ensures { Gives (S.place sink.old target.old) (S.place sink.new target.new) (static_text value) }
 {
     match value {
-        StaticNode::Null => out.extend_from_slice(b"Null"),
-        StaticNode::Bool(true) => out.extend_from_slice(b"Bool true"),
-        StaticNode::Bool(false) => out.extend_from_slice(b"Bool false"),
-        StaticNode::I64(number) => {
-            out.extend_from_slice(b"I64 ")?;
-            append_integer(out, number)
-        }
-        StaticNode::U64(number) => {
-            out.extend_from_slice(b"U64 ")?;
-            append_integer(out, number)
-        }
+        StaticNode::Null => sink.put(target, b"Null"),
+        StaticNode::Bool(true) => sink.put(target, b"Bool true"),
+        StaticNode::Bool(false) => sink.put(target, b"Bool false"),
+        StaticNode::I64(number) => put_number(sink, target, b"I64 ", number),
+        StaticNode::U64(number) => put_number(sink, target, b"U64 ", number),
     }
 }
 
-fn append_header<A: Allocator>(
-    out: &mut Vec<u8, A>,
-    kind: &[u8],
-    len: usize,
-    count: usize,
-) -> Result<()>
-    ensures appended { OnOk result (out.new.items ≡ out.old.items ++ header_text kind.now len count) }
-    ensures kept { IsPrefix out.old.items out.new.items }
+#[inline(always)]
+fn put_header<P, S: Sink<P>>(sink: &mut S, target: &mut P, kind: &[u8], len: usize, count: usize)
+    ensures { Gives (S.place sink.old target.old) (S.place sink.new target.new) (header_text kind.now len count) }
 {
-    out.extend_from_slice(kind)?;
-    append_integer(out, len)?;
-    out.extend_from_slice(b" ")?;
-    append_integer(out, count)
+    put_number(sink, target, kind, len);
+    put_number(sink, target, b" ", count);
 }
 
-pub(crate) fn append_integer<A: Allocator, I: Integer>(
-    out: &mut Vec<u8, A>,
-    number: I,
-) -> Result<()>
-    ensures appended { OnOk result (out.new.items ≡ out.old.items ++ I.text number) }
-    ensures kept { IsPrefix out.old.items out.new.items }
+// A number, and what stands before it.
+#[inline(always)]
+fn put_number<P, S: Sink<P>, I: Integer>(sink: &mut S, target: &mut P, before: &[u8], number: I)
+    ensures { Gives (S.place sink.old target.old) (S.place sink.new target.new) (before.now ++ I.text number) }
+{
+    sink.put(target, before);
+    put_integer(sink, target, number);
+}
+
+pub(crate) fn put_integer<P, S: Sink<P>, I: Integer>(sink: &mut S, target: &mut P, number: I)
+    ensures { Gives (S.place sink.old target.old) (S.place sink.new target.new) (I.text number) }
 {
     let mut buffer = Buffer::new();
-    out.extend_from_slice(buffer.format(number).as_bytes())
+    sink.put(target, buffer.format(number).as_bytes());
 }
 
 #[cfg(test)]
 mod tests {
     use super::*;
     use linked_list_allocator::LocalHeap;
+    use simd_json_print::place::writer::Writing;
     use std::test::Fail;
 
     const NODES: [Node<'static>; 5] = [
@@ -112,14 +100,17 @@ mod tests {
     const LINES: &[u8] =
         b"so far\nArray 3 3\nBool true\nString \"a\\n\"\nDecimal 1.5\nObject 0 0\n";
 
-    // A heap of each size refuses another growth, and then none. What was there stays in front, and a part of the lines after it.
+    // A list as the writer: a heap of each size refuses another growth, and then none. What was there stays in front, and a
+    // beginning of the lines after it.
     #[test]
     fn each_growth_is_refused(rt: HostRuntime) -> std::result::Result<(), Fail> {
         let (mut refused, mut written) = (0u32, 0u32);
         for units in 0..40usize {
-            let heap = LocalHeap::new(rt.alloc(), 128 + units * 16)?;
+            let heap = LocalHeap::new(rt.alloc(), 96 + units * 16)?;
             let mut out = Vec::from_slice(&heap, b"so far\n")?;
-            if append_lines(&mut out, &NODES).is_ok() {
+            let mut sink = Writing::<16>::new();
+            put_lines(&mut sink, &mut out, &NODES);
+            if sink.finish(&mut out).is_ok() {
                 assert_eq!(rt; out.as_slice(), LINES);
                 written = written.saturating_add(1);
             } else {

@@ -1,9 +1,10 @@
-//! `jtape MODE [DEPTH]` reads one JSON document from standard input and prints it, as the mode asks.
+//! `jtape MODE [DEPTH]` reads one JSON document from standard input, or a stream of lines, and prints it as the mode asks.
 //!
 //! - [`settings`]: what the words ask for.
 //! - [`port`]: a reader or a writer, and whether it has failed or ended.
 //! - [`run`]: from a reader's bytes to a writer's.
 //! - [`output`]: from an input to all that is written of it.
+//! - [`stream`]: likewise of many pieces between line feeds, written while they are parsed.
 //! - [`lines`], [`positions`]: the lines of nodes and of positions.
 //! - [`failure`]: the arguments before it, and the line on standard error and the status after it.
 #![tactic(auto)]
@@ -15,6 +16,7 @@ mod port;
 mod positions;
 mod run;
 mod settings;
+mod stream;
 
 use failure::{Failure, asked, exit_status};
 use port::Port;

@@ -1,60 +1,103 @@
 //! From an input to all that is written of it.
-ghost use Rattle.std.specs.Prelude.{◌≡◌, ◌⊎◌, List, ℕ, map, IfOk, IfErr};
-ghost use Rattle.jtape.specs.Output.{output, printed, all_printed, nothing_printed};
+ghost use Rattle.std.specs.Prelude.{◌≡◌, ◌≢◌, ◌⊎◌, true, false, List, ℕ, map, take, IfErr, OnOk, OnErr, Ok};
+ghost use Rattle.std.specs.Io.KnownBytes.{Appends};
+ghost use Rattle.jtape.specs.Output.{document_output, printed, nothing_printed};
 ghost use Rattle.jtape.specs.Runs.{lacks_memory};
+ghost use Rattle.jtape.specs.declared.run.RunFault.TheVariants as faults;
 ghost use Rattle.simd_json_parts.specs.Document.{Document};
 ghost use Rattle.simd_json_parts.specs.Listing.{listing};
 ghost use Rattle.simd_json_parts.specs.Nodes.{item_of};
 ghost use Rattle.simd_json_parts.specs.Positions.{positions};
+ghost use Rattle.simd_json_print.specs.Places.{Gives};
 
-use crate::lines::append_lines;
-use crate::positions::append_positions;
+use crate::lines::put_lines;
+use crate::port::Port;
+use crate::positions::put_positions;
 use crate::run::RunFault;
 use crate::settings::Mode;
 use simd_json::{Buffers, Node, to_tape_with_buffers};
-use simd_json_print::document::{append_compact, append_pretty};
-use std::alloc::{AllocError, Allocator};
+use simd_json_print::document::{put_compact, put_pretty};
+use simd_json_print::place::Sink;
+use simd_json_print::place::writer::Writing;
+use std::alloc::Allocator;
+use std::io::Write;
 
-// What is written of an input.
-pub(crate) fn output<A: Allocator + Copy>(
+// How many bytes are collected for the writer.
+const PIECE: usize = 65_536;
+
+// Writes what the mode asks for of an input that is read as one document, or a beginning of it where the writer fails. All memory is taken before the first
+// byte is written, so that nothing is written where an allocation fails.
+pub(crate) fn write_output<A: Allocator + Copy, W: Write>(
     a: A,
     mode: Mode,
     depth: usize,
     input: &mut [u8],
-) -> Result<Vec<u8, A>, RunFault>
-    ensures output { IfOk result (λ out. output mode depth input.old ≡ all_printed out.items) }
-    ensures fault { IfErr result (λ fault. (fault ≡ lacks_memory)
-        ⊎ (output mode depth input.old ≡ nothing_printed fault)) }
+    writer: &mut Port<W>,
+) -> Result<(), RunFault>
+    requires { writer.old.failed ≡ false }
+    ensures all { OnOk result ((writer.new.failed ≡ false) × ((document_output mode depth input.old).returned ≡ Ok true)
+        × Appends (W.contents writer.old.inner) (W.contents writer.new.inner) (document_output mode depth input.old).bytes) }
+    ensures refused { IfErr result (λ fault. fault ≢ faults.Write → (writer.new ≡ writer.old)
+        × ((fault ≡ lacks_memory) ⊎ (document_output mode depth input.old ≡ nothing_printed fault))) }
+    ensures begun { IfErr result (λ fault. fault ≡ faults.Write → (writer.new.failed ≡ true)
+        × ((count : ℕ) × Appends (W.contents writer.old.inner) (W.contents writer.new.inner) (take count (document_output mode depth input.old).bytes))) }
 {
     let mut buffers = Buffers::with_max_depth(a, 0, depth)?;
     let tape = to_tape_with_buffers(input, &mut buffers)?;
-    Ok(print(a, mode, tape.nodes(), buffers.structural_indexes())?)
+    print(writer, mode, tape.nodes(), buffers.structural_indexes())
 }
 
-// What is written of a document, from its nodes and from the positions of its bytes. It is built whole, so that nothing is
-// written where an allocation fails.
-fn print<A: Allocator>(
-    a: A,
+// Writes what the mode asks for of a document, from its nodes and from the positions of its bytes. It stands apart, since the
+// parse is slower where both are compiled as one function.
+#[inline(never)]
+fn print<W: Write>(
+    writer: &mut Port<W>,
     mode: Mode,
     nodes: &[Node<'_>],
     structural_indexes: &[u32],
-) -> Result<Vec<u8, A>, AllocError>
+) -> Result<(), RunFault>
+    requires { writer.old.failed ≡ false }
+    ensures all { (d : Document) → (input : List ℕ)
+        → map item_of nodes.now ≡ listing d → structural_indexes.now ≡ positions input
+        → OnOk result (Appends (W.contents writer.old.inner) (W.contents writer.new.inner) (printed mode input d)) }
+    ensures begun { (d : Document) → (input : List ℕ)
+        → map item_of nodes.now ≡ listing d → structural_indexes.now ≡ positions input
+        → OnErr result ((count : ℕ) × Appends (W.contents writer.old.inner) (W.contents writer.new.inner) (take count (printed mode input d))) }
+    ensures sound { OnOk result (writer.new.failed ≡ false) }
+    ensures fault { IfErr result (λ fault. (fault ≡ faults.Write) × (writer.new.failed ≡ true)) }
+{
+    let mut sink = Writing::<PIECE>::new();
+    put_printed(&mut sink, writer, mode, nodes, structural_indexes);
+    let written = sink.finish(writer);
+    if written.is_err() || writer.failed() {
+        writer.fail();
+        return Err(RunFault::Write);
+    }
+    Ok(())
+}
+
+// Gives a place what the mode asks for of a document.
+fn put_printed<P, S: Sink<P>>(
+    sink: &mut S,
+    target: &mut P,
+    mode: Mode,
+    nodes: &[Node<'_>],
+    structural_indexes: &[u32],
+)
     ensures { (d : Document) → (input : List ℕ)
         → map item_of nodes.now ≡ listing d → structural_indexes.now ≡ positions input
-        → IfOk result (λ out. out.items ≡ printed mode input d) }
+        → Gives (S.place sink.old target.old) (S.place sink.new target.new) (printed mode input d) }
 {
-    let mut out = Vec::new(a);
     match mode {
-        Mode::Tape => append_lines(&mut out, nodes)?,
-        Mode::Positions => append_positions(&mut out, structural_indexes)?,
-        Mode::Compact => {
-            append_compact(&mut out, nodes)?;
-            out.push(b'\n')?;
+        Mode::Tape => put_lines(sink, target, nodes),
+        Mode::Positions => put_positions(sink, target, structural_indexes),
+        Mode::Compact | Mode::Lines => {
+            put_compact(sink, target, nodes);
+            sink.put(target, b"\n");
         }
         Mode::Pretty => {
-            append_pretty(&mut out, nodes)?;
-            out.push(b'\n')?;
+            put_pretty(sink, target, nodes);
+            sink.put(target, b"\n");
         }
     }
-    Ok(out)
 }

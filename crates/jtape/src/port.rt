@@ -1,5 +1,5 @@
 //! A reader or a writer, and what has happened to it.
-ghost use Rattle.std.specs.Prelude.{◌≡◌, ◌<◌, ◌||◌, ℕ, Bool, false, length, is_err};
+ghost use Rattle.std.specs.Prelude.{◌≡◌, ◌<◌, ◌||◌, ℕ, Bool, false, true, length, is_err};
 ghost use Rattle.std.specs.Io.{ReadsAtMost, WritesAtMost};
 ghost use Rattle.std.specs.Io.KnownBytes.{ReadConsumes, WriteAppends};
 ghost use Rattle.jtape.specs.Ports.{took_none};
@@ -67,9 +67,20 @@ impl<R: Read> Port<R> {
     }
 }
 
-impl<W: Write> Port<W> {
-    // Writes some bytes of the front of a piece.
-    pub(crate) fn write(&mut self, piece: &[u8]) -> io::Result<usize>
+impl<W> Port<W> {
+    // Remembers that what was written through the port ended with an error.
+    pub(crate) fn fail(&mut self)
+        ensures { self.new ≡ record { inner = self.old.inner; failed = true; ended = self.old.ended } }
+    {
+        let failed = &mut self.failed;
+        *failed = true;
+    }
+}
+
+impl<W: Write> Write for Port<W> {
+    ghost contents = { λ port. W.contents port.inner };
+
+    fn write(&mut self, piece: &[u8]) -> io::Result<usize>
         ensures bound { WritesAtMost result piece.now }
         ensures bytes { WriteAppends (W.contents self.old.inner) (W.contents self.new.inner) result piece.now }
         ensures failed { self.new.failed ≡ (self.old.failed || is_err result || took_none result (length piece.now)) }
@@ -81,5 +92,9 @@ impl<W: Write> Port<W> {
             _ => self.failed = true,
         }
         written
+    }
+
+    fn flush(&mut self) -> io::Result<()> {
+        self.inner.flush()
     }
 }

@@ -1,29 +1,26 @@
-//! The lines of positions. What `out` held stays in front, also where an allocation fails; then a part may stand after it.
-ghost use Rattle.std.specs.Prelude.{◌≡◌, ◌++◌, OnOk};
+//! The lines of positions.
+ghost use Rattle.std.specs.Prelude.{◌≡◌};
 ghost use Rattle.jtape.specs.Lines.{number_line, number_lines};
-ghost use Rattle.simd_json_print.specs.Prefix.{IsPrefix};
+ghost use Rattle.simd_json_print.specs.Places.{Gives};
 
-use crate::lines::append_integer;
-use std::alloc::{AllocError, Allocator};
+use crate::lines::put_integer;
+use simd_json_print::place::Sink;
 
-type Result<T> = std::result::Result<T, AllocError>;
-
-// Appends a line for each position.
-pub(crate) fn append_positions<A: Allocator>(out: &mut Vec<u8, A>, positions: &[u32]) -> Result<()>
-    ensures appended { OnOk result (out.new.items ≡ out.old.items ++ number_lines positions.now) }
-    ensures kept { IsPrefix out.old.items out.new.items }
+// Gives a place a line for each position.
+pub(crate) fn put_positions<P, S: Sink<P>>(sink: &mut S, target: &mut P, positions: &[u32])
+    ensures { Gives (S.place sink.old target.old) (S.place sink.new target.new) (number_lines positions.now) }
 {
     for &position in positions {
-        append_position(out, position)?;
+        if sink.has_stopped(target) {
+            return;
+        }
+        put_position(sink, target, position);
     }
-    Ok(())
 }
 
-fn append_position<A: Allocator>(out: &mut Vec<u8, A>, position: u32) -> Result<()>
-    ensures appended { OnOk result (out.new.items ≡ out.old.items ++ number_line position) }
-    ensures kept { IsPrefix out.old.items out.new.items }
+fn put_position<P, S: Sink<P>>(sink: &mut S, target: &mut P, position: u32)
+    ensures { Gives (S.place sink.old target.old) (S.place sink.new target.new) (number_line position) }
 {
-    append_integer(out, position)?;
-    out.push(b'\n')?;
-    Ok(())
+    put_integer(sink, target, position);
+    sink.put(target, b"\n");
 }

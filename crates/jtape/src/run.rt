@@ -1,12 +1,14 @@
 //! From a reader's bytes to a writer's.
 ghost use Rattle.std.specs.Prelude.{◌≡◌, ◌≢◌, ◌↔◌, ◌⊎◌, ◌<◌, ℕ, List, Option, length, take, true, false, IfOk, IfErr, OnOk, OnErr, Err};
-ghost use Rattle.std.specs.Io.KnownBytes.{Appends, Consumes, IsAtEnd, Keeps};
-ghost use Rattle.jtape.specs.Runs.{HasRun, HasBegun, IsReadFault, OnAnswer};
+ghost use Rattle.std.specs.Io.KnownBytes.{Consumes, IsAtEnd, Keeps};
+ghost use Rattle.jtape.specs.Runs.{HasRun, HasBegun, HasStopped, IsReadFault, OnAnswer, lacks_memory};
 ghost use Rattle.jtape.specs.declared.run.RunFault.TheVariants as faults;
+ghost use Rattle.jtape.specs.declared.settings.Mode.TheVariants as modes;
 
-use crate::output::output;
+use crate::output::write_output;
 use crate::port::Port;
 use crate::settings::Mode;
+use crate::stream::write_stream;
 use simd_json::Error;
 use std::alloc::{AllocError, Allocator};
 use std::io::{Read, Write};
@@ -59,6 +61,10 @@ impl From<AllocError> for RunFault {
 /// Nothing is written before the reader's port has ended, nor where the input is refused, nor after `OutOfMemory` or `Read`;
 /// after `Write` a beginning of the output was. Returns `Read` exactly where the reader's port has failed, and `Write`
 /// exactly where the writer's has.
+///
+/// In mode `Lines` each piece between line feeds is a document of its own, or blank. One that is refused has a line that
+/// says why, and the run goes on and returns `Ok(false)`. After `OutOfMemory` the text of all pieces before the one that
+/// lacked memory was written there, and nothing else.
 pub fn run<A: Allocator + Copy, R: Read, W: Write>(
     a: A,
     mode: Mode,
@@ -71,8 +77,13 @@ pub fn run<A: Allocator + Copy, R: Read, W: Write>(
     ensures output { OnAnswer result ((reader.new.ended ≡ true)
         × HasRun mode depth (R.remaining reader.old.inner) (R.remaining reader.new.inner)
         (W.contents writer.old.inner) (W.contents writer.new.inner) result) }
-    ensures silent { IfErr result (λ fault. fault ≢ faults.Write
+    ensures silent { mode ≢ modes.Lines → IfErr result (λ fault. fault ≢ faults.Write
         → Keeps (W.contents writer.old.inner) (W.contents writer.new.inner)) }
+    ensures unread { result ≡ Err faults.Read → Keeps (W.contents writer.old.inner) (W.contents writer.new.inner) }
+    ensures stopped { mode ≡ modes.Lines → result ≡ Err lacks_memory
+        → Keeps (W.contents writer.old.inner) (W.contents writer.new.inner) ⊎ ((reader.new.ended ≡ true)
+        × HasStopped depth (R.remaining reader.old.inner) (R.remaining reader.new.inner)
+        (W.contents writer.old.inner) (W.contents writer.new.inner)) }
     ensures begun { result ≡ Err faults.Write → (reader.new.ended ≡ true)
         × HasBegun mode depth (R.remaining reader.old.inner) (R.remaining reader.new.inner)
         (W.contents writer.old.inner) (W.contents writer.new.inner) }
@@ -80,9 +91,13 @@ pub fn run<A: Allocator + Copy, R: Read, W: Write>(
     ensures write { (result ≡ Err faults.Write) ↔ (writer.new.failed ≡ true) }
 {
     let mut input = read_all(a, reader)?;
-    let output = output(a, mode, depth, input.as_mut_slice())?;
-    write_all(writer, output.as_slice())?;
-    Ok(true)
+    match mode {
+        Mode::Lines => write_stream(a, depth, input.as_mut_slice(), writer),
+        _ => {
+            write_output(a, mode, depth, input.as_mut_slice(), writer)?;
+            Ok(true)
+        }
+    }
 }
 
 // How many bytes are asked of the reader at a time.
@@ -129,25 +144,6 @@ fn read_more<R: Read, A: Allocator>(
         }
         Err(_) => Err(RunFault::Read),
     }
-}
-
-// Writes all of the bytes, or a beginning of them where the writer fails.
-fn write_all<W: Write>(writer: &mut Port<W>, bytes: &[u8]) -> Result<()>
-    requires { writer.old.failed ≡ false }
-    ensures all { OnOk result ((writer.new.failed ≡ false)
-        × Appends (W.contents writer.old.inner) (W.contents writer.new.inner) bytes.now) }
-    ensures fault { IfErr result (λ fault. (fault ≡ faults.Write) × (writer.new.failed ≡ true)) }
-    ensures begun { OnErr result ((count : ℕ)
-        × Appends (W.contents writer.old.inner) (W.contents writer.new.inner) (take count bytes.now)) }
-{
-    let mut done = 0;
-    while done < bytes.len() {
-        match writer.write(&bytes[done..]) {
-            Ok(n) if n > 0 => done += n,
-            _ => return Err(RunFault::Write),
-        }
-    }
-    Ok(())
 }
 
 #[cfg(test)]

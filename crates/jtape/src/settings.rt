@@ -17,11 +17,14 @@ pub enum Mode {
     Compact,
     /// The document with a line for each member, and a line feed.
     Pretty,
+    /// For each piece between line feeds that is not blank its document as by `Compact`, or a line that begins with `! ` and
+    /// says its error.
+    Lines,
 }
 
-/// What the words after the program's name ask for: a mode, which is `tape`, `positions`, `compact` or `pretty`, and after
-/// it, or not, how many containers may be open at a time, in digits; without it [`DEFAULT_MAX_DEPTH`] may. `None` where they
-/// are not understood.
+/// What the words after the program's name ask for: a mode, which is `tape`, `positions`, `compact`, `pretty` or `lines`,
+/// and after it, or not, how many containers may be open at a time, in digits; without it [`DEFAULT_MAX_DEPTH`] may. `None`
+/// where they are not understood.
 pub fn settings(words: &[String]) -> Option<(Mode, usize)>
     ensures { result ≡ settings_of (map string_bytes words.now) }
 {
@@ -40,6 +43,7 @@ fn mode_named(word: &str) -> Option<Mode>
         "positions" => Some(Mode::Positions),
         "compact" => Some(Mode::Compact),
         "pretty" => Some(Mode::Pretty),
+        "lines" => Some(Mode::Lines),
         _ => None,
     }
 }
@@ -68,12 +72,14 @@ mod tests {
 
     #[test]
     fn words_are_understood(rt: HostRuntime) -> std::result::Result<(), Fail> {
-        let rows: [(&[&str], Option<(Mode, usize)>); 21] = [
+        let rows: [(&[&str], Option<(Mode, usize)>); 23] = [
             (&["tape"], Some((Mode::Tape, 1024))),
             (&["positions"], Some((Mode::Positions, 1024))),
             (&["compact"], Some((Mode::Compact, 1024))),
             (&["pretty"], Some((Mode::Pretty, 1024))),
             (&["pretty", "2"], Some((Mode::Pretty, 2))),
+            (&["lines"], Some((Mode::Lines, 1024))),
+            (&["lines", "3"], Some((Mode::Lines, 3))),
             (&["tape", "8"], Some((Mode::Tape, 8))),
             (&["tape", "007"], Some((Mode::Tape, 7))),
             (&["tape", "0"], Some((Mode::Tape, 0))),

@@ -1,8 +1,8 @@
 -- A listing read backwards is its document.
-use Rattle.std.proofs.Common.{◌≡◌, ◌≢◌, ◌∙◌, ap, sym, refl, ◌<◌, ◌≤◌, ◌+◌, ℕ, zero, suc, pos, neg_ℤ, true, false, List, [], ◌∷◌, ◌++◌, length, length-append, get_or, map, take, drop, append_assoc, arith, inl, inr}
-use Rattle.std.proofs.Math.Seq.{take-append_seam, drop-append_seam}
-use Rattle.std.proofs.lemmas.List.{append-nil, length-map, take-map, drop-map}
+use Rattle.std.proofs.Common.{◌≡◌, ◌≢◌, ◌∙◌, ap, sym, refl, ℕ, zero, suc, pos, neg_ℤ, true, false, List, [], ◌∷◌, ◌++◌, length, get_or, map, drop, append_assoc, arith, inl, inr}
+use Rattle.std.proofs.lemmas.List.{append-nil}
 use Rattle.simd_json_parts.proofs.Documents.Listing.{IsHeaded-document}
+use Rattle.simd_json_parts.proofs.Documents.Fronts.{sized}
 use Rattle.simd_json_parts.specs.Document.{Document, null, boolean, integer, decimal, string, array, object, Elements, no_elements, element, elements, Members, no_members, member, members}
 use Rattle.simd_json_parts.specs.Listing.{listing, elements_listing, members_listing, IsTape, member_count}
 use Rattle.simd_json_parts.specs.Nodes.{Item, array_item, object_item, item_of, count_of, len_of}
@@ -136,19 +136,7 @@ pub object-at : (xs ns : List Node) (x : Node) (len count : ℕ) → IsListing (
 object-at xs ns x len count is headed kind beneath =
     object-of (map item_of xs) (map item_of ns) len count is (headed ∙ ap (λ y. item_of y ∷ map item_of (drop 1 xs)) kind ∙ ap (λ ys. object_item len count ∷ map item_of ys) (sym beneath))
 
--- ---- a document at the front of nodes
-
-pub positive : (d : Document) → 0 < length (listing d)
-positive d = let h = IsHeaded-document d in omega (arith, ap length h.whole)
-
--- it has as many nodes as its first node says
-pub sized : (ns : List Node) (default x : Node) (d : Document) (rest : List Item) → map item_of ns ≡ listing d ++ rest → get_or ns 0 default ≡ x → count_of (item_of x) + 1 ≡ length (listing d)
-sized [] default x d rest is at = absurd (omega (arith, positive d, ap length is, length-append (listing d) rest))
-sized (y ∷ ns) default x d rest is at =
-    let h = IsHeaded-document d in
-    let front : item_of y ∷ map item_of ns ≡ h.first ∷ (h.rest ++ rest) = is ∙ ap (λ xs. xs ++ rest) h.whole in
-    let same : item_of x ≡ h.first = ap item_of (sym at) ∙ cc in
-    omega (arith, ap count_of same, h.beneath, ap length h.whole)
+-- ---- a scalar at the front of nodes
 
 -- a node that is no header has none beneath
 scalar-count : (x : Node) → ((len count : ℕ) → x ≡ nodes.Array len count → ⊥) → ((len count : ℕ) → x ≡ nodes.Object len count → ⊥) → count_of (item_of x) ≡ 0
@@ -163,17 +151,7 @@ pub sized-scalar : (ns : List Node) (default : Node) (d : Document) (rest : List
 sized-scalar ns default d rest is no_array no_object =
     omega (arith, sized ns default (get_or ns 0 default) d rest is refl, scalar-count (get_or ns 0 default) no_array no_object)
 
--- no more than there are
-pub within : (ns : List Node) (d : Document) (rest : List Item) → map item_of ns ≡ listing d ++ rest → length (listing d) ≤ length ns
-within ns d rest is = omega (arith, ap length is, length-append (listing d) rest, length-map ns item_of)
-
--- they are its listing
-pub front-listed : (ns : List Node) (d : Document) (rest : List Item) (n : ℕ) → map item_of ns ≡ listing d ++ rest → n ≡ length (listing d)
-    → (map item_of (take n ns) ≡ listing d) × (map item_of (drop n ns) ≡ rest)
-front-listed ns d rest n is whole = (
-  sym (take-map item_of n ns) ∙ ap (take n) is ∙ ap (λ k. take k (listing d ++ rest)) whole ∙ take-append_seam (listing d) rest,
-  sym (drop-map item_of n ns) ∙ ap (drop n) is ∙ ap (λ k. drop k (listing d ++ rest)) whole ∙ drop-append_seam (listing d) rest,
-)
+-- ---- lists of nodes that are listings
 
 pub listing-listed : (xs : List Item) (d : Document) → xs ≡ listing d → IsListing xs
 listing-listed xs d is = ap (λ ns. listing (document_of ns)) is ∙ ap listing (document_of-listing d) ∙ sym is

@@ -27,7 +27,9 @@ capped len = min len max_length
 
 -- no list is shorter
 abbrev pub KeepsCapacities : Capacities → Capacities → Type 0
-KeepsCapacities old new = (old.position_capacity ≤ new.position_capacity) × (old.block_capacity ≤ new.block_capacity) × (old.stack_capacity ≤ new.stack_capacity)
+KeepsCapacities old new =
+    (old.position_capacity ≤ new.position_capacity) × (old.block_capacity ≤ new.block_capacity)
+    × (old.stack_capacity ≤ new.stack_capacity)
 
 -- the same is listed, within the same limit
 abbrev pub ListsSame : Capacities → Capacities → Type 0
@@ -36,9 +38,23 @@ ListsSame old new = (new.positions ≡ old.positions) × (new.blocks ≡ old.blo
 -- nothing is listed, and there is capacity for the positions and blocks of so many bytes, but none for open containers
 abbrev pub new_buffers : ℕ → ℕ → Capacities
 new_buffers len limit =
-    record { positions = []; blocks = []; limit = limit; position_capacity = capped len; block_capacity = blocks_in (capped len); stack_capacity = 0 }
+    record {
+      positions = [];
+      blocks = [];
+      limit = limit;
+      position_capacity = capped len;
+      block_capacity = blocks_in (capped len);
+      stack_capacity = 0;
+    }
 
 -- how the lists are seen, of which so many entries are in use
 abbrev pub capacities_of : List ℕ → ℕ → List ℕ → ℕ → ℕ → ℕ → Capacities
 capacities_of list used block_list used_blocks stack limit =
-    record { positions = take used list; blocks = take used_blocks block_list; limit = limit; position_capacity = length list; block_capacity = length block_list; stack_capacity = stack }
+    record {
+      positions = take used list;
+      blocks = take used_blocks block_list;
+      limit = limit;
+      position_capacity = length list;
+      block_capacity = length block_list;
+      stack_capacity = stack;
+    }

@@ -1,4 +1,5 @@
--- Which documents nodes list: listings read backwards, as total functions. Nodes that list none have an answer that means nothing.
+-- Which documents nodes list: listings read backwards, as total functions. Nodes that list none have an answer that
+-- means nothing.
 use Rattle.std.specs.Prelude.{◌≡◌, ℕ, zero, suc, ℤ, pos, negsuc, true, false, List, [], ◌∷◌}
 use Rattle.simd_json_parts.specs.Document.{Document, null, boolean, integer, decimal, string, array, object, Elements, no_elements, element, Members, no_members, member}
 use Rattle.simd_json_parts.specs.Listing.{listing, elements_listing, members_listing}

@@ -11,7 +11,9 @@ use Rattle.simd_json.specs.declared.value.tape.value.Value.{Value}
 module _ {F T : Type 0} (g : Shared F (Bor T × (Bor Value × Unit {0})) Bool) (same : F) where
   -- it may be asked of each of these values of a map beside each value of the pairs
   abbrev pub MayCompare : List T → Members → Type 0
-  MayCompare wanted ms = (x : Bor T) (v : Bor Value) → IsAmong wanted x.now → IsAmong (values ms) (doc v.now) → g.pre same (x, (v, tt))
+  MayCompare wanted ms =
+      (x : Bor T) (v : Bor Value) → IsAmong wanted x.now → IsAmong (values ms) (doc v.now)
+      → g.pre same (x, (v, tt))
 
   -- beside each value of the object, where there is one
   abbrev pub MayCompareTo : List T → Document → Type 0

@@ -22,10 +22,11 @@ pub record IsParsed (b : List ℕ) (limit : ℕ) (nodes : List Item) : Type 0 wh
   pub answered : answer b limit ≡ Ok document
   pub listed : nodes ≡ listing document
 
--- b is no document within the limits, and the fault is the one that the definitions answer: the whole input's, of one of its
--- kinds and without a character, or else a token's, of one of theirs and with its character. A fault with a character is not
--- reported late: the bytes before it go on to a document. Where it is a token that an array or an object does not expect
--- after an element, at a name, after a name or after a member, it is not early: with that token's first byte they do not.
+-- b is no document within the limits, and the fault is the one that the definitions answer: the whole input's, of
+-- one of its kinds and without a character, or else a token's, of one of theirs and with its character. A fault
+-- with a character is not reported late: the bytes before it go on to a document. Where it is a token that an array
+-- or an object does not expect after an element, at a name, after a name or after a member, it is not early: with
+-- that token's first byte they do not.
 pub record IsRefused (b : List ℕ) (limit : ℕ) (e : Error) : Type 0 where
   pub answered : answer b limit ≡ Err e
   pub not_denoted : (d : Document) → Denotes b d → WithinLimits b d limit → ⊥
@@ -38,8 +39,9 @@ abbrev pub positions_after : List ℕ → Option Error → List ℕ
 positions_after b None = positions b
 positions_after b (Some e) = if is_some e.character then positions b else []
 
--- A parse of b with so many containers open at most, where there was capacity for `capacity` bytes: the fault if there is one, and
--- the nodes and the positions that are listed afterwards. Nothing else that buffers and tape held before is named.
+-- A parse of b with so many containers open at most, where there was capacity for `capacity` bytes: the fault if
+-- there is one, and the nodes and the positions that are listed afterwards. Nothing else that buffers and tape held
+-- before is named.
 pub record IsParse (b : List ℕ) (limit capacity : ℕ) (fault : Option Error) (nodes : List Item) (listed : List ℕ) : Type 0 where
   pub parsed : IfNone fault (IsParsed b limit nodes)
   pub refused : IfSome fault (λ e. IsRefused b limit e ⊎ (LacksMemory b e × (capacity < length b)))
@@ -50,7 +52,9 @@ pub record IsParse (b : List ℕ) (limit capacity : ℕ) (fault : Option Error) 
 -- of the first `len` bytes of s; where too few follow them, only this is reported
 abbrev pub IsPaddedParse : List ℕ → ℕ → ℕ → ℕ → Option Error → List Item → List ℕ → Type 0
 IsPaddedParse s len limit capacity fault nodes listed =
-    MatchOption (padding_fault s len) (IsParse (take len s) limit capacity fault nodes listed) (λ e. (fault ≡ Some e) × (nodes ≡ []) × (listed ≡ []))
+    MatchOption (padding_fault s len)
+    (IsParse (take len s) limit capacity fault nodes listed)
+    (λ e. (fault ≡ Some e) × (nodes ≡ []) × (listed ≡ []))
 
 -- the nodes of the document that the definitions answer, if they do
 abbrev pub answered_nodes : Result Document Error → List Item

@@ -1,4 +1,5 @@
--- Nodes of which each can be printed: what makes a document spellable, asked of one node at a time, as a test. Only private clauses cite it.
+-- Nodes of which each can be printed: what makes a document spellable, asked of one node at a time, as a test. Only
+-- private clauses cite it.
 use Rattle.std.specs.Prelude.{◌≡◌, List, Bool, true, false, All, nat_le}
 use Rattle.std.specs.Str.{is_utf8}
 use Rattle.simd_json_parts.specs.Derivatives.{matches}

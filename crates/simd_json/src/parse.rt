@@ -8,12 +8,13 @@ ghost use Rattle.simd_json_parts.specs.InputFaults.{input_fault};
 ghost use Rattle.simd_json.specs.MaxDepth.{default_max_depth};
 ghost use Rattle.simd_json_parts.specs.Positions.{positions};
 ghost use Rattle.simd_json_stages.specs.EscapeBlocks.{backslash_blocks};
+ghost use Rattle.simd_json_stages.specs.NodesEnough.{nodes_enough};
 
 use crate::buffers::Buffers;
 use crate::tape::Tape;
 use crate::{DEFAULT_MAX_DEPTH, INPUT_PADDING};
 use simd_json_parts::error::{Error, ErrorType, Result};
-use simd_json_stages::stage2::build_tape;
+use simd_json_stages::stage2::{build_tape, nodes_enough};
 use std::alloc::Allocator;
 
 /// Reads the bytes of one document (RFC 8259) as a tape, with at most [`DEFAULT_MAX_DEPTH`] containers open at a time.
@@ -117,7 +118,8 @@ pub fn fill_tape<'de, A: Allocator, B: Allocator>(
 {
     tape.clear();
     buffers.find_positions(s)?;
-    if let Err(e) = tape.reserve(buffers.structural_indexes().len()) {
+    let positions = buffers.structural_indexes().len();
+    if let Err(e) = tape.reserve(nodes_enough(positions, buffers.max_depth)) {
         return refuse(e, buffers, tape);
     }
     build(s, buffers, tape)
@@ -187,7 +189,7 @@ fn build<'de, A: Allocator, B: Allocator>(
     requires positions { (buffers.old.positions ≡ positions s.old) × (input_fault s.old ≡ None) }
     requires escapes { buffers.old.blocks ≡ backslash_blocks s.old }
     requires stack { min (length (positions s.old)) buffers.old.limit ≤ buffers.old.stack_capacity }
-    requires nodes { length (positions s.old) ≤ tape.old.capacity }
+    requires nodes { nodes_enough (length (positions s.old)) buffers.old.limit ≤ tape.old.capacity }
     requires empty { tape.old.nodes ≡ [] }
     ensures tape { OnOk result (IsParsed s.old buffers.old.limit tape.new.nodes) }
     ensures some { OnOk result (tape.new.nodes ≢ []) }

@@ -1,4 +1,5 @@
-//! What a program in C calls to time the parser: a text with buffers made anew, and many texts with buffers that are kept.
+//! What a program in C calls to time the parser: a text with buffers made anew, and many texts with buffers that are
+//! kept.
 //!
 //! A text is a pointer and a length. A [`Global`] takes no bytes, so C passes nothing for it:
 //!

@@ -1,5 +1,6 @@
--- Listings, equality, and which documents can be spelled.
+-- Listings, what stands at the front of nodes, equality, and which documents can be spelled.
 pub mod Listing
+pub mod Fronts
 pub mod Equality
 pub mod NodeEquality
 pub mod Accessors

@@ -1,4 +1,5 @@
--- The typed accessors as one table: what each answers of a document, and which kind its refusals name as expected. Neither acceptance nor faults rest on it.
+-- The typed accessors as one table: what each answers of a document, and which kind its refusals name as expected.
+-- Neither acceptance nor faults rest on it.
 use Rattle.std.specs.Prelude.{ℕ, ℤ, List, Bool, Option, Result}
 use Rattle.simd_json_parts.specs.Document.{Document}
 use Rattle.simd_json_parts.specs.Views.{as_null, as_bool, as_signed, as_unsigned, as_str, as_decimal, as_array, as_object, try_as, get_as, try_get_as, eq_as}

@@ -1,4 +1,5 @@
--- The bytes that JSON gives a meaning (RFC 8259, section 2), and the letters of its escapes and names. Acceptance rests on it.
+-- The bytes that JSON gives a meaning (RFC 8259, section 2), and the letters of its escapes and names. Acceptance
+-- rests on it.
 use Rattle.std.specs.Prelude.{ℕ, List, length, get_or, Bool, ◌||◌, ◌==◌, nat_lt}
 use Rattle.std.specs.List.{range_with_len}
 
@@ -73,7 +74,9 @@ is_whitespace c = (c == space) || (c == tab) || (c == line_feed) || (c == carria
 
 -- [ ] { } : ,
 abbrev pub is_structural : ℕ → Bool
-is_structural c = (c == left_bracket) || (c == right_bracket) || (c == left_brace) || (c == right_brace) || (c == colon) || (c == comma)
+is_structural c =
+    (c == left_bracket) || (c == right_bracket) || (c == left_brace) || (c == right_brace)
+    || (c == colon) || (c == comma)
 
 -- what may stand after a number, `true`, `false` or `null`
 abbrev pub is_terminator : ℕ → Bool

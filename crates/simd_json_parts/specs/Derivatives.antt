@@ -1,4 +1,5 @@
--- Patterns as tests that compute, by Brzozowski's derivatives. That they agree with the sets is a law. Faults rest on it.
+-- Patterns as tests that compute, by Brzozowski's derivatives. That they agree with the sets is a law. Faults rest
+-- on it.
 use Rattle.std.specs.Prelude.{ℕ, suc, List, [], ◌∷◌, Bool, true, false, cond, ◌&&◌, ◌||◌, nat_le}
 use Rattle.simd_json_parts.specs.Patterns.{Pattern, never, empty, range, ◌then◌, ◌or◌, many}
 

@@ -1,5 +1,6 @@
 -- What a JSON text says (RFC 8259, sections 3 to 7): a tree. Acceptance rests on it.
--- A string is the UTF-8 of its characters. A decimal keeps its literal. An integer has a mark, whether `-` was written, and a magnitude.
+-- A string is the UTF-8 of its characters. A decimal keeps its literal. An integer has a mark, whether `-` was
+-- written, and a magnitude.
 use Rattle.std.specs.Prelude.{ℕ, Bool, List, [], ◌∷◌}
 
 mutual

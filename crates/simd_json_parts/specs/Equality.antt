@@ -1,4 +1,5 @@
--- When two documents are the same value: the same shape and order, integers by their numbers, decimals and strings by their bytes. Neither acceptance nor faults rest on it.
+-- When two documents are the same value: the same shape and order, integers by their numbers, decimals and strings
+-- by their bytes. Neither acceptance nor faults rest on it.
 use Rattle.std.specs.Prelude.{ℕ, Bool, true, false, not, ◌&&◌, ◌||◌, ◌==◌, bytes_eq}
 use Rattle.std.specs.Bool.{beq}
 use Rattle.simd_json_parts.specs.Document.{Document, null, boolean, integer, decimal, string, array, object, Elements, no_elements, element, Members, no_members, member}

@@ -1,4 +1,5 @@
--- The kinds of error: their classes, their names, and what is printed of an error. Neither acceptance nor faults rest on it.
+-- The kinds of error: their classes, their names, and what is printed of an error. Neither acceptance nor faults
+-- rest on it.
 use Rattle.std.specs.Prelude.{ℕ, List, Bool, true, false, ◌++◌, codes, Option, Some, None, string_bytes, encode_utf8}
 use Rattle.std.specs.Fmt.{decimal}
 use Rattle.simd_json_parts.specs.declared.error.Error.{Error}
@@ -57,8 +58,8 @@ class_of errors.DepthLimitExceeded = shape
 class_of (errors.Unexpected expected got) = shape
 class_of (errors.Serde message) = shape
 
--- The kinds of a fault at a token that an array or an object does not expect: after an element, at a name, after a name,
--- after a member. No document goes on with that token's first byte.
+-- The kinds of a fault at a token that an array or an object does not expect: after an element, at a name, after a
+-- name, after a member. No document goes on with that token's first byte.
 abbrev pub is_unexpected_token : ErrorType → Bool
 is_unexpected_token errors.ExpectedArrayContent = true
 is_unexpected_token errors.ExpectedObjectContent = true
@@ -126,7 +127,8 @@ kind_text errors.ExpectedSigned = codes "ExpectedSigned"
 kind_text errors.ExpectedString = codes "ExpectedString"
 kind_text errors.ExpectedUnsigned = codes "ExpectedUnsigned"
 kind_text errors.DepthLimitExceeded = codes "DepthLimitExceeded"
-kind_text (errors.Unexpected expected got) = codes "Unexpected(" ++ optional_name expected ++ codes ", " ++ optional_name got ++ codes ")"
+kind_text (errors.Unexpected expected got) =
+    codes "Unexpected(" ++ optional_name expected ++ codes ", " ++ optional_name got ++ codes ")"
 kind_text (errors.Serde message) = codes "Serde(" ++ string_bytes message ++ codes ")"
 
 abbrev pub with_character : List ℕ → Option ℕ → List ℕ

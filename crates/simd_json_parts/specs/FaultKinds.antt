@@ -13,8 +13,8 @@ is_input_kind errors.Syntax = true
 is_input_kind errors.Eof = true
 is_input_kind _ = false
 
--- of a token: another is expected, or one where none is left; it is no `true`, `false`, `null` or number; a string of it has
--- a bad escape; it opens one container too many; or there is input after the root
+-- of a token: another is expected, or one where none is left; it is no `true`, `false`, `null` or number; a string
+-- of it has a bad escape; it opens one container too many; or there is input after the root
 abbrev pub is_token_kind : ErrorType → Bool
 is_token_kind errors.InternalError = true
 is_token_kind errors.ExpectedArrayContent = true
@@ -40,6 +40,7 @@ IsOfInput e = IsTrue (is_input_kind e.error) × (e ≡ whole_fault e.error)
 abbrev pub IsOfToken : Error → Type 0
 IsOfToken e = IsTrue (is_token_kind e.error) × IsSome e.character
 
--- Each fault that the definitions answer is one of these. Beside them a parse reports only that memory or padding is lacking.
+-- Each fault that the definitions answer is one of these. Beside them a parse reports only that memory or padding
+-- is lacking.
 abbrev pub IsNamedFault : Error → Type 0
 IsNamedFault e = IsOfInput e ⊎ IsOfToken e

@@ -1,4 +1,5 @@
--- The grammar: which bytes are which document (RFC 8259, sections 2 to 7). By cases on the document and by concatenation. Acceptance rests on it.
+-- The grammar: which bytes are which document (RFC 8259, sections 2 to 7). By cases on the document and by
+-- concatenation. Acceptance rests on it.
 use Rattle.std.specs.Prelude.{◌≡◌, ℕ, List, [], ◌∷◌, ◌++◌, true, false, codes, IsTrue}
 use Rattle.std.specs.List.{list_all}
 use Rattle.simd_json_parts.specs.Bytes.{is_whitespace, comma, colon, left_bracket, right_bracket, left_brace, right_brace}
@@ -60,11 +61,15 @@ abbrev mutual
   -- what stands between the braces
   pub AreMembers : Members → List ℕ → Type 0
   AreMembers no_members bs = IsWhitespace bs
-  AreMembers (member k d ms) bs = Joined (Spaced (λ name. IsStringLiteral name k)) (After colon (Joined (Spaced (IsValue d)) (AreMoreMembers ms))) bs
+  AreMembers (member k d ms) bs =
+      Joined (Spaced (λ name. IsStringLiteral name k))
+      (After colon (Joined (Spaced (IsValue d)) (AreMoreMembers ms))) bs
 
   pub AreMoreMembers : Members → List ℕ → Type 0
   AreMoreMembers no_members bs = bs ≡ []
-  AreMoreMembers (member k d ms) bs = After comma (Joined (Spaced (λ name. IsStringLiteral name k)) (After colon (Joined (Spaced (IsValue d)) (AreMoreMembers ms)))) bs
+  AreMoreMembers (member k d ms) bs =
+      After comma (Joined (Spaced (λ name. IsStringLiteral name k))
+      (After colon (Joined (Spaced (IsValue d)) (AreMoreMembers ms)))) bs
 
 -- the bytes are this document
 abbrev pub Denotes : List ℕ → Document → Type 0

@@ -18,8 +18,8 @@ scan_fault b =
     else if length (positions b) == 0 then Some (whole_fault Eof)
     else None
 
--- The first that applies, in this order. A byte order mark is not skipped (RFC 8259, section 8.1, lets a parser do so): its
--- bytes are UTF-8, and no token begins with them.
+-- The first that applies, in this order. A byte order mark is not skipped (RFC 8259, section 8.1, lets a parser do
+-- so): its bytes are UTF-8, and no token begins with them.
 unfoldable pub input_fault : List ℕ → Option Error
 input_fault b =
     if nat_lt max_length (length b) then Some (whole_fault InputTooLarge)

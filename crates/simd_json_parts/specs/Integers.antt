@@ -1,4 +1,5 @@
--- Which integers a tape holds, and as which node: a change of the range is a change of this file. The sign says whether `-` was written. Acceptance rests on it.
+-- Which integers a tape holds, and as which node: a change of the range is a change of this file. The sign says
+-- whether `-` was written. Acceptance rests on it.
 use Rattle.std.specs.Prelude.{ℕ, ◌-◌, ◌^◌, Bool, true, false, ℤ, pos, neg_ℤ}
 use Rattle.simd_json_parts.specs.declared.node.StaticNode.{StaticNode}
 use Rattle.simd_json_parts.specs.declared.node.StaticNode.TheVariants.{I64, U64}

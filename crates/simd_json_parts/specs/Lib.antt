@@ -1,4 +1,5 @@
--- What acceptance rests on: which bytes are a document, the limits, and the tape of a document. To be read in this order.
+-- What acceptance rests on: which bytes are a document, the limits, and the tape of a document. To be read in this
+-- order.
 pub mod Bytes
 pub mod Document
 pub mod Patterns
@@ -31,7 +32,8 @@ pub mod MapEquality
 pub mod NodeEquality
 pub mod Accessors
 pub mod Printed
--- What serves proofs: where tokens end, the headers of a listing, and what the readers of one scalar answer. The contracts of laws and of those readers cite it.
+-- What serves proofs: where tokens end, the headers of a listing, and what the readers of one scalar answer. The
+-- contracts of laws and of those readers cite it.
 pub mod TokensAlong
 pub mod Headers
 pub mod NumberRead

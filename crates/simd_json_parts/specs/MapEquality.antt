@@ -1,4 +1,5 @@
--- When an object and a map say the same. A map is seen as its look-up and its size, and `same` compares a value of it with one of the object. Neither acceptance nor faults rest on it.
+-- When an object and a map say the same. A map is seen as its look-up and its size, and `same` compares a value of
+-- it with one of the object. Neither acceptance nor faults rest on it.
 use Rattle.std.specs.Prelude.{ℕ, List, length, Bool, true, false, ◌&&◌, ◌==◌, is_none, Option, Some, None}
 use Rattle.simd_json_parts.specs.Document.{Document, object, Members, no_members, member, members}
 use Rattle.simd_json_parts.specs.Views.{first_with}

@@ -17,7 +17,9 @@ first_excess literal = find (λ k. nat_lt (max_magnitude false) (magnitude (take
 abbrev pub integer_or : List ℕ → ℕ → List ℕ → ℕ → Option ℕ → Result (Document × ℕ) Error
 integer_or b i literal end (Some k) = Err (fault_at b InvalidNumber (i + k))
 integer_or b i literal end None =
-    if nat_lt (max_magnitude (has_minus literal)) (magnitude literal) then Err (fault_at b InvalidNumber end) else Ok (integer (has_minus literal) (magnitude literal), end)
+    if nat_lt (max_magnitude (has_minus literal)) (magnitude literal)
+    then Err (fault_at b InvalidNumber end)
+    else Ok (integer (has_minus literal) (magnitude literal), end)
 
 -- the literal is the longest prefix that begins a number, and the byte at end stands after it
 abbrev pub number_between : List ℕ → ℕ → List ℕ → ℕ → Result (Document × ℕ) Error

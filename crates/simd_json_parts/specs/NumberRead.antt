@@ -10,6 +10,7 @@ use Rattle.simd_json_parts.specs.declared.numberparse.Number.TheVariants.{Intege
 
 -- the node and the length of an integer, the length of a decimal, or how far after the index the fault is reported
 abbrev pub IsNumberAt : List ℕ → ℕ → Number → Type 0
-IsNumberAt b i (Integer node len) = (minus : Bool) × (n : ℕ) × (number_at b i ≡ Ok (integer minus n, i + len)) × (node ≡ integer_node minus n)
+IsNumberAt b i (Integer node len) =
+    (minus : Bool) × (n : ℕ) × (number_at b i ≡ Ok (integer minus n, i + len)) × (node ≡ integer_node minus n)
 IsNumberAt b i (Decimal len) = number_at b i ≡ Ok (decimal (take len (drop i b)), i + len)
 IsNumberAt b i (Invalid offset) = number_at b i ≡ Err (fault_at b InvalidNumber (i + offset))

@@ -1,4 +1,5 @@
--- Number literals (RFC 8259, section 6), in the words of its grammar, and what an integer's literal means. Acceptance rests on it.
+-- Number literals (RFC 8259, section 6), in the words of its grammar, and what an integer's literal means.
+-- Acceptance rests on it.
 use Rattle.std.specs.Prelude.{ℕ, List, drop, map, Bool, cond, ◌==◌}
 use Rattle.std.specs.Char.{digit_value}
 use Rattle.std.specs.Int.Digits.{number_from_digits}

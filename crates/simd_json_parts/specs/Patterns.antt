@@ -1,4 +1,5 @@
--- Sets of byte lists, in the manner of RFC 5234's grammars: by concatenation, choice and repetition. Acceptance rests on it.
+-- Sets of byte lists, in the manner of RFC 5234's grammars: by concatenation, choice and repetition. Acceptance
+-- rests on it.
 use Rattle.std.specs.Prelude.{◌≡◌, ℕ, ◌≤◌, ◌⊎◌, List, [], ◌∷◌, ◌++◌}
 use Rattle.std.specs.List.{concat, AllByRecursion}
 

@@ -1,4 +1,5 @@
--- Real quotes, what is inside, and the structural positions. No blocks and no masks: each is asked of one index. Faults rest on it.
+-- Real quotes, what is inside, and the structural positions. No blocks and no masks: each is asked of one index.
+-- Faults rest on it.
 use Rattle.std.specs.Prelude.{ℕ, zero, suc, ◌%◌, List, filter, Bool, true, not, ◌&&◌, ◌||◌, ◌==◌, if◌then◌else◌}
 use Rattle.std.specs.List.{list_any}
 use Rattle.simd_json_parts.specs.Bytes.{quote, backslash, is_whitespace, is_structural, is_control, byte_at, indices}

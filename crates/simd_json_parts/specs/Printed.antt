@@ -1,4 +1,5 @@
--- The two printed forms of a document: compact, and pretty with a line for each member. Both are JSON texts (RFC 8259, section 2). Neither acceptance nor faults rest on it.
+-- The two printed forms of a document: compact, and pretty with a line for each member. Both are JSON texts (RFC
+-- 8259, section 2). Neither acceptance nor faults rest on it.
 use Rattle.std.specs.Prelude.{ℕ, suc, ◌*◌, ◌/◌, ◌%◌, List, [], ◌∷◌, ◌++◌, replicate, flat_map, Bool, true, false, ◌==◌, if◌then◌else◌, codes}
 use Rattle.std.specs.Fmt.{signed_decimal}
 use Rattle.std.specs.Char.{digit_char}
@@ -70,7 +71,9 @@ abbrev mutual
 
   pub pretty_array : Elements → ℕ → List ℕ
   pretty_array no_elements n = codes "[]"
-  pretty_array (element d ds) n = left_bracket ∷ (new_line (suc n) ++ pretty_in d (suc n) ++ more_pretty_elements ds (suc n) ++ new_line n ++ right_bracket ∷ [])
+  pretty_array (element d ds) n =
+      left_bracket ∷ (new_line (suc n) ++ pretty_in d (suc n) ++ more_pretty_elements ds (suc n)
+      ++ new_line n ++ right_bracket ∷ [])
 
   pub more_pretty_elements : Elements → ℕ → List ℕ
   more_pretty_elements no_elements n = []
@@ -79,11 +82,13 @@ abbrev mutual
   pub pretty_object : Members → ℕ → List ℕ
   pretty_object no_members n = codes "{}"
   pretty_object (member k d ms) n =
-      left_brace ∷ (new_line (suc n) ++ quoted k ++ codes ": " ++ pretty_in d (suc n) ++ more_pretty_members ms (suc n) ++ new_line n ++ right_brace ∷ [])
+      left_brace ∷ (new_line (suc n) ++ quoted k ++ codes ": " ++ pretty_in d (suc n) ++ more_pretty_members ms (suc n)
+      ++ new_line n ++ right_brace ∷ [])
 
   pub more_pretty_members : Members → ℕ → List ℕ
   more_pretty_members no_members n = []
-  more_pretty_members (member k d ms) n = comma ∷ (new_line n ++ quoted k ++ codes ": " ++ pretty_in d n ++ more_pretty_members ms n)
+  more_pretty_members (member k d ms) n =
+      comma ∷ (new_line n ++ quoted k ++ codes ": " ++ pretty_in d n ++ more_pretty_members ms n)
 
 abbrev pub pretty : Document → List ℕ
 pretty d = pretty_in d 0

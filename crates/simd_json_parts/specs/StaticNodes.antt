@@ -1,4 +1,5 @@
--- When two nodes of fixed size are equal: the same truth value, or the same number whatever its kind. Neither acceptance nor faults rest on it.
+-- When two nodes of fixed size are equal: the same truth value, or the same number whatever its kind. Neither
+-- acceptance nor faults rest on it.
 use Rattle.std.specs.Prelude.{ℤ, pos, Bool, Option, Some, None}
 use Rattle.std.specs.Bool.{beq}
 use Rattle.std.specs.Option.{option_eq}

@@ -1,8 +1,7 @@
--- A string at an index (RFC 8259, section 7). It ends at the next real quote. Of its content the longest prefix is read that is
--- pieces, as the string of their characters: so says a law. If that is not the whole, a backslash follows, and the fault is
--- there, with the byte after it. Faults rest on it.
--- A byte that is no backslash is taken as it is: that no control byte is inside, and that all is UTF-8, is asked of the whole
--- input before.
+-- A string at an index (RFC 8259, section 7). It ends at the next real quote. Of its content the longest prefix is
+-- read that is pieces, as the string of their characters: so says a law. If that is not the whole, a backslash
+-- follows, and the fault is there, with the byte after it. Faults rest on it. A byte that is no backslash is taken
+-- as it is: that no control byte is inside, and that all is UTF-8, is asked of the whole input before.
 use Rattle.std.specs.Prelude.{ℕ, zero, suc, ◌+◌, ◌-◌, List, [], ◌∷◌, ◌++◌, length, drop, slice_range, ◌&&◌, ◌==◌, Option, Some, None, Result, Ok, Err, if◌then◌else◌, encode_utf8}
 use Rattle.std.specs.List.{position_or_len, range_with_len}
 use Rattle.simd_json_parts.specs.Bytes.{backslash, byte_at, lower_u}
@@ -54,7 +53,8 @@ abbrev pub with_piece : Option (List ℕ × ℕ) → List ℕ → (ℕ → List 
 with_piece None content more = ([], content)
 with_piece (Some p) content more = let rest = more p.1 in (p.0 ++ rest.0, rest.1)
 
--- The string of the longest prefix that is a list of pieces, and what is left. The first bytes, as many as `skip`, are of a piece before.
+-- The string of the longest prefix that is a list of pieces, and what is left. The first bytes, as many as `skip`,
+-- are of a piece before.
 unfoldable pub read_pieces : ℕ → List ℕ → List ℕ × List ℕ
 read_pieces skip [] = ([], [])
 read_pieces (suc skip) (x ∷ xs) = read_pieces skip xs

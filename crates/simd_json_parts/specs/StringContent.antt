@@ -1,4 +1,5 @@
--- The content of a string, from the bytes after its opening quote alone. It serves proofs: only the crate's private clauses cite it.
+-- The content of a string, from the bytes after its opening quote alone. It serves proofs: only the crate's private
+-- clauses cite it.
 use Rattle.std.specs.Prelude.{ℕ, List, [], ◌∷◌, ◌++◌, Bool, true, false, not, ◌||◌, ◌==◌, if◌then◌else◌}
 use Rattle.simd_json_parts.specs.Bytes.{quote, backslash}
 

@@ -1,4 +1,5 @@
--- A string that is decoded in the bytes it was written in: how far it is read, and how far it is written. It serves proofs: only the crate's private clauses cite it.
+-- A string that is decoded in the bytes it was written in: how far it is read, and how far it is written. It serves
+-- proofs: only the crate's private clauses cite it.
 use Rattle.std.specs.Prelude.{◌≡◌, ◌≤◌, ◌<◌, ℕ, ◌+◌, List, ◌∷◌, ◌++◌, length, take, drop, suc, IsUtf8}
 use Rattle.simd_json_parts.specs.Bytes.{backslash}
 use Rattle.simd_json_parts.specs.StringAt.{read_pieces}

@@ -17,7 +17,8 @@ escaped_character x =
 -- the number that four hexadecimal digits spell, in either case
 abbrev pub hex_value : ℕ → ℕ → ℕ → ℕ → Option ℕ
 hex_value a b c d =
-    cond (is_digit a 16 && is_digit b 16 && is_digit c 16 && is_digit d 16) (Some (digit_value a * 4096 + digit_value b * 256 + digit_value c * 16 + digit_value d)) None
+    cond (is_digit a 16 && is_digit b 16 && is_digit c 16 && is_digit d 16)
+    (Some (digit_value a * 4096 + digit_value b * 256 + digit_value c * 16 + digit_value d)) None
 
 abbrev pub is_high_surrogate : ℕ → Bool
 is_high_surrogate u = nat_le 0xd800 u && nat_lt u 0xdc00
@@ -31,7 +32,9 @@ paired high low = 0x10000 + (high - 0xd800) * 1024 + (low - 0xdc00)
 
 -- \u and four digits that spell the code unit
 abbrev pub IsCodeUnit : List ℕ → ℕ → Type 0
-IsCodeUnit bs u = (a : ℕ) × (b : ℕ) × (c : ℕ) × (d : ℕ) × (bs ≡ backslash ∷ lower_u ∷ a ∷ b ∷ c ∷ d ∷ []) × (hex_value a b c d ≡ Some u)
+IsCodeUnit bs u =
+    (a : ℕ) × (b : ℕ) × (c : ℕ) × (d : ℕ)
+    × (bs ≡ backslash ∷ lower_u ∷ a ∷ b ∷ c ∷ d ∷ []) × (hex_value a b c d ≡ Some u)
 
 -- Each of the four kinds of piece gives one character: the character itself,
 abbrev pub IsPlain : List ℕ → ℕ → Type 0
@@ -61,4 +64,6 @@ ArePieces bs (c ∷ cs) = (xs : List ℕ) × (ys : List ℕ) × (bs ≡ xs ++ ys
 
 -- a quote, pieces, a quote; the string is the UTF-8 of the characters
 abbrev pub IsStringLiteral : List ℕ → List ℕ → Type 0
-IsStringLiteral bs string = (content : List ℕ) × (cs : List ℕ) × (bs ≡ quote ∷ (content ++ quote ∷ [])) × ArePieces content cs × (string ≡ encode_utf8_all cs)
+IsStringLiteral bs string =
+    (content : List ℕ) × (cs : List ℕ)
+    × (bs ≡ quote ∷ (content ++ quote ∷ [])) × ArePieces content cs × (string ≡ encode_utf8_all cs)

@@ -1,4 +1,5 @@
--- The tokens of b (RFC 8259, section 2), up to the first that is none: each begins at the next byte that is no whitespace. Faults rest on it.
+-- The tokens of b (RFC 8259, section 2), up to the first that is none: each begins at the next byte that is no
+-- whitespace. Faults rest on it.
 use Rattle.std.specs.Prelude.{ℕ, zero, suc, ◌-◌, List, [], ◌∷◌, ◌||◌, ◌==◌, Option, Some, None, Result, Ok, Err, if◌then◌else◌}
 use Rattle.std.specs.Char.{is_ascii_digit}
 use Rattle.std.specs.Option.{option_map_or}
@@ -37,7 +38,8 @@ form_of b i c =
 unfoldable pub form_at : List ℕ → ℕ → Form
 form_at b i = form_of b i (byte_at b i)
 
--- The index after a token of this form at index i. One that has a fault has no end, nor has a stray one: after it no token is read.
+-- The index after a token of this form at index i. One that has a fault has no end, nor has a stray one: after it
+-- no token is read.
 abbrev pub form_end : ℕ → Form → Option ℕ
 form_end i (string_token (Ok r)) = Some r.1
 form_end i (string_token (Err e)) = None

@@ -1,4 +1,5 @@
--- The tokens of b whose first bytes have these indexes, up to the first that has a fault or is stray. It serves proofs: contracts of laws and readers cite it.
+-- The tokens of b whose first bytes have these indexes, up to the first that has a fault or is stray. It serves
+-- proofs: contracts of laws and readers cite it.
 use Rattle.std.specs.Prelude.{ℕ, List, [], ◌∷◌, Bool, is_some, if◌then◌else◌}
 use Rattle.simd_json_parts.specs.Tokens.{Token, Form, form_at, form_end}
 

@@ -58,7 +58,10 @@ abbrev pub if_passes : {A : Type 0} → (A → Bool) → A → Option A
 if_passes test x = cond (test x) (Some x) None
 
 abbrev pub as_signed : ℕ → Document → Option ℤ
-as_signed bits d = option_and_then (if_passes (λ z. int_le (neg_ℤ (pos (2 ^ (bits - 1)))) z && int_lt z (pos (2 ^ (bits - 1))))) (as_integer d)
+as_signed bits d =
+    option_and_then
+    (if_passes (λ z. int_le (neg_ℤ (pos (2 ^ (bits - 1)))) z && int_lt z (pos (2 ^ (bits - 1)))))
+    (as_integer d)
 
 -- the number, where it is not negative
 abbrev pub natural_of : ℤ → Option ℕ
@@ -66,7 +69,10 @@ natural_of (pos n) = Some n
 natural_of _ = None
 
 abbrev pub as_unsigned : ℕ → Document → Option ℕ
-as_unsigned bits d = option_and_then (λ z. option_and_then (if_passes (λ n. int_lt (pos n) (pos (2 ^ bits)))) (natural_of z)) (as_integer d)
+as_unsigned bits d =
+    option_and_then
+    (λ z. option_and_then (if_passes (λ n. int_lt (pos n) (pos (2 ^ bits)))) (natural_of z))
+    (as_integer d)
 
 -- ---- look-up
 

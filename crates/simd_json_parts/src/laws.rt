@@ -67,8 +67,8 @@ pub fn leading_zeros_stand_alone()
         → Matches number_literal (45 ∷ 48 ∷ x ∷ bs) → ⊥ }
 {}
 
-/// A number of the grammar that stands at an index, with a terminator or the end after it, is read whole; an integer, where it
-/// is in the range of its sign.
+/// A number of the grammar that stands at an index, with a terminator or the end after it, is read whole; an integer,
+/// where it is in the range of its sign.
 pub fn numbers_are_read()
     ensures integers { (b : List ℕ) (i : ℕ) (xs rest : List ℕ) → drop i b ≡ xs ++ rest
         → IsTrue (is_terminator (byte_at rest 0))
@@ -85,16 +85,16 @@ pub fn pieces_spell_one_string()
         → encode_utf8_all cs ≡ encode_utf8_all ds }
 {}
 
-/// A string literal of the grammar that stands at an index is read as its string, up to its closing quote, whatever stands
-/// before and after.
+/// A string literal of the grammar that stands at an index is read as its string, up to its closing quote, whatever
+/// stands before and after.
 pub fn strings_are_read()
     ensures { (b : List ℕ) (i : ℕ) (content rest cs : List ℕ)
         → drop i b ≡ quote ∷ (content ++ quote ∷ rest) → ArePieces content cs
         → string_at b i ≡ Ok (encode_utf8_all cs, suc (suc i + length content)) }
 {}
 
-/// Of the content of a string, which is UTF-8 without a control byte and without a quote that would end it, a prefix is read
-/// that is pieces, as the string of their characters, and no longer prefix is pieces.
+/// Of the content of a string, which is UTF-8 without a control byte and without a quote that would end it, a prefix is
+/// read that is pieces, as the string of their characters, and no longer prefix is pieces.
 pub fn longest_pieces()
     ensures pieces { (bs : List ℕ) → IsUtf8 bs → ((i : ℕ) → i < length bs → 32 ≤ byte_at bs i)
         → ((i : ℕ) → i < length bs → IsFalse (is_real_quote bs i))
@@ -104,7 +104,8 @@ pub fn longest_pieces()
         → n + length (read_pieces 0 bs).1 ≤ length bs }
 {}
 
-/// A string is determined by the bytes from its opening quote on, which are UTF-8 if all are: what stands before does not matter.
+/// A string is determined by the bytes from its opening quote on, which are UTF-8 if all are: what stands before does
+/// not matter.
 pub fn strings_stand_by_themselves()
     ensures string { (b : List ℕ) (i : ℕ) → byte_at b i ≡ quote
         → string_at b i ≡ further i (string_at (drop i b) 0) }
@@ -127,8 +128,8 @@ pub fn positions_rise()
         ↔ ((i < length b) × IsTrue (is_position b i)) }
 {}
 
-/// Where some byte is inside a string, and so where some string is bad, there is a position. So an input without positions
-/// has no bad string, and it does not matter which of these two faults is asked for first.
+/// Where some byte is inside a string, and so where some string is bad, there is a position. So an input without
+/// positions has no bad string, and it does not matter which of these two faults is asked for first.
 pub fn strings_have_positions()
     ensures inside { (b : List ℕ) (i : ℕ) → i < length b → IsTrue (is_inside b i)
         → positions b ≢ [] }
@@ -173,8 +174,8 @@ pub fn turns_are_enough()
         (members_by b missing (value_from b missing levels) ExpectedObjectKey) kind ts }
 {}
 
-/// Each refusal is of a named kind: a fault of the whole input is of one of four, at index 0 and without a character, and a
-/// fault of a token is of one of fourteen, with a character. For the padded form padding may be lacking too.
+/// Each refusal is of a named kind: a fault of the whole input is of one of four, at index 0 and without a character,
+/// and a fault of a token is of one of fourteen, with a character. For the padded form padding may be lacking too.
 pub fn refusals_are_of_named_kinds()
     ensures input { (b : List ℕ) (e : Error) → input_fault b ≡ Some e → IsOfInput e }
     ensures token { (b : List ℕ) (limit : ℕ) (e : Error) → descent b limit ≡ Err e → IsOfToken e }
@@ -184,14 +185,14 @@ pub fn refusals_are_of_named_kinds()
         → IsNamedFault e ⊎ (e ≡ whole_fault InsufficientPadding) }
 {}
 
-/// Tokens stand at positions: the tokens that the descent reads, up to the first that has a fault or is stray, are those
-/// at the positions, one after another. So what lies between positions hides no token and no fault.
+/// Tokens stand at positions: the tokens that the descent reads, up to the first that has a fault or is stray, are
+/// those at the positions, one after another. So what lies between positions hides no token and no fault.
 pub fn tokens_stand_at_positions()
     ensures { (b : List ℕ) → tokens b ≡ tokens_along b (positions b) }
 {}
 
-/// The first byte of each token that the descent reads is a position, no other byte of it is one, and between its end and
-/// the next position there is only whitespace.
+/// The first byte of each token that the descent reads is a position, no other byte of it is one, and between its end
+/// and the next position there is only whitespace.
 pub fn only_whitespace_stands_between_tokens()
     ensures first { (b : List ℕ) (t : Token) → Contains (tokens b) t
         → Contains (positions b) t.index }
@@ -203,8 +204,8 @@ pub fn only_whitespace_stands_between_tokens()
         → IsTrue (is_whitespace (byte_at b k)) }
 {}
 
-/// So a string that is closed ends at the byte before the next position, or before the end of the input, where that byte is
-/// a quote: its closing quote is known without reading it.
+/// So a string that is closed ends at the byte before the next position, or before the end of the input, where that
+/// byte is a quote: its closing quote is known without reading it.
 pub fn strings_end_before_the_next_position()
     ensures { (b : List ℕ) (t : Token) (next : ℕ) → Contains (tokens b) t
         → byte_at b t.index ≡ quote → closing_quote b t.index < length b
@@ -243,21 +244,22 @@ pub fn documents_are_answered()
         → answer b limit ≡ Ok d }
 {}
 
-/// Bytes denote one document at most, however deep it nests and however great its integers are: the grammar is unambiguous.
+/// Bytes denote one document at most, however deep it nests and however great its integers are: the grammar is
+/// unambiguous.
 pub fn bytes_denote_one_document()
     ensures { (b : List ℕ) (d e : Document) → Denotes b d → Denotes b e → d ≡ e }
 {}
 
-/// No fault is reported late: where the input has no fault of the whole, the bytes before the index of a fault go on to a
-/// document. So up to there nothing is wrong yet.
+/// No fault is reported late: where the input has no fault of the whole, the bytes before the index of a fault go on to
+/// a document. So up to there nothing is wrong yet.
 pub fn faults_are_not_reported_late()
     ensures { (b : List ℕ) (limit : ℕ) (e : Error) → input_fault b ≡ None → descent b limit ≡ Err e
         → IsBeginning (take e.index b) }
 {}
 
-/// No token is refused early after an element (`ExpectedArrayContent`), where a key is expected (`ExpectedObjectContent`,
-/// `ExpectedObjectKey`), after a key (`ExpectedObjectColon`) or after a member (`ExpectedObjectContent`): the bytes go on to no
-/// document once they have the first byte of that token.
+/// No token is refused early after an element (`ExpectedArrayContent`), where a key is expected
+/// (`ExpectedObjectContent`, `ExpectedObjectKey`), after a key (`ExpectedObjectColon`) or after a member
+/// (`ExpectedObjectContent`): the bytes go on to no document once they have the first byte of that token.
 pub fn unexpected_tokens_are_not_reported_early()
     ensures { (b : List ℕ) (limit : ℕ) (e : Error) → input_fault b ≡ None → descent b limit ≡ Err e
         → is_unexpected_token e.error ≡ true

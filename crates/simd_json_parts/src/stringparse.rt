@@ -152,9 +152,42 @@ fn move_run(unread: &mut [u8], ends: Ends) -> Ends
     if unread[ends.read] == b'\\' {
         return ends;
     }
-    let read = plain_end(unread, ends.read);
-    let written = move_down(unread, ends.read, read, ends.written);
-    Ends { read, written }
+    move_plain(unread, ends.read, ends.written)
+}
+
+// The bytes up to the next quote or backslash, moved down while it is looked for, 32 bytes at a time.
+#[inline]
+fn move_plain(bytes: &mut [u8], from: usize, to: usize) -> Ends
+    requires inside { from + length (content (drop from bytes.old)) < length bytes.old }
+    requires order { to ≤ from }
+    ensures read { result.read ≡ from + prefix_len is_plain (drop from bytes.old) }
+    ensures end { result.written ≡ to + (result.read - from) }
+    ensures written { take result.written bytes.new
+        ≡ take to bytes.old ++ take (result.read - from) (drop from bytes.old) }
+    ensures unread { drop result.read bytes.new ≡ drop result.read bytes.old }
+    ensures same_length { length bytes.new ≡ length bytes.old }
+{
+    let mut done = 0;
+    while bytes.len() - (from + done) >= 32 {
+        let lanes = u8x32::from_slice(&bytes[from + done..]);
+        let stops = stops(lanes);
+        if stops != 0 {
+            let end = from + done + stops.trailing_zeros() as usize;
+            move_few(bytes, from + done, end, to + done);
+            return Ends {
+                read: end,
+                written: to + (end - from),
+            };
+        }
+        lanes.copy_to_slice(&mut bytes[to + done..]);
+        done += 32;
+    }
+    let end = plain_end_slowly(bytes, from + done);
+    move_few(bytes, from + done, end, to + done);
+    Ends {
+        read: end,
+        written: to + (end - from),
+    }
 }
 
 // Writes the character at an index, and returns the index after it.
@@ -170,41 +203,27 @@ fn put(bytes: &mut [u8], at: usize, character: char) -> usize
     at + codepoint_to_utf8(character, &mut bytes[at..])
 }
 
-// Moves the bytes from `from` to `end` down to an index, 16 at a time, and returns the index after them.
-#[inline]
-fn move_down(bytes: &mut [u8], from: usize, end: usize, to: usize) -> usize
-    requires { (to ≤ from) × (from ≤ end) × (end ≤ length bytes.old) }
-    ensures end { result ≡ to + (end - from) }
-    ensures written { take result bytes.new
-        ≡ take to bytes.old ++ take (end - from) (drop from bytes.old) }
-    ensures unread { drop end bytes.new ≡ drop end bytes.old }
-    ensures same_length { length bytes.new ≡ length bytes.old }
-{
-    let len = end - from;
-    let mut done = 0;
-    while len - done >= 16 {
-        u8x16::from_slice(&bytes[from + done..]).copy_to_slice(&mut bytes[to + done..]);
-        done += 16;
-    }
-    move_few(bytes, from + done, end, to + done);
-    to + len
-}
-
-// The same of fewer than 16 bytes; from 8 on, as the first 8 and the last 8.
+// Moves at most 32 bytes, from `from` to `end`, down to an index: from 8 on as the first 8 and the last 8, from 16 on as the
+// first 16 and the last 16.
 #[inline]
 fn move_few(bytes: &mut [u8], from: usize, end: usize, to: usize)
-    requires { (to ≤ from) × (from ≤ end) × (end ≤ length bytes.old) × (end < from + 16) }
+    requires { (to ≤ from) × (from ≤ end) × (end ≤ length bytes.old) × (end ≤ from + 32) }
     ensures { bytes.new ≡ copy_within bytes.old from end to }
 {
     let len = end - from;
     if len < 8 {
         bytes.copy_within(from..end, to);
-        return;
+    } else if len < 16 {
+        let first = u8x8::from_slice(&bytes[from..]);
+        let last = u8x8::from_slice(&bytes[end - 8..]);
+        first.copy_to_slice(&mut bytes[to..]);
+        last.copy_to_slice(&mut bytes[to + (len - 8)..]);
+    } else {
+        let first = u8x16::from_slice(&bytes[from..]);
+        let last = u8x16::from_slice(&bytes[end - 16..]);
+        first.copy_to_slice(&mut bytes[to..]);
+        last.copy_to_slice(&mut bytes[to + (len - 16)..]);
     }
-    let first = u8x8::from_slice(&bytes[from..]);
-    let last = u8x8::from_slice(&bytes[end - 8..]);
-    first.copy_to_slice(&mut bytes[to..]);
-    last.copy_to_slice(&mut bytes[to + (len - 8)..]);
 }
 
 // The character of the escape at the front, and how many bytes of it follow the backslash.

@@ -1,5 +1,6 @@
 -- What is given between values.
-use Rattle.std.proofs.Common.{◌≡◌, ◌∙◌, ap, sym, refl, subst, ◌+◌, ◌*◌, ℕ, zero, suc, not, nat_eq, Bor, List, [], ◌∷◌, ◌++◌, replicate, codes, arith}
+use Rattle.std.proofs.Common.{◌≡◌, ◌∙◌, ap, sym, refl, subst, ◌+◌, ◌*◌, ℕ, not, nat_eq, Bor, List, ◌∷◌, ◌++◌, replicate, codes, arith}
+use Rattle.std.proofs.lemmas.List.{replicate-append-replicate}
 use Rattle.std.proofs.lemmas.Bool.{ne_eqb}
 use Rattle.simd_json_parts.specs.Bytes.{space}
 use Rattle.simd_json_parts.specs.Nodes.{item_of}
@@ -14,16 +15,11 @@ use Rattle.simd_json_print.proofs.Places.{gives-none, gives-then}
 pub gives-no-line : (m n : ℕ) (a : Place) → m ≡ 0 → Gives a a (line (not (nat_eq m 0)) n)
 gives-no-line m n a is = subst (λ k. Gives a a (line (not (nat_eq k 0)) n)) (sym is) (gives-none a)
 
-replicate-more : (n x : ℕ) → replicate n x ++ (x ∷ x ∷ []) ≡ replicate (n + 2) x
-replicate-more zero x = refl
-replicate-more (suc n) x =
-    let one : suc (n + 2) ≡ suc n + 2 = omega arith in
-    ap (λ us. x ∷ us) (replicate-more n x) ∙ ap (λ k. replicate k x) one
-
-pub gives-more-line : (a b c : Place) (n : ℕ) → Gives a b (new_line n) → Gives b c (space ∷ space ∷ []) → Gives a c (new_line (n + 1))
+-- four more open containers
+pub gives-more-line : (a b c : Place) (n : ℕ) → Gives a b (new_line n) → Gives b c (replicate 8 space) → Gives a c (new_line (n + 4))
 gives-more-line a b c n g h =
-    let two : 2 * n + 2 ≡ 2 * (n + 1) = omega arith in
-    subst (λ us. Gives a c us) (ap (λ us. 10 ∷ us) (replicate-more (2 * n) space) ∙ ap (λ k. 10 ∷ replicate k space) two) (gives-then a b c (new_line n) (space ∷ space ∷ []) g h)
+    let more : 2 * n + 8 ≡ 2 * (n + 4) = omega arith in
+    subst (λ us. Gives a c us) (ap (λ us. 10 ∷ us) (replicate-append-replicate (2 * n) 8 space) ∙ ap (λ k. 10 ∷ replicate k space) more) (gives-then a b c (new_line n) (replicate 8 space) g h)
 
 pub gives-named-pretty : (m : ℕ) (a b c : Place) (name : List ℕ) → (m ≡ 0 → ⊥) → Gives a b name → Gives b c (codes ": ") → Gives a c (name ++ after_name (not (nat_eq m 0)))
 gives-named-pretty m a b c name is g h = subst (λ p. Gives a c (name ++ after_name p)) (sym (ap not (ne_eqb m 0 is))) (gives-then a b c name (codes ": ") g h)

@@ -1,5 +1,5 @@
 -- Laws of what calls give to a place.
-use Rattle.std.proofs.Common.{◌≡◌, Bool, true, false, not, cond, ◌∙◌, ap, sym, refl, subst, ℕ, List, [], ◌∷◌, ◌++◌, Option, None, Some, append_assoc, append-nil}
+use Rattle.std.proofs.Common.{◌≡◌, Bool, true, false, not, cond, ◌∙◌, ap, sym, refl, subst, ℕ, List, [], ◌++◌, Option, None, Some, append_assoc, append-nil}
 use Rattle.std.specs.Prelude.{Result, Ok, Err, IsOk, OnOk}
 use Rattle.std.specs.Io.KnownBytes.{Appends}
 use Rattle.simd_json_print.specs.Places.{Place, IsCollected, Gives, Grows, HasStopped}
@@ -56,10 +56,8 @@ gives-grows a b xs g =
     (p.0, p.3)
 
 -- from a place for which nothing is collected yet
-pub gives-new : (a : Option (List ℕ)) (b : Place) (collected bytes : List ℕ) (stopped : Bool) → stopped ≡ false → collected ≡ [] → Gives (a, cond stopped None (Some collected)) b bytes → Gives (a, Some []) b bytes
-gives-new a b collected bytes true is none g = cc
-gives-new a b (x ∷ xs) bytes false is none g = cc
-gives-new a b [] bytes false is none g = g
+pub gives-new : (a : Option (List ℕ)) (b : Place) (collected : Option (List ℕ)) (bytes : List ℕ) → collected ≡ Some [] → Gives (a, collected) b bytes → Gives (a, Some []) b bytes
+gives-new a b collected bytes none g = subst (λ o. Gives (a, o) b bytes) none g
 
 -- ---- what stays in front
 

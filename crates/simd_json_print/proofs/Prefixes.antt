@@ -22,7 +22,3 @@ pub prefix-trans : (front middle whole : List ℕ) → IsPrefix front middle →
 prefix-trans front middle whole p q =
     let short : length front ≤ length middle = omega (arith, ap length p, length-take (length front) middle) in
     sym (take-take (length front) (length middle) whole short) ∙ ap (take (length front)) q ∙ p
-
--- after a step that appended
-pub prefix-after : (front more middle whole : List ℕ) → middle ≡ front ++ more → IsPrefix middle whole → IsPrefix front whole
-prefix-after front more middle whole is q = prefix-trans front middle whole (prefix-appended front more middle is) q

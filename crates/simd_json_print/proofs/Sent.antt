@@ -53,6 +53,14 @@ unfolding Gives
 gives-failed a b before lost bytes true is s us same = cc
 gives-failed a b before lost bytes false is s us same = (s.0, lost, tt, s.1, s.2 ∙ ap (λ vs. vs ++ bytes) (sym same))
 
+-- bytes that fit; the writer is looked at twice, and is the same
+pub gives-collected : (a : Option (List ℕ)) (place : Option (List ℕ)) (collected before after bytes : List ℕ) (stopped again : Bool) → stopped ≡ false → cond stopped None (Some collected) ≡ place
+    → cond again None (Some before) ≡ place → after ≡ before ++ bytes → Gives (a, place) (a, cond again None (Some after)) bytes
+gives-collected a place collected before after bytes true again is one two all = cc
+gives-collected a place collected before after bytes false true is one two all = cc
+gives-collected a place collected before after bytes false false is one two all =
+    subst (λ o. Gives (a, o) (a, Some after) bytes) two (gives-sent a a before after bytes false refl ([], appends-none a, all))
+
 -- what was handed over, and what is taken of the rest
 pub written-more : (a b c : Option (List ℕ)) (sent left whole : List ℕ) (n : ℕ) → Appends a b sent → sent ++ left ≡ whole → Appends b c (take n left)
     → (more : List ℕ) × Appends a c more × (more ++ drop n left ≡ whole)

@@ -1,33 +1,28 @@
 -- What a walk over nodes meets, turn by turn.
-use Rattle.std.proofs.Common.{◌≡◌, ◌∙◌, ap, sym, refl, ◌<◌, ◌+◌, ◌-◌, min, ℕ, suc, Bool, true, false, List, [], ◌∷◌, ◌++◌, length, length-append, map, take, drop, get_or, append_assoc, codes, arith}
-use Rattle.std.proofs.Math.Seq.{take-append_seam, drop-append_seam}
-use Rattle.std.proofs.lemmas.List.{length-map, take-map, drop-map}
-use Rattle.simd_json_parts.proofs.Documents.Listing.{IsHeaded-document}
+use Rattle.std.proofs.Common.{◌≡◌, ◌∙◌, ap, sym, refl, ◌<◌, ◌+◌, ℕ, suc, Bool, true, false, List, [], ◌∷◌, ◌++◌, length, length-append, map, take, drop, get_or, append_assoc, codes, arith}
+use Rattle.std.proofs.lemmas.List.{length-map}
+use Rattle.simd_json_parts.proofs.Documents.Fronts.{positive, front-listed}
 use Rattle.simd_json_parts.specs.Bytes.{left_bracket, right_bracket, left_brace, right_brace}
 use Rattle.simd_json_parts.specs.Document.{Document, null, boolean, integer, decimal, string, array, object, Elements, no_elements, element, elements, Members, no_members, member, members}
 use Rattle.simd_json_parts.specs.Listing.{listing, elements_listing, members_listing}
-use Rattle.simd_json_parts.specs.Nodes.{Item, static_item, decimal_item, string_item, array_item, object_item, item_of, count_of}
+use Rattle.simd_json_parts.specs.Nodes.{Item, static_item, decimal_item, string_item, array_item, object_item, item_of}
 use Rattle.simd_json_parts.specs.Integers.{integer_node}
 use Rattle.simd_json_parts.specs.declared.node.Node.{Node}
 use Rattle.simd_json_parts.specs.declared.node.Node.TheVariants as nodes
 use Rattle.simd_json_parts.specs.declared.node.StaticNode.TheVariants as fixed
 use Rattle.simd_json_print.specs.Layout.{line, scalar_text, text, elements_text, members_text}
 
-positive : (d : Document) → 0 < length (listing d)
-positive d =
-    let h = IsHeaded-document d in
-    omega (arith, ap length h.whole)
+-- ---- a value at the front
 
--- ---- how many nodes a value has
+-- where nodes are those of a value and others, the first list has the value's and the second the others
+abbrev pub IsSplit : List Node → List Node → List Node → Type 0
+IsSplit ns first rest = (d : Document) (others : List Item) → map item_of ns ≡ listing d ++ others → (map item_of first ≡ listing d) × (map item_of rest ≡ others)
 
-pub sized : (ns : List Node) (default : Node) (n : ℕ) (d : Document) (rest : List Item) → n ≡ count_of (item_of (get_or ns 0 default)) → map item_of ns ≡ listing d ++ rest
-    → min n (length ns - 1) + 1 ≡ length (listing d)
-sized [] default n d rest counted is = absurd (omega (arith, positive d, ap length is, length-append (listing d) rest))
-sized (x ∷ ns) default n d rest counted is =
-    let h = IsHeaded-document d in
-    let front : item_of x ∷ map item_of ns ≡ h.first ∷ (h.rest ++ rest) = is ∙ ap (λ xs. xs ++ rest) h.whole in
-    let same : item_of x ≡ h.first = cc in
-    omega (arith, counted, ap count_of same, h.beneath, ap length h.whole, ap length is, length-append (listing d) rest, length-map ns item_of)
+pub split-at : (ns first rest : List Node) (k : ℕ) → ((d : Document) (others : List Item) → map item_of ns ≡ listing d ++ others → k ≡ length (listing d))
+    → first ≡ take k ns → rest ≡ drop k ns → IsSplit ns first rest
+split-at ns first rest k sized front back d others is =
+    let s = front-listed ns d others k is (sized d others is) in
+    (ap (map item_of) front ∙ s.0, ap (map item_of) back ∙ s.1)
 
 -- ---- elements
 
@@ -56,18 +51,10 @@ pub record AreParted (ds : Elements) (first rest : List Node) : Type 0 where
   pub front : map item_of first ≡ listing d
   pub back : map item_of rest ≡ elements_listing others
 
-seam : (ns first rest : List Node) (d : Document) (others : List Item) (k : ℕ) → map item_of ns ≡ listing d ++ others → k ≡ length (listing d) → first ≡ take k ns → rest ≡ drop k ns
-    → (map item_of first ≡ listing d) × (map item_of rest ≡ others)
-seam ns first rest d others k is whole front back = (
-  ap (map item_of) front ∙ sym (take-map item_of k ns) ∙ ap (take k) is ∙ ap (λ j. take j (listing d ++ others)) whole ∙ take-append_seam (listing d) others,
-  ap (map item_of) back ∙ sym (drop-map item_of k ns) ∙ ap (drop k) is ∙ ap (λ j. drop j (listing d ++ others)) whole ∙ drop-append_seam (listing d) others,
-)
-
-pub parted : (ns first rest : List Node) (ds : Elements) (k : ℕ) → 0 < length ns → map item_of ns ≡ elements_listing ds
-    → ((d : Document) (others : List Item) → map item_of ns ≡ listing d ++ others → k ≡ length (listing d)) → first ≡ take k ns → rest ≡ drop k ns → AreParted ds first rest
-parted ns first rest no_elements k some is whole front back = absurd (omega (arith, ap length is, length-map ns item_of))
-parted ns first rest (element d ds) k some is whole front back =
-    let s = seam ns first rest d (elements_listing ds) k is (whole d (elements_listing ds) is) front back in
+pub parted : (ns first rest : List Node) (ds : Elements) → 0 < length ns → map item_of ns ≡ elements_listing ds → IsSplit ns first rest → AreParted ds first rest
+parted ns first rest no_elements some is split = absurd (omega (arith, ap length is, length-map ns item_of))
+parted ns first rest (element d ds) some is split =
+    let s = split d (elements_listing ds) is in
     record { d = d; others = ds; whole = refl; front = s.0; back = s.1 }
 
 -- a turn's text
@@ -106,19 +93,13 @@ pub record ArePaired (ms : Members) (name : Item) (value rest : List Node) : Typ
   pub front : map item_of value ≡ listing d
   pub back : map item_of rest ≡ members_listing others
 
-headed : (ns : List Node) (default : Node) (k : Item) (others : List Item) → map item_of ns ≡ k ∷ others → (item_of (get_or (take 1 ns) 0 default) ≡ k) × (map item_of (drop 1 ns) ≡ others)
-headed [] default k others is = cc
-headed (n ∷ ns) default k others is = (cc, cc)
-
-pub paired : (ns names values value rest : List Node) (default : Node) (ms : Members) (j : ℕ) → 0 < length ns → map item_of ns ≡ members_listing ms → names ≡ take 1 ns → values ≡ drop 1 ns
-    → ((d : Document) (others : List Item) → map item_of values ≡ listing d ++ others → j ≡ length (listing d)) → value ≡ take j values → rest ≡ drop j values
-    → ArePaired ms (item_of (get_or names 0 default)) value rest
-paired ns names values value rest default no_members j some is at after whole front back = absurd (omega (arith, ap length is, length-map ns item_of))
-paired ns names values value rest default (member k d ms) j some is at after whole front back =
-    let h = headed ns default (string_item k) (listing d ++ members_listing ms) is in
-    let within : map item_of values ≡ listing d ++ members_listing ms = ap (map item_of) after ∙ h.1 in
-    let s = seam values value rest d (members_listing ms) j within (whole d (members_listing ms) within) front back in
-    record { k = k; d = d; others = ms; whole = refl; named = ap (λ xs. item_of (get_or xs 0 default)) at ∙ h.0; front = s.0; back = s.1 }
+pub paired : (ns values value rest : List Node) (name : Node) (ms : Members) → 0 < length ns → map item_of ns ≡ members_listing ms → map item_of ns ≡ item_of name ∷ map item_of values
+    → IsSplit values value rest → ArePaired ms (item_of name) value rest
+paired ns values value rest name no_members some is named split = absurd (omega (arith, ap length is, length-map ns item_of))
+paired ns values value rest name (member k d ms) some is named split =
+    let same : item_of name ∷ map item_of values ≡ string_item k ∷ (listing d ++ members_listing ms) = sym named ∙ is in
+    let s = split d (members_listing ms) (cc) in
+    record { k = k; d = d; others = ms; whole = refl; named = cc; front = s.0; back = s.1 }
 
 pub member-turn : (before : ℕ) (done l name t more close whole : List ℕ) → done ++ ((before ∷ (l ++ (name ++ (t ++ more)))) ++ close) ≡ whole
     → (done ++ ((before ∷ []) ++ (l ++ (name ++ t)))) ++ (more ++ close) ≡ whole

@@ -1,4 +1,4 @@
--- A place that takes bytes, and what calls give it. Only private clauses cite it.
+-- A place that takes bytes, and what calls give it.
 use Rattle.std.specs.Prelude.{◌≡◌, ℕ, List, ◌++◌, Option, None, Some, ⊤}
 use Rattle.std.specs.Io.KnownBytes.{Appends}
 

@@ -5,6 +5,7 @@ ghost use Rattle.simd_json_parts.specs.Document.{Document};
 ghost use Rattle.simd_json_parts.specs.Listing.{listing};
 ghost use Rattle.simd_json_parts.specs.Nodes.{item_of};
 ghost use Rattle.simd_json_parts.specs.Printed.{compact, pretty};
+ghost use Rattle.simd_json_print.specs.Places.{Gives, Grows};
 ghost use Rattle.simd_json_print.specs.Prefix.{IsPrefix};
 
 mod scalar;
@@ -13,12 +14,34 @@ mod tests;
 mod walk;
 
 use crate::document::walk::put_value;
+use crate::place::Sink;
 use crate::place::list::Appending;
 use crate::place::writer::Writing;
 use simd_json_parts::node::Node;
 use std::alloc::{AllocError, Allocator};
 use std::io;
 use std::io::Write;
+
+// How many bytes are collected for a writer. They are on the stack and filled with zeros first, which a small document pays for.
+const PIECE: usize = 4096;
+
+/// Gives a place the compact text of the document that the nodes list.
+pub fn put_compact<P, S: Sink<P>>(sink: &mut S, target: &mut P, nodes: &[Node<'_>])
+    ensures kept { Grows (S.place sink.old target.old) (S.place sink.new target.new) }
+    ensures given { (d : Document) → map item_of nodes.now ≡ listing d
+        → Gives (S.place sink.old target.old) (S.place sink.new target.new) (compact d) }
+{
+    put_value::<_, _, false>(sink, target, nodes, 0);
+}
+
+/// Gives a place the pretty text of the document that the nodes list.
+pub fn put_pretty<P, S: Sink<P>>(sink: &mut S, target: &mut P, nodes: &[Node<'_>])
+    ensures kept { Grows (S.place sink.old target.old) (S.place sink.new target.new) }
+    ensures given { (d : Document) → map item_of nodes.now ≡ listing d
+        → Gives (S.place sink.old target.old) (S.place sink.new target.new) (pretty d) }
+{
+    put_value::<_, _, true>(sink, target, nodes, 0);
+}
 
 /// Appends the compact text of the document that the nodes list.
 ///
@@ -32,7 +55,7 @@ pub fn append_compact<A: Allocator>(
     ensures kept { IsPrefix out.old.items out.new.items }
 {
     let mut sink = Appending::new();
-    put_value::<_, _, false>(&mut sink, out, nodes, 0);
+    put_compact(&mut sink, out, nodes);
     sink.result()
 }
 
@@ -48,7 +71,7 @@ pub fn append_pretty<A: Allocator>(
     ensures kept { IsPrefix out.old.items out.new.items }
 {
     let mut sink = Appending::new();
-    put_value::<_, _, true>(&mut sink, out, nodes, 0);
+    put_pretty(&mut sink, out, nodes);
     sink.result()
 }
 
@@ -62,8 +85,8 @@ pub fn write_compact<W: Write>(writer: &mut W, nodes: &[Node<'_>]) -> io::Result
     ensures begun { (d : Document) → map item_of nodes.now ≡ listing d
         → OnErr result ((count : ℕ) × Appends (W.contents writer.old) (W.contents writer.new) (take count (compact d))) }
 {
-    let mut sink = Writing::new();
-    put_value::<_, _, false>(&mut sink, writer, nodes, 0);
+    let mut sink = Writing::<PIECE>::new();
+    put_compact(&mut sink, writer, nodes);
     sink.finish(writer)
 }
 
@@ -77,7 +100,7 @@ pub fn write_pretty<W: Write>(writer: &mut W, nodes: &[Node<'_>]) -> io::Result<
     ensures begun { (d : Document) → map item_of nodes.now ≡ listing d
         → OnErr result ((count : ℕ) × Appends (W.contents writer.old) (W.contents writer.new) (take count (pretty d))) }
 {
-    let mut sink = Writing::new();
-    put_value::<_, _, true>(&mut sink, writer, nodes, 0);
+    let mut sink = Writing::<PIECE>::new();
+    put_pretty(&mut sink, writer, nodes);
     sink.finish(writer)
 }

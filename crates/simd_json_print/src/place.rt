@@ -4,20 +4,22 @@ ghost use Rattle.simd_json_print.specs.Places.{Place};
 pub(crate) mod list;
 pub(crate) mod pieces;
 pub(crate) mod quoted;
-pub(crate) mod writer;
+pub mod writer;
 
 /// How text gets to a place, and what is collected for it on the way.
 ///
 /// Where the place fails, that is kept, and all that follows is dropped.
-pub(crate) trait Sink<P> {
+pub trait Sink<P> {
     ghost use Rattle.std.specs.Prelude.{IsTrue};
     ghost use Rattle.simd_json_print.specs.Places.{Place, Gives, HasStopped};
 
     ghost place: { Self → P → Place };
 
+    /// Gives the place these bytes, after all that was given before.
     fn put(&mut self, target: &mut P, bytes: &[u8])
         ensures { Gives (place self.old target.old) (place self.new target.new) bytes.now };
 
+    /// Whether the place has failed, so that what follows is dropped. It need not be known at once.
     fn has_stopped(&self, target: &P) -> bool
         ensures { IsTrue result → HasStopped (place self.now target.now) };
 }

@@ -1,11 +1,19 @@
 //! The escaped form of one string (RFC 8259, section 7).
 ghost use Rattle.std.specs.Prelude.{◌≡◌, ◌++◌, OnOk};
 ghost use Rattle.simd_json_parts.specs.Printed.{quoted};
+ghost use Rattle.simd_json_print.specs.Places.{Gives};
 ghost use Rattle.simd_json_print.specs.Prefix.{IsPrefix};
 
 use crate::place::list::Appending;
-use crate::place::quoted::put_quoted;
+use crate::place::{Sink, quoted};
 use std::alloc::{AllocError, Allocator};
+
+/// Gives a place a string as it is printed: between quotes, with a quote, a backslash and what is below 0x20 escaped.
+pub fn put_quoted<P, S: Sink<P>>(sink: &mut S, target: &mut P, string: &str)
+    ensures { Gives (S.place sink.old target.old) (S.place sink.new target.new) (quoted string.now) }
+{
+    quoted::put_quoted(sink, target, string);
+}
 
 /// Appends a string as it is printed: between quotes, with a quote, a backslash and what is below 0x20 escaped.
 ///

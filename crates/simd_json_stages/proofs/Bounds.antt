@@ -1,5 +1,5 @@
 -- What the machine counts stays within bounds from one token to the next.
-use Rattle.std.proofs.Common.{inl, inr, ◌≡◌, ◌≢◌, refl, sym, ◌∙◌, ap, subst, ℕ, ◌+◌, ◌-◌, ◌<◌, ◌≤◌, List, [], ◌∷◌, ◌++◌, length, get_or, drop, Contains, arith}
+use Rattle.std.proofs.Common.{inl, inr, ◌≡◌, ◌≢◌, refl, sym, ◌∙◌, ap, subst, ℕ, ◌+◌, ◌*◌, ◌-◌, ◌<◌, ◌≤◌, List, [], ◌∷◌, ◌++◌, length, get_or, drop, Contains, arith}
 use Rattle.std.specs.Prelude.{Some, slice_index}
 use Rattle.std.proofs.lemmas.Bool.{cases_lt}
 use Rattle.simd_json_parts.specs.Bytes.{byte_at}
@@ -11,6 +11,7 @@ use Rattle.simd_json_parts.specs.declared.error.ErrorType.{ErrorType}
 use Rattle.simd_json_parts.specs.declared.node.Node.{Node}
 use Rattle.simd_json_stages.specs.Building.{AtValue, AtName, Tells}
 use Rattle.simd_json_stages.specs.Left.{Left}
+use Rattle.simd_json_stages.specs.NodesEnough.{nodes_enough}
 use Rattle.simd_json_stages.specs.Progresses.{EndsClosed, IsRead, IsBefore, IsAfter}
 use Rattle.simd_json_stages.specs.declared.stage2.Container.{Container}
 use Rattle.simd_json_stages.specs.Put.{IsStringPut, IsScalarPut}
@@ -40,6 +41,21 @@ some-left b ps p closed r x y =
             | inr is ↦ y (byte ∙ is)
           ])
     ]
+
+-- where a value or a name stands, there is a node for it
+pub node-left : (b ps : List ℕ) (u : Left) (limit n : ℕ) (p : Progress) → IsBefore b ps u p → p.depth ≤ limit → nodes_enough (length ps) limit ≤ n → p.used < n
+unfolding nodes_enough
+node-left b ps u limit n p r deep enough = omega (arith, r.read.within, r.used, r.deep)
+
+-- after a value no more nodes are in use than there are
+pub nodes-within : (b ps : List ℕ) (u : Left) (limit n : ℕ) (p : Progress) → IsAfter b ps u p → p.depth ≤ limit → nodes_enough (length ps) limit ≤ n → p.used ≤ n
+unfolding nodes_enough
+nodes-within b ps u limit n p r deep enough = omega (arith, r.read.within, r.used, r.deep)
+
+-- nor after the last
+pub all-within : (used positions limit n : ℕ) → 2 * used ≤ positions + 1 → nodes_enough positions limit ≤ n → used ≤ n
+unfolding nodes_enough
+all-within used positions limit n half enough = omega arith
 
 module _ (b ps : List ℕ) (e : ps ≡ positions b) where
   lift : (P : List ℕ → Type 0) → P (positions b) → P ps

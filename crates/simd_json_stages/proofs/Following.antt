@@ -9,9 +9,10 @@ use Rattle.simd_json_parts.specs.declared.node.Node.TheVariants.{Static}
 use Rattle.simd_json_parts.specs.declared.node.StaticNode.TheVariants.{Null}
 use Rattle.simd_json_parts.specs.Nodes.{item_of}
 use Rattle.simd_json_stages.specs.Continued.{Open}
-use Rattle.simd_json_stages.specs.Building.{closer, end_kind, frames, top, patch, HoldsValue, AtValue, AfterValue, Goes, Takes, Tells}
+use Rattle.simd_json_stages.specs.Building.{closer, end_kind, frames, top, patch, HoldsValue, AfterValue, Goes, Takes, Tells}
 use Rattle.simd_json_stages.specs.EscapesAhead.{AreAhead}
 use Rattle.simd_json_stages.specs.Left.{Left}
+use Rattle.simd_json_stages.specs.Members.{HasCapacity, AtFirst}
 use Rattle.simd_json_stages.specs.Progresses.{IsRead, IsBefore, IsAfter, IsTurned, Turns}
 use Rattle.simd_json_stages.specs.declared.stage2.Container.TheVariants.{Array}
 use Rattle.simd_json_stages.specs.declared.stage2.Follower.{Follower}
@@ -82,7 +83,7 @@ module _ (b ps : List ℕ) (e : ps ≡ positions b) where
       (record {
         read = read-next b ps e (one_more p) (two_more p) first k (omega arith) refl refl;
         used = omega (arith, after.used);
-        deep = after.deep;
+        deep = omega (arith, after.deep);
         len = after.len;
         unread = record { same = after.same; before = omega (arith, after.before more) };
       })
@@ -195,23 +196,27 @@ abbrev pub first_token : List ℕ → ℕ → Progress
 first_token ps x = record { read = 1; at = get_or ps 0 0; byte = x; used = 0; depth = 0; container = Array; len = 0 }
 
 -- All of the input is unread there.
-pub at-first : (input ps : List ℕ) (u : Left) (e : Escapes) (stack : List StackState) (nodes : List Node) (limit x capacity : ℕ) → u ≡ record { at = 0; bytes = input } → ps ≡ positions input → input_fault input ≡ None → 0 < length ps → AreAhead input e 0
-    → x ≡ byte_at u.bytes (get_or ps 0 0 - u.at) → length ps ≤ length nodes → capacity ≤ length stack
-    → ((ps ≡ positions u.bytes) × (input_fault u.bytes ≡ None)) × (IsBefore u.bytes ps u (first_token ps x) × (AreAhead u.bytes e (get_or ps 0 0) × ((0 ≤ limit) × ((length ps ≤ length nodes) × ((capacity ≤ length stack) × AtValue u.bytes ps limit stack nodes (first_token ps x))))))
-at-first input ps u e stack nodes limit x capacity is ps-is good some ahead byte l k =
+pub at-first : (input ps : List ℕ) (u : Left) (e : Escapes) (stack : List StackState) (nodes : List Node) (limit x : ℕ) → u ≡ record { at = 0; bytes = input } → HasCapacity input ps limit stack nodes → input_fault input ≡ None → 0 < length ps → AreAhead input e 0
+    → x ≡ byte_at u.bytes (get_or ps 0 0 - u.at) → (input_fault u.bytes ≡ None) × (AtFirst u.bytes ps limit u stack nodes (first_token ps x) × AreAhead u.bytes e (get_or ps 0 0))
+at-first input ps u e stack nodes limit x is capacity good some ahead byte =
     let none : get_or ps 0 0 - 0 ≡ get_or ps 0 0 = omega arith in
     let byte' : x ≡ byte_at input (get_or ps 0 0 - 0) = subst (λ (u : Left). x ≡ byte_at u.bytes (get_or ps 0 0 - u.at)) is byte in
-    subst (λ (u : Left). ((ps ≡ positions u.bytes) × (input_fault u.bytes ≡ None)) × (IsBefore u.bytes ps u (first_token ps x) × (AreAhead u.bytes e (get_or ps 0 0) × ((0 ≤ limit) × ((length ps ≤ length nodes) × ((capacity ≤ length stack) × AtValue u.bytes ps limit stack nodes (first_token ps x))))))) (sym is) (
-      (ps-is, good),
+    subst (λ (u : Left). (input_fault u.bytes ≡ None) × (AtFirst u.bytes ps limit u stack nodes (first_token ps x) × AreAhead u.bytes e (get_or ps 0 0))) (sym is) (
+      good,
       (
         record {
-          read = record { some = omega arith; within = omega arith; last = refl; first = byte' ∙ ap (byte_at input) none };
-          used = omega arith;
-          deep = omega arith;
-          len = omega arith;
-          unread = record { same = refl; before = omega arith };
+          capacity = capacity;
+          progress = record {
+            read = record { some = omega arith; within = omega arith; last = refl; first = byte' ∙ ap (byte_at input) none };
+            used = omega arith;
+            deep = omega arith;
+            len = omega arith;
+            unread = record { same = refl; before = omega arith };
+          };
+          depth = omega arith;
+          value = root-value input ps limit stack nodes x some;
         },
-        (ahead-later input e 0 ahead (get_or ps 0 0) (omega arith), (omega arith, (l, (k, root-value input ps limit stack nodes x some)))),
+        ahead-later input e 0 ahead (get_or ps 0 0) (omega arith),
       ),
     )
 

@@ -1,6 +1,8 @@
 -- What the public contracts of the first stage rest on: the blocks that it lists, and how it answers where memory is short.
 pub mod EscapeBlocks
 pub mod Scans
+-- What the second stage's rests on.
+pub mod NodesEnough
 -- What serves the proofs of the first stage alone: only the crate's private clauses cite it.
 pub mod Carries
 pub mod Words

@@ -5,6 +5,7 @@ use Rattle.simd_json_parts.specs.declared.node.Node.{Node}
 use Rattle.simd_json_stages.specs.Building.{AtValue, AtName, AfterValue, Opens}
 use Rattle.simd_json_stages.specs.EscapesAhead.{AreAhead}
 use Rattle.simd_json_stages.specs.Left.{Left}
+use Rattle.simd_json_stages.specs.NodesEnough.{nodes_enough}
 use Rattle.simd_json_stages.specs.Progresses.{IsBefore, IsAfter, IsWithin, reached}
 use Rattle.simd_json_stages.specs.Refusals.{error_type}
 use Rattle.simd_json_stages.specs.declared.stage2.Container.{Container}
@@ -16,21 +17,25 @@ use Rattle.simd_json_stages.specs.declared.stage2.Value.TheVariants.{Opened, Rea
 use Rattle.simd_json_stages.specs.declared.stage2.escapes.Escapes.{Escapes}
 use Rattle.simd_json_stages.specs.declared.stage2.fault.FaultKind.{FaultKind}
 
--- ps are the positions of b, and there is capacity for a node and a frame each
+-- ps are the positions of b, and there is capacity for their nodes and for a frame each
 pub record HasCapacity (b ps : List ℕ) (limit : ℕ) (stack : List StackState) (nodes : List Node) : Type 0 where
   pub positions : ps ≡ positions b
-  pub node_capacity : length ps ≤ length nodes
+  pub node_capacity : nodes_enough (length ps) limit ≤ length nodes
   pub frame_capacity : min (length ps) limit ≤ length stack
+
+-- at the first token of a value
+pub record AtFirst (b ps : List ℕ) (limit : ℕ) (u : Left) (stack : List StackState) (nodes : List Node) (p : Progress) : Type 0 where
+  pub capacity : HasCapacity b ps limit stack nodes
+  pub progress : IsBefore b ps u p
+  pub depth : p.depth ≤ limit
+  pub value : AtValue b ps limit stack nodes p
 
 -- at the first token of an element of an array
 pub record AtElement (b ps : List ℕ) (limit : ℕ) (u : Left) (e : Escapes) (stack : List StackState) (nodes : List Node) (p : Progress) : Type 0 where
-  pub capacity : HasCapacity b ps limit stack nodes
-  pub progress : IsBefore b ps u p
+  pub first : AtFirst b ps limit u stack nodes p
   pub escapes : AreAhead b e p.at
-  pub depth : p.depth ≤ limit
   pub inside : 0 < p.depth
   pub array : p.container ≡ Array
-  pub value : AtValue b ps limit stack nodes p
 
 -- at the first token of a member of an object, where a fault of this kind is reported if it is no name
 pub record AtPair (b ps : List ℕ) (limit : ℕ) (u : Left) (e : Escapes) (stack : List StackState) (nodes : List Node) (p : Progress) (kind : FaultKind) : Type 0 where
@@ -40,14 +45,18 @@ pub record AtPair (b ps : List ℕ) (limit : ℕ) (u : Left) (e : Escapes) (stac
   pub depth : p.depth ≤ limit
   pub name : AtName b ps limit (error_type kind) stack nodes p
 
--- after a member of a container of this kind
-pub record AfterMember (b ps : List ℕ) (limit : ℕ) (u : Left) (stack : List StackState) (nodes : List Node) (p : Progress) (c : Container) : Type 0 where
+-- after a value
+pub record AfterLast (b ps : List ℕ) (limit : ℕ) (u : Left) (stack : List StackState) (nodes : List Node) (p : Progress) : Type 0 where
   pub capacity : HasCapacity b ps limit stack nodes
   pub progress : IsAfter b ps u p
   pub depth : p.depth ≤ limit
+  pub after : AfterValue b ps limit stack nodes p
+
+-- after a member of a container of this kind
+pub record AfterMember (b ps : List ℕ) (limit : ℕ) (u : Left) (stack : List StackState) (nodes : List Node) (p : Progress) (c : Container) : Type 0 where
+  pub last : AfterLast b ps limit u stack nodes p
   pub inside : 0 < p.depth
   pub container : c ≡ p.container
-  pub after : AfterValue b ps limit stack nodes p
 
 abbrev pub IsInside : Value → Type 0
 IsInside (Opened p) = 0 < p.depth

@@ -1,5 +1,5 @@
 -- How far the machine is: bounds on what it counts, and what is unread.
-use Rattle.std.specs.Prelude.{◌≡◌, ◌⊎◌, ◌≤◌, ◌<◌, ℕ, ◌-◌, List, length, slice_index, drop}
+use Rattle.std.specs.Prelude.{◌≡◌, ◌⊎◌, ◌≤◌, ◌<◌, ℕ, ◌+◌, ◌*◌, ◌-◌, List, length, slice_index, drop}
 use Rattle.simd_json_parts.specs.Bytes.{byte_at}
 use Rattle.simd_json_stages.specs.Left.{Left}
 use Rattle.simd_json_stages.specs.declared.stage2.Follower.{Follower}
@@ -26,19 +26,20 @@ pub record IsUnread (b : List ℕ) (u : Left) (at : ℕ) : Type 0 where
   pub same : u.bytes ≡ drop u.at b
   pub before : u.at ≤ at
 
--- Before a value or a name, whose first token is read: a node is left for it. Each open container and each member has a node.
+-- Before a value or a name, whose first token is read: it has no node yet. Nodes are counted twice, as in `nodes_enough`. Each open
+-- container and each member has a node.
 pub record IsBefore (b ps : List ℕ) (u : Left) (p : Progress) : Type 0 where
   pub read : IsRead b ps p
-  pub used : p.used < p.read
+  pub used : 2 * p.used < p.read + p.depth
   pub deep : p.depth ≤ p.used
   pub len : p.len ≤ p.used
   pub unread : IsUnread b u p.at
 
--- After a value: what is unread begins no later than the next position.
+-- After a value, which has a node beside the open containers': what is unread begins no later than the next position.
 pub record IsAfter (b ps : List ℕ) (u : Left) (p : Progress) : Type 0 where
   pub read : IsRead b ps p
-  pub used : p.used ≤ p.read
-  pub deep : p.depth ≤ p.used
+  pub used : 2 * p.used ≤ p.read + p.depth + 1
+  pub deep : p.depth < p.used
   pub len : p.len ≤ p.used
   pub same : u.bytes ≡ drop u.at b
   pub before : p.read < length ps → u.at ≤ slice_index ps p.read
@@ -53,7 +54,7 @@ IsTurned b ps u (turns.Closed p) = IsAfter b ps u p
 
 abbrev pub IsAhead : List ℕ → List ℕ → Left → Follower → Type 0
 IsAhead b ps u (Next p) = IsBefore b ps u p
-IsAhead b ps u (End used) = used ≤ length ps
+IsAhead b ps u (End used) = 2 * used ≤ length ps + 1
 
 abbrev pub reached : Value → Progress
 reached (Opened p) = p

@@ -5,6 +5,7 @@ ghost use Rattle.simd_json_parts.specs.InputFaults.{input_fault};
 ghost use Rattle.simd_json_parts.specs.Positions.{positions};
 ghost use Rattle.simd_json_stages.specs.Building.{IsListed};
 ghost use Rattle.simd_json_stages.specs.EscapeBlocks.{backslash_blocks};
+ghost use Rattle.simd_json_stages.specs.NodesEnough.{nodes_enough};
 ghost use Rattle.simd_json_stages.specs.Refusals.{IsTokenFault};
 
 mod containers;
@@ -101,8 +102,20 @@ fn closes(byte: u8) -> bool
     byte == b']' || byte == b'}'
 }
 
+/// How many nodes are enough for the tape of so many structural positions, with so many containers open at most: one for each
+/// container that may be open, and one for every other of the positions that are left. Never more than there are positions.
+#[tactic(auto, unfolding(crate::specs::NodesEnough::nodes_enough))]
+pub fn nodes_enough(positions: usize, max_depth: usize) -> usize
+    ensures enough { result ≡ nodes_enough positions max_depth }
+    ensures few { result ≤ positions }
+{
+    let open = max_depth.min(positions.saturating_sub(1));
+    open + (positions - open).div_ceil(2)
+}
+
 /// Builds the tape of an input from its structural positions and from the blocks of 64 bytes that hold a backslash: writes
-/// its nodes to the front of `nodes`, and returns how many there are. `stack` holds what is kept of open containers.
+/// its nodes to the front of `nodes`, and returns how many there are; [`nodes_enough`] tells how long that must be. `stack` holds
+/// what is kept of open containers.
 ///
 /// The nodes are the listing of the document that the descent reads. An error is the descent's own fault, with the index
 /// and the character that belong to it; none is for want of memory, and none is of the whole input.
@@ -117,10 +130,11 @@ pub fn build_tape<'de>(
     requires positions { structural_indexes.now ≡ positions input.old }
     requires escapes { escape_blocks.now ≡ backslash_blocks input.old }
     requires whole { input_fault input.old ≡ None }
-    requires nodes { length structural_indexes.now ≤ length nodes.old }
+    requires nodes { nodes_enough (length structural_indexes.now) max_depth ≤ length nodes.old }
     requires stack { min (length structural_indexes.now) max_depth ≤ length stack.old }
     ensures kept { length nodes.new ≡ length nodes.old }
     ensures used { IfOk result (λ used. used ≤ length structural_indexes.now) }
+    ensures within { IfOk result (λ used. used ≤ length nodes.new) }
     ensures built { IfOk result (λ used. IsListed input.old max_depth (take used nodes.new)) }
     ensures refused { IfErr result (λ e. IsTokenFault e × (descent input.old max_depth ≡ Err e)) }
 {

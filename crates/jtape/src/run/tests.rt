@@ -4,6 +4,7 @@ use simd_json::DEFAULT_MAX_DEPTH;
 use std::test::Fail;
 
 mod ends;
+mod lines;
 
 type Tested = std::result::Result<(), Fail>;
 

@@ -1,8 +1,8 @@
 //! The typed accessors: what a value is, as a type of the language.
 //!
-//! Each type `T` of the table has four calls. `as_T` returns the value as a `T`, or `None`; `try_as_T` returns it, or an
-//! error with the kind that was expected and the kind of the value; `get_T` and `try_get_T` ask so of the first value with
-//! a key. Null has the first two alone.
+//! Each type `T` of the table has four calls. `as_T` returns the value as a `T`, or `None`; `try_as_T` returns it, or
+//! an error with the kind that was expected and the kind of the value; `get_T` and `try_get_T` ask so of the first
+//! value with a key. Null has the first two alone.
 //!
 //! | `T` | returned where the value is | an error expects |
 //! |---|---|---|

@@ -4,6 +4,7 @@ use Rattle.std.specs.List.{prefix_len}
 use Rattle.std.proofs.lemmas.Simd.{chunk-drop, length-chunk, leading_from_mask_l, trailing_mask_l, zip2_splat, zip2_of_maps, map-map, mask_l-mod}
 use Rattle.std.proofs.lemmas.List.{length-map}
 use Rattle.std.proofs.lemmas.List.Folds.{prefix_len-append}
+use Rattle.std.proofs.lemmas.List.Sums.{prefix_len-le-length}
 use Rattle.std.proofs.lemmas.Bool.{eq-eqb, ne_eqb, cases_Bool}
 use lib.Bits.{bit_or}
 use lib.Lanes.{chunk, mask_l, zip2, top}
@@ -35,7 +36,7 @@ none-set p (x ∷ xs) e =
           ap (λ t. cond t 1 0 + 2 * mask_l (map p xs)) h ∙ omega arith
     ]
 
--- With a bit set, it ends at the first.
+-- With a bit set, it ends at the first,
 pub run-ends : (p : ℕ → Bool) (d : List ℕ) (i n : ℕ) → i + n ≤ length d → n ≤ 64 → 0 < mask_l (map p (chunk i n d))
     → prefix_len (λ x. not (p x)) (drop i d) ≡ count_trailing_zeros 64 (mask_l (map p (chunk i n d)))
 run-ends p d i n enough short some =
@@ -45,6 +46,14 @@ run-ends p d i n enough short some =
     split p d i n
     ∙ ap (λ b. cond b (length c + run (drop (i + n) d)) (run c)) (ne_eqb _ _ (λ (e : run c ≡ length c). omega (arith, none-set p c e)))
     ∙ sym (trailing_mask_l p 64 c fits some)
+
+-- and inside the vector.
+pub run-within : (p : ℕ → Bool) (d : List ℕ) (i n : ℕ) → i + n ≤ length d → n ≤ 64 → 0 < mask_l (map p (chunk i n d))
+    → count_trailing_zeros 64 (mask_l (map p (chunk i n d))) ≤ n
+run-within p d i n enough short some =
+    let c : List ℕ = chunk i n d in
+    let fits : length c ≤ 64 = omega (arith, length-chunk i n d enough) in
+    omega (arith, trailing_mask_l p 64 c fits some, prefix_len-le-length (λ x. not (p x)) c, length-chunk i n d enough)
 
 -- ---- the mask of two bytes
 

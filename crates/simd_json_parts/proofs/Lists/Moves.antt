@@ -53,6 +53,10 @@ moved-rest old cur new from to done end down short inside m e =
     let all : done + (end - (from + done)) ≡ end - from = omega arith in
     subst (Moved old new from to) all (moved-more old cur new from to done (end - (from + done)) down (omega arith) m e)
 
+-- What is still to be moved is as it stood.
+pub moved-ahead : (old cur : List ℕ) (from to done : ℕ) → to ≤ from → Moved old cur from to done → drop (from + done) cur ≡ drop (from + done) old
+moved-ahead old cur from to done down m = drop-further cur old (to + done) (from + done) (omega arith) m.unread
+
 -- the first part of what was pasted, and more after it
 take-pasted : (xs zs : List ℕ) (to k m : ℕ) → m ≤ k → to + k ≤ length xs → k ≤ length zs → take (to + m) (paste xs to zs k) ≡ take to xs ++ take m zs
 take-pasted xs zs to k m l fits enough =

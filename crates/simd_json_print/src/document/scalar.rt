@@ -1,8 +1,8 @@
 //! What stands between the brackets: scalars, names, and where a line begins.
 ghost use Rattle.simd_json_parts.specs.Nodes.{item_of, string_item};
 ghost use Rattle.simd_json_parts.specs.Printed.{quoted, new_line};
-ghost use Rattle.std.specs.Prelude.{◌≡◌, ◌++◌, ℕ, List, codes};
-ghost use Rattle.simd_json_print.specs.Layout.{line, after_name, scalar_text, static_text};
+ghost use Rattle.std.specs.Prelude.{◌≡◌, ◌<◌, ◌++◌, ℕ, List, codes};
+ghost use Rattle.simd_json_print.specs.Layout.{line, name_text, scalar_text, static_text};
 ghost use Rattle.simd_json_print.specs.Places.{Gives, Grows};
 
 use crate::place::Sink;
@@ -11,10 +11,10 @@ use itoa::{Buffer, Integer};
 use simd_json_parts::node::{Node, StaticNode};
 
 /// A node that is no header of a container.
-pub(crate) fn put_scalar<P, S: Sink<P>>(sink: &mut S, target: &mut P, node: Node<'_>)
-    ensures { Gives (S.place sink.old target.old) (S.place sink.new target.new) (scalar_text (item_of node.entry)) }
+pub(crate) fn put_scalar<P, S: Sink<P>>(sink: &mut S, target: &mut P, node: &Node<'_>)
+    ensures { Gives (S.place sink.old target.old) (S.place sink.new target.new) (scalar_text (item_of node.now)) }
 {
-    match node {
+    match *node {
         Node::Static(value) => put_static(sink, target, value),
         Node::String(string) => put_quoted(sink, target, string),
         Node::Decimal(literal) => sink.put(target, literal.as_bytes()),
@@ -45,9 +45,9 @@ fn put_integer<P, S: Sink<P>, I: Integer>(sink: &mut S, target: &mut P, number: 
 pub(crate) fn put_name<P, S: Sink<P>, const PRETTY: bool>(
     sink: &mut S,
     target: &mut P,
-    node: Node<'_>,
+    node: &Node<'_>,
 )
-    ensures { Gives (S.place sink.old target.old) (S.place sink.new target.new) (scalar_text (item_of node.entry) ++ after_name PRETTY) }
+    ensures { Gives (S.place sink.old target.old) (S.place sink.new target.new) (name_text PRETTY (item_of node.now)) }
 {
     put_scalar(sink, target, node);
     if PRETTY {
@@ -71,11 +71,26 @@ pub(crate) fn put_line<P, S: Sink<P>, const PRETTY: bool>(
     }
 }
 
+// The spaces of four containers at a time, after those of the containers that are no whole four.
 fn put_new_line<P, S: Sink<P>>(sink: &mut S, target: &mut P, depth: usize)
     ensures { Gives (S.place sink.old target.old) (S.place sink.new target.new) (new_line depth) }
 {
-    sink.put(target, b"\n");
-    for _ in 0..depth {
-        sink.put(target, b"  ");
+    put_short_line(sink, target, depth % 4);
+    for _ in 0..depth / 4 {
+        sink.put(target, b"        ");
+    }
+}
+
+// As one piece.
+#[inline(always)]
+fn put_short_line<P, S: Sink<P>>(sink: &mut S, target: &mut P, depth: usize)
+    requires { depth < 4 }
+    ensures { Gives (S.place sink.old target.old) (S.place sink.new target.new) (new_line depth) }
+{
+    match depth {
+        0 => sink.put(target, b"\n"),
+        1 => sink.put(target, b"\n  "),
+        2 => sink.put(target, b"\n    "),
+        _ => sink.put(target, b"\n      "),
     }
 }

@@ -1,5 +1,5 @@
 //! The one walk over the nodes of a document that prints it.
-ghost use Rattle.std.specs.Prelude.{◌≡◌, ◌+◌, ◌<◌, ◌≤◌, ◌^◌, ◌++◌, List, length, map};
+ghost use Rattle.std.specs.Prelude.{◌≡◌, ◌+◌, ◌<◌, ◌≤◌, ◌^◌, ◌++◌, ◌∷◌, List, length, map};
 ghost use Rattle.simd_json_parts.specs.Bytes.{left_bracket};
 ghost use Rattle.simd_json_parts.specs.Document.{Document, Elements, array, Members, object};
 ghost use Rattle.simd_json_parts.specs.Listing.{listing, elements_listing, members_listing};
@@ -31,7 +31,7 @@ pub(crate) fn put_value<P, S: Sink<P>, const PRETTY: bool>(
     match nodes[0] {
         Node::Array { .. } => put_array::<P, S, PRETTY>(sink, target, nodes.split_at(1).1, depth),
         Node::Object { .. } => put_object::<P, S, PRETTY>(sink, target, nodes.split_at(1).1, depth),
-        scalar => put_scalar(sink, target, scalar),
+        _ => put_scalar(sink, target, &nodes[0]),
     }
 }
 
@@ -51,19 +51,18 @@ fn put_array<P, S: Sink<P>, const PRETTY: bool>(
     if nodes.is_empty() {
         return sink.put(target, b"[]");
     }
-    let mut at = 0;
+    let mut left = Unprinted { nodes };
     let mut before = b'[';
-    while at < nodes.len() {
+    while !left.nodes.is_empty() {
         if sink.has_stopped(target) {
             return;
         }
-        let left = nodes.split_at(at).1;
-        let first = left.split_at(size(left)).0;
+        let (first, others) = left.split_value();
         sink.put(target, &[before]);
         put_line::<P, S, PRETTY>(sink, target, depth + 1);
         put_value::<P, S, PRETTY>(sink, target, first, depth + 1);
         before = b',';
-        at += first.len();
+        left = others;
     }
     put_line::<P, S, PRETTY>(sink, target, depth);
     sink.put(target, b"]");
@@ -85,30 +84,63 @@ fn put_object<P, S: Sink<P>, const PRETTY: bool>(
     if nodes.is_empty() {
         return sink.put(target, b"{}");
     }
-    let mut at = 0;
+    let mut left = Unprinted { nodes };
     let mut before = b'{';
-    while at < nodes.len() {
+    while !left.nodes.is_empty() {
         if sink.has_stopped(target) {
             return;
         }
-        let (name, left) = nodes.split_at(at).1.split_at(1);
-        let value = left.split_at(size(left)).0;
+        let (name, values) = left.split_name();
+        let (value, others) = values.split_value();
         sink.put(target, &[before]);
         put_line::<P, S, PRETTY>(sink, target, depth + 1);
-        put_name::<P, S, PRETTY>(sink, target, name[0]);
+        put_name::<P, S, PRETTY>(sink, target, name);
         put_value::<P, S, PRETTY>(sink, target, value, depth + 1);
         before = b',';
-        at += 1 + value.len();
+        left = others;
     }
     put_line::<P, S, PRETTY>(sink, target, depth);
     sink.put(target, b"}");
+}
+
+// The nodes of a container that are not printed yet. What a loop of the walk keeps is on the stack for each open
+// container, so it is these alone, and no index beside all of them.
+#[derive(Clone, Copy)]
+struct Unprinted<'tape, 'input> {
+    nodes: &'tape [Node<'input>],
+}
+
+impl<'tape, 'input> Unprinted<'tape, 'input> {
+    // The nodes of the first value, and what is left after it.
+    #[inline(always)]
+    fn split_value(self) -> (&'tape [Node<'input>], Unprinted<'tape, 'input>)
+        ensures some { 0 < length self.entry.nodes.now → 0 < length result.0.now }
+        ensures all { length result.0.now + length result.1.nodes.now ≡ length self.entry.nodes.now }
+        ensures whole { (d : Document) (rest : List Item) → map item_of self.entry.nodes.now ≡ listing d ++ rest
+            → (map item_of result.0.now ≡ listing d) × (map item_of result.1.nodes.now ≡ rest) }
+    {
+        let (value, nodes) = self.nodes.split_at(size(self.nodes));
+        (value, Unprinted { nodes })
+    }
+
+    // The first node, and what is left after it.
+    #[inline(always)]
+    fn split_name(self) -> (&'tape Node<'input>, Unprinted<'tape, 'input>)
+        requires { 0 < length self.nodes.now }
+        ensures all { 1 + length result.1.nodes.now ≡ length self.entry.nodes.now }
+        ensures whole { map item_of self.entry.nodes.now ≡ item_of result.0.now ∷ map item_of result.1.nodes.now }
+    {
+        let (name, nodes) = self.nodes.split_at(1);
+        (&name[0], Unprinted { nodes })
+    }
 }
 
 // How many of the nodes are the first value, at most all.
 fn size(nodes: &[Node<'_>]) -> usize
     ensures within { result ≤ length nodes.now }
     ensures some { 0 < length nodes.now → 0 < result }
-    ensures whole { (d : Document) (rest : List Item) → map item_of nodes.now ≡ listing d ++ rest → result ≡ length (listing d) }
+    ensures whole { (d : Document) (rest : List Item) → map item_of nodes.now ≡ listing d ++ rest
+        → result ≡ length (listing d) }
 {
     if nodes.is_empty() {
         return 0;

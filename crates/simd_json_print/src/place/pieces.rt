@@ -1,32 +1,30 @@
 //! Text on its way to a writer: it is collected, and handed over in pieces.
-ghost use Rattle.std.specs.Prelude.{◌≡◌, ◌+◌, ◌≤◌, [], ◌++◌, length, OnOk};
+ghost use Rattle.std.specs.Prelude.{◌≡◌, ◌+◌, ◌≤◌, [], ◌++◌, length, OnOk, IsTrue};
 ghost use Rattle.simd_json_print.specs.Sent.{Sends};
 
 use std::io;
 use std::io::{ErrorKind, Write};
 use std::marker::Model;
 
-const SIZE: usize = 4096;
-
-// What is not yet handed over.
+// What is not yet handed over, at most `SIZE` bytes.
 #[derive(Drop)]
-pub(crate) struct Pieces {
+pub(crate) struct Pieces<const SIZE: usize> {
     bytes: [u8; SIZE],
     used: usize,
 }
 
-impl Model for Pieces {
+impl<const SIZE: usize> Model for Pieces<SIZE> {
     ghost use Rattle.std.specs.Prelude.{List, ℕ, ◌≤◌, take};
 
     ghost Value = { List ℕ };
 
     ghost view = { λ p. take p.used p.bytes };
 
-    ghost invariant = { λ p. p.used ≤ 4096 };
+    ghost invariant = { λ p. p.used ≤ SIZE };
 }
 
-impl Pieces {
-    pub(crate) fn new() -> Pieces
+impl<const SIZE: usize> Pieces<SIZE> {
+    pub(crate) fn new() -> Pieces<SIZE>
         ensures { result ≡ [] }
     {
         Pieces {
@@ -35,31 +33,27 @@ impl Pieces {
         }
     }
 
+    // Whether there is capacity for these bytes after those that are there.
     #[inline(always)]
-    pub(crate) fn put<W: Write>(&mut self, writer: &mut W, bytes: &[u8]) -> io::Result<()>
-        ensures { Sends result (W.contents writer.old) self.old (W.contents writer.new) self.new bytes.now }
+    pub(crate) fn fits(&self, bytes: &[u8]) -> bool
+        ensures { IsTrue result → length self.now + length bytes.now ≤ SIZE }
     {
-        if bytes.len() > SIZE - self.used {
-            return self.put_past(writer, bytes);
-        }
-        self.collect(bytes);
-        Ok(())
+        bytes.len() <= SIZE - self.used
     }
 
     #[inline(always)]
-    fn collect(&mut self, bytes: &[u8])
-        requires { length self.old + length bytes.now ≤ 4096 }
+    pub(crate) fn collect(&mut self, bytes: &[u8])
+        requires { length self.old + length bytes.now ≤ SIZE }
         ensures { self.new ≡ self.old ++ bytes.now }
     {
         let end = self.used + bytes.len();
-        self.bytes[self.used..end].copy_from_slice(bytes);
+        let all = &mut self.bytes[..];
+        all[self.used..end].copy_from_slice(bytes);
         self.used = end;
     }
 
-    // What does not fit after the bytes that are there.
-    #[cold]
-    #[inline(never)]
-    fn put_past<W: Write>(&mut self, writer: &mut W, bytes: &[u8]) -> io::Result<()>
+    // Hands over the bytes that are there, and these ones too where they are more than a piece.
+    pub(crate) fn put_past<W: Write>(&mut self, writer: &mut W, bytes: &[u8]) -> io::Result<()>
         ensures { Sends result (W.contents writer.old) self.old (W.contents writer.new) self.new bytes.now }
     {
         self.flush(writer)?;

@@ -111,7 +111,8 @@ fn put_byte<P, S: Sink<P>>(sink: &mut S, target: &mut P, byte: u8)
 // A byte below 0x20 by its number.
 fn put_control<P, S: Sink<P>>(sink: &mut S, target: &mut P, byte: u8)
     requires { byte < 32 }
-    ensures { Gives (S.place sink.old target.old) (S.place sink.new target.new) (codes "\\u00" ++ digit_char (byte / 16) ∷ digit_char (byte % 16) ∷ []) }
+    ensures { Gives (S.place sink.old target.old) (S.place sink.new target.new)
+        (codes "\\u00" ++ digit_char (byte / 16) ∷ digit_char (byte % 16) ∷ []) }
 {
     let tens = if byte < 16 { b'0' } else { b'1' };
     sink.put(

@@ -1,31 +1,41 @@
 //! A writer as a place: text is collected for it, until it stops.
-ghost use Rattle.std.specs.Prelude.{Some, None, cond, []};
 
 use crate::place::Sink;
 use crate::place::pieces::Pieces;
 use std::io;
 use std::io::{ErrorKind, Write};
+use std::marker::Model;
 
-/// What is collected, whether the writer has stopped, and its error then.
+/// What is collected for a writer, at most `SIZE` bytes, or the error with which it stopped. Contracts see the bytes, or `None`
+/// where it has stopped.
+///
+/// Text that is given goes to the writer in pieces: as soon as no more fits, and at the end by [`finish`](Writing::finish).
+/// Where the writer fails, or takes no byte of a piece that is not empty, it has stopped, and is called no more. It takes no
+/// memory.
 #[derive(Drop)]
-pub(crate) struct Writing {
-    pieces: Pieces,
+pub struct Writing<const SIZE: usize> {
+    pieces: Pieces<SIZE>,
     has_stopped: bool,
     fault: io::Error,
 }
 
-impl<W: Write> Sink<W> for Writing {
-    ghost place = { λ s w. (W.contents w, cond s.has_stopped None (Some s.pieces)) };
+impl<const SIZE: usize> Model for Writing<SIZE> {
+    ghost use Rattle.std.specs.Prelude.{ℕ, List, Option, Some, None, cond};
+
+    ghost Value = { Option (List ℕ) };
+
+    ghost view = { λ s. cond s.has_stopped None (Some s.pieces) };
+}
+
+impl<W: Write, const SIZE: usize> Sink<W> for Writing<SIZE> {
+    ghost place = { λ s w. (W.contents w, s) };
 
     #[inline(always)]
     fn put(&mut self, target: &mut W, bytes: &[u8]) {
-        if self.has_stopped {
-            return;
+        if self.has_stopped || !self.pieces.fits(bytes) {
+            return self.put_past(target, bytes);
         }
-        if let Err(fault) = self.pieces.put(target, bytes) {
-            self.has_stopped = true;
-            self.fault = fault;
-        }
+        self.pieces.collect(bytes);
     }
 
     #[inline(always)]
@@ -34,14 +44,14 @@ impl<W: Write> Sink<W> for Writing {
     }
 }
 
-impl Writing {
-    ghost use Rattle.std.specs.Prelude.{◌≡◌, ℕ, List, Option, Some, None, cond, [], false, take, OnOk, OnErr};
+impl<const SIZE: usize> Writing<SIZE> {
+    ghost use Rattle.std.specs.Prelude.{◌≡◌, ℕ, List, Option, Some, [], take, OnOk, OnErr};
     ghost use Rattle.std.specs.Io.KnownBytes.{Appends};
     ghost use Rattle.simd_json_print.specs.Places.{Gives};
 
-    pub(crate) fn new() -> Writing
-        ensures pieces { result.pieces ≡ [] }
-        ensures stopped { result.has_stopped ≡ false }
+    /// For a writer that has not stopped, with nothing collected.
+    pub fn new() -> Writing<SIZE>
+        ensures { result ≡ Some [] }
     {
         Writing {
             pieces: Pieces::new(),
@@ -50,11 +60,28 @@ impl Writing {
         }
     }
 
-    /// Hands over what is left. An error where the writer stopped, now or before.
-    pub(crate) fn finish<W: Write>(&mut self, writer: &mut W) -> io::Result<()>
-        ensures all { (bytes : List ℕ) (before : Option (List ℕ)) → Gives (before, Some []) (W.contents writer.old, cond self.old.has_stopped None (Some self.old.pieces)) bytes
+    // What does not fit, and what is dropped. It is out of line with its error, since what a put keeps is on the stack for each
+    // open container.
+    #[cold]
+    #[inline(never)]
+    fn put_past<W: Write>(&mut self, writer: &mut W, bytes: &[u8])
+        ensures { Gives (W.contents writer.old, self.old) (W.contents writer.new, self.new) bytes.now }
+    {
+        if self.has_stopped {
+            return;
+        }
+        if let Err(fault) = self.pieces.put_past(writer, bytes) {
+            self.has_stopped = true;
+            self.fault = fault;
+        }
+    }
+
+    /// Hands over what is left. An error where the writer stopped, now or before: its own, or one of kind `WriteZero`. It then
+    /// holds a beginning of all that was given.
+    pub fn finish<W: Write>(&mut self, writer: &mut W) -> io::Result<()>
+        ensures all { (bytes : List ℕ) (before : Option (List ℕ)) → Gives (before, Some []) (W.contents writer.old, self.old) bytes
             → OnOk result (Appends before (W.contents writer.new) bytes) }
-        ensures some { (bytes : List ℕ) (before : Option (List ℕ)) → Gives (before, Some []) (W.contents writer.old, cond self.old.has_stopped None (Some self.old.pieces)) bytes
+        ensures some { (bytes : List ℕ) (before : Option (List ℕ)) → Gives (before, Some []) (W.contents writer.old, self.old) bytes
             → OnErr result ((count : ℕ) × Appends before (W.contents writer.new) (take count bytes)) }
     {
         if self.has_stopped {

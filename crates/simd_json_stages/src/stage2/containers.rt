@@ -1,8 +1,8 @@
 //! Containers open and close.
-ghost use Rattle.std.specs.Prelude.{◌≡◌, ◌<◌, ◌≤◌, ◌+◌, ◌-◌, ℕ, List, length, min, IfOk, IfErr, IsTrue};
-ghost use Rattle.simd_json_parts.specs.Positions.{positions};
-ghost use Rattle.simd_json_stages.specs.Building.{AtValue, Opens, Tells, top, patch, closer};
-ghost use Rattle.simd_json_stages.specs.Progresses.{EndsClosed, IsBefore, IsWithin, Advances};
+ghost use Rattle.std.specs.Prelude.{◌≡◌, ◌<◌, ◌≤◌, ◌+◌, ◌-◌, ℕ, List, length, IfOk, IfErr, IsTrue};
+ghost use Rattle.simd_json_stages.specs.Building.{Opens, Tells, top, patch, closer};
+ghost use Rattle.simd_json_stages.specs.Members.{AtFirst};
+ghost use Rattle.simd_json_stages.specs.Progresses.{EndsClosed, IsWithin, Advances};
 
 use super::fault::{Fault, FaultKind};
 use super::unread::Unread;
@@ -11,6 +11,7 @@ use simd_json_parts::node::Node;
 
 // The container that opens at the last token: the token after it tells whether it is empty.
 #[inline(always)]
+#[tactic(auto, unfolding(crate::specs::NodesEnough::nodes_enough))]
 pub(super) fn open<'de>(
     unread: &Unread<'de>,
     indexes: &[u32],
@@ -23,13 +24,8 @@ pub(super) fn open<'de>(
 ) -> std::result::Result<Value, Fault>
     ghost b: { List ℕ }
     requires closed { IsTrue closed → EndsClosed b indexes.now }
-    requires input { indexes.now ≡ positions b }
-    requires progress { IsBefore b indexes.now unread.now p }
+    requires value { AtFirst b indexes.now max_depth unread.now stack.old nodes.old p }
     requires opener { p.byte + 2 ≡ closer container }
-    requires depth { p.depth ≤ max_depth }
-    requires nodes { length indexes.now ≤ length nodes.old }
-    requires stack { min (length indexes.now) max_depth ≤ length stack.old }
-    requires value { AtValue b indexes.now max_depth stack.old nodes.old p }
     ensures kept { (length nodes.new ≡ length nodes.old) × (length stack.new ≡ length stack.old) }
     ensures progress { IfOk result (IsWithin b indexes.now unread.now) }
     ensures advances { IfOk result (Advances max_depth p) }

@@ -1,11 +1,10 @@
 //! The machine: a loop for the elements of an array, one for the members of an object, and one round both.
-ghost use Rattle.std.specs.Prelude.{◌≡◌, ◌<◌, ◌≤◌, ℕ, List, length, min, None, IfOk, IfErr, IsTrue};
+ghost use Rattle.std.specs.Prelude.{◌≡◌, ◌<◌, ◌≤◌, ◌+◌, ◌*◌, ℕ, List, length, None, IfOk, IfErr, IsTrue};
 ghost use Rattle.simd_json_parts.specs.InputFaults.{input_fault};
-ghost use Rattle.simd_json_parts.specs.Positions.{positions};
-ghost use Rattle.simd_json_stages.specs.Building.{AtValue, IsBuilt, Tells};
+ghost use Rattle.simd_json_stages.specs.Building.{IsBuilt, Tells};
 ghost use Rattle.simd_json_stages.specs.EscapesAhead.{AreAhead};
-ghost use Rattle.simd_json_stages.specs.Progresses.{EndsClosed, IsBefore, reached};
-ghost use Rattle.simd_json_stages.specs.Members.{AtElement, AtPair, HasCome};
+ghost use Rattle.simd_json_stages.specs.Progresses.{EndsClosed, reached};
+ghost use Rattle.simd_json_stages.specs.Members.{AtFirst, AtElement, AtPair, HasCome};
 
 use super::escapes::Escapes;
 use super::fault::{Fault, FaultKind};
@@ -124,15 +123,11 @@ fn build<'de, const CLOSED: bool>(
 ) -> std::result::Result<usize, Fault>
     ghost b: { List ℕ }
     requires closed { IsTrue CLOSED → EndsClosed b indexes.now }
-    requires input { (indexes.now ≡ positions b) × (input_fault b ≡ None) }
-    requires progress { IsBefore b indexes.now unread.old first }
+    requires whole { input_fault b ≡ None }
+    requires value { AtFirst b indexes.now max_depth unread.old stack.old nodes.old first }
     requires escapes { AreAhead b escapes.old first.at }
-    requires depth { first.depth ≤ max_depth }
-    requires nodes { length indexes.now ≤ length nodes.old }
-    requires stack { min (length indexes.now) max_depth ≤ length stack.old }
-    requires value { AtValue b indexes.now max_depth stack.old nodes.old first }
     ensures kept { length nodes.new ≡ length nodes.old }
-    ensures used { IfOk result (λ used. used ≤ length indexes.now) }
+    ensures used { IfOk result (λ used. 2 * used ≤ length indexes.now + 1) }
     ensures built { IfOk result (IsBuilt b indexes.now max_depth nodes.new) }
     ensures refused { IfErr result (Tells b indexes.now max_depth) }
 {
@@ -174,15 +169,11 @@ pub(super) fn build_by_end<'de>(
 ) -> std::result::Result<usize, Fault>
     ghost b: { List ℕ }
     requires closed { IsTrue closed → EndsClosed b indexes.now }
-    requires input { (indexes.now ≡ positions b) × (input_fault b ≡ None) }
-    requires progress { IsBefore b indexes.now unread.old first }
+    requires whole { input_fault b ≡ None }
+    requires value { AtFirst b indexes.now max_depth unread.old stack.old nodes.old first }
     requires escapes { AreAhead b escapes.old first.at }
-    requires depth { first.depth ≤ max_depth }
-    requires nodes { length indexes.now ≤ length nodes.old }
-    requires stack { min (length indexes.now) max_depth ≤ length stack.old }
-    requires value { AtValue b indexes.now max_depth stack.old nodes.old first }
     ensures kept { length nodes.new ≡ length nodes.old }
-    ensures used { IfOk result (λ used. used ≤ length indexes.now) }
+    ensures used { IfOk result (λ used. 2 * used ≤ length indexes.now + 1) }
     ensures built { IfOk result (IsBuilt b indexes.now max_depth nodes.new) }
     ensures refused { IfErr result (Tells b indexes.now max_depth) }
 {

@@ -34,7 +34,7 @@ pub(super) fn read_name<'de>(
     requires progress { IsBefore b indexes.now unread.old p }
     requires escapes { AreAhead b escapes.old p.at }
     requires token { Contains (tokens b) (record { index = p.at; form = form_at b p.at }) }
-    requires nodes { length indexes.now ≤ length nodes.old }
+    requires capacity { p.used < length nodes.old }
     ensures kept { length nodes.new ≡ length nodes.old }
     ensures escapes { AreAhead b escapes.new p.at }
     ensures progress { IfOk result (IsBefore b indexes.now unread.new) }

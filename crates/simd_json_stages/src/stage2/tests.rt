@@ -5,7 +5,9 @@ use simd_json_parts::node::StaticNode;
 use std::alloc::Global;
 use std::test::Fail;
 
-// The tape of an input, by the first stage.
+mod capacity;
+
+// The tape of an input, by the first stage, in just as many nodes as are enough.
 fn tape_of<'de>(alloc: Global, input: &'de mut [u8], max_depth: usize) -> Result<Vec<Node<'de>>> {
     let mut positions = Vec::new(alloc);
     let mut blocks = Vec::new(alloc);
@@ -13,7 +15,10 @@ fn tape_of<'de>(alloc: Global, input: &'de mut [u8], max_depth: usize) -> Result
     let mut stack = Vec::new(alloc);
     stack.resize(found.positions.min(max_depth), StackState::default())?;
     let mut nodes = Vec::new(alloc);
-    nodes.resize(found.positions, Node::Static(StaticNode::Null))?;
+    nodes.resize(
+        nodes_enough(found.positions, max_depth),
+        Node::Static(StaticNode::Null),
+    )?;
     let used = build_tape(
         input,
         &positions[..found.positions],

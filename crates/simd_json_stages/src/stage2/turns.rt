@@ -1,10 +1,9 @@
 //! What follows a member of a container, and a value.
-ghost use Rattle.std.specs.Prelude.{◌≡◌, ◌≢◌, ◌<◌, ◌≤◌, ◌+◌, ◌-◌, ◌^◌, ℕ, List, length, min, slice_index, IfOk, IfErr, MatchResult, IsTrue};
+ghost use Rattle.std.specs.Prelude.{◌≡◌, ◌≢◌, ◌<◌, ◌≤◌, ◌+◌, ◌-◌, ◌^◌, ℕ, List, length, slice_index, IfOk, IfErr, MatchResult, IsTrue};
 ghost use Rattle.simd_json_parts.specs.Bytes.{byte_at};
-ghost use Rattle.simd_json_parts.specs.Positions.{positions};
-ghost use Rattle.simd_json_stages.specs.Building.{AfterValue, Goes, Takes, Tells, end_kind};
-ghost use Rattle.simd_json_stages.specs.Progresses.{EndsClosed, IsAfter, IsTurned, IsAhead, Turns, Passes};
-ghost use Rattle.simd_json_stages.specs.Members.{AfterMember};
+ghost use Rattle.simd_json_stages.specs.Building.{Goes, Takes, Tells, end_kind};
+ghost use Rattle.simd_json_stages.specs.Progresses.{EndsClosed, IsTurned, IsAhead, Turns, Passes};
+ghost use Rattle.simd_json_stages.specs.Members.{AfterLast, AfterMember};
 
 use super::containers::close;
 use super::fault::{Fault, FaultKind};
@@ -41,6 +40,7 @@ fn next_member<'de>(
 
 // After a member of a container of this kind: a comma and the first token of the next member, or the closing bracket.
 #[inline(always)]
+#[tactic(auto, unfolding(crate::specs::NodesEnough::nodes_enough))]
 pub(super) fn after_member<'de>(
     unread: &Unread<'de>,
     indexes: &[u32],
@@ -77,6 +77,7 @@ pub(super) fn after_member<'de>(
 
 // After a value: closing brackets, and then a comma with the next member, or the end of the root.
 #[inline(always)]
+#[tactic(auto, unfolding(crate::specs::NodesEnough::nodes_enough))]
 pub(super) fn follow<'de>(
     unread: &Unread<'de>,
     indexes: &[u32],
@@ -88,12 +89,7 @@ pub(super) fn follow<'de>(
 ) -> std::result::Result<Follower, Fault>
     ghost b: { List ℕ }
     requires closed { IsTrue closed → EndsClosed b indexes.now }
-    requires input { indexes.now ≡ positions b }
-    requires progress { IsAfter b indexes.now unread.now p }
-    requires depth { p.depth ≤ max_depth }
-    requires nodes { length indexes.now ≤ length nodes.old }
-    requires stack { min (length indexes.now) max_depth ≤ length stack.now }
-    requires after { AfterValue b indexes.now max_depth stack.now nodes.old p }
+    requires value { AfterLast b indexes.now max_depth unread.now stack.now nodes.old p }
     ensures kept { length nodes.new ≡ length nodes.old }
     ensures progress { IfOk result (IsAhead b indexes.now unread.now) }
     ensures passes { IfOk result (Passes p) }

@@ -1,11 +1,11 @@
 //! Values, from their first token on.
-ghost use Rattle.std.specs.Prelude.{◌≡◌, ◌≢◌, ◌<◌, ◌≤◌, ℕ, List, length, min, None, IfOk, IfErr, OnOk, IsTrue};
+ghost use Rattle.std.specs.Prelude.{◌≡◌, ◌≢◌, ◌<◌, ℕ, List, length, None, IfOk, IfErr, OnOk, IsTrue};
 ghost use Rattle.simd_json_parts.specs.Bytes.{byte_at};
 ghost use Rattle.simd_json_parts.specs.InputFaults.{input_fault};
-ghost use Rattle.simd_json_parts.specs.Positions.{positions};
-ghost use Rattle.simd_json_stages.specs.Building.{AtValue, Opens, Tells};
+ghost use Rattle.simd_json_stages.specs.Building.{Opens, Tells};
 ghost use Rattle.simd_json_stages.specs.EscapesAhead.{AreAhead};
-ghost use Rattle.simd_json_stages.specs.Progresses.{EndsClosed, IsUnread, IsBefore, IsWithin, Advances};
+ghost use Rattle.simd_json_stages.specs.Members.{AtFirst};
+ghost use Rattle.simd_json_stages.specs.Progresses.{EndsClosed, IsUnread, IsWithin, Advances};
 ghost use Rattle.simd_json_stages.specs.Put.{IsScalarPut, IsNoScalar};
 
 use super::containers::open;
@@ -55,13 +55,9 @@ pub(super) fn read_value<'de>(
 ) -> std::result::Result<Value, Fault>
     ghost b: { List ℕ }
     requires closed { IsTrue closed → EndsClosed b indexes.now }
-    requires input { (indexes.now ≡ positions b) × (input_fault b ≡ None) }
-    requires progress { IsBefore b indexes.now unread.old p }
+    requires whole { input_fault b ≡ None }
+    requires value { AtFirst b indexes.now max_depth unread.old stack.old nodes.old p }
     requires escapes { AreAhead b escapes.old p.at }
-    requires depth { p.depth ≤ max_depth }
-    requires nodes { length indexes.now ≤ length nodes.old }
-    requires stack { min (length indexes.now) max_depth ≤ length stack.old }
-    requires value { AtValue b indexes.now max_depth stack.old nodes.old p }
     ensures kept { (length nodes.new ≡ length nodes.old) × (length stack.new ≡ length stack.old) }
     ensures escapes { AreAhead b escapes.new p.at }
     ensures progress { IfOk result (IsWithin b indexes.now unread.new) }

@@ -66,28 +66,45 @@ fn printed_values_are_parsed_again(rt: HostRuntime) -> Tested {
     Ok(())
 }
 
-// Each heap is larger than the one before, so that another growth of the text is refused, and then none.
+// Each row is a layout and the text in it. Each heap is larger than the one before, so that another growth of the text is
+// refused, and then none.
 #[test]
 fn each_growth_is_refused(rt: HostRuntime) -> Tested {
     let mut input = *b"[\"0123456789012345678901234567890123456789\",[[[1,2,3,4,5,6,7,8]]]]";
-    let whole = input;
+    let rows = [
+        (
+            false,
+            "[\"0123456789012345678901234567890123456789\",[[[1,2,3,4,5,6,7,8]]]]",
+        ),
+        (
+            true,
+            "[\n  \"0123456789012345678901234567890123456789\",\n  [\n    [\n      [\n        1,\n        2,\n        3,\n        4,\n        5,\n        6,\n        7,\n        8\n      ]\n    ]\n  ]\n]",
+        ),
+    ];
     let tape = to_tape(rt.alloc(), &mut input)?;
-    let (mut refused, mut printed) = (0u32, 0u32);
-    for units in 0..32usize {
-        let heap = LocalHeap::new(rt.alloc(), 64 + units * 16)?;
-        match tape.as_value().encode(&heap) {
-            Ok(text) => {
-                assert_eq!(rt; text.as_bytes(), whole.as_slice());
-                printed = printed.saturating_add(1);
+    for (is_pretty, whole) in rows {
+        let (mut refused, mut printed) = (0u32, 0u32);
+        for units in 0..48usize {
+            let heap = LocalHeap::new(rt.alloc(), 64 + units * 16)?;
+            let text = if is_pretty {
+                tape.as_value().encode_pp(&heap)
+            } else {
+                tape.as_value().encode(&heap)
+            };
+            match text {
+                Ok(text) => {
+                    assert_eq!(rt; text.as_str(), whole);
+                    printed = printed.saturating_add(1);
+                }
+                Err(e) => {
+                    assert_eq!(rt; e, Error::generic(ErrorType::OutOfMemory));
+                    refused = refused.saturating_add(1);
+                }
             }
-            Err(e) => {
-                assert_eq!(rt; e, Error::generic(ErrorType::OutOfMemory));
-                refused = refused.saturating_add(1);
-            }
+            assert_eq!(rt; heap.used(), 0);
         }
-        assert_eq!(rt; heap.used(), 0);
+        assert!(rt; refused > 0 && printed > 0, "{whole}: {refused}, {printed}");
     }
-    assert!(rt; refused > 0 && printed > 0, "{refused}, {printed}");
     Ok(())
 }
 

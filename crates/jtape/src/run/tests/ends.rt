@@ -5,6 +5,14 @@ use simd_json::{Error, ErrorType};
 use std::io;
 use std::process::Abort;
 
+const ALL_MODES: [Mode; 5] = [
+    Mode::Tape,
+    Mode::Positions,
+    Mode::Compact,
+    Mode::Pretty,
+    Mode::Lines,
+];
+
 // Gives its bytes one at a time, and fails after them if it is asked to.
 #[derive(Drop)]
 struct Slow<'a> {
@@ -36,7 +44,7 @@ impl Read for Slow<'_> {
 fn failing_readers_print_nothing(rt: HostRuntime) {
     let rows: [&[u8]; 3] = [b"", b"[1,", b"[1]"];
     for rest in rows {
-        for mode in MODES {
+        for mode in ALL_MODES {
             let mut reader = Port::new(Slow { rest, fails: true });
             let mut writer = Port::new(Vec::new(rt.alloc()));
             let answer = run(
@@ -116,11 +124,12 @@ fn run_into(
 // is called no more.
 #[test]
 fn failing_writers_are_reported(rt: HostRuntime) {
-    let rows: [(Mode, &[u8]); 4] = [
+    let rows: [(Mode, &[u8]); 5] = [
         (Mode::Tape, b"Array 2 2\nU64 1\nU64 2\n"),
         (Mode::Positions, b"0\n1\n2\n3\n4\n"),
         (Mode::Compact, b"[1,2]\n"),
         (Mode::Pretty, b"[\n  1,\n  2\n]\n"),
+        (Mode::Lines, b"[1,2]\n"),
     ];
     for (mode, output) in rows {
         let calls = output.len().div_ceil(3);
@@ -141,6 +150,58 @@ fn failing_writers_are_reported(rt: HostRuntime) {
             assert_eq!(rt; writer.taken.as_slice(), output);
         }
     }
+}
+
+// Takes so many bytes in all, and then none.
+#[derive(Drop)]
+struct Short {
+    taken: Vec<u8>,
+    room: usize,
+}
+
+impl Write for Short {
+    fn write(&mut self, buf: &[u8]) -> io::Result<usize> {
+        let piece = &buf[..buf.len().min(self.room)];
+        self.taken.extend_from_slice(piece)?;
+        self.room -= piece.len();
+        Ok(piece.len())
+    }
+
+    fn flush(&mut self) -> io::Result<()> {
+        Ok(())
+    }
+}
+
+// A writer that is full in the midst of a large output has a beginning of it.
+#[test]
+fn large_outputs_are_begun(rt: HostRuntime) -> Tested {
+    let mut input = Vec::from_slice(rt.alloc(), b"[0")?;
+    for _ in 0..40_000 {
+        input.extend_from_slice(b",\"abc\"")?;
+    }
+    input.push(b']')?;
+    for mode in MODES {
+        let whole = run_over(&rt, mode, input.as_slice()).written;
+        for room in [0, 1, 65_535, 65_536, 65_537, 200_000, whole.len()] {
+            let mut reader = Port::new(input.as_slice());
+            let mut writer = Port::new(Short {
+                taken: Vec::new(rt.alloc()),
+                room,
+            });
+            let answer = run(
+                rt.alloc(),
+                mode,
+                DEFAULT_MAX_DEPTH,
+                &mut reader,
+                &mut writer,
+            );
+            assert_eq!(rt; answer.is_ok(), room == whole.len());
+            assert_eq!(rt; writer.failed(), answer.is_err());
+            let taken = writer.into_inner().taken;
+            assert_eq!(rt; Some(taken.as_slice()), whole.as_slice().get(..room));
+        }
+    }
+    Ok(())
 }
 
 const LONG: &[u8] = b"[1,\"\\n\",[2,3,4],5,6,7,8,9,10,11,12,13,14,15,16,1.5]";

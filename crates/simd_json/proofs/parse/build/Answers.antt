@@ -1,4 +1,4 @@
-use Rattle.std.proofs.Common.{◌∙◌, ap, sym, subst, arith, take, length, inl, map}
+use Rattle.std.proofs.Common.{◌∙◌, ap, sym, subst, take, length, inl, map}
 use Rattle.simd_json_parts.proofs.Faults.Kinds.{token-fault}
 use Rattle.simd_json_parts.specs.Nodes.{item_of}
 use Rattle.simd_json.specs.Parsed.{IsParsed, IsRefused}
@@ -27,7 +27,7 @@ pub invariant_of-tape-2 : goal.invariant_of-tape-2
 invariant_of-tape-2 g c =
     let list = c.tape.inside.list in
     let same = c.in_ok-tape-inside.ensures.kept ∙ ap length c.as_mut_slice-2.ensures.value in
-    tape-filled list.items c.build_tape.new.nodes c.in_ok-tape-inside.field-0 list.len list.ok.0 same (omega (arith, same, c.in_ok-tape-inside.ensures.used, ap length (ap (take c.buffers.inside.used) c.deref.ensures.value ∙ ap (λ r. r.positions) c.buffers.view_is ∙ c.requires.positions.0), c.requires.nodes, ap (λ t. t.capacity) c.tape.view_is))
+    tape-filled list.items c.build_tape.new.nodes c.in_ok-tape-inside.field-0 list.len list.ok.0 same c.in_ok-tape-inside.ensures.within
     (tape-parsed c.args.s.now c.buffers.inside.max_depth _ (parsed c.args.s.now c.buffers.inside.max_depth _ c.requires.positions.1 c.in_ok-tape-inside.ensures.built))
 
 pub returns-clause-tape : goal.returns-clause-tape

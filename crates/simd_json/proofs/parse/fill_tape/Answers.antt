@@ -1,4 +1,4 @@
-use Rattle.std.proofs.Common.{◌∙◌, ◌<◌, ap, length, subst}
+use Rattle.std.proofs.Common.{◌∙◌, ap, length, subst, arith}
 use Rattle.std.specs.Result.{IfErr, OnOk}
 use Rattle.simd_json_parts.specs.FaultKinds.{IsOfToken}
 use Rattle.simd_json.specs.Parsed.{IsParsed, IsRefused}
@@ -14,9 +14,9 @@ returns-in_err-find_positions-clause-parse g c =
 pub returns-in-Err-clause-parse : goal.returns-in-Err-clause-parse
 returns-in-Err-clause-parse g c =
     let found = c.in_ok-find_positions.ensures.found in
-    parse-short c.refuse.result c.args.s.now c.args.buffers.now.limit c.args.tape.now.capacity (capacity c.args.buffers.now) (length c.structural_indexes.result.now) _ _ _ c.refuse.ensures.refused found.1 c.in-Err.ensures.fault.0
-    (subst (λ r. r < length c.structural_indexes.result.now) (ap (λ t. t.capacity) c.clear.ensures) c.in-Err.ensures.fault.1)
-    (ap length (c.structural_indexes.ensures ∙ found.0))
+    parse-short c.refuse.result c.args.s.now c.args.buffers.now.limit c.args.tape.now.capacity (capacity c.args.buffers.now) (length c.structural_indexes-positions.result.now) _ _ _ c.refuse.ensures.refused found.1 c.in-Err.ensures.fault.0
+    (omega (arith, c.nodes_enough.ensures.few, c.in-Err.ensures.fault.1, ap (λ t. t.capacity) c.clear.ensures))
+    (ap length (c.structural_indexes-positions.ensures ∙ found.0))
     (ap (λ t. t.nodes) c.refuse.ensures.nodes)
     (ap (λ r. r.positions) c.refuse.ensures.positions)
 

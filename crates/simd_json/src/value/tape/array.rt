@@ -58,7 +58,8 @@ impl<'tape, 'input> Array<'tape, 'input> {
 
     // The first value, and the array of the others.
     fn split_first(self) -> Option<(Value<'tape, 'input>, Array<'tape, 'input>)>
-        ensures { MatchOption result (docs self.entry ≡ no_elements) (λ r. docs self.entry ≡ element (doc r.0) (docs r.1)) }
+        ensures { MatchOption result (docs self.entry ≡ no_elements)
+            (λ r. docs self.entry ≡ element (doc r.0) (docs r.1)) }
     {
         if self.len == 0 {
             return None;

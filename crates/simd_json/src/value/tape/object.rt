@@ -28,8 +28,8 @@ impl<'tape, 'input> Object<'tape, 'input> {
 
     /// The value of the first pair with that key, or `None` where there is none.
     ///
-    /// The pairs before it are passed over, each in one step whatever its value holds. A key is compared with the bytes of
-    /// another of the same length alone.
+    /// The pairs before it are passed over, each in one step whatever its value holds. A key is compared with the bytes
+    /// of another of the same length alone.
     pub fn get(&self, k: &str) -> Option<Value<'tape, 'input>>
         ensures { option_map doc result ≡ first_with k.now (pairs self.now) }
     {
@@ -80,7 +80,8 @@ impl<'tape, 'input> Object<'tape, 'input> {
     pub(crate) fn split_first(
         self,
     ) -> Option<(&'input str, Value<'tape, 'input>, Object<'tape, 'input>)>
-        ensures { MatchOption result (pairs self.entry ≡ no_members) (λ r. pairs self.entry ≡ member r.0.now (doc r.1) (pairs r.2)) }
+        ensures { MatchOption result (pairs self.entry ≡ no_members)
+            (λ r. pairs self.entry ≡ member r.0.now (doc r.1) (pairs r.2)) }
     {
         if self.len == 0 {
             return None;

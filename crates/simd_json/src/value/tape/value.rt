@@ -197,7 +197,8 @@ impl<'tape, 'input> Value<'tape, 'input> {
 // How many nodes the document has that the nodes begin with.
 fn size(nodes: &[Node<'_>]) -> usize
     requires { (d : Document) × StandsFor nodes.now d }
-    ensures { (d : Document) (rest : List Item) → map item_of nodes.now ≡ listing d ++ rest → result ≡ length (listing d) }
+    ensures { (d : Document) (rest : List Item) → map item_of nodes.now ≡ listing d ++ rest
+        → result ≡ length (listing d) }
 {
     match nodes[0] {
         Node::Array { count, .. } => count + 1,

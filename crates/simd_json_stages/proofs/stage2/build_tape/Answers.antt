@@ -6,7 +6,7 @@ use Rattle.simd_json_parts.specs.Positions.{positions}
 use Rattle.simd_json_stages.specs.Building.{IsBuilt, Tells}
 use Rattle.simd_json_stages.specs.Left.{Left}
 use Rattle.simd_json_stages.specs.Progresses.{EndsClosed}
-use Rattle.simd_json_stages.proofs.Bounds.{inside}
+use Rattle.simd_json_stages.proofs.Bounds.{all-within, inside}
 use Rattle.simd_json_stages.proofs.BuildingSteps.{descent-built, descent-told}
 use Rattle.simd_json_stages.proofs.WholeFaults.{some-listed}
 use Rattle.simd_json_stages.proofs.Following.{at-first, first-looks}
@@ -35,9 +35,16 @@ build_by_end-requires c =
     let same = ap (λ (u : Left). u.bytes) c.new-unread.ensures in
     let byte = get_or_default c.args.input.now _ 0 32 (last c.args.input.now c.args.structural_indexes.now c.requires.positions c.requires.whole) in (
       λ t. subst (λ b. EndsClosed b c.args.structural_indexes.now) (sym same) (subst (λ x. (x ≡ 93) ⊎ (x ≡ 125)) byte (c.closes.ensures t)),
-      at-first c.args.input.now c.args.structural_indexes.now c.new-unread.result c.new-escapes.result c.args.stack.now c.args.nodes.now c.args.max_depth c.byte.result _ c.new-unread.ensures c.requires.positions c.requires.whole (some-listed c.args.input.now c.args.structural_indexes.now c.requires.positions c.requires.whole)
-          (c.new-escapes.ensures c.args.input.now c.requires.escapes) c.byte.ensures c.requires.nodes c.requires.stack,
+      at-first c.args.input.now c.args.structural_indexes.now c.new-unread.result c.new-escapes.result c.args.stack.now c.args.nodes.now c.args.max_depth c.byte.result c.new-unread.ensures (record { positions = c.requires.positions; node_capacity = c.requires.nodes; frame_capacity = c.requires.stack }) c.requires.whole (some-listed c.args.input.now c.args.structural_indexes.now c.requires.positions c.requires.whole)
+          (c.new-escapes.ensures c.args.input.now c.requires.escapes) c.byte.ensures,
     )
+
+pub returns-in-Ok-clause-used : goal.returns-in-Ok-clause-used
+returns-in-Ok-clause-used c = omega (arith, c.in-Ok.ensures.used, some-listed c.args.input.now c.args.structural_indexes.now c.requires.positions c.requires.whole)
+
+pub returns-in-Ok-clause-within : goal.returns-in-Ok-clause-within
+returns-in-Ok-clause-within c =
+    all-within c.in-Ok.used (length c.args.structural_indexes.now) c.args.max_depth (length c.build_by_end.new.nodes) c.in-Ok.ensures.used (omega (arith, c.in-Ok.ensures.kept, c.requires.nodes))
 
 pub returns-in-Ok-clause-built : goal.returns-in-Ok-clause-built
 returns-in-Ok-clause-built c =

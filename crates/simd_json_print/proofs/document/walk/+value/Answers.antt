@@ -1,7 +1,5 @@
-use Rattle.std.proofs.Common.{◌∙◌, ap, sym, refl, ◌+◌, not, nat_eq, [], ◌∷◌, ◌++◌, map, drop, drop-drop, arith, rules}
-use Rattle.std.proofs.lemmas.List.{length-drop}
+use Rattle.std.proofs.Common.{◌∙◌, ap, sym, ◌+◌, not, nat_eq, [], ◌∷◌, ◌++◌, arith, rules}
 use Rattle.simd_json_parts.specs.Bytes.{right_bracket, right_brace}
-use Rattle.simd_json_parts.specs.Nodes.{item_of}
 use Rattle.simd_json_print.specs.Layout.{line, text, elements_text}
 use Rattle.simd_json_print.proofs.Places.{gives-none, gives-then, gives-is, gives-lost, gives-grows, grows-none, grows-then}
 use Rattle.simd_json_print.proofs.Walk.{empty-array, array-begins, elements-end, parted, element-turn, empty-object, object-begins, members-end, no-document, array-beneath, object-beneath, scalar-text}
@@ -17,8 +15,8 @@ pub put_array-returns-then-is_empty-clause-given : goal.put_array-returns-then-i
 put_array-returns-then-is_empty-clause-given g t c ds is =
     gives-is _ _ _ _ (empty-array (not (nat_eq g.row.PRETTY 0)) c.args.depth c.args.nodes.now ds (search (arith, rules)) is) c.put.ensures
 
-pub put_array-loop-at-init : goal.put_array-loop-at-init
-put_array-loop-at-init g t c = (
+pub put_array-loop-left-init : goal.put_array-loop-left-init
+put_array-loop-left-init g t c = (
   omega arith,
   grows-none _,
   λ ds is. ([], ds, is, gives-none _, array-begins (not (nat_eq g.row.PRETTY 0)) c.args.depth c.args.nodes.now ds (search (arith, rules)) is),
@@ -26,46 +24,40 @@ put_array-loop-at-init g t c = (
 
 pub put_array-returns-then-has_stopped-clause-given : goal.put_array-returns-then-has_stopped-clause-given
 put_array-returns-then-has_stopped-clause-given g t c ds is =
-    let so_far = c.loop-at.invariant.2 ds is in
+    let so_far = c.loop-left.invariant.2 ds is in
     gives-is _ _ _ _ so_far.4 (gives-lost _ _ so_far.0 _ (c.if-has_stopped.ensures (search rules)) so_far.3)
 
-pub put_array-loop-at-preserved : goal.put_array-loop-at-preserved
-put_array-loop-at-preserved g t c =
-    let pretty = not (nat_eq g.row.PRETTY 0) in
-    let at = c.loop-at.at in
-    let within = c.args.nodes.now in
-    let left = c.split_at.result.1.now in
-    let first = c.split_at-in-loop-at.result.0.now in
-    let size = c.size.result in
-    let back = c.split_at.ensures.back in (
-      omega (arith, c.split_at.ensures.back_len, c.split_at-in-loop-at.ensures.front_len, c.size.ensures.within),
-      grows-then _ _ _ c.loop-at.invariant.1
-          (grows-then _ _ _ (gives-grows _ _ _ c.put-in-loop-at.ensures) (grows-then _ _ _ (gives-grows _ _ _ c.put_line.ensures) c.put_value.ensures.kept)),
+pub put_array-loop-left-preserved : goal.put_array-loop-left-preserved
+put_array-loop-left-preserved g t c =
+    let pretty = not (nat_eq g.row.PRETTY 0) in (
+      omega (arith, c.split_value.ensures.all, c.loop-left.invariant.0),
+      grows-then _ _ _ c.loop-left.invariant.1
+          (grows-then _ _ _ (gives-grows _ _ _ c.put-in-loop-left.ensures) (grows-then _ _ _ (gives-grows _ _ _ c.put_line.ensures) c.put_value.ensures.kept)),
       λ ds is.
-          let so_far = c.loop-at.invariant.2 ds is in
-          let part = parted left first (drop size left) so_far.1 size (omega (arith, c.split_at.ensures.back_len, c.loop-at-test.true)) (ap (map item_of) back ∙ so_far.2) c.size.ensures.whole c.split_at-in-loop-at.ensures.front refl in
+          let so_far = c.loop-left.invariant.2 ds is in
+          let part = parted c.loop-left.left.nodes.now c.split_value.result.0.now c.split_value.result.1.nodes.now so_far.1 (search (arith, rules)) so_far.2 c.split_value.ensures.whole in
           let l = line pretty (c.args.depth + 1) in
           let v = text pretty part.d (c.args.depth + 1) in
           let close = line pretty c.args.depth ++ right_bracket ∷ [] in (
-            so_far.0 ++ ((c.loop-at.before ∷ []) ++ (l ++ v)),
+            so_far.0 ++ ((c.loop-left.before ∷ []) ++ (l ++ v)),
             part.others,
-            ap (λ k. map item_of (drop (at + k) within)) c.split_at-in-loop-at.ensures.front_len ∙ ap (map item_of) (sym (drop-drop size at within)) ∙ ap (λ xs. map item_of (drop size xs)) (sym back) ∙ part.back,
+            part.back,
             gives-then _ _ _ so_far.0 _ so_far.3
-                (gives-then _ _ _ (c.loop-at.before ∷ []) _ c.put-in-loop-at.ensures (gives-then _ _ _ l v c.put_line.ensures (c.put_value.ensures.given part.d part.front))),
-            element-turn c.loop-at.before so_far.0 l v (elements_text pretty 44 part.others (c.args.depth + 1)) close _
-                (ap (λ es. so_far.0 ++ (elements_text pretty c.loop-at.before es (c.args.depth + 1) ++ close)) (sym part.whole) ∙ so_far.4),
+                (gives-then _ _ _ (c.loop-left.before ∷ []) _ c.put-in-loop-left.ensures (gives-then _ _ _ l v c.put_line.ensures (c.put_value.ensures.given part.d part.front))),
+            element-turn c.loop-left.before so_far.0 l v (elements_text pretty 44 part.others (c.args.depth + 1)) close _
+                (ap (λ es. so_far.0 ++ (elements_text pretty c.loop-left.before es (c.args.depth + 1) ++ close)) (sym part.whole) ∙ so_far.4),
           ),
     )
 
 pub put_array-returns-clause-kept : goal.put_array-returns-clause-kept
-put_array-returns-clause-kept g t c = grows-then _ _ _ c.loop-at.invariant.1 (grows-then _ _ _ (gives-grows _ _ _ c.put_line-2.ensures) (gives-grows _ _ _ c.put-2.ensures))
+put_array-returns-clause-kept g t c = grows-then _ _ _ c.loop-left.invariant.1 (grows-then _ _ _ (gives-grows _ _ _ c.put_line-2.ensures) (gives-grows _ _ _ c.put-2.ensures))
 
 pub put_array-returns-clause-given : goal.put_array-returns-clause-given
 put_array-returns-clause-given g t c ds is =
     let pretty = not (nat_eq g.row.PRETTY 0) in
-    let so_far = c.loop-at.invariant.2 ds is in
+    let so_far = c.loop-left.invariant.2 ds is in
     let close = line pretty c.args.depth ++ right_bracket ∷ [] in
-    let end = elements-end pretty c.loop-at.before (c.args.depth + 1) (drop c.loop-at.at c.args.nodes.now) so_far.1 (omega (arith, length-drop c.loop-at.at c.args.nodes.now, c.loop-at-test.false)) so_far.2 in
+    let end = elements-end pretty c.loop-left.before (c.args.depth + 1) c.loop-left.left.nodes.now so_far.1 (search (arith, rules)) so_far.2 in
     gives-is _ _ _ _ (ap (λ us. so_far.0 ++ (us ++ close)) (sym end) ∙ so_far.4)
     (gives-then _ _ _ so_far.0 _ so_far.3 (gives-then _ _ _ (line pretty c.args.depth) (right_bracket ∷ []) c.put_line-2.ensures c.put-2.ensures))
 
@@ -78,8 +70,8 @@ pub put_object-returns-then-is_empty-clause-given : goal.put_object-returns-then
 put_object-returns-then-is_empty-clause-given g t c ms is =
     gives-is _ _ _ _ (empty-object (not (nat_eq g.row.PRETTY 0)) c.args.depth c.args.nodes.now ms (search (arith, rules)) is) c.put.ensures
 
-pub put_object-loop-at-init : goal.put_object-loop-at-init
-put_object-loop-at-init g t c = (
+pub put_object-loop-left-init : goal.put_object-loop-left-init
+put_object-loop-left-init g t c = (
   omega arith,
   grows-none _,
   λ ms is. ([], ms, is, gives-none _, object-begins (not (nat_eq g.row.PRETTY 0)) c.args.depth c.args.nodes.now ms (search (arith, rules)) is),
@@ -87,31 +79,31 @@ put_object-loop-at-init g t c = (
 
 pub put_object-returns-then-has_stopped-clause-given : goal.put_object-returns-then-has_stopped-clause-given
 put_object-returns-then-has_stopped-clause-given g t c ms is =
-    let so_far = c.loop-at.invariant.2 ms is in
+    let so_far = c.loop-left.invariant.2 ms is in
     gives-is _ _ _ _ so_far.4 (gives-lost _ _ so_far.0 _ (c.if-has_stopped.ensures (search rules)) so_far.3)
 
-pub put_object-loop-at-preserved : goal.put_object-loop-at-preserved
-put_object-loop-at-preserved g t c = (
-  omega (arith, c.split_at.ensures.back_len, c.split_at-in-loop-at.ensures.back_len, c.split_at-in-loop-at-2.ensures.front_len, c.size.ensures.within),
-  grows-then _ _ _ c.loop-at.invariant.1
-      (grows-then _ _ _ (gives-grows _ _ _ c.put-in-loop-at.ensures)
+pub put_object-loop-left-preserved : goal.put_object-loop-left-preserved
+put_object-loop-left-preserved g t c = (
+  omega (arith, c.split_name.ensures.all, c.split_value.ensures.all, c.loop-left.invariant.0),
+  grows-then _ _ _ c.loop-left.invariant.1
+      (grows-then _ _ _ (gives-grows _ _ _ c.put-in-loop-left.ensures)
       (grows-then _ _ _ (gives-grows _ _ _ c.put_line.ensures) (grows-then _ _ _ (gives-grows _ _ _ c.put_name.ensures) c.put_value.ensures.kept))),
   λ ms is.
-      let so_far = c.loop-at.invariant.2 ms is in
-      given-member (not (nat_eq g.row.PRETTY 0)) (c.args.depth + 1) c.loop-at.before c.loop-at.at c.size.result c.args.nodes.now c.split_at.result.1.now c.split_at-in-loop-at.result.0.now c.split_at-in-loop-at.result.1.now
-      c.split_at-in-loop-at-2.result.0.now _ _ _ _ _ _ _ _ _ so_far.0 so_far.1 c.split_at.ensures.back so_far.2 so_far.3 so_far.4 (omega (arith, c.split_at.ensures.back_len, c.loop-at-test.true)) c.split_at-in-loop-at.ensures.front c.split_at-in-loop-at.ensures.back
-      c.size.ensures.whole c.split_at-in-loop-at-2.ensures.front c.split_at-in-loop-at-2.ensures.front_len c.put-in-loop-at.ensures c.put_line.ensures c.put_name.ensures c.put_value.ensures.given,
+      let so_far = c.loop-left.invariant.2 ms is in
+      given-member (not (nat_eq g.row.PRETTY 0)) (c.args.depth + 1) c.loop-left.before c.loop-left.left.nodes.now c.split_name.result.1.nodes.now c.split_value.result.0.now c.split_value.result.1.nodes.now c.split_name.result.0.now
+      _ _ _ _ _ _ _ _ so_far.0 so_far.1 (search (arith, rules)) so_far.2 so_far.3 so_far.4 c.split_name.ensures.whole c.split_value.ensures.whole
+      c.put-in-loop-left.ensures c.put_line.ensures c.put_name.ensures c.put_value.ensures.given,
 )
 
 pub put_object-returns-clause-kept : goal.put_object-returns-clause-kept
-put_object-returns-clause-kept g t c = grows-then _ _ _ c.loop-at.invariant.1 (grows-then _ _ _ (gives-grows _ _ _ c.put_line-2.ensures) (gives-grows _ _ _ c.put-2.ensures))
+put_object-returns-clause-kept g t c = grows-then _ _ _ c.loop-left.invariant.1 (grows-then _ _ _ (gives-grows _ _ _ c.put_line-2.ensures) (gives-grows _ _ _ c.put-2.ensures))
 
 pub put_object-returns-clause-given : goal.put_object-returns-clause-given
 put_object-returns-clause-given g t c ms is =
     let pretty = not (nat_eq g.row.PRETTY 0) in
-    let so_far = c.loop-at.invariant.2 ms is in
+    let so_far = c.loop-left.invariant.2 ms is in
     let close = line pretty c.args.depth ++ right_brace ∷ [] in
-    let end = members-end pretty c.loop-at.before (c.args.depth + 1) (drop c.loop-at.at c.args.nodes.now) so_far.1 (omega (arith, length-drop c.loop-at.at c.args.nodes.now, c.loop-at-test.false)) so_far.2 in
+    let end = members-end pretty c.loop-left.before (c.args.depth + 1) c.loop-left.left.nodes.now so_far.1 (search (arith, rules)) so_far.2 in
     gives-is _ _ _ _ (ap (λ us. so_far.0 ++ (us ++ close)) (sym end) ∙ so_far.4)
     (gives-then _ _ _ so_far.0 _ so_far.3 (gives-then _ _ _ (line pretty c.args.depth) (right_brace ∷ []) c.put_line-2.ensures c.put-2.ensures))
 

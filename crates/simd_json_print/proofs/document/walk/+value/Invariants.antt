@@ -1,4 +1,4 @@
-use Rattle.std.proofs.Common.{◌≡◌, ◌≤◌, ◌+◌, ◌-◌, ◌*◌, not, nat_eq, List, ℕ, [], ◌∷◌, ◌++◌, length, map, drop}
+use Rattle.std.proofs.Common.{◌≡◌, ◌≤◌, ◌+◌, ◌*◌, not, nat_eq, List, ℕ, [], ◌∷◌, ◌++◌, length, map}
 use Rattle.simd_json_parts.specs.Bytes.{right_bracket, right_brace}
 use Rattle.simd_json_parts.specs.Document.{Elements, array, Members, object}
 use Rattle.simd_json_parts.specs.Listing.{elements_listing, members_listing}
@@ -16,24 +16,24 @@ decreases-put_array g l = 2 * length l.nodes.now + 1
 abbrev pub decreases-put_object : goal.decreases-put_object
 decreases-put_object g l = 2 * length l.nodes.now + 1
 
-abbrev pub invariant-put_array-loop-at : goal.invariant-put_array-loop-at
-invariant-put_array-loop-at g l =
+abbrev pub invariant-put_array-loop-left : goal.invariant-put_array-loop-left
+invariant-put_array-loop-left g l =
     let pretty = not (nat_eq g.row.PRETTY 0) in
-    (l.at ≤ length l.nodes) × Grows (g.S.Sink.place l.fn.sink l.fn.target) (g.S.Sink.place l.sink l.target)
+    (length l.left.nodes.now ≤ length l.nodes) × Grows (g.S.Sink.place l.fn.sink l.fn.target) (g.S.Sink.place l.sink l.target)
     × ((ds : Elements) → map item_of l.nodes ≡ elements_listing ds
-    → (done : List ℕ) × (left : Elements) × (map item_of (drop l.at l.nodes) ≡ elements_listing left) × Gives (g.S.Sink.place l.fn.sink l.fn.target) (g.S.Sink.place l.sink l.target) done
+    → (done : List ℕ) × (left : Elements) × (map item_of l.left.nodes.now ≡ elements_listing left) × Gives (g.S.Sink.place l.fn.sink l.fn.target) (g.S.Sink.place l.sink l.target) done
     × (done ++ (elements_text pretty l.before left (l.depth + 1) ++ (line pretty l.depth ++ right_bracket ∷ [])) ≡ text pretty (array ds) l.depth))
 
-abbrev pub decreases-put_array-loop-at : goal.decreases-put_array-loop-at
-decreases-put_array-loop-at g l = length l.nodes - l.at
+abbrev pub decreases-put_array-loop-left : goal.decreases-put_array-loop-left
+decreases-put_array-loop-left g l = length l.left.nodes.now
 
-abbrev pub invariant-put_object-loop-at : goal.invariant-put_object-loop-at
-invariant-put_object-loop-at g l =
+abbrev pub invariant-put_object-loop-left : goal.invariant-put_object-loop-left
+invariant-put_object-loop-left g l =
     let pretty = not (nat_eq g.row.PRETTY 0) in
-    (l.at ≤ length l.nodes) × Grows (g.S.Sink.place l.fn.sink l.fn.target) (g.S.Sink.place l.sink l.target)
+    (length l.left.nodes.now ≤ length l.nodes) × Grows (g.S.Sink.place l.fn.sink l.fn.target) (g.S.Sink.place l.sink l.target)
     × ((ms : Members) → map item_of l.nodes ≡ members_listing ms
-    → (done : List ℕ) × (left : Members) × (map item_of (drop l.at l.nodes) ≡ members_listing left) × Gives (g.S.Sink.place l.fn.sink l.fn.target) (g.S.Sink.place l.sink l.target) done
+    → (done : List ℕ) × (left : Members) × (map item_of l.left.nodes.now ≡ members_listing left) × Gives (g.S.Sink.place l.fn.sink l.fn.target) (g.S.Sink.place l.sink l.target) done
     × (done ++ (members_text pretty l.before left (l.depth + 1) ++ (line pretty l.depth ++ right_brace ∷ [])) ≡ text pretty (object ms) l.depth))
 
-abbrev pub decreases-put_object-loop-at : goal.decreases-put_object-loop-at
-decreases-put_object-loop-at g l = length l.nodes - l.at
+abbrev pub decreases-put_object-loop-left : goal.decreases-put_object-loop-left
+decreases-put_object-loop-left g l = length l.left.nodes.now

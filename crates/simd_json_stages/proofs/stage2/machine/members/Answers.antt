@@ -1,6 +1,7 @@
+use Rattle.std.proofs.Common.{length}
 use Rattle.simd_json_stages.specs.Building.{Tells}
 use Rattle.simd_json_stages.specs.Refusals.{error_type}
-use Rattle.simd_json_stages.proofs.Bounds.{name-token}
+use Rattle.simd_json_stages.proofs.Bounds.{node-left, name-token}
 use Rattle.simd_json_stages.proofs.Exits.{passed-on}
 use Rattle.simd_json_stages.proofs.stage2.machine.members.Goals as goal
 
@@ -8,7 +9,8 @@ pub read_name-requires : goal.read_name-requires
 read_name-requires g c =
     let s = c.pairs.invariant.pair in
     let token = name-token g.b c.args.indexes.now s.capacity.positions c.args.max_depth (error_type c.pairs.kind) c.pairs.stack c.pairs.nodes c.pairs.p s.name in
-    (c.requires.1.1, ((s.capacity.positions, c.requires.0), (s.progress, (s.escapes, (token, s.capacity.node_capacity)))))
+    let left = node-left g.b c.args.indexes.now c.pairs.unread c.args.max_depth (length c.pairs.nodes) c.pairs.p s.progress s.depth s.capacity.node_capacity in
+    (c.requires.1.1, ((s.capacity.positions, c.requires.0), (s.progress, (s.escapes, (token, left)))))
 
 pub returns-in_err-value-clause-refused : goal.returns-in_err-value-clause-refused
 returns-in_err-value-clause-refused g c =

@@ -159,6 +159,5 @@ returns-clause-value g c stack limit at =
     let byte : byte_at g.b (get_or ps p.read 0) ≡ c.at_next-q.result.byte = sym (ap (λ (q : Progress). q.byte) q-is) in
     let two : p.read + 1 < length ps = omega (arith, ap (λ (q : Progress). q.read) q-is, c.is_last-2.ensures.left c.if-is_last-2.false) in
     let s-is = second-is g.b ps e u p c.at_next-q.result c.at_next-r.result c.byte-2.result r.read put.unread ahead two q-is c.byte-2.ensures c.at_next-r.ensures in
-    let capacity : p.used < length c.args.nodes.now = omega (arith, r.used, r.read.within, c.requires.1.1.1.1.1) in
     subst (λ (s : Progress). AtValue g.b ps limit stack c.put_string.new.nodes (record s { used = p.used + 1 })) (sym s-is)
-    (step-name g.b ps limit (error_type c.args.kind) stack c.args.nodes.now c.put_string.new.nodes p u at capacity quoted put more (byte ∙ c.if-q-ne58.false) two)
+    (step-name g.b ps limit (error_type c.args.kind) stack c.args.nodes.now c.put_string.new.nodes p u at c.requires.1.1.1.1.1 quoted put more (byte ∙ c.if-q-ne58.false) two)

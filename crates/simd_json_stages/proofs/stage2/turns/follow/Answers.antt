@@ -4,18 +4,21 @@ use Rattle.simd_json_parts.specs.declared.node.Node.TheVariants.{Static}
 use Rattle.simd_json_parts.specs.declared.node.StaticNode.TheVariants.{Null}
 use Rattle.simd_json_stages.specs.Building.{Takes}
 use Rattle.simd_json_stages.specs.Progresses.{IsTurned, Turns}
+use Rattle.simd_json_stages.proofs.Bounds.{nodes-within}
 use Rattle.simd_json_stages.proofs.Following.{end-goes, end-tells, some-node}
 use Rattle.simd_json_stages.proofs.stage2.turns.follow.Goals as goal
 
 pub after_member-requires : goal.after_member-requires
 after_member-requires g c = (
   record {
-    capacity = record { positions = c.requires.1.0; node_capacity = omega (arith, c.loop-p.invariant.nodes, c.requires.1.1.1.1.0); frame_capacity = c.requires.1.1.1.1.1.0 };
-    progress = c.loop-p.invariant.progress;
-    depth = omega (arith, c.loop-p.invariant.depth, c.requires.1.1.1.0);
+    last = record {
+      capacity = record { positions = c.requires.1.capacity.positions; node_capacity = omega (arith, c.loop-p.invariant.nodes, c.requires.1.capacity.node_capacity); frame_capacity = c.requires.1.capacity.frame_capacity };
+      progress = c.loop-p.invariant.progress;
+      depth = omega (arith, c.loop-p.invariant.depth, c.requires.1.depth);
+      after = c.loop-p.invariant.after;
+    };
     inside = c.loop-p-test.true;
     container = refl;
-    after = c.loop-p.invariant.after;
   },
   c.requires.0,
 )
@@ -33,12 +36,12 @@ returns-in-Next-clause-step g c = subst (Takes g.b c.args.indexes.now c.args.max
 
 pub returns-clause-step : goal.returns-clause-step
 returns-clause-step g c =
-    end-goes g.b c.args.indexes.now c.requires.1.0 c.args.max_depth c.args.stack.now c.loop-p.nodes c.loop-p.p c.end.result _ c.loop-p.invariant.after (omega arith) c.end.ensures
+    end-goes g.b c.args.indexes.now c.requires.1.capacity.positions c.args.max_depth c.args.stack.now c.loop-p.nodes c.loop-p.p c.end.result _ c.loop-p.invariant.after (omega arith) c.end.ensures
 
 pub returns-clause-refused : goal.returns-clause-refused
 returns-clause-refused g c =
     let r = c.loop-p.invariant.progress in
     let none : c.loop-p.p.depth ≡ 0 = omega arith in
-    let enough : c.loop-p.p.used ≤ length c.loop-p.nodes = omega (arith, r.used, r.read.within, c.loop-p.invariant.nodes, c.requires.1.1.1.1.0) in
+    let enough : c.loop-p.p.used ≤ length c.loop-p.nodes = nodes-within g.b c.args.indexes.now c.args.unread.now c.args.max_depth (length c.loop-p.nodes) c.loop-p.p r (omega (arith, c.loop-p.invariant.depth, c.requires.1.depth)) (omega (arith, c.loop-p.invariant.nodes, c.requires.1.capacity.node_capacity)) in
     let some : 0 < c.loop-p.p.used = some-node g.b c.args.indexes.now c.args.max_depth c.args.stack.now c.loop-p.nodes c.loop-p.p c.loop-p.invariant.after none enough in
-    end-tells g.b c.args.indexes.now c.requires.1.0 c.args.max_depth c.args.stack.now c.loop-p.nodes c.loop-p.p _ c.end.result _ c.loop-p.invariant.after r.read none some enough (get_or_default c.loop-p.nodes 0 _ (Static Null) (omega arith)) c.end.ensures
+    end-tells g.b c.args.indexes.now c.requires.1.capacity.positions c.args.max_depth c.args.stack.now c.loop-p.nodes c.loop-p.p _ c.end.result _ c.loop-p.invariant.after r.read none some enough (get_or_default c.loop-p.nodes 0 _ (Static Null) (omega arith)) c.end.ensures

@@ -1,3 +1,5 @@
+use Rattle.std.proofs.Common.{Some, [], subst, sym}
+use Rattle.simd_json_print.specs.Places.{Gives}
 use Rattle.simd_json_print.proofs.Sent.{given-begun, finished-all, finished-some}
 use Rattle.simd_json_print.proofs.place.writer.Writing.finish.Goals as goal
 
@@ -6,10 +8,10 @@ returns-then-self-clause-some g c bytes before given = given-begun before (g.W.W
 
 pub returns-clause-all : goal.returns-clause-all
 returns-clause-all g c bytes before given =
-    finished-all c.flush.result before (g.W.Write.contents c.args.writer.now) (g.W.Write.contents c.flush.new.writer) c.args.self.now.pieces c.flush.new.self bytes c.args.self.now.has_stopped c.if-self.false given
-    c.flush.ensures.sent c.flush.ensures.empty
+    finished-all c.flush.result before (g.W.Write.contents c.args.writer.now) (g.W.Write.contents c.flush.new.writer) c.self.inside.pieces c.flush.new.self bytes c.self.inside.has_stopped c.if-self.false
+    (subst (λ o. Gives (before, Some []) (g.W.Write.contents c.args.writer.now, o) bytes) (sym c.self.view_is) given) c.flush.ensures.sent c.flush.ensures.empty
 
 pub returns-clause-some : goal.returns-clause-some
 returns-clause-some g c bytes before given =
-    finished-some c.flush.result before (g.W.Write.contents c.args.writer.now) (g.W.Write.contents c.flush.new.writer) c.args.self.now.pieces c.flush.new.self bytes c.args.self.now.has_stopped c.if-self.false given
-    c.flush.ensures.sent
+    finished-some c.flush.result before (g.W.Write.contents c.args.writer.now) (g.W.Write.contents c.flush.new.writer) c.self.inside.pieces c.flush.new.self bytes c.self.inside.has_stopped c.if-self.false
+    (subst (λ o. Gives (before, Some []) (g.W.Write.contents c.args.writer.now, o) bytes) (sym c.self.view_is) given) c.flush.ensures.sent

@@ -1,0 +1,43 @@
+-- The pieces of a stream of lines, and what is written of each.
+use Rattle.std.specs.Prelude.{ℕ, List, [], ◌∷◌, ◌++◌, flat_map, codes, Bool, ◌==◌, ◌||◌, is_ok, Result, Ok, Err, if◌then◌else◌}
+use Rattle.std.specs.List.{list_all}
+use Rattle.simd_json_parts.specs.Answer.{answer}
+use Rattle.simd_json_parts.specs.Bytes.{is_whitespace, line_feed}
+use Rattle.simd_json_parts.specs.Document.{Document}
+use Rattle.simd_json_parts.specs.ErrorKinds.{error_text}
+use Rattle.simd_json_parts.specs.Printed.{compact}
+use Rattle.simd_json_parts.specs.declared.error.Error.{Error}
+
+-- with a byte in front of the first piece
+abbrev pub with_first : ℕ → List (List ℕ) → List (List ℕ)
+with_first x [] = (x ∷ []) ∷ []
+with_first x (piece ∷ more) = (x ∷ piece) ∷ more
+
+-- what stands between line feeds: one piece more than there are line feeds
+unfoldable pub pieces : List ℕ → List (List ℕ)
+pieces [] = [] ∷ []
+pieces (x ∷ b) = if x == line_feed then [] ∷ pieces b else with_first x (pieces b)
+
+-- empty, or whitespace alone
+abbrev pub is_blank : List ℕ → Bool
+is_blank piece = list_all is_whitespace piece
+
+-- a document without whitespace; of what is refused its error, after a mark that begins no document
+abbrev pub answer_text : Result Document Error → List ℕ
+answer_text (Ok d) = compact d
+answer_text (Err e) = codes "! " ++ error_text e
+
+-- nothing of a blank piece; each other one is parsed by itself, so that an index counts from its first byte
+abbrev pub piece_text : ℕ → List ℕ → List ℕ
+piece_text depth piece = if is_blank piece then [] else answer_text (answer piece depth) ++ line_feed ∷ []
+
+-- it is blank or a document
+abbrev pub is_clean : ℕ → List ℕ → Bool
+is_clean depth piece = is_blank piece || is_ok (answer piece depth)
+
+-- of pieces in a row
+abbrev pub pieces_text : ℕ → List (List ℕ) → List ℕ
+pieces_text depth ps = flat_map (piece_text depth) ps
+
+abbrev pub all_clean : ℕ → List (List ℕ) → Bool
+all_clean depth ps = list_all (is_clean depth) ps
