@@ -7,3 +7,4 @@ pub mod Turns
 pub mod Layouts
 pub mod Lines
 pub mod Runs
+pub mod Unescaped

@@ -13,7 +13,7 @@ use Rattle.simd_json_print.proofs.Places.{gives-then}
 
 -- ---- bytes that are printed as they are
 
-plain-byte : (x : ℕ) → is_stop x ≡ false → is_control x ≡ false → escaped_byte x ≡ x ∷ []
+pub plain-byte : (x : ℕ) → is_stop x ≡ false → is_control x ≡ false → escaped_byte x ≡ x ∷ []
 plain-byte x stop control = grind (arith, nat_tests, stop, control)
 
 pub plain-bytes : (xs : List ℕ) → prefix_len (λ x. not (is_stop x)) xs ≡ length xs → prefix_len (λ x. not (is_control x)) xs ≡ length xs

@@ -59,4 +59,24 @@ mod tests {
         }
         Ok(())
     }
+
+    // A line feed at each place of strings of each length up to 70, and at none.
+    #[test]
+    fn escapes_are_found_wherever_they_stand(rt: HostRuntime) -> std::result::Result<(), Fail> {
+        for len in 0..70usize {
+            for at in 0..=len {
+                let mut string = String::new(rt.alloc());
+                let mut wanted = Vec::from_slice(rt.alloc(), b"\"")?;
+                for i in 0..len {
+                    string.push(if i == at { '\n' } else { 'a' })?;
+                    wanted.extend_from_slice(if i == at { b"\\n" } else { b"a" })?;
+                }
+                wanted.push(b'"')?;
+                let mut out = Vec::new(rt.alloc());
+                append_quoted(&mut out, &string)?;
+                assert_eq!(rt; out.as_slice(), wanted.as_slice());
+            }
+        }
+        Ok(())
+    }
 }

@@ -7,7 +7,10 @@ ghost use Rattle.simd_json_parts.specs.Printed.{escaped_byte, quoted};
 ghost use Rattle.simd_json_parts.specs.StringContent.{is_stop};
 ghost use Rattle.simd_json_print.specs.Places.{Gives};
 
+mod short;
+
 use crate::place::Sink;
+use short::is_short_and_unescaped;
 use std::simd::prelude::*;
 
 /// A string as it is printed: between quotes, with a quote, a backslash and what is below 0x20 escaped.
@@ -40,6 +43,9 @@ fn plain_end(bytes: &[u8]) -> usize
     ensures within { result ≤ length bytes.now }
     ensures plain { flat_map escaped_byte (take result bytes.now) ≡ take result bytes.now }
 {
+    if is_short_and_unescaped(bytes) {
+        return bytes.len();
+    }
     let end = plain_vectors_end(bytes);
     end + plain_bytes_end(bytes.split_at(end).1)
 }
