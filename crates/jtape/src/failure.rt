@@ -56,8 +56,8 @@ impl fmt::Display for Failure {
     }
 }
 
-/// What the program's arguments ask for, of which the first is its name. Returns `Usage` where they can't be read, or where
-/// [`settings`] does not understand the words after the name.
+/// What the program's arguments ask for, of which the first is its name. Returns `Usage` where they can't be
+/// read, or where [`settings`] does not understand the words after the name.
 pub fn asked(arguments: io::Result<Vec<String>>) -> Result<(Mode, usize), Failure>
     ensures asked { IfOk arguments (λ words. result ≡ asked_of (map string_bytes words.items)) }
     ensures unread { IfErr arguments (λ _. result ≡ Err Usage) }
@@ -71,8 +71,8 @@ pub fn asked(arguments: io::Result<Vec<String>>) -> Result<(Mode, usize), Failur
     }
 }
 
-/// The status that a run ends with: 0 where all is well, 1 where the input is refused or an allocation failed, 3 where the
-/// reader or the writer failed.
+/// The status that a run ends with: 0 where all is well, 1 where the input is refused or an allocation
+/// failed, 3 where the reader or the writer failed.
 pub fn status(answer: &Answer) -> u8
     ensures { result ≡ status_of answer.now }
 {

@@ -1,17 +1,20 @@
 //! The lines of a tape.
-ghost use Rattle.std.specs.Prelude.{◌≡◌, ◌++◌, ◌∷◌, [], List, ℕ, codes, map};
-ghost use Rattle.jtape.specs.Lines.{header_text, line, lines, node_text, static_text};
-ghost use Rattle.simd_json_parts.specs.Nodes.{item_of};
+ghost use Rattle.std.specs.Prelude.{◌≡◌, ◌≢◌, ◌++◌, ◌∷◌, [], List, ℕ, ℤ, codes, map};
+ghost use Rattle.jtape.specs.Lines.{header_text, line, lines, static_text};
+ghost use Rattle.simd_json_parts.specs.Bytes.{line_feed};
+ghost use Rattle.simd_json_parts.specs.Nodes.{item_of, static_item, string_item};
+ghost use Rattle.simd_json_parts.specs.declared.node.StaticNode.{StaticNode};
+ghost use Rattle.simd_json_parts.specs.declared.node.StaticNode.TheVariants.{I64, U64};
 ghost use Rattle.simd_json_print.specs.Places.{Gives};
 
 use itoa::{Buffer, Integer};
 use simd_json::{Node, StaticNode};
 use simd_json_print::place::Sink;
-use simd_json_print::print::put_quoted;
 
 // Gives a place the lines of the nodes.
 pub(crate) fn put_lines<P, S: Sink<P>>(sink: &mut S, target: &mut P, nodes: &[Node<'_>])
-    ensures { Gives (S.place sink.old target.old) (S.place sink.new target.new) (lines (map item_of nodes.now)) }
+    ensures { Gives (S.place sink.old target.old) (S.place sink.new target.new)
+        (lines (map item_of nodes.now)) }
 {
     for node in nodes {
         if sink.has_stopped(target) {
@@ -21,58 +24,94 @@ pub(crate) fn put_lines<P, S: Sink<P>>(sink: &mut S, target: &mut P, nodes: &[No
     }
 }
 
+// The kinds are told apart one by one, by how often they come: a test costs less than a jump by a table,
+// which a function of all of them would get.
+#[inline(always)]
 fn put_line<P, S: Sink<P>>(sink: &mut S, target: &mut P, node: &Node<'_>)
     ensures { Gives (S.place sink.old target.old) (S.place sink.new target.new) (line (item_of node.now)) }
 {
-    put_node(sink, target, node);
+    if let Node::String(text) = *node {
+        sink.put_string(target, b"String \"", text, b"\"\n");
+    } else if let Node::Static(value) = *node {
+        put_static(sink, target, value);
+    } else {
+        put_other(sink, target, node);
+    }
+}
+
+#[inline(never)]
+fn put_static<P, S: Sink<P>>(sink: &mut S, target: &mut P, value: StaticNode)
+    ensures { Gives (S.place sink.old target.old) (S.place sink.new target.new)
+        (static_text value ++ line_feed ∷ []) }
+{
+    if let StaticNode::U64(number) = value {
+        put_number(sink, target, b"U64 ", number, b"\n");
+    } else if let StaticNode::I64(number) = value {
+        put_number(sink, target, b"I64 ", number, b"\n");
+    } else {
+        put_word(sink, target, value);
+    }
+}
+
+// Null, or a truth value.
+#[inline(never)]
+fn put_word<P, S: Sink<P>>(sink: &mut S, target: &mut P, value: StaticNode)
+    requires unsigned { (number : ℕ) → value ≢ U64 number }
+    requires signed { (number : ℤ) → value ≢ I64 number }
+    ensures { Gives (S.place sink.old target.old) (S.place sink.new target.new)
+        (static_text value ++ line_feed ∷ []) }
+{
+    if let StaticNode::Bool(true) = value {
+        sink.put(target, b"Bool true\n");
+    } else if let StaticNode::Bool(false) = value {
+        sink.put(target, b"Bool false\n");
+    } else {
+        sink.put(target, b"Null\n");
+    }
+}
+
+// A header, or a decimal.
+#[inline(never)]
+fn put_other<P, S: Sink<P>>(sink: &mut S, target: &mut P, node: &Node<'_>)
+    requires unquoted { (text : List ℕ) → item_of node.now ≢ string_item text }
+    requires varying { (value : StaticNode) → item_of node.now ≢ static_item value }
+    ensures { Gives (S.place sink.old target.old) (S.place sink.new target.new) (line (item_of node.now)) }
+{
+    if let Node::Object { len, count } = *node {
+        put_header(sink, target, b"Object ", len, count);
+    } else if let Node::Array { len, count } = *node {
+        put_header(sink, target, b"Array ", len, count);
+    } else if let Node::Decimal(literal) = *node {
+        sink.put(target, b"Decimal ");
+        sink.put(target, literal.as_bytes());
+        sink.put(target, b"\n");
+    }
+}
+
+fn put_header<P, S: Sink<P>>(sink: &mut S, target: &mut P, kind: &[u8], len: usize, count: usize)
+    ensures { Gives (S.place sink.old target.old) (S.place sink.new target.new)
+        (header_text kind.now len count ++ line_feed ∷ []) }
+{
+    put_number(sink, target, kind, len, b" ");
+    put_integer(sink, target, count);
     sink.put(target, b"\n");
 }
 
-fn put_node<P, S: Sink<P>>(sink: &mut S, target: &mut P, node: &Node<'_>)
-    ensures { Gives (S.place sink.old target.old) (S.place sink.new target.new) (node_text (item_of node.now)) }
-{
-    match *node {
-        Node::Static(value) => put_static(sink, target, value),
-        Node::Decimal(literal) => {
-            sink.put(target, b"Decimal ");
-            sink.put(target, literal.as_bytes());
-        }
-        Node::String(text) => {
-            sink.put(target, b"String ");
-            put_quoted(sink, target, text);
-        }
-        Node::Array { len, count } => put_header(sink, target, b"Array ", len, count),
-        Node::Object { len, count } => put_header(sink, target, b"Object ", len, count),
-    }
-}
-
-fn put_static<P, S: Sink<P>>(sink: &mut S, target: &mut P, value: StaticNode)
-    ensures { Gives (S.place sink.old target.old) (S.place sink.new target.new) (static_text value) }
-{
-    match value {
-        StaticNode::Null => sink.put(target, b"Null"),
-        StaticNode::Bool(true) => sink.put(target, b"Bool true"),
-        StaticNode::Bool(false) => sink.put(target, b"Bool false"),
-        StaticNode::I64(number) => put_number(sink, target, b"I64 ", number),
-        StaticNode::U64(number) => put_number(sink, target, b"U64 ", number),
-    }
-}
-
+// A number, between what stands before it and what stands after it.
 #[inline(always)]
-fn put_header<P, S: Sink<P>>(sink: &mut S, target: &mut P, kind: &[u8], len: usize, count: usize)
-    ensures { Gives (S.place sink.old target.old) (S.place sink.new target.new) (header_text kind.now len count) }
+fn put_number<P, S: Sink<P>, I: Integer>(
+    sink: &mut S,
+    target: &mut P,
+    front: &[u8],
+    number: I,
+    back: &[u8],
+)
+    ensures { Gives (S.place sink.old target.old) (S.place sink.new target.new)
+        (front.now ++ (I.text number ++ back.now)) }
 {
-    put_number(sink, target, kind, len);
-    put_number(sink, target, b" ", count);
-}
-
-// A number, and what stands before it.
-#[inline(always)]
-fn put_number<P, S: Sink<P>, I: Integer>(sink: &mut S, target: &mut P, before: &[u8], number: I)
-    ensures { Gives (S.place sink.old target.old) (S.place sink.new target.new) (before.now ++ I.text number) }
-{
-    sink.put(target, before);
+    sink.put(target, front);
     put_integer(sink, target, number);
+    sink.put(target, back);
 }
 
 pub(crate) fn put_integer<P, S: Sink<P>, I: Integer>(sink: &mut S, target: &mut P, number: I)
@@ -100,8 +139,8 @@ mod tests {
     const LINES: &[u8] =
         b"so far\nArray 3 3\nBool true\nString \"a\\n\"\nDecimal 1.5\nObject 0 0\n";
 
-    // A list as the writer: a heap of each size refuses another growth, and then none. What was there stays in front, and a
-    // beginning of the lines after it.
+    // A list as the writer: a heap of each size refuses another growth, and then none. What was there stays
+    // in front, and a beginning of the lines after it.
     #[test]
     fn each_growth_is_refused(rt: HostRuntime) -> std::result::Result<(), Fail> {
         let (mut refused, mut written) = (0u32, 0u32);

@@ -1,4 +1,5 @@
-//! `jtape MODE [DEPTH]` reads one JSON document from standard input, or a stream of lines, and prints it as the mode asks.
+//! `jtape MODE [DEPTH]` reads one JSON document from standard input, or a stream of lines, and prints it as
+//! the mode asks.
 //!
 //! - [`settings`]: what the words ask for.
 //! - [`port`]: a reader or a writer, and whether it has failed or ended.

@@ -25,8 +25,9 @@ use std::io::Write;
 // How many bytes are collected for the writer.
 const PIECE: usize = 65_536;
 
-// Writes what the mode asks for of an input that is read as one document, or a beginning of it where the writer fails. All memory is taken before the first
-// byte is written, so that nothing is written where an allocation fails.
+// Writes what the mode asks for of an input that is read as one document, or a beginning of it where the
+// writer fails. All memory is taken before the first byte is written, so that nothing is written where an
+// allocation fails.
 pub(crate) fn write_output<A: Allocator + Copy, W: Write>(
     a: A,
     mode: Mode,
@@ -35,20 +36,23 @@ pub(crate) fn write_output<A: Allocator + Copy, W: Write>(
     writer: &mut Port<W>,
 ) -> Result<(), RunFault>
     requires { writer.old.failed ≡ false }
-    ensures all { OnOk result ((writer.new.failed ≡ false) × ((document_output mode depth input.old).returned ≡ Ok true)
-        × Appends (W.contents writer.old.inner) (W.contents writer.new.inner) (document_output mode depth input.old).bytes) }
+    ensures all { OnOk result ((writer.new.failed ≡ false)
+        × ((document_output mode depth input.old).returned ≡ Ok true)
+        × Appends (W.contents writer.old.inner) (W.contents writer.new.inner)
+        (document_output mode depth input.old).bytes) }
     ensures refused { IfErr result (λ fault. fault ≢ faults.Write → (writer.new ≡ writer.old)
         × ((fault ≡ lacks_memory) ⊎ (document_output mode depth input.old ≡ nothing_printed fault))) }
     ensures begun { IfErr result (λ fault. fault ≡ faults.Write → (writer.new.failed ≡ true)
-        × ((count : ℕ) × Appends (W.contents writer.old.inner) (W.contents writer.new.inner) (take count (document_output mode depth input.old).bytes))) }
+        × ((count : ℕ) × Appends (W.contents writer.old.inner) (W.contents writer.new.inner)
+        (take count (document_output mode depth input.old).bytes))) }
 {
     let mut buffers = Buffers::with_max_depth(a, 0, depth)?;
     let tape = to_tape_with_buffers(input, &mut buffers)?;
     print(writer, mode, tape.nodes(), buffers.structural_indexes())
 }
 
-// Writes what the mode asks for of a document, from its nodes and from the positions of its bytes. It stands apart, since the
-// parse is slower where both are compiled as one function.
+// Writes what the mode asks for of a document, from its nodes and from the positions of its bytes. It stands
+// apart, since the parse is slower where both are compiled as one function.
 #[inline(never)]
 fn print<W: Write>(
     writer: &mut Port<W>,
@@ -59,10 +63,12 @@ fn print<W: Write>(
     requires { writer.old.failed ≡ false }
     ensures all { (d : Document) → (input : List ℕ)
         → map item_of nodes.now ≡ listing d → structural_indexes.now ≡ positions input
-        → OnOk result (Appends (W.contents writer.old.inner) (W.contents writer.new.inner) (printed mode input d)) }
+        → OnOk result (Appends (W.contents writer.old.inner) (W.contents writer.new.inner)
+        (printed mode input d)) }
     ensures begun { (d : Document) → (input : List ℕ)
         → map item_of nodes.now ≡ listing d → structural_indexes.now ≡ positions input
-        → OnErr result ((count : ℕ) × Appends (W.contents writer.old.inner) (W.contents writer.new.inner) (take count (printed mode input d))) }
+        → OnErr result ((count : ℕ) × Appends (W.contents writer.old.inner) (W.contents writer.new.inner)
+        (take count (printed mode input d))) }
     ensures sound { OnOk result (writer.new.failed ≡ false) }
     ensures fault { IfErr result (λ fault. (fault ≡ faults.Write) × (writer.new.failed ≡ true)) }
 {

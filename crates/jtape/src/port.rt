@@ -27,7 +27,8 @@ impl<T> Port<T> {
         }
     }
 
-    /// Whether a read or a write through the port returned an error, or wrote nothing of a piece that is not empty.
+    /// Whether a read or a write through the port returned an error, or wrote nothing of a piece that is not
+    /// empty.
     pub fn failed(&self) -> bool
         ensures { result ≡ self.now.failed }
     {
@@ -53,7 +54,8 @@ impl<R: Read> Port<R> {
     // Reads some bytes into the front of a buffer.
     pub(crate) fn read(&mut self, buf: &mut [u8]) -> io::Result<usize>
         ensures bound { ReadsAtMost result buf.new }
-        ensures bytes { ReadConsumes (R.remaining self.old.inner) (R.remaining self.new.inner) result buf.new }
+        ensures bytes { ReadConsumes (R.remaining self.old.inner) (R.remaining self.new.inner)
+            result buf.new }
         ensures failed { self.new.failed ≡ (self.old.failed || is_err result) }
         ensures ended { self.new.ended ≡ (self.old.ended || took_none result (length buf.old)) }
     {
@@ -82,8 +84,10 @@ impl<W: Write> Write for Port<W> {
 
     fn write(&mut self, piece: &[u8]) -> io::Result<usize>
         ensures bound { WritesAtMost result piece.now }
-        ensures bytes { WriteAppends (W.contents self.old.inner) (W.contents self.new.inner) result piece.now }
-        ensures failed { self.new.failed ≡ (self.old.failed || is_err result || took_none result (length piece.now)) }
+        ensures bytes { WriteAppends (W.contents self.old.inner) (W.contents self.new.inner)
+            result piece.now }
+        ensures failed { self.new.failed
+            ≡ (self.old.failed || is_err result || took_none result (length piece.now)) }
         ensures ended { self.new.ended ≡ self.old.ended }
     {
         let written = self.inner.write(piece);

@@ -1,5 +1,6 @@
 //! From a reader's bytes to a writer's.
-ghost use Rattle.std.specs.Prelude.{◌≡◌, ◌≢◌, ◌↔◌, ◌⊎◌, ◌<◌, ℕ, List, Option, length, take, true, false, IfOk, IfErr, OnOk, OnErr, Err};
+ghost use Rattle.std.specs.Prelude.{◌≡◌, ◌≢◌, ◌↔◌, ◌⊎◌, ◌<◌, ℕ, List, Option, length, take};
+ghost use Rattle.std.specs.Prelude.{true, false, IfOk, IfErr, OnOk, OnErr, Err};
 ghost use Rattle.std.specs.Io.KnownBytes.{Consumes, IsAtEnd, Keeps};
 ghost use Rattle.jtape.specs.Runs.{HasRun, HasBegun, HasStopped, IsReadFault, OnAnswer, lacks_memory};
 ghost use Rattle.jtape.specs.declared.run.RunFault.TheVariants as faults;
@@ -15,8 +16,9 @@ use std::io::{Read, Write};
 
 type Result<T> = std::result::Result<T, RunFault>;
 
-/// What a run returns. `Ok` says whether all that was read is printed: `false` is for modes that print many documents, and
-/// go on after one that is refused. A mode of one document refuses it as a fault, and its `Ok` is `true`.
+/// What a run returns. `Ok` says whether all that was read is printed: `false` is for modes that print many
+/// documents, and go on after one that is refused. A mode of one document refuses it as a fault, and its `Ok`
+/// is `true`.
 pub type Answer = Result<bool>;
 
 /// Why a run wrote less than all of its output.
@@ -54,17 +56,18 @@ impl From<AllocError> for RunFault {
     }
 }
 
-/// Reads all that the reader gives, and writes what the mode asks for of the document that it read, in which at most
-/// `depth` containers may be open at a time. So what is written and returned is a function of the mode, the depth limit and
-/// what the reader gave; but an allocation may fail (`OutOfMemory`), the reader (`Read`) or the writer (`Write`).
+/// Reads all that the reader gives, and writes what the mode asks for of the document that it read, in which
+/// at most `depth` containers may be open at a time. So what is written and returned is a function of the
+/// mode, the depth limit and what the reader gave; but an allocation may fail (`OutOfMemory`), the reader
+/// (`Read`) or the writer (`Write`).
 ///
-/// Nothing is written before the reader's port has ended, nor where the input is refused, nor after `OutOfMemory` or `Read`;
-/// after `Write` a beginning of the output was. Returns `Read` exactly where the reader's port has failed, and `Write`
-/// exactly where the writer's has.
+/// Nothing is written before the reader's port has ended, nor where the input is refused, nor after
+/// `OutOfMemory` or `Read`; after `Write` a beginning of the output was. Returns `Read` exactly where the
+/// reader's port has failed, and `Write` exactly where the writer's has.
 ///
-/// In mode `Lines` each piece between line feeds is a document of its own, or blank. One that is refused has a line that
-/// says why, and the run goes on and returns `Ok(false)`. After `OutOfMemory` the text of all pieces before the one that
-/// lacked memory was written there, and nothing else.
+/// In mode `Lines` each piece between line feeds is a document of its own, or blank. One that is refused has
+/// a line that says why, and the run goes on and returns `Ok(false)`. After `OutOfMemory` the text of all
+/// pieces before the one that lacked memory was written there, and nothing else.
 pub fn run<A: Allocator + Copy, R: Read, W: Write>(
     a: A,
     mode: Mode,
@@ -79,7 +82,8 @@ pub fn run<A: Allocator + Copy, R: Read, W: Write>(
         (W.contents writer.old.inner) (W.contents writer.new.inner) result) }
     ensures silent { mode ≢ modes.Lines → IfErr result (λ fault. fault ≢ faults.Write
         → Keeps (W.contents writer.old.inner) (W.contents writer.new.inner)) }
-    ensures unread { result ≡ Err faults.Read → Keeps (W.contents writer.old.inner) (W.contents writer.new.inner) }
+    ensures unread { result ≡ Err faults.Read
+        → Keeps (W.contents writer.old.inner) (W.contents writer.new.inner) }
     ensures stopped { mode ≡ modes.Lines → result ≡ Err lacks_memory
         → Keeps (W.contents writer.old.inner) (W.contents writer.new.inner) ⊎ ((reader.new.ended ≡ true)
         × HasStopped depth (R.remaining reader.old.inner) (R.remaining reader.new.inner)

@@ -17,14 +17,14 @@ pub enum Mode {
     Compact,
     /// The document with a line for each member, and a line feed.
     Pretty,
-    /// For each piece between line feeds that is not blank its document as by `Compact`, or a line that begins with `! ` and
-    /// says its error.
+    /// For each piece between line feeds that is not blank its document as by `Compact`, or a line that
+    /// begins with `! ` and says its error.
     Lines,
 }
 
-/// What the words after the program's name ask for: a mode, which is `tape`, `positions`, `compact`, `pretty` or `lines`,
-/// and after it, or not, how many containers may be open at a time, in digits; without it [`DEFAULT_MAX_DEPTH`] may. `None`
-/// where they are not understood.
+/// What the words after the program's name ask for: a mode, which is `tape`, `positions`, `compact`, `pretty`
+/// or `lines`, and after it, or not, how many containers may be open at a time, in digits; without it
+/// [`DEFAULT_MAX_DEPTH`] may. `None` where they are not understood.
 pub fn settings(words: &[String]) -> Option<(Mode, usize)>
     ensures { result ≡ settings_of (map string_bytes words.now) }
 {

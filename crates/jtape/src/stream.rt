@@ -1,5 +1,6 @@
 //! Mode `lines`: what is written of each piece between line feeds. One set of lists serves all pieces.
-ghost use Rattle.std.specs.Prelude.{◌≡◌, ◌≢◌, ◌++◌, ◌∷◌, [], ℕ, List, false, true, take, IfOk, IfErr, OnOk, OnErr, Err};
+ghost use Rattle.std.specs.Prelude.{◌≡◌, ◌≢◌, ◌++◌, ◌∷◌, [], ℕ, List, false, true, take};
+ghost use Rattle.std.specs.Prelude.{IfOk, IfErr, OnOk, OnErr, Err};
 ghost use Rattle.std.specs.Io.KnownBytes.{Appends};
 ghost use Rattle.jtape.specs.Output.{stream_output};
 ghost use Rattle.jtape.specs.Pieces.{answer_text, is_blank, is_clean, piece_text};
@@ -22,7 +23,8 @@ use std::io::Write;
 // The writer is called once there are so many bytes of text.
 const GATHERED: usize = 65_536;
 
-// Writes the text of each piece, in the input's order, and returns whether each is clean: blank, or a document.
+// Writes the text of each piece, in the input's order, and returns whether each is clean: blank, or a
+// document.
 pub(crate) fn write_stream<A: Allocator + Copy, W: Write>(
     a: A,
     depth: usize,
@@ -32,7 +34,8 @@ pub(crate) fn write_stream<A: Allocator + Copy, W: Write>(
     requires { writer.old.failed ≡ false }
     ensures returned { OnOk result (result ≡ (stream_output depth input.old).returned) }
     ensures written { OnOk result ((writer.new.failed ≡ false)
-        × Appends (W.contents writer.old.inner) (W.contents writer.new.inner) (stream_output depth input.old).bytes) }
+        × Appends (W.contents writer.old.inner) (W.contents writer.new.inner)
+        (stream_output depth input.old).bytes) }
     ensures fault { IfErr result (λ fault. StopsWithin fault writer.new.failed
         (W.contents writer.old.inner) (W.contents writer.new.inner) depth input.old) }
 {
@@ -75,8 +78,9 @@ impl<'de, A: Allocator + Copy> Stream<'de, A> {
 }
 
 impl<'de, A: Allocator> Stream<'de, A> {
-    // Adds the text of one piece, and writes what there is of texts where that is much. Returns whether the piece is clean.
-    // Where an allocation fails, the texts of earlier pieces are written, and nothing of this one's.
+    // Adds the text of one piece, and writes what there is of texts where that is much. Returns whether the
+    // piece is clean. Where an allocation fails, the texts of earlier pieces are written, and nothing of this
+    // one's.
     fn add<W: Write>(
         &mut self,
         piece: &'de mut [u8],
@@ -85,7 +89,8 @@ impl<'de, A: Allocator> Stream<'de, A> {
         requires { writer.old.failed ≡ false }
         ensures clean { IfOk result (λ clean. clean ≡ is_clean self.old.buffers.limit piece.old) }
         ensures sent { OnOk result ((writer.new.failed ≡ false)
-            × IsSent (W.contents writer.old.inner) self.old.text.items (W.contents writer.new.inner) self.new.text.items
+            × IsSent (W.contents writer.old.inner) self.old.text.items
+            (W.contents writer.new.inner) self.new.text.items
             (piece_text self.old.buffers.limit piece.old)) }
         ensures limit { self.new.buffers.limit ≡ self.old.buffers.limit }
         ensures fault { IfErr result (λ fault. StopsAt fault writer.new.failed
@@ -108,8 +113,8 @@ impl<'de, A: Allocator> Stream<'de, A> {
         }
     }
 
-    // Appends the text of one piece, and returns whether the piece is clean. Where an allocation fails, a part of the text
-    // may stand there.
+    // Appends the text of one piece, and returns whether the piece is clean. Where an allocation fails, a
+    // part of the text may stand there.
     fn append(&mut self, piece: &'de mut [u8]) -> Result<bool, AllocError>
         ensures clean { IfOk result (λ clean. clean ≡ is_clean self.old.buffers.limit piece.old) }
         ensures appended { OnOk result (self.new.text.items
@@ -156,7 +161,8 @@ impl<'de, A: Allocator> Stream<'de, A> {
             × Appends (W.contents writer.old.inner) (W.contents writer.new.inner) self.old.text.items) }
         ensures fault { IfErr result (λ fault. (fault ≡ faults.Write) × (writer.new.failed ≡ true)) }
         ensures begun { OnErr result ((count : ℕ)
-            × Appends (W.contents writer.old.inner) (W.contents writer.new.inner) (take count self.old.text.items)) }
+            × Appends (W.contents writer.old.inner) (W.contents writer.new.inner)
+            (take count self.old.text.items)) }
         ensures limit { self.new.buffers.limit ≡ self.old.buffers.limit }
     {
         write_all(writer, self.text.as_slice())?;

@@ -1,5 +1,5 @@
--- What iterators have left, and what contracts see of a pair that one gives.
-use Rattle.std.specs.Prelude.{List, ℕ}
+-- What iterators have left, and the hint that tells how much.
+use Rattle.std.specs.Prelude.{List, ℕ, Option, Some}
 use Rattle.simd_json_parts.specs.Document.{Document, elements, members}
 use Rattle.simd_json_parts.specs.Views.{keys, values}
 use Rattle.simd_json.specs.Viewed.{docs, pairs}
@@ -19,3 +19,7 @@ keys_left it = keys (pairs it.left)
 
 abbrev pub values_left : Values → List Document
 values_left it = values (pairs it.left)
+
+-- what `size_hint` answers where so many items are left: the number is both bounds
+abbrev pub exact_hint : ℕ → ℕ × Option ℕ
+exact_hint count = (count, Some count)

@@ -1,5 +1,6 @@
 //! Lists that parses use one after another.
-ghost use Rattle.std.specs.Prelude.{◌≡◌, ◌≤◌, ◌<◌, ◌⊎◌, [], length, min, max, OnOk, OnErr, IfOk, IfErr, Some, None};
+ghost use Rattle.std.specs.Prelude.{◌≡◌, ◌≤◌, ◌<◌, ◌⊎◌, [], length, min, max};
+ghost use Rattle.std.specs.Prelude.{OnOk, OnErr, IfOk, IfErr, Some, None};
 ghost use Rattle.simd_json.specs.Memory.{IsOutOfMemory, LacksMemory};
 ghost use Rattle.simd_json.specs.Capacities.{KeepsCapacities, ListsSame, capacity, capped, new_buffers};
 ghost use Rattle.simd_json_parts.specs.InputFaults.{input_fault};
@@ -15,10 +16,11 @@ use simd_json_stages::stage2::StackState;
 use std::alloc::{Allocator, Global};
 use std::marker::Model;
 
-/// What parses use one after another: the lists of the structural positions and of the blocks that hold a backslash,
-/// and the stack of the open containers, of which there may be so many.
+/// What parses use one after another: the lists of the structural positions and of the blocks that hold a
+/// backslash, and the stack of the open containers, of which there may be so many.
 ///
-/// Each list grows by what an input needs, and is never given up. What buffers held before does not change an answer.
+/// Each list grows by what an input needs, and is never given up. What buffers held before does not change an
+/// answer.
 // The lists are kept filled up to their capacity.
 #[derive(Drop)]
 pub struct Buffers<A: Allocator = Global> {
@@ -55,10 +57,10 @@ impl<A: Allocator + Copy> Buffers<A> {
 
     /// Buffers with which at most `max_depth` containers may be open at a time; 0 leaves scalars alone.
     ///
-    /// They list no position. There is capacity for the positions that an input of `input_len` bytes may have (more
-    /// than 4,294,967,295 count as that number, the greatest size of an input), and none for open containers yet: the
-    /// depth limit costs nothing before an input is as deep. `input_len` is a hint, and may be 0: what an input needs
-    /// beyond it is grown by the parse.
+    /// They list no position. There is capacity for the positions that an input of `input_len` bytes may have
+    /// (more than 4,294,967,295 count as that number, the greatest size of an input), and none for open
+    /// containers yet: the depth limit costs nothing before an input is as deep. `input_len` is a hint, and
+    /// may be 0: what an input needs beyond it is grown by the parse.
     ///
     /// Returns `OutOfMemory` where an allocation fails.
     pub fn with_max_depth(a: A, input_len: usize, max_depth: usize) -> Result<Buffers<A>>
@@ -91,8 +93,9 @@ impl<A: Allocator + Copy> Buffers<A> {
 }
 
 impl<A: Allocator> Buffers<A> {
-    /// The structural positions of the input that was read last: the index of the opening quote of each string, and
-    /// outside strings of each structural character and of the first byte of each other token. They rise.
+    /// The structural positions of the input that was read last: the index of the opening quote of each
+    /// string, and outside strings of each structural character and of the first byte of each other token.
+    /// They rise.
     ///
     /// There are none before the first parse, and none after one that answered an error without a character.
     pub fn structural_indexes(&self) -> &[u32]
@@ -101,11 +104,11 @@ impl<A: Allocator> Buffers<A> {
         &self.structural_indexes[..self.used]
     }
 
-    /// Reserves capacity for inputs of up to `input_len` bytes (more than 4,294,967,295 count as that number): for
-    /// their positions, and for as many open containers as they can have within the depth limit.
+    /// Reserves capacity for inputs of up to `input_len` bytes (more than 4,294,967,295 count as that
+    /// number): for their positions, and for as many open containers as they can have within the depth limit.
     ///
-    /// With as much capacity on the tape no parse of such an input returns `OutOfMemory`, however many follow, since no
-    /// parse gives up capacity. The positions that are listed stay.
+    /// With as much capacity on the tape no parse of such an input returns `OutOfMemory`, however many
+    /// follow, since no parse gives up capacity. The positions that are listed stay.
     ///
     /// Returns `OutOfMemory` where an allocation fails; what capacity has been reserved by then stays.
     pub fn reserve(&mut self, input_len: usize) -> Result<()>
@@ -144,9 +147,9 @@ impl<A: Allocator> Buffers<A> {
         self.used_blocks = 0;
     }
 
-    // Lists the structural positions of the input and its blocks that hold a backslash, and reserves capacity for the
-    // containers that can open at the positions within the limit. Answers the fault of the whole input, or
-    // `OutOfMemory` where a growth was refused, and lists nothing then.
+    // Lists the structural positions of the input and its blocks that hold a backslash, and reserves capacity
+    // for the containers that can open at the positions within the limit. Answers the fault of the whole
+    // input, or `OutOfMemory` where a growth was refused, and lists nothing then.
     pub(crate) fn find_positions(&mut self, input: &[u8]) -> Result<()>
         ensures found { OnOk result ((self.new.positions ≡ positions input.now)
             × (input_fault input.now ≡ None)) }

@@ -5,7 +5,8 @@ ghost use Rattle.simd_json.specs.Memory.{IsOutOfMemory};
 use simd_json_parts::error::Result;
 use std::alloc::Allocator;
 
-// Makes the list as long as `len` at least. What it held stays, and where a growth is refused it is as it was.
+// Makes the list as long as `len` at least. What it held stays, and where a growth is refused it is as it
+// was.
 pub(crate) fn lengthen<T: Copy, A: Allocator>(
     list: &mut Vec<T, A>,
     len: usize,

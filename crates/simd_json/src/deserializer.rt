@@ -1,5 +1,6 @@
 //! Steps through the nodes of a tape, one after another.
-ghost use Rattle.std.specs.Prelude.{◌≡◌, ◌≢◌, ◌<◌, ◌↔◌, ◌+◌, [], ℕ, List, length, slice_get, IsFalse, IfOk, Some};
+ghost use Rattle.std.specs.Prelude.{◌≡◌, ◌≢◌, ◌<◌, ◌↔◌, ◌+◌, [], ℕ, List, length, slice_get};
+ghost use Rattle.std.specs.Prelude.{IsFalse, IfOk, Some};
 ghost use Rattle.std.specs.Result.{result_err};
 ghost use Rattle.simd_json.specs.Answered.{ok_map};
 ghost use Rattle.simd_json.specs.Capacities.{KeepsCapacities};
@@ -67,8 +68,9 @@ impl<'de, A: Allocator + Copy> Deserializer<'de, A> {
         Ok(Deserializer::from_tape(to_tape(a, input)?))
     }
 
-    /// Reads a document as [`to_tape_with_buffers`] does, with the same errors, and stands at its first node. The tape
-    /// takes its memory from the allocator of the buffers, and these are left as by [`to_tape_with_buffers`].
+    /// Reads a document as [`to_tape_with_buffers`] does, with the same errors, and stands at its first node.
+    /// The tape takes its memory from the allocator of the buffers, and these are left as by
+    /// [`to_tape_with_buffers`].
     pub fn from_slice_with_buffers(
         input: &'de mut [u8],
         buffers: &mut Buffers<A>,

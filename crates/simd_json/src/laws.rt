@@ -1,6 +1,7 @@
-//! Laws of what a parse leaves, of which the entry points have one statement, and of the documents that values stand
-//! for. Each function has an empty body: its contract is the law, and what it says is proved.
-ghost use Rattle.std.specs.Prelude.{◌≡◌, ◌≤◌, ◌↔◌, ◌∷◌, ℕ, List, length, take, Option, Some, None, Ok, IsSome};
+//! Laws of what a parse leaves, of which the entry points have one statement, and of the documents that
+//! values stand for. Each function has an empty body: its contract is the law, and what it says is proved.
+ghost use Rattle.std.specs.Prelude.{◌≡◌, ◌≤◌, ◌↔◌, ◌∷◌, ℕ, List, length, take};
+ghost use Rattle.std.specs.Prelude.{Option, Some, None, Ok, IsSome};
 ghost use Rattle.std.specs.Result.{result_err};
 ghost use Rattle.simd_json.specs.Memory.{HasMemory};
 ghost use Rattle.simd_json.specs.Parsed.{IsPaddedParse, IsParse, IsRefused, answered_nodes, positions_after};
@@ -18,8 +19,8 @@ ghost use Rattle.simd_json.specs.Viewed.{doc};
 ghost use Rattle.simd_json.specs.declared.value.tape.value.Value.{Value};
 ghost use Rattle.simd_json_parts.specs.declared.error.Error.{Error};
 
-/// A parse in which no allocation fails returns what the definitions answer, with the nodes of their document, and it
-/// lists the positions that belong to this answer.
+/// A parse in which no allocation fails returns what the definitions answer, with the nodes of their
+/// document, and it lists the positions that belong to this answer.
 pub fn parses_are_answers()
     ensures { (b : List ℕ) (limit capacity : ℕ) (fault : Option Error)
         (nodes : List Item) (listed : List ℕ)
@@ -28,9 +29,9 @@ pub fn parses_are_answers()
         × (listed ≡ positions_after b (result_err (answer b limit))) }
 {}
 
-/// So two parses of the same bytes within the same limit agree, whichever entry point they take and whatever buffers
-/// and tape held. A parse of the padded form is one of its document's bytes, and what the padding holds does not
-/// matter.
+/// So two parses of the same bytes within the same limit agree, whichever entry point they take and whatever
+/// buffers and tape held. A parse of the padded form is one of its document's bytes, and what the padding
+/// holds does not matter.
 pub fn parses_agree()
     ensures same { (b : List ℕ) (limit capacity capacity2 : ℕ) (fault fault2 : Option Error)
         (nodes nodes2 : List Item) (listed listed2 : List ℕ)
@@ -58,7 +59,8 @@ pub fn capacity_suffices()
 
 /// Where no list gets shorter and the limit stays, there is as much capacity as before.
 pub fn kept_lists_keep_capacity()
-    ensures { (old new : Capacities) → new.limit ≡ old.limit → KeepsCapacities old new → capacity old ≤ capacity new }
+    ensures { (old new : Capacities) → new.limit ≡ old.limit → KeepsCapacities old new
+        → capacity old ≤ capacity new }
 {}
 
 /// A fault has a character exactly where it is a token's: where the input as a whole has none.
@@ -72,8 +74,8 @@ pub fn documents_are_known_by_their_listing()
     ensures { (d e : Document) → listing d ≡ listing e → d ≡ e }
 {}
 
-/// So the value that a parsed tape is read as, whose listing is the tape's, stands for the document that the bytes
-/// denote.
+/// So the value that a parsed tape is read as, whose listing is the tape's, stands for the document that the
+/// bytes denote.
 pub fn values_stand_for_parsed_documents()
     ensures { (b : List ℕ) (limit capacity : ℕ) (nodes : List Item) (listed : List ℕ) (d : Document)
         → IsParse b limit capacity None nodes listed → listing d ≡ nodes
@@ -86,14 +88,17 @@ pub fn headers_count_nodes_and_members()
         → (length beneath ≡ count_of header) × (len_of header ≡ member_count d) }
 {}
 
-/// What a value is printed as, parsed again within a limit of no less than its depth, is the document of the value with
-/// no sign on a zero, which is equal to it. So it is wherever memory is found and the text is not too long.
+/// What a value is printed as, parsed again within a limit of no less than its depth, is the document of the
+/// value with no sign on a zero, which is equal to it. So it is wherever memory is found and the text is not
+/// too long.
 pub fn printed_values_are_parsed_again()
-    ensures compact { (v : Value) (limit capacity : ℕ) (fault : Option Error) (nodes : List Item) (listed : List ℕ)
+    ensures compact { (v : Value) (limit capacity : ℕ) (fault : Option Error)
+        (nodes : List Item) (listed : List ℕ)
         → length (compact (doc v)) ≤ max_length → depth (doc v) ≤ limit
         → IsParse (compact (doc v)) limit capacity fault nodes listed → HasMemory fault
         → IsParsedAgain (doc v) fault nodes }
-    ensures pretty { (v : Value) (limit capacity : ℕ) (fault : Option Error) (nodes : List Item) (listed : List ℕ)
+    ensures pretty { (v : Value) (limit capacity : ℕ) (fault : Option Error)
+        (nodes : List Item) (listed : List ℕ)
         → length (pretty (doc v)) ≤ max_length → depth (doc v) ≤ limit
         → IsParse (pretty (doc v)) limit capacity fault nodes listed → HasMemory fault
         → IsParsedAgain (doc v) fault nodes }

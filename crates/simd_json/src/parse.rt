@@ -1,5 +1,6 @@
 //! The entry points.
-ghost use Rattle.std.specs.Prelude.{◌≡◌, ◌≢◌, ◌≤◌, [], ℕ, List, length, min, IfErr, IfOk, OnOk, OnErr, None, Err};
+ghost use Rattle.std.specs.Prelude.{◌≡◌, ◌≢◌, ◌≤◌, [], ℕ, List, length, min};
+ghost use Rattle.std.specs.Prelude.{IfErr, IfOk, OnOk, OnErr, None, Err};
 ghost use Rattle.std.specs.Result.{result_err};
 ghost use Rattle.simd_json.specs.Parsed.{IsParse, IsPaddedParse, IsParsed, IsRefused, nodes_of};
 ghost use Rattle.simd_json.specs.Capacities.{KeepsCapacities, capacity};
@@ -17,22 +18,24 @@ use simd_json_parts::error::{Error, ErrorType, Result};
 use simd_json_stages::stage2::{build_tape, nodes_enough};
 use std::alloc::Allocator;
 
-/// Reads the bytes of one document (RFC 8259) as a tape, with at most [`DEFAULT_MAX_DEPTH`] containers open at a time.
+/// Reads the bytes of one document (RFC 8259) as a tape, with at most [`DEFAULT_MAX_DEPTH`] containers open
+/// at a time.
 ///
 /// Returns the first error if the bytes are no such document, in this order:
 ///
-/// - `InputTooLarge`: they are more than 4,294,967,295; `InvalidUtf8`: they are not UTF-8; `Syntax`: a string is left open
-///   or has a byte below 0x20 inside (section 7); `Eof`: there is nothing but whitespace. These are reported at index 0,
-///   without a character, and where one applies no token is looked at.
+/// - `InputTooLarge`: they are more than 4,294,967,295; `InvalidUtf8`: they are not UTF-8; `Syntax`: a string
+///   is left open or has a byte below 0x20 inside (section 7); `Eof`: there is nothing but whitespace. These
+///   are reported at index 0, without a character, and where one applies no token is looked at.
 /// - Of the tokens, read from the left, the first that is refused, with an index and the character there:
-///   `InternalError`, `ExpectedArrayContent`, `ExpectedObjectContent`, `ExpectedObjectKey`, `ExpectedObjectColon` or
-///   `TrailingData` where another token is expected (sections 2, 4 and 5), `Syntax` where none is left, `ExpectedTrue`,
-///   `ExpectedFalse` or `ExpectedNull` (section 3), `InvalidNumber` (section 6), `InvalidEscape` at a backslash, with the
-///   byte after it, and `InvalidUnicodeCodepoint` at a backslash, with the character `u` (section 7), and
-///   `DepthLimitExceeded` at the bracket that opens one container too many (section 9).
+///   `InternalError`, `ExpectedArrayContent`, `ExpectedObjectContent`, `ExpectedObjectKey`,
+///   `ExpectedObjectColon` or `TrailingData` where another token is expected (sections 2, 4 and 5), `Syntax`
+///   where none is left, `ExpectedTrue`, `ExpectedFalse` or `ExpectedNull` (section 3), `InvalidNumber`
+///   (section 6), `InvalidEscape` at a backslash, with the byte after it, and `InvalidUnicodeCodepoint` at a
+///   backslash, with the character `u` (section 7), and `DepthLimitExceeded` at the bracket that opens one
+///   container too many (section 9).
 ///
-/// `OutOfMemory`, at index 0 without a character, comes where an allocation fails, and only where size and encoding are
-/// right. After an error there is no tape, and what `s` holds is of no meaning.
+/// `OutOfMemory`, at index 0 without a character, comes where an allocation fails, and only where size and
+/// encoding are right. After an error there is no tape, and what `s` holds is of no meaning.
 ///
 /// ```
 /// fn first_len(rt: &impl AllocGlobal) -> simd_json::Result<usize> {
@@ -50,11 +53,11 @@ pub fn to_tape<'de, A: Allocator + Copy>(a: A, s: &'de mut [u8]) -> Result<Tape<
     to_tape_with_buffers(s, &mut buffers)
 }
 
-/// Reads a document as [`to_tape`] does, but within the depth limit of the buffers and with their lists. The tape takes its
-/// memory from the allocator of the buffers.
+/// Reads a document as [`to_tape`] does, but within the depth limit of the buffers and with their lists. The
+/// tape takes its memory from the allocator of the buffers.
 ///
-/// The errors are those of [`to_tape`]. After one without a character `structural_indexes` of the buffers is empty; else it
-/// lists the positions of `s`. The buffers can be used again after every answer.
+/// The errors are those of [`to_tape`]. After one without a character `structural_indexes` of the buffers is
+/// empty; else it lists the positions of `s`. The buffers can be used again after every answer.
 ///
 /// ```
 /// use simd_json::{Buffers, to_tape_with_buffers};
@@ -81,13 +84,15 @@ pub fn to_tape_with_buffers<'de, A: Allocator + Copy>(
     Ok(tape)
 }
 
-/// Reads a document into a tape that is there already, within the depth limit of the buffers and with their lists. What
-/// buffers and tape held before does not matter.
+/// Reads a document into a tape that is there already, within the depth limit of the buffers and with their
+/// lists. What buffers and tape held before does not matter.
 ///
-/// The errors are those of [`to_tape`]. After one the tape is empty. After one without a character `structural_indexes` of
-/// the buffers is empty too; else it lists the positions of `s`. Buffers and tape can be used again after every answer.
+/// The errors are those of [`to_tape`]. After one the tape is empty. After one without a character
+/// `structural_indexes` of the buffers is empty too; else it lists the positions of `s`. Buffers and tape can
+/// be used again after every answer.
 ///
-/// Where buffers and tape have capacity for as many bytes as `s` has, `OutOfMemory` is not returned. No parse gives up capacity.
+/// Where buffers and tape have capacity for as many bytes as `s` has, `OutOfMemory` is not returned. No parse
+/// gives up capacity.
 ///
 /// ```
 /// use simd_json::{Buffers, Tape, fill_tape};
@@ -128,8 +133,9 @@ pub fn fill_tape<'de, A: Allocator, B: Allocator>(
 /// Reads the document in the first `len` bytes of `s` into a tape, as [`fill_tape`] does, where at least
 /// [`INPUT_PADDING`] bytes follow it. What these hold does not matter, and they stay as they are.
 ///
-/// Returns `InsufficientPadding`, at index 0 without a character and before anything else is looked at, where fewer
-/// follow; the other errors are those of [`to_tape`] on the document. Tape and buffers are left as by [`fill_tape`].
+/// Returns `InsufficientPadding`, at index 0 without a character and before anything else is looked at, where
+/// fewer follow; the other errors are those of [`to_tape`] on the document. Tape and buffers are left as by
+/// [`fill_tape`].
 ///
 /// ```
 /// use simd_json::{Buffers, INPUT_PADDING, Tape, fill_tape_padded};

@@ -2,6 +2,7 @@
 pub mod Pieces
 pub mod Quotes
 pub mod Escapes
+pub mod EscapeTable
 pub mod Standalone
 pub mod Content
 mod CodeUnits

@@ -37,6 +37,7 @@ pub mod Printed
 pub mod TokensAlong
 pub mod Headers
 pub mod NumberRead
+pub mod NumeralRead
 pub mod StringRead
 -- What serves proofs alone: only the crate's private clauses cite it.
 pub mod DigitRuns

@@ -1,5 +1,6 @@
 //! Classes of bytes (RFC 8259, section 2), hexadecimal digits, and characters as UTF-8 (RFC 3629, section 3).
-ghost use Rattle.std.specs.Prelude.{◌≡◌, ◌≤◌, ◌++◌, if◌then◌else◌, not, length, drop, slice_index, encode_utf8};
+ghost use Rattle.std.specs.Prelude.{◌≡◌, ◌≤◌, ◌++◌, if◌then◌else◌, not, length, drop, slice_index};
+ghost use Rattle.std.specs.Prelude.{encode_utf8};
 ghost use Rattle.std.specs.Char.{len_utf8, is_digit, digit_value};
 ghost use Rattle.simd_json_parts.specs.Bytes.{is_terminator, byte_at};
 ghost use Rattle.simd_json_parts.specs.Strings.{hex_value};
@@ -44,7 +45,7 @@ pub fn hex_to_u32_nocheck(digits: [u8; 4]) -> Option<u32>
     if value < NONE { Some(value) } else { None }
 }
 
-/// Writes the character's UTF-8 at the front of `bytes`, and nothing after it; returns how many bytes that is.
+/// Writes the character's UTF-8 at the front of `bytes`, and nothing after it; returns its number of bytes.
 #[inline]
 pub fn codepoint_to_utf8(cp: char, bytes: &mut [u8]) -> usize
     requires { len_utf8 cp ≤ length bytes.old }

@@ -1,5 +1,5 @@
-//! The definitions that every contract of the workspace cites (`specs/`), the laws that tie them to one another, and
-//! the types and small readers that the other crates share.
+//! The definitions that every contract of the workspace cites (`specs/`), the laws that tie them to one
+//! another, and the types and small readers that the other crates share.
 //!
 //! - [`error`]: what a parse refuses, where, and why.
 //! - [`node`]: the nodes of a tape.

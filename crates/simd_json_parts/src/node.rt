@@ -1,5 +1,5 @@
 //! The nodes of a tape.
-ghost use Rattle.std.specs.Prelude.{◌≡◌};
+ghost use Rattle.std.specs.Prelude.{◌≡◌, ◌≤◌};
 ghost use Rattle.simd_json_parts.specs.Nodes.{static_type, item_of, item_type};
 
 /// The kind of a value.
@@ -29,7 +29,7 @@ pub enum ValueType {
 
 /// A value of fixed size: no string, no decimal, no container.
 ///
-/// Two are equal if both are null, the same truth value, or integers of the same number, whatever their kinds.
+/// Two are equal if both are null, the same truth value, or integers of the same number, of whatever kinds.
 #[derive(Clone, Copy, Debug, Drop)]
 pub enum StaticNode {
     /// `null`.
@@ -43,6 +43,24 @@ pub enum StaticNode {
 }
 
 impl StaticNode {
+    ghost use Rattle.simd_json_parts.specs.Integers.{max_magnitude, integer_node};
+
+    /// The integer of this magnitude that is written with `-`, or without it.
+    #[inline]
+    pub fn integer(minus: bool, magnitude: u64) -> StaticNode
+        requires { magnitude ≤ max_magnitude minus }
+        ensures { result ≡ integer_node minus magnitude }
+    {
+        if !minus {
+            StaticNode::U64(magnitude)
+        } else if magnitude < 1 << 63 {
+            StaticNode::I64(-(magnitude as i64))
+        } else {
+            // The least integer has no positive counterpart.
+            StaticNode::I64(i64::MIN)
+        }
+    }
+
     /// The kind of the value.
     pub fn value_type(&self) -> ValueType
         ensures { result ≡ static_type self.now }
@@ -102,7 +120,8 @@ impl Default for StaticNode {
 pub enum Node<'input> {
     /// A string or a key, with its escapes decoded.
     String(&'input str),
-    /// An object of `len` pairs, with `count` nodes beneath it: for each pair its key and then the value's nodes.
+    /// An object of `len` pairs, with `count` nodes beneath it: for each pair its key and then the value's
+    /// nodes.
     Object {
         /// How many pairs the object has.
         len: usize,
@@ -159,6 +178,25 @@ mod tests {
         assert!(rt; StaticNode::Bool(true) != StaticNode::U64(1));
         assert!(rt; StaticNode::Bool(true) != StaticNode::Bool(false));
         assert!(rt; StaticNode::default() == StaticNode::Null);
+    }
+
+    #[test]
+    fn integers_are_made_of_sign_and_magnitude(rt: HostRuntime) {
+        assert!(rt; matches!(StaticNode::integer(false, 0), StaticNode::U64(0)));
+        assert!(rt; matches!(StaticNode::integer(true, 0), StaticNode::I64(0)));
+        assert!(rt; matches!(StaticNode::integer(true, 257), StaticNode::I64(-257)));
+        assert!(rt;
+            matches!(
+                StaticNode::integer(false, u64::MAX),
+                StaticNode::U64(u64::MAX)
+            )
+        );
+        assert!(rt;
+            matches!(
+                StaticNode::integer(true, 1 << 63),
+                StaticNode::I64(i64::MIN)
+            )
+        );
     }
 
     #[test]

@@ -8,3 +8,5 @@ pub mod Layouts
 pub mod Lines
 pub mod Runs
 pub mod Unescaped
+pub mod Stores
+pub mod Letters

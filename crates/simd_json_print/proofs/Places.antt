@@ -1,8 +1,7 @@
 -- Laws of what calls give to a place.
-use Rattle.std.proofs.Common.{◌≡◌, Bool, true, false, not, cond, ◌∙◌, ap, sym, refl, subst, ℕ, List, [], ◌++◌, Option, None, Some, append_assoc, append-nil}
-use Rattle.std.specs.Prelude.{Result, Ok, Err, IsOk, OnOk}
+use Rattle.std.proofs.Common.{◌≡◌, ◌∙◌, ap, sym, refl, subst, ℕ, List, [], ◌++◌, Option, None, Some, append_assoc, append-nil}
 use Rattle.std.specs.Io.KnownBytes.{Appends}
-use Rattle.simd_json_print.specs.Places.{Place, IsCollected, Gives, Grows, HasStopped}
+use Rattle.simd_json_print.specs.Places.{Place, IsCollected, Gives, IsLonger, Grows, HasStopped}
 use Rattle.simd_json_print.specs.Prefix.{IsPrefix}
 use Rattle.simd_json_print.proofs.Prefixes.{prefix-appended}
 
@@ -49,7 +48,7 @@ collected None = ([], tt)
 collected (Some xs) = (xs, refl)
 
 pub gives-grows : (a b : Place) (xs : List ℕ) → Gives a b xs → Grows a b
-unfolding Gives Grows
+unfolding Gives Grows IsLonger
 gives-grows a b xs g =
     let c = collected a.1 in
     let p = g c.0 c.1 in
@@ -61,44 +60,28 @@ gives-new a b collected bytes none g = subst (λ o. Gives (a, o) b bytes) none g
 
 -- ---- what stays in front
 
+pub longer-same : (a : Option (List ℕ)) → IsLonger a a
+unfolding IsLonger
+longer-same a = ([], appends-none a)
+
+pub longer-then : (a b c : Option (List ℕ)) → IsLonger a b → IsLonger b c → IsLonger a c
+unfolding IsLonger
+longer-then a b c g h = (g.0 ++ h.0, appends-then a b c g.0 h.0 g.1 h.1)
+
 pub grows-none : (a : Place) → Grows a a
 unfolding Grows
-grows-none a = ([], appends-none a.0)
+grows-none a = longer-same a.0
 
 pub grows-then : (a b c : Place) → Grows a b → Grows b c → Grows a c
 unfolding Grows
-grows-then a b c g h = (g.0 ++ h.0, appends-then a.0 b.0 c.0 g.0 h.0 g.1 h.1)
+grows-then a b c g h = longer-then a.0 b.0 c.0 g h
+
+pub grows-longer : (a b : Place) → Grows a b → IsLonger a.0 b.0
+unfolding Grows
+grows-longer a b g = g
 
 -- ---- a list
 
-pub gives-dropped : (xs bytes : List ℕ) (failed : Bool) → failed ≡ true → Gives (Some xs, cond failed None (Some [])) (Some xs, cond failed None (Some [])) bytes
-unfolding Gives
-gives-dropped xs bytes true is before any = ([], before ++ bytes, tt, sym (append-nil xs), refl)
-gives-dropped xs bytes false is before any = cc
-
-pub gives-appended : (xs ys bytes : List ℕ) (before failed done : Bool) → before ≡ false → ys ≡ cond done (xs ++ bytes) xs → failed ≡ not done
-    → Gives (Some xs, cond before None (Some [])) (Some ys, cond failed None (Some [])) bytes
-unfolding Gives
-gives-appended xs ys bytes false false true b is f none nil = (bytes, [], refl, is, append-nil bytes ∙ ap (λ us. us ++ bytes) (sym nil))
-gives-appended xs ys bytes false true false b is f none nil = ([], none ++ bytes, tt, is ∙ sym (append-nil xs), refl)
-gives-appended xs ys bytes true failed done b is f none nil = cc
-gives-appended xs ys bytes false true true b is f none nil = cc
-gives-appended xs ys bytes false false false b is f none nil = cc
-
--- all that was given to a list stands there
-pub appended-all : (xs ys bytes : List ℕ) (failed : Bool) → failed ≡ false → Gives (Some xs, Some []) (Some ys, cond failed None (Some [])) bytes → ys ≡ xs ++ bytes
-unfolding Gives
-appended-all xs ys bytes true is g = cc
-appended-all xs ys bytes false is g =
-    let p = g [] refl in
-    p.3 ∙ ap (λ us. xs ++ us) (sym (append-nil p.0) ∙ ap (λ us. p.0 ++ us) (sym p.2) ∙ p.4)
-
-pub grows-prefix : (xs ys : List ℕ) (a b : Option (List ℕ)) → Grows (Some xs, a) (Some ys, b) → IsPrefix xs ys
-unfolding Grows
-grows-prefix xs ys a b g = prefix-appended xs g.0 ys g.1
-
-pub appended-result : {T E : Type 0} (r : Result T E) (xs ys bytes : List ℕ) (before failed : Bool) → before ≡ false → (IsOk r → failed ≡ false)
-    → Gives (Some xs, cond before None (Some [])) (Some ys, cond failed None (Some [])) bytes → OnOk r (ys ≡ xs ++ bytes)
-appended-result (Ok x) xs ys bytes true failed new ok g = cc
-appended-result (Ok x) xs ys bytes false failed new ok g = appended-all xs ys bytes failed (ok refl) g
-appended-result (Err x) xs ys bytes before failed new ok g = tt
+pub longer-prefix : (xs ys : List ℕ) → IsLonger (Some xs) (Some ys) → IsPrefix xs ys
+unfolding IsLonger
+longer-prefix xs ys more = prefix-appended xs more.0 ys more.1

@@ -3,7 +3,7 @@ use Rattle.std.proofs.Common.{◌≡◌, ◌∙◌, ap, sym, refl, ℕ, Bool, tr
 use Rattle.std.proofs.Math.Seq.{take-append_seam}
 use Rattle.std.specs.Prelude.{Result, Ok, Err, IsErrAnd, OnOk, OnErr}
 use Rattle.std.specs.Io.KnownBytes.{Appends, Keeps}
-use Rattle.simd_json_print.specs.Places.{Gives}
+use Rattle.simd_json_print.specs.Places.{IsLonger, Gives}
 use Rattle.simd_json_print.specs.Sent.{IsSent, Sends}
 use Rattle.simd_json_print.proofs.Places.{appends-none, appends-then}
 
@@ -27,6 +27,11 @@ sent-then a b c before middle after xs ys s t = (
   appends-then a b c s.0 t.0 s.1 t.1,
   append_assoc s.0 t.0 after ∙ ap (λ us. s.0 ++ us) t.2 ∙ sym (append_assoc s.0 middle ys) ∙ ap (λ us. us ++ ys) s.2 ∙ append_assoc before xs ys,
 )
+
+pub longer-sent : {T E : Type 0} (r : Result T E) (old new : Option (List ℕ)) (before after bytes : List ℕ) → Sends r old before new after bytes → IsLonger old new
+unfolding IsLonger
+longer-sent (Ok x) old new before after bytes s = (s.0, s.1)
+longer-sent (Err x) old new before after bytes s = (s.1.0, s.1.1)
 
 -- what is sent once nothing is left
 pub sends-after : {T E : Type 0} (r : Result T E) (a b c : Option (List ℕ)) (before middle ys : List ℕ) → IsSent a before b middle [] → middle ≡ [] → Sends r b [] c [] ys → Sends r a before c middle ys

@@ -1,8 +1,8 @@
 -- Vectors of bytes of which none is to be escaped, and two that overlap.
-use Rattle.std.proofs.Common.{◌≡◌, refl, ◌∙◌, ap, ap₂, sym, ℕ, suc, ◌+◌, ◌-◌, ◌≤◌, ◌%◌, ◌^◌, Bool, true, false, cond, eqb, ltb, ◌||◌, ◌==◌, List, [], ◌∷◌, ◌++◌, length, flat_map, map, replicate, inl, inr, arith, IsTrue}
+use Rattle.std.proofs.Common.{◌≡◌, refl, ◌∙◌, ap, ap₂, sym, ℕ, suc, ◌+◌, ◌-◌, ◌≤◌, ◌%◌, ◌^◌, Bool, true, false, cond, eqb, ltb, ◌||◌, ◌==◌, List, [], ◌∷◌, ◌++◌, length, take, drop, get_or, flat_map, map, subst, replicate, inl, inr, arith, IsTrue, IsFalse}
 use Rattle.std.proofs.lemmas.Bool.{cases_lt, eqb-true, or_parts}
 use Rattle.std.proofs.lemmas.Simd.{length-chunk, none_from_empty_mask, zip2_splat, zip2_of_maps, map-map, mask_l-mod}
-use Rattle.std.proofs.lemmas.List.{length-map}
+use Rattle.std.proofs.lemmas.List.{length-map, length-drop, length-take-le, get_or-take, get_or-drop}
 use lib.Bits.{bit_or}
 use lib.Lanes.{chunk, mask_l, zip2, top}
 use Rattle.simd_json_parts.specs.Bytes.{is_control}
@@ -57,3 +57,11 @@ unescaped-overlap d n covers within front back =
       | inl h ↦ front k p h
       | inr h ↦ back k (omega arith) (omega arith)
     ])
+
+-- those of a part
+pub unescaped-part : (d : List ℕ) (from n : ℕ) → from + n ≤ length d → AreUnescaped d from (from + n) → flat_map escaped_byte (take n (drop from d)) ≡ take n (drop from d)
+unescaped-part d from n room is =
+    let size : length (take n (drop from d)) ≡ n = length-take-le n (drop from d) (omega (arith, length-drop from d)) in
+    unescaped-all (take n (drop from d)) (λ k p q.
+    let same : get_or (take n (drop from d)) k 0 ≡ get_or d (from + k) 0 = get_or-take n (drop from d) k 0 (omega (arith, size)) ∙ get_or-drop from d k 0 in
+    subst (λ x. IsFalse (needs_escape x)) (sym same) (is (from + k) (omega arith) (omega (arith, size))))

@@ -1,5 +1,5 @@
 -- What a walk over nodes meets, turn by turn.
-use Rattle.std.proofs.Common.{◌≡◌, ◌∙◌, ap, sym, refl, ◌<◌, ◌+◌, ℕ, suc, Bool, true, false, List, [], ◌∷◌, ◌++◌, length, length-append, map, take, drop, get_or, append_assoc, codes, arith}
+use Rattle.std.proofs.Common.{◌≡◌, ◌∙◌, ap, sym, refl, ◌<◌, ◌+◌, ℕ, suc, Bool, true, false, not, nat_eq, Bor, List, [], ◌∷◌, ◌++◌, length, length-append, map, take, drop, get_or, append_assoc, codes, arith}
 use Rattle.std.proofs.lemmas.List.{length-map}
 use Rattle.simd_json_parts.proofs.Documents.Fronts.{positive, front-listed}
 use Rattle.simd_json_parts.specs.Bytes.{left_bracket, right_bracket, left_brace, right_brace}
@@ -7,6 +7,7 @@ use Rattle.simd_json_parts.specs.Document.{Document, null, boolean, integer, dec
 use Rattle.simd_json_parts.specs.Listing.{listing, elements_listing, members_listing}
 use Rattle.simd_json_parts.specs.Nodes.{Item, static_item, decimal_item, string_item, array_item, object_item, item_of}
 use Rattle.simd_json_parts.specs.Integers.{integer_node}
+use Rattle.simd_json_parts.specs.Printed.{quoted}
 use Rattle.simd_json_parts.specs.declared.node.Node.{Node}
 use Rattle.simd_json_parts.specs.declared.node.Node.TheVariants as nodes
 use Rattle.simd_json_parts.specs.declared.node.StaticNode.TheVariants as fixed
@@ -59,7 +60,7 @@ parted ns first rest (element d ds) some is split =
 
 -- a turn's text
 pub element-turn : (before : ℕ) (done l t more close whole : List ℕ) → done ++ ((before ∷ (l ++ (t ++ more))) ++ close) ≡ whole
-    → (done ++ ((before ∷ []) ++ (l ++ t))) ++ (more ++ close) ≡ whole
+    → (done ++ (before ∷ (l ++ t))) ++ (more ++ close) ≡ whole
 element-turn before done l t more close whole is =
     append_assoc done (before ∷ (l ++ t)) (more ++ close)
     ∙ ap (λ us. done ++ (before ∷ us)) (append_assoc l t (more ++ close) ∙ ap (λ us. l ++ us) (sym (append_assoc t more close)) ∙ sym (append_assoc l (t ++ more) close)) ∙ is
@@ -102,9 +103,10 @@ paired ns values value rest name (member k d ms) some is named split =
     record { k = k; d = d; others = ms; whole = refl; named = cc; front = s.0; back = s.1 }
 
 pub member-turn : (before : ℕ) (done l name t more close whole : List ℕ) → done ++ ((before ∷ (l ++ (name ++ (t ++ more)))) ++ close) ≡ whole
-    → (done ++ ((before ∷ []) ++ (l ++ (name ++ t)))) ++ (more ++ close) ≡ whole
+    → (done ++ ((before ∷ (l ++ name)) ++ t)) ++ (more ++ close) ≡ whole
 member-turn before done l name t more close whole is =
-    element-turn before done l (name ++ t) more close whole
+    ap (λ us. (done ++ (before ∷ us)) ++ (more ++ close)) (append_assoc l name t)
+    ∙ element-turn before done l (name ++ t) more close whole
     (ap (λ us. done ++ ((before ∷ (l ++ us)) ++ close)) (append_assoc name t more) ∙ is)
 
 -- ---- a value
@@ -161,3 +163,14 @@ scalar-of p n (nodes.Decimal s) d rest no_array no_object is = of-item p n (deci
 pub scalar-text : (p : Bool) (n : ℕ) (ns : List Node) (default : Node) (d : Document) → ((len count : ℕ) → get_or ns 0 default ≡ nodes.Array len count → ⊥)
     → ((len count : ℕ) → get_or ns 0 default ≡ nodes.Object len count → ⊥) → map item_of ns ≡ listing d → scalar_text (item_of (get_or ns 0 default)) ≡ text p d n
 scalar-text p n ns default d no_array no_object is = scalar-of p n (get_or ns 0 default) d (map item_of (drop 1 ns)) no_array no_object (sym (first-item ns default d is) ∙ is)
+
+pub string-text : (p : Bool) (n : ℕ) (ns : List Node) (default : Node) (s : Bor (List ℕ)) (d : Document) → get_or ns 0 default ≡ nodes.String s → map item_of ns ≡ listing d
+    → quoted s.now ≡ text p d n
+string-text p n ns default s d kind is = ap (λ x. scalar_text (item_of x)) (sym kind) ∙ scalar-text p n ns default d (λ l c e. cc) (λ l c e. cc) is
+
+-- a string in an array of compact text
+pub string-element : (m n before : ℕ) (ns : List Node) (default : Node) (s : Bor (List ℕ)) (d : Document) → m ≡ 0 → get_or ns 0 default ≡ nodes.String s → map item_of ns ≡ listing d
+    → before ∷ quoted s.now ≡ before ∷ (line (not (nat_eq m 0)) n ++ text (not (nat_eq m 0)) d n)
+string-element m n before ns default s d none kind is =
+    ap (λ us. before ∷ us) (string-text (not (nat_eq m 0)) n ns default s d kind is)
+    ∙ ap (λ k. before ∷ (line (not (nat_eq k 0)) n ++ text (not (nat_eq m 0)) d n)) (sym none)

@@ -16,9 +16,13 @@ unfoldable pub Gives : Place → Place → List ℕ → Type 0
 Gives old new bytes = (before : List ℕ) → IsCollected old.1 before
     → (sent : List ℕ) × (after : List ℕ) × IsCollected new.1 after × Appends old.0 new.0 sent × (sent ++ after ≡ before ++ bytes)
 
+-- of the bytes that a place or a writer is known to hold: what it held is still in front
+unfoldable pub IsLonger : Option (List ℕ) → Option (List ℕ) → Type 0
+IsLonger old new = (sent : List ℕ) × Appends old new sent
+
 -- what the place held is still in front
 unfoldable pub Grows : Place → Place → Type 0
-Grows old new = (sent : List ℕ) × Appends old.0 new.0 sent
+Grows old new = IsLonger old.0 new.0
 
 abbrev pub HasStopped : Place → Type 0
 HasStopped place = place.1 ≡ None

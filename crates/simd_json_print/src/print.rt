@@ -4,15 +4,18 @@ ghost use Rattle.simd_json_parts.specs.Printed.{quoted};
 ghost use Rattle.simd_json_print.specs.Places.{Gives};
 ghost use Rattle.simd_json_print.specs.Prefix.{IsPrefix};
 
-use crate::place::list::Appending;
-use crate::place::{Sink, quoted};
+use crate::place::Sink;
+use crate::place::writer::Writing;
 use std::alloc::{AllocError, Allocator};
+
+// How many bytes are collected for a list. They are on the stack and filled with zeros first.
+const PIECE: usize = 256;
 
 /// Gives a place a string as it is printed: between quotes, with a quote, a backslash and what is below 0x20 escaped.
 pub fn put_quoted<P, S: Sink<P>>(sink: &mut S, target: &mut P, string: &str)
     ensures { Gives (S.place sink.old target.old) (S.place sink.new target.new) (quoted string.now) }
 {
-    quoted::put_quoted(sink, target, string);
+    sink.put_string(target, b"\"", string, b"\"");
 }
 
 /// Appends a string as it is printed: between quotes, with a quote, a backslash and what is below 0x20 escaped.
@@ -25,9 +28,9 @@ pub fn append_quoted<A: Allocator>(
     ensures appended { OnOk result (out.new.items ≡ out.old.items ++ quoted string.now) }
     ensures kept { IsPrefix out.old.items out.new.items }
 {
-    let mut sink = Appending::new();
+    let mut sink = Writing::<PIECE>::new();
     put_quoted(&mut sink, out, string);
-    sink.result()
+    sink.finish(out).map_err(|_| AllocError)
 }
 
 #[cfg(test)]

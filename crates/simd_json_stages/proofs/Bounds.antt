@@ -1,6 +1,6 @@
 -- What the machine counts stays within bounds from one token to the next.
 use Rattle.std.proofs.Common.{inl, inr, ◌≡◌, ◌≢◌, refl, sym, ◌∙◌, ap, subst, ℕ, ◌+◌, ◌*◌, ◌-◌, ◌<◌, ◌≤◌, List, [], ◌∷◌, ◌++◌, length, get_or, drop, Contains, arith}
-use Rattle.std.specs.Prelude.{Some, slice_index}
+use Rattle.std.specs.Prelude.{Some, Result, IfErr, IsErrAnd, slice_index}
 use Rattle.std.proofs.lemmas.Bool.{cases_lt}
 use Rattle.simd_json_parts.specs.Bytes.{byte_at}
 use Rattle.simd_json_parts.specs.Positions.{positions}
@@ -12,13 +12,15 @@ use Rattle.simd_json_parts.specs.declared.node.Node.{Node}
 use Rattle.simd_json_stages.specs.Building.{AtValue, AtName, Tells}
 use Rattle.simd_json_stages.specs.Left.{Left}
 use Rattle.simd_json_stages.specs.NodesEnough.{nodes_enough}
-use Rattle.simd_json_stages.specs.Progresses.{EndsClosed, IsRead, IsBefore, IsAfter}
+use Rattle.simd_json_stages.specs.Progresses.{EndsClosed, IsRead, IsNext, IsBefore, IsAfter}
 use Rattle.simd_json_stages.specs.declared.stage2.Container.{Container}
 use Rattle.simd_json_stages.specs.Put.{IsStringPut, IsScalarPut}
 use Rattle.simd_json_stages.specs.declared.stage2.Progress.{Progress}
 use Rattle.simd_json_stages.specs.declared.stage2.StackState.{StackState}
 use Rattle.simd_json_stages.specs.declared.stage2.fault.Fault.{Fault}
 use Rattle.simd_json_stages.specs.declared.stage2.fault.FaultKind.{FaultKind}
+use Rattle.simd_json_stages.specs.declared.stage2.fault.FaultKind.TheVariants as kinds
+use Rattle.simd_json_stages.proofs.Exits.{passed-on}
 use Rattle.simd_json_stages.proofs.Places.{token, at-inside, position-inside, next-later, IsRead-next, IsRead-same, end-before_next, unread-length, unread-byte, token-read}
 use Rattle.simd_json_stages.proofs.TokenForms.{quotes}
 
@@ -27,6 +29,11 @@ pub told-at : (b ps : List ℕ) (limit : ℕ) (kind : FaultKind) (p : Progress) 
     → Tells b ps limit (record { kind = kind; index = p.at; byte = byte_at b p.at }) → Tells b ps limit f
 told-at b ps limit kind p f is first told =
     subst (Tells b ps limit) (sym is) (subst (λ x. Tells b ps limit (record { kind = kind; index = p.at; byte = x })) (sym first) told)
+
+-- no token after the last one, as `next_token` answers, and a `?` hands it on
+pub told-none : {A : Type 0} (b ps : List ℕ) (limit : ℕ) (p : Progress) (r : Result A Fault) (f : Fault) → IsErrAnd r (λ x. x ≡ f) → f ≡ record { kind = kinds.Syntax; index = p.at; byte = byte_at b p.at }
+    → Tells b ps limit (record { kind = kinds.Syntax; index = p.at; byte = byte_at b p.at }) → IfErr r (Tells b ps limit)
+told-none b ps limit p r f handed is told = passed-on r f (Tells b ps limit) handed (subst (Tells b ps limit) (sym is) told)
 
 -- where the last position holds a closing bracket, after any other token a position is left
 pub some-left : (b ps : List ℕ) (p : Progress) → EndsClosed b ps → IsRead b ps p → p.byte ≢ 93 → p.byte ≢ 125 → p.read < length ps
@@ -56,6 +63,13 @@ nodes-within b ps u limit n p r deep enough = omega (arith, r.read.within, r.use
 pub all-within : (used positions limit n : ℕ) → 2 * used ≤ positions + 1 → nodes_enough positions limit ≤ n → used ≤ n
 unfolding nodes_enough
 all-within used positions limit n half enough = omega arith
+
+-- the next token's number and byte
+pub next-read : (b ps : List ℕ) (p q : Progress) → IsNext b ps p q → q.read ≡ p.read + 1
+next-read b ps p q n = ap (λ (q : Progress). q.read) n.same
+
+pub next-byte : (b ps : List ℕ) (p q : Progress) → IsNext b ps p q → byte_at b (get_or ps p.read 0) ≡ q.byte
+next-byte b ps p q n = sym (ap (λ (q : Progress). q.byte) n.same)
 
 module _ (b ps : List ℕ) (e : ps ≡ positions b) where
   lift : (P : List ℕ → Type 0) → P (positions b) → P ps
@@ -89,14 +103,25 @@ module _ (b ps : List ℕ) (e : ps ≡ positions b) where
       → q ≡ record p { read = p.read + 1; at = get_or ps p.read 0; byte = byte_at b (get_or ps p.read 0) }
   at-next u p q x same l is next = next ∙ ap (λ x. record p { read = p.read + 1; at = get_or ps p.read 0; byte = x }) (looked u (get_or ps p.read 0) x same l is)
 
+  -- it is the next one
+  pub is-next : (p q : Progress) → IsRead b ps p → p.read < length ps → q ≡ record p { read = p.read + 1; at = get_or ps p.read 0; byte = byte_at b (get_or ps p.read 0) } → IsNext b ps p q
+  is-next p q r more is =
+      record {
+        more = more;
+        read = read-next p q r more (ap (λ (q : Progress). q.read) is) (ap (λ (q : Progress). q.at) is) (ap (λ (q : Progress). q.byte) is);
+        same = is;
+      }
+
+  -- and what is unread no later than one position is unread no later than the next
+  pub next-ahead : (u : Left) (p q : Progress) → IsNext b ps p q → u.at ≤ get_or ps p.read 0 → q.read < length ps → u.at ≤ get_or ps q.read 0
+  next-ahead u p q n l more = omega (arith, ap (λ (q : Progress). q.at) n.same, later q n.read more)
+
   -- after a first token that closes its container at once
-  pub after-first : (u : Left) (p q : Progress) (x : ℕ) → IsBefore b ps u p → p.read < length ps → x ≡ byte_at u.bytes (get_or ps p.read 0 - u.at) → q ≡ record p { read = p.read + 1; at = get_or ps p.read 0; byte = x }
-      → IsAfter b ps u (record q { used = q.used + 1; len = q.len + 1 })
-  after-first u p q x r more is next =
+  pub after-first : (u : Left) (p q : Progress) → IsBefore b ps u p → IsNext b ps p q → IsAfter b ps u (record q { used = q.used + 1; len = q.len + 1 })
+  after-first u p q r n =
+      let more : p.read < length ps = n.more in
       let l : p.at < get_or ps p.read 0 = later p r.read more in
-      let ahead : u.at ≤ get_or ps p.read 0 = omega (arith, r.unread.before) in
-      let q-is : q ≡ record p { read = p.read + 1; at = get_or ps p.read 0; byte = byte_at b (get_or ps p.read 0) } = at-next u p q x r.unread.same ahead is next in
-      subst (λ (q : Progress). IsAfter b ps u (record q { used = q.used + 1; len = q.len + 1 })) (sym q-is)
+      subst (λ (q : Progress). IsAfter b ps u (record q { used = q.used + 1; len = q.len + 1 })) (sym n.same)
       (let s : Progress = record p { read = p.read + 1; at = get_or ps p.read 0; byte = byte_at b (get_or ps p.read 0); used = p.used + 1; len = p.len + 1 } in
       let read : IsRead b ps s = read-next p s r.read more refl refl refl in
       record {
@@ -105,23 +130,22 @@ module _ (b ps : List ℕ) (e : ps ≡ positions b) where
         deep = omega (arith, r.deep);
         len = omega (arith, r.len);
         same = r.unread.same;
-        before = λ h. omega (arith, later s read h);
+        before = λ h. omega (arith, r.unread.before, later s read h);
       })
 
   -- at the first token of a container that has members
-  pub before-first : (u : Left) (p q : Progress) (c : Container) (x : ℕ) → IsBefore b ps u p → p.read < length ps → x ≡ byte_at u.bytes (get_or ps p.read 0 - u.at) → q ≡ record p { read = p.read + 1; at = get_or ps p.read 0; byte = x }
+  pub before-first : (u : Left) (p q : Progress) (c : Container) → IsBefore b ps u p → IsNext b ps p q
       → IsBefore b ps u (record { read = q.read; at = q.at; byte = q.byte; used = p.used + 1; depth = p.depth + 1; container = c; len = 0 })
-  before-first u p q c x r more is next =
+  before-first u p q c r n =
+      let more : p.read < length ps = n.more in
       let l : p.at < get_or ps p.read 0 = later p r.read more in
-      let ahead : u.at ≤ get_or ps p.read 0 = omega (arith, r.unread.before) in
-      let q-is : q ≡ record p { read = p.read + 1; at = get_or ps p.read 0; byte = byte_at b (get_or ps p.read 0) } = at-next u p q x r.unread.same ahead is next in
-      subst (λ (q : Progress). IsBefore b ps u (record { read = q.read; at = q.at; byte = q.byte; used = p.used + 1; depth = p.depth + 1; container = c; len = 0 })) (sym q-is)
+      subst (λ (q : Progress). IsBefore b ps u (record { read = q.read; at = q.at; byte = q.byte; used = p.used + 1; depth = p.depth + 1; container = c; len = 0 })) (sym n.same)
       (record {
         read = read-next p (record { read = p.read + 1; at = get_or ps p.read 0; byte = byte_at b (get_or ps p.read 0); used = p.used + 1; depth = p.depth + 1; container = c; len = 0 }) r.read more refl refl refl;
         used = omega (arith, r.used);
         deep = omega (arith, r.deep);
         len = omega arith;
-        unread = record { same = r.unread.same; before = ahead };
+        unread = record { same = r.unread.same; before = omega (arith, r.unread.before) };
       })
 
   -- ---- tokens

@@ -1,6 +1,6 @@
 -- After a comma stands the next member.
 use Rattle.std.proofs.Common.{◌≡◌, ◌≢◌, refl, sym, ◌∙◌, ap, subst, ℕ, ◌+◌, ◌-◌, ◌<◌, ◌≤◌, List, [], ◌∷◌, length, get_or, map, take, drop, arith}
-use Rattle.std.specs.Prelude.{None, Result, Ok, Err, IfOk, IfErr, MatchResult}
+use Rattle.std.specs.Prelude.{None, Result, Ok, Err, IfOk, IfErr, IsErrAnd, MatchResult}
 use Rattle.simd_json_parts.specs.Bytes.{byte_at}
 use Rattle.simd_json_parts.specs.InputFaults.{input_fault}
 use Rattle.simd_json_parts.specs.Positions.{positions}
@@ -9,15 +9,13 @@ use Rattle.simd_json_parts.specs.declared.node.Node.TheVariants.{Static}
 use Rattle.simd_json_parts.specs.declared.node.StaticNode.TheVariants.{Null}
 use Rattle.simd_json_parts.specs.Nodes.{item_of}
 use Rattle.simd_json_stages.specs.Continued.{Open}
-use Rattle.simd_json_stages.specs.Building.{closer, end_kind, frames, top, patch, HoldsValue, AfterValue, Goes, Takes, Tells}
+use Rattle.simd_json_stages.specs.Building.{closer, end_kind, frames, top, patch, HoldsValue, AfterValue, Goes, Tells}
 use Rattle.simd_json_stages.specs.EscapesAhead.{AreAhead}
 use Rattle.simd_json_stages.specs.Left.{Left}
 use Rattle.simd_json_stages.specs.Members.{HasCapacity, AtFirst}
-use Rattle.simd_json_stages.specs.Progresses.{IsRead, IsBefore, IsAfter, IsTurned, Turns}
+use Rattle.simd_json_stages.specs.Progresses.{IsRead, IsNext, IsBefore, IsAfter}
 use Rattle.simd_json_stages.specs.declared.stage2.Container.TheVariants.{Array}
 use Rattle.simd_json_stages.specs.declared.stage2.Follower.{Follower}
-use Rattle.simd_json_stages.specs.declared.stage2.Turn.{Turn}
-use Rattle.simd_json_stages.specs.declared.stage2.Turn.TheVariants as turns
 use Rattle.simd_json_stages.specs.declared.stage2.escapes.Escapes.{Escapes}
 use Rattle.simd_json_stages.specs.declared.stage2.Follower.TheVariants.{End}
 use Rattle.simd_json_stages.specs.declared.stage2.Progress.{Progress}
@@ -25,11 +23,11 @@ use Rattle.simd_json_stages.specs.declared.stage2.StackState.{StackState}
 use Rattle.simd_json_stages.specs.declared.stage2.fault.Fault.{Fault}
 use Rattle.simd_json_stages.specs.declared.stage2.fault.FaultKind.{FaultKind}
 use Rattle.simd_json_stages.specs.declared.stage2.fault.FaultKind.TheVariants as kinds
-use Rattle.simd_json_stages.proofs.Bounds.{told-at, inside, later, looks, looked, read-next}
-use Rattle.simd_json_stages.proofs.BuildingSteps.{items-length, step-comma, step-close, step-end, root-value}
+use Rattle.simd_json_stages.proofs.Bounds.{told-at, told-none, inside, later, read-next, next-read}
+use Rattle.simd_json_stages.proofs.BuildingSteps.{items-length, step-close, step-end, root-value}
 use Rattle.simd_json_stages.proofs.EscapesPassed.{ahead-later}
 use Rattle.simd_json_stages.proofs.Holding.{listing-some}
-use Rattle.simd_json_stages.proofs.Refusing.{tells-comma_end, tells-trailing}
+use Rattle.simd_json_stages.proofs.Refusing.{tells-trailing}
 
 module _ (b ps : List ℕ) (e : ps ≡ positions b) where
   -- the progress at the next position
@@ -43,72 +41,47 @@ module _ (b ps : List ℕ) (e : ps ≡ positions b) where
   two_more-is : (p : Progress) → one_more (one_more p) ≡ two_more p
   two_more-is p = let two : (p.read + 1) + 1 ≡ p.read + 2 = omega arith in ap (λ n. record p { read = n; at = get_or ps (p.read + 1) 0; byte = byte_at b (get_or ps (p.read + 1) 0) }) two
 
-  -- what `next_member` answers, told of the progress before the comma
-  abbrev pub Answers : Progress → Result Turn Fault → Type 0
-  Answers p r = MatchResult r (λ f. (p.read + 1 < length ps) × (f ≡ turns.Next (two_more p)))
-      (λ fault. (length ps ≤ p.read + 1) × (fault ≡ record { kind = kinds.Syntax; index = get_or ps p.read 0; byte = byte_at b (get_or ps p.read 0) }))
-
   -- the second of two positions is after the first
   rises : (p : Progress) → IsRead b ps p → p.read + 1 < length ps → get_or ps p.read 0 < get_or ps (p.read + 1) 0
   rises p r more = later b ps e (one_more p) (read-next b ps e p (one_more p) r (omega arith) refl refl refl) more
 
-  pub bounds-comma : (u : Left) (p q : Progress) → IsAfter b ps u p → p.read < length ps → q ≡ one_more p → q.read < length ps → (u.at ≤ get_or ps q.read 0) × (get_or ps q.read 0 < u.at + length u.bytes)
-  bounds-comma u p q r more is h =
-      let read : q.read ≡ p.read + 1 = ap (λ (q : Progress). q.read) is in
-      let k : p.read + 1 < length ps = omega arith in
-      let l : get_or ps p.read 0 < get_or ps (p.read + 1) 0 = rises p r.read k in
-      subst (λ n. (u.at ≤ get_or ps n 0) × (get_or ps n 0 < u.at + length u.bytes)) (sym read) (looks b ps e u (get_or ps (p.read + 1) 0) r.same (omega (arith, r.before more)) (inside b ps e (p.read + 1) k))
+  -- to go on twice
+  pub two-left : (p q s : Progress) → IsNext b ps p q → IsNext b ps q s → p.read + 1 < length ps
+  two-left p q s n m = omega (arith, m.more, next-read b ps p q n)
 
-  pub answers : (u : Left) (p q : Progress) (r : Result Turn Fault) → IsAfter b ps u p → p.read < length ps → q ≡ one_more p
-      → MatchResult r (λ f. (q.read < length ps) × (f ≡ turns.Next (record q { read = q.read + 1; at = get_or ps q.read 0; byte = byte_at u.bytes (get_or ps q.read 0 - u.at) })))
-      (λ fault. (length ps ≤ q.read) × (fault ≡ record { kind = kinds.Syntax; index = q.at; byte = q.byte })) → Answers p r
-  answers u p q r after more is h =
-      go r (subst (λ (q : Progress). MatchResult r (λ f. (q.read < length ps) × (f ≡ turns.Next (record q { read = q.read + 1; at = get_or ps q.read 0; byte = byte_at u.bytes (get_or ps q.read 0 - u.at) })))
-      (λ fault. (length ps ≤ q.read) × (fault ≡ record { kind = kinds.Syntax; index = q.at; byte = q.byte }))) is h)
-    where
-      go : (r : Result Turn Fault) → MatchResult r (λ f. (p.read + 1 < length ps) × (f ≡ turns.Next (record p { read = (p.read + 1) + 1; at = get_or ps (p.read + 1) 0; byte = byte_at u.bytes (get_or ps (p.read + 1) 0 - u.at) })))
-          (λ fault. (length ps ≤ p.read + 1) × (fault ≡ record { kind = kinds.Syntax; index = get_or ps p.read 0; byte = byte_at b (get_or ps p.read 0) })) → Answers p r
-      go (Ok f) (k, next) =
-          let l : get_or ps p.read 0 < get_or ps (p.read + 1) 0 = rises p after.read k in
-          let byte : byte_at u.bytes (get_or ps (p.read + 1) 0 - u.at) ≡ byte_at b (get_or ps (p.read + 1) 0) = looked b ps e u (get_or ps (p.read + 1) 0) _ after.same (omega (arith, after.before more)) refl in
-          (k, next ∙ ap (λ x. turns.Next (record p { read = (p.read + 1) + 1; at = get_or ps (p.read + 1) 0; byte = x })) byte ∙ ap turns.Next (two_more-is p))
-      go (Err fault) h = h
+  pub two-is : (p q s : Progress) → IsNext b ps p q → IsNext b ps q s → s ≡ two_more p
+  two-is p q s n m = m.same ∙ ap one_more n.same ∙ two_more-is p
 
-  pub next-progress : (u : Left) (p : Progress) (r : Result Turn Fault) → IsAfter b ps u p → p.read < length ps → Answers p r → IfOk r (IsTurned b ps u)
-  next-progress u p (Err fault) after more h = tt
-  next-progress u p (Ok f) after more (k, is) =
-      let first : IsRead b ps (one_more p) = read-next b ps e p (one_more p) after.read more refl refl refl in
-      let l : get_or ps p.read 0 < get_or ps (p.read + 1) 0 = rises p after.read k in
-      subst (IsTurned b ps u) (sym is)
+  pub two-advances : (p q s : Progress) → IsRead b ps p → IsNext b ps p q → IsNext b ps q s → (p.read < s.read) × (p.at ≤ s.at) × (s.depth ≡ p.depth) × (s.container ≡ p.container)
+  two-advances p q s r n m =
+      let l : get_or ps p.read 0 < get_or ps (p.read + 1) 0 = rises p r (two-left p q s n m) in
+      let first : p.at < get_or ps p.read 0 = later b ps e p r n.more in
+      subst (λ (s : Progress). (p.read < s.read) × (p.at ≤ s.at) × (s.depth ≡ p.depth) × (s.container ≡ p.container)) (sym (two-is p q s n m)) (omega arith, omega arith, refl, refl)
+
+  -- no token after the next one
+  pub told-next_none : {A : Type 0} (limit : ℕ) (p q : Progress) (r : Result A Fault) (f : Fault) → IsNext b ps p q → IsErrAnd r (λ x. x ≡ f) → f ≡ record { kind = kinds.Syntax; index = q.at; byte = byte_at b q.at }
+      → Tells b ps limit (record { kind = kinds.Syntax; index = get_or ps p.read 0; byte = byte_at b (get_or ps p.read 0) }) → IfErr r (Tells b ps limit)
+  told-next_none limit p q r f n handed is told =
+      told-none b ps limit q r f handed is (subst (λ (q : Progress). Tells b ps limit (record { kind = kinds.Syntax; index = q.at; byte = byte_at b q.at })) (sym n.same) told)
+
+  -- after a comma
+  pub comma-progress : (u : Left) (p q s : Progress) → IsAfter b ps u p → IsNext b ps p q → IsNext b ps q s → IsBefore b ps u s
+  comma-progress u p q s after n m =
+      let two : p.read + 1 < length ps = two-left p q s n m in
+      let l : get_or ps p.read 0 < get_or ps (p.read + 1) 0 = rises p after.read two in
+      subst (IsBefore b ps u) (sym (two-is p q s n m))
       (record {
-        read = read-next b ps e (one_more p) (two_more p) first k (omega arith) refl refl;
+        read = subst (IsRead b ps) (two-is p q s n m) m.read;
         used = omega (arith, after.used);
         deep = omega (arith, after.deep);
         len = after.len;
-        unread = record { same = after.same; before = omega (arith, after.before more) };
+        unread = record { same = after.same; before = omega (arith, after.before n.more) };
       })
-
-  pub next-passed : (u : Left) (p : Progress) (r : Result Turn Fault) → IsAfter b ps u p → p.read < length ps → Answers p r → IfOk r (Turns p)
-  next-passed u p (Err fault) after more h = tt
-  next-passed u p (Ok f) after more (two, is) =
-      let l : get_or ps p.read 0 < get_or ps (p.read + 1) 0 = rises p after.read two in
-      let m : p.at < get_or ps p.read 0 = later b ps e p after.read more in
-      subst (Turns p) (sym is) (omega arith, omega arith, refl, refl)
 
   -- a fault at the next token
   pub told-next : (limit : ℕ) (kind : FaultKind) (p q : Progress) (f : Fault) → q ≡ one_more p → f ≡ record { kind = kind; index = q.at; byte = q.byte }
       → Tells b ps limit (record { kind = kind; index = get_or ps p.read 0; byte = byte_at b (get_or ps p.read 0) }) → Tells b ps limit f
   told-next limit kind p q f is fault told = subst (Tells b ps limit) (sym (fault ∙ ap (λ (q : Progress). record { kind = kind; index = q.at; byte = q.byte }) is)) told
-
-  pub next-goes : (limit : ℕ) (stack : List StackState) (nodes : List Node) (p : Progress) (r : Result Turn Fault) → AfterValue b ps limit stack nodes p → 0 < p.depth → p.read < length ps → byte_at b (get_or ps p.read 0) ≡ 44 → Answers p r
-      → IfOk r (Takes b ps limit stack nodes)
-  next-goes limit stack nodes p (Err fault) at some more comma h = tt
-  next-goes limit stack nodes p (Ok f) at some more comma (k, is) = subst (Takes b ps limit stack nodes) (sym is) (step-comma b ps limit stack nodes p at some more comma k)
-
-  pub next-tells : (limit : ℕ) (stack : List StackState) (nodes : List Node) (p : Progress) (r : Result Turn Fault) → AfterValue b ps limit stack nodes p → 0 < p.depth → p.read < length ps → byte_at b (get_or ps p.read 0) ≡ 44 → Answers p r
-      → IfErr r (Tells b ps limit)
-  next-tells limit stack nodes p (Ok f) at some more comma h = tt
-  next-tells limit stack nodes p (Err fault) at some more comma (k, is) = subst (Tells b ps limit) (sym is) (tells-comma_end b ps limit stack nodes p at some more comma (omega arith))
 
   -- after a closing bracket, as `close` makes the progress
   pub closed-after : (u : Left) (stack : List StackState) (p q q' : Progress) → IsAfter b ps u p → 0 < p.depth → p.read < length ps → (top stack p.depth).len < p.used → q ≡ one_more p
@@ -135,40 +108,18 @@ module _ (b ps : List ℕ) (e : ps ≡ positions b) where
 
   -- ---- after a name and its colon
 
-  pub second-looks : (u : Left) (p q : Progress) → IsRead b ps p → u.bytes ≡ drop u.at b → u.at ≤ get_or ps p.read 0 → p.read < length ps → q ≡ one_more p → (q.read ≡ length ps → ⊥) → (u.at ≤ get_or ps q.read 0) × (get_or ps q.read 0 < u.at + length u.bytes)
-  second-looks u p q r same ahead more is other =
-      let read : q.read ≡ p.read + 1 = ap (λ (q : Progress). q.read) is in
-      let k : p.read + 1 < length ps = omega (arith, read, other) in
-      let l : get_or ps p.read 0 < get_or ps (p.read + 1) 0 = rises p r k in
-      subst (λ n. (u.at ≤ get_or ps n 0) × (get_or ps n 0 < u.at + length u.bytes)) (sym read) (looks b ps e u (get_or ps (p.read + 1) 0) same (omega arith) (inside b ps e (p.read + 1) k))
-
-  pub second-is : (u : Left) (p q s : Progress) (x : ℕ) → IsRead b ps p → u.bytes ≡ drop u.at b → u.at ≤ get_or ps p.read 0 → p.read + 1 < length ps → q ≡ one_more p → x ≡ byte_at u.bytes (get_or ps q.read 0 - u.at)
-      → s ≡ record q { read = q.read + 1; at = get_or ps q.read 0; byte = x } → s ≡ two_more p
-  second-is u p q s x r same ahead k is byte next =
-      let l : get_or ps p.read 0 < get_or ps (p.read + 1) 0 = rises p r k in
-      let byte' : x ≡ byte_at u.bytes (get_or ps (p.read + 1) 0 - u.at) = subst (λ (q : Progress). x ≡ byte_at u.bytes (get_or ps q.read 0 - u.at)) is byte in
-      let there : x ≡ byte_at b (get_or ps (p.read + 1) 0) = looked b ps e u (get_or ps (p.read + 1) 0) x same (omega arith) byte' in
-      next ∙ ap (λ (q : Progress). record q { read = q.read + 1; at = get_or ps q.read 0; byte = x }) is ∙ ap (λ y. record (one_more p) { read = (p.read + 1) + 1; at = get_or ps (p.read + 1) 0; byte = y }) there ∙ two_more-is p
-
-  pub named-progress : (u u' : Left) (p s : Progress) → IsBefore b ps u p → u'.bytes ≡ drop u'.at b → u'.at ≤ get_or ps p.read 0 → p.read + 1 < length ps → s ≡ two_more p → IsBefore b ps u' (record s { used = p.used + 1 })
-  named-progress u u' p s r same ahead k is =
-      let more : p.read < length ps = omega arith in
-      let l : get_or ps p.read 0 < get_or ps (p.read + 1) 0 = rises p r.read k in
-      let first : IsRead b ps (one_more p) = read-next b ps e p (one_more p) r.read more refl refl refl in
-      subst (λ (s : Progress). IsBefore b ps u' (record s { used = p.used + 1 })) (sym is)
+  pub named-progress : (u u' : Left) (p q s : Progress) → IsBefore b ps u p → u'.bytes ≡ drop u'.at b → u'.at ≤ get_or ps p.read 0 → IsNext b ps p q → IsNext b ps q s → IsBefore b ps u' (record s { used = p.used + 1 })
+  named-progress u u' p q s r same ahead n m =
+      let two : p.read + 1 < length ps = two-left p q s n m in
+      let l : get_or ps p.read 0 < get_or ps (p.read + 1) 0 = rises p r.read two in
+      subst (λ (s : Progress). IsBefore b ps u' (record s { used = p.used + 1 })) (sym (two-is p q s n m))
       (record {
-        read = read-next b ps e (one_more p) (record (two_more p) { used = p.used + 1 }) first k (omega arith) refl refl;
+        read = read-next b ps e q (record (two_more p) { used = p.used + 1 }) n.read m.more (ap (λ (s : Progress). s.read) (sym (two-is p q s n m) ∙ m.same)) (ap (λ (s : Progress). s.at) (sym (two-is p q s n m) ∙ m.same)) (ap (λ (s : Progress). s.byte) (sym (two-is p q s n m) ∙ m.same));
         used = omega (arith, r.used);
         deep = omega (arith, r.deep);
         len = omega (arith, r.len);
         unread = record { same = same; before = omega arith };
       })
-
-  pub named-advances : (p s : Progress) → IsRead b ps p → p.read + 1 < length ps → s ≡ two_more p → (p.read < s.read) × (p.at ≤ s.at) × (s.depth ≡ p.depth) × (s.container ≡ p.container)
-  named-advances p s r k is =
-      let l : get_or ps p.read 0 < get_or ps (p.read + 1) 0 = rises p r k in
-      let m : p.at < get_or ps p.read 0 = later b ps e p r (omega arith) in
-      subst (λ (s : Progress). (p.read < s.read) × (p.at ≤ s.at) × (s.depth ≡ p.depth) × (s.container ≡ p.container)) (sym is) (omega arith, omega arith, refl, refl)
 
   -- after the root, as `end` answers
   pub end-goes : (limit : ℕ) (stack : List StackState) (nodes : List Node) (p : Progress) (r : Result Follower Fault) (Q : Fault → Type 0) → AfterValue b ps limit stack nodes p → p.depth ≡ 0

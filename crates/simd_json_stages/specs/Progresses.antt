@@ -17,6 +17,12 @@ pub record IsRead (b ps : List ℕ) (p : Progress) : Type 0 where
   pub last : p.at ≡ slice_index ps (p.read - 1)
   pub first : p.byte ≡ byte_at b p.at
 
+-- q is at the position after p's, and nothing else has changed
+pub record IsNext (b ps : List ℕ) (p q : Progress) : Type 0 where
+  pub more : p.read < length ps
+  pub read : IsRead b ps q
+  pub same : q ≡ record p { read = p.read + 1; at = slice_index ps p.read; byte = byte_at b (slice_index ps p.read) }
+
 -- the last position holds a closing bracket
 abbrev pub EndsClosed : List ℕ → List ℕ → Type 0
 EndsClosed b ps = (byte_at b (slice_index ps (length ps - 1)) ≡ 93) ⊎ (byte_at b (slice_index ps (length ps - 1)) ≡ 125)

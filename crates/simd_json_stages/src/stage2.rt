@@ -16,6 +16,7 @@ mod names;
 mod scalar;
 mod state;
 mod strings;
+mod tokens;
 mod turns;
 mod unread;
 mod values;
@@ -61,16 +62,18 @@ impl Default for StackState {
     }
 }
 
-// How far the machine is: how many positions it has read, the index and the first byte of the last token, how many nodes
-// are in use, how many containers are open, and of the innermost of them what it is and how many members it has.
+// How far the machine is: the index and the first byte of the last token, what the innermost open container
+// is, how many positions are read, how many nodes are in use, how many containers are open, and how many
+// members the innermost has. It begins as a fault does, so that a result which holds either one keeps it in
+// the same registers.
 #[derive(Clone, Copy, Debug, Drop)]
 pub(crate) struct Progress {
-    pub(crate) read: usize,
     pub(crate) at: usize,
     pub(crate) byte: u8,
+    pub(crate) container: Container,
+    pub(crate) read: usize,
     pub(crate) used: usize,
     pub(crate) depth: usize,
-    pub(crate) container: Container,
     pub(crate) len: usize,
 }
 
@@ -102,8 +105,9 @@ fn closes(byte: u8) -> bool
     byte == b']' || byte == b'}'
 }
 
-/// How many nodes are enough for the tape of so many structural positions, with so many containers open at most: one for each
-/// container that may be open, and one for every other of the positions that are left. Never more than there are positions.
+/// How many nodes are enough for the tape of so many structural positions, with so many containers open at
+/// most: one for each container that may be open, and one for every other of the positions that are left.
+/// Never more than there are positions.
 #[tactic(auto, unfolding(crate::specs::NodesEnough::nodes_enough))]
 pub fn nodes_enough(positions: usize, max_depth: usize) -> usize
     ensures enough { result ≡ nodes_enough positions max_depth }
@@ -113,12 +117,13 @@ pub fn nodes_enough(positions: usize, max_depth: usize) -> usize
     open + (positions - open).div_ceil(2)
 }
 
-/// Builds the tape of an input from its structural positions and from the blocks of 64 bytes that hold a backslash: writes
-/// its nodes to the front of `nodes`, and returns how many there are; [`nodes_enough`] tells how long that must be. `stack` holds
-/// what is kept of open containers.
+/// Builds the tape of an input from its structural positions and from the blocks of 64 bytes that hold a
+/// backslash: writes its nodes to the front of `nodes`, and returns how many there are; [`nodes_enough`]
+/// tells how long that must be. `stack` holds what is kept of open containers.
 ///
-/// The nodes are the listing of the document that the descent reads. An error is the descent's own fault, with the index
-/// and the character that belong to it; none is for want of memory, and none is of the whole input.
+/// The nodes are the listing of the document that the descent reads. An error is the descent's own fault,
+/// with the index and the character that belong to it; none is for want of memory, and none is of the whole
+/// input.
 pub fn build_tape<'de>(
     input: &'de mut [u8],
     structural_indexes: &[u32],
@@ -143,12 +148,12 @@ pub fn build_tape<'de>(
     let mut escapes = Escapes::new(escape_blocks);
     let at = structural_indexes[0] as usize;
     let first = Progress {
-        read: 1,
         at,
         byte: unread.byte(at),
+        container: Container::Array,
+        read: 1,
         used: 0,
         depth: 0,
-        container: Container::Array,
         len: 0,
     };
     match build_by_end(

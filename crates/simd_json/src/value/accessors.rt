@@ -1,8 +1,8 @@
 //! The typed accessors: what a value is, as a type of the language.
 //!
-//! Each type `T` of the table has four calls. `as_T` returns the value as a `T`, or `None`; `try_as_T` returns it, or
-//! an error with the kind that was expected and the kind of the value; `get_T` and `try_get_T` ask so of the first
-//! value with a key. Null has the first two alone.
+//! Each type `T` of the table has four calls. `as_T` returns the value as a `T`, or `None`; `try_as_T`
+//! returns it, or an error with the kind that was expected and the kind of the value; `get_T` and `try_get_T`
+//! ask so of the first value with a key. Null has the first two alone.
 //!
 //! | `T` | returned where the value is | an error expects |
 //! |---|---|---|
@@ -15,8 +15,8 @@
 //! | `str` | a string, with its escapes decoded | `String` |
 //! | `decimal`, as `&str` | a number with a fraction or an exponent: its literal | `Decimal` |
 //!
-//! An integer is told from a decimal by how it is written (RFC 8259, section 6). It fits by its number alone: `-0` is 0
-//! for each type.
+//! An integer is told from a decimal by how it is written (RFC 8259, section 6). It fits by its number alone:
+//! `-0` is 0 for each type.
 
 mod containers;
 mod keyed;

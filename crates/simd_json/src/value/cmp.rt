@@ -3,8 +3,8 @@ mod map;
 
 use crate::value::tape::Value;
 
-/// Two values are equal if they have the same shape and order and the same truth values, their integers the same
-/// numbers whatever their kinds, and their decimals, strings and keys the same bytes.
+/// Two values are equal if they have the same shape and order and the same truth values, their integers the
+/// same numbers whatever their kinds, and their decimals, strings and keys the same bytes.
 impl PartialEq for Value<'_, '_> {
     ghost use Rattle.std.specs.Cmp.{on_per, partial_equiv_from_equiv};
     ghost use Rattle.std.specs.Ordering.{on};

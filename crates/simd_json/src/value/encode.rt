@@ -16,9 +16,10 @@ impl Value<'_, '_> {
 
     /// The compact text of the value: a JSON text (RFC 8259) with no whitespace between its tokens.
     ///
-    /// A decimal is its literal, as it was written, and an integer its digits, with `-` before a negative one. In
-    /// strings and keys a quote, a backslash and what is below 0x20 are escaped, and nothing else (section 7). The text
-    /// denotes a value that is equal to this one and nests as deep, so parsed again it is that value.
+    /// A decimal is its literal, as it was written, and an integer its digits, with `-` before a negative
+    /// one. In strings and keys a quote, a backslash and what is below 0x20 are escaped, and nothing else
+    /// (section 7). The text denotes a value that is equal to this one and nests as deep, so parsed again it
+    /// is that value.
     ///
     /// Returns `OutOfMemory`, at index 0 without a character, where an allocation fails, and no other error.
     ///
@@ -40,9 +41,9 @@ impl Value<'_, '_> {
         Ok(unsafe { String::from_utf8_unchecked(text) })
     }
 
-    /// The pretty text of the value: as [`encode`](Value::encode), but each member of an array or object that has some
-    /// stands on a line of its own, after two spaces for each container that is open there, with `: ` between a key and
-    /// its value. A line ends with 0x0A, the last one with nothing.
+    /// The pretty text of the value: as [`encode`](Value::encode), but each member of an array or object that
+    /// has some stands on a line of its own, after two spaces for each container that is open there, with `:
+    /// ` between a key and its value. A line ends with 0x0A, the last one with nothing.
     ///
     /// Returns `OutOfMemory`, at index 0 without a character, where an allocation fails, and no other error.
     ///
@@ -70,9 +71,9 @@ impl Value<'_, '_> {
 
     /// Writes the text of [`encode`](Value::encode). It takes no memory.
     ///
-    /// A writer that fails ends it at once with its own error, one that is `Interrupted` too; one that takes no byte of
-    /// a piece that is not empty ends it with an error of kind `WriteZero`. What was written by then is a prefix of the
-    /// text.
+    /// A writer that fails ends it at once with its own error, one that is `Interrupted` too; one that takes
+    /// no byte of a piece that is not empty ends it with an error of kind `WriteZero`. What was written by
+    /// then is a prefix of the text.
     ///
     /// ```
     /// use simd_json::tape::Value;
@@ -85,7 +86,8 @@ impl Value<'_, '_> {
     /// }
     /// ```
     pub fn write<W: Write>(&self, w: &mut W) -> io::Result<()>
-        ensures written { OnOk result (Appends (W.contents w.old) (W.contents w.new) (compact (doc self.now))) }
+        ensures written { OnOk result
+            (Appends (W.contents w.old) (W.contents w.new) (compact (doc self.now))) }
         ensures begun { OnErr result ((count : ℕ)
             × Appends (W.contents w.old) (W.contents w.new) (take count (compact (doc self.now)))) }
     {
@@ -107,7 +109,8 @@ impl Value<'_, '_> {
     /// }
     /// ```
     pub fn write_pp<W: Write>(&self, w: &mut W) -> io::Result<()>
-        ensures written { OnOk result (Appends (W.contents w.old) (W.contents w.new) (pretty (doc self.now))) }
+        ensures written { OnOk result
+            (Appends (W.contents w.old) (W.contents w.new) (pretty (doc self.now))) }
         ensures begun { OnErr result ((count : ℕ)
             × Appends (W.contents w.old) (W.contents w.new) (take count (pretty (doc self.now)))) }
     {

@@ -21,8 +21,9 @@ pub use value::Value;
 
 /// The nodes of one document in preorder, or no node.
 ///
-/// A scalar is one node. A container is a header with `len`, the number of its members, and `count`, the number of all
-/// nodes beneath it, and then its members' nodes; a pair of an object is its key's node and then its value's nodes.
+/// A scalar is one node. A container is a header with `len`, the number of its members, and `count`, the
+/// number of all nodes beneath it, and then its members' nodes; a pair of an object is its key's node and
+/// then its value's nodes.
 // The list is kept filled up to its capacity.
 #[derive(Debug, Drop)]
 pub struct Tape<'input, A: Allocator = Global> {
@@ -103,8 +104,8 @@ impl<'input, A: Allocator> Tape<'input, A> {
         Value::new(&self.list.as_slice()[..self.used])
     }
 
-    /// Reserves capacity for as many nodes in all, so for inputs of as many bytes, since no node takes less than a byte. Changes no
-    /// node, and gives up no capacity.
+    /// Reserves capacity for as many nodes in all, so for inputs of as many bytes, since no node takes less
+    /// than a byte. Changes no node, and gives up no capacity.
     ///
     /// Returns `OutOfMemory` where an allocation fails.
     pub fn reserve(&mut self, nodes: usize) -> Result<()>
@@ -125,7 +126,8 @@ impl<'input, A: Allocator> Tape<'input, A> {
 }
 
 impl<'input, A: Allocator + Copy> Tape<'input, A> {
-    /// An empty tape for inputs of another lifetime. It takes no memory, and what capacity it has is not promised.
+    /// An empty tape for inputs of another lifetime. It takes no memory, and what capacity it has is not
+    /// promised.
     pub fn reset<'new>(self) -> Tape<'new, A>
         ensures { result.nodes ≡ [] }
     {

@@ -1,5 +1,5 @@
 -- A number literal is an integer's or a decimal's and never both, and one that stands at an index is read whole.
-use Rattle.std.proofs.Common.{◌≡◌, refl, sym, ◌∙◌, ap, ℕ, zero, suc, ◌+◌, ◌≤◌, lit<, lit≤, ◌⊎◌, inl, inr, List, [], ◌∷◌, ◌++◌, length, take, drop, map, get_or, Bool, true, false, cond, ◌||◌, ◌==◌, nat_lt, IsTrue, if◌then◌else◌, find, Some, None, Ok, arith}
+use Rattle.std.proofs.Common.{◌≡◌, refl, sym, ◌∙◌, ap, ℕ, zero, suc, ◌+◌, ◌≤◌, lit<, lit≤, ◌⊎◌, inl, inr, List, [], ◌∷◌, ◌++◌, length, take, drop, map, get_or, Bool, true, false, cond, ◌||◌, ◌==◌, nat_lt, IsTrue, if◌then◌else◌, find, Some, None, Ok, add-zero, arith}
 use Rattle.std.specs.Char.{digit_value}
 use Rattle.std.specs.Int.Digits.{number_from_digits, number_from_digits_after}
 use Rattle.std.proofs.lemmas.Bool.{and_from, le-ltb, cond-true, cond-false, false_from_ne_true}
@@ -75,6 +75,12 @@ max_magnitude-le true = lit≤ tt
 max_magnitude-le false = omega arith
 
 -- ---- a literal at an index, with a terminator or the end after it
+
+-- the first byte of what is left from an index on
+pub byte_at-front : (b : List ℕ) (i : ℕ) (l : List ℕ) → drop i b ≡ l → byte_at b i ≡ byte_at l 0
+byte_at-front b i l e =
+    let here : byte_at (drop i b) 0 ≡ byte_at b i = simp add-zero at (get_or-drop i b 0 32) in
+    sym here ∙ ap (λ bs. byte_at bs 0) e
 
 pub number_at-literal : (b : List ℕ) (i : ℕ) (xs rest : List ℕ) → drop i b ≡ xs ++ rest → IsTrue (is_terminator (byte_at rest 0)) → Matches number_literal xs
     → number_at b i ≡ (if matches integer_literal xs then integer_or b i xs (i + length xs) (first_excess xs) else Ok (decimal xs, i + length xs))

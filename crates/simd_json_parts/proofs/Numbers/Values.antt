@@ -1,30 +1,31 @@
 -- What the digits of an integer are worth, and what number stands where its literal was found.
-use Rattle.std.proofs.Common.{◌≡◌, refl, sym, ◌∙◌, ap, subst, ℕ, ◌+◌, ◌-◌, ◌*◌, ◌^◌, ◌≤◌, ◌<◌, lit≤, lit<, inl, inr, List, [], ◌∷◌, ◌++◌, length, length-drop, zero-add, take, drop, get_or, map, Bool, true, false, cond, ◌==◌, nat_lt, IsTrue, find, Some, None, Err, add_assoc, arith}
+use Rattle.std.proofs.Common.{◌≡◌, refl, sym, ◌∙◌, ap, subst, ℕ, ◌+◌, ◌-◌, ◌*◌, ◌^◌, ◌≤◌, ◌<◌, lit≤, lit<, inl, inr, List, [], ◌∷◌, ◌++◌, length, length-drop, zero-add, take, drop, get_or, map, Bool, true, false, cond, ◌==◌, nat_lt, IsTrue, find, Some, None, Ok, Err, add_assoc, arith}
 use mir.Val.{bool_byte}
 use Rattle.std.specs.Char.{digit_value}
 use Rattle.std.specs.List.{concat, AllByRecursion}
 use Rattle.std.specs.Int.Digits.{number_from_digits}
 use Rattle.std.specs.Str.Parse.{AllDigits, digits_value}
 use Rattle.std.proofs.Math.Nat.{pow-le-pow_right}
-use Rattle.std.proofs.lemmas.Bool.{ne_eqb, le-ltb, lt-ltb, cond-true}
+use Rattle.std.proofs.lemmas.Bool.{both_ways, ne_eqb, le-ltb, lt-ltb, cond-true}
 use Rattle.std.proofs.lemmas.Int.Digits.{digits_value_is, digits_value_more, digits_value-lt}
-use Rattle.std.proofs.lemmas.List.{take_rest, take-take, drop-take, get_or-take}
+use Rattle.std.proofs.lemmas.List.{take_rest, take-take, drop-take, get_or-take, get_or_append_left}
 use Rattle.std.proofs.lemmas.List.FromFn.{get_or-range_with_len, length-range_with_len}
 use Rattle.std.proofs.lemmas.List.Recursion.{found_at}
 use Rattle.std.proofs.lemmas.Str.{digit_value_digit}
 use Rattle.std.proofs.lemmas.Str.Parse.{digit_at, digits_value-take-le}
-use Rattle.simd_json_parts.specs.Bytes.{is_terminator, byte_at, indices}
+use Rattle.simd_json_parts.specs.Bytes.{is_terminator, byte_at, indices, minus_sign}
+use Rattle.simd_json_parts.specs.Derivatives.{matches}
+use Rattle.simd_json_parts.specs.Document.{integer}
 use Rattle.simd_json_parts.specs.Patterns.{Matches}
 use Rattle.simd_json_parts.specs.Numbers.{integer_literal, int, digit, has_minus, magnitude}
-use Rattle.simd_json_parts.specs.Integers.{max_magnitude, integer_node}
+use Rattle.simd_json_parts.specs.Integers.{max_magnitude}
 use Rattle.simd_json_parts.specs.NumberAt.{number_at, integer_or, first_excess}
-use Rattle.simd_json_parts.specs.NumberRead.{IsNumberAt}
+use Rattle.simd_json_parts.specs.NumeralRead.{IsNumeralAt}
 use Rattle.simd_json_parts.specs.Faults.{fault_at}
 use Rattle.simd_json_parts.specs.declared.error.ErrorType.TheVariants.{InvalidNumber}
-use Rattle.simd_json_parts.specs.declared.numberparse.Number.TheVariants.{Integer}
-use Rattle.simd_json_parts.specs.declared.node.StaticNode.{StaticNode}
+use Rattle.simd_json_parts.specs.declared.numberparse.Numeral.TheVariants.{Integer}
 use Rattle.simd_json_parts.proofs.Patterns.Sets.{Matches-matches}
-use Rattle.simd_json_parts.proofs.Numbers.Literals.{integer-number, number_at-integer, number_at-literal, magnitude-take, first_excess-none}
+use Rattle.simd_json_parts.proofs.Numbers.Literals.{byte_at-front, integer-number, number_at-integer, number_at-literal, magnitude-take, first_excess-none}
 
 -- ---- digits
 
@@ -105,6 +106,27 @@ magnitude-is xs =
     ap (λ k. number_from_digits 10 (map digit_value (drop k xs))) (cond-bool_byte (has_minus xs))
     ∙ sym (ap (digits_value 10) (after_start-is xs) ∙ digits_value_is 10 (drop (start xs) xs))
 
+-- Nineteen bytes are in range: with a sign, eighteen digits.
+pub short-in_range : (xs : List ℕ) → Matches integer_literal xs → length xs ≤ 19 → digits_value 10 (after_start xs) ≤ max_magnitude (has_minus xs)
+short-in_range xs m short =
+    let size : length (after_start xs) ≡ length xs - start xs = ap length (after_start-is xs) ∙ length-drop (start xs) xs in
+    let below : digits_value 10 (after_start xs) < 10 ^ length (after_start xs) = digits_value-lt 10 (after_start xs) (integer-AllDigits xs m) in
+    at-sign (has_minus xs) refl size below
+  where
+    at-sign : (minus : Bool) → has_minus xs ≡ minus → length (after_start xs) ≡ length xs - start xs
+        → digits_value 10 (after_start xs) < 10 ^ length (after_start xs) → digits_value 10 (after_start xs) ≤ max_magnitude minus
+    at-sign true h size below =
+        let one : start xs ≡ 1 = ap bool_byte h in
+        let few : length (after_start xs) ≤ 18 = omega arith in
+        let most : 10 ^ length (after_start xs) ≤ 10 ^ 18 = pow-le-pow_right (lit< tt) few in
+        let fits : 10 ^ 18 < 2 ^ 63 = lit< tt in
+        omega arith
+    at-sign false h size below =
+        let few : length (after_start xs) ≤ 19 = omega arith in
+        let most : 10 ^ length (after_start xs) ≤ 10 ^ 19 = pow-le-pow_right (lit< tt) few in
+        let fits : 10 ^ 19 < 2 ^ 64 = lit< tt in
+        omega arith
+
 magnitude-prefix : (xs : List ℕ) (n : ℕ) → 0 < start xs + n → magnitude (take (start xs + n) xs) ≡ digits_value 10 (take n (drop (start xs) xs))
 magnitude-prefix xs n some =
     let prefix : List ℕ = take (start xs + n) xs in
@@ -136,19 +158,27 @@ first_excess-some xs at (inside, before, excess) =
 
 -- ---- an integer at an index, with a terminator or the end after it
 
+integer-some : (xs : List ℕ) → Matches integer_literal xs → 0 < length xs
+integer-some [] m = absurd (both_ways (matches integer_literal []) refl (Matches-matches integer_literal [] m))
+integer-some (x ∷ xs) m = omega arith
+
 module _ (b : List ℕ) (i : ℕ) (xs rest : List ℕ) (e : drop i b ≡ xs ++ rest)
     (t : IsTrue (is_terminator (byte_at rest 0))) (m : Matches integer_literal xs) where
   number_at-range : number_at b i ≡ integer_or b i xs (i + length xs) (first_excess xs)
   number_at-range = number_at-literal b i xs rest e t (integer-number xs m) ∙ cond-true _ _ _ (Matches-matches integer_literal xs m)
 
-  pub number_at-node : (value : ℕ) (node : StaticNode) → value ≡ digits_value 10 (after_start xs) → value ≤ max_magnitude (has_minus xs)
-      → node ≡ integer_node (has_minus xs) value → IsNumberAt b i (Integer node (length xs))
-  number_at-node value node v fits n =
-      let same : value ≡ magnitude xs = v ∙ sym (magnitude-is xs) in (
-        has_minus xs,
-        magnitude xs,
-        number_at-integer b i xs rest e t m (subst (λ k. k ≤ max_magnitude (has_minus xs)) same fits),
-        n ∙ ap (integer_node (has_minus xs)) same,
+  -- the first byte there is the literal's
+  sign-at : (byte_at b i == minus_sign) ≡ has_minus xs
+  sign-at = ap (λ c. c == minus_sign) (byte_at-front b i (xs ++ rest) e ∙ get_or_append_left xs rest 32 0 (integer-some xs m))
+
+  pub number_at-numeral : (value : ℕ) → value ≡ digits_value 10 (after_start xs) → value ≤ max_magnitude (has_minus xs) → IsNumeralAt b i (Integer value)
+  number_at-numeral value v fits =
+      let same : value ≡ magnitude xs = v ∙ sym (magnitude-is xs) in
+      let at : number_at b i ≡ Ok (integer (has_minus xs) (magnitude xs), i + length xs) =
+      number_at-integer b i xs rest e t m (subst (λ k. k ≤ max_magnitude (has_minus xs)) same fits) in (
+        i + length xs,
+        at ∙ ap (λ n. Ok (integer (has_minus xs) n, i + length xs)) (sym same) ∙ ap (λ minus. Ok (integer minus value, i + length xs)) (sym sign-at),
+        subst (λ minus. value ≤ max_magnitude minus) (sym sign-at) fits,
       )
 
   pub number_at-below : (value : ℕ) → value ≡ digits_value 10 (after_start xs) → value ≤ max_magnitude false → max_magnitude (has_minus xs) < value

@@ -7,9 +7,10 @@ use crate::error::{Error, ErrorType};
 
 /// Each kind of error has exactly one of four classes, which differ.
 pub fn kinds_have_one_class()
-    ensures some { (kind : ErrorType) → (class_of kind ≡ io) ⊎ (class_of kind ≡ eof) ⊎ (class_of kind ≡ syntax)
-        ⊎ (class_of kind ≡ shape) }
-    ensures differ { (io ≢ eof) × (io ≢ syntax) × (io ≢ shape) × (eof ≢ syntax) × (eof ≢ shape) × (syntax ≢ shape) }
+    ensures some { (kind : ErrorType) → (class_of kind ≡ io) ⊎ (class_of kind ≡ eof)
+        ⊎ (class_of kind ≡ syntax) ⊎ (class_of kind ≡ shape) }
+    ensures differ { (io ≢ eof) × (io ≢ syntax) × (io ≢ shape) × (eof ≢ syntax) × (eof ≢ shape)
+        × (syntax ≢ shape) }
 {}
 
 /// So exactly one of the four class tests of an error is true: the body counts them.

@@ -66,6 +66,28 @@ fn numbers_are_read(rt: HostRuntime) {
 }
 
 #[test]
+fn numerals_are_read(rt: HostRuntime) {
+    let rows: [(&[u8], Numeral); 10] = [
+        (b"0", Numeral::Integer(0)),
+        (b"-0,", Numeral::Integer(0)),
+        (b"257]", Numeral::Integer(257)),
+        (
+            b"-257 is read at one look at 32 bytes",
+            Numeral::Integer(257),
+        ),
+        (b"18446744073709551615", Numeral::Integer(u64::MAX)),
+        (b"-9223372036854775808", Numeral::Integer(1 << 63)),
+        (b"-9223372036854775809", Numeral::Invalid(20)),
+        (b"18446744073709551616", Numeral::Invalid(19)),
+        (b"-1.5e7", Numeral::Decimal(6)),
+        (b"-x", Numeral::Invalid(1)),
+    ];
+    for (bytes, numeral) in &rows {
+        assert_eq!(rt; parse_numeral(bytes), *numeral);
+    }
+}
+
+#[test]
 fn ten_bytes_are_digits(rt: HostRuntime) {
     for c in 0..=u8::MAX {
         assert_eq!(rt; is_integer(c), b"0123456789".contains(&c), "{c}");
@@ -83,7 +105,7 @@ fn agrees(
     for _ in 0..count {
         bytes.push(more)?;
     }
-    Ok(parse_number(bytes.as_slice()) == parse_plainly(bytes.as_slice()))
+    Ok(parse_numeral(bytes.as_slice()) == parse_plainly(bytes.as_slice()))
 }
 
 #[test]

@@ -87,7 +87,8 @@ impl Write for Full {
     }
 }
 
-// The compact text has 26 bytes, so 9 calls take it all. A writer that takes fewer ends it with its own error.
+// The compact text has 26 bytes, so 9 calls take it all. A writer that takes fewer ends it with its own
+// error.
 #[test]
 fn failing_writers_end_it(rt: HostRuntime) {
     for fails in [false, true] {
@@ -118,5 +119,31 @@ fn pretty_text_is_written(rt: HostRuntime) -> std::result::Result<(), Fail> {
     let mut writer = Vec::new(rt.alloc());
     write_pretty(&mut writer, &NODES)?;
     assert_eq!(rt; writer.as_slice(), PRETTY.as_bytes());
+    Ok(())
+}
+
+// As many open containers as make a line of several pieces.
+#[test]
+fn deep_lines_begin_with_their_spaces(rt: HostRuntime) -> std::result::Result<(), Fail> {
+    for depth in [1, 15, 16, 17, 40usize] {
+        let mut nodes = Vec::new(rt.alloc());
+        let mut wanted = Vec::new(rt.alloc());
+        for open in 1..=depth {
+            let count = depth - open + 1;
+            nodes.push(Node::Array { len: 1, count })?;
+            wanted.extend_from_slice(b"[\n")?;
+            wanted.resize(wanted.len() + 2 * open, b' ')?;
+        }
+        nodes.push(Node::Static(StaticNode::Null))?;
+        wanted.extend_from_slice(b"null")?;
+        for closed in 1..=depth {
+            wanted.push(b'\n')?;
+            wanted.resize(wanted.len() + 2 * (depth - closed), b' ')?;
+            wanted.push(b']')?;
+        }
+        let mut pretty = Vec::new(rt.alloc());
+        append_pretty(&mut pretty, &nodes)?;
+        assert_eq!(rt; pretty.as_slice(), wanted.as_slice());
+    }
     Ok(())
 }

@@ -1,13 +1,15 @@
 //! The one walk over the nodes of a document that prints it.
-ghost use Rattle.std.specs.Prelude.{◌≡◌, ◌+◌, ◌<◌, ◌≤◌, ◌^◌, ◌++◌, ◌∷◌, List, length, map};
-ghost use Rattle.simd_json_parts.specs.Bytes.{left_bracket};
+ghost use Rattle.std.specs.Prelude.{◌≡◌, ◌+◌, ◌<◌, ◌≤◌, ◌^◌, ◌++◌, ◌∷◌, List, cond, length, map};
+ghost use Rattle.simd_json_parts.specs.Bytes.{left_bracket, comma};
 ghost use Rattle.simd_json_parts.specs.Document.{Document, Elements, array, Members, object};
 ghost use Rattle.simd_json_parts.specs.Listing.{listing, elements_listing, members_listing};
 ghost use Rattle.simd_json_parts.specs.Nodes.{Item, count_of, item_of};
-ghost use Rattle.simd_json_print.specs.Layout.{text};
+ghost use Rattle.simd_json_print.specs.Layout.{line, text};
 ghost use Rattle.simd_json_print.specs.Places.{Gives, Grows};
 
-use crate::document::scalar::{put_line, put_name, put_scalar};
+use crate::document::scalar::{
+    element_front, put_line, put_name, put_scalar, put_string, put_string_element,
+};
 use crate::place::Sink;
 use simd_json_parts::node::Node;
 
@@ -28,10 +30,14 @@ pub(crate) fn put_value<P, S: Sink<P>, const PRETTY: bool>(
     if nodes.is_empty() {
         return;
     }
-    match nodes[0] {
-        Node::Array { .. } => put_array::<P, S, PRETTY>(sink, target, nodes.split_at(1).1, depth),
-        Node::Object { .. } => put_object::<P, S, PRETTY>(sink, target, nodes.split_at(1).1, depth),
-        _ => put_scalar(sink, target, &nodes[0]),
+    if let Node::String(string) = nodes[0] {
+        put_string(sink, target, string);
+    } else if let Node::Array { .. } = nodes[0] {
+        put_array::<P, S, PRETTY>(sink, target, nodes.split_at(1).1, depth);
+    } else if let Node::Object { .. } = nodes[0] {
+        put_object::<P, S, PRETTY>(sink, target, nodes.split_at(1).1, depth);
+    } else {
+        put_scalar(sink, target, &nodes[0]);
     }
 }
 
@@ -52,20 +58,46 @@ fn put_array<P, S: Sink<P>, const PRETTY: bool>(
         return sink.put(target, b"[]");
     }
     let mut left = Unprinted { nodes };
-    let mut before = b'[';
+    let mut is_first = true;
     while !left.nodes.is_empty() {
         if sink.has_stopped(target) {
             return;
         }
         let (first, others) = left.split_value();
-        sink.put(target, &[before]);
-        put_line::<P, S, PRETTY>(sink, target, depth + 1);
-        put_value::<P, S, PRETTY>(sink, target, first, depth + 1);
-        before = b',';
+        put_element::<P, S, PRETTY>(sink, target, is_first, first, depth + 1);
+        is_first = false;
         left = others;
     }
     put_line::<P, S, PRETTY>(sink, target, depth);
     sink.put(target, b"]");
+}
+
+// An element, what stands before it, and its line in pretty text.
+#[inline(always)]
+#[cycle(value)]
+fn put_element<P, S: Sink<P>, const PRETTY: bool>(
+    sink: &mut S,
+    target: &mut P,
+    is_first: bool,
+    nodes: &[Node<'_>],
+    depth: usize,
+)
+    requires some { 0 < length nodes.now }
+    requires room { depth + length nodes.now < 2 ^ 64 }
+    ensures kept { Grows (S.place sink.old target.old) (S.place sink.new target.new) }
+    ensures given { (d : Document) → map item_of nodes.now ≡ listing d
+        → Gives (S.place sink.old target.old) (S.place sink.new target.new)
+        (cond is_first left_bracket comma ∷ (line PRETTY depth ++ text PRETTY d depth)) }
+{
+    if !PRETTY {
+        if let Node::String(string) = nodes[0] {
+            return put_string_element(sink, target, is_first, string);
+        }
+    }
+    let front = element_front(is_first);
+    sink.put(target, &front[..1]);
+    put_line::<P, S, PRETTY>(sink, target, depth);
+    put_value::<P, S, PRETTY>(sink, target, nodes, depth);
 }
 
 // An object, from the nodes beneath its header.
@@ -85,26 +117,24 @@ fn put_object<P, S: Sink<P>, const PRETTY: bool>(
         return sink.put(target, b"{}");
     }
     let mut left = Unprinted { nodes };
-    let mut before = b'{';
+    let mut is_first = true;
     while !left.nodes.is_empty() {
         if sink.has_stopped(target) {
             return;
         }
         let (name, values) = left.split_name();
         let (value, others) = values.split_value();
-        sink.put(target, &[before]);
-        put_line::<P, S, PRETTY>(sink, target, depth + 1);
-        put_name::<P, S, PRETTY>(sink, target, name);
+        put_name::<P, S, PRETTY>(sink, target, is_first, depth + 1, name);
         put_value::<P, S, PRETTY>(sink, target, value, depth + 1);
-        before = b',';
+        is_first = false;
         left = others;
     }
     put_line::<P, S, PRETTY>(sink, target, depth);
     sink.put(target, b"}");
 }
 
-// The nodes of a container that are not printed yet. What a loop of the walk keeps is on the stack for each open
-// container, so it is these alone, and no index beside all of them.
+// The nodes of a container that are not printed yet. What a loop of the walk keeps is on the stack for each
+// open container, so it is these alone, and no index beside all of them.
 #[derive(Clone, Copy)]
 struct Unprinted<'tape, 'input> {
     nodes: &'tape [Node<'input>],
@@ -116,7 +146,8 @@ impl<'tape, 'input> Unprinted<'tape, 'input> {
     fn split_value(self) -> (&'tape [Node<'input>], Unprinted<'tape, 'input>)
         ensures some { 0 < length self.entry.nodes.now → 0 < length result.0.now }
         ensures all { length result.0.now + length result.1.nodes.now ≡ length self.entry.nodes.now }
-        ensures whole { (d : Document) (rest : List Item) → map item_of self.entry.nodes.now ≡ listing d ++ rest
+        ensures whole { (d : Document) (rest : List Item)
+            → map item_of self.entry.nodes.now ≡ listing d ++ rest
             → (map item_of result.0.now ≡ listing d) × (map item_of result.1.nodes.now ≡ rest) }
     {
         let (value, nodes) = self.nodes.split_at(size(self.nodes));
@@ -128,7 +159,8 @@ impl<'tape, 'input> Unprinted<'tape, 'input> {
     fn split_name(self) -> (&'tape Node<'input>, Unprinted<'tape, 'input>)
         requires { 0 < length self.nodes.now }
         ensures all { 1 + length result.1.nodes.now ≡ length self.entry.nodes.now }
-        ensures whole { map item_of self.entry.nodes.now ≡ item_of result.0.now ∷ map item_of result.1.nodes.now }
+        ensures whole { map item_of self.entry.nodes.now
+            ≡ item_of result.0.now ∷ map item_of result.1.nodes.now }
     {
         let (name, nodes) = self.nodes.split_at(1);
         (&name[0], Unprinted { nodes })
@@ -152,9 +184,11 @@ fn size(nodes: &[Node<'_>]) -> usize
 fn beneath(node: Node<'_>) -> usize
     ensures { result ≡ count_of (item_of node.entry) }
 {
-    match node {
-        Node::Array { count, .. } => count,
-        Node::Object { count, .. } => count,
-        _ => 0,
+    if let Node::Array { count, .. } = node {
+        count
+    } else if let Node::Object { count, .. } = node {
+        count
+    } else {
+        0
     }
 }

@@ -1,10 +1,19 @@
 //! Text on its way to a writer: it is collected, and handed over in pieces.
-ghost use Rattle.std.specs.Prelude.{◌≡◌, ◌+◌, ◌≤◌, [], ◌++◌, length, OnOk, IsTrue};
+ghost use Rattle.std.specs.Prelude.{◌≡◌, ◌+◌, ◌≤◌, [], ◌++◌, flat_map, length, take, OnOk, IsTrue, IsFalse};
+ghost use Rattle.simd_json_parts.specs.Printed.{escaped_byte};
 ghost use Rattle.simd_json_print.specs.Sent.{Sends};
 
+mod runs;
+mod stores;
+
+use runs::store_run;
 use std::io;
 use std::io::{ErrorKind, Write};
 use std::marker::Model;
+use stores::{FEW, store_between, store_bytes};
+
+// How many bytes may stand in front of a short string, and after it.
+const MARKS: usize = 8;
 
 // What is not yet handed over, at most `SIZE` bytes.
 #[derive(Drop)]
@@ -46,10 +55,42 @@ impl<const SIZE: usize> Pieces<SIZE> {
         requires { length self.old + length bytes.now ≤ SIZE }
         ensures { self.new ≡ self.old ++ bytes.now }
     {
-        let end = self.used + bytes.len();
-        let all = &mut self.bytes[..];
-        all[self.used..end].copy_from_slice(bytes);
-        self.used = end;
+        store_bytes(&mut self.bytes, self.used, bytes);
+        self.used += bytes.len();
+    }
+
+    // A short string, between what stands in front of it and after it, where it fits and need not be escaped. It is tested as
+    // it is stored, and what is stored counts only then.
+    #[inline(always)]
+    pub(crate) fn collect_string(&mut self, front: &[u8], string: &[u8], back: &[u8]) -> bool
+        ensures collected { IsTrue result → self.new
+            ≡ self.old ++ (front.now ++ (flat_map escaped_byte string.now ++ back.now)) }
+        ensures kept { IsFalse result → self.new ≡ self.old }
+    {
+        if string.len() > FEW || front.len() > MARKS || back.len() > MARKS {
+            return false;
+        }
+        let len = front.len() + string.len() + back.len();
+        if len > SIZE - self.used {
+            return false;
+        }
+        let is_plain = store_between(&mut self.bytes, self.used, front, string, back);
+        if is_plain {
+            self.used += len;
+        }
+        is_plain
+    }
+
+    // The bytes in front of the first one that is to be escaped, as far as they fit. How many they are.
+    #[inline(always)]
+    pub(crate) fn collect_run(&mut self, string: &[u8]) -> usize
+        ensures within { result ≤ length string.now }
+        ensures collected { self.new ≡ self.old ++ flat_map escaped_byte (take result string.now) }
+    {
+        let len = string.len().min(SIZE - self.used);
+        let count = store_run(&mut self.bytes, self.used, &string[..len]);
+        self.used += count;
+        count
     }
 
     // Hands over the bytes that are there, and these ones too where they are more than a piece.

@@ -1,5 +1,9 @@
 //! A writer as a place: text is collected for it, until it stops.
 
+mod strings;
+#[cfg(test)]
+mod tests;
+
 use crate::place::Sink;
 use crate::place::pieces::Pieces;
 use std::io;
@@ -32,10 +36,15 @@ impl<W: Write, const SIZE: usize> Sink<W> for Writing<SIZE> {
 
     #[inline(always)]
     fn put(&mut self, target: &mut W, bytes: &[u8]) {
-        if self.has_stopped || !self.pieces.fits(bytes) {
-            return self.put_past(target, bytes);
+        self.put_bytes(target, bytes);
+    }
+
+    #[inline(always)]
+    fn put_string(&mut self, target: &mut W, front: &[u8], string: &str, back: &[u8]) {
+        let bytes = string.as_bytes();
+        if self.has_stopped || !self.pieces.collect_string(front, bytes, back) {
+            self.put_by_runs(target, front, bytes, back);
         }
-        self.pieces.collect(bytes);
     }
 
     #[inline(always)]
@@ -45,9 +54,10 @@ impl<W: Write, const SIZE: usize> Sink<W> for Writing<SIZE> {
 }
 
 impl<const SIZE: usize> Writing<SIZE> {
-    ghost use Rattle.std.specs.Prelude.{◌≡◌, ℕ, List, Option, Some, [], take, OnOk, OnErr};
+    ghost use Rattle.std.specs.Prelude.{◌≡◌, ◌≤◌, ℕ, List, Option, Some, [], flat_map, length, take, OnOk, OnErr};
     ghost use Rattle.std.specs.Io.KnownBytes.{Appends};
-    ghost use Rattle.simd_json_print.specs.Places.{Gives};
+    ghost use Rattle.simd_json_parts.specs.Printed.{escaped_byte};
+    ghost use Rattle.simd_json_print.specs.Places.{Gives, IsLonger};
 
     /// For a writer that has not stopped, with nothing collected.
     pub fn new() -> Writing<SIZE>
@@ -58,6 +68,28 @@ impl<const SIZE: usize> Writing<SIZE> {
             has_stopped: false,
             fault: io::Error::from(ErrorKind::WriteZero),
         }
+    }
+
+    #[inline(always)]
+    fn put_bytes<W: Write>(&mut self, writer: &mut W, bytes: &[u8])
+        ensures { Gives (W.contents writer.old, self.old) (W.contents writer.new, self.new) bytes.now }
+    {
+        if self.has_stopped || !self.pieces.fits(bytes) {
+            return self.put_past(writer, bytes);
+        }
+        self.pieces.collect(bytes);
+    }
+
+    // What of a string stands in front of the first byte that is to be escaped, as far as it fits. How many bytes that is; where
+    // the writer has stopped, all.
+    fn put_run(&mut self, string: &[u8]) -> usize
+        ensures within { result ≤ length string.now }
+        ensures given { (held : Option (List ℕ)) → Gives (held, self.old) (held, self.new) (flat_map escaped_byte (take result string.now)) }
+    {
+        if self.has_stopped {
+            return string.len();
+        }
+        self.pieces.collect_run(string)
     }
 
     // What does not fit, and what is dropped. It is out of line with its error, since what a put keeps is on the stack for each
@@ -77,12 +109,13 @@ impl<const SIZE: usize> Writing<SIZE> {
     }
 
     /// Hands over what is left. An error where the writer stopped, now or before: its own, or one of kind `WriteZero`. It then
-    /// holds a beginning of all that was given.
+    /// holds a beginning of all that was given, after what it held before.
     pub fn finish<W: Write>(&mut self, writer: &mut W) -> io::Result<()>
         ensures all { (bytes : List ℕ) (before : Option (List ℕ)) → Gives (before, Some []) (W.contents writer.old, self.old) bytes
             → OnOk result (Appends before (W.contents writer.new) bytes) }
         ensures some { (bytes : List ℕ) (before : Option (List ℕ)) → Gives (before, Some []) (W.contents writer.old, self.old) bytes
             → OnErr result ((count : ℕ) × Appends before (W.contents writer.new) (take count bytes)) }
+        ensures kept { IsLonger (W.contents writer.old) (W.contents writer.new) }
     {
         if self.has_stopped {
             return Err(self.fault);

@@ -1,4 +1,4 @@
-// Capacity in the lists of a scan. They are kept filled, and grow by what is found.
+// Capacity in the lists of a scan. They grow by what is found, and are filled a step ahead of it.
 ghost use Rattle.std.specs.Prelude.{◌≡◌, ◌≤◌, ◌<◌, ◌+◌, ◌++◌, [], ◌∷◌, length, take, IfErr, OnOk};
 ghost use Rattle.simd_json_parts.specs.Faults.{whole_fault};
 ghost use Rattle.simd_json_parts.specs.declared.error.ErrorType.{ErrorType};
@@ -6,8 +6,12 @@ ghost use Rattle.simd_json_parts.specs.declared.error.ErrorType.{ErrorType};
 use simd_json_parts::error::Result;
 use std::alloc::Allocator;
 
-// Makes a list as long as is needed, and longer by half or by what is guessed, but `max_len` long at most. What it held
-// stays, refused or not.
+// How far ahead of what is needed a list is filled: what is filled is still in the cache when it is written
+// over.
+const STEP: usize = 32_768;
+
+// Makes a list as long as is needed, and longer by a step, but `max_len` long at most. Where it has no
+// capacity for that it gets more by half, or what is guessed. What it held stays, refused or not.
 #[inline(never)]
 pub(super) fn grow<A: Allocator>(
     list: &mut Vec<u32, A>,
@@ -19,13 +23,19 @@ pub(super) fn grow<A: Allocator>(
     ensures kept { take (length list.old.items) list.new.items ≡ list.old.items }
     ensures capacity { OnOk result (need ≤ length list.new.items) }
     ensures longer { length list.old.items ≤ length list.new.items }
-    ensures fault { IfErr result (λ e. (e ≡ whole_fault ErrorType.OutOfMemory) × (length list.old.items < max_len)) }
+    ensures fault { IfErr result (λ e. (e ≡ whole_fault ErrorType.OutOfMemory)
+        × (length list.old.items < max_len)) }
 {
-    if list.len() < need {
-        let half_more = list.len().saturating_add(list.len() / 2);
-        let len = guess.max(half_more).min(max_len).max(need);
-        list.resize(len, 0)?;
+    if need <= list.len() {
+        return Ok(());
     }
+    if list.capacity() < need {
+        let half_more = list.capacity().saturating_add(list.capacity() / 2);
+        let len = guess.max(half_more).min(max_len).max(need);
+        list.reserve_exact(len - list.len())?;
+    }
+    let len = need.saturating_add(STEP).min(list.capacity()).min(max_len);
+    list.resize(len, 0)?;
     Ok(())
 }
 
@@ -40,7 +50,8 @@ pub(super) fn put<A: Allocator>(
     requires within { count < max_len }
     ensures stored { OnOk result ((count < length list.new.items)
         × (take (count + 1) list.new.items ≡ take count list.old.items ++ number ∷ [])) }
-    ensures fault { IfErr result (λ e. (e ≡ whole_fault ErrorType.OutOfMemory) × (length list.old.items < max_len)) }
+    ensures fault { IfErr result (λ e. (e ≡ whole_fault ErrorType.OutOfMemory)
+        × (length list.old.items < max_len)) }
     ensures longer { length list.old.items ≤ length list.new.items }
 {
     grow(list, count + 1, 16, max_len)?;

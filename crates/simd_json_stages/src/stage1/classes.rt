@@ -19,8 +19,8 @@ const HARD: [u8; 32] = [
     b':', b'{', b',', b'}', 0, 0,
 ];
 
-// `soft` is whitespace or a quote; `hard` a quote, a structural character or one of 0x02, 0x0C and 0x1A, which
-// `control` tells apart.
+// `soft` is whitespace or a quote; `hard` a quote, a structural character or one of 0x02, 0x0C and 0x1A,
+// which `control` tells apart.
 #[derive(Clone, Copy, Drop)]
 pub(super) struct ClassWords {
     pub(super) soft: u64,

@@ -1,5 +1,5 @@
-// How far an input is known to be UTF-8 (RFC 3629): a window at a time after the scan, and all of the rest before any
-// memory is taken. A window of ASCII alone needs no test.
+// How far an input is known to be UTF-8 (RFC 3629): a window at a time after the scan, and all of the rest
+// before any memory is taken. A window of ASCII alone needs no test.
 ghost use Rattle.std.specs.Prelude.{◌≡◌, ◌≤◌, ◌<◌, ℕ, List, length, take, true, IfOk, IfErr, IsUtf8};
 ghost use Rattle.simd_json_parts.specs.Bytes.{byte_at};
 ghost use Rattle.simd_json_stages.specs.Scans.{IsBadEncoding};
@@ -40,8 +40,8 @@ pub(super) fn check_rest(input: &[u8], checked: usize) -> Result<usize>
     }
 }
 
-// The bytes of a window, and those before it that are not tested yet. Answers how far the input is known to be UTF-8 then,
-// which is where a character begins, and the end only at the input's end.
+// The bytes of a window, and those before it that are not tested yet. Answers how far the input is known to
+// be UTF-8 then, which is where a character begins, and the end only at the input's end.
 #[inline(never)]
 pub(super) fn check_window(
     input: &[u8],

@@ -1,31 +1,24 @@
 // A scan of a whole input: its whole blocks in windows, and then what is left.
-ghost use Rattle.std.specs.Prelude.{◌≡◌, ◌+◌, ◌-◌, ◌*◌, ◌/◌, ◌^◌, ◌<◌, ◌≤◌, ◌⊎◌, ◌++◌, ℕ, List, length, take, drop, replicate, IfOk, IfErr, OnErr, IsUtf8};
+ghost use Rattle.std.specs.Prelude.{◌≡◌, ◌-◌, ◌*◌, ◌/◌, ◌<◌, ◌≤◌, ◌⊎◌, ◌++◌};
+ghost use Rattle.std.specs.Prelude.{length, take, drop, replicate, IfOk, IfErr, IsUtf8};
 ghost use Rattle.std.specs.Simd.{first_chunks};
-ghost use Rattle.simd_json_parts.specs.Bytes.{byte_at};
 ghost use Rattle.simd_json_parts.specs.Limits.{max_length};
-ghost use Rattle.simd_json_stages.specs.Blocks.{AreBlocks, IsAscii, IsScanned};
+ghost use Rattle.simd_json_stages.specs.Blocks.{IsScanned};
 ghost use Rattle.simd_json_stages.specs.Scans.{IsBadEncoding, IsFound, LacksMemory};
 
+mod windows;
+
 use super::capacity::{grow, put};
-use super::encoding::{check_rest, check_window};
+use super::encoding::check_window;
 use super::words::{Carry, block};
-use super::writing::{write, write_exactly};
+use super::writing::write_exactly;
 use super::{BLOCK_LEN, Found};
 use simd_json_parts::error::Result;
 use std::alloc::Allocator;
+use windows::{WINDOW, Window, capacity_for, scan_window};
 
-// Blocks between two looks at the encoding and at the capacity of the lists: 8 KiB.
-const WINDOW: usize = 128;
-
-// The blocks from one to another.
-#[derive(Clone, Copy, Drop)]
-struct Window {
-    first: usize,
-    end: usize,
-}
-
-// What is known after some whole blocks. The indexes of the last block's positions, `late`, are still to be written:
-// their number is known early then, where the writing branches on it.
+// What is known after some whole blocks. The indexes of the last block's positions, `late`, are still to be
+// written: their number is known early then, where the writing branches on it.
 #[derive(Clone, Copy, Drop)]
 struct Scanned {
     carry: Carry,
@@ -50,94 +43,6 @@ const START: Scanned = Scanned {
     used: 0,
     listed: 0,
 };
-
-// The blocks of a window, into lists with capacity for all that they may have.
-#[inline(never)]
-fn scan_window(
-    blocks: &[[u8; 64]],
-    window: Window,
-    out: &mut [u32],
-    listed: &mut [u32],
-    before: Scanned,
-) -> Scanned
-    requires within { (window.first ≤ window.end) × (window.end ≤ length blocks.now) }
-    requires short { 64 * window.end ≤ 2 ^ 32 }
-    requires capacity { before.used + 64 * (window.end - window.first) ≤ length out.old }
-    requires block_capacity { before.listed + (window.end - window.first) ≤ length listed.old }
-    ensures scanned { (b : List ℕ) → AreBlocks b blocks.now → IsScanned b window.first before out.old listed.old
-        → IsScanned b window.end result out.new listed.new }
-    ensures ascii { (b : List ℕ) → AreBlocks b blocks.now → IsScanned b window.first before out.old listed.old
-        → result.high ≡ 0 → IsAscii b (64 * window.first) (64 * window.end) }
-{
-    let mut carry = before.carry;
-    let mut late = before.late;
-    let mut late_at = (BLOCK_LEN * window.first.saturating_sub(1)) as u32;
-    let mut bad = before.bad;
-    let mut high = 0;
-    let mut used = before.used;
-    let mut count = before.listed;
-    let mut i = window.first;
-    while i < window.end {
-        let marks = block(&blocks[i], carry);
-        used = write(out, used, late_at, late);
-        late = marks.starts;
-        late_at = (BLOCK_LEN * i) as u32;
-        listed[count] = i as u32;
-        count += marks.has_backslash as usize;
-        bad |= marks.bad;
-        high |= marks.high;
-        carry = marks.carry;
-        i += 1;
-    }
-    Scanned {
-        carry,
-        late,
-        bad,
-        high,
-        used,
-        listed: count,
-    }
-}
-
-// Capacity for all that a window may have. Before a list grows, all of the input is known to be UTF-8. The list of positions
-// grows by how many there were so far.
-fn capacity_for<A: Allocator>(
-    input: &[u8],
-    checked: usize,
-    window: Window,
-    done: Scanned,
-    structural_indexes: &mut Vec<u32, A>,
-    escape_blocks: &mut Vec<u32, A>,
-) -> Result<usize>
-    requires size { length input.now ≤ max_length }
-    requires within { (window.first < window.end) × (64 * window.end ≤ length input.now) }
-    requires checked { (checked ≤ length input.now) × IsUtf8 (take checked input.now) }
-    requires used { (done.used ≤ 64 * window.first) × (done.listed ≤ window.first) }
-    ensures checked { IfOk result (λ to. (to ≤ length input.now) × IsUtf8 (take to input.now)) }
-    ensures positions { IfOk result (λ to. done.used + 64 * (window.end - window.first) ≤ length structural_indexes.new.items) }
-    ensures blocks { IfOk result (λ to. done.listed + (window.end - window.first) ≤ length escape_blocks.new.items) }
-    ensures kept { (take (length structural_indexes.old.items) structural_indexes.new.items ≡ structural_indexes.old.items)
-        × (take (length escape_blocks.old.items) escape_blocks.new.items ≡ escape_blocks.old.items) }
-    ensures longer { (length structural_indexes.old.items ≤ length structural_indexes.new.items)
-        × (length escape_blocks.old.items ≤ length escape_blocks.new.items) }
-    ensures fault { IfErr result (λ e. IsBadEncoding input.now e
-        ⊎ LacksMemory input.now e structural_indexes.old.items escape_blocks.old.items) }
-{
-    let count = window.end - window.first;
-    let positions = done.used + BLOCK_LEN * count;
-    let blocks = done.listed + count;
-    if positions <= structural_indexes.len() && blocks <= escape_blocks.len() {
-        return Ok(checked);
-    }
-    let checked = check_rest(input, checked)?;
-    let max_blocks = input.len().div_ceil(BLOCK_LEN);
-    let guess = (done.used / window.first.max(1) + 1)
-        .saturating_mul(max_blocks)
-        .saturating_add(BLOCK_LEN * WINDOW);
-    grow(structural_indexes, positions, guess, input.len())?;
-    grow(escape_blocks, blocks, 2 * WINDOW, max_blocks)?;
-    Ok(checked)
-}
 
 // The whole blocks, and how far the input is known to be UTF-8 after them.
 fn scan_blocks<A: Allocator>(
@@ -207,9 +112,11 @@ fn scan_rest<A: Allocator>(
     requires size { length input.now ≤ max_length }
     requires rest { rest.now ≡ drop (length input.now / 64 * 64) input.now }
     requires len { length rest.now < 64 }
-    requires scanned { IsScanned input.now (length input.now / 64) done structural_indexes.old.items escape_blocks.old.items }
+    requires scanned { IsScanned input.now (length input.now / 64) done
+        structural_indexes.old.items escape_blocks.old.items }
     requires checked { (checked ≤ length input.now) × IsUtf8 (take checked input.now) }
-    ensures found { IfOk result (λ r. IsFound input.now r.0 r.1 structural_indexes.new.items escape_blocks.new.items) }
+    ensures found { IfOk result (λ r. IsFound input.now r.0 r.1
+        structural_indexes.new.items escape_blocks.new.items) }
     ensures fault { IfErr result (λ e. IsBadEncoding input.now e
         ⊎ LacksMemory input.now e structural_indexes.old.items escape_blocks.old.items) }
     ensures longer { (length structural_indexes.old.items ≤ length structural_indexes.new.items)
@@ -241,15 +148,16 @@ fn scan_rest<A: Allocator>(
     Ok((is_open | has_control, found))
 }
 
-// Writes the positions of the input to the front of one list, and the blocks with a backslash to the front of the other.
-// Answers whether some string is bad, and how many of each there are.
+// Writes the positions of the input to the front of one list, and the blocks with a backslash to the front of
+// the other. Answers whether some string is bad, and how many of each there are.
 pub(super) fn scan<A: Allocator>(
     input: &[u8],
     structural_indexes: &mut Vec<u32, A>,
     escape_blocks: &mut Vec<u32, A>,
 ) -> Result<(bool, Found)>
     requires { length input.now ≤ max_length }
-    ensures found { IfOk result (λ r. IsFound input.now r.0 r.1 structural_indexes.new.items escape_blocks.new.items) }
+    ensures found { IfOk result (λ r. IsFound input.now r.0 r.1
+        structural_indexes.new.items escape_blocks.new.items) }
     ensures fault { IfErr result (λ e. IsBadEncoding input.now e
         ⊎ LacksMemory input.now e structural_indexes.old.items escape_blocks.old.items) }
     ensures longer { (length structural_indexes.old.items ≤ length structural_indexes.new.items)

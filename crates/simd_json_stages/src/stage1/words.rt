@@ -22,8 +22,8 @@ pub(super) struct Carry {
     pub(super) plain: u64,
 }
 
-// What is found in a block: a bit for each position, one for each byte below 0x20 that is inside, whether there is a
-// backslash, and what the next block has to know. `high` is not 0 where a byte is no ASCII.
+// What is found in a block: a bit for each position, one for each byte below 0x20 that is inside, whether
+// there is a backslash, and what the next block has to know. `high` is not 0 where a byte is no ASCII.
 #[derive(Clone, Copy, Drop)]
 pub(super) struct Marks {
     pub(super) starts: u64,

@@ -4,13 +4,15 @@ ghost use Rattle.std.specs.Int.RustNames.{count_ones};
 ghost use Rattle.simd_json_stages.specs.Words.{set_bits};
 ghost use Rattle.simd_json_stages.specs.Stored.{IsStored};
 
-// Stores the index of the lowest bit, and answers the others. Where there is no bit what is stored has no meaning.
+// Stores the index of the lowest bit, and answers the others. Where there is no bit what is stored has no
+// meaning.
 #[inline(always)]
 fn store_lowest(out: &mut [u32], at: usize, base: u32, bits: u64) -> u64
     requires capacity { at < length out.old }
     requires base { base + 64 ≤ 2 ^ 32 }
     ensures { (before : List ℕ) (used : ℕ) (all : List ℕ) (k : ℕ) → at ≡ used + k
-        → IsStored before used all k base out.old bits → IsStored before used all (k + 1) base out.new result }
+        → IsStored before used all k base out.old bits
+        → IsStored before used all (k + 1) base out.new result }
 {
     out[at] = base.wrapping_add(bits.trailing_zeros());
     bits & bits.wrapping_sub(1)
@@ -22,7 +24,8 @@ fn store_four(out: &mut [u32], at: usize, base: u32, bits: u64) -> u64
     requires capacity { at + 4 ≤ length out.old }
     requires base { base + 64 ≤ 2 ^ 32 }
     ensures { (before : List ℕ) (used : ℕ) (all : List ℕ) (k : ℕ) → at ≡ used + k
-        → IsStored before used all k base out.old bits → IsStored before used all (k + 4) base out.new result }
+        → IsStored before used all k base out.old bits
+        → IsStored before used all (k + 4) base out.new result }
 {
     let bits = store_lowest(out, at, base, bits);
     let bits = store_lowest(out, at + 1, base, bits);
@@ -30,8 +33,8 @@ fn store_four(out: &mut [u32], at: usize, base: u32, bits: u64) -> u64
     store_lowest(out, at + 3, base, bits)
 }
 
-// Writes the indexes of a word's bits after those that are in use, and answers how many are in use then. Most blocks
-// have a few, so the branches are on their number, and some stores are in vain.
+// Writes the indexes of a word's bits after those that are in use, and answers how many are in use then. Most
+// blocks have a few, so the branches are on their number, and some stores are in vain.
 #[inline(always)]
 pub(super) fn write(out: &mut [u32], used: usize, base: u32, bits: u64) -> usize
     requires capacity { used + 64 ≤ length out.old }

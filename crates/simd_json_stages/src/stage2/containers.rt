@@ -5,6 +5,7 @@ ghost use Rattle.simd_json_stages.specs.Members.{AtFirst};
 ghost use Rattle.simd_json_stages.specs.Progresses.{EndsClosed, IsWithin, Advances};
 
 use super::fault::{Fault, FaultKind};
+use super::tokens::next_token;
 use super::unread::Unread;
 use super::{Container, Progress, StackState, Value};
 use simd_json_parts::node::Node;
@@ -35,13 +36,8 @@ pub(super) fn open<'de>(
     if p.depth == max_depth {
         return Err(p.fault(FaultKind::DepthLimitExceeded));
     }
-    if p.is_last(indexes, closed) {
-        return Err(p.fault(FaultKind::Syntax));
-    }
-    let at = indexes[p.read] as usize;
-    let byte = unread.byte(at);
-    let q = p.at_next(at, byte);
-    if byte == container.closer() {
+    let q = next_token(unread, indexes, p, closed)?;
+    if q.byte == container.closer() {
         nodes[p.used] = container.header(0, 0);
         return Ok(Value::Read(q.with_value()));
     }
@@ -59,8 +55,8 @@ pub(super) fn open<'de>(
     }))
 }
 
-// The innermost container is closed at the last token: its header is patched, and it is one more member of the container
-// round it.
+// The innermost container is closed at the last token: its header is patched, and it is one more member of
+// the container round it.
 #[inline(always)]
 pub(super) fn close<'de>(
     stack: &[StackState],
@@ -73,7 +69,11 @@ pub(super) fn close<'de>(
     requires nodes { p.used ≤ length nodes.old }
     requires len { (top stack.now p.depth).len < p.used }
     requires container { container ≡ p.container }
-    ensures progress { result ≡ record p { depth = p.depth - 1; container = (top stack.now p.depth).outer; len = (top stack.now p.depth).len + 1 } }
+    ensures progress { result ≡ record p {
+      depth = p.depth - 1;
+      container = (top stack.now p.depth).outer;
+      len = (top stack.now p.depth).len + 1;
+    } }
     ensures nodes { nodes.new ≡ patch nodes.old (top stack.now p.depth) p }
 {
     let frame = stack[p.depth - 1];

@@ -44,8 +44,8 @@ impl<'a> Escapes<'a> {
     }
 }
 
-// The number of the first block, from this one on, that does not lie before an index. It is out of line, and takes numbers
-// alone, since whatever is lent to such a call stays in memory.
+// The number of the first block, from this one on, that does not lie before an index. It is out of line, and
+// takes numbers alone, since whatever is lent to such a call stays in memory.
 #[inline(never)]
 fn passed(blocks: &[u32], next: usize, at: usize) -> usize
     ghost b: { List ℕ }

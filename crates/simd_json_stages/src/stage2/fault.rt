@@ -5,12 +5,13 @@ ghost use Rattle.simd_json_stages.specs.Refusals.{error_type};
 
 use simd_json_parts::error::{Error, ErrorType};
 
-// A token that is refused: its kind, its index and its first byte. It is small, so that the steps hand it back cheaply.
+// A token that is refused: its index, its first byte and the kind of the fault. It is small, so that the
+// steps hand it back cheaply.
 #[derive(Clone, Copy, Debug, Drop)]
 pub(crate) struct Fault {
-    pub(crate) kind: FaultKind,
     pub(crate) index: usize,
     pub(crate) byte: u8,
+    pub(crate) kind: FaultKind,
 }
 
 impl Fault {

@@ -109,8 +109,8 @@ fn members<'de>(
     }
 }
 
-// The tape of the tokens at the positions, from the first value on. There is a copy of the machine for each answer to
-// whether the last position is known to close, so that the loops do not ask.
+// The tape of the tokens at the positions, from the first value on. There is a copy of the machine for each
+// answer to whether the last position is known to close, so that the loops do not ask.
 #[inline(always)]
 fn build<'de, const CLOSED: bool>(
     unread: &mut Unread<'de>,

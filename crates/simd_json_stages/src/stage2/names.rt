@@ -13,11 +13,12 @@ use super::Progress;
 use super::escapes::Escapes;
 use super::fault::{Fault, FaultKind};
 use super::strings::put_string;
+use super::tokens::next_token;
 use super::unread::Unread;
 use simd_json_parts::node::Node;
 
-// The name at the last token, and its colon, and on to the first token of the member's value. Where no name stands, the
-// fault is of this kind.
+// The name at the last token, and its colon, and on to the first token of the member's value. Where no name
+// stands, the fault is of this kind.
 #[inline(always)]
 pub(super) fn read_name<'de>(
     unread: &mut Unread<'de>,
@@ -38,31 +39,26 @@ pub(super) fn read_name<'de>(
     ensures kept { length nodes.new ≡ length nodes.old }
     ensures escapes { AreAhead b escapes.new p.at }
     ensures progress { IfOk result (IsBefore b indexes.now unread.new) }
-    ensures advances { IfOk result (λ q. (p.read < q.read) × (p.at ≤ q.at) × (q.depth ≡ p.depth) × (q.container ≡ p.container)) }
-    ensures value { (stack : List StackState) (limit : ℕ) → AtName b indexes.now limit (error_type kind) stack nodes.old p
+    ensures advances { IfOk result (λ q. (p.read < q.read) × (p.at ≤ q.at)
+        × (q.depth ≡ p.depth) × (q.container ≡ p.container)) }
+    ensures value { (stack : List StackState) (limit : ℕ)
+        → AtName b indexes.now limit (error_type kind) stack nodes.old p
         → IfOk result (AtValue b indexes.now limit stack nodes.new) }
-    ensures refused { (stack : List StackState) (limit : ℕ) → AtName b indexes.now limit (error_type kind) stack nodes.old p
+    ensures refused { (stack : List StackState) (limit : ℕ)
+        → AtName b indexes.now limit (error_type kind) stack nodes.old p
         → IfErr result (Tells b indexes.now limit) }
 {
     if p.byte != b'"' {
         return Err(p.fault(kind));
     }
     put_string(unread, escapes, indexes, nodes, p, closed)?;
-    if p.is_last(indexes, closed) {
-        return Err(p.fault(FaultKind::Syntax));
+    let colon = next_token(unread, indexes, p, closed)?;
+    if colon.byte != b':' {
+        return Err(colon.fault(FaultKind::ExpectedObjectColon));
     }
-    let at = indexes[p.read] as usize;
-    let q = p.at_next(at, unread.byte(at));
-    if q.byte != b':' {
-        return Err(q.fault(FaultKind::ExpectedObjectColon));
-    }
-    if q.is_last(indexes, closed) {
-        return Err(q.fault(FaultKind::Syntax));
-    }
-    let at = indexes[q.read] as usize;
-    let r = q.at_next(at, unread.byte(at));
+    let value = next_token(unread, indexes, colon, closed)?;
     Ok(Progress {
         used: p.used + 1,
-        ..r
+        ..value
     })
 }

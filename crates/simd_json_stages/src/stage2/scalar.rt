@@ -11,7 +11,7 @@ ghost use Rattle.simd_json_stages.specs.ScalarRead.{IsScalarAt};
 use crate::stage2::fault::{Fault, FaultKind};
 use simd_json_parts::charutils::{byte_or_space, is_structural_or_whitespace};
 use simd_json_parts::node::StaticNode;
-use simd_json_parts::numberparse::{Number, is_integer, parse_number};
+use simd_json_parts::numberparse::{Numeral, is_integer, parse_numeral};
 
 #[cfg(test)]
 mod tests;
@@ -141,9 +141,16 @@ fn begins_number(c: u8) -> bool
 fn read_number(rest: &[u8]) -> Scalar
     ensures { (b : List ℕ) (i : ℕ) → drop i b ≡ rest.now → form_at b i ≡ scalar (number_at b i) → IsScalarAt b i result }
 {
-    match parse_number(rest) {
-        Number::Integer(node, _) => Scalar::Value(node),
-        Number::Decimal(len) => Scalar::Decimal(len),
-        Number::Invalid(offset) => Scalar::Invalid(offset),
+    let numeral = parse_numeral(rest);
+    if let Numeral::Integer(magnitude) = numeral {
+        let minus = byte_or_space(rest, 0) == b'-';
+        Scalar::Value(StaticNode::integer(minus, magnitude))
+    } else if let Numeral::Decimal(len) = numeral {
+        Scalar::Decimal(len)
+    } else if let Numeral::Invalid(offset) = numeral {
+        Scalar::Invalid(offset)
+    } else {
+        // No variant is left.
+        Scalar::Refused
     }
 }

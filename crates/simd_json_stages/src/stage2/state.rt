@@ -68,7 +68,8 @@ impl Progress {
         }
     }
 
-    // Whether no token is left. Where the last of all is a closing bracket, after any other token one is left.
+    // Whether no token is left. Where the last of all is a closing bracket, after any other token one is
+    // left.
     #[inline(always)]
     pub(super) fn is_last(self, indexes: &[u32], closed: bool) -> bool
         requires within { self.read ≤ length indexes.now }

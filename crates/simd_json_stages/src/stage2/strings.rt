@@ -1,5 +1,6 @@
 //! Strings become nodes.
-ghost use Rattle.std.specs.Prelude.{◌≡◌, ◌<◌, ◌+◌, ◌^◌, ℕ, List, length, get_or, Contains, None, IfErr, OnOk, IsTrue};
+ghost use Rattle.std.specs.Prelude.{◌≡◌, ◌<◌, ◌+◌, ◌^◌};
+ghost use Rattle.std.specs.Prelude.{ℕ, List, length, get_or, Contains, None, IfErr, OnOk, IsTrue};
 ghost use Rattle.simd_json_parts.specs.Bytes.{quote};
 ghost use Rattle.simd_json_parts.specs.InputFaults.{input_fault};
 ghost use Rattle.simd_json_parts.specs.Positions.{positions};
@@ -35,7 +36,8 @@ fn position_or_end(indexes: &[u32], number: usize, end: usize, closed: bool) -> 
 #[cold]
 fn bad_escape(at: usize, bad: BadEscape) -> Fault
     requires { at + bad.offset < 2 ^ 64 }
-    ensures { fault_with (error_type result.kind) result.index result.byte ≡ escape_fault (at + bad.offset) bad.letter }
+    ensures { fault_with (error_type result.kind) result.index result.byte
+        ≡ escape_fault (at + bad.offset) bad.letter }
 {
     let kind = if bad.letter == b'u' {
         FaultKind::InvalidUnicodeCodepoint

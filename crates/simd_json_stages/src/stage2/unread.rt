@@ -1,5 +1,6 @@
 //! The bytes of an input that are not read yet.
-ghost use Rattle.std.specs.Prelude.{◌≡◌, ◌≢◌, ◌≤◌, ◌<◌, ◌+◌, ◌-◌, ◌^◌, ℕ, List, length, take, drop, MatchResult, Ok, Err, IsUtf8};
+ghost use Rattle.std.specs.Prelude.{◌≡◌, ◌≢◌, ◌≤◌, ◌<◌, ◌+◌, ◌-◌, ◌^◌};
+ghost use Rattle.std.specs.Prelude.{ℕ, List, length, take, drop, MatchResult, Ok, Err, IsUtf8};
 ghost use Rattle.simd_json_parts.specs.Bytes.{quote, backslash, byte_at};
 ghost use Rattle.simd_json_parts.specs.StringAt.{closing_quote, string_at, escape_fault};
 ghost use Rattle.simd_json_parts.specs.StringRead.{IsStringAt};
@@ -7,8 +8,8 @@ ghost use Rattle.simd_json_parts.specs.StringRead.{IsStringAt};
 use simd_json_parts::stringparse::{BadEscape, ParsedString, parse_str, share_str};
 use std::marker::Model;
 
-// All from some index on, lent for writing. Bytes are looked at by their index in the input; they are split off where
-// something is shared, and then for good.
+// All from some index on, lent for writing. Bytes are looked at by their index in the input; they are split
+// off where something is shared, and then for good.
 #[derive(Drop)]
 pub(crate) struct Unread<'de> {
     rest: &'de mut [u8],
@@ -80,20 +81,26 @@ impl<'de> Unread<'de> {
         requires bounds { (self.old.at ≤ i) × (i + len ≤ self.old.at + length self.old.bytes) }
         requires utf8 { IsUtf8 (take len (drop (i - self.old.at) self.old.bytes)) }
         ensures string { result.now ≡ take len (drop (i - self.old.at) self.old.bytes) }
-        ensures rest { self.new ≡ record { at = i + len; bytes = drop (i + len - self.old.at) self.old.bytes } }
+        ensures rest { self.new ≡ record {
+          at = i + len;
+          bytes = drop (i + len - self.old.at) self.old.bytes;
+        } }
     {
         let _ = self.split(i);
         let prefix = self.split(self.at + len);
         unsafe { str::from_utf8_unchecked(prefix) }
     }
 
-    // The string whose opening quote has index i and whose closing quote has index `closing`. It has no escape.
+    // The string whose opening quote has index i and whose closing quote has index `closing`. It has no
+    // escape.
     #[inline(always)]
     pub(crate) fn share_string(&mut self, i: usize, closing: usize) -> &'de str
-        requires bounds { (self.old.at ≤ i) × (i < closing) × (closing < self.old.at + length self.old.bytes) }
+        requires bounds { (self.old.at ≤ i) × (i < closing)
+            × (closing < self.old.at + length self.old.bytes) }
         requires opening { byte_at (drop (i - self.old.at) self.old.bytes) 0 ≡ quote }
         requires closing { closing - i ≡ closing_quote (drop (i - self.old.at) self.old.bytes) 0 }
-        requires plain { (j : ℕ) → 0 < j → j < closing - i → byte_at (drop (i - self.old.at) self.old.bytes) j ≢ backslash }
+        requires plain { (j : ℕ) → 0 < j → j < closing - i
+            → byte_at (drop (i - self.old.at) self.old.bytes) j ≢ backslash }
         requires utf8 { IsUtf8 (drop (i - self.old.at) self.old.bytes) }
         ensures string { (b : List ℕ) → drop self.old.at b ≡ self.old.bytes
             → (string_at b i ≡ Ok (result.now, self.new.at)) × (self.new.bytes ≡ drop self.new.at b) }
@@ -110,7 +117,8 @@ impl<'de> Unread<'de> {
     pub(crate) fn parse_string(&mut self, i: usize) -> Result<&'de str, BadEscape>
         requires bounds { (self.old.at ≤ i) × (i ≤ self.old.at + length self.old.bytes) }
         requires opening { byte_at (drop (i - self.old.at) self.old.bytes) 0 ≡ quote }
-        requires closing { closing_quote (drop (i - self.old.at) self.old.bytes) 0 < length (drop (i - self.old.at) self.old.bytes) }
+        requires closing { closing_quote (drop (i - self.old.at) self.old.bytes) 0
+            < length (drop (i - self.old.at) self.old.bytes) }
         requires utf8 { IsUtf8 (drop (i - self.old.at) self.old.bytes) }
         ensures { (b : List ℕ) → drop self.old.at b ≡ self.old.bytes → MatchResult result
             (λ string. (string_at b i ≡ Ok (string.now, self.new.at)) × (self.new.bytes ≡ drop self.new.at b))

@@ -1,9 +1,12 @@
-use Rattle.std.proofs.Common.{[], ◌∷◌}
-use Rattle.simd_json_parts.specs.Bytes.{line_feed}
+use Rattle.std.proofs.Common.{ap, sym, append_assoc, flat_map, ◌++◌, codes}
 use Rattle.simd_json_parts.specs.Nodes.{item_of}
-use Rattle.simd_json_print.proofs.Places.{gives-then}
-use Rattle.jtape.specs.Lines.{node_text}
+use Rattle.simd_json_parts.specs.Printed.{escaped_byte, quoted}
+use Rattle.simd_json_print.proofs.Places.{gives-is}
+use Rattle.jtape.specs.Lines.{line}
 use Rattle.jtape.proofs.lines.put_line.Goals as goal
 
-pub returns : goal.returns
-returns g c = gives-then _ _ _ (node_text (item_of c.args.node.now)) (line_feed ∷ []) c.put_node.ensures c.put.ensures
+pub returns-in-String : goal.returns-in-String
+unfolding quoted
+returns-in-String g c =
+    gives-is _ _ _ _ (ap (λ node. line (item_of node)) (sym c.in-String.is))
+    (gives-is _ _ _ _ (ap (λ us. codes "String \"" ++ us) (sym (append_assoc (flat_map escaped_byte c.in-String.text.now) (codes "\"") (codes "\n")))) c.put_string.ensures)

@@ -120,8 +120,8 @@ fn run_into(
     (answer, writer.into_inner())
 }
 
-// The writer fails at each of its calls in turn, and then at none. What it took by then is a beginning of the output, and it
-// is called no more.
+// The writer fails at each of its calls in turn, and then at none. What it took by then is a beginning of the
+// output, and it is called no more.
 #[test]
 fn failing_writers_are_reported(rt: HostRuntime) {
     let rows: [(Mode, &[u8]); 5] = [
@@ -206,8 +206,8 @@ fn large_outputs_are_begun(rt: HostRuntime) -> Tested {
 
 const LONG: &[u8] = b"[1,\"\\n\",[2,3,4],5,6,7,8,9,10,11,12,13,14,15,16,1.5]";
 
-// Each heap is larger than the one before it, so that another allocation fails, and then none: of the input, of the
-// positions and the tape, or of the output. Where one fails, nothing is written.
+// Each heap is larger than the one before it, so that another allocation fails, and then none: of the input,
+// of the positions and the tape, or of the output. Where one fails, nothing is written.
 #[test]
 fn each_growth_is_refused(rt: HostRuntime) -> Tested {
     let rows: [(Mode, &[u8], &[u8]); 4] = [
@@ -232,7 +232,8 @@ fn each_growth_is_refused(rt: HostRuntime) -> Tested {
     Ok(())
 }
 
-// In how many heaps an allocation was refused, and in how many none was. The output begins and ends with these.
+// In how many heaps an allocation was refused, and in how many none was. The output begins and ends with
+// these.
 fn run_in_heaps(
     rt: &(impl AllocGlobal + Abort),
     mode: Mode,

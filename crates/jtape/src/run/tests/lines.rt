@@ -104,7 +104,8 @@ impl Write for Counting {
     }
 }
 
-// Pieces of each length, wherever a block of the parser's begins: they are printed as they are, in 64 KiB and more a call.
+// Pieces of each length, wherever a block of the parser's begins: they are printed as they are, in 64 KiB and
+// more a call.
 #[test]
 fn pieces_have_each_length(rt: HostRuntime) -> Tested {
     let rows = [(0, 0), (1, 1), (70, 1), (700, 4)];
@@ -125,14 +126,16 @@ fn pieces_have_each_length(rt: HostRuntime) -> Tested {
 }
 
 // Later pieces need more of each list than earlier ones.
-const GROWING: &[u8] =
-    b"[1]\n\"\\n\"\n[1,]\n[1,2,3,4,5,6,7,8,9]\n\n[[1],[2],[3],[[[[[[4]]]]]],5,6,7,8]\n[1,2,3,4,5,6,7,8,9,10,11,12,13,14,15,16,17,18,19,20,21]\n";
+const GROWING: &[u8] = b"[1]\n\"\\n\"\n[1,]\n[1,2,3,4,5,6,7,8,9]\n\n\
+      [[1],[2],[3],[[[[[[4]]]]]],5,6,7,8]\n\
+      [1,2,3,4,5,6,7,8,9,10,11,12,13,14,15,16,17,18,19,20,21]\n";
 
-const GROWN: &[u8] =
-    b"[1]\n\"\\n\"\n! InternalError at character 3 (']')\n[1,2,3,4,5,6,7,8,9]\n[[1],[2],[3],[[[[[[4]]]]]],5,6,7,8]\n[1,2,3,4,5,6,7,8,9,10,11,12,13,14,15,16,17,18,19,20,21]\n";
+const GROWN: &[u8] = b"[1]\n\"\\n\"\n! InternalError at character 3 (']')\n\
+      [1,2,3,4,5,6,7,8,9]\n[[1],[2],[3],[[[[[[4]]]]]],5,6,7,8]\n\
+      [1,2,3,4,5,6,7,8,9,10,11,12,13,14,15,16,17,18,19,20,21]\n";
 
-// Each heap is larger than the one before it, so that another allocation fails, and then none. Where one fails, whole lines
-// were written: those of the pieces before it.
+// Each heap is larger than the one before it, so that another allocation fails, and then none. Where one
+// fails, whole lines were written: those of the pieces before it.
 #[test]
 fn each_growth_is_refused(rt: HostRuntime) -> Tested {
     let (mut silent, mut begun, mut whole) = (0u32, 0u32, 0u32);

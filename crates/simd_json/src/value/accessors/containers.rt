@@ -74,8 +74,8 @@ impl<'tape, 'input> Value<'tape, 'input> {
 
     /// The array at the key, or `None` where the key is missing.
     ///
-    /// Returns an error that expects `Object` where the value is no object, and one that expects `Array` where the
-    /// first value with the key is no array.
+    /// Returns an error that expects `Object` where the value is no object, and one that expects `Array`
+    /// where the first value with the key is no array.
     pub fn try_get_array(&self, k: &str) -> Result<Option<Array<'tape, 'input>>, TryTypeError>
         ensures { ok_map (option_map items) result ≡ try_get_t accessors.array k.now (doc self.now) }
     {
@@ -86,8 +86,8 @@ impl<'tape, 'input> Value<'tape, 'input> {
 
     /// The object at the key, or `None` where the key is missing.
     ///
-    /// Returns an error that expects `Object` where the value is no object, or where the first value with the key is
-    /// none.
+    /// Returns an error that expects `Object` where the value is no object, or where the first value with the
+    /// key is none.
     pub fn try_get_object(&self, k: &str) -> Result<Option<Object<'tape, 'input>>, TryTypeError>
         ensures { ok_map (option_map entries) result ≡ try_get_t accessors.object k.now (doc self.now) }
     {

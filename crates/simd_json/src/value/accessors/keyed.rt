@@ -1,5 +1,5 @@
-//! `get_T`: the first value with a key, as a `T`. It is `None` where the value is no object, where the key is missing,
-//! and where that first value is no `T`.
+//! `get_T`: the first value with a key, as a `T`. It is `None` where the value is no object, where the key is
+//! missing, and where that first value is no `T`.
 use crate::value::tape::Value;
 
 impl<'tape, 'input> Value<'tape, 'input> {

@@ -1,5 +1,6 @@
-//! `try_get_T`: the first value with a key, as a `T`. It is `None` where the key is missing, an error that expects
-//! `Object` where the value is no object, and the error of `try_as_T` where that first value is no `T`.
+//! `try_get_T`: the first value with a key, as a `T`. It is `None` where the key is missing, an error that
+//! expects `Object` where the value is no object, and the error of `try_as_T` where that first value is no
+//! `T`.
 use crate::value::tape::Value;
 use simd_json_parts::node::TryTypeError;
 

@@ -18,12 +18,12 @@ impl<'tape, 'input> Value<'tape, 'input> {
     ghost use Rattle.simd_json_parts.specs.Document.{Document};
     ghost use Rattle.simd_json_parts.specs.MapEquality.{equals_map};
 
-    /// Whether the value is an object that says what the map says: it has as many pairs as the map, its keys are
-    /// distinct, each is in the map, and `same` says yes of the map's value and the object's for each.
+    /// Whether the value is an object that says what the map says: it has as many pairs as the map, its keys
+    /// are distinct, each is in the map, and `same` says yes of the map's value and the object's for each.
     ///
-    /// It takes no memory. It looks each key up once, and then, where all of that holds, compares each key with the
-    /// keys after it, so its time grows with the square of the number of pairs; of keys that differ in length no byte
-    /// is read.
+    /// It takes no memory. It looks each key up once, and then, where all of that holds, compares each key
+    /// with the keys after it, so its time grows with the square of the number of pairs; of keys that differ
+    /// in length no byte is read.
     ///
     /// ```
     /// use simd_json::tape::Value;

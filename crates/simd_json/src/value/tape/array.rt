@@ -101,8 +101,10 @@ pub struct Iter<'tape, 'input> {
 impl<'tape, 'input> Iterator for Iter<'tape, 'input> {
     type Item = Value<'tape, 'input>;
 
-    ghost use Rattle.std.specs.Iterator.{YieldsFirstBy, item_count};
-    ghost use Rattle.simd_json.specs.Iterated.{elements_left};
+    ghost use Rattle.std.specs.Prelude.{◌≡◌, IfSome, length};
+    ghost use Rattle.std.specs.Iterator.{UpTo, YieldsFirstBy, item_count};
+    ghost use Rattle.std.specs.Iterator.SizeHint.{IsWithinCount};
+    ghost use Rattle.simd_json.specs.Iterated.{elements_left, exact_hint};
     ghost use Rattle.simd_json.specs.Viewed.{doc};
 
     ghost next_gives = { YieldsFirstBy doc elements_left };
@@ -115,7 +117,11 @@ impl<'tape, 'input> Iterator for Iter<'tape, 'input> {
         Some(value)
     }
 
-    fn size_hint(&self) -> (usize, Option<usize>) {
+    fn size_hint(&self) -> (usize, Option<usize>)
+        ensures lower { IsWithinCount result.0 (item_count elements_left self.now) }
+        ensures upper { IfSome result.1 (UpTo (item_count elements_left self.now)) }
+        ensures exact { result ≡ exact_hint (length (elements_left self.now)) }
+    {
         (self.left.len, Some(self.left.len))
     }
 }

@@ -28,8 +28,8 @@ impl<'tape, 'input> Object<'tape, 'input> {
 
     /// The value of the first pair with that key, or `None` where there is none.
     ///
-    /// The pairs before it are passed over, each in one step whatever its value holds. A key is compared with the bytes
-    /// of another of the same length alone.
+    /// The pairs before it are passed over, each in one step whatever its value holds. A key is compared with
+    /// the bytes of another of the same length alone.
     pub fn get(&self, k: &str) -> Option<Value<'tape, 'input>>
         ensures { option_map doc result ≡ first_with k.now (pairs self.now) }
     {
@@ -128,8 +128,10 @@ pub struct Iter<'tape, 'input> {
 impl<'tape, 'input> Iterator for Iter<'tape, 'input> {
     type Item = (&'input str, Value<'tape, 'input>);
 
-    ghost use Rattle.std.specs.Iterator.{YieldsFirstBy, item_count};
-    ghost use Rattle.simd_json.specs.Iterated.{pairs_left};
+    ghost use Rattle.std.specs.Prelude.{◌≡◌, IfSome, length};
+    ghost use Rattle.std.specs.Iterator.{UpTo, YieldsFirstBy, item_count};
+    ghost use Rattle.std.specs.Iterator.SizeHint.{IsWithinCount};
+    ghost use Rattle.simd_json.specs.Iterated.{exact_hint, pairs_left};
     ghost use Rattle.simd_json.specs.Paired.{pair};
 
     ghost next_gives = { YieldsFirstBy pair pairs_left };
@@ -142,7 +144,11 @@ impl<'tape, 'input> Iterator for Iter<'tape, 'input> {
         Some((key, value))
     }
 
-    fn size_hint(&self) -> (usize, Option<usize>) {
+    fn size_hint(&self) -> (usize, Option<usize>)
+        ensures lower { IsWithinCount result.0 (item_count pairs_left self.now) }
+        ensures upper { IfSome result.1 (UpTo (item_count pairs_left self.now)) }
+        ensures exact { result ≡ exact_hint (length (pairs_left self.now)) }
+    {
         (self.left.len, Some(self.left.len))
     }
 }
@@ -164,8 +170,10 @@ pub struct Keys<'tape, 'input> {
 impl<'tape, 'input> Iterator for Keys<'tape, 'input> {
     type Item = &'input str;
 
-    ghost use Rattle.std.specs.Iterator.{YieldsFirstRef, item_count};
-    ghost use Rattle.simd_json.specs.Iterated.{keys_left};
+    ghost use Rattle.std.specs.Prelude.{◌≡◌, IfSome, length};
+    ghost use Rattle.std.specs.Iterator.{UpTo, YieldsFirstRef, item_count};
+    ghost use Rattle.std.specs.Iterator.SizeHint.{IsWithinCount};
+    ghost use Rattle.simd_json.specs.Iterated.{exact_hint, keys_left};
 
     ghost next_gives = { YieldsFirstRef keys_left };
 
@@ -177,7 +185,11 @@ impl<'tape, 'input> Iterator for Keys<'tape, 'input> {
         Some(key)
     }
 
-    fn size_hint(&self) -> (usize, Option<usize>) {
+    fn size_hint(&self) -> (usize, Option<usize>)
+        ensures lower { IsWithinCount result.0 (item_count keys_left self.now) }
+        ensures upper { IfSome result.1 (UpTo (item_count keys_left self.now)) }
+        ensures exact { result ≡ exact_hint (length (keys_left self.now)) }
+    {
         (self.left.len, Some(self.left.len))
     }
 }
@@ -199,8 +211,10 @@ pub struct Values<'tape, 'input> {
 impl<'tape, 'input> Iterator for Values<'tape, 'input> {
     type Item = Value<'tape, 'input>;
 
-    ghost use Rattle.std.specs.Iterator.{YieldsFirstBy, item_count};
-    ghost use Rattle.simd_json.specs.Iterated.{values_left};
+    ghost use Rattle.std.specs.Prelude.{◌≡◌, IfSome, length};
+    ghost use Rattle.std.specs.Iterator.{UpTo, YieldsFirstBy, item_count};
+    ghost use Rattle.std.specs.Iterator.SizeHint.{IsWithinCount};
+    ghost use Rattle.simd_json.specs.Iterated.{exact_hint, values_left};
     ghost use Rattle.simd_json.specs.Viewed.{doc};
 
     ghost next_gives = { YieldsFirstBy doc values_left };
@@ -213,7 +227,11 @@ impl<'tape, 'input> Iterator for Values<'tape, 'input> {
         Some(value)
     }
 
-    fn size_hint(&self) -> (usize, Option<usize>) {
+    fn size_hint(&self) -> (usize, Option<usize>)
+        ensures lower { IsWithinCount result.0 (item_count values_left self.now) }
+        ensures upper { IfSome result.1 (UpTo (item_count values_left self.now)) }
+        ensures exact { result ≡ exact_hint (length (values_left self.now)) }
+    {
         (self.left.len, Some(self.left.len))
     }
 }

@@ -10,7 +10,8 @@ use crate::value::tape::array::Array;
 use crate::value::tape::object::Object;
 use simd_json_parts::node::{Node, StaticNode, ValueType};
 
-/// A document on a tape, or a document within it: what its nodes stand for is read from them as it is asked for.
+/// A document on a tape, or a document within it: what its nodes stand for is read from them as it is asked
+/// for.
 ///
 /// It is a copy of a reference, and no call of it takes memory but those that print.
 ///
@@ -52,7 +53,8 @@ impl<'tape, 'input> Value<'tape, 'input> {
     ghost use Rattle.simd_json_parts.specs.Document.{Document, null, array, object};
     ghost use Rattle.simd_json_parts.specs.Listing.{StandsFor, listing};
     ghost use Rattle.simd_json_parts.specs.Nodes.{Item, item_of};
-    ghost use Rattle.simd_json_parts.specs.Views.{value_type, is_array, is_object, get, get_idx, contains_key};
+    ghost use Rattle.simd_json_parts.specs.Views.{value_type, is_array, is_object};
+    ghost use Rattle.simd_json_parts.specs.Views.{get, get_idx, contains_key};
 
     /// The value `null`.
     pub fn null() -> Value<'static, 'static>
@@ -88,7 +90,8 @@ impl<'tape, 'input> Value<'tape, 'input> {
     // The first node: a scalar's only one, or a container's header.
     pub(crate) fn node(&self) -> Node<'input>
         ensures first { IsFirst (item_of result) (doc self.now) }
-        ensures header { map item_of self.now.nodes.now ≡ item_of result ∷ map item_of (drop 1 self.now.nodes.now) }
+        ensures header { map item_of self.now.nodes.now
+            ≡ item_of result ∷ map item_of (drop 1 self.now.nodes.now) }
     {
         self.nodes[0]
     }
@@ -186,7 +189,8 @@ impl<'tape, 'input> Value<'tape, 'input> {
         self.as_array()?.get(i)
     }
 
-    /// Whether the value is an object that has a pair with that key: whether [`get`](Value::get) answers a value.
+    /// Whether the value is an object that has a pair with that key: whether [`get`](Value::get) answers a
+    /// value.
     pub fn contains_key(&self, k: &str) -> bool
         ensures { result ≡ contains_key k.now (doc self.now) }
     {

@@ -1,93 +1,26 @@
-use Rattle.std.proofs.Common.{◌≡◌, sym, ap, ◌∙◌, drop, Ok, true, false, arith}
-use Rattle.std.proofs.lemmas.Bool.Decides.{nat_tests}
-use Rattle.std.proofs.lemmas.List.{get_or_default}
-use Rattle.simd_json_parts.specs.Bytes.{byte_at, is_terminator}
-use Rattle.simd_json_parts.specs.Numbers.{number_literal}
-use Rattle.simd_json_parts.proofs.Numbers.Prefixes.{Reads}
-use Rattle.simd_json_parts.proofs.Numbers.Steps.{SignEnd, IsWhole}
-use Rattle.simd_json_parts.proofs.Numbers.Reader.{number_at-part, number_at-after, number_at-longer, integer-literal, read-split, read-after}
-use Rattle.simd_json_parts.proofs.Numbers.Looks.{run-whole, IsFraction, seen-number, seen-end, seen-longer}
+use Rattle.std.proofs.Common.{◌≡◌, refl, sym, ap, subst, ◌∙◌, ◌+◌, ◌==◌, Ok}
+use mir.Val.{bool_byte}
+use Rattle.simd_json_parts.specs.Bytes.{byte_at}
+use Rattle.simd_json_parts.specs.Document.{integer}
+use Rattle.simd_json_parts.specs.NumberAt.{number_at}
+use Rattle.simd_json_parts.proofs.Numbers.Literals.{byte_at-front}
+use Rattle.simd_json_parts.proofs.Numbers.Steps.{SignEnd}
+use Rattle.simd_json_parts.proofs.Numbers.Reader.{sign-end, integer-end}
 use Rattle.simd_json_parts.proofs.numberparse.parse_number.Goals as goal
 
 pub integer-requires : goal.integer-requires
 integer-requires c =
-    let l = c.args.bytes.now in
-    let first = get_or_default l 0 32 0 (omega arith) in
-    let sign : SignEnd l c.if-bytes-eq45.start = grind (arith, first) in
-    let run = c.run_end-whole.ensures l (omega arith) c.non_digits-stops.ensures (omega arith) in
-    let digit = get_or_default l c.if-bytes-eq45.start 32 0 (omega arith) in
-    let whole : IsWhole l c.run_end-whole.result = run-whole l _ _ sign run c.if-whole-start.false (λ e. grind (arith, e, digit, nat_tests)) in
-    rw c.if-end-whole-2.true (integer-literal _ _ whole)
+    let read = c.in-Integer.ensures c.args.bytes.now 0 refl in
+    rw c.byte_or_space-minus.ensures read.2
 
-pub returns-then-end-whole-2 : goal.returns-then-end-whole-2
-returns-then-end-whole-2 c b i e =
+pub returns-in-Integer : goal.returns-in-Integer
+returns-in-Integer c b i e =
     let l = c.args.bytes.now in
-    let first = get_or_default l 0 32 0 (omega arith) in
-    let sign : SignEnd l c.if-bytes-eq45.start = grind (arith, first) in
-    let run = c.run_end-whole.ensures l (omega arith) c.non_digits-stops.ensures (omega arith) in
-    let digit = get_or_default l c.if-bytes-eq45.start 32 0 (omega arith) in
-    let whole : IsWhole l c.run_end-whole.result = run-whole l _ _ sign run c.if-whole-start.false (λ e. grind (arith, e, digit, nat_tests)) in
-    let point = get_or_default l c.run_end-whole.result 32 0 (omega arith) in
-    let fraction : IsFraction l c.run_end-whole.result c.if-bytes-whole-eq46.end = grind (arith, point, c.non_digits-stops.ensures) in
-    let after : is_terminator (byte_at l c.if-bytes-whole-eq46.end) ≡ true =
-    ap is_terminator (get_or_default l c.if-bytes-whole-eq46.end 32 0 (omega arith)) ∙ sym c.is_structural_or_whitespace.ensures ∙ c.if-is_structural_or_whitespace.true in
-    let reads : Reads number_literal l 0 (Ok c.if-bytes-whole-eq46.end) = seen-end l _ _ whole fraction (omega arith) after in
-    c.integer.ensures b i (drop c.if-bytes-whole-eq46.end l) (read-split b i l e _ reads) (read-after b i l e _ reads after)
-
-pub returns-else-end-whole-2 : goal.returns-else-end-whole-2
-returns-else-end-whole-2 c b i e =
-    let l = c.args.bytes.now in
-    let first = get_or_default l 0 32 0 (omega arith) in
-    let sign : SignEnd l c.if-bytes-eq45.start = grind (arith, first) in
-    let run = c.run_end-whole.ensures l (omega arith) c.non_digits-stops.ensures (omega arith) in
-    let digit = get_or_default l c.if-bytes-eq45.start 32 0 (omega arith) in
-    let whole : IsWhole l c.run_end-whole.result = run-whole l _ _ sign run c.if-whole-start.false (λ e. grind (arith, e, digit, nat_tests)) in
-    let point = get_or_default l c.run_end-whole.result 32 0 (omega arith) in
-    let fraction : IsFraction l c.run_end-whole.result c.if-bytes-whole-eq46.end = grind (arith, point, c.non_digits-stops.ensures) in
-    let after : is_terminator (byte_at l c.if-bytes-whole-eq46.end) ≡ true =
-    ap is_terminator (get_or_default l c.if-bytes-whole-eq46.end 32 0 (omega arith)) ∙ sym c.is_structural_or_whitespace.ensures ∙ c.if-is_structural_or_whitespace.true in
-    let reads : Reads number_literal l 0 (Ok c.if-bytes-whole-eq46.end) = seen-end l _ _ whole fraction (omega arith) after in
-    number_at-longer b i l e _ reads _ whole c.if-end-whole-2.false after
-
-pub returns-in-Err : goal.returns-in-Err
-returns-in-Err c b i e =
-    let l = c.args.bytes.now in
-    let first = get_or_default l 0 32 0 (omega arith) in
-    let sign : SignEnd l c.if-bytes-eq45.start = grind (arith, first) in
-    let run = c.run_end-whole.ensures l (omega arith) c.non_digits-stops.ensures (omega arith) in
-    let digit = get_or_default l c.if-bytes-eq45.start 32 0 (omega arith) in
-    let whole : IsWhole l c.run_end-whole.result = run-whole l _ _ sign run c.if-whole-start.false (λ e. grind (arith, e, digit, nat_tests)) in
-    let point = get_or_default l c.run_end-whole.result 32 0 (omega arith) in
-    let fraction : IsFraction l c.run_end-whole.result c.if-bytes-whole-eq46.end = grind (arith, point, c.non_digits-stops.ensures) in
-    number_at-part b i l e _ (seen-number l _ _ whole fraction _ c.in-Err.ensures)
-
-pub returns-in-Ok : goal.returns-in-Ok
-returns-in-Ok c b i e =
-    let l = c.args.bytes.now in
-    let first = get_or_default l 0 32 0 (omega arith) in
-    let sign : SignEnd l c.if-bytes-eq45.start = grind (arith, first) in
-    let run = c.run_end-whole.ensures l (omega arith) c.non_digits-stops.ensures (omega arith) in
-    let digit = get_or_default l c.if-bytes-eq45.start 32 0 (omega arith) in
-    let whole : IsWhole l c.run_end-whole.result = run-whole l _ _ sign run c.if-whole-start.false (λ e. grind (arith, e, digit, nat_tests)) in
-    let point = get_or_default l c.run_end-whole.result 32 0 (omega arith) in
-    let fraction : IsFraction l c.run_end-whole.result c.if-bytes-whole-eq46.end = grind (arith, point, c.non_digits-stops.ensures) in
-    let reads : Reads number_literal l 0 (Ok c.in-Ok.end) = seen-number l _ _ whole fraction _ c.in-Ok.ensures in
-    let other : is_terminator (byte_at l c.if-bytes-whole-eq46.end) ≡ false =
-    ap is_terminator (get_or_default l c.if-bytes-whole-eq46.end 32 0 (omega arith)) ∙ sym c.is_structural_or_whitespace.ensures ∙ c.if-is_structural_or_whitespace.false in
-    let after : is_terminator (byte_at l c.in-Ok.end) ≡ true = sym (ap is_terminator c.byte_or_space.ensures) ∙ sym c.if-is_structural_or_whitespace-2.ensures in
-    number_at-longer b i l e _ reads _ whole (seen-longer l _ _ whole fraction _ c.in-Ok.ensures other after) after
-
-pub returns-in-Ok-2 : goal.returns-in-Ok-2
-returns-in-Ok-2 c b i e =
-    let l = c.args.bytes.now in
-    let first = get_or_default l 0 32 0 (omega arith) in
-    let sign : SignEnd l c.if-bytes-eq45.start = grind (arith, first) in
-    let run = c.run_end-whole.ensures l (omega arith) c.non_digits-stops.ensures (omega arith) in
-    let digit = get_or_default l c.if-bytes-eq45.start 32 0 (omega arith) in
-    let whole : IsWhole l c.run_end-whole.result = run-whole l _ _ sign run c.if-whole-start.false (λ e. grind (arith, e, digit, nat_tests)) in
-    let point = get_or_default l c.run_end-whole.result 32 0 (omega arith) in
-    let fraction : IsFraction l c.run_end-whole.result c.if-bytes-whole-eq46.end = grind (arith, point, c.non_digits-stops.ensures) in
-    let reads : Reads number_literal l 0 (Ok c.in-Ok.end) = seen-number l _ _ whole fraction _ c.in-Ok.ensures in
-    let other : is_terminator (byte_at l c.in-Ok.end) ≡ false =
-    sym (ap is_terminator c.byte_or_space.ensures) ∙ sym c.if-is_structural_or_whitespace-2.ensures in
-    number_at-after b i l e _ reads other
+    let minus = c.byte_or_space-minus.result == 45 in
+    let n = c.in-Integer.magnitude in
+    let read = c.in-Integer.ensures b i e in
+    let first : byte_at b i ≡ c.byte_or_space-minus.result = byte_at-front b i l e ∙ sym c.byte_or_space-minus.ensures in
+    let sign : SignEnd l (bool_byte minus) = subst (λ x. SignEnd l (bool_byte (x == 45))) (sym c.byte_or_space-minus.ensures) (sign-end l) in
+    let at : number_at b i ≡ Ok (integer minus n, read.0) = read.1 ∙ ap (λ x. Ok (integer (x == 45) n, read.0)) first in
+    let end : read.0 ≡ i + c.int_end-len.result = integer-end b i l e (bool_byte minus) c.int_end-len.result sign c.int_end-len.ensures.value minus n read.0 at in
+    (minus, n, at ∙ ap (λ k. Ok (integer minus n, k)) end, c.integer.ensures)

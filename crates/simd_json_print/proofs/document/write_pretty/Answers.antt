@@ -1,4 +1,4 @@
-use Rattle.simd_json_print.proofs.Places.{gives-new}
+use Rattle.simd_json_print.proofs.Places.{gives-new, grows-longer, longer-then}
 use Rattle.simd_json_print.proofs.document.write_pretty.Goals as goal
 
 pub returns-clause-written : goal.returns-clause-written
@@ -8,3 +8,6 @@ returns-clause-written g c d is =
 pub returns-clause-begun : goal.returns-clause-begun
 returns-clause-begun g c d is =
     c.finish.ensures.some _ _ (gives-new _ _ _ _ c.new-sink.ensures (c.put_pretty.ensures.given d is))
+
+pub returns-clause-kept : goal.returns-clause-kept
+returns-clause-kept g c = longer-then _ _ _ (grows-longer _ _ c.put_pretty.ensures.kept) c.finish.ensures.kept

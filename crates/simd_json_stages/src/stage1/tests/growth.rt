@@ -2,8 +2,9 @@
 use super::*;
 use linked_list_allocator::LocalHeap;
 
-// The lengths that the lists have where a growth is refused, one after another, as the heap gets larger by steps. Where no
-// growth is refused, the answer is the wanted one; lists that have capacity for all from the start ask for no more.
+// The lengths that the lists have where a growth is refused, one after another, as the heap gets larger by
+// steps. Where no growth is refused, the answer is the wanted one; lists that have capacity for all from the
+// start ask for no more.
 fn refused_lengths(
     rt: &(impl AllocGlobal + Abort),
     text: &[u8],
@@ -100,7 +101,8 @@ fn each_growth_of_one_window_is_refused(rt: HostRuntime) -> Tested {
     Ok(())
 }
 
-// The list of positions grows again where a later window has more than was guessed, and the list of blocks too.
+// The list of positions grows again where a later window has more than was guessed, and the list of blocks
+// too.
 #[test]
 fn each_growth_of_several_windows_is_refused(rt: HostRuntime) -> Tested {
     let mut text = text(rt.alloc(), b"", b' ', 8192, b"")?;

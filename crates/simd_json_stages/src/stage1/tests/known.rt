@@ -1,7 +1,8 @@
 //! The positions of single tokens, of refused inputs and of documents, by the definition and counted by hand.
 use super::*;
 
-// A string, a number, a word or one structural character begins at its first byte, and nowhere else does a token begin.
+// A string, a number, a word or one structural character begins at its first byte, and nowhere else does a
+// token begin.
 #[test]
 fn one_token_has_one_position(rt: HostRuntime) -> std::result::Result<(), Fail> {
     for text in [

@@ -91,8 +91,10 @@ fn scan<A: Allocator>(
     escape_blocks: &mut Vec<u32, A>,
 ) -> Result<(bool, Found)>
     requires { (length input.now ≤ max_length) × IsUtf8 input.now }
-    ensures found { IfOk result (λ r. IsFound input.now r.0 r.1 structural_indexes.new.items escape_blocks.new.items) }
-    ensures fault { IfErr result (λ e. LacksMemory input.now e structural_indexes.old.items escape_blocks.old.items) }
+    ensures found { IfOk result (λ r. IsFound input.now r.0 r.1
+        structural_indexes.new.items escape_blocks.new.items) }
+    ensures fault { IfErr result (λ e. LacksMemory input.now e
+        structural_indexes.old.items escape_blocks.old.items) }
     ensures longer { (length structural_indexes.old.items ≤ length structural_indexes.new.items)
         × (length escape_blocks.old.items ≤ length escape_blocks.new.items) }
 {

@@ -1,8 +1,9 @@
-use Rattle.std.proofs.Common.{◌∙◌, ap, sym, ◌+◌, not, nat_eq, [], ◌∷◌, ◌++◌, arith, rules}
-use Rattle.simd_json_parts.specs.Bytes.{right_bracket, right_brace}
+use Rattle.std.proofs.Common.{◌∙◌, ap, sym, ◌+◌, not, nat_eq, [], ◌∷◌, ◌++◌, cond, arith, rules}
+use Rattle.simd_json_parts.specs.Bytes.{comma, left_bracket, right_bracket, right_brace}
 use Rattle.simd_json_print.specs.Layout.{line, text, elements_text}
 use Rattle.simd_json_print.proofs.Places.{gives-none, gives-then, gives-is, gives-lost, gives-grows, grows-none, grows-then}
-use Rattle.simd_json_print.proofs.Walk.{empty-array, array-begins, elements-end, parted, element-turn, empty-object, object-begins, members-end, no-document, array-beneath, object-beneath, scalar-text}
+use Rattle.simd_json_print.proofs.Walk.{empty-array, array-begins, elements-end, parted, element-turn, empty-object, object-begins, members-end, no-document, array-beneath, object-beneath, scalar-text, string-text, string-element}
+use Rattle.simd_json_print.proofs.Lines.{gives-front}
 use Rattle.simd_json_print.proofs.Turns.{given-member}
 use Rattle.simd_json_print.proofs.document.walk.+value.Goals as goal
 
@@ -31,35 +32,34 @@ pub put_array-loop-left-preserved : goal.put_array-loop-left-preserved
 put_array-loop-left-preserved g t c =
     let pretty = not (nat_eq g.row.PRETTY 0) in (
       omega (arith, c.split_value.ensures.all, c.loop-left.invariant.0),
-      grows-then _ _ _ c.loop-left.invariant.1
-          (grows-then _ _ _ (gives-grows _ _ _ c.put-in-loop-left.ensures) (grows-then _ _ _ (gives-grows _ _ _ c.put_line.ensures) c.put_value.ensures.kept)),
+      grows-then _ _ _ c.loop-left.invariant.1 c.put_element.ensures.kept,
       λ ds is.
           let so_far = c.loop-left.invariant.2 ds is in
           let part = parted c.loop-left.left.nodes.now c.split_value.result.0.now c.split_value.result.1.nodes.now so_far.1 (search (arith, rules)) so_far.2 c.split_value.ensures.whole in
+          let before = cond c.loop-left.is_first left_bracket comma in
           let l = line pretty (c.args.depth + 1) in
           let v = text pretty part.d (c.args.depth + 1) in
           let close = line pretty c.args.depth ++ right_bracket ∷ [] in (
-            so_far.0 ++ ((c.loop-left.before ∷ []) ++ (l ++ v)),
+            so_far.0 ++ (before ∷ (l ++ v)),
             part.others,
             part.back,
-            gives-then _ _ _ so_far.0 _ so_far.3
-                (gives-then _ _ _ (c.loop-left.before ∷ []) _ c.put-in-loop-left.ensures (gives-then _ _ _ l v c.put_line.ensures (c.put_value.ensures.given part.d part.front))),
-            element-turn c.loop-left.before so_far.0 l v (elements_text pretty 44 part.others (c.args.depth + 1)) close _
-                (ap (λ es. so_far.0 ++ (elements_text pretty c.loop-left.before es (c.args.depth + 1) ++ close)) (sym part.whole) ∙ so_far.4),
+            gives-then _ _ _ so_far.0 _ so_far.3 (c.put_element.ensures.given part.d part.front),
+            element-turn before so_far.0 l v (elements_text pretty comma part.others (c.args.depth + 1)) close _
+                (ap (λ es. so_far.0 ++ (elements_text pretty before es (c.args.depth + 1) ++ close)) (sym part.whole) ∙ so_far.4),
           ),
     )
 
 pub put_array-returns-clause-kept : goal.put_array-returns-clause-kept
-put_array-returns-clause-kept g t c = grows-then _ _ _ c.loop-left.invariant.1 (grows-then _ _ _ (gives-grows _ _ _ c.put_line-2.ensures) (gives-grows _ _ _ c.put-2.ensures))
+put_array-returns-clause-kept g t c = grows-then _ _ _ c.loop-left.invariant.1 (grows-then _ _ _ (gives-grows _ _ _ c.put_line.ensures) (gives-grows _ _ _ c.put-2.ensures))
 
 pub put_array-returns-clause-given : goal.put_array-returns-clause-given
 put_array-returns-clause-given g t c ds is =
     let pretty = not (nat_eq g.row.PRETTY 0) in
     let so_far = c.loop-left.invariant.2 ds is in
     let close = line pretty c.args.depth ++ right_bracket ∷ [] in
-    let end = elements-end pretty c.loop-left.before (c.args.depth + 1) c.loop-left.left.nodes.now so_far.1 (search (arith, rules)) so_far.2 in
+    let end = elements-end pretty _ (c.args.depth + 1) c.loop-left.left.nodes.now so_far.1 (search (arith, rules)) so_far.2 in
     gives-is _ _ _ _ (ap (λ us. so_far.0 ++ (us ++ close)) (sym end) ∙ so_far.4)
-    (gives-then _ _ _ so_far.0 _ so_far.3 (gives-then _ _ _ (line pretty c.args.depth) (right_bracket ∷ []) c.put_line-2.ensures c.put-2.ensures))
+    (gives-then _ _ _ so_far.0 _ so_far.3 (gives-then _ _ _ (line pretty c.args.depth) (right_bracket ∷ []) c.put_line.ensures c.put-2.ensures))
 
 -- ---- objects
 
@@ -85,27 +85,25 @@ put_object-returns-then-has_stopped-clause-given g t c ms is =
 pub put_object-loop-left-preserved : goal.put_object-loop-left-preserved
 put_object-loop-left-preserved g t c = (
   omega (arith, c.split_name.ensures.all, c.split_value.ensures.all, c.loop-left.invariant.0),
-  grows-then _ _ _ c.loop-left.invariant.1
-      (grows-then _ _ _ (gives-grows _ _ _ c.put-in-loop-left.ensures)
-      (grows-then _ _ _ (gives-grows _ _ _ c.put_line.ensures) (grows-then _ _ _ (gives-grows _ _ _ c.put_name.ensures) c.put_value.ensures.kept))),
+  grows-then _ _ _ c.loop-left.invariant.1 (grows-then _ _ _ c.put_name.ensures.kept c.put_value.ensures.kept),
   λ ms is.
       let so_far = c.loop-left.invariant.2 ms is in
-      given-member (not (nat_eq g.row.PRETTY 0)) (c.args.depth + 1) c.loop-left.before c.loop-left.left.nodes.now c.split_name.result.1.nodes.now c.split_value.result.0.now c.split_value.result.1.nodes.now c.split_name.result.0.now
-      _ _ _ _ _ _ _ _ so_far.0 so_far.1 (search (arith, rules)) so_far.2 so_far.3 so_far.4 c.split_name.ensures.whole c.split_value.ensures.whole
-      c.put-in-loop-left.ensures c.put_line.ensures c.put_name.ensures c.put_value.ensures.given,
+      given-member (not (nat_eq g.row.PRETTY 0)) (c.args.depth + 1) _ c.loop-left.left.nodes.now c.split_name.result.1.nodes.now c.split_value.result.0.now c.split_value.result.1.nodes.now c.split_name.result.0.now
+      _ _ _ _ _ _ so_far.0 so_far.1 (search (arith, rules)) so_far.2 so_far.3 so_far.4 c.split_name.ensures.whole c.split_value.ensures.whole
+      c.put_name.ensures.given c.put_value.ensures.given,
 )
 
 pub put_object-returns-clause-kept : goal.put_object-returns-clause-kept
-put_object-returns-clause-kept g t c = grows-then _ _ _ c.loop-left.invariant.1 (grows-then _ _ _ (gives-grows _ _ _ c.put_line-2.ensures) (gives-grows _ _ _ c.put-2.ensures))
+put_object-returns-clause-kept g t c = grows-then _ _ _ c.loop-left.invariant.1 (grows-then _ _ _ (gives-grows _ _ _ c.put_line.ensures) (gives-grows _ _ _ c.put-2.ensures))
 
 pub put_object-returns-clause-given : goal.put_object-returns-clause-given
 put_object-returns-clause-given g t c ms is =
     let pretty = not (nat_eq g.row.PRETTY 0) in
     let so_far = c.loop-left.invariant.2 ms is in
     let close = line pretty c.args.depth ++ right_brace ∷ [] in
-    let end = members-end pretty c.loop-left.before (c.args.depth + 1) c.loop-left.left.nodes.now so_far.1 (search (arith, rules)) so_far.2 in
+    let end = members-end pretty _ (c.args.depth + 1) c.loop-left.left.nodes.now so_far.1 (search (arith, rules)) so_far.2 in
     gives-is _ _ _ _ (ap (λ us. so_far.0 ++ (us ++ close)) (sym end) ∙ so_far.4)
-    (gives-then _ _ _ so_far.0 _ so_far.3 (gives-then _ _ _ (line pretty c.args.depth) (right_brace ∷ []) c.put_line-2.ensures c.put-2.ensures))
+    (gives-then _ _ _ so_far.0 _ so_far.3 (gives-then _ _ _ (line pretty c.args.depth) (right_brace ∷ []) c.put_line.ensures c.put-2.ensures))
 
 -- ---- values
 
@@ -114,6 +112,13 @@ put_value-returns-then-is_empty-clause-kept g t c = grows-none _
 
 pub put_value-returns-then-is_empty-clause-given : goal.put_value-returns-then-is_empty-clause-given
 put_value-returns-then-is_empty-clause-given g t c d is = absurd (no-document c.args.nodes.now d (search (arith, rules)) is)
+
+pub put_value-returns-in-String-clause-kept : goal.put_value-returns-in-String-clause-kept
+put_value-returns-in-String-clause-kept g t c = gives-grows _ _ _ c.put_string.ensures
+
+pub put_value-returns-in-String-clause-given : goal.put_value-returns-in-String-clause-given
+put_value-returns-in-String-clause-given g t c d is =
+    gives-is _ _ _ _ (string-text (not (nat_eq g.row.PRETTY 0)) c.args.depth c.args.nodes.now _ c.in-String.string d c.in-String.is is) c.put_string.ensures
 
 pub put_value-returns-in-Array-clause-given : goal.put_value-returns-in-Array-clause-given
 put_value-returns-in-Array-clause-given g t c d is =
@@ -125,9 +130,28 @@ put_value-returns-in-Object-clause-given g t c d is =
     let under = object-beneath c.args.nodes.now c.split_at-in-Object.result.1.now _ d _ _ c.in-Object.is c.split_at-in-Object.ensures.back is in
     gives-is _ _ _ _ (ap (λ e. text (not (nat_eq g.row.PRETTY 0)) e c.args.depth) (sym under.1)) (c.put_object.ensures.given under.0 under.2)
 
-pub put_value-returns-in_default : goal.put_value-returns-in_default
-put_value-returns-in_default g t c = record {
+pub put_value-returns-in_default-nodes-2 : goal.put_value-returns-in_default-nodes-2
+put_value-returns-in_default-nodes-2 g t c = record {
   kept = gives-grows _ _ _ c.put_scalar.ensures;
   given = λ d is.
-      gives-is _ _ _ _ (scalar-text (not (nat_eq g.row.PRETTY 0)) c.args.depth c.args.nodes.now _ d c.in_default.not-Array c.in_default.not-Object is) c.put_scalar.ensures;
+      gives-is _ _ _ _ (scalar-text (not (nat_eq g.row.PRETTY 0)) c.args.depth c.args.nodes.now _ d c.in_default-nodes.not-Array c.in_default-nodes-2.not-Object is) c.put_scalar.ensures;
 }
+
+-- ---- elements
+
+pub put_element-returns-in-String-clause-kept : goal.put_element-returns-in-String-clause-kept
+put_element-returns-in-String-clause-kept g t c = gives-grows _ _ _ c.put_string_element.ensures
+
+pub put_element-returns-in-String-clause-given : goal.put_element-returns-in-String-clause-given
+put_element-returns-in-String-clause-given g t c d is =
+    gives-is _ _ _ _ (string-element g.row.PRETTY c.args.depth _ c.args.nodes.now _ c.in-String.string d c.if-not-this.true c.in-String.is is) c.put_string_element.ensures
+
+pub put_element-returns-clause-kept : goal.put_element-returns-clause-kept
+put_element-returns-clause-kept g t c =
+    grows-then _ _ _ (gives-grows _ _ _ c.put.ensures) (grows-then _ _ _ (gives-grows _ _ _ c.put_line.ensures) c.put_value.ensures.kept)
+
+pub put_element-returns-clause-given : goal.put_element-returns-clause-given
+put_element-returns-clause-given g t c d is =
+    let pretty = not (nat_eq g.row.PRETTY 0) in
+    gives-then _ _ _ (cond c.args.is_first left_bracket comma ∷ []) _ (gives-front _ _ _ c.element_front-front.result.now c.element_front-front.ensures c.put.ensures)
+    (gives-then _ _ _ (line pretty c.args.depth) (text pretty d c.args.depth) c.put_line.ensures (c.put_value.ensures.given d is))

@@ -1,6 +1,7 @@
 use Rattle.std.proofs.Common.{Some, [], subst, sym}
 use Rattle.simd_json_print.specs.Places.{Gives}
-use Rattle.simd_json_print.proofs.Sent.{given-begun, finished-all, finished-some}
+use Rattle.simd_json_print.proofs.Places.{longer-same}
+use Rattle.simd_json_print.proofs.Sent.{given-begun, finished-all, finished-some, longer-sent}
 use Rattle.simd_json_print.proofs.place.writer.Writing.finish.Goals as goal
 
 pub returns-then-self-clause-some : goal.returns-then-self-clause-some
@@ -15,3 +16,9 @@ pub returns-clause-some : goal.returns-clause-some
 returns-clause-some g c bytes before given =
     finished-some c.flush.result before (g.W.Write.contents c.args.writer.now) (g.W.Write.contents c.flush.new.writer) c.self.inside.pieces c.flush.new.self bytes c.self.inside.has_stopped c.if-self.false
     (subst (λ o. Gives (before, Some []) (g.W.Write.contents c.args.writer.now, o) bytes) (sym c.self.view_is) given) c.flush.ensures.sent
+
+pub returns-then-self-clause-kept : goal.returns-then-self-clause-kept
+returns-then-self-clause-kept g c = longer-same _
+
+pub returns-clause-kept : goal.returns-clause-kept
+returns-clause-kept g c = longer-sent c.flush.result (g.W.Write.contents c.args.writer.now) (g.W.Write.contents c.flush.new.writer) c.self.inside.pieces c.flush.new.self [] c.flush.ensures.sent

@@ -1,5 +1,0 @@
-use Rattle.simd_json_parts.proofs.Positions.Between.{string-ends}
-use Rattle.simd_json_parts.proofs.laws.strings_end_before_the_next_position.Goals as goal
-
-pub returns : goal.returns
-returns c = string-ends

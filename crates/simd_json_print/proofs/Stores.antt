@@ -1,0 +1,82 @@
+-- Bytes that are stored in a list from an index on: what stands in front of where they end.
+use Rattle.std.proofs.Common.{◌≡◌, ◌∙◌, ap, sym, ℕ, ◌+◌, ◌-◌, ◌≤◌, List, ◌++◌, length, take, drop, append_assoc, append-nil, take-add, arith}
+use Rattle.std.proofs.lemmas.List.{length-append, length-take-le, take-take, take_at, drop_at}
+use Rattle.std.proofs.Math.Seq.{take-length}
+use Rattle.std.proofs.lemmas.Simd.{put_chunk_is, length-chunk}
+use lib.Lanes.{chunk, put_chunk}
+
+-- a vector
+pub stored-vector : (all bytes : List ℕ) (at from n : ℕ) → from + n ≤ length bytes → at + n ≤ length all
+    → take (at + n) (put_chunk at all (chunk from n bytes)) ≡ take at all ++ take n (drop from bytes)
+stored-vector all bytes at from n some room =
+    let part : List ℕ = chunk from n bytes in
+    let size : length part ≡ n = length-chunk from n bytes some in
+    let front : length (take at all) ≡ at = length-take-le at all (omega arith) in
+    let both : length (take at all ++ part) ≡ at + n = omega (arith, length-append (take at all) part) in
+    ap (take (at + n)) (put_chunk_is at all part (omega arith) ∙ sym (append_assoc (take at all) part (drop (length part) (drop at all))))
+    ∙ take_at (take at all ++ part) (drop (length part) (drop at all)) (at + n) both
+
+-- what stands in front of an index within what is stored
+stored-front : (old new bytes : List ℕ) (at m n : ℕ) → m ≤ n → at ≤ length old → take (at + n) new ≡ take at old ++ take n bytes → take (at + m) new ≡ take at old ++ take m bytes
+stored-front old new bytes at m n l room is =
+    let size : length (take at old) ≡ at = length-take-le at old room in
+    sym (take-take (at + m) (at + n) new (omega arith))
+    ∙ ap (take (at + m)) is
+    ∙ take-add at m (take at old ++ take n bytes)
+    ∙ ap (λ us. us ++ take m (drop at (take at old ++ take n bytes))) (take_at (take at old) (take n bytes) at size)
+    ∙ ap (λ us. take at old ++ take m us) (drop_at (take at old) (take n bytes) at size)
+    ∙ ap (λ us. take at old ++ us) (take-take m n bytes l)
+
+-- a second part, from an index within the first on
+pub stored-then : (old middle new bytes : List ℕ) (at m n k : ℕ) → m ≤ n → at ≤ length old → take (at + n) middle ≡ take at old ++ take n bytes
+    → take (at + m + k) new ≡ take (at + m) middle ++ take k (drop m bytes) → take (at + (m + k)) new ≡ take at old ++ take (m + k) bytes
+stored-then old middle new bytes at m n k l room first second =
+    let place : at + (m + k) ≡ at + m + k = omega arith in
+    ap (λ i. take i new) place
+    ∙ second
+    ∙ ap (λ us. us ++ take k (drop m bytes)) (stored-front old middle bytes at m n l room first)
+    ∙ append_assoc (take at old) (take m bytes) (take k (drop m bytes))
+    ∙ ap (λ us. take at old ++ us) (sym (take-add m k bytes))
+
+-- all of the bytes
+pub stored-ends : (old middle new bytes : List ℕ) (at n : ℕ) → n ≤ length bytes → length bytes ≤ n + n → at ≤ length old → take (at + n) middle ≡ take at old ++ take n bytes
+    → take (at + (length bytes - n) + n) new ≡ take (at + (length bytes - n)) middle ++ take n (drop (length bytes - n) bytes) → take (at + length bytes) new ≡ take at old ++ bytes
+stored-ends old middle new bytes at n covers within room first second =
+    let all : length bytes - n + n ≡ length bytes = omega arith in
+    sym (ap (λ i. take (at + i) new) all)
+    ∙ stored-then old middle new bytes at (length bytes - n) n n (omega arith) room first second
+    ∙ ap (λ i. take at old ++ take i bytes) all
+    ∙ ap (λ us. take at old ++ us) (take-length bytes)
+
+-- what stood in front of what is stored
+pub stored-behind : (old new part : List ℕ) (at n : ℕ) → at ≤ length old → take (at + n) new ≡ take at old ++ part → take at new ≡ take at old
+stored-behind old new part at n room is =
+    sym (take-take at (at + n) new (omega arith)) ∙ ap (take at) is ∙ take_at (take at old) part at (length-take-le at old room)
+
+-- ---- a run
+
+pub run-further : (front old new bytes : List ℕ) (at done n : ℕ) → take (at + done) old ≡ front ++ take done bytes → take (at + done + n) new ≡ take (at + done) old ++ take n (drop done bytes)
+    → take (at + (done + n)) new ≡ front ++ take (done + n) bytes
+run-further front old new bytes at done n so_far is =
+    let place : at + (done + n) ≡ at + done + n = omega arith in
+    ap (λ i. take i new) place ∙ is ∙ ap (λ us. us ++ take n (drop done bytes)) so_far ∙ append_assoc front (take done bytes) (take n (drop done bytes))
+    ∙ ap (λ us. front ++ us) (sym (take-add done n bytes))
+
+pub run-starts : (old bytes : List ℕ) (at : ℕ) → take (at + 0) old ≡ take at old ++ take 0 bytes
+run-starts old bytes at =
+    let place : at + 0 ≡ at = omega arith in
+    ap (λ i. take i old) place ∙ sym (append-nil (take at old))
+
+-- ---- three parts
+
+pub stored-between : (old one two new front string back : List ℕ) (at : ℕ) → take (at + length front) one ≡ take at old ++ front
+    → take (at + length front + length string) two ≡ take (at + length front) one ++ string
+    → take (at + length front + length string + length back) new ≡ take (at + length front + length string) two ++ back
+    → take (at + (length front + length string + length back)) new ≡ take at old ++ (front ++ (string ++ back))
+stored-between old one two new front string back at first second third =
+    let place : at + (length front + length string + length back) ≡ at + length front + length string + length back = omega arith in
+    ap (λ i. take i new) place
+    ∙ third
+    ∙ ap (λ us. us ++ back) (second ∙ ap (λ us. us ++ string) first)
+    ∙ append_assoc (take at old ++ front) string back
+    ∙ append_assoc (take at old) front (string ++ back)

@@ -1,6 +1,0 @@
-use Rattle.std.proofs.Common.{arith}
-use Rattle.simd_json_print.proofs.Unescaped.{unescaped-vector}
-use Rattle.simd_json_print.proofs.place.quoted.short.are_4_unescaped.Goals as goal
-
-pub returns : goal.returns
-returns c = unescaped-vector c.args.bytes.now c.args.at 4 c.requires (omega arith)

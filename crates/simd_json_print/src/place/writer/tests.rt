@@ -1,0 +1,102 @@
+use super::*;
+use crate::document::{put_compact, put_pretty};
+use crate::print::put_quoted;
+use simd_json_parts::node::{Node, StaticNode};
+use std::alloc::Global;
+use std::test::Fail;
+
+// ` [ "ab\n" , { "a name of more than thirty-two letters" : -12 } , [] ] `
+const NODES: [Node<'static>; 6] = [
+    Node::Array { len: 3, count: 5 },
+    Node::String("ab\n"),
+    Node::Object { len: 1, count: 2 },
+    Node::String("a name of more than thirty-two letters"),
+    Node::Static(StaticNode::I64(-12)),
+    Node::Array { len: 0, count: 0 },
+];
+
+const COMPACT: &str = "[\"ab\\n\",{\"a name of more than thirty-two letters\":-12},[]]";
+
+const PRETTY: &str =
+    "[\n  \"ab\\n\",\n  {\n    \"a name of more than thirty-two letters\": -12\n  },\n  []\n]";
+
+const STRING: &str =
+    "seventeen letters\n\"\u{e9}\\ and\u{1f}a line of more than thirty-two letters/";
+
+const QUOTED: &str =
+    "\"seventeen letters\\n\\\"\u{e9}\\\\ and\\u001fa line of more than thirty-two letters/\"";
+
+// As many letters are collected first, so that each text is cut at another place.
+fn written<const SIZE: usize>(
+    alloc: Global,
+    mut sink: Writing<SIZE>,
+    letters: usize,
+) -> std::result::Result<Vec<u8>, Fail> {
+    let mut out = Vec::new(alloc);
+    for _ in 0..letters {
+        sink.put(&mut out, b"x");
+    }
+    put_quoted(&mut sink, &mut out, STRING);
+    sink.put_string(&mut out, b", ", "short", b": ");
+    put_compact(&mut sink, &mut out, &NODES);
+    put_pretty(&mut sink, &mut out, &NODES);
+    sink.finish(&mut out)?;
+    Ok(out)
+}
+
+#[test]
+fn texts_are_whole_wherever_they_are_cut(rt: HostRuntime) -> std::result::Result<(), Fail> {
+    for letters in 0..65 {
+        let mut wanted = Vec::new(rt.alloc());
+        for _ in 0..letters {
+            wanted.push(b'x')?;
+        }
+        wanted.extend_from_slice(QUOTED.as_bytes())?;
+        wanted.extend_from_slice(b", short: ")?;
+        wanted.extend_from_slice(COMPACT.as_bytes())?;
+        wanted.extend_from_slice(PRETTY.as_bytes())?;
+        assert_eq!(rt;
+            written(rt.alloc(), Writing::<1>::new(), letters)?.as_slice(),
+            wanted.as_slice()
+        );
+        assert_eq!(rt;
+            written(rt.alloc(), Writing::<2>::new(), letters)?.as_slice(),
+            wanted.as_slice()
+        );
+        assert_eq!(rt;
+            written(rt.alloc(), Writing::<16>::new(), letters)?.as_slice(),
+            wanted.as_slice()
+        );
+        assert_eq!(rt;
+            written(rt.alloc(), Writing::<40>::new(), letters)?.as_slice(),
+            wanted.as_slice()
+        );
+        assert_eq!(rt;
+            written(rt.alloc(), Writing::<64>::new(), letters)?.as_slice(),
+            wanted.as_slice()
+        );
+    }
+    Ok(())
+}
+
+// A string of each length up to 40, with a quote at each of its places and at none, between what stands around it.
+#[test]
+fn strings_stand_between_what_is_around_them(rt: HostRuntime) -> std::result::Result<(), Fail> {
+    for len in 0..40usize {
+        for at in 0..=len {
+            let mut string = String::new(rt.alloc());
+            let mut wanted = Vec::from_slice(rt.alloc(), b"{\"")?;
+            for i in 0..len {
+                string.push(if i == at { '"' } else { 'b' })?;
+                wanted.extend_from_slice(if i == at { b"\\\"" } else { b"b" })?;
+            }
+            wanted.extend_from_slice(b"\":")?;
+            let mut out = Vec::new(rt.alloc());
+            let mut sink = Writing::<48>::new();
+            sink.put_string(&mut out, b"{\"", &string, b"\":");
+            sink.finish(&mut out)?;
+            assert_eq!(rt; out.as_slice(), wanted.as_slice());
+        }
+    }
+    Ok(())
+}

@@ -1,0 +1,117 @@
+// Windows of some blocks: capacity for what each may have, and its scan.
+ghost use Rattle.std.specs.Prelude.{◌≡◌, ◌+◌, ◌-◌, ◌*◌, ◌^◌, ◌<◌, ◌≤◌, ◌⊎◌};
+ghost use Rattle.std.specs.Prelude.{ℕ, List, length, take, IfOk, IfErr, IsUtf8};
+ghost use Rattle.simd_json_parts.specs.Limits.{max_length};
+ghost use Rattle.simd_json_stages.specs.Blocks.{AreBlocks, IsAscii, IsScanned};
+ghost use Rattle.simd_json_stages.specs.Scans.{IsBadEncoding, LacksMemory};
+
+use super::Scanned;
+use crate::stage1::BLOCK_LEN;
+use crate::stage1::capacity::grow;
+use crate::stage1::encoding::check_rest;
+use crate::stage1::words::block;
+use crate::stage1::writing::write;
+use simd_json_parts::error::Result;
+use std::alloc::Allocator;
+
+// Blocks between two looks at the encoding and at the capacity of the lists: 8 KiB.
+pub(super) const WINDOW: usize = 128;
+
+// The blocks from one to another.
+#[derive(Clone, Copy, Drop)]
+pub(super) struct Window {
+    pub(super) first: usize,
+    pub(super) end: usize,
+}
+
+// The blocks of a window, into lists with capacity for all that they may have.
+#[inline(never)]
+pub(super) fn scan_window(
+    blocks: &[[u8; 64]],
+    window: Window,
+    out: &mut [u32],
+    listed: &mut [u32],
+    before: Scanned,
+) -> Scanned
+    requires within { (window.first ≤ window.end) × (window.end ≤ length blocks.now) }
+    requires short { 64 * window.end ≤ 2 ^ 32 }
+    requires capacity { before.used + 64 * (window.end - window.first) ≤ length out.old }
+    requires block_capacity { before.listed + (window.end - window.first) ≤ length listed.old }
+    ensures scanned { (b : List ℕ) → AreBlocks b blocks.now
+        → IsScanned b window.first before out.old listed.old
+        → IsScanned b window.end result out.new listed.new }
+    ensures ascii { (b : List ℕ) → AreBlocks b blocks.now → IsScanned b window.first before out.old listed.old
+        → result.high ≡ 0 → IsAscii b (64 * window.first) (64 * window.end) }
+{
+    let mut carry = before.carry;
+    let mut late = before.late;
+    let mut late_at = (BLOCK_LEN * window.first.saturating_sub(1)) as u32;
+    let mut bad = before.bad;
+    let mut high = 0;
+    let mut used = before.used;
+    let mut count = before.listed;
+    let mut i = window.first;
+    while i < window.end {
+        let marks = block(&blocks[i], carry);
+        used = write(out, used, late_at, late);
+        late = marks.starts;
+        late_at = (BLOCK_LEN * i) as u32;
+        listed[count] = i as u32;
+        count += marks.has_backslash as usize;
+        bad |= marks.bad;
+        high |= marks.high;
+        carry = marks.carry;
+        i += 1;
+    }
+    Scanned {
+        carry,
+        late,
+        bad,
+        high,
+        used,
+        listed: count,
+    }
+}
+
+// Capacity for all that a window may have. Before a list grows, all of the input is known to be UTF-8. The
+// list of positions grows by how many there were so far.
+pub(super) fn capacity_for<A: Allocator>(
+    input: &[u8],
+    checked: usize,
+    window: Window,
+    done: Scanned,
+    structural_indexes: &mut Vec<u32, A>,
+    escape_blocks: &mut Vec<u32, A>,
+) -> Result<usize>
+    requires size { length input.now ≤ max_length }
+    requires within { (window.first < window.end) × (64 * window.end ≤ length input.now) }
+    requires checked { (checked ≤ length input.now) × IsUtf8 (take checked input.now) }
+    requires used { (done.used ≤ 64 * window.first) × (done.listed ≤ window.first) }
+    ensures checked { IfOk result (λ to. (to ≤ length input.now) × IsUtf8 (take to input.now)) }
+    ensures positions { IfOk result (λ to. done.used + 64 * (window.end - window.first)
+        ≤ length structural_indexes.new.items) }
+    ensures blocks { IfOk result (λ to. done.listed + (window.end - window.first)
+        ≤ length escape_blocks.new.items) }
+    ensures kept { (take (length structural_indexes.old.items) structural_indexes.new.items
+        ≡ structural_indexes.old.items)
+        × (take (length escape_blocks.old.items) escape_blocks.new.items ≡ escape_blocks.old.items) }
+    ensures longer { (length structural_indexes.old.items ≤ length structural_indexes.new.items)
+        × (length escape_blocks.old.items ≤ length escape_blocks.new.items) }
+    ensures fault { IfErr result (λ e. IsBadEncoding input.now e
+        ⊎ LacksMemory input.now e structural_indexes.old.items escape_blocks.old.items) }
+{
+    let count = window.end - window.first;
+    let positions = done.used + BLOCK_LEN * count;
+    let blocks = done.listed + count;
+    if positions <= structural_indexes.len() && blocks <= escape_blocks.len() {
+        return Ok(checked);
+    }
+    let checked = check_rest(input, checked)?;
+    let max_blocks = input.len().div_ceil(BLOCK_LEN);
+    let guess = (done.used / window.first.max(1) + 1)
+        .saturating_mul(max_blocks)
+        .saturating_add(BLOCK_LEN * WINDOW);
+    grow(structural_indexes, positions, guess, input.len())?;
+    grow(escape_blocks, blocks, 2 * WINDOW, max_blocks)?;
+    Ok(checked)
+}
