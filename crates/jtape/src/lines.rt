@@ -30,8 +30,8 @@ pub(crate) fn put_lines<P, S: Sink<P>>(sink: &mut S, target: &mut P, nodes: &[No
 fn put_line<P, S: Sink<P>>(sink: &mut S, target: &mut P, node: &Node<'_>)
     ensures { Gives (S.place sink.old target.old) (S.place sink.new target.new) (line (item_of node.now)) }
 {
-    if let Node::String(text) = *node {
-        sink.put_string(target, b"String \"", text, b"\"\n");
+    if let Node::String(string) = *node {
+        sink.put_string(target, b"String \"", string, b"\"\n");
     } else if let Node::Static(value) = *node {
         put_static(sink, target, value);
     } else {
@@ -73,7 +73,7 @@ fn put_word<P, S: Sink<P>>(sink: &mut S, target: &mut P, value: StaticNode)
 // A header, or a decimal.
 #[inline(never)]
 fn put_other<P, S: Sink<P>>(sink: &mut S, target: &mut P, node: &Node<'_>)
-    requires unquoted { (text : List ℕ) → item_of node.now ≢ string_item text }
+    requires unquoted { (string : List ℕ) → item_of node.now ≢ string_item string }
     requires varying { (value : StaticNode) → item_of node.now ≢ static_item value }
     ensures { Gives (S.place sink.old target.old) (S.place sink.new target.new) (line (item_of node.now)) }
 {
@@ -82,9 +82,7 @@ fn put_other<P, S: Sink<P>>(sink: &mut S, target: &mut P, node: &Node<'_>)
     } else if let Node::Array { len, count } = *node {
         put_header(sink, target, b"Array ", len, count);
     } else if let Node::Decimal(literal) = *node {
-        sink.put(target, b"Decimal ");
-        sink.put(target, literal.as_bytes());
-        sink.put(target, b"\n");
+        sink.put_between(target, b"Decimal ", literal.as_bytes(), b"\n");
     }
 }
 
@@ -93,8 +91,7 @@ fn put_header<P, S: Sink<P>>(sink: &mut S, target: &mut P, kind: &[u8], len: usi
         (header_text kind.now len count ++ line_feed ∷ []) }
 {
     put_number(sink, target, kind, len, b" ");
-    put_integer(sink, target, count);
-    sink.put(target, b"\n");
+    put_number(sink, target, b"", count, b"\n");
 }
 
 // A number, between what stands before it and what stands after it.
@@ -109,9 +106,8 @@ fn put_number<P, S: Sink<P>, I: Integer>(
     ensures { Gives (S.place sink.old target.old) (S.place sink.new target.new)
         (front.now ++ (I.text number ++ back.now)) }
 {
-    sink.put(target, front);
-    put_integer(sink, target, number);
-    sink.put(target, back);
+    let mut buffer = Buffer::new();
+    sink.put_between(target, front, buffer.format(number).as_bytes(), back);
 }
 
 pub(crate) fn put_integer<P, S: Sink<P>, I: Integer>(sink: &mut S, target: &mut P, number: I)

@@ -2,15 +2,10 @@
 use Rattle.std.proofs.Common.{◌≡◌, ◌∙◌, ap, sym, refl, ℕ, Bool, true, false, cond, List, [], ◌∷◌, ◌++◌, Option, None, Some, length, take, drop, append_assoc, append-nil, take-append-drop, subst}
 use Rattle.std.proofs.Math.Seq.{take-append_seam}
 use Rattle.std.specs.Prelude.{Result, Ok, Err, IsErrAnd, OnOk, OnErr}
-use Rattle.std.specs.Io.KnownBytes.{Appends, Keeps}
+use Rattle.std.specs.Io.KnownBytes.{Appends}
 use Rattle.simd_json_print.specs.Places.{IsLonger, Gives}
 use Rattle.simd_json_print.specs.Sent.{IsSent, Sends}
 use Rattle.simd_json_print.proofs.Places.{appends-none, appends-then}
-
-pub keeps-appends : (a b : Option (List ℕ)) → Keeps a b → Appends a b []
-keeps-appends None b k = tt
-keeps-appends (Some xs) None k = k
-keeps-appends (Some xs) (Some ys) k = k ∙ sym (append-nil xs)
 
 -- an error that is handed on, where these bytes are lost
 pub sends-stopped : {T E : Type 0} (r : Result T E) (e : E) (old new : Option (List ℕ)) (before after lost bytes : List ℕ) → IsErrAnd r (λ x. x ≡ e) → IsSent old before new lost bytes

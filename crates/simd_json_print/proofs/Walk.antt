@@ -1,11 +1,11 @@
 -- What a walk over nodes meets, turn by turn.
 use Rattle.std.proofs.Common.{◌≡◌, ◌∙◌, ap, sym, refl, ◌<◌, ◌+◌, ℕ, suc, Bool, true, false, not, nat_eq, Bor, List, [], ◌∷◌, ◌++◌, length, length-append, map, take, drop, get_or, append_assoc, codes, arith}
 use Rattle.std.proofs.lemmas.List.{length-map}
-use Rattle.simd_json_parts.proofs.Documents.Fronts.{positive, front-listed}
+use Rattle.simd_json_parts.proofs.Documents.Fronts.{positive, sized, front-listed}
 use Rattle.simd_json_parts.specs.Bytes.{left_bracket, right_bracket, left_brace, right_brace}
 use Rattle.simd_json_parts.specs.Document.{Document, null, boolean, integer, decimal, string, array, object, Elements, no_elements, element, elements, Members, no_members, member, members}
 use Rattle.simd_json_parts.specs.Listing.{listing, elements_listing, members_listing}
-use Rattle.simd_json_parts.specs.Nodes.{Item, static_item, decimal_item, string_item, array_item, object_item, item_of}
+use Rattle.simd_json_parts.specs.Nodes.{Item, static_item, decimal_item, string_item, array_item, object_item, item_of, count_of}
 use Rattle.simd_json_parts.specs.Integers.{integer_node}
 use Rattle.simd_json_parts.specs.Printed.{quoted}
 use Rattle.simd_json_parts.specs.declared.node.Node.{Node}
@@ -24,6 +24,25 @@ pub split-at : (ns first rest : List Node) (k : ℕ) → ((d : Document) (others
 split-at ns first rest k sized front back d others is =
     let s = front-listed ns d others k is (sized d others is) in
     (ap (map item_of) front ∙ s.0, ap (map item_of) back ∙ s.1)
+
+no-count : (x : Node) → ((len count : ℕ) → x ≡ nodes.Array len count → ⊥) → ((len count : ℕ) → x ≡ nodes.Object len count → ⊥) → count_of (item_of x) ≡ 0
+no-count (nodes.Array len count) no_array no_object = absurd (no_array len count refl)
+no-count (nodes.Object len count) no_array no_object = absurd (no_object len count refl)
+no-count (nodes.String s) no_array no_object = refl
+no-count (nodes.Static s) no_array no_object = refl
+no-count (nodes.Decimal s) no_array no_object = refl
+
+front-node : (ns : List Node) (default : Node) → 0 < length ns → get_or (take 1 ns) 0 default ≡ get_or ns 0 default
+front-node [] default some = absurd (omega (arith, some))
+front-node (x ∷ ns) default some = refl
+
+-- one node that is no header is a value
+pub split-one : (ns first rest : List Node) (default : Node) → 0 < length ns → first ≡ take 1 ns → rest ≡ drop 1 ns → ((len count : ℕ) → get_or first 0 default ≡ nodes.Array len count → ⊥)
+    → ((len count : ℕ) → get_or first 0 default ≡ nodes.Object len count → ⊥) → IsSplit ns first rest
+split-one ns first rest default some front back no_array no_object =
+    let same : get_or first 0 default ≡ get_or ns 0 default = ap (λ xs. get_or xs 0 default) front ∙ front-node ns default some in
+    let none : count_of (item_of (get_or first 0 default)) ≡ 0 = no-count (get_or first 0 default) no_array no_object in
+    split-at ns first rest 1 (λ d others is. omega (arith, none, sized ns default (get_or first 0 default) d others is (sym same))) front back
 
 -- ---- elements
 
@@ -168,9 +187,10 @@ pub string-text : (p : Bool) (n : ℕ) (ns : List Node) (default : Node) (s : Bo
     → quoted s.now ≡ text p d n
 string-text p n ns default s d kind is = ap (λ x. scalar_text (item_of x)) (sym kind) ∙ scalar-text p n ns default d (λ l c e. cc) (λ l c e. cc) is
 
--- a string in an array of compact text
-pub string-element : (m n before : ℕ) (ns : List Node) (default : Node) (s : Bor (List ℕ)) (d : Document) → m ≡ 0 → get_or ns 0 default ≡ nodes.String s → map item_of ns ≡ listing d
-    → before ∷ quoted s.now ≡ before ∷ (line (not (nat_eq m 0)) n ++ text (not (nat_eq m 0)) d n)
-string-element m n before ns default s d none kind is =
-    ap (λ us. before ∷ us) (string-text (not (nat_eq m 0)) n ns default s d kind is)
+-- a node that is no header, in an array of compact text
+pub plain-element : (m n before : ℕ) (ns : List Node) (default : Node) (d : Document) → m ≡ 0 → ((len count : ℕ) → get_or ns 0 default ≡ nodes.Array len count → ⊥)
+    → ((len count : ℕ) → get_or ns 0 default ≡ nodes.Object len count → ⊥) → map item_of ns ≡ listing d
+    → before ∷ scalar_text (item_of (get_or ns 0 default)) ≡ before ∷ (line (not (nat_eq m 0)) n ++ text (not (nat_eq m 0)) d n)
+plain-element m n before ns default d none no_array no_object is =
+    ap (λ us. before ∷ us) (scalar-text (not (nat_eq m 0)) n ns default d no_array no_object is)
     ∙ ap (λ k. before ∷ (line (not (nat_eq k 0)) n ++ text (not (nat_eq m 0)) d n)) (sym none)

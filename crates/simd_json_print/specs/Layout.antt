@@ -32,9 +32,6 @@ scalar_text (array_item len count) = []
 scalar_text (object_item len count) = []
 
 -- a member's name, and what stands between it and the value
-abbrev pub name_text : Bool → Item → List ℕ
-name_text p name = scalar_text name ++ after_name p
-
 -- with n containers open around it
 abbrev mutual
   pub text : Bool → Document → ℕ → List ℕ

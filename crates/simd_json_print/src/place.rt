@@ -19,7 +19,13 @@ pub trait Sink<P> {
     fn put(&mut self, target: &mut P, bytes: &[u8])
         ensures { Gives (place self.old target.old) (place self.new target.new) bytes.now };
 
-    /// Gives the place a string that is escaped as it is printed, between what stands in front of it and after it, as the quotes.
+    /// Gives the place these bytes, between what stands in front of them and after them, all as they are.
+    fn put_between(&mut self, target: &mut P, front: &[u8], bytes: &[u8], back: &[u8])
+        ensures { Gives (place self.old target.old) (place self.new target.new)
+            (front.now ++ (bytes.now ++ back.now)) };
+
+    /// Gives the place a string that is escaped as it is printed, between what stands in front of it and
+    /// after it, as the quotes.
     fn put_string(&mut self, target: &mut P, front: &[u8], string: &str, back: &[u8])
         ensures { Gives (place self.old target.old) (place self.new target.new)
             (front.now ++ (flat_map escaped_byte string.now ++ back.now)) };

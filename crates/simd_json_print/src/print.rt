@@ -11,16 +11,19 @@ use std::alloc::{AllocError, Allocator};
 // How many bytes are collected for a list. They are on the stack and filled with zeros first.
 const PIECE: usize = 256;
 
-/// Gives a place a string as it is printed: between quotes, with a quote, a backslash and what is below 0x20 escaped.
+/// Gives a place a string as it is printed: between quotes, with a quote, a backslash and what is below 0x20
+/// escaped.
 pub fn put_quoted<P, S: Sink<P>>(sink: &mut S, target: &mut P, string: &str)
     ensures { Gives (S.place sink.old target.old) (S.place sink.new target.new) (quoted string.now) }
 {
     sink.put_string(target, b"\"", string, b"\"");
 }
 
-/// Appends a string as it is printed: between quotes, with a quote, a backslash and what is below 0x20 escaped.
+/// Appends a string as it is printed: between quotes, with a quote, a backslash and what is below 0x20
+/// escaped.
 ///
-/// Fails where an allocation fails. What `out` held is then still in front, and a part of the string may stand after it.
+/// Fails where an allocation fails. What `out` held is then still in front, and a part of the string may
+/// stand after it.
 pub fn append_quoted<A: Allocator>(
     out: &mut Vec<u8, A>,
     string: &str,

@@ -134,18 +134,27 @@ fn name_front(is_first: bool) -> &'static [u8]
     if is_first { b"{\"" } else { b",\"" }
 }
 
-/// A string in an array of compact text, and what stands before it, as one piece.
+/// A node that is no header, in an array of compact text, and what stands before it: as one piece, if it is a
+/// string or a decimal.
 #[inline(never)]
-pub(crate) fn put_string_element<P, S: Sink<P>>(
+pub(crate) fn put_scalar_element<P, S: Sink<P>>(
     sink: &mut S,
     target: &mut P,
     is_first: bool,
-    string: &str,
+    node: &Node<'_>,
 )
     ensures { Gives (S.place sink.old target.old) (S.place sink.new target.new)
-        (cond is_first left_bracket comma ∷ quoted string.now) }
+        (cond is_first left_bracket comma ∷ scalar_text (item_of node.now)) }
 {
-    sink.put_string(target, element_front(is_first), string, b"\"");
+    let front = element_front(is_first);
+    if let Node::String(string) = *node {
+        sink.put_string(target, front, string, b"\"");
+    } else if let Node::Decimal(literal) = *node {
+        sink.put_between(target, &front[..1], literal.as_bytes(), b"");
+    } else {
+        sink.put(target, &front[..1]);
+        put_scalar(sink, target, node);
+    }
 }
 
 /// What stands before an element, and then a quote.

@@ -1,14 +1,16 @@
 //! The one walk over the nodes of a document that prints it.
-ghost use Rattle.std.specs.Prelude.{◌≡◌, ◌+◌, ◌<◌, ◌≤◌, ◌^◌, ◌++◌, ◌∷◌, List, cond, length, map};
+ghost use Rattle.std.specs.Prelude.{◌≡◌, ◌+◌, ◌<◌, ◌≤◌, ◌^◌, ◌++◌, ◌∷◌, ℕ, List};
+ghost use Rattle.std.specs.Prelude.{cond, drop, length, map, take, IsFalse};
 ghost use Rattle.simd_json_parts.specs.Bytes.{left_bracket, comma};
 ghost use Rattle.simd_json_parts.specs.Document.{Document, Elements, array, Members, object};
 ghost use Rattle.simd_json_parts.specs.Listing.{listing, elements_listing, members_listing};
 ghost use Rattle.simd_json_parts.specs.Nodes.{Item, count_of, item_of};
+ghost use Rattle.simd_json_parts.specs.declared.node.Node.TheVariants as kinds;
 ghost use Rattle.simd_json_print.specs.Layout.{line, text};
 ghost use Rattle.simd_json_print.specs.Places.{Gives, Grows};
 
 use crate::document::scalar::{
-    element_front, put_line, put_name, put_scalar, put_string, put_string_element,
+    element_front, put_line, put_name, put_scalar, put_scalar_element, put_string,
 };
 use crate::place::Sink;
 use simd_json_parts::node::Node;
@@ -63,10 +65,16 @@ fn put_array<P, S: Sink<P>, const PRETTY: bool>(
         if sink.has_stopped(target) {
             return;
         }
-        let (first, others) = left.split_value();
-        put_element::<P, S, PRETTY>(sink, target, is_first, first, depth + 1);
+        let (first, after) = left.split_node();
+        if !PRETTY && !is_header(&first[0]) {
+            put_scalar_element(sink, target, is_first, &first[0]);
+            left = after;
+        } else {
+            let (element, others) = left.split_value();
+            put_element::<P, S, PRETTY>(sink, target, is_first, element, depth + 1);
+            left = others;
+        }
         is_first = false;
-        left = others;
     }
     put_line::<P, S, PRETTY>(sink, target, depth);
     sink.put(target, b"]");
@@ -89,11 +97,6 @@ fn put_element<P, S: Sink<P>, const PRETTY: bool>(
         → Gives (S.place sink.old target.old) (S.place sink.new target.new)
         (cond is_first left_bracket comma ∷ (line PRETTY depth ++ text PRETTY d depth)) }
 {
-    if !PRETTY {
-        if let Node::String(string) = nodes[0] {
-            return put_string_element(sink, target, is_first, string);
-        }
-    }
     let front = element_front(is_first);
     sink.put(target, &front[..1]);
     put_line::<P, S, PRETTY>(sink, target, depth);
@@ -154,6 +157,17 @@ impl<'tape, 'input> Unprinted<'tape, 'input> {
         (value, Unprinted { nodes })
     }
 
+    // The same where the value is one node, which no count need be read for.
+    #[inline(always)]
+    fn split_node(self) -> (&'tape [Node<'input>], Unprinted<'tape, 'input>)
+        requires { 0 < length self.nodes.now }
+        ensures front { result.0.now ≡ take 1 self.entry.nodes.now }
+        ensures back { result.1.nodes.now ≡ drop 1 self.entry.nodes.now }
+    {
+        let (node, nodes) = self.nodes.split_at(1);
+        (node, Unprinted { nodes })
+    }
+
     // The first node, and what is left after it.
     #[inline(always)]
     fn split_name(self) -> (&'tape Node<'input>, Unprinted<'tape, 'input>)
@@ -178,6 +192,15 @@ fn size(nodes: &[Node<'_>]) -> usize
         return 0;
     }
     beneath(nodes[0]).min(nodes.len() - 1) + 1
+}
+
+// Whether a container begins with the node.
+#[inline(always)]
+fn is_header(node: &Node<'_>) -> bool
+    ensures array { IsFalse result → (len count : ℕ) → node.now ≡ kinds.Array len count → ⊥ }
+    ensures object { IsFalse result → (len count : ℕ) → node.now ≡ kinds.Object len count → ⊥ }
+{
+    matches!(node, Node::Array { .. } | Node::Object { .. })
 }
 
 // How many nodes a node says lie beneath it.

@@ -3,7 +3,8 @@ ghost use Rattle.std.specs.Prelude.{◌≡◌, ◌<◌};
 ghost use Rattle.std.specs.Char.{digit_char};
 ghost use Rattle.simd_json_print.specs.Unescaped.{escape_letter};
 
-// What follows the backslash of an escaped byte: `u` where that is its number, and none, 0, where it stands as it is.
+// What follows the backslash of an escaped byte: `u` where that is its number, and none, 0, where it stands
+// as it is.
 #[inline(always)]
 pub(crate) fn letter(byte: u8) -> u8
     ensures { result ≡ escape_letter byte }

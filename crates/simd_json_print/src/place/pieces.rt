@@ -12,7 +12,7 @@ use std::io::{ErrorKind, Write};
 use std::marker::Model;
 use stores::{FEW, store_between, store_bytes};
 
-// How many bytes may stand in front of a short string, and after it.
+// How many bytes may stand in front of a few, and after them.
 const MARKS: usize = 8;
 
 // What is not yet handed over, at most `SIZE` bytes.
@@ -59,21 +59,46 @@ impl<const SIZE: usize> Pieces<SIZE> {
         self.used += bytes.len();
     }
 
-    // A short string, between what stands in front of it and after it, where it fits and need not be escaped. It is tested as
-    // it is stored, and what is stored counts only then.
+    // Whether these bytes are few, with little in front of them and after them, and there is capacity for
+    // all.
+    #[inline(always)]
+    fn holds(&self, front: &[u8], bytes: &[u8], back: &[u8]) -> bool
+        ensures few { IsTrue result → length bytes.now ≤ 32 }
+        ensures fits { IsTrue result
+            → length self.now + (length front.now + length bytes.now + length back.now) ≤ SIZE }
+    {
+        if bytes.len() > FEW || front.len() > MARKS || back.len() > MARKS {
+            return false;
+        }
+        front.len() + bytes.len() + back.len() <= SIZE - self.used
+    }
+
+    // A few bytes, between what stands in front of them and after them, where they fit.
+    #[inline(always)]
+    pub(crate) fn collect_few(&mut self, front: &[u8], bytes: &[u8], back: &[u8]) -> bool
+        ensures collected { IsTrue result → self.new ≡ self.old ++ (front.now ++ (bytes.now ++ back.now)) }
+        ensures kept { IsFalse result → self.new ≡ self.old }
+    {
+        if !self.holds(front, bytes, back) {
+            return false;
+        }
+        store_between(&mut self.bytes, self.used, front, bytes, back);
+        self.used += front.len() + bytes.len() + back.len();
+        true
+    }
+
+    // A string, between what stands in front of it and after it, where it fits and need not be escaped. It is
+    // tested as it is stored, and what is stored counts only then.
     #[inline(always)]
     pub(crate) fn collect_string(&mut self, front: &[u8], string: &[u8], back: &[u8]) -> bool
         ensures collected { IsTrue result → self.new
             ≡ self.old ++ (front.now ++ (flat_map escaped_byte string.now ++ back.now)) }
         ensures kept { IsFalse result → self.new ≡ self.old }
     {
-        if string.len() > FEW || front.len() > MARKS || back.len() > MARKS {
+        if !self.holds(front, string, back) {
             return false;
         }
         let len = front.len() + string.len() + back.len();
-        if len > SIZE - self.used {
-            return false;
-        }
         let is_plain = store_between(&mut self.bytes, self.used, front, string, back);
         if is_plain {
             self.used += len;

@@ -14,4 +14,4 @@ returns g c =
     let back = count ++ line_feed ∷ [] in
     let whole : front ++ back ≡ header_text kind c.args.len c.args.count ++ line_feed ∷ [] =
     ap (λ us. us ++ back) (sym (append_assoc kind len (codes " "))) ∙ sym (append_assoc (kind ++ len ++ codes " ") count (line_feed ∷ [])) in
-    gives-is _ _ _ _ whole (gives-then _ _ _ front back c.put_number.ensures (gives-then _ _ _ count (line_feed ∷ []) c.put_integer.ensures c.put.ensures))
+    gives-is _ _ _ _ whole (gives-then _ _ _ front back c.put_number.ensures c.put_number-2.ensures)

@@ -9,4 +9,4 @@ pub returns-in-String : goal.returns-in-String
 unfolding quoted
 returns-in-String g c =
     gives-is _ _ _ _ (ap (λ node. line (item_of node)) (sym c.in-String.is))
-    (gives-is _ _ _ _ (ap (λ us. codes "String \"" ++ us) (sym (append_assoc (flat_map escaped_byte c.in-String.text.now) (codes "\"") (codes "\n")))) c.put_string.ensures)
+    (gives-is _ _ _ _ (ap (λ us. codes "String \"" ++ us) (sym (append_assoc (flat_map escaped_byte c.in-String.string.now) (codes "\"") (codes "\n")))) c.put_string.ensures)

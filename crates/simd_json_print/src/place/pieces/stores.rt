@@ -5,7 +5,7 @@ ghost use Rattle.simd_json_print.specs.Unescaped.{AreUnescaped};
 
 use std::simd::prelude::*;
 
-// How many bytes the stores of a few cover.
+// How many bytes are stored without a call.
 pub(super) const FEW: usize = 32;
 
 // Any number of bytes: a few by vectors, without a call.
@@ -32,7 +32,8 @@ fn store_many(all: &mut [u8], at: usize, bytes: &[u8])
     all[at..at + bytes.len()].copy_from_slice(bytes);
 }
 
-// A short string, between what stands in front of it and after it. Whether none of its bytes is to be escaped.
+// At most 32 bytes, between what stands in front of it and after it. Whether none of its bytes is to be
+// escaped.
 #[inline(always)]
 pub(super) fn store_between(
     all: &mut [u8],

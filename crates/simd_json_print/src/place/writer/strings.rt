@@ -1,4 +1,5 @@
-//! Strings that are long, that do not fit, or that hold bytes to be escaped (RFC 8259, section 7), given to a writer.
+//! Strings that are long, that do not fit, or that hold bytes to be escaped (RFC 8259, section 7), given to a
+//! writer.
 
 use crate::place::escaped::{digit, letter};
 use crate::place::writer::Writing;
@@ -11,7 +12,7 @@ impl<const SIZE: usize> Writing<SIZE> {
 
     // A string that is escaped, between what stands in front of it and after it.
     #[inline(never)]
-    pub(super) fn put_by_runs<W: Write>(
+    pub(super) fn put_escaped<W: Write>(
         &mut self,
         writer: &mut W,
         front: &[u8],
@@ -22,13 +23,15 @@ impl<const SIZE: usize> Writing<SIZE> {
             (front.now ++ (flat_map escaped_byte string.now ++ back.now)) }
     {
         self.put_bytes(writer, front);
-        self.put_escaped(writer, string);
+        self.put_by_runs(writer, string);
         self.put_bytes(writer, back);
     }
 
-    // By runs that need no escape, each with the byte after it: one that is to be escaped, or for which there is no capacity.
-    fn put_escaped<W: Write>(&mut self, writer: &mut W, string: &[u8])
-        ensures { Gives (W.contents writer.old, self.old) (W.contents writer.new, self.new) (flat_map escaped_byte string.now) }
+    // By runs that need no escape, each with the byte after it: one that is to be escaped, or for which there
+    // is no capacity.
+    fn put_by_runs<W: Write>(&mut self, writer: &mut W, string: &[u8])
+        ensures { Gives (W.contents writer.old, self.old) (W.contents writer.new, self.new)
+            (flat_map escaped_byte string.now) }
     {
         let mut left = string;
         while !left.is_empty() {
@@ -43,7 +46,8 @@ impl<const SIZE: usize> Writing<SIZE> {
 
     // Any byte, escaped where it is to be.
     fn put_byte<W: Write>(&mut self, writer: &mut W, byte: u8)
-        ensures { Gives (W.contents writer.old, self.old) (W.contents writer.new, self.new) (escaped_byte byte) }
+        ensures { Gives (W.contents writer.old, self.old) (W.contents writer.new, self.new)
+            (escaped_byte byte) }
     {
         let letter = letter(byte);
         if letter == 0 {

@@ -26,6 +26,8 @@ const STRING: &str =
 const QUOTED: &str =
     "\"seventeen letters\\n\\\"\u{e9}\\\\ and\\u001fa line of more than thirty-two letters/\"";
 
+const LETTERS: &[u8] = b"thirty-three letters and no escape";
+
 // As many letters are collected first, so that each text is cut at another place.
 fn written<const SIZE: usize>(
     alloc: Global,
@@ -38,6 +40,9 @@ fn written<const SIZE: usize>(
     }
     put_quoted(&mut sink, &mut out, STRING);
     sink.put_string(&mut out, b", ", "short", b": ");
+    sink.put_between(&mut out, b"<", b"\"a few\"", b">");
+    sink.put_between(&mut out, b"\\", LETTERS, b"\n");
+    sink.put_between(&mut out, LETTERS, b"", LETTERS);
     put_compact(&mut sink, &mut out, &NODES);
     put_pretty(&mut sink, &mut out, &NODES);
     sink.finish(&mut out)?;
@@ -53,6 +58,9 @@ fn texts_are_whole_wherever_they_are_cut(rt: HostRuntime) -> std::result::Result
         }
         wanted.extend_from_slice(QUOTED.as_bytes())?;
         wanted.extend_from_slice(b", short: ")?;
+        wanted.extend_from_slice(b"<\"a few\">\\thirty-three letters and no escape\n")?;
+        wanted.extend_from_slice(b"thirty-three letters and no escape")?;
+        wanted.extend_from_slice(b"thirty-three letters and no escape")?;
         wanted.extend_from_slice(COMPACT.as_bytes())?;
         wanted.extend_from_slice(PRETTY.as_bytes())?;
         assert_eq!(rt;
@@ -79,7 +87,8 @@ fn texts_are_whole_wherever_they_are_cut(rt: HostRuntime) -> std::result::Result
     Ok(())
 }
 
-// A string of each length up to 40, with a quote at each of its places and at none, between what stands around it.
+// A string of each length up to 40, with a quote at each of its places and at none, between what stands
+// around it.
 #[test]
 fn strings_stand_between_what_is_around_them(rt: HostRuntime) -> std::result::Result<(), Fail> {
     for len in 0..40usize {

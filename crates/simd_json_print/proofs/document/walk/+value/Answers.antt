@@ -1,10 +1,11 @@
-use Rattle.std.proofs.Common.{◌∙◌, ap, sym, ◌+◌, not, nat_eq, [], ◌∷◌, ◌++◌, cond, arith, rules}
+use Rattle.std.proofs.Common.{◌∙◌, ap, sym, ◌+◌, not, nat_eq, length, [], ◌∷◌, ◌++◌, cond, arith, rules}
+use Rattle.std.proofs.lemmas.List.{length-drop}
 use Rattle.simd_json_parts.specs.Bytes.{comma, left_bracket, right_bracket, right_brace}
-use Rattle.simd_json_print.specs.Layout.{line, text, elements_text}
+use Rattle.simd_json_print.specs.Layout.{line, text}
 use Rattle.simd_json_print.proofs.Places.{gives-none, gives-then, gives-is, gives-lost, gives-grows, grows-none, grows-then}
-use Rattle.simd_json_print.proofs.Walk.{empty-array, array-begins, elements-end, parted, element-turn, empty-object, object-begins, members-end, no-document, array-beneath, object-beneath, scalar-text, string-text, string-element}
+use Rattle.simd_json_print.proofs.Walk.{empty-array, array-begins, elements-end, split-one, empty-object, object-begins, members-end, no-document, array-beneath, object-beneath, scalar-text, string-text, plain-element}
 use Rattle.simd_json_print.proofs.Lines.{gives-front}
-use Rattle.simd_json_print.proofs.Turns.{given-member}
+use Rattle.simd_json_print.proofs.Turns.{given-element, given-member}
 use Rattle.simd_json_print.proofs.document.walk.+value.Goals as goal
 
 -- ---- arrays
@@ -28,26 +29,31 @@ put_array-returns-then-has_stopped-clause-given g t c ds is =
     let so_far = c.loop-left.invariant.2 ds is in
     gives-is _ _ _ _ so_far.4 (gives-lost _ _ so_far.0 _ (c.if-has_stopped.ensures (search rules)) so_far.3)
 
-pub put_array-loop-left-preserved : goal.put_array-loop-left-preserved
-put_array-loop-left-preserved g t c =
-    let pretty = not (nat_eq g.row.PRETTY 0) in (
-      omega (arith, c.split_value.ensures.all, c.loop-left.invariant.0),
-      grows-then _ _ _ c.loop-left.invariant.1 c.put_element.ensures.kept,
+pub put_array-loop-left-preserved-then-not-is_header : goal.put_array-loop-left-preserved-then-not-is_header
+put_array-loop-left-preserved-then-not-is_header g t c =
+    let pretty = not (nat_eq g.row.PRETTY 0) in
+    let ns = c.loop-left.left.nodes.now in
+    let one = split-one ns c.split_node.result.0.now c.split_node.result.1.nodes.now _ (search (arith, rules)) c.split_node.ensures.front c.split_node.ensures.back
+    (c.is_header.ensures.array c.if-not-is_header.true) (c.is_header.ensures.object c.if-not-is_header.true) in (
+      omega (arith, c.loop-left.invariant.0, ap length c.split_node.ensures.back, length-drop 1 ns),
+      grows-then _ _ _ c.loop-left.invariant.1 (gives-grows _ _ _ c.put_scalar_element.ensures),
       λ ds is.
           let so_far = c.loop-left.invariant.2 ds is in
-          let part = parted c.loop-left.left.nodes.now c.split_value.result.0.now c.split_value.result.1.nodes.now so_far.1 (search (arith, rules)) so_far.2 c.split_value.ensures.whole in
-          let before = cond c.loop-left.is_first left_bracket comma in
-          let l = line pretty (c.args.depth + 1) in
-          let v = text pretty part.d (c.args.depth + 1) in
-          let close = line pretty c.args.depth ++ right_bracket ∷ [] in (
-            so_far.0 ++ (before ∷ (l ++ v)),
-            part.others,
-            part.back,
-            gives-then _ _ _ so_far.0 _ so_far.3 (c.put_element.ensures.given part.d part.front),
-            element-turn before so_far.0 l v (elements_text pretty comma part.others (c.args.depth + 1)) close _
-                (ap (λ es. so_far.0 ++ (elements_text pretty before es (c.args.depth + 1) ++ close)) (sym part.whole) ∙ so_far.4),
-          ),
+          given-element pretty (c.args.depth + 1) _ ns c.split_node.result.0.now c.split_node.result.1.nodes.now _ _ _ _ _ so_far.0 so_far.1 (search (arith, rules)) so_far.2 so_far.3 so_far.4 one
+          (λ d front. gives-is _ _ _ _
+          (plain-element g.row.PRETTY (c.args.depth + 1) _ c.split_node.result.0.now _ d c.if-not-this.true (c.is_header.ensures.array c.if-not-is_header.true) (c.is_header.ensures.object c.if-not-is_header.true) front)
+          c.put_scalar_element.ensures),
     )
+
+pub put_array-loop-left-preserved : goal.put_array-loop-left-preserved
+put_array-loop-left-preserved g t c = (
+  omega (arith, c.split_value.ensures.all, c.loop-left.invariant.0),
+  grows-then _ _ _ c.loop-left.invariant.1 c.put_element.ensures.kept,
+  λ ds is.
+      let so_far = c.loop-left.invariant.2 ds is in
+      given-element (not (nat_eq g.row.PRETTY 0)) (c.args.depth + 1) _ c.loop-left.left.nodes.now c.split_value.result.0.now c.split_value.result.1.nodes.now _ _ _ _ _ so_far.0 so_far.1
+      (search (arith, rules)) so_far.2 so_far.3 so_far.4 c.split_value.ensures.whole c.put_element.ensures.given,
+)
 
 pub put_array-returns-clause-kept : goal.put_array-returns-clause-kept
 put_array-returns-clause-kept g t c = grows-then _ _ _ c.loop-left.invariant.1 (grows-then _ _ _ (gives-grows _ _ _ c.put_line.ensures) (gives-grows _ _ _ c.put-2.ensures))
@@ -138,13 +144,6 @@ put_value-returns-in_default-nodes-2 g t c = record {
 }
 
 -- ---- elements
-
-pub put_element-returns-in-String-clause-kept : goal.put_element-returns-in-String-clause-kept
-put_element-returns-in-String-clause-kept g t c = gives-grows _ _ _ c.put_string_element.ensures
-
-pub put_element-returns-in-String-clause-given : goal.put_element-returns-in-String-clause-given
-put_element-returns-in-String-clause-given g t c d is =
-    gives-is _ _ _ _ (string-element g.row.PRETTY c.args.depth _ c.args.nodes.now _ c.in-String.string d c.if-not-this.true c.in-String.is is) c.put_string_element.ensures
 
 pub put_element-returns-clause-kept : goal.put_element-returns-clause-kept
 put_element-returns-clause-kept g t c =

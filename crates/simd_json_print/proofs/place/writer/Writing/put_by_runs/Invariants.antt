@@ -1,7 +1,7 @@
 use Rattle.std.proofs.Common.{◌≡◌, ◌++◌, List, ℕ, flat_map, length}
 use Rattle.simd_json_parts.specs.Printed.{escaped_byte}
 use Rattle.simd_json_print.specs.Places.{Gives}
-use Rattle.simd_json_print.proofs.place.writer.Writing.put_escaped.Given as goal
+use Rattle.simd_json_print.proofs.place.writer.Writing.put_by_runs.Given as goal
 
 abbrev pub invariant-loop-left : goal.invariant-loop-left
 invariant-loop-left g l =
