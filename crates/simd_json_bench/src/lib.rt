@@ -1,5 +1,5 @@
-//! What a program in C calls to time the parser: a text with buffers made anew, and many texts with buffers that are
-//! kept.
+//! What a program in C calls to time the parser: a text with buffers made anew, and many texts with buffers that
+//! are kept.
 //!
 //! A text is a pointer and a length. A [`Global`] takes no bytes, so C passes nothing for it:
 //!
@@ -9,8 +9,9 @@
 //! int64_t simd_json_bench_scan_all(const uint8_t *texts, size_t size, size_t stride, size_t len);
 //! ```
 //!
-//! Each answers a count, or -1 where a text was refused, or -2 where there is no telling: a growth was refused, or the
-//! count is too great. The last two take texts of `len` bytes, one at the front of each whole `stride` of `texts`.
+//! Each answers a count, or -1 where a text was refused, or -2 where there is no telling: a growth was refused,
+//! or the count is too great. The last two take texts of `len` bytes, one at the front of each whole `stride` of
+//! `texts`.
 #![tactic(auto)]
 
 ghost use Rattle.std.specs.Prelude.{◌≡◌, ◌≢◌, ℕ, pos, Ok, Err};

@@ -1,9 +1,8 @@
 -- Escaped text by runs that need no escape.
-use Rattle.std.proofs.Common.{◌≡◌, ◌∙◌, ap, ap₂, sym, ◌+◌, ◌<◌, ℕ, List, [], ◌∷◌, ◌++◌, length, take, drop, get_or, flat_map, append_assoc, append-nil, take-append-drop, false, arith}
+use Rattle.std.proofs.Common.{◌≡◌, ◌∙◌, ap, sym, ◌<◌, ℕ, List, [], ◌∷◌, ◌++◌, length, take, drop, get_or, flat_map, append_assoc, append-nil, take-append-drop, false, arith}
 use Rattle.std.proofs.lemmas.Bool.Decides.{nat_tests}
 use Rattle.simd_json_parts.specs.Bytes.{is_control}
 use Rattle.simd_json_parts.specs.StringContent.{is_stop}
-use Rattle.std.proofs.Math.Seq.{take-add}
 use Rattle.std.proofs.lemmas.List.Concat.{flat_map-append}
 use Rattle.simd_json_parts.specs.Printed.{escaped_byte}
 use Rattle.simd_json_print.specs.Places.{Place, Gives}
@@ -13,12 +12,6 @@ use Rattle.simd_json_print.proofs.Places.{gives-then}
 
 pub plain-byte : (x : ℕ) → is_stop x ≡ false → is_control x ≡ false → escaped_byte x ≡ x ∷ []
 plain-byte x stop control = grind (arith, nat_tests, stop, control)
-
-pub plain-further : (bytes : List ℕ) (end n : ℕ) → flat_map escaped_byte (take end bytes) ≡ take end bytes
-    → flat_map escaped_byte (take n (drop end bytes)) ≡ take n (drop end bytes) → flat_map escaped_byte (take (end + n) bytes) ≡ take (end + n) bytes
-plain-further bytes end n before more =
-    ap (flat_map escaped_byte) (take-add end n bytes) ∙ flat_map-append escaped_byte (take end bytes) (take n (drop end bytes))
-    ∙ ap₂ (λ us vs. us ++ vs) before more ∙ sym (take-add end n bytes)
 
 -- ---- runs
 

@@ -1,7 +1,7 @@
 -- Laws of what is handed over to a writer.
 use Rattle.std.proofs.Common.{◌≡◌, ◌∙◌, ap, sym, refl, ℕ, Bool, true, false, cond, List, [], ◌∷◌, ◌++◌, Option, None, Some, length, take, drop, append_assoc, append-nil, take-append-drop, subst}
 use Rattle.std.proofs.Math.Seq.{take-append_seam}
-use Rattle.std.specs.Prelude.{Result, Ok, Err, IsErrAnd, OnOk, OnErr}
+use Rattle.std.specs.Prelude.{Result, Ok, Err, IsErrAnd}
 use Rattle.std.specs.Io.KnownBytes.{Appends}
 use Rattle.simd_json_print.specs.Places.{IsLonger, Gives}
 use Rattle.simd_json_print.specs.Sent.{IsSent, Sends}
@@ -79,23 +79,20 @@ pub given-begun : (a b : Option (List ℕ)) (collected : Option (List ℕ)) (who
 unfolding Gives
 given-begun a b collected whole g = let p = g [] refl in begun a b p.0 p.1 whole p.3 p.4
 
-pub finished-all : {T E : Type 0} (r : Result T E) (a b c : Option (List ℕ)) (collected left whole : List ℕ) (stopped : Bool) → stopped ≡ false → Gives (a, Some []) (b, cond stopped None (Some collected)) whole
-    → Sends r b collected c left [] → OnOk r (left ≡ []) → OnOk r (Appends a c whole)
+pub finished-all : (a b c : Option (List ℕ)) (collected left whole : List ℕ) (stopped : Bool) → stopped ≡ false → Gives (a, Some []) (b, cond stopped None (Some collected)) whole
+    → IsSent b collected c left [] → left ≡ [] → Appends a c whole
 unfolding Gives
-finished-all (Ok x) a b c collected left whole true is g s none = cc
-finished-all (Ok x) a b c collected left whole false is g s none =
+finished-all a b c collected left whole true is g s none = cc
+finished-all a b c collected left whole false is g s none =
     let p = g [] refl in
     let rest : s.0 ≡ p.1 = sym (append-nil s.0) ∙ ap (λ us. s.0 ++ us) (sym none) ∙ s.2 ∙ append-nil collected ∙ sym p.2 in
     subst (λ us. Appends a c us) (ap (λ us. p.0 ++ us) rest ∙ p.4) (appends-then a b c p.0 s.0 p.3 s.1)
-finished-all (Err x) a b c collected left whole stopped is g s none = tt
 
-pub finished-some : {T E : Type 0} (r : Result T E) (a b c : Option (List ℕ)) (collected left whole : List ℕ) (stopped : Bool) → stopped ≡ false → Gives (a, Some []) (b, cond stopped None (Some collected)) whole
-    → Sends r b collected c left [] → OnErr r ((count : ℕ) × Appends a c (take count whole))
+pub finished-some : (a b c : Option (List ℕ)) (collected lost whole : List ℕ) (stopped : Bool) → stopped ≡ false → Gives (a, Some []) (b, cond stopped None (Some collected)) whole
+    → IsSent b collected c lost [] → (count : ℕ) × Appends a c (take count whole)
 unfolding Gives
-finished-some (Ok x) a b c collected left whole stopped is g s = tt
-finished-some (Err x) a b c collected left whole true is g s = cc
-finished-some (Err x) a b c collected left whole false is g s =
+finished-some a b c collected lost whole true is g t = cc
+finished-some a b c collected lost whole false is g t =
     let p = g [] refl in
-    let t = s.1 in
-    begun a c (p.0 ++ t.0) s.0 whole (appends-then a b c p.0 t.0 p.3 t.1)
-    (append_assoc p.0 t.0 s.0 ∙ ap (λ us. p.0 ++ us) (t.2 ∙ append-nil collected ∙ sym p.2) ∙ p.4)
+    begun a c (p.0 ++ t.0) lost whole (appends-then a b c p.0 t.0 p.3 t.1)
+    (append_assoc p.0 t.0 lost ∙ ap (λ us. p.0 ++ us) (t.2 ∙ append-nil collected ∙ sym p.2) ∙ p.4)

@@ -48,19 +48,13 @@ stored-ends old middle new bytes at n covers within room first second =
     ∙ ap (λ i. take at old ++ take i bytes) all
     ∙ ap (λ us. take at old ++ us) (take-length bytes)
 
--- what stood in front of what is stored
-pub stored-behind : (old new part : List ℕ) (at n : ℕ) → at ≤ length old → take (at + n) new ≡ take at old ++ part → take at new ≡ take at old
-stored-behind old new part at n room is =
-    sym (take-take at (at + n) new (omega arith)) ∙ ap (take at) is ∙ take_at (take at old) part at (length-take-le at old room)
-
 -- ---- a run
 
-pub run-further : (front old new bytes : List ℕ) (at done n : ℕ) → take (at + done) old ≡ front ++ take done bytes → take (at + done + n) new ≡ take (at + done) old ++ take n (drop done bytes)
-    → take (at + (done + n)) new ≡ front ++ take (done + n) bytes
-run-further front old new bytes at done n so_far is =
-    let place : at + (done + n) ≡ at + done + n = omega arith in
-    ap (λ i. take i new) place ∙ is ∙ ap (λ us. us ++ take n (drop done bytes)) so_far ∙ append_assoc front (take done bytes) (take n (drop done bytes))
-    ∙ ap (λ us. front ++ us) (sym (take-add done n bytes))
+-- a part that begins within what is stored, as far as it counts
+pub stored-run : (old middle new bytes : List ℕ) (at from done n count : ℕ) → from ≤ done → count ≤ n → at ≤ length old → take (at + done) middle ≡ take at old ++ take done bytes
+    → take (at + from + n) new ≡ take (at + from) middle ++ take n (drop from bytes) → take (at + (from + count)) new ≡ take at old ++ take (from + count) bytes
+stored-run old middle new bytes at from done n count l within room first second =
+    stored-front old new bytes at (from + count) (from + n) (omega arith) room (stored-then old middle new bytes at from done n l room first second)
 
 pub run-starts : (old bytes : List ℕ) (at : ℕ) → take (at + 0) old ≡ take at old ++ take 0 bytes
 run-starts old bytes at =

@@ -1,9 +1,12 @@
 -- Vectors of bytes of which none is to be escaped, and two that overlap.
-use Rattle.std.proofs.Common.{◌≡◌, refl, ◌∙◌, ap, ap₂, sym, ℕ, suc, ◌+◌, ◌-◌, ◌≤◌, ◌%◌, ◌^◌, Bool, true, false, cond, eqb, ltb, ◌||◌, ◌==◌, List, [], ◌∷◌, ◌++◌, length, take, drop, get_or, flat_map, map, subst, replicate, inl, inr, arith, IsTrue, IsFalse}
-use Rattle.std.proofs.lemmas.Bool.{cases_lt, eqb-true, or_parts}
-use Rattle.std.proofs.lemmas.Simd.{length-chunk, none_from_empty_mask, zip2_splat, zip2_of_maps, map-map, mask_l-mod}
-use Rattle.std.proofs.lemmas.List.{length-map, length-drop, length-take-le, get_or-take, get_or-drop}
+use Rattle.std.proofs.Common.{◌≡◌, ◌≢◌, refl, ◌∙◌, ap, ap₂, sym, ℕ, suc, ◌+◌, ◌-◌, ◌≤◌, ◌%◌, ◌^◌, Bool, true, false, cond, eqb, ltb, ◌||◌, List, [], ◌∷◌, ◌++◌, length, take, drop, get_or, flat_map, map, not, subst, replicate, inl, inr, arith, IsFalse}
+use Rattle.std.proofs.lemmas.Bool.{cases_lt, or_parts, not-true}
+use Rattle.std.proofs.lemmas.Simd.{length-chunk, none_from_empty_mask, zip2_splat, zip2_of_maps, map-map, mask_l-mod, trailing_mask_l}
+use Rattle.std.proofs.lemmas.List.Sums.{prefix_len_passes, prefix_len-le-length}
+use Rattle.std.specs.List.{prefix_len}
+use Rattle.std.proofs.lemmas.List.{length-map, length-take-le, get_or-take, get_or-drop}
 use lib.Bits.{bit_or}
+use lib.Count.{count_trailing_zeros}
 use lib.Lanes.{chunk, mask_l, zip2, top}
 use Rattle.simd_json_parts.specs.Bytes.{is_control}
 use Rattle.simd_json_parts.specs.StringContent.{is_stop}
@@ -29,7 +32,8 @@ top-three false true false = refl
 top-three false false true = refl
 top-three false false false = refl
 
-mask-three : (n : ℕ) (v : List ℕ) → length v ≡ n → n ≤ 64
+-- the test of a vector, as the code makes it
+pub mask-three : (n : ℕ) (v : List ℕ) → length v ≡ n → n ≤ 64
     → mask_l (map (top 7) (zip2 bit_or (zip2 bit_or (zip2 hit v (replicate n 34)) (zip2 hit v (replicate n 92))) (zip2 below v (replicate n 32)))) % 2 ^ 64 ≡ mask_l (map needs_escape v)
 mask-three n v long short =
     let stops = zip2_of_maps bit_or (λ x. hit x 34) (λ x. hit x 92) v (zip2_splat hit v n 34 long) (zip2_splat hit v n 92 long) in
@@ -37,12 +41,31 @@ mask-three n v long short =
     let tops = map-map (top 7) (λ x. bit_or (bit_or (hit x 34) (hit x 92)) (below x 32)) v ∙ map-same _ _ (λ x. top-three (eqb x 34) (eqb x 92) (ltb x 32)) v in
     ap (λ us. mask_l us % 2 ^ 64) (ap (map (top 7)) lanes ∙ tops) ∙ mask_l-mod (map needs_escape v) 64 (omega (arith, length-map v needs_escape))
 
--- the test of a vector, as the code makes it
-pub unescaped-vector : (d : List ℕ) (i n : ℕ) → i + n ≤ length d → n ≤ 64
-    → IsTrue (mask_l (map (top 7) (zip2 bit_or (zip2 bit_or (zip2 hit (chunk i n d) (replicate n 34)) (zip2 hit (chunk i n d) (replicate n 92))) (zip2 below (chunk i n d) (replicate n 32)))) % 2 ^ 64 == 0)
-    → AreUnescaped d i (i + n)
-unescaped-vector d i n room few is =
-    none_from_empty_mask needs_escape d i n 0 room (sym (mask-three n (chunk i n d) (length-chunk i n d room) few) ∙ eqb-true _ 0 is)
+-- a vector of which no bit is set
+pub unescaped-vector : (d : List ℕ) (i n : ℕ) → i + n ≤ length d → mask_l (map needs_escape (chunk i n d)) ≡ 0 → AreUnescaped d i (i + n)
+unescaped-vector d i n room is = none_from_empty_mask needs_escape d i n 0 room is
+
+-- where a bit is set, the lowest is that of the first that is to be escaped
+front-count : (d : List ℕ) (i n mask : ℕ) → i + n ≤ length d → n ≤ 64 → mask ≡ mask_l (map needs_escape (chunk i n d)) → mask ≢ 0
+    → count_trailing_zeros 64 mask ≡ prefix_len (λ x. not (needs_escape x)) (chunk i n d)
+front-count d i n mask room few is some =
+    ap (count_trailing_zeros 64) is
+    ∙ trailing_mask_l needs_escape 64 (chunk i n d) (omega (arith, length-chunk i n d room)) (omega (arith, is, some))
+
+pub front-within : (d : List ℕ) (i n mask : ℕ) → i + n ≤ length d → n ≤ 64 → mask ≡ mask_l (map needs_escape (chunk i n d)) → mask ≢ 0 → count_trailing_zeros 64 mask ≤ n
+front-within d i n mask room few is some =
+    omega (arith, front-count d i n mask room few is some, prefix_len-le-length (λ x. not (needs_escape x)) (chunk i n d), length-chunk i n d room)
+
+pub unescaped-front : (d : List ℕ) (i n mask : ℕ) → i + n ≤ length d → n ≤ 64 → mask ≡ mask_l (map needs_escape (chunk i n d)) → mask ≢ 0
+    → AreUnescaped d i (i + count_trailing_zeros 64 mask)
+unescaped-front d i n mask room few is some k p q =
+    let count = front-count d i n mask room few is some in
+    let within = front-within d i n mask room few is some in
+    let place : i + (k - i) ≡ k = omega arith in
+    let passes = prefix_len_passes (λ x. not (needs_escape x)) (chunk i n d) (k - i) 0 (omega (arith, count, p, q)) in
+    let same : get_or (chunk i n d) (k - i) 0 ≡ get_or d k 0 =
+    get_or-take n (drop i d) (k - i) 0 (omega (arith, within, p, q)) ∙ get_or-drop i d (k - i) 0 ∙ ap (λ j. get_or d j 0) place in
+    subst (λ x. IsFalse (needs_escape x)) same (not-true (needs_escape (get_or (chunk i n d) (k - i) 0)) passes)
 
 unescaped-all : (d : List ℕ) → AreUnescaped d 0 (length d) → flat_map escaped_byte d ≡ d
 unescaped-all [] h = refl
@@ -58,10 +81,16 @@ unescaped-overlap d n covers within front back =
       | inr h ↦ back k (omega arith) (omega arith)
     ])
 
--- those of a part
-pub unescaped-part : (d : List ℕ) (from n : ℕ) → from + n ≤ length d → AreUnescaped d from (from + n) → flat_map escaped_byte (take n (drop from d)) ≡ take n (drop from d)
-unescaped-part d from n room is =
-    let size : length (take n (drop from d)) ≡ n = length-take-le n (drop from d) (omega (arith, length-drop from d)) in
-    unescaped-all (take n (drop from d)) (λ k p q.
-    let same : get_or (take n (drop from d)) k 0 ≡ get_or d (from + k) 0 = get_or-take n (drop from d) k 0 (omega (arith, size)) ∙ get_or-drop from d k 0 in
-    subst (λ x. IsFalse (needs_escape x)) (sym same) (is (from + k) (omega arith) (omega (arith, size))))
+-- those in front
+pub unescaped-prefix : (d : List ℕ) (n : ℕ) → n ≤ length d → AreUnescaped d 0 n → flat_map escaped_byte (take n d) ≡ take n d
+unescaped-prefix d n room is =
+    let size : length (take n d) ≡ n = length-take-le n d room in
+    unescaped-all (take n d) (λ k p q.
+    subst (λ x. IsFalse (needs_escape x)) (sym (get_or-take n d k 0 (omega (arith, size)))) (is k p (omega (arith, size))))
+
+-- more, from an index within them on
+pub unescaped-further : (d : List ℕ) (from done n : ℕ) → from ≤ done → AreUnescaped d 0 done → AreUnescaped d from (from + n) → AreUnescaped d 0 (from + n)
+unescaped-further d from done n within before more k p q = elim (cases_lt k done) [
+  | inl h ↦ before k p h
+  | inr h ↦ more k (omega arith) q
+]

@@ -66,10 +66,10 @@ mod tests {
         Ok(())
     }
 
-    // A line feed at each place of strings of each length up to 70, and at none.
+    // A line feed at each place of strings of each length up to 100, and at none.
     #[test]
     fn escapes_are_found_wherever_they_stand(rt: HostRuntime) -> std::result::Result<(), Fail> {
-        for len in 0..70usize {
+        for len in 0..100usize {
             for at in 0..=len {
                 let mut string = String::new(rt.alloc());
                 let mut wanted = Vec::from_slice(rt.alloc(), b"\"")?;

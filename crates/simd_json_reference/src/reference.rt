@@ -1,5 +1,5 @@
-//! What bytes say as JSON (RFC 8259), found slowly: each rule by itself, one byte after another. It is there to be
-//! compared with the parser, and shares nothing with it but the names of the errors.
+//! What bytes say as JSON (RFC 8259), found slowly: each rule by itself, one byte after another. It is there to
+//! be compared with the parser, and shares nothing with it but the names of the errors.
 mod bytes;
 mod descent;
 mod scalars;
@@ -11,7 +11,8 @@ use descent::Descent;
 use simd_json::{Error, Node, Result, StaticNode};
 use std::alloc::Global;
 
-// An entry of a tape. A string lies between two indexes of the decoded text, a decimal between two of the input.
+// An entry of a tape. A string lies between two indexes of the decoded text, a decimal between two of the
+// input.
 #[derive(Clone, Copy, Debug, Drop)]
 pub(crate) enum Item {
     Null,

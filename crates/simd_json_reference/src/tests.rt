@@ -50,7 +50,8 @@ impl Kept {
     }
 }
 
-// Compares a parse into a tape that holds another document already with the reference: fault, nodes and positions.
+// Compares a parse into a tape that holds another document already with the reference: fault, nodes and
+// positions.
 fn compare_within(
     rt: &(impl AllocGlobal + Abort),
     input: &[u8],

@@ -6,8 +6,11 @@ use mir.Val.{bool_byte}
 use Rattle.simd_json_parts.specs.Bytes.{backslash, is_whitespace, is_structural, is_control, byte_at}
 use Rattle.simd_json_parts.specs.Positions.{is_real_quote, is_inside, is_position}
 use Rattle.simd_json_stages.specs.Classes.{is_soft, is_hard}
-use Rattle.simd_json_stages.specs.Words.{HasBits, escaped_in, parity}
-use Rattle.simd_json_stages.specs.Blocks.{is_plain, is_plain_before, all_bits}
+use Rattle.simd_json_stages.specs.Words.{HasBits, escaped_in, parity as parity_of}
+use Rattle.simd_json_stages.specs.Blocks.{is_plain, is_plain_before, all_bits, IsBlock, HasClasses, IsControl, IsCarried, AreSorted, AreParts, AreMarks}
+use Rattle.simd_json_stages.specs.declared.stage1.words.Carry.{Carry}
+use Rattle.simd_json_stages.specs.declared.stage1.words.Parts.{Parts}
+use Rattle.simd_json_stages.specs.declared.stage1.words.Sorted.{Sorted}
 use Rattle.simd_json_stages.proofs.Bits.Operations.{flip, shl}
 use Rattle.simd_json_stages.proofs.Bits.Combined.{bits-and, bits-or, bits-xor, bits-not, bits-same, after, bits-after, bits-all, bits-last, bits-last_spread}
 use Rattle.simd_json_stages.proofs.BlockLaws.{escaped_at, open_at, quote-classes, structural-classes, space-classes, quote-real, inside-along, inside-open, escaped-along, position-found}
@@ -19,47 +22,43 @@ and-swap true false = refl
 and-swap false true = refl
 and-swap false false = refl
 
-module _ (b : List ℕ) (at : ℕ) (small : (i : ℕ) → i < 64 → byte_at b (at + i) < 256) (soft hard control es px ins pl : ℕ)
-    (hsoft : HasBits soft (λ i. is_soft (byte_at b (at + i)))) (hhard : HasBits hard (λ i. is_hard (byte_at b (at + i)))) (hcontrol : HasBits control (λ i. is_control (byte_at b (at + i))))
-    (hes : HasBits es (λ i. escaped_at b (at + i))) (hpx : HasBits px (λ i. parity (bit_and (bit_and soft hard) (flip es)) (i + 1)))
-    (hins : ins ≡ all_bits (open_at b at)) (hpl : pl ≡ bool_byte (is_plain_before b at)) where
-  abbrev quotes : ℕ
-  quotes = bit_and soft hard
+-- ---- the parts of a block
 
-  abbrev op : ℕ
-  op = bit_and hard (flip (bit_or control soft))
+abbrev quotes : ℕ → ℕ → ℕ
+quotes soft hard = bit_and soft hard
 
-  abbrev spaces : ℕ
-  spaces = bit_xor soft quotes
+abbrev real : ℕ → ℕ → ℕ → ℕ
+real soft hard escaped = bit_and (quotes soft hard) (flip escaped)
 
-  abbrev real : ℕ
-  real = bit_and quotes (flip es)
+pub parts-found : (b : List ℕ) (at soft hard control escaped parity : ℕ) → HasClasses b at soft hard control escaped → HasBits parity (λ i. parity_of (real soft hard escaped) (i + 1))
+    → AreParts b at (record { parity = parity; plain = flip (bit_or (bit_or (bit_and hard (flip (bit_or control soft))) (bit_xor soft (quotes soft hard))) (real soft hard escaped)); space = bit_xor soft (quotes soft hard); quote = real soft hard escaped })
+parts-found b at soft hard control escaped parity c h =
+    let op : HasBits (bit_and hard (flip (bit_or control soft))) (λ i. is_structural (byte_at b (at + i))) =
+    bits-same (bits-and c.hard (bits-not (bits-or c.control c.soft))) (λ i l. structural-classes _ (c.bytes i l)) in
+    let space : HasBits (bit_xor soft (quotes soft hard)) (λ i. is_whitespace (byte_at b (at + i))) = bits-same (bits-xor c.soft (bits-and c.soft c.hard)) (λ i l. space-classes _ (c.bytes i l)) in
+    let quote : HasBits (real soft hard escaped) (λ i. is_real_quote b (at + i)) =
+    bits-same (bits-and (bits-same (bits-and c.soft c.hard) (λ i l. quote-classes _ (c.bytes i l))) (bits-not c.escaped)) (λ i l. quote-real b (at + i)) in
+    record {
+      bytes = c.bytes;
+      plain = bits-not (bits-or (bits-or op space) quote);
+      space = space;
+      quote = quote;
+      parity = h;
+    }
 
+-- ---- its positions, from what stands before it
+
+module _ (b : List ℕ) (at : ℕ) (p : Parts) (control : ℕ) (c : Carry) (parts : AreParts b at p) (hcontrol : IsControl b at control) (carried : IsCarried b at c) where
   abbrev within : ℕ
-  within = bit_xor px ins
-
-  abbrev plain : ℕ
-  plain = flip (bit_or (bit_or op spaces) real)
+  within = bit_xor p.parity c.inside
 
   abbrev follows : ℕ
-  follows = bit_or (shl 1 plain) pl
-
-  hop : HasBits op (λ i. is_structural (byte_at b (at + i)))
-  hop = bits-same (bits-and hhard (bits-not (bits-or hcontrol hsoft))) (λ i l. structural-classes _ (small i l))
-
-  hspaces : HasBits spaces (λ i. is_whitespace (byte_at b (at + i)))
-  hspaces = bits-same (bits-xor hsoft (bits-and hsoft hhard)) (λ i l. space-classes _ (small i l))
-
-  hreal : HasBits real (λ i. is_real_quote b (at + i))
-  hreal = bits-same (bits-and (bits-same (bits-and hsoft hhard) (λ i l. quote-classes _ (small i l))) (bits-not hes)) (λ i l. quote-real b (at + i))
+  follows = bit_or (shl 1 p.plain) c.plain
 
   hwithin : HasBits within (λ i. is_inside b (at + i))
   hwithin =
-      let whole : HasBits ins (λ i. open_at b at) = subst (λ w. HasBits w (λ i. open_at b at)) (sym hins) (bits-all (open_at b at)) in
-      bits-same (bits-xor hpx whole) (inside-along b at real hreal.bits)
-
-  hplain : HasBits plain (λ i. is_plain b (at + i))
-  hplain = bits-not (bits-or (bits-or hop hspaces) hreal)
+      let whole : HasBits c.inside (λ i. open_at b at) = subst (λ w. HasBits w (λ i. open_at b at)) (sym carried.inside) (bits-all (open_at b at)) in
+      bits-same (bits-xor parts.parity whole) (inside-along b at p.quote parts.quote.bits)
 
   follow : (i : ℕ) → i < 64 → after (is_plain_before b at) (λ i. is_plain b (at + i)) i ≡ is_plain_before b (at + i)
   unfolding is_plain_before
@@ -67,23 +66,26 @@ module _ (b : List ℕ) (at : ℕ) (small : (i : ℕ) → i < 64 → byte_at b (
   follow (suc i) l = ap (is_plain_before b) (sym (add-suc at i))
 
   hfollows : HasBits follows (λ i. is_plain_before b (at + i))
-  hfollows = bits-same (subst (λ w. HasBits (bit_or (shl 1 plain) w) (after (is_plain_before b at) (λ i. is_plain b (at + i)))) (sym hpl) (bits-after (is_plain_before b at) hplain)) follow
+  hfollows = bits-same (subst (λ w. HasBits (bit_or (shl 1 p.plain) w) (after (is_plain_before b at) (λ i. is_plain b (at + i)))) (sym carried.plain) (bits-after (is_plain_before b at) parts.plain)) follow
 
-  pub starts-bits : HasBits (flip (bit_or (bit_or (bit_and plain follows) spaces) (bit_xor within real))) (λ i. is_position b (at + i))
-  starts-bits = bits-same (bits-not (bits-or (bits-or (bits-and hplain hfollows) hspaces) (bits-xor hwithin hreal))) (λ i l. position-found b (at + i) (small i l))
+  starts-bits : HasBits (flip (bit_or (bit_or (bit_and p.plain follows) p.space) (bit_xor within p.quote))) (λ i. is_position b (at + i))
+  starts-bits = bits-same (bits-not (bits-or (bits-or (bits-and parts.plain hfollows) parts.space) (bits-xor hwithin parts.quote))) (λ i l. position-found b (at + i) (parts.bytes i l))
 
-  pub bad-bits : HasBits (bit_and control within) (λ i. is_inside b (at + i) && is_control (byte_at b (at + i)))
+  bad-bits : HasBits (bit_and control within) (λ i. is_inside b (at + i) && is_control (byte_at b (at + i)))
   bad-bits = bits-same (bits-and hcontrol hwithin) (λ i l. and-swap (is_control (byte_at b (at + i))) (is_inside b (at + i)))
 
-  pub inside-out : (0 + (2 ^ 64 - within / 2 ^ 63)) % 2 ^ 64 ≡ all_bits (open_at b (at + 64))
+  inside-out : (0 + (2 ^ 64 - within / 2 ^ 63)) % 2 ^ 64 ≡ all_bits (open_at b (at + 64))
   inside-out = let e : suc (at + 63) ≡ at + 64 = omega arith in bits-last_spread hwithin ∙ ap all_bits (inside-open b (at + 63) ∙ ap (open_at b) e)
 
-  pub plain-out : plain / 2 ^ 63 ≡ bool_byte (is_plain_before b (at + 64))
+  plain-out : p.plain / 2 ^ 63 ≡ bool_byte (is_plain_before b (at + 64))
   unfolding is_plain_before
   plain-out =
       let e : suc (at + 63) ≡ at + 64 = omega arith in
       let now : is_plain b (at + 63) ≡ is_plain_before b (suc (at + 63)) = refl in
-      bits-last hplain ∙ ap bool_byte (now ∙ ap (is_plain_before b) e)
+      bits-last parts.plain ∙ ap bool_byte (now ∙ ap (is_plain_before b) e)
+
+  pub marks-found : AreMarks b at (record { starts = flip (bit_or (bit_or (bit_and p.plain follows) p.space) (bit_xor within p.quote)); bad = bit_and control within; carry = record { inside = (0 + (2 ^ 64 - within / 2 ^ 63)) % 2 ^ 64; plain = p.plain / 2 ^ 63 } })
+  marks-found = record { starts = starts-bits; bad = bad-bits; carry = record { inside = inside-out; plain = plain-out } }
 
 -- ---- the bytes of a block, as those of the input
 
@@ -122,3 +124,21 @@ escaped-none b at before e none =
     let along = escaped-along b at (escaped_at b at) 0 (λ _. escaped_at b at) (λ j l. none_set j ∙ sym (none j l)) in
     let r = no_escapes (escaped_at b at) before e in
     (bits-same r.0 (λ j l. along j (omega arith)), r.1 ∙ ap bool_byte (along 64 (omega arith)))
+
+-- ---- what is found in a block by itself
+
+pub sorted-found : (b : List ℕ) (at : ℕ) (bytes : List ℕ) (m : Sorted) → IsBlock b at bytes → ((i : ℕ) → get_or bytes i 0 < 256)
+    → HasBits m.soft (λ i. is_soft (get_or bytes i 0)) → HasBits m.hard (λ i. is_hard (get_or bytes i 0)) → HasBits m.control (λ i. is_control (get_or bytes i 0))
+    → (m.high ≡ 0 → (i : ℕ) → i < 64 → get_or bytes i 0 < 128) → m.has_backslash ≡ list_any (λ x. x == backslash) bytes → AreEscaped b at m.escaped m.next → AreSorted b at m
+sorted-found b at bytes m block small soft hard control ascii escapes escaped = record {
+  classes = record {
+    bytes = λ i l. subst (λ x. x < 256) (block.same i l) (small i);
+    soft = bits-same soft (λ i l. ap is_soft (block.same i l));
+    hard = bits-same hard (λ i l. ap is_hard (block.same i l));
+    control = bits-same control (λ i l. ap is_control (block.same i l));
+    escaped = escaped.0;
+  };
+  next = escaped.1;
+  ascii = λ none n from end. let e : at + (n - at) ≡ n = omega arith in subst (λ k. byte_at b k < 128) e (subst (λ x. x < 128) (block.same (n - at) (omega arith)) (ascii none (n - at) (omega arith)));
+  escapes = escapes ∙ any-bytes (λ x. x == backslash) (byte_at b) at bytes (λ i l. block.same i (omega (arith, block.len))) ∙ ap (λ n. list_any (λ i. byte_at b i == backslash) (range_with_len at n)) block.len;
+}

@@ -13,16 +13,16 @@ use Rattle.simd_json_stages.specs.Building.{closer, end_kind, frames, top, patch
 use Rattle.simd_json_stages.specs.EscapesAhead.{AreAhead}
 use Rattle.simd_json_stages.specs.Left.{Left}
 use Rattle.simd_json_stages.specs.Members.{HasCapacity, AtFirst}
-use Rattle.simd_json_stages.specs.Progresses.{IsRead, IsNext, IsBefore, IsAfter}
+use Rattle.simd_json_stages.specs.Progresses.{IsRead, IsUnread, IsNext, IsBefore, IsAfter}
 use Rattle.simd_json_stages.specs.declared.stage2.Container.TheVariants.{Array}
 use Rattle.simd_json_stages.specs.declared.stage2.Follower.{Follower}
-use Rattle.simd_json_stages.specs.declared.stage2.escapes.Escapes.{Escapes}
 use Rattle.simd_json_stages.specs.declared.stage2.Follower.TheVariants.{End}
 use Rattle.simd_json_stages.specs.declared.stage2.Progress.{Progress}
 use Rattle.simd_json_stages.specs.declared.stage2.StackState.{StackState}
 use Rattle.simd_json_stages.specs.declared.stage2.fault.Fault.{Fault}
 use Rattle.simd_json_stages.specs.declared.stage2.fault.FaultKind.{FaultKind}
 use Rattle.simd_json_stages.specs.declared.stage2.fault.FaultKind.TheVariants as kinds
+use Rattle.simd_json_stages.specs.declared.stage2.machine.Machine.{Machine}
 use Rattle.simd_json_stages.proofs.Bounds.{told-at, told-none, inside, later, read-next, next-read}
 use Rattle.simd_json_stages.proofs.BuildingSteps.{items-length, step-close, step-end, root-value}
 use Rattle.simd_json_stages.proofs.EscapesPassed.{ahead-later}
@@ -147,28 +147,26 @@ abbrev pub first_token : List ℕ → ℕ → Progress
 first_token ps x = record { read = 1; at = get_or ps 0 0; byte = x; used = 0; depth = 0; container = Array; len = 0 }
 
 -- All of the input is unread there.
-pub at-first : (input ps : List ℕ) (u : Left) (e : Escapes) (stack : List StackState) (nodes : List Node) (limit x : ℕ) → u ≡ record { at = 0; bytes = input } → HasCapacity input ps limit stack nodes → input_fault input ≡ None → 0 < length ps → AreAhead input e 0
-    → x ≡ byte_at u.bytes (get_or ps 0 0 - u.at) → (input_fault u.bytes ≡ None) × (AtFirst u.bytes ps limit u stack nodes (first_token ps x) × AreAhead u.bytes e (get_or ps 0 0))
-at-first input ps u e stack nodes limit x is capacity good some ahead byte =
+pub at-first : (input ps : List ℕ) (m : Machine) (nodes : List Node) (limit x : ℕ) → m.text.unread ≡ record { at = 0; bytes = input } → HasCapacity input ps limit m nodes → input_fault input ≡ None → 0 < length ps → AreAhead input m.text.escapes 0
+    → x ≡ byte_at m.text.unread.bytes (get_or ps 0 0 - m.text.unread.at) → (input_fault m.text.unread.bytes ≡ None) × AtFirst m.text.unread.bytes ps limit m nodes (first_token ps x)
+at-first input ps m nodes limit x is capacity good some ahead byte =
     let none : get_or ps 0 0 - 0 ≡ get_or ps 0 0 = omega arith in
     let byte' : x ≡ byte_at input (get_or ps 0 0 - 0) = subst (λ (u : Left). x ≡ byte_at u.bytes (get_or ps 0 0 - u.at)) is byte in
-    subst (λ (u : Left). (input_fault u.bytes ≡ None) × (AtFirst u.bytes ps limit u stack nodes (first_token ps x) × AreAhead u.bytes e (get_or ps 0 0))) (sym is) (
+    subst (λ b. (input_fault b ≡ None) × AtFirst b ps limit m nodes (first_token ps x)) (sym (ap (λ (u : Left). u.bytes) is)) (
       good,
-      (
-        record {
-          capacity = capacity;
-          progress = record {
-            read = record { some = omega arith; within = omega arith; last = refl; first = byte' ∙ ap (byte_at input) none };
-            used = omega arith;
-            deep = omega arith;
-            len = omega arith;
-            unread = record { same = refl; before = omega arith };
-          };
-          depth = omega arith;
-          value = root-value input ps limit stack nodes x some;
-        },
-        ahead-later input e 0 ahead (get_or ps 0 0) (omega arith),
-      ),
+      record {
+        capacity = capacity;
+        progress = record {
+          read = record { some = omega arith; within = omega arith; last = refl; first = byte' ∙ ap (byte_at input) none };
+          used = omega arith;
+          deep = omega arith;
+          len = omega arith;
+          unread = subst (λ u. IsUnread input u (get_or ps 0 0)) (sym is) (record { same = refl; before = omega arith });
+        };
+        escapes = ahead-later input m.text.escapes 0 ahead (get_or ps 0 0) (omega arith);
+        depth = omega arith;
+        value = root-value input ps limit m.stack.now nodes x some;
+      },
     )
 
 pub first-looks : (input ps : List ℕ) (u : Left) → u ≡ record { at = 0; bytes = input } → ps ≡ positions input → 0 < length ps → (u.at ≤ get_or ps 0 0) × (get_or ps 0 0 < u.at + length u.bytes)

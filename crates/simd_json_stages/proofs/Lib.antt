@@ -21,4 +21,5 @@ mod EncodingLaws
 mod BlockLaws
 mod BlockWords
 mod ScanLaws
+mod GroupLaws
 mod RestLaws

@@ -14,9 +14,11 @@ use Rattle.simd_json_parts.specs.InputFaults.{has_bad_string}
 use Rattle.simd_json_stages.specs.Carries.{has_control_before}
 use Rattle.simd_json_stages.specs.EscapeBlocks.{blocks_in, holds_backslash, backslash_blocks}
 use Rattle.simd_json_stages.specs.Words.{set_bits}
-use Rattle.simd_json_stages.specs.Blocks.{all_bits, IsBlock, AreMarks, IsScanned}
+use Rattle.simd_json_stages.specs.Blocks.{all_bits, IsBlock, AreSorted, AreMarks, IsSorted, IsPlaced}
 use Rattle.simd_json_stages.specs.declared.stage1.words.Marks.{Marks}
-use Rattle.simd_json_stages.specs.declared.stage1.scan.Scanned.{Scanned}
+use Rattle.simd_json_stages.specs.declared.stage1.words.Sorted.{Sorted}
+use Rattle.simd_json_stages.specs.declared.stage1.scan.Placing.{Placing}
+use Rattle.simd_json_stages.specs.declared.stage1.scan.Sorting.{Sorting}
 use Rattle.simd_json_stages.proofs.CarryLaws.{filter-next}
 use Rattle.simd_json_stages.proofs.EscapeBlockLaws.{filter-stays, list_any-none_between, holds_backslash-plain, byte_at-past}
 use Rattle.simd_json_stages.proofs.Bits.Places.{length-ones}
@@ -97,20 +99,19 @@ all-zero : (t : Bool) → not (all_bits t == 0) ≡ t
 all-zero true = refl
 all-zero false = refl
 
-pub rest-bad : (b : List ℕ) (s : Scanned) (out listed : List ℕ) (m : Marks) → IsScanned b (whole b) s out listed → AreMarks b (64 * whole b) m
-    → (not (m.carry.inside == 0) || not (bit_or s.bad m.bad == 0)) ≡ has_bad_string b
-rest-bad b s out listed m h marks =
+pub rest-bad : (b : List ℕ) (p : Placing) (out : List ℕ) (m : Marks) → IsPlaced b (whole b) p out → AreMarks b (64 * whole b) m
+    → (not (m.carry.inside == 0) || not (bit_or p.bad m.bad == 0)) ≡ has_bad_string b
+rest-bad b p out m h marks =
     let k = whole b in
     let n = 64 * k + 64 - length b in
     let e : 64 * k + 64 ≡ length b + n = omega arith in
     let f : 64 * (k + 1) ≡ length b + n = omega arith in
     ap₂ (λ x y. x || y)
     (ap (λ w. not (w == 0)) marks.carry.inside ∙ all-zero (not (is_even (real_quotes b (64 * k + 64)))) ∙ ap (λ j. not (is_even (real_quotes b j))) e ∙ ap (λ j. not (is_even j)) (quotes-past b n))
-    (ap not (control-next b k s.bad m.bad h.bad marks.bad) ∙ not-not (has_control_before b (64 * (k + 1))) ∙ ap (has_control_before b) f ∙ control-all b n)
+    (ap not (control-next b k p.bad m.bad h.bad marks.bad) ∙ not-not (has_control_before b (64 * (k + 1))) ∙ ap (has_control_before b) f ∙ control-all b n)
 
-pub rest-positions : (b : List ℕ) (s : Scanned) (out listed : List ℕ) (m : Marks) → IsScanned b (whole b) s out listed → AreMarks b (64 * whole b) m
-    → (take s.used out ++ set_bits 64 (64 * (whole b - 1)) s.late) ++ set_bits 64 (64 * whole b) m.starts ≡ positions b
-rest-positions b s out listed m h marks =
+pub rest-positions : (b : List ℕ) (p : Placing) (out : List ℕ) (m : Marks) → IsPlaced b (whole b) p out → AreMarks b (64 * whole b) m → take p.used out ++ set_bits 64 (64 * whole b) m.starts ≡ positions b
+rest-positions b p out m h marks =
     let k = whole b in
     ap (λ l. l ++ set_bits 64 (64 * k) m.starts) h.found ∙ positions-next (is_position b) k m.starts marks.starts ∙ positions-all b (64 * (k + 1)) (omega arith)
 
@@ -118,33 +119,30 @@ few-positions : (b : List ℕ) → length (positions b) ≤ length b
 unfolding positions
 few-positions b = omega (arith, length-filter (is_position b) (range_with_len 0 (length b)), count_by-le-length (is_position b) (range_with_len 0 (length b)), length-range_with_len 0 (length b))
 
-pub rest-few : (b : List ℕ) (s : Scanned) (out listed : List ℕ) (m : Marks) → IsScanned b (whole b) s out listed → AreMarks b (64 * whole b) m → s.used + ones s.late + ones m.starts ≤ length b
-rest-few b s out listed m h marks =
-    let late = set_bits 64 (64 * (whole b - 1)) s.late in
-    let all = ap length (rest-positions b s out listed m h marks) in
-    let three = length-append (take s.used out ++ late) (set_bits 64 (64 * whole b) m.starts) in
-    let two = length-append (take s.used out) late in
-    let one = length-take-le s.used out h.within in
-    let late-bits = length-ones 64 (64 * (whole b - 1)) s.late h.late in
+pub rest-few : (b : List ℕ) (p : Placing) (out : List ℕ) (m : Marks) → IsPlaced b (whole b) p out → AreMarks b (64 * whole b) m → p.used + ones m.starts ≤ length b
+rest-few b p out m h marks =
+    let all = ap length (rest-positions b p out m h marks) in
+    let two = length-append (take p.used out) (set_bits 64 (64 * whole b) m.starts) in
+    let one = length-take-le p.used out h.within in
     let bits = length-ones 64 (64 * whole b) m.starts marks.starts.small in
     omega (arith, few-positions b)
 
-pub rest-listed : (b : List ℕ) (s : Scanned) (out listed : List ℕ) (m : Marks) → IsScanned b (whole b) s out listed → AreMarks b (64 * whole b) m → m.has_backslash ≡ true → s.listed < blocks_in (length b)
+pub rest-listed : (b : List ℕ) (s : Sorting) (listed : List ℕ) (m : Sorted) → IsSorted b (whole b) s listed → AreSorted b (64 * whole b) m → m.has_backslash ≡ true → s.listed < blocks_in (length b)
 unfolding holds_backslash
-rest-listed b s out listed m h marks e = elim (cases_lt (whole b) (blocks_in (length b))) [
-  | inl l ↦ (let few = h.few_blocks in omega arith)
+rest-listed b s listed m h sorted e = elim (cases_lt (whole b) (blocks_in (length b))) [
+  | inl l ↦ (let few = h.few in omega arith)
   | inr r ↦
       let none : holds_backslash b (whole b) ≡ false = holds_backslash-plain b (whole b) (λ j f t. byte_at-past b j (omega arith)) in
-      let no : true ≡ false = sym e ∙ marks.escapes ∙ none in
+      let no : true ≡ false = sym e ∙ sorted.escapes ∙ none in
       absurd (cc)
 ]
 
 -- the blocks that hold a backslash, where the last does or does not
-pub rest-blocks : (b : List ℕ) (s : Scanned) (out listed : List ℕ) (m : Marks) (t : Bool) → IsScanned b (whole b) s out listed → AreMarks b (64 * whole b) m → m.has_backslash ≡ t
+pub rest-blocks : (b : List ℕ) (s : Sorting) (listed : List ℕ) (m : Sorted) (t : Bool) → IsSorted b (whole b) s listed → AreSorted b (64 * whole b) m → m.has_backslash ≡ t
     → (if t then take s.listed listed ++ whole b ∷ [] else take s.listed listed) ≡ backslash_blocks b
 unfolding holds_backslash backslash_blocks
-rest-blocks b s out listed m t h marks e =
+rest-blocks b s listed m t h sorted e =
     let k = whole b in
     let holds = holds_backslash b in
-    ap (λ ks. if t then ks ++ k ∷ [] else ks) h.blocks_found ∙ sym (filter-next holds k t (sym marks.escapes ∙ e))
+    ap (λ ks. if t then ks ++ k ∷ [] else ks) h.found ∙ sym (filter-next holds k t (sym sorted.escapes ∙ e))
     ∙ filter-stays holds (blocks_in (length b)) (k + 1) (omega arith) (λ j f l. holds_backslash-plain b j (λ i g u. byte_at-past b i (omega arith)))

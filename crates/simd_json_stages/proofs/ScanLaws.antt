@@ -1,9 +1,10 @@
 -- What a scan knows, a block further.
-use Rattle.std.proofs.Common.{◌≡◌, ◌≢◌, refl, sym, ◌∙◌, ap, ap₂, subst, ℕ, zero, suc, ◌+◌, ◌-◌, ◌*◌, ◌/◌, ◌%◌, ◌^◌, ◌<◌, ◌≤◌, inl, inr, List, [], ◌∷◌, ◌++◌, length, get_or, take, drop, slice_set, Bool, true, false, not, ◌&&◌, ◌||◌, ◌==◌, add-zero, zero-add, arith, pow-suc, eqb-true, eq-eqb}
+use Rattle.std.proofs.Common.{◌≡◌, if◌then◌else◌, ◌≢◌, refl, sym, ◌∙◌, ap, ap₂, subst, ℕ, zero, suc, ◌+◌, ◌*◌, ◌/◌, ◌%◌, ◌^◌, ◌<◌, ◌≤◌, inl, inr, List, [], ◌∷◌, ◌++◌, length, get_or, take, drop, Bool, true, false, not, ◌&&◌, ◌||◌, ◌==◌, add-zero, zero-add, arith, pow-suc, eqb-true, eq-eqb}
+use Rattle.std.specs.Int.{from_bool}
 use Rattle.std.specs.List.{list_any, range_with_len, filter}
 use Rattle.std.proofs.lemmas.Bool.{cases_lt, ne_eqb, eqb-false}
 use Rattle.std.proofs.lemmas.Nat.Bits.{bit_at_lowest, bit_at-suc}
-use Rattle.std.proofs.lemmas.List.{take_more_set, take-set, take-take, take_at, drop-drop, get_or_default}
+use Rattle.std.proofs.lemmas.List.{take-take, take_at, drop-drop, get_or_default}
 use Rattle.std.proofs.lemmas.Simd.{length-chunk, get_or-chunk}
 use Rattle.std.specs.Simd.{first_chunks}
 use lib.Lanes.{chunk}
@@ -14,14 +15,17 @@ use Rattle.std.proofs.lemmas.Nat.{and_le_r}
 use mir.Val.{bool_byte}
 use Rattle.simd_json_parts.specs.Bytes.{is_control, byte_at}
 use Rattle.simd_json_parts.specs.Positions.{backslashes_before, real_quotes, is_inside, is_position}
-use Rattle.simd_json_stages.specs.Carries.{has_control_before}
+use Rattle.simd_json_stages.specs.Carries.{is_escaped_at, has_control_before}
 use Rattle.simd_json_stages.specs.EscapeBlocks.{holds_backslash}
 use Rattle.simd_json_stages.specs.Words.{is_set, HasBits, set_bits}
-use Rattle.simd_json_stages.specs.Blocks.{is_plain_before, IsCarried, AreBlocks, AreMarks, IsScanned}
+use Rattle.simd_json_stages.specs.Blocks.{is_plain_before, IsCarried, AreBlocks, AreSorted, AreMarks, IsSorted, IsPlaced, IsScanned}
 use Rattle.simd_json_stages.specs.declared.stage1.words.Marks.{Marks}
+use Rattle.simd_json_stages.specs.declared.stage1.words.Sorted.{Sorted}
+use Rattle.simd_json_stages.specs.declared.stage1.scan.Placing.{Placing}
 use Rattle.simd_json_stages.specs.declared.stage1.scan.Scanned.{Scanned}
+use Rattle.simd_json_stages.specs.declared.stage1.scan.Sorting.{Sorting}
 use Rattle.simd_json_stages.proofs.CarryLaws.{filter-next}
-use Rattle.simd_json_stages.proofs.Bits.Places.{set_bits-filter, set_bits-zero}
+use Rattle.simd_json_stages.proofs.Bits.Places.{set_bits-filter}
 
 pub range-add : (a m n : ℕ) → range_with_len a (m + n) ≡ range_with_len a m ++ range_with_len (a + m) n
 range-add a zero n = ap₂ range_with_len (sym (add-zero a)) (zero-add n)
@@ -86,10 +90,9 @@ control-next b k bad w e h =
 
 -- ---- the list of blocks
 
-listed-next : (p : ℕ → Bool) (k n : ℕ) (listed : List ℕ) (t : Bool) → t ≡ p k → n < length listed → take n listed ≡ filter p (range_with_len 0 k)
-    → take (n + bool_byte t) (slice_set listed n k) ≡ filter p (range_with_len 0 (k + 1))
-listed-next p k n listed true e l h = take_more_set listed n k l ∙ ap (λ ks. ks ++ k ∷ []) h ∙ sym (filter-next p k true (sym e))
-listed-next p k n listed false e l h = ap (λ m. take m (slice_set listed n k)) (add-zero n) ∙ take-set listed n k ∙ h ∙ sym (filter-next p k false (sym e))
+listed-next : (p : ℕ → Bool) (k n : ℕ) (listed after : List ℕ) (end : ℕ) (t : Bool) → t ≡ p k → take n listed ≡ filter p (range_with_len 0 k)
+    → take end after ≡ (if t then take n listed ++ k ∷ [] else take n listed) → take end after ≡ filter p (range_with_len 0 (k + 1))
+listed-next p k n listed after end t e h written = written ∙ ap (λ ks. if t then ks ++ k ∷ [] else ks) h ∙ sym (filter-next p k t (sym e))
 
 pub bool-small : (t : Bool) → bool_byte t ≤ 1
 bool-small true = omega arith
@@ -97,41 +100,57 @@ bool-small false = omega arith
 
 -- ---- all of it
 
-pub IsScanned-next : (b : List ℕ) (k : ℕ) (s : Scanned) (out listed : List ℕ) (m : Marks) (after : List ℕ) (used : ℕ) → IsScanned b k s out listed → AreMarks b (64 * k) m
-    → take used after ≡ take s.used out ++ set_bits 64 (64 * (k - 1)) s.late → used ≤ s.used + 64 → used ≤ length after → s.listed < length listed → length (slice_set listed s.listed k) ≡ length listed → (high : ℕ)
-    → IsScanned b (k + 1) (record { carry = m.carry; late = m.starts; bad = bit_or s.bad m.bad; high = high; used = used; listed = s.listed + bool_byte m.has_backslash }) after (slice_set listed s.listed k)
+pub IsSorted-next : (b : List ℕ) (k : ℕ) (s : Sorting) (listed : List ℕ) (m : Sorted) (high : ℕ) (after : List ℕ) (end : ℕ) → IsSorted b k s listed → AreSorted b (64 * k) m
+    → take end after ≡ (if m.has_backslash then take s.listed listed ++ k ∷ [] else take s.listed listed) → end ≡ s.listed + bool_byte m.has_backslash → end ≤ length after
+    → IsSorted b (k + 1) (record { escaped = m.next; high = high; listed = end }) after
 unfolding holds_backslash
-IsScanned-next b k s out listed m after used h marks written few within capacity same high =
+IsSorted-next b k s listed m high after end h sorted written count within =
     let e : 64 * k + 64 ≡ 64 * (k + 1) = omega arith in
     let one = bool-small m.has_backslash in
     record {
-      carried = subst (λ n. IsCarried b n m.carry) e marks.carry;
-      bad = control-next b k s.bad m.bad h.bad marks.bad;
+      escaped = sorted.next ∙ ap (λ n. from_bool (is_escaped_at b n)) e;
       few = let f = h.few in omega arith;
       within = within;
-      late = marks.starts.small;
-      found =
-          let at : 64 * (k + 1 - 1) ≡ 64 * k = omega arith in
-          ap₂ (λ l n. l ++ set_bits 64 n m.starts) (written ∙ h.found) at ∙ positions-next (is_position b) k m.starts marks.starts;
-      few_blocks = let f = h.few_blocks in omega arith;
-      blocks_within = omega arith;
-      blocks_found = listed-next (holds_backslash b) k s.listed listed m.has_backslash marks.escapes capacity h.blocks_found;
+      found = listed-next (holds_backslash b) k s.listed listed after end m.has_backslash sorted.escapes h.found written;
     }
+
+pub IsPlaced-next : (b : List ℕ) (k : ℕ) (p : Placing) (out : List ℕ) (m : Marks) (after : List ℕ) (used : ℕ) → IsPlaced b k p out → AreMarks b (64 * k) m
+    → take used after ≡ take p.used out ++ set_bits 64 (64 * k) m.starts → used ≤ p.used + 64 → used ≤ length after
+    → IsPlaced b (k + 1) (record { carry = m.carry; bad = bit_or p.bad m.bad; used = used }) after
+IsPlaced-next b k p out m after used h marks written few within =
+    let e : 64 * k + 64 ≡ 64 * (k + 1) = omega arith in
+    record {
+      carried = subst (λ n. IsCarried b n m.carry) e marks.carry;
+      bad = control-next b k p.bad m.bad h.bad marks.bad;
+      few = let f = h.few in omega arith;
+      within = within;
+      found = written ∙ ap (λ l. l ++ set_bits 64 (64 * k) m.starts) h.found ∙ positions-next (is_position b) k m.starts marks.starts;
+    }
+
+-- ---- the same block, counted otherwise
+
+pub IsSorted-same : {b : List ℕ} {m n : ℕ} {s : Sorting} {listed : List ℕ} → m ≡ n → IsSorted b m s listed → IsSorted b n s listed
+IsSorted-same {b} {m} {n} {s} {listed} e h = subst (λ k. IsSorted b k s listed) e h
+
+pub IsPlaced-same : {b : List ℕ} {m n : ℕ} {p : Placing} {out : List ℕ} → m ≡ n → IsPlaced b m p out → IsPlaced b n p out
+IsPlaced-same {b} {m} {n} {p} {out} e h = subst (λ k. IsPlaced b k p out) e h
+
+pub IsScanned-same : {b : List ℕ} {m n : ℕ} {s : Scanned} {out listed : List ℕ} → m ≡ n → IsScanned b m s out listed → IsScanned b n s out listed
+IsScanned-same {b} {m} {n} {s} {out} {listed} e h = subst (λ k. IsScanned b k s out listed) e h
+
+-- a window begins with no byte that is no ASCII
+pub IsScanned-high : {b : List ℕ} {k : ℕ} {s : Scanned} {out listed : List ℕ} → (high : ℕ) → IsScanned b k s out listed
+    → IsScanned b k (record { sorting = record { escaped = s.sorting.escaped; high = high; listed = s.sorting.listed }; placing = s.placing }) out listed
+IsScanned-high high h = record { sorted = record { escaped = h.sorted.escaped; few = h.sorted.few; within = h.sorted.within; found = h.sorted.found }; placed = h.placed }
 
 -- ---- at the start, and where lists grow
 
-pub IsScanned-none : (b : List ℕ) (out listed : List ℕ) → IsScanned b 0 (record { carry = record { escaped = 0; inside = 0; plain = 0 }; late = 0; bad = 0; high = 0; used = 0; listed = 0 }) out listed
+pub IsScanned-none : (b : List ℕ) (out listed : List ℕ)
+    → IsScanned b 0 (record { sorting = record { escaped = 0; high = 0; listed = 0 }; placing = record { carry = record { inside = 0; plain = 0 }; bad = 0; used = 0 } }) out listed
 unfolding backslashes_before real_quotes is_plain_before
 IsScanned-none b out listed = record {
-  carried = record { escaped = refl; inside = refl; plain = refl };
-  bad = refl;
-  few = omega arith;
-  within = omega arith;
-  late = omega arith;
-  found = set_bits-zero 64 _;
-  few_blocks = omega arith;
-  blocks_within = omega arith;
-  blocks_found = refl;
+  sorted = record { escaped = refl; few = omega arith; within = omega arith; found = refl };
+  placed = record { carried = record { inside = refl; plain = refl }; bad = refl; few = omega arith; within = omega arith; found = refl };
 }
 
 pub prefix : (n : ℕ) (xs ys : List ℕ) → n ≤ length xs → take (length xs) ys ≡ xs → take n ys ≡ take n xs
@@ -139,17 +158,13 @@ prefix n xs ys l e = sym (take-take n (length xs) ys l) ∙ ap (take n) e
 
 pub IsScanned-capacity : (b : List ℕ) (k : ℕ) (s : Scanned) (out listed more more_listed : List ℕ) → IsScanned b k s out listed → take (length out) more ≡ out → length out ≤ length more
     → take (length listed) more_listed ≡ listed → length listed ≤ length more_listed → IsScanned b k s more more_listed
-IsScanned-capacity b k s out listed more more_listed h e l f m = record {
-  carried = h.carried;
-  bad = h.bad;
-  few = h.few;
-  within = let w = h.within in omega arith;
-  late = h.late;
-  found = ap (λ l. l ++ set_bits 64 (64 * (k - 1)) s.late) (prefix s.used out more h.within e) ∙ h.found;
-  few_blocks = h.few_blocks;
-  blocks_within = let w = h.blocks_within in omega arith;
-  blocks_found = prefix s.listed listed more_listed h.blocks_within f ∙ h.blocks_found;
-}
+IsScanned-capacity b k s out listed more more_listed h e l f m =
+    let p = h.placed in
+    let t = h.sorted in
+    record {
+      sorted = record { escaped = t.escaped; few = t.few; within = (let w = t.within in omega arith); found = prefix s.sorting.listed listed more_listed t.within f ∙ t.found };
+      placed = record { carried = p.carried; bad = p.bad; few = p.few; within = (let w = p.within in omega arith); found = prefix s.placing.used out more p.within e ∙ p.found };
+    }
 
 -- ---- the blocks of an input
 

@@ -22,7 +22,7 @@ mod unread;
 mod values;
 
 use escapes::Escapes;
-use machine::build_by_end;
+use machine::Machine;
 pub use scalar::{is_valid_false_atom, is_valid_null_atom, is_valid_true_atom};
 use simd_json_parts::error::Result;
 use simd_json_parts::node::Node;
@@ -75,6 +75,20 @@ pub(crate) struct Progress {
     pub(crate) used: usize,
     pub(crate) depth: usize,
     pub(crate) len: usize,
+}
+
+// The bytes that are not read yet, and the blocks ahead that hold a backslash.
+#[derive(Drop)]
+pub(crate) struct Text<'m, 'de> {
+    pub(crate) unread: Unread<'de>,
+    pub(crate) escapes: Escapes<'m>,
+}
+
+// What stays as it is on the way through the tokens: their positions, and how many containers may be open.
+#[derive(Clone, Copy, Drop)]
+pub(crate) struct Route<'m> {
+    pub(crate) indexes: &'m [u32],
+    pub(crate) max_depth: usize,
 }
 
 // After a value's first token: inside a new container, before its first member, or past a complete value.
@@ -144,8 +158,8 @@ pub fn build_tape<'de>(
     ensures refused { IfErr result (λ e. IsTokenFault e × (descent input.old max_depth ≡ Err e)) }
 {
     let last = input[structural_indexes[structural_indexes.len() - 1] as usize];
-    let mut unread = Unread::new(input);
-    let mut escapes = Escapes::new(escape_blocks);
+    let unread = Unread::new(input);
+    let escapes = Escapes::new(escape_blocks);
     let at = structural_indexes[0] as usize;
     let first = Progress {
         at,
@@ -156,16 +170,13 @@ pub fn build_tape<'de>(
         depth: 0,
         len: 0,
     };
-    match build_by_end(
-        &mut unread,
-        &mut escapes,
-        structural_indexes,
-        stack,
-        nodes,
-        first,
+    let text = Text { unread, escapes };
+    let mut machine = Machine { text, stack };
+    let route = Route {
+        indexes: structural_indexes,
         max_depth,
-        closes(last),
-    ) {
+    };
+    match machine.build_by_end(route, nodes, first, closes(last)) {
         Ok(used) => Ok(used),
         Err(fault) => Err(fault.into_error()),
     }

@@ -1,5 +1,6 @@
 //! The magnitude of an integer, or what puts it out of range.
-ghost use Rattle.std.specs.Prelude.{◌≡◌, ◌+◌, ◌++◌, ◌≤◌, ◌<◌, ℕ, List, length, take, drop, false, nat_le, MatchResult, IsTrue};
+ghost use Rattle.std.specs.Prelude.{◌≡◌, ◌+◌, ◌++◌, ◌≤◌, ◌<◌, ℕ, List, length, take, drop, false, nat_le};
+ghost use Rattle.std.specs.Prelude.{MatchResult, IsTrue};
 ghost use Rattle.std.specs.Str.Parse.{AllDigits, digits_value};
 ghost use Rattle.simd_json_parts.specs.Bytes.{byte_at, is_terminator};
 ghost use Rattle.simd_json_parts.specs.Integers.{max_magnitude};

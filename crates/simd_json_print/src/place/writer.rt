@@ -61,7 +61,7 @@ impl<W: Write, const SIZE: usize> Sink<W> for Writing<SIZE> {
 }
 
 impl<const SIZE: usize> Writing<SIZE> {
-    ghost use Rattle.std.specs.Prelude.{◌≡◌, ◌≤◌, ◌++◌, ℕ, List, Option, Some, []};
+    ghost use Rattle.std.specs.Prelude.{◌≡◌, ◌≤◌, ◌++◌, ℕ, List, Option, Some, None, []};
     ghost use Rattle.std.specs.Prelude.{flat_map, length, take, IsTrue, IsFalse, OnOk, OnErr};
     ghost use Rattle.std.specs.Io.KnownBytes.{Appends};
     ghost use Rattle.simd_json_parts.specs.Printed.{escaped_byte};
@@ -134,13 +134,20 @@ impl<const SIZE: usize> Writing<SIZE> {
             return;
         }
         if let Err(fault) = self.pieces.put_past(writer, bytes) {
-            self.has_stopped = true;
-            self.fault = fault;
+            self.stop(fault);
         }
     }
 
+    fn stop(&mut self, fault: io::Error)
+        ensures { self.new ≡ None }
+    {
+        self.has_stopped = true;
+        self.fault = fault;
+    }
+
     /// Hands over what is left. An error where the writer stopped, now or before: its own, or one of kind
-    /// `WriteZero`. It then holds a beginning of all that was given, after what it held before.
+    /// `WriteZero`. It then holds a beginning of all that was given, after what it held before, and is called
+    /// no more.
     pub fn finish<W: Write>(&mut self, writer: &mut W) -> io::Result<()>
         ensures all { (bytes : List ℕ) (before : Option (List ℕ))
             → Gives (before, Some []) (W.contents writer.old, self.old) bytes
@@ -149,10 +156,16 @@ impl<const SIZE: usize> Writing<SIZE> {
             → Gives (before, Some []) (W.contents writer.old, self.old) bytes
             → OnErr result ((count : ℕ) × Appends before (W.contents writer.new) (take count bytes)) }
         ensures kept { IsLonger (W.contents writer.old) (W.contents writer.new) }
+        ensures emptied { OnOk result (self.new ≡ Some []) }
+        ensures stopped { OnErr result (self.new ≡ None) }
     {
         if self.has_stopped {
             return Err(self.fault);
         }
-        self.pieces.flush(writer)
+        if let Err(fault) = self.pieces.flush(writer) {
+            self.stop(fault);
+            return Err(fault);
+        }
+        Ok(())
     }
 }

@@ -1,4 +1,5 @@
-//! What is asked of the input as a whole, each index by itself: its encoding, its quotes, its structural positions.
+//! What is asked of the input as a whole, each index by itself: its encoding, its quotes, its structural
+//! positions.
 use super::bytes::{at, is_structural, is_whitespace};
 use simd_json::{ErrorType, Result};
 use std::alloc::Global;

@@ -6,42 +6,58 @@ ghost use Rattle.simd_json_parts.specs.Limits.{max_length};
 ghost use Rattle.simd_json_stages.specs.Blocks.{IsScanned};
 ghost use Rattle.simd_json_stages.specs.Scans.{IsBadEncoding, IsFound, LacksMemory};
 
+mod groups;
 mod windows;
 
 use super::capacity::{grow, put};
 use super::encoding::check_window;
-use super::words::{Carry, block};
+use super::words::{Carry, find_marks, find_parts, sort};
 use super::writing::write_exactly;
 use super::{BLOCK_LEN, Found};
 use simd_json_parts::error::Result;
 use std::alloc::Allocator;
 use windows::{WINDOW, Window, capacity_for, scan_window};
 
-// What is known after some whole blocks. The indexes of the last block's positions, `late`, are still to be
-// written: their number is known early then, where the writing branches on it.
+// What is kept from one block to the next of those that are looked at by themselves.
 #[derive(Clone, Copy, Drop)]
-struct Scanned {
-    carry: Carry,
-    late: u64,
-    // Not 0 where a control byte is inside.
-    bad: u64,
+struct Sorting {
+    // 1 where the next byte is escaped, else 0.
+    escaped: u64,
     // Not 0 where a byte of the last window is no ASCII.
     high: u64,
-    used: usize,
     listed: usize,
 }
 
+// What is kept from one block to the next of those whose positions are written.
+#[derive(Clone, Copy, Drop)]
+struct Placing {
+    carry: Carry,
+    // Not 0 where a control byte is inside.
+    bad: u64,
+    used: usize,
+}
+
+// What is known after some whole blocks.
+#[derive(Clone, Copy, Drop)]
+struct Scanned {
+    sorting: Sorting,
+    placing: Placing,
+}
+
 const START: Scanned = Scanned {
-    carry: Carry {
+    sorting: Sorting {
         escaped: 0,
-        inside: 0,
-        plain: 0,
+        high: 0,
+        listed: 0,
     },
-    late: 0,
-    bad: 0,
-    high: 0,
-    used: 0,
-    listed: 0,
+    placing: Placing {
+        carry: Carry {
+            inside: 0,
+            plain: 0,
+        },
+        bad: 0,
+        used: 0,
+    },
 };
 
 // The whole blocks, and how far the input is known to be UTF-8 after them.
@@ -83,7 +99,7 @@ fn scan_blocks<A: Allocator>(
             escape_blocks.as_mut_slice(),
             done,
         );
-        let is_ascii = done.high == 0;
+        let is_ascii = done.sorting.high == 0;
         checked = check_window(input, checked, BLOCK_LEN * first, BLOCK_LEN * end, is_ascii)?;
         first = end;
     }
@@ -100,7 +116,7 @@ fn last_block(rest: &[u8]) -> [u8; 64]
     block
 }
 
-// What is after the whole blocks, and the indexes that are still to be written.
+// What is after the whole blocks.
 fn scan_rest<A: Allocator>(
     input: &[u8],
     rest: &[u8],
@@ -123,24 +139,24 @@ fn scan_rest<A: Allocator>(
         × (length escape_blocks.old.items ≤ length escape_blocks.new.items) }
 {
     let number = input.len() / BLOCK_LEN;
-    let marks = block(&last_block(rest), done.carry);
-    let is_ascii = marks.high == 0;
+    let sorted = sort(&last_block(rest), done.sorting.escaped);
+    let is_ascii = sorted.high == 0;
     check_window(input, checked, BLOCK_LEN * number, input.len(), is_ascii)?;
-    let written = done.used + done.late.count_ones() as usize;
-    let positions = written + marks.starts.count_ones() as usize;
+    let parts = find_parts(sorted.soft, sorted.hard, sorted.control, sorted.escaped);
+    let marks = find_marks(parts, sorted.control, done.placing.carry);
+    let used = done.placing.used;
+    let positions = used + marks.starts.count_ones() as usize;
     grow(structural_indexes, positions, positions, input.len())?;
-    let late_at = (BLOCK_LEN * number.saturating_sub(1)) as u32;
     let out = structural_indexes.as_mut_slice();
-    write_exactly(out, done.used, late_at, done.late);
-    write_exactly(out, written, (BLOCK_LEN * number) as u32, marks.starts);
-    let mut listed = done.listed;
-    if marks.has_backslash {
+    write_exactly(out, used, (BLOCK_LEN * number) as u32, marks.starts);
+    let mut listed = done.sorting.listed;
+    if sorted.has_backslash {
         let max_blocks = input.len().div_ceil(BLOCK_LEN);
         put(escape_blocks, listed, number as u32, max_blocks)?;
         listed += 1;
     }
     let is_open = marks.carry.inside != 0;
-    let has_control = (done.bad | marks.bad) != 0;
+    let has_control = (done.placing.bad | marks.bad) != 0;
     let found = Found {
         positions,
         escape_blocks: listed,

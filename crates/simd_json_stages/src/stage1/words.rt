@@ -2,7 +2,9 @@
 ghost use Rattle.std.specs.Prelude.{◌≡◌, ◌+◌, ℕ, List, Bool};
 ghost use Rattle.std.specs.Int.{from_bool};
 ghost use Rattle.simd_json_stages.specs.Words.{HasBits, escaped_in, parity};
-ghost use Rattle.simd_json_stages.specs.Blocks.{IsBlock, IsCarried, AreMarks};
+ghost use Rattle.simd_json_stages.specs.Carries.{is_escaped_at};
+ghost use Rattle.simd_json_stages.specs.Blocks.{IsBlock, IsControl, IsCarried, HasClasses};
+ghost use Rattle.simd_json_stages.specs.Blocks.{AreMarks, AreParts, AreSorted};
 
 use super::classes::{backslashes, classes};
 
@@ -14,22 +16,43 @@ struct Escaped {
     next: u64,
 }
 
-// What one block tells the next. `inside` is 0 or all ones, the others 0 or 1.
+// What is found in a block by itself: a bit for each byte of a class, and for each that is escaped. `next` is
+// 1 where the byte after the block is escaped, else 0; `high` is not 0 where a byte is no ASCII.
+#[derive(Clone, Copy, Drop)]
+pub(super) struct Sorted {
+    pub(super) soft: u64,
+    pub(super) hard: u64,
+    pub(super) control: u64,
+    pub(super) escaped: u64,
+    pub(super) next: u64,
+    pub(super) high: u64,
+    pub(super) has_backslash: bool,
+}
+
+// What a block tells before it is known what stands before it: a bit for each byte that goes on with a token
+// wherever it stands, for each whitespace and for each quote that is not escaped, and in `parity` for each
+// byte with an odd number of these quotes up to it.
+#[derive(Clone, Copy, Drop)]
+pub(super) struct Parts {
+    pub(super) parity: u64,
+    pub(super) plain: u64,
+    pub(super) space: u64,
+    pub(super) quote: u64,
+}
+
+// What one block tells the next besides its escape. `inside` is 0 or all ones, `plain` 0 or 1.
 #[derive(Clone, Copy, Drop)]
 pub(super) struct Carry {
-    pub(super) escaped: u64,
     pub(super) inside: u64,
     pub(super) plain: u64,
 }
 
-// What is found in a block: a bit for each position, one for each byte below 0x20 that is inside, whether
-// there is a backslash, and what the next block has to know. `high` is not 0 where a byte is no ASCII.
+// A bit for each position of a block, one for each byte below 0x20 that is inside, and what the next block
+// has to know.
 #[derive(Clone, Copy, Drop)]
 pub(super) struct Marks {
     pub(super) starts: u64,
     pub(super) bad: u64,
-    pub(super) high: u64,
-    pub(super) has_backslash: bool,
     pub(super) carry: Carry,
 }
 
@@ -62,38 +85,65 @@ fn prefix_xor(x: u64) -> u64
     e ^ (e << 32)
 }
 
-// The 64 bytes from an index on, from what is kept before it.
+// The classes of a block, and what is escaped in it. `before` is 1 where its first byte is, else 0.
 #[inline(always)]
-pub(super) fn block(bytes: &[u8; 64], carry: Carry) -> Marks
-    ensures { (b : List ℕ) (i : ℕ) → IsBlock b i bytes.now → IsCarried b i carry → AreMarks b i result }
+pub(super) fn sort(bytes: &[u8; 64], before: u64) -> Sorted
+    ensures { (b : List ℕ) (i : ℕ) → IsBlock b i bytes.now → before ≡ from_bool (is_escaped_at b i)
+        → AreSorted b i result }
 {
     let m = classes(bytes);
-    let quotes = m.soft & m.hard;
-    let op = m.hard & !(m.control | m.soft);
-    // Most blocks hold no backslash. In a function of its own this would let LLVM take words apart, too.
+    // Most blocks hold no backslash.
     let e = if m.has_backslash {
-        find_escaped(backslashes(bytes), carry.escaped)
+        find_escaped(backslashes(bytes), before)
     } else {
         Escaped {
-            escaped: carry.escaped,
+            escaped: before,
             next: 0,
         }
     };
-    // Not `soft & !hard`: LLVM would take that apart, lane by lane.
-    let space = m.soft ^ quotes;
-    let quote = quotes & !e.escaped;
-    let inside = prefix_xor(quote) ^ carry.inside;
-    let plain = !(op | space | quote);
-    let starts = !((plain & ((plain << 1) | carry.plain)) | space | (inside ^ quote));
-    Marks {
-        starts,
-        bad: m.control & inside,
+    Sorted {
+        soft: m.soft,
+        hard: m.hard,
+        control: m.control,
+        escaped: e.escaped,
+        next: e.next,
         high: m.high,
         has_backslash: m.has_backslash,
+    }
+}
+
+// What the words of a block tell by themselves.
+#[inline(always)]
+pub(super) fn find_parts(soft: u64, hard: u64, control: u64, escaped: u64) -> Parts
+    ensures { (b : List ℕ) (i : ℕ) → HasClasses b i soft hard control escaped → AreParts b i result }
+{
+    let quotes = soft & hard;
+    let op = hard & !(control | soft);
+    // Not `soft & !hard`: LLVM would take that apart, lane by lane.
+    let space = soft ^ quotes;
+    let quote = quotes & !escaped;
+    Parts {
+        parity: prefix_xor(quote),
+        plain: !(op | space | quote),
+        space,
+        quote,
+    }
+}
+
+// The positions of a block, from what stands before it.
+#[inline(always)]
+pub(super) fn find_marks(parts: Parts, control: u64, carry: Carry) -> Marks
+    ensures { (b : List ℕ) (i : ℕ) → AreParts b i parts → IsControl b i control → IsCarried b i carry
+        → AreMarks b i result }
+{
+    let inside = parts.parity ^ carry.inside;
+    let follows = (parts.plain << 1) | carry.plain;
+    Marks {
+        starts: !((parts.plain & follows) | parts.space | (inside ^ parts.quote)),
+        bad: control & inside,
         carry: Carry {
-            escaped: e.next,
             inside: 0u64.wrapping_sub(inside >> 63),
-            plain: plain >> 63,
+            plain: parts.plain >> 63,
         },
     }
 }

@@ -1,5 +1,7 @@
 // The indexes of a block's positions, from the word of their bits to the list.
-ghost use Rattle.std.specs.Prelude.{◌≡◌, ◌+◌, ◌^◌, ◌<◌, ◌≤◌, ◌++◌, ℕ, List, length, take};
+ghost use Rattle.std.specs.Prelude.{◌≡◌, ◌+◌, ◌^◌, ◌<◌, ◌≤◌, ◌++◌, [], ◌∷◌, ℕ, List, length, take};
+ghost use Rattle.std.specs.Prelude.{if◌then◌else◌};
+ghost use Rattle.std.specs.Int.{from_bool};
 ghost use Rattle.std.specs.Int.RustNames.{count_ones};
 ghost use Rattle.simd_json_stages.specs.Words.{set_bits};
 ghost use Rattle.simd_json_stages.specs.Stored.{IsStored};
@@ -77,4 +79,20 @@ pub(super) fn write_exactly(out: &mut [u32], used: usize, base: u32, bits: u64) 
         end += 1;
     }
     end
+}
+
+// Writes the number of a block that holds a backslash after those that are in use, and nothing for another.
+// Answers how many are in use then.
+#[inline(always)]
+pub(super) fn list_block(listed: &mut [u32], used: usize, number: u32, has_backslash: bool) -> usize
+    requires capacity { used < length listed.old }
+    ensures listed { take result listed.new
+        ≡ (if has_backslash then take used listed.old ++ number ∷ [] else take used listed.old) }
+    ensures count { result ≡ used + from_bool has_backslash }
+{
+    if has_backslash {
+        listed[used] = number;
+        return used + 1;
+    }
+    used
 }

@@ -5,54 +5,57 @@ ghost use Rattle.simd_json_stages.specs.Members.{AtFirst};
 ghost use Rattle.simd_json_stages.specs.Progresses.{EndsClosed, IsWithin, Advances};
 
 use super::fault::{Fault, FaultKind};
+use super::machine::Machine;
 use super::tokens::next_token;
-use super::unread::Unread;
-use super::{Container, Progress, StackState, Value};
+use super::{Container, Progress, Route, StackState, Value};
 use simd_json_parts::node::Node;
 
-// The container that opens at the last token: the token after it tells whether it is empty.
-#[inline(always)]
-#[tactic(auto, unfolding(crate::specs::NodesEnough::nodes_enough))]
-pub(super) fn open<'de>(
-    unread: &Unread<'de>,
-    indexes: &[u32],
-    stack: &mut [StackState],
-    nodes: &mut [Node<'de>],
-    p: Progress,
-    container: Container,
-    max_depth: usize,
-    closed: bool,
-) -> std::result::Result<Value, Fault>
-    ghost b: { List ℕ }
-    requires closed { IsTrue closed → EndsClosed b indexes.now }
-    requires value { AtFirst b indexes.now max_depth unread.now stack.old nodes.old p }
-    requires opener { p.byte + 2 ≡ closer container }
-    ensures kept { (length nodes.new ≡ length nodes.old) × (length stack.new ≡ length stack.old) }
-    ensures progress { IfOk result (IsWithin b indexes.now unread.now) }
-    ensures advances { IfOk result (Advances max_depth p) }
-    ensures step { IfOk result (Opens b indexes.now max_depth stack.new nodes.new) }
-    ensures refused { IfErr result (Tells b indexes.now max_depth) }
-{
-    if p.depth == max_depth {
-        return Err(p.fault(FaultKind::DepthLimitExceeded));
+impl<'de> Machine<'_, 'de> {
+    // The container that opens at the last token: the token after it tells whether it is empty.
+    #[inline(always)]
+    #[tactic(auto, unfolding(crate::specs::NodesEnough::nodes_enough))]
+    pub(super) fn open(
+        &mut self,
+        route: Route,
+        nodes: &mut [Node<'de>],
+        p: Progress,
+        container: Container,
+        closed: bool,
+    ) -> std::result::Result<Value, Fault>
+        ghost b: { List ℕ }
+        requires closed { IsTrue closed → EndsClosed b route.indexes.now }
+        requires value { AtFirst b route.indexes.now route.max_depth self.old nodes.old p }
+        requires opener { p.byte + 2 ≡ closer container }
+        ensures kept { (length nodes.new ≡ length nodes.old)
+            × (length self.new.stack.now ≡ length self.old.stack.now) }
+        ensures text { self.new.text ≡ self.old.text }
+        ensures progress { IfOk result (IsWithin b route.entry.indexes.now self.new.text.unread) }
+        ensures advances { IfOk result (Advances route.entry.max_depth p) }
+        ensures step { IfOk result
+            (Opens b route.entry.indexes.now route.entry.max_depth self.new.stack.now nodes.new) }
+        ensures refused { IfErr result (Tells b route.entry.indexes.now route.entry.max_depth) }
+    {
+        if p.depth == route.max_depth {
+            return Err(p.fault(FaultKind::DepthLimitExceeded));
+        }
+        let q = next_token(&self.text.unread, route.indexes, p, closed)?;
+        if q.byte == container.closer() {
+            nodes[p.used] = container.header(0, 0);
+            return Ok(Value::Read(q.with_value()));
+        }
+        self.stack[p.depth] = StackState {
+            header: p.used,
+            outer: p.container,
+            len: p.len,
+        };
+        Ok(Value::Opened(Progress {
+            used: p.used + 1,
+            depth: p.depth + 1,
+            container,
+            len: 0,
+            ..q
+        }))
     }
-    let q = next_token(unread, indexes, p, closed)?;
-    if q.byte == container.closer() {
-        nodes[p.used] = container.header(0, 0);
-        return Ok(Value::Read(q.with_value()));
-    }
-    stack[p.depth] = StackState {
-        header: p.used,
-        outer: p.container,
-        len: p.len,
-    };
-    Ok(Value::Opened(Progress {
-        used: p.used + 1,
-        depth: p.depth + 1,
-        container,
-        len: 0,
-        ..q
-    }))
 }
 
 // The innermost container is closed at the last token: its header is patched, and it is one more member of

@@ -1,5 +1,6 @@
 //! Scalars that are no strings.
-ghost use Rattle.std.specs.Prelude.{◌≡◌, ◌≢◌, ◌<◌, ◌≤◌, ◌+◌, ◌^◌, ◌==◌, ◌&&◌, ◌||◌, ℕ, List, length, drop, nat_eq, codes};
+ghost use Rattle.std.specs.Prelude.{◌≡◌, ◌≢◌, ◌<◌, ◌≤◌, ◌+◌, ◌^◌, ◌==◌, ◌&&◌, ◌||◌, ℕ, List, length, drop};
+ghost use Rattle.std.specs.Prelude.{nat_eq, codes};
 ghost use Rattle.std.specs.Char.{is_ascii_digit};
 ghost use Rattle.std.specs.List.{starts_with};
 ghost use Rattle.simd_json_parts.specs.Bytes.{is_terminator, byte_at};
@@ -16,8 +17,8 @@ use simd_json_parts::numberparse::{Numeral, is_integer, parse_numeral};
 #[cfg(test)]
 mod tests;
 
-// A scalar that is no string: a node, the length of a decimal's literal, how far after its first byte a number is
-// refused, or no value of these kinds.
+// A scalar that is no string: a node, the length of a decimal's literal, how far after its first byte a number
+// is refused, or no value of these kinds.
 #[derive(Clone, Copy, Debug, Drop)]
 pub(crate) enum Scalar {
     Value(StaticNode),
@@ -85,7 +86,8 @@ fn number_or_refused(rest: &[u8], c: u8) -> Scalar
 #[cold]
 pub(crate) fn refuse(rest: &[u8], at: usize, c: u8, scalar: Scalar) -> Fault
     requires { at + length rest.now < 2 ^ 64 }
-    ensures { (b : List ℕ) → drop at b ≡ rest.now → offset_of scalar ≤ length rest.now → result ≡ refusal b at c scalar }
+    ensures { (b : List ℕ) → drop at b ≡ rest.now → offset_of scalar ≤ length rest.now
+        → result ≡ refusal b at c scalar }
 {
     match scalar {
         Scalar::Invalid(offset) => invalid_number(rest, at, offset),
@@ -118,7 +120,8 @@ fn no_atom(c: u8) -> FaultKind
 #[cold]
 fn invalid_number(rest: &[u8], at: usize, offset: usize) -> Fault
     requires { at + length rest.now < 2 ^ 64 }
-    ensures { (b : List ℕ) → drop at b ≡ rest.now → offset ≤ length rest.now → result ≡ number_refusal b (at + offset) }
+    ensures { (b : List ℕ) → drop at b ≡ rest.now → offset ≤ length rest.now
+        → result ≡ number_refusal b (at + offset) }
 {
     let offset = offset.min(rest.len());
     Fault {
@@ -139,7 +142,8 @@ fn begins_number(c: u8) -> bool
 // The number at the front of what is left.
 #[inline(always)]
 fn read_number(rest: &[u8]) -> Scalar
-    ensures { (b : List ℕ) (i : ℕ) → drop i b ≡ rest.now → form_at b i ≡ scalar (number_at b i) → IsScalarAt b i result }
+    ensures { (b : List ℕ) (i : ℕ) → drop i b ≡ rest.now → form_at b i ≡ scalar (number_at b i)
+        → IsScalarAt b i result }
 {
     let numeral = parse_numeral(rest);
     if let Numeral::Integer(magnitude) = numeral {

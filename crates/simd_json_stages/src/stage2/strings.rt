@@ -12,10 +12,8 @@ ghost use Rattle.simd_json_stages.specs.Progresses.{EndsClosed, IsRead, IsUnread
 ghost use Rattle.simd_json_stages.specs.Put.{IsStringPut, IsBadString};
 ghost use Rattle.simd_json_stages.specs.Refusals.{error_type};
 
-use super::Progress;
-use super::escapes::Escapes;
 use super::fault::{Fault, FaultKind};
-use super::unread::Unread;
+use super::{Progress, Text};
 use simd_json_parts::node::Node;
 use simd_json_parts::stringparse::BadEscape;
 
@@ -51,39 +49,40 @@ fn bad_escape(at: usize, bad: BadEscape) -> Fault
     }
 }
 
-// The string at the last token becomes the next node. It ends before the next position.
-#[inline(always)]
-pub(super) fn put_string<'de>(
-    unread: &mut Unread<'de>,
-    escapes: &mut Escapes,
-    indexes: &[u32],
-    nodes: &mut [Node<'de>],
-    p: Progress,
-    closed: bool,
-) -> std::result::Result<(), Fault>
-    ghost b: { List ℕ }
-    requires closed { IsTrue closed → EndsClosed b indexes.now }
-    requires input { (indexes.now ≡ positions b) × (input_fault b ≡ None) }
-    requires unread { IsUnread b unread.old p.at }
-    requires escapes { AreAhead b escapes.old p.at }
-    requires read { IsRead b indexes.now p }
-    requires token { Contains (tokens b) (record { index = p.at; form = form_at b p.at }) }
-    requires string { p.byte ≡ quote }
-    requires capacity { p.used < length nodes.old }
-    ensures kept { length nodes.new ≡ length nodes.old }
-    ensures escapes { AreAhead b escapes.new p.at }
-    ensures put { OnOk result (IsStringPut b p.at p.used nodes.old nodes.new unread.new) }
-    ensures refused { IfErr result (IsBadString b p.at) }
-{
-    let next = position_or_end(indexes, p.read, unread.end(), closed);
-    let may_have_escape = escapes.may_lie_between(p.at, next);
-    if !may_have_escape && unread.byte(next - 1) == b'"' {
-        nodes[p.used] = Node::String(unread.share_string(p.at, next - 1));
-        return Ok(());
+impl<'de> Text<'_, 'de> {
+    // The string at the last token becomes the next node. It ends before the next position.
+    #[inline(always)]
+    pub(super) fn put_string(
+        &mut self,
+        indexes: &[u32],
+        nodes: &mut [Node<'de>],
+        p: Progress,
+        closed: bool,
+    ) -> std::result::Result<(), Fault>
+        ghost b: { List ℕ }
+        requires closed { IsTrue closed → EndsClosed b indexes.now }
+        requires input { (indexes.now ≡ positions b) × (input_fault b ≡ None) }
+        requires unread { IsUnread b self.old.unread p.at }
+        requires escapes { AreAhead b self.old.escapes p.at }
+        requires read { IsRead b indexes.now p }
+        requires token { Contains (tokens b) (record { index = p.at; form = form_at b p.at }) }
+        requires string { p.byte ≡ quote }
+        requires capacity { p.used < length nodes.old }
+        ensures kept { length nodes.new ≡ length nodes.old }
+        ensures escapes { AreAhead b self.new.escapes p.at }
+        ensures put { OnOk result (IsStringPut b p.at p.used nodes.old nodes.new self.new.unread) }
+        ensures refused { IfErr result (IsBadString b p.at) }
+    {
+        let next = position_or_end(indexes, p.read, self.unread.end(), closed);
+        let may_have_escape = self.escapes.may_lie_between(p.at, next);
+        if !may_have_escape && self.unread.byte(next - 1) == b'"' {
+            nodes[p.used] = Node::String(self.unread.share_string(p.at, next - 1));
+            return Ok(());
+        }
+        match self.unread.parse_string(p.at) {
+            Ok(string) => nodes[p.used] = Node::String(string),
+            Err(bad) => return Err(bad_escape(p.at, bad)),
+        }
+        Ok(())
     }
-    match unread.parse_string(p.at) {
-        Ok(string) => nodes[p.used] = Node::String(string),
-        Err(bad) => return Err(bad_escape(p.at, bad)),
-    }
-    Ok(())
 }

@@ -6,82 +6,73 @@ ghost use Rattle.simd_json_stages.specs.Members.{AfterLast, AfterMember};
 
 use super::containers::close;
 use super::fault::{Fault, FaultKind};
+use super::machine::Machine;
 use super::tokens::next_token;
-use super::unread::Unread;
-use super::{Container, Follower, Progress, StackState, Turn};
+use super::{Container, Follower, Progress, Route, Turn};
 use simd_json_parts::node::Node;
 
-// After a member of a container of this kind: a comma and the first token of the next member, or the closing
-// bracket.
-#[inline(always)]
-#[tactic(auto, unfolding(crate::specs::NodesEnough::nodes_enough))]
-pub(super) fn after_member<'de>(
-    unread: &Unread<'de>,
-    indexes: &[u32],
-    stack: &[StackState],
-    nodes: &mut [Node<'de>],
-    p: Progress,
-    container: Container,
-    max_depth: usize,
-    closed: bool,
-) -> std::result::Result<Turn, Fault>
-    ghost b: { List ℕ }
-    requires member { AfterMember b indexes.now max_depth unread.now stack.now nodes.old p container }
-    requires closed { IsTrue closed → EndsClosed b indexes.now }
-    ensures kept { length nodes.new ≡ length nodes.old }
-    ensures progress { IfOk result (IsTurned b indexes.now unread.now) }
-    ensures advances { IfOk result (Turns p) }
-    ensures step { IfOk result (Takes b indexes.now max_depth stack.now nodes.new) }
-    ensures refused { IfErr result (Tells b indexes.now max_depth) }
-{
-    let q = next_token(unread, indexes, p, closed)?;
-    if q.byte == b',' {
-        return Ok(Turn::Next(next_token(unread, indexes, q, closed)?));
-    }
-    if q.byte != container.closer() {
-        return Err(q.fault(container.content_kind()));
-    }
-    Ok(Turn::Closed(close(stack, nodes, q, container)))
-}
-
-// After a value: closing brackets, and then a comma with the next member, or the end of the root.
-#[inline(always)]
-#[tactic(auto, unfolding(crate::specs::NodesEnough::nodes_enough))]
-pub(super) fn follow<'de>(
-    unread: &Unread<'de>,
-    indexes: &[u32],
-    stack: &[StackState],
-    nodes: &mut [Node<'de>],
-    p: Progress,
-    max_depth: usize,
-    closed: bool,
-) -> std::result::Result<Follower, Fault>
-    ghost b: { List ℕ }
-    requires closed { IsTrue closed → EndsClosed b indexes.now }
-    requires value { AfterLast b indexes.now max_depth unread.now stack.now nodes.old p }
-    ensures kept { length nodes.new ≡ length nodes.old }
-    ensures progress { IfOk result (IsAhead b indexes.now unread.now) }
-    ensures passes { IfOk result (Passes p) }
-    ensures step { IfOk result (Goes b indexes.now max_depth stack.now nodes.new) }
-    ensures refused { IfErr result (Tells b indexes.now max_depth) }
-{
-    let mut p = p;
-    while p.depth > 0 {
-        match after_member(
-            unread,
-            indexes,
-            stack,
-            nodes,
-            p,
-            p.container,
-            max_depth,
-            closed,
-        )? {
-            Turn::Next(next) => return Ok(Follower::Next(next)),
-            Turn::Closed(closed) => p = closed,
+impl<'de> Machine<'_, 'de> {
+    // After a member of a container of this kind: a comma and the first token of the next member, or the
+    // closing bracket.
+    #[inline(always)]
+    #[tactic(auto, unfolding(crate::specs::NodesEnough::nodes_enough))]
+    pub(super) fn after_member(
+        &self,
+        route: Route,
+        nodes: &mut [Node<'de>],
+        p: Progress,
+        container: Container,
+        closed: bool,
+    ) -> std::result::Result<Turn, Fault>
+        ghost b: { List ℕ }
+        requires member { AfterMember b route.indexes.now route.max_depth self.now nodes.old p container }
+        requires closed { IsTrue closed → EndsClosed b route.indexes.now }
+        ensures kept { length nodes.new ≡ length nodes.old }
+        ensures progress { IfOk result (IsTurned b route.entry.indexes.now self.now.text.unread) }
+        ensures advances { IfOk result (Turns p) }
+        ensures step { IfOk result
+            (Takes b route.entry.indexes.now route.entry.max_depth self.now.stack.now nodes.new) }
+        ensures refused { IfErr result (Tells b route.entry.indexes.now route.entry.max_depth) }
+    {
+        let q = next_token(&self.text.unread, route.indexes, p, closed)?;
+        if q.byte == b',' {
+            return Ok(Turn::Next(next_token(&self.text.unread, route.indexes, q, closed)?));
         }
+        if q.byte != container.closer() {
+            return Err(q.fault(container.content_kind()));
+        }
+        Ok(Turn::Closed(close(self.stack, nodes, q, container)))
     }
-    end(indexes, nodes[0], p)
+
+    // After a value: closing brackets, and then a comma with the next member, or the end of the root.
+    #[inline(always)]
+    #[tactic(auto, unfolding(crate::specs::NodesEnough::nodes_enough))]
+    pub(super) fn follow(
+        &self,
+        route: Route,
+        nodes: &mut [Node<'de>],
+        p: Progress,
+        closed: bool,
+    ) -> std::result::Result<Follower, Fault>
+        ghost b: { List ℕ }
+        requires closed { IsTrue closed → EndsClosed b route.indexes.now }
+        requires value { AfterLast b route.indexes.now route.max_depth self.now nodes.old p }
+        ensures kept { length nodes.new ≡ length nodes.old }
+        ensures progress { IfOk result (IsAhead b route.entry.indexes.now self.now.text.unread) }
+        ensures passes { IfOk result (Passes p) }
+        ensures step { IfOk result
+            (Goes b route.entry.indexes.now route.entry.max_depth self.now.stack.now nodes.new) }
+        ensures refused { IfErr result (Tells b route.entry.indexes.now route.entry.max_depth) }
+    {
+        let mut p = p;
+        while p.depth > 0 {
+            match self.after_member(route, nodes, p, p.container, closed)? {
+                Turn::Next(next) => return Ok(Follower::Next(next)),
+                Turn::Closed(closed) => p = closed,
+            }
+        }
+        end(route.indexes, nodes[0], p)
+    }
 }
 
 // After the root, whose first node is given: no token may stand there.

@@ -8,13 +8,11 @@ ghost use Rattle.simd_json_stages.specs.Members.{AtFirst};
 ghost use Rattle.simd_json_stages.specs.Progresses.{EndsClosed, IsUnread, IsWithin, Advances};
 ghost use Rattle.simd_json_stages.specs.Put.{IsScalarPut, IsNoScalar};
 
-use super::containers::open;
-use super::escapes::Escapes;
 use super::fault::Fault;
+use super::machine::Machine;
 use super::scalar::{Scalar, read_scalar, refuse};
-use super::strings::put_string;
 use super::unread::Unread;
-use super::{Container, Progress, StackState, Value};
+use super::{Container, Progress, Route, Value};
 use simd_json_parts::node::Node;
 
 // The scalar at the last token, which is no string.
@@ -41,58 +39,40 @@ fn put_scalar<'de>(
     Ok(())
 }
 
-// The value whose first token is the last one.
-#[inline(always)]
-pub(super) fn read_value<'de>(
-    unread: &mut Unread<'de>,
-    escapes: &mut Escapes,
-    indexes: &[u32],
-    stack: &mut [StackState],
-    nodes: &mut [Node<'de>],
-    p: Progress,
-    max_depth: usize,
-    closed: bool,
-) -> std::result::Result<Value, Fault>
-    ghost b: { List ℕ }
-    requires closed { IsTrue closed → EndsClosed b indexes.now }
-    requires whole { input_fault b ≡ None }
-    requires value { AtFirst b indexes.now max_depth unread.old stack.old nodes.old p }
-    requires escapes { AreAhead b escapes.old p.at }
-    ensures kept { (length nodes.new ≡ length nodes.old) × (length stack.new ≡ length stack.old) }
-    ensures escapes { AreAhead b escapes.new p.at }
-    ensures progress { IfOk result (IsWithin b indexes.now unread.new) }
-    ensures advances { IfOk result (Advances max_depth p) }
-    ensures step { IfOk result (Opens b indexes.now max_depth stack.new nodes.new) }
-    ensures refused { IfErr result (Tells b indexes.now max_depth) }
-{
-    if p.byte == b'{' {
-        return open(
-            unread,
-            indexes,
-            stack,
-            nodes,
-            p,
-            Container::Object,
-            max_depth,
-            closed,
-        );
+impl<'de> Machine<'_, 'de> {
+    // The value whose first token is the last one.
+    #[inline(always)]
+    pub(super) fn read_value(
+        &mut self,
+        route: Route,
+        nodes: &mut [Node<'de>],
+        p: Progress,
+        closed: bool,
+    ) -> std::result::Result<Value, Fault>
+        ghost b: { List ℕ }
+        requires closed { IsTrue closed → EndsClosed b route.indexes.now }
+        requires whole { input_fault b ≡ None }
+        requires value { AtFirst b route.indexes.now route.max_depth self.old nodes.old p }
+        ensures kept { (length nodes.new ≡ length nodes.old)
+            × (length self.new.stack.now ≡ length self.old.stack.now) }
+        ensures escapes { AreAhead b self.new.text.escapes p.at }
+        ensures progress { IfOk result (IsWithin b route.entry.indexes.now self.new.text.unread) }
+        ensures advances { IfOk result (Advances route.entry.max_depth p) }
+        ensures step { IfOk result
+            (Opens b route.entry.indexes.now route.entry.max_depth self.new.stack.now nodes.new) }
+        ensures refused { IfErr result (Tells b route.entry.indexes.now route.entry.max_depth) }
+    {
+        if p.byte == b'{' {
+            return self.open(route, nodes, p, Container::Object, closed);
+        }
+        if p.byte == b'[' {
+            return self.open(route, nodes, p, Container::Array, closed);
+        }
+        if p.byte == b'"' {
+            self.text.put_string(route.indexes, nodes, p, closed)?;
+        } else {
+            put_scalar(&mut self.text.unread, nodes, p)?;
+        }
+        Ok(Value::Read(p.with_value()))
     }
-    if p.byte == b'[' {
-        return open(
-            unread,
-            indexes,
-            stack,
-            nodes,
-            p,
-            Container::Array,
-            max_depth,
-            closed,
-        );
-    }
-    if p.byte == b'"' {
-        put_string(unread, escapes, indexes, nodes, p, closed)?;
-    } else {
-        put_scalar(unread, nodes, p)?;
-    }
-    Ok(Value::Read(p.with_value()))
 }

@@ -16,7 +16,8 @@ mod first_call {
 mod service {
     use simd_json::{Buffers, Result, Tape, fill_tape};
 
-    // Reads a log of one document a line, each of at most 4,096 bytes, and returns how many nodes they have in all.
+    // Reads a log of one document a line, each of at most 4,096 bytes, and returns how many nodes they have
+    // in all.
     pub(super) fn read_log(rt: &HostRuntime, log: &mut [u8]) -> Result<usize> {
         let mut buffers = Buffers::new(rt.alloc(), 0)?;
         let mut tape = Tape::null(rt.alloc())?;

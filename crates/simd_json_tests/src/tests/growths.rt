@@ -39,8 +39,8 @@ fn call(number: u32, heap: &LocalHeap, input: &mut [u8]) -> Result<usize> {
     }
 }
 
-// Each heap leaves more free memory than the one before it, so that another growth is refused, and then none. Where one
-// is, the answer is `OutOfMemory`; with memory the same call gives the usual answer.
+// Each heap leaves more free memory than the one before it, so that another growth is refused, and then none.
+// Where one is, the answer is `OutOfMemory`; with memory the same call gives the usual answer.
 fn refuses_growths(rt: &(impl AllocGlobal + Abort), input: &[u8]) -> Tested {
     for number in 0..7 {
         let (mut refused, mut filled) = (0u32, 0u32);
@@ -107,8 +107,8 @@ fn parse<'de, A: Allocator + Copy, B: Allocator>(
     Ok(tape.nodes().len())
 }
 
-// A parse after another one, with so many bytes left in the heap; whether a growth was refused. Where one was, nothing is
-// listed, and the tape is empty. The same buffers and tape serve once there is memory.
+// A parse after another one, with so many bytes left in the heap; whether a growth was refused. Where one
+// was, nothing is listed, and the tape is empty. The same buffers and tape serve once there is memory.
 fn is_refused(
     rt: &(impl AllocGlobal + Abort),
     form: u32,

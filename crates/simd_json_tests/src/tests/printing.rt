@@ -66,8 +66,8 @@ fn printed_values_are_parsed_again(rt: HostRuntime) -> Tested {
     Ok(())
 }
 
-// Each row is a layout and the text in it. Each heap is larger than the one before, so that another growth of the text is
-// refused, and then none.
+// Each row is a layout and the text in it. Each heap is larger than the one before, so that another growth of
+// the text is refused, and then none.
 #[test]
 fn each_growth_is_refused(rt: HostRuntime) -> Tested {
     let mut input = *b"[\"0123456789012345678901234567890123456789\",[[[1,2,3,4,5,6,7,8]]]]";
@@ -78,7 +78,8 @@ fn each_growth_is_refused(rt: HostRuntime) -> Tested {
         ),
         (
             true,
-            "[\n  \"0123456789012345678901234567890123456789\",\n  [\n    [\n      [\n        1,\n        2,\n        3,\n        4,\n        5,\n        6,\n        7,\n        8\n      ]\n    ]\n  ]\n]",
+            "[\n  \"0123456789012345678901234567890123456789\",\n  [\n    [\n      [\n        1,\n        2,\n\
+            \x20       3,\n        4,\n        5,\n        6,\n        7,\n        8\n      ]\n    ]\n  ]\n]",
         ),
     ];
     let tape = to_tape(rt.alloc(), &mut input)?;
@@ -132,29 +133,39 @@ impl Write for Full {
     }
 }
 
-// The text has 13 bytes. A writer that takes fewer in all ends it with an error, and took a prefix.
+// Each row is a layout and the text in it. A writer that takes fewer bytes in all ends the text with an
+// error, and took a prefix.
 #[test]
 fn failing_writers_end_a_text(rt: HostRuntime) -> Tested {
     let mut input = *b"{\"a\":[1,\"x\"]}";
-    let text = input;
     let tape = to_tape(rt.alloc(), &mut input)?;
-    for calls in 0..32usize {
-        let (capacity, fails) = (calls / 2, calls % 2 == 0);
-        let mut writer = Full {
-            taken: Vec::new(rt.alloc()),
-            capacity,
-            fails,
-        };
-        let kind = tape.as_value().write(&mut writer).err().map(|e| e.kind());
-        let wanted = if capacity >= 13 {
-            None
-        } else if fails {
-            Some(ErrorKind::Interrupted)
-        } else {
-            Some(ErrorKind::WriteZero)
-        };
-        assert_eq!(rt; kind, wanted, "{capacity}");
-        assert_eq!(rt; writer.taken.as_slice(), &text[..capacity.min(13)]);
+    let rows: [(bool, &[u8]); 2] = [
+        (false, b"{\"a\":[1,\"x\"]}"),
+        (true, b"{\n  \"a\": [\n    1,\n    \"x\"\n  ]\n}"),
+    ];
+    for (is_pretty, text) in rows {
+        for calls in 0..80usize {
+            let (capacity, fails) = (calls / 2, calls % 2 == 0);
+            let mut writer = Full {
+                taken: Vec::new(rt.alloc()),
+                capacity,
+                fails,
+            };
+            let written = if is_pretty {
+                tape.as_value().write_pp(&mut writer)
+            } else {
+                tape.as_value().write(&mut writer)
+            };
+            let wanted = if capacity >= text.len() {
+                None
+            } else if fails {
+                Some(ErrorKind::Interrupted)
+            } else {
+                Some(ErrorKind::WriteZero)
+            };
+            assert_eq!(rt; written.err().map(|e| e.kind()), wanted, "{capacity}");
+            assert_eq!(rt; writer.taken.as_slice(), &text[..capacity.min(text.len())]);
+        }
     }
     Ok(())
 }

@@ -59,8 +59,8 @@ fn positions_are_listed(rt: HostRuntime) -> Tested {
     Ok(())
 }
 
-// What buffers and tape held does not matter: whatever was read before, each input has its own answer, its own nodes and
-// its own positions.
+// What buffers and tape held does not matter: whatever was read before, each input has its own answer, its
+// own nodes and its own positions.
 #[test]
 fn each_answer_is_this_inputs(rt: HostRuntime) -> Tested {
     let odd = text(rt.alloc(), b"\"", b'\\', 65, b"\"")?;

@@ -31,7 +31,8 @@ fn is_backslashes(node: Option<&Node<'_>>, len: usize) -> bool {
     matches!(node, Some(Node::String(s)) if s.len() == len && s.bytes().all(|b| b == b'\\'))
 }
 
-// An even run of backslashes is a string of half as many, an odd one leaves the string open, wherever blocks end.
+// An even run of backslashes is a string of half as many, an odd one leaves the string open, wherever blocks
+// end.
 #[test]
 fn backslashes_in_a_string_are_counted(rt: HostRuntime) -> Tested {
     let mut kept = Buffers::new(rt.alloc(), 0)?;

@@ -1,7 +1,8 @@
 //! Bytes that are stored in a list, and tested on the way.
-ghost use Rattle.std.specs.Prelude.{◌≡◌, ◌+◌, ◌≤◌, ◌++◌, flat_map, length, take, drop, IsTrue};
+ghost use Rattle.std.specs.Prelude.{◌≡◌, ◌+◌, ◌≤◌, ◌++◌, flat_map, length, map, take, drop, IsTrue};
+ghost use Rattle.std.specs.Simd.Lanes.{mask_l};
 ghost use Rattle.simd_json_parts.specs.Printed.{escaped_byte};
-ghost use Rattle.simd_json_print.specs.Unescaped.{AreUnescaped};
+ghost use Rattle.simd_json_print.specs.Unescaped.{AreUnescaped, needs_escape};
 
 use std::simd::prelude::*;
 
@@ -99,7 +100,7 @@ fn store_ends<const N: usize>(all: &mut [u8], at: usize, bytes: &[u8]) -> bool
 
 // N bytes from an index on. Whether none of them is to be escaped.
 #[inline(always)]
-pub(super) fn store<const N: usize>(all: &mut [u8], at: usize, bytes: &[u8], from: usize) -> bool
+fn store<const N: usize>(all: &mut [u8], at: usize, bytes: &[u8], from: usize) -> bool
     requires few { N ≤ 64 }
     requires some { from + N ≤ length bytes.now }
     requires room { at + N ≤ length all.old }
@@ -107,10 +108,28 @@ pub(super) fn store<const N: usize>(all: &mut [u8], at: usize, bytes: &[u8], fro
     ensures size { length all.new ≡ length all.old }
     ensures plain { IsTrue result → AreUnescaped bytes.now from (from + N) }
 {
+    store_marked::<N>(all, at, bytes, from) == 0
+}
+
+// The same, and a bit for each of them, whether it is to be escaped.
+#[inline(always)]
+pub(super) fn store_marked<const N: usize>(
+    all: &mut [u8],
+    at: usize,
+    bytes: &[u8],
+    from: usize,
+) -> u64
+    requires few { N ≤ 64 }
+    requires some { from + N ≤ length bytes.now }
+    requires room { at + N ≤ length all.old }
+    ensures stored { take (at + N) all.new ≡ take at all.old ++ take N (drop from bytes.now) }
+    ensures size { length all.new ≡ length all.old }
+    ensures escapes { result ≡ mask_l (map needs_escape (take N (drop from bytes.now))) }
+{
     let vector = Simd::<u8, N>::from_slice(&bytes[from..]);
     vector.copy_to_slice(&mut all[at..]);
-    let escaped = vector.simd_eq(Simd::<u8, N>::splat(b'"'))
+    let escapes = vector.simd_eq(Simd::<u8, N>::splat(b'"'))
         | vector.simd_eq(Simd::<u8, N>::splat(b'\\'))
         | vector.simd_lt(Simd::<u8, N>::splat(0x20));
-    escaped.to_bitmask() == 0
+    escapes.to_bitmask()
 }

@@ -87,11 +87,11 @@ fn texts_are_whole_wherever_they_are_cut(rt: HostRuntime) -> std::result::Result
     Ok(())
 }
 
-// A string of each length up to 40, with a quote at each of its places and at none, between what stands
+// A string of each length up to 100, with a quote at each of its places and at none, between what stands
 // around it.
 #[test]
 fn strings_stand_between_what_is_around_them(rt: HostRuntime) -> std::result::Result<(), Fail> {
-    for len in 0..40usize {
+    for len in 0..100usize {
         for at in 0..=len {
             let mut string = String::new(rt.alloc());
             let mut wanted = Vec::from_slice(rt.alloc(), b"{\"")?;
@@ -108,4 +108,39 @@ fn strings_stand_between_what_is_around_them(rt: HostRuntime) -> std::result::Re
         }
     }
     Ok(())
+}
+
+// Fails at its first call, and would take all at the next one.
+#[derive(Drop)]
+struct Once {
+    calls: usize,
+}
+
+impl Write for Once {
+    fn write(&mut self, buf: &[u8]) -> io::Result<usize> {
+        self.calls = self.calls.saturating_add(1);
+        if self.calls == 1 {
+            return Err(io::Error::from(ErrorKind::Interrupted));
+        }
+        Ok(buf.len())
+    }
+
+    fn flush(&mut self) -> io::Result<()> {
+        Ok(())
+    }
+}
+
+#[test]
+fn a_writer_that_fails_at_the_end_is_called_no_more(rt: HostRuntime) {
+    let mut writer = Once { calls: 0 };
+    let mut sink = Writing::<16>::new();
+    for _ in 0..3 {
+        sink.put(&mut writer, b"few");
+        let fault = sink.finish(&mut writer).err();
+        assert_eq!(rt;
+            fault.map(|fault| fault.kind()),
+            Some(ErrorKind::Interrupted)
+        );
+    }
+    assert_eq!(rt; writer.calls, 1);
 }

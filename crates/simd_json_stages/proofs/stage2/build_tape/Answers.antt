@@ -35,7 +35,7 @@ build_by_end-requires c =
     let same = ap (λ (u : Left). u.bytes) c.new-unread.ensures in
     let byte = get_or_default c.args.input.now _ 0 32 (last c.args.input.now c.args.structural_indexes.now c.requires.positions c.requires.whole) in (
       λ t. subst (λ b. EndsClosed b c.args.structural_indexes.now) (sym same) (subst (λ x. (x ≡ 93) ⊎ (x ≡ 125)) byte (c.closes.ensures t)),
-      at-first c.args.input.now c.args.structural_indexes.now c.new-unread.result c.new-escapes.result c.args.stack.now c.args.nodes.now c.args.max_depth c.byte.result c.new-unread.ensures (record { positions = c.requires.positions; node_capacity = c.requires.nodes; frame_capacity = c.requires.stack }) c.requires.whole (some-listed c.args.input.now c.args.structural_indexes.now c.requires.positions c.requires.whole)
+      at-first c.args.input.now c.args.structural_indexes.now _ c.args.nodes.now c.args.max_depth c.byte.result c.new-unread.ensures (record { positions = c.requires.positions; node_capacity = c.requires.nodes; frame_capacity = c.requires.stack }) c.requires.whole (some-listed c.args.input.now c.args.structural_indexes.now c.requires.positions c.requires.whole)
           (c.new-escapes.ensures c.args.input.now c.requires.escapes) c.byte.ensures,
     )
 

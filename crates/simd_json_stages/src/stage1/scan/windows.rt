@@ -5,12 +5,13 @@ ghost use Rattle.simd_json_parts.specs.Limits.{max_length};
 ghost use Rattle.simd_json_stages.specs.Blocks.{AreBlocks, IsAscii, IsScanned};
 ghost use Rattle.simd_json_stages.specs.Scans.{IsBadEncoding, LacksMemory};
 
-use super::Scanned;
+use super::groups::{GROUP, scan_groups};
+use super::{Placing, Scanned, Sorting};
 use crate::stage1::BLOCK_LEN;
 use crate::stage1::capacity::grow;
 use crate::stage1::encoding::check_rest;
-use crate::stage1::words::block;
-use crate::stage1::writing::write;
+use crate::stage1::words::{find_marks, find_parts, sort};
+use crate::stage1::writing::{list_block, write};
 use simd_json_parts::error::Result;
 use std::alloc::Allocator;
 
@@ -24,8 +25,48 @@ pub(super) struct Window {
     pub(super) end: usize,
 }
 
+// The blocks from one to another one at a time, into lists with capacity for all that they may have.
+fn scan_few(
+    blocks: &[[u8; 64]],
+    window: Window,
+    out: &mut [u32],
+    listed: &mut [u32],
+    before: Scanned,
+) -> Scanned
+    requires within { (window.first ≤ window.end) × (window.end ≤ length blocks.now) }
+    requires short { 64 * window.end ≤ 2 ^ 32 }
+    requires capacity { before.placing.used + 64 * (window.end - window.first) ≤ length out.old }
+    requires block_capacity { before.sorting.listed + (window.end - window.first) ≤ length listed.old }
+    ensures scanned { (b : List ℕ) → AreBlocks b blocks.now
+        → IsScanned b window.first before out.old listed.old
+        → IsScanned b window.end result out.new listed.new }
+    ensures ascii { (b : List ℕ) → AreBlocks b blocks.now → IsScanned b window.first before out.old listed.old
+        → result.sorting.high ≡ 0
+        → (before.sorting.high ≡ 0) × IsAscii b (64 * window.first) (64 * window.end) }
+{
+    let mut sorting = before.sorting;
+    let mut placing = before.placing;
+    let mut i = window.first;
+    while i < window.end {
+        let sorted = sort(&blocks[i], sorting.escaped);
+        sorting = Sorting {
+            escaped: sorted.next,
+            high: sorting.high | sorted.high,
+            listed: list_block(listed, sorting.listed, i as u32, sorted.has_backslash),
+        };
+        let parts = find_parts(sorted.soft, sorted.hard, sorted.control, sorted.escaped);
+        let marks = find_marks(parts, sorted.control, placing.carry);
+        placing = Placing {
+            carry: marks.carry,
+            bad: placing.bad | marks.bad,
+            used: write(out, placing.used, (BLOCK_LEN * i) as u32, marks.starts),
+        };
+        i += 1;
+    }
+    Scanned { sorting, placing }
+}
+
 // The blocks of a window, into lists with capacity for all that they may have.
-#[inline(never)]
 pub(super) fn scan_window(
     blocks: &[[u8; 64]],
     window: Window,
@@ -35,42 +76,29 @@ pub(super) fn scan_window(
 ) -> Scanned
     requires within { (window.first ≤ window.end) × (window.end ≤ length blocks.now) }
     requires short { 64 * window.end ≤ 2 ^ 32 }
-    requires capacity { before.used + 64 * (window.end - window.first) ≤ length out.old }
-    requires block_capacity { before.listed + (window.end - window.first) ≤ length listed.old }
+    requires capacity { before.placing.used + 64 * (window.end - window.first) ≤ length out.old }
+    requires block_capacity { before.sorting.listed + (window.end - window.first) ≤ length listed.old }
     ensures scanned { (b : List ℕ) → AreBlocks b blocks.now
         → IsScanned b window.first before out.old listed.old
         → IsScanned b window.end result out.new listed.new }
     ensures ascii { (b : List ℕ) → AreBlocks b blocks.now → IsScanned b window.first before out.old listed.old
-        → result.high ≡ 0 → IsAscii b (64 * window.first) (64 * window.end) }
+        → result.sorting.high ≡ 0 → IsAscii b (64 * window.first) (64 * window.end) }
 {
-    let mut carry = before.carry;
-    let mut late = before.late;
-    let mut late_at = (BLOCK_LEN * window.first.saturating_sub(1)) as u32;
-    let mut bad = before.bad;
-    let mut high = 0;
-    let mut used = before.used;
-    let mut count = before.listed;
-    let mut i = window.first;
-    while i < window.end {
-        let marks = block(&blocks[i], carry);
-        used = write(out, used, late_at, late);
-        late = marks.starts;
-        late_at = (BLOCK_LEN * i) as u32;
-        listed[count] = i as u32;
-        count += marks.has_backslash as usize;
-        bad |= marks.bad;
-        high |= marks.high;
-        carry = marks.carry;
-        i += 1;
+    let mut done = before;
+    done.sorting.high = 0;
+    let middle = window.end - (window.end - window.first) % GROUP;
+    let groups = Window {
+        end: middle,
+        ..window
+    };
+    let rest = Window {
+        first: middle,
+        ..window
+    };
+    if window.first < middle {
+        done = scan_groups(blocks, groups, out, listed, done);
     }
-    Scanned {
-        carry,
-        late,
-        bad,
-        high,
-        used,
-        listed: count,
-    }
+    scan_few(blocks, rest, out, listed, done)
 }
 
 // Capacity for all that a window may have. Before a list grows, all of the input is known to be UTF-8. The
@@ -86,11 +114,11 @@ pub(super) fn capacity_for<A: Allocator>(
     requires size { length input.now ≤ max_length }
     requires within { (window.first < window.end) × (64 * window.end ≤ length input.now) }
     requires checked { (checked ≤ length input.now) × IsUtf8 (take checked input.now) }
-    requires used { (done.used ≤ 64 * window.first) × (done.listed ≤ window.first) }
+    requires used { (done.placing.used ≤ 64 * window.first) × (done.sorting.listed ≤ window.first) }
     ensures checked { IfOk result (λ to. (to ≤ length input.now) × IsUtf8 (take to input.now)) }
-    ensures positions { IfOk result (λ to. done.used + 64 * (window.end - window.first)
+    ensures positions { IfOk result (λ to. done.placing.used + 64 * (window.end - window.first)
         ≤ length structural_indexes.new.items) }
-    ensures blocks { IfOk result (λ to. done.listed + (window.end - window.first)
+    ensures blocks { IfOk result (λ to. done.sorting.listed + (window.end - window.first)
         ≤ length escape_blocks.new.items) }
     ensures kept { (take (length structural_indexes.old.items) structural_indexes.new.items
         ≡ structural_indexes.old.items)
@@ -101,14 +129,14 @@ pub(super) fn capacity_for<A: Allocator>(
         ⊎ LacksMemory input.now e structural_indexes.old.items escape_blocks.old.items) }
 {
     let count = window.end - window.first;
-    let positions = done.used + BLOCK_LEN * count;
-    let blocks = done.listed + count;
+    let positions = done.placing.used + BLOCK_LEN * count;
+    let blocks = done.sorting.listed + count;
     if positions <= structural_indexes.len() && blocks <= escape_blocks.len() {
         return Ok(checked);
     }
     let checked = check_rest(input, checked)?;
     let max_blocks = input.len().div_ceil(BLOCK_LEN);
-    let guess = (done.used / window.first.max(1) + 1)
+    let guess = (done.placing.used / window.first.max(1) + 1)
         .saturating_mul(max_blocks)
         .saturating_add(BLOCK_LEN * WINDOW);
     grow(structural_indexes, positions, guess, input.len())?;

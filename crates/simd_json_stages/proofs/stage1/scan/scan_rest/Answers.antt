@@ -1,4 +1,4 @@
-use Rattle.std.proofs.Common.{◌≡◌, ◌+◌, ◌-◌, ◌*◌, ◌≤◌, ◌<◌, ◌++◌, length, take, drop, subst, refl, sym, ap, ap₂, ◌∙◌, true, false, eqb-true, inr, arith}
+use Rattle.std.proofs.Common.{◌≡◌, ◌+◌, ◌*◌, ◌≤◌, ◌<◌, ◌++◌, length, take, drop, subst, refl, sym, ap, ◌∙◌, true, false, eqb-true, inr, arith}
 use lib.Count.{ones}
 use Rattle.simd_json_stages.specs.EscapeBlocks.{blocks_in, backslash_blocks}
 use Rattle.simd_json_stages.specs.Words.{set_bits}
@@ -6,65 +6,65 @@ use Rattle.simd_json_stages.proofs.EncodingLaws.{utf8-reached}
 use Rattle.simd_json_stages.proofs.RestLaws.{whole, IsBlock-rest, rest-bad, rest-positions, rest-few, rest-listed, rest-blocks}
 use Rattle.simd_json_stages.proofs.ScanLaws.{written-back, prefix}
 use Rattle.simd_json_stages.proofs.stage1.scan.scan_rest.Goals as goal
-use Rattle.simd_json_stages.proofs.stage1.scan.scan_rest.Goals.{then-marks+in_ok-put, else-marks}
+use Rattle.simd_json_stages.proofs.stage1.scan.scan_rest.Goals.{then-sorted+in_ok-put, else-sorted}
 use Rattle.simd_json_stages.proofs.Exits.{passed-on}
 
 pub check_window-requires-clause-ascii : goal.check_window-requires-clause-ascii
 check_window-requires-clause-ascii g c =
     let b = c.args.input.now in
-    let s = c.requires.scanned in
-    let marks = c.block-marks.ensures b _ (IsBlock-rest b c.args.rest.now _ c.requires.rest c.last_block.ensures) s.carried in
-    λ zero i from end. marks.ascii (eqb-true _ _ zero) i from (omega arith)
+    let s = c.requires.scanned.sorted in
+    let sorted = c.sort-sorted.ensures b _ (IsBlock-rest b c.args.rest.now _ c.requires.rest c.last_block.ensures) s.escaped in
+    λ zero i from end. sorted.ascii (eqb-true _ _ zero) i from (omega arith)
 
 pub grow-requires : goal.grow-requires
 grow-requires g c =
     let b = c.args.input.now in
     let s = c.requires.scanned in
-    rest-few b c.args.done _ _ c.block-marks.result s (c.block-marks.ensures b _ (IsBlock-rest b c.args.rest.now _ c.requires.rest c.last_block.ensures) s.carried)
+    let sorted = c.sort-sorted.ensures b _ (IsBlock-rest b c.args.rest.now _ c.requires.rest c.last_block.ensures) s.sorted.escaped in
+    let marks = c.find_marks-marks.ensures b _ (c.find_parts-parts.ensures b _ sorted.classes) sorted.classes.control s.placed.carried in
+    rest-few b c.args.done.placing _ c.find_marks-marks.result s.placed marks
 
 pub put-requires-clause-within : goal.put-requires-clause-within
 put-requires-clause-within g c =
     let b = c.args.input.now in
-    let s = c.requires.scanned in
-    let l : c.args.done.listed < blocks_in (length b) =
-    rest-listed b c.args.done _ _ c.block-marks.result s (c.block-marks.ensures b _ (IsBlock-rest b c.args.rest.now _ c.requires.rest c.last_block.ensures) s.carried) c.if-marks.true in
+    let s = c.requires.scanned.sorted in
+    let sorted = c.sort-sorted.ensures b _ (IsBlock-rest b c.args.rest.now _ c.requires.rest c.last_block.ensures) s.escaped in
+    let l : c.args.done.sorting.listed < blocks_in (length b) = rest-listed b c.args.done.sorting _ c.sort-sorted.result s sorted c.if-sorted.true in
     omega (arith, c.div_ceil-max_blocks.ensures)
 
 pub returns-clause-found : goal.returns-clause-found
 returns-clause-found g c =
     let b = c.args.input.now in
     let s = c.requires.scanned in
-    let m = c.block-marks.result in
-    let marks = c.block-marks.ensures b _ (IsBlock-rest b c.args.rest.now _ c.requires.rest c.last_block.ensures) s.carried in
+    let t = c.sort-sorted.result in
+    let m = c.find_marks-marks.result in
+    let sorted = c.sort-sorted.ensures b _ (IsBlock-rest b c.args.rest.now _ c.requires.rest c.last_block.ensures) s.sorted.escaped in
+    let marks = c.find_marks-marks.ensures b _ (c.find_parts-parts.ensures b _ sorted.classes) sorted.classes.control s.placed.carried in
     let a = c.grow in
-    let v = c.write_exactly in
-    let w = c.write_exactly-2 in
-    let d = c.args.done in
+    let w = c.write_exactly in
+    let d = c.args.done.sorting in
+    let p = c.args.done.placing in
     let long : length w.new.out ≡ a.new.list.len = omega arith in
     let out : take a.new.list.len (w.new.out ++ drop (length w.new.out) a.new.list.items) ≡ w.new.out = written-back w.new.out _ a.new.list.len long in
-    let first : v.result ≡ d.used + ones d.late = omega arith in
-    let total : w.result ≡ d.used + ones d.late + ones m.starts = omega arith in
-    let at : 64 * c.saturating_sub.result ≡ 64 * (whole b - 1) = omega arith in
-    let before : take d.used c.as_mut_slice-out.result.now ≡ take d.used c.args.structural_indexes.now.items = ap (take d.used) c.as_mut_slice-out.ensures.value ∙ prefix d.used _ _ s.within a.ensures.kept in
-    let late : take (d.used + ones d.late) v.new.out ≡ take d.used c.args.structural_indexes.now.items ++ set_bits 64 (64 * (whole b - 1)) d.late =
-    ap (λ n. take n v.new.out) (sym first) ∙ v.ensures.written ∙ ap₂ (λ l n. l ++ set_bits 64 n d.late) before at in
-    let capacity : d.used + ones d.late + ones m.starts ≤ length w.new.out = omega (arith, ap length c.as_mut_slice-out.ensures.value, c.in_ok-grow.ensures.capacity) in
+    let total : w.result ≡ p.used + ones m.starts = omega arith in
+    let before : take p.used c.as_mut_slice-out.result.now ≡ take p.used c.args.structural_indexes.now.items = ap (take p.used) c.as_mut_slice-out.ensures.value ∙ prefix p.used _ _ s.placed.within a.ensures.kept in
+    let capacity : p.used + ones m.starts ≤ length w.new.out = omega (arith, ap length c.as_mut_slice-out.ensures.value, c.in_ok-grow.ensures.capacity) in
     let utf8 = c.in_ok-check_window.ensures.utf8 in
     let end : c.in_ok-check_window.field-0 ≡ length b = c.in_ok-check_window.ensures.whole refl in
-    let blocks : (c.if-marks.listed ≤ length c.if-marks.escape_blocks.items) × (take c.if-marks.listed c.if-marks.escape_blocks.items ≡ backslash_blocks b) =
-    elim c.if-marks.branch [
-      | then-marks+in_ok-put w ↦ let more : d.listed + 1 ≤ length w.put.new.list.items = omega (arith, w.in_ok-put.ensures.stored.0) in rw (w.escape_blocks-is, w.listed-is) (
+    let blocks : (c.if-sorted.listed ≤ length c.if-sorted.escape_blocks.items) × (take c.if-sorted.listed c.if-sorted.escape_blocks.items ≡ backslash_blocks b) =
+    elim c.if-sorted.branch [
+      | then-sorted+in_ok-put w ↦ let more : d.listed + 1 ≤ length w.put.new.list.items = omega (arith, w.in_ok-put.ensures.stored.0) in rw (w.escape_blocks-is, w.listed-is) (
         more,
-        w.in_ok-put.ensures.stored.1 ∙ rest-blocks b d _ _ m true s marks w.if-marks.true,
+        w.in_ok-put.ensures.stored.1 ∙ rest-blocks b d _ t true s.sorted sorted w.if-sorted.true,
       )
-      | else-marks w ↦ rw (w.escape_blocks-is, w.listed-is) (s.blocks_within, rest-blocks b d _ _ m false s marks w.if-marks.false)
+      | else-sorted w ↦ rw (w.escape_blocks-is, w.listed-is) (s.sorted.within, rest-blocks b d _ t false s.sorted sorted w.if-sorted.false)
     ] in
     record {
       encoding = utf8-reached b c.in_ok-check_window.field-0 end utf8.1;
-      bad = rest-bad b d _ _ m s marks;
-      within = subst (λ xs. d.used + ones d.late + ones m.starts ≤ length xs) (sym out) capacity;
-      listed = ap (take (d.used + ones d.late + ones m.starts)) out ∙ ap (λ n. take n w.new.out) (sym total) ∙ w.ensures.written ∙ ap (λ l. l ++ set_bits 64 (64 * whole b) m.starts) late
-          ∙ rest-positions b d _ _ m s marks;
+      bad = rest-bad b p _ m s.placed marks;
+      within = subst (λ xs. p.used + ones m.starts ≤ length xs) (sym out) capacity;
+      listed = ap (take (p.used + ones m.starts)) out ∙ ap (λ n. take n w.new.out) (sym total) ∙ w.ensures.written ∙ ap (λ l. l ++ set_bits 64 (64 * whole b) m.starts) before
+          ∙ rest-positions b p _ m s.placed marks;
       blocks_within = blocks.0;
       blocks_listed = blocks.1;
     }

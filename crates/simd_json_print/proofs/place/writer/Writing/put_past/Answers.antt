@@ -1,4 +1,4 @@
-use Rattle.std.proofs.Common.{None, Some, cond, subst}
+use Rattle.std.proofs.Common.{None, Some, cond, sym, subst}
 use Rattle.simd_json_print.specs.Places.{Gives}
 use Rattle.simd_json_print.proofs.Sent.{gives-ignored, gives-sent, gives-failed}
 use Rattle.simd_json_print.proofs.place.writer.Writing.put_past.Goals as goal
@@ -12,7 +12,8 @@ pub returns-in-Err : goal.returns-in-Err
 returns-in-Err g c =
     let a = g.W.Write.contents c.args.writer.now in
     let b = g.W.Write.contents c.put_past.new.writer in
-    subst (λ o. Gives (a, o) (b, None) c.args.bytes.now) c.self.view_is (gives-failed a b c.self.inside.pieces c.in-Err.ensures.0 c.args.bytes.now c.self.inside.has_stopped c.if-self.false c.in-Err.ensures.1)
+    subst (λ o. Gives (a, c.args.self.now) (b, o) c.args.bytes.now) (sym c.stop.ensures)
+    (subst (λ o. Gives (a, o) (b, None) c.args.bytes.now) c.self.view_is (gives-failed a b c.self.inside.pieces c.in-Err.ensures.0 c.args.bytes.now c.self.inside.has_stopped c.if-self.false c.in-Err.ensures.1))
 
 pub returns-in_default : goal.returns-in_default
 returns-in_default g c =

@@ -1,0 +1,22 @@
+use Rattle.std.proofs.Common.{◌≡◌, ◌+◌, ◌-◌, ◌*◌, ◌≤◌, ℕ, List, length}
+use Rattle.simd_json_stages.specs.Blocks.{AreBlocks, IsAscii, IsSorted}
+use Rattle.simd_json_stages.specs.Groups.{HaveClasses}
+use Rattle.simd_json_stages.proofs.stage1.scan.groups.sort_group.Given as goal
+
+abbrev pub invariant-loop-k : goal.invariant-loop-k
+invariant-loop-k l = record {
+  to : l.k ≤ 8;
+  soft_words : length l.classes.soft ≡ 8;
+  hard_words : length l.classes.hard ≡ 8;
+  control_words : length l.classes.control ≡ 8;
+  escaped_words : length l.classes.escaped ≡ 8;
+  capacity : l.now.listed + (8 - l.k) ≤ length l.listed;
+  few : l.now.listed ≤ l.fn.before.listed + l.k;
+  sorted : (b : List ℕ) → AreBlocks b l.blocks → IsSorted b l.first l.fn.before l.fn.listed → IsSorted b (l.first + l.k) l.now l.listed;
+  sorts : (b : List ℕ) → AreBlocks b l.blocks → IsSorted b l.first l.fn.before l.fn.listed → HaveClasses b l.first l.k l.classes.soft l.classes.hard l.classes.control l.classes.escaped;
+  ascii : (b : List ℕ) → AreBlocks b l.blocks → IsSorted b l.first l.fn.before l.fn.listed → l.now.high ≡ 0
+      → (l.fn.before.high ≡ 0) × IsAscii b (64 * l.first) (64 * (l.first + l.k));
+}
+
+abbrev pub decreases-loop-k : goal.decreases-loop-k
+decreases-loop-k l = 8 - l.k

@@ -1,0 +1,222 @@
+// Eight blocks at a time: first what each tells by itself, then the arithmetic on their words, which is the
+// same for each and needs no other, so that LLVM does several at once, and at last their positions in order.
+ghost use Rattle.std.specs.Prelude.{◌≡◌, ◌+◌, ◌-◌, ◌*◌, ◌%◌, ◌^◌, ◌≤◌, ℕ, List, length};
+ghost use Rattle.std.specs.Int.{from_bool};
+ghost use Rattle.simd_json_stages.specs.Carries.{is_escaped_at};
+ghost use Rattle.simd_json_stages.specs.Blocks.{AreBlocks, IsAscii, IsPlaced, IsScanned, IsSorted};
+ghost use Rattle.simd_json_stages.specs.Groups.{HaveClasses, HaveControl, HaveParts};
+
+use super::windows::Window;
+use super::{Placing, Scanned, Sorting};
+use crate::stage1::BLOCK_LEN;
+use crate::stage1::words::{Parts, find_marks, find_parts, sort};
+use crate::stage1::writing::{list_block, write};
+
+// How many blocks a group has.
+pub(super) const GROUP: usize = 8;
+
+// A word for each block of a group.
+type Words = [u64; GROUP];
+
+// The classes of each block.
+#[derive(Clone, Copy, Drop)]
+struct GroupClasses {
+    soft: Words,
+    hard: Words,
+    control: Words,
+    escaped: Words,
+}
+
+// The parts of each.
+#[derive(Clone, Copy, Drop)]
+struct GroupParts {
+    parity: Words,
+    plain: Words,
+    space: Words,
+    quote: Words,
+}
+
+// Room for the words of a group, which one group after another takes.
+#[derive(Clone, Copy, Drop)]
+struct Group {
+    classes: GroupClasses,
+    parts: GroupParts,
+}
+
+impl Group {
+    const EMPTY: Group = Group {
+        classes: GroupClasses {
+            soft: [0; GROUP],
+            hard: [0; GROUP],
+            control: [0; GROUP],
+            escaped: [0; GROUP],
+        },
+        parts: GroupParts {
+            parity: [0; GROUP],
+            plain: [0; GROUP],
+            space: [0; GROUP],
+            quote: [0; GROUP],
+        },
+    };
+}
+
+// What each block tells by itself. Those with a backslash are listed.
+fn sort_group(
+    blocks: &[[u8; 64]],
+    first: usize,
+    listed: &mut [u32],
+    classes: &mut GroupClasses,
+    before: Sorting,
+) -> Sorting
+    requires within { first + 8 ≤ length blocks.now }
+    requires short { 64 * (first + 8) ≤ 2 ^ 32 }
+    requires capacity { before.listed + 8 ≤ length listed.old }
+    ensures sorted { (b : List ℕ) → AreBlocks b blocks.now → IsSorted b first before listed.old
+        → IsSorted b (first + 8) result listed.new }
+    ensures few { result.listed ≤ before.listed + 8 }
+    ensures classes { (b : List ℕ) → AreBlocks b blocks.now → IsSorted b first before listed.old
+        → HaveClasses b first 8 classes.new.soft classes.new.hard classes.new.control classes.new.escaped }
+    ensures ascii { (b : List ℕ) → AreBlocks b blocks.now → IsSorted b first before listed.old
+        → result.high ≡ 0 → (before.high ≡ 0) × IsAscii b (64 * first) (64 * (first + 8)) }
+{
+    let mut now = before;
+    let mut k = 0;
+    while k < GROUP {
+        let sorted = sort(&blocks[first + k], now.escaped);
+        let number = (first + k) as u32;
+        now = Sorting {
+            escaped: sorted.next,
+            high: now.high | sorted.high,
+            listed: list_block(listed, now.listed, number, sorted.has_backslash),
+        };
+        classes.soft[k] = sorted.soft;
+        classes.hard[k] = sorted.hard;
+        classes.control[k] = sorted.control;
+        classes.escaped[k] = sorted.escaped;
+        k += 1;
+    }
+    now
+}
+
+// The arithmetic on their words.
+fn part_group(classes: &GroupClasses, parts: &mut GroupParts)
+    ensures { (b : List ℕ) (first : ℕ)
+        → HaveClasses b first 8 classes.now.soft classes.now.hard classes.now.control classes.now.escaped
+        → HaveParts b first 8 parts.new.parity parts.new.plain parts.new.space parts.new.quote }
+{
+    let mut k = 0;
+    while k < GROUP {
+        let found = find_parts(
+            classes.soft[k],
+            classes.hard[k],
+            classes.control[k],
+            classes.escaped[k],
+        );
+        parts.parity[k] = found.parity;
+        parts.plain[k] = found.plain;
+        parts.space[k] = found.space;
+        parts.quote[k] = found.quote;
+        k += 1;
+    }
+}
+
+// Their positions, from left to right.
+fn place_group(
+    first: usize,
+    group: &GroupParts,
+    control: &Words,
+    out: &mut [u32],
+    before: Placing,
+) -> Placing
+    requires short { 64 * (first + 8) ≤ 2 ^ 32 }
+    requires capacity { before.used + 512 ≤ length out.old }
+    ensures few { result.used ≤ before.used + 512 }
+    ensures placed { (b : List ℕ) → HaveControl b first 8 control.now
+        → HaveParts b first 8 group.now.parity group.now.plain group.now.space group.now.quote
+        → IsPlaced b first before out.old → IsPlaced b (first + 8) result out.new }
+{
+    let mut now = before;
+    let mut k = 0;
+    while k < GROUP {
+        let parts = Parts {
+            parity: group.parity[k],
+            plain: group.plain[k],
+            space: group.space[k],
+            quote: group.quote[k],
+        };
+        let marks = find_marks(parts, control[k], now.carry);
+        now = Placing {
+            carry: marks.carry,
+            bad: now.bad | marks.bad,
+            used: write(
+                out,
+                now.used,
+                (BLOCK_LEN * (first + k)) as u32,
+                marks.starts,
+            ),
+        };
+        k += 1;
+    }
+    now
+}
+
+// A group, into lists with capacity for all that it may have.
+fn scan_group(
+    blocks: &[[u8; 64]],
+    first: usize,
+    out: &mut [u32],
+    listed: &mut [u32],
+    group: &mut Group,
+    before: Scanned,
+) -> Scanned
+    requires within { first + 8 ≤ length blocks.now }
+    requires short { 64 * (first + 8) ≤ 2 ^ 32 }
+    requires capacity { before.placing.used + 512 ≤ length out.old }
+    requires block_capacity { before.sorting.listed + 8 ≤ length listed.old }
+    ensures few { (result.placing.used ≤ before.placing.used + 512)
+        × (result.sorting.listed ≤ before.sorting.listed + 8) }
+    ensures scanned { (b : List ℕ) → AreBlocks b blocks.now → IsScanned b first before out.old listed.old
+        → IsScanned b (first + 8) result out.new listed.new }
+    ensures ascii { (b : List ℕ) → AreBlocks b blocks.now → IsScanned b first before out.old listed.old
+        → result.sorting.high ≡ 0
+        → (before.sorting.high ≡ 0) × IsAscii b (64 * first) (64 * (first + 8)) }
+{
+    let sorting = sort_group(blocks, first, listed, &mut group.classes, before.sorting);
+    part_group(&group.classes, &mut group.parts);
+    let control = &group.classes.control;
+    let placing = place_group(first, &group.parts, control, out, before.placing);
+    Scanned { sorting, placing }
+}
+
+// The groups of a window that has nothing else, likewise.
+#[inline(never)]
+pub(super) fn scan_groups(
+    blocks: &[[u8; 64]],
+    window: Window,
+    out: &mut [u32],
+    listed: &mut [u32],
+    before: Scanned,
+) -> Scanned
+    requires within { (window.first ≤ window.end) × (window.end ≤ length blocks.now) }
+    requires groups { (window.end - window.first) % 8 ≡ 0 }
+    requires short { 64 * window.end ≤ 2 ^ 32 }
+    requires capacity { before.placing.used + 64 * (window.end - window.first) ≤ length out.old }
+    requires block_capacity { before.sorting.listed + (window.end - window.first) ≤ length listed.old }
+    ensures few { (result.placing.used ≤ before.placing.used + 64 * (window.end - window.first))
+        × (result.sorting.listed ≤ before.sorting.listed + (window.end - window.first)) }
+    ensures scanned { (b : List ℕ) → AreBlocks b blocks.now
+        → IsScanned b window.first before out.old listed.old
+        → IsScanned b window.end result out.new listed.new }
+    ensures ascii { (b : List ℕ) → AreBlocks b blocks.now → IsScanned b window.first before out.old listed.old
+        → result.sorting.high ≡ 0
+        → (before.sorting.high ≡ 0) × IsAscii b (64 * window.first) (64 * window.end) }
+{
+    let mut group = Group::EMPTY;
+    let mut done = before;
+    let mut i = window.first;
+    while i < window.end {
+        done = scan_group(blocks, i, out, listed, &mut group, done);
+        i += GROUP;
+    }
+    done
+}
