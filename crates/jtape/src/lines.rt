@@ -86,7 +86,28 @@ fn put_other<P, S: Sink<P>>(sink: &mut S, target: &mut P, node: &Node<'_>)
     }
 }
 
+// Most numbers of headers have one digit. The kind is known where this is inlined, so no length is asked for.
+#[inline(always)]
 fn put_header<P, S: Sink<P>>(sink: &mut S, target: &mut P, kind: &[u8], len: usize, count: usize)
+    ensures { Gives (S.place sink.old target.old) (S.place sink.new target.new)
+        (header_text kind.now len count ++ line_feed ∷ []) }
+{
+    if len < 10 && count < 10 {
+        sink.put_between(target, kind, &[b'0' + len as u8], b" ");
+        sink.put_between(target, b"", &[b'0' + count as u8], b"\n");
+    } else {
+        put_long_header(sink, target, kind, len, count);
+    }
+}
+
+#[inline(never)]
+fn put_long_header<P, S: Sink<P>>(
+    sink: &mut S,
+    target: &mut P,
+    kind: &[u8],
+    len: usize,
+    count: usize,
+)
     ensures { Gives (S.place sink.old target.old) (S.place sink.new target.new)
         (header_text kind.now len count ++ line_feed ∷ []) }
 {
@@ -124,16 +145,17 @@ mod tests {
     use simd_json_print::place::writer::Writing;
     use std::test::Fail;
 
-    const NODES: [Node<'static>; 5] = [
+    const NODES: [Node<'static>; 6] = [
         Node::Array { len: 3, count: 3 },
         Node::Static(StaticNode::Bool(true)),
         Node::String("a\n"),
         Node::Decimal("1.5"),
         Node::Object { len: 0, count: 0 },
+        Node::Array { len: 9, count: 10 },
     ];
 
     const LINES: &[u8] =
-        b"so far\nArray 3 3\nBool true\nString \"a\\n\"\nDecimal 1.5\nObject 0 0\n";
+        b"so far\nArray 3 3\nBool true\nString \"a\\n\"\nDecimal 1.5\nObject 0 0\nArray 9 10\n";
 
     // A list as the writer: a heap of each size refuses another growth, and then none. What was there stays
     // in front, and a beginning of the lines after it.
