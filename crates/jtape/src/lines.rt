@@ -1,5 +1,6 @@
 //! The lines of a tape.
-ghost use Rattle.std.specs.Prelude.{◌≡◌, ◌≢◌, ◌++◌, ◌∷◌, [], List, ℕ, ℤ, codes, map};
+ghost use Rattle.std.specs.Prelude.{◌≡◌, ◌≢◌, ◌++◌, ◌∷◌, [], List, ℕ, ℤ, codes, map, unsigned_abs};
+ghost use Rattle.std.specs.Fmt.{decimal, signed_decimal};
 ghost use Rattle.jtape.specs.Lines.{header_text, line, lines, static_text};
 ghost use Rattle.simd_json_parts.specs.Bytes.{line_feed};
 ghost use Rattle.simd_json_parts.specs.Nodes.{item_of, static_item, string_item};
@@ -7,7 +8,6 @@ ghost use Rattle.simd_json_parts.specs.declared.node.StaticNode.{StaticNode};
 ghost use Rattle.simd_json_parts.specs.declared.node.StaticNode.TheVariants.{I64, U64};
 ghost use Rattle.simd_json_print.specs.Places.{Gives};
 
-use itoa::{Buffer, Integer};
 use simd_json::{Node, StaticNode};
 use simd_json_print::place::Sink;
 
@@ -45,12 +45,20 @@ fn put_static<P, S: Sink<P>>(sink: &mut S, target: &mut P, value: StaticNode)
         (static_text value ++ line_feed ∷ []) }
 {
     if let StaticNode::U64(number) = value {
-        put_number(sink, target, b"U64 ", number, b"\n");
+        sink.put_decimal(target, b"U64 ", number, b"\n");
     } else if let StaticNode::I64(number) = value {
-        put_number(sink, target, b"I64 ", number, b"\n");
+        sink.put_decimal(target, signed_front(number), number.unsigned_abs(), b"\n");
     } else {
         put_word(sink, target, value);
     }
+}
+
+// What stands before the digits.
+#[inline(always)]
+fn signed_front(number: i64) -> &'static [u8]
+    ensures { codes "I64 " ++ signed_decimal number ≡ result.now ++ decimal (unsigned_abs number) }
+{
+    if number < 0 { b"I64 -" } else { b"I64 " }
 }
 
 // Null, or a truth value.
@@ -86,56 +94,14 @@ fn put_other<P, S: Sink<P>>(sink: &mut S, target: &mut P, node: &Node<'_>)
     }
 }
 
-// Most numbers of headers have one digit. The kind is known where this is inlined, so no length is asked for.
+// The kind is known where this is inlined, so no length is asked for.
 #[inline(always)]
 fn put_header<P, S: Sink<P>>(sink: &mut S, target: &mut P, kind: &[u8], len: usize, count: usize)
     ensures { Gives (S.place sink.old target.old) (S.place sink.new target.new)
         (header_text kind.now len count ++ line_feed ∷ []) }
 {
-    if len < 10 && count < 10 {
-        sink.put_between(target, kind, &[b'0' + len as u8], b" ");
-        sink.put_between(target, b"", &[b'0' + count as u8], b"\n");
-    } else {
-        put_long_header(sink, target, kind, len, count);
-    }
-}
-
-#[inline(never)]
-fn put_long_header<P, S: Sink<P>>(
-    sink: &mut S,
-    target: &mut P,
-    kind: &[u8],
-    len: usize,
-    count: usize,
-)
-    ensures { Gives (S.place sink.old target.old) (S.place sink.new target.new)
-        (header_text kind.now len count ++ line_feed ∷ []) }
-{
-    put_number(sink, target, kind, len, b" ");
-    put_number(sink, target, b"", count, b"\n");
-}
-
-// A number, between what stands before it and what stands after it.
-#[inline(always)]
-fn put_number<P, S: Sink<P>, I: Integer>(
-    sink: &mut S,
-    target: &mut P,
-    front: &[u8],
-    number: I,
-    back: &[u8],
-)
-    ensures { Gives (S.place sink.old target.old) (S.place sink.new target.new)
-        (front.now ++ (I.text number ++ back.now)) }
-{
-    let mut buffer = Buffer::new();
-    sink.put_between(target, front, buffer.format(number).as_bytes(), back);
-}
-
-pub(crate) fn put_integer<P, S: Sink<P>, I: Integer>(sink: &mut S, target: &mut P, number: I)
-    ensures { Gives (S.place sink.old target.old) (S.place sink.new target.new) (I.text number) }
-{
-    let mut buffer = Buffer::new();
-    sink.put(target, buffer.format(number).as_bytes());
+    sink.put_decimal(target, kind, len as u64, b" ");
+    sink.put_decimal(target, b"", count as u64, b"\n");
 }
 
 #[cfg(test)]

@@ -1,9 +1,8 @@
 //! The lines of positions.
 ghost use Rattle.std.specs.Prelude.{◌≡◌};
-ghost use Rattle.jtape.specs.Lines.{number_line, number_lines};
+ghost use Rattle.jtape.specs.Lines.{number_lines};
 ghost use Rattle.simd_json_print.specs.Places.{Gives};
 
-use crate::lines::put_integer;
 use simd_json_print::place::Sink;
 
 // Gives a place a line for each position.
@@ -14,13 +13,6 @@ pub(crate) fn put_positions<P, S: Sink<P>>(sink: &mut S, target: &mut P, positio
         if sink.has_stopped(target) {
             return;
         }
-        put_position(sink, target, position);
+        sink.put_decimal(target, b"", position as u64, b"\n");
     }
-}
-
-fn put_position<P, S: Sink<P>>(sink: &mut S, target: &mut P, position: u32)
-    ensures { Gives (S.place sink.old target.old) (S.place sink.new target.new) (number_line position) }
-{
-    put_integer(sink, target, position);
-    sink.put(target, b"\n");
 }

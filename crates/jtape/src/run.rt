@@ -107,6 +107,10 @@ pub fn run<A: Allocator + Copy, R: Read, W: Write>(
 // How many bytes are asked of the reader at a time.
 const BLOCK: usize = 16_384;
 
+// How many are reserved once a whole block was read. An allocator that gets so much from the system by itself
+// grows it with no copy, and what is never touched takes no memory.
+const MORE: usize = 262_144;
+
 // Reads to the reader's end.
 fn read_all<R: Read, A: Allocator>(a: A, reader: &mut Port<R>) -> Result<Vec<u8, A>>
     requires { (reader.old.failed ≡ false) × (reader.old.ended ≡ false) }
@@ -143,6 +147,9 @@ fn read_more<R: Read, A: Allocator>(
     match reader.read(block) {
         Ok(0) => Ok(false),
         Ok(n) => {
+            if input.is_empty() && n == BLOCK {
+                input.reserve(MORE)?;
+            }
             input.extend_from_slice(&block[..n])?;
             Ok(true)
         }

@@ -10,3 +10,4 @@ pub mod Runs
 pub mod Unescaped
 pub mod Stores
 pub mod Letters
+pub mod Decimals

@@ -1,4 +1,5 @@
-//! The printed text of a document, from its nodes: compact, or pretty with a line for each member.
+//! The printed text of a document, from its nodes: compact, or pretty with a line for each member. Each
+//! container that is open while it prints takes up to 80 bytes of the machine's stack.
 ghost use Rattle.std.specs.Prelude.{◌≡◌, ◌++◌, ℕ, map, take, OnOk, OnErr};
 ghost use Rattle.std.specs.Io.KnownBytes.{Appends};
 ghost use Rattle.simd_json_parts.specs.Document.{Document};

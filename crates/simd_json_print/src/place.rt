@@ -10,6 +10,7 @@ pub mod writer;
 /// Where the place fails, that is kept, and all that follows is dropped.
 pub trait Sink<P> {
     ghost use Rattle.std.specs.Prelude.{◌++◌, flat_map, IsTrue};
+    ghost use Rattle.std.specs.Fmt.{decimal};
     ghost use Rattle.simd_json_parts.specs.Printed.{escaped_byte};
     ghost use Rattle.simd_json_print.specs.Places.{Place, Gives, HasStopped};
 
@@ -23,6 +24,11 @@ pub trait Sink<P> {
     fn put_between(&mut self, target: &mut P, front: &[u8], bytes: &[u8], back: &[u8])
         ensures { Gives (place self.old target.old) (place self.new target.new)
             (front.now ++ (bytes.now ++ back.now)) };
+
+    /// Gives the place a number in decimal, between what stands in front of it and after it.
+    fn put_decimal(&mut self, target: &mut P, front: &[u8], number: u64, back: &[u8])
+        ensures { Gives (place self.old target.old) (place self.new target.new)
+            (front.now ++ (decimal number ++ back.now)) };
 
     /// Gives the place a string that is escaped as it is printed, between what stands in front of it and
     /// after it, as the quotes.

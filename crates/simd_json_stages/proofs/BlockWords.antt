@@ -7,10 +7,10 @@ use Rattle.simd_json_parts.specs.Bytes.{backslash, is_whitespace, is_structural,
 use Rattle.simd_json_parts.specs.Positions.{is_real_quote, is_inside, is_position}
 use Rattle.simd_json_stages.specs.Classes.{is_soft, is_hard}
 use Rattle.simd_json_stages.specs.Words.{HasBits, escaped_in, parity as parity_of}
-use Rattle.simd_json_stages.specs.Blocks.{is_plain, is_plain_before, all_bits, IsBlock, HasClasses, IsControl, IsCarried, AreSorted, AreParts, AreMarks}
+use Rattle.simd_json_stages.specs.Blocks.{is_plain, is_plain_before, all_bits, IsBlock, HasClasses, IsControl, IsCarried, AreClassified, AreParts, AreMarks}
 use Rattle.simd_json_stages.specs.declared.stage1.words.Carry.{Carry}
 use Rattle.simd_json_stages.specs.declared.stage1.words.Parts.{Parts}
-use Rattle.simd_json_stages.specs.declared.stage1.words.Sorted.{Sorted}
+use Rattle.simd_json_stages.specs.declared.stage1.words.Classified.{Classified}
 use Rattle.simd_json_stages.proofs.Bits.Operations.{flip, shl}
 use Rattle.simd_json_stages.proofs.Bits.Combined.{bits-and, bits-or, bits-xor, bits-not, bits-same, after, bits-after, bits-all, bits-last, bits-last_spread}
 use Rattle.simd_json_stages.proofs.BlockLaws.{escaped_at, open_at, quote-classes, structural-classes, space-classes, quote-real, inside-along, inside-open, escaped-along, position-found}
@@ -127,10 +127,10 @@ escaped-none b at before e none =
 
 -- ---- what is found in a block by itself
 
-pub sorted-found : (b : List ℕ) (at : ℕ) (bytes : List ℕ) (m : Sorted) → IsBlock b at bytes → ((i : ℕ) → get_or bytes i 0 < 256)
+pub classified-found : (b : List ℕ) (at : ℕ) (bytes : List ℕ) (m : Classified) → IsBlock b at bytes → ((i : ℕ) → get_or bytes i 0 < 256)
     → HasBits m.soft (λ i. is_soft (get_or bytes i 0)) → HasBits m.hard (λ i. is_hard (get_or bytes i 0)) → HasBits m.control (λ i. is_control (get_or bytes i 0))
-    → (m.high ≡ 0 → (i : ℕ) → i < 64 → get_or bytes i 0 < 128) → m.has_backslash ≡ list_any (λ x. x == backslash) bytes → AreEscaped b at m.escaped m.next → AreSorted b at m
-sorted-found b at bytes m block small soft hard control ascii escapes escaped = record {
+    → (m.high ≡ 0 → (i : ℕ) → i < 64 → get_or bytes i 0 < 128) → m.has_backslash ≡ list_any (λ x. x == backslash) bytes → AreEscaped b at m.escaped m.next → AreClassified b at m
+classified-found b at bytes m block small soft hard control ascii escapes escaped = record {
   classes = record {
     bytes = λ i l. subst (λ x. x < 256) (block.same i l) (small i);
     soft = bits-same soft (λ i l. ap is_soft (block.same i l));

@@ -14,11 +14,11 @@ use Rattle.simd_json_parts.specs.InputFaults.{has_bad_string}
 use Rattle.simd_json_stages.specs.Carries.{has_control_before}
 use Rattle.simd_json_stages.specs.EscapeBlocks.{blocks_in, holds_backslash, backslash_blocks}
 use Rattle.simd_json_stages.specs.Words.{set_bits}
-use Rattle.simd_json_stages.specs.Blocks.{all_bits, IsBlock, AreSorted, AreMarks, IsSorted, IsPlaced}
+use Rattle.simd_json_stages.specs.Blocks.{all_bits, IsBlock, AreClassified, AreMarks, IsClassified, IsPlaced}
 use Rattle.simd_json_stages.specs.declared.stage1.words.Marks.{Marks}
-use Rattle.simd_json_stages.specs.declared.stage1.words.Sorted.{Sorted}
+use Rattle.simd_json_stages.specs.declared.stage1.words.Classified.{Classified}
 use Rattle.simd_json_stages.specs.declared.stage1.scan.Placing.{Placing}
-use Rattle.simd_json_stages.specs.declared.stage1.scan.Sorting.{Sorting}
+use Rattle.simd_json_stages.specs.declared.stage1.scan.Classifying.{Classifying}
 use Rattle.simd_json_stages.proofs.CarryLaws.{filter-next}
 use Rattle.simd_json_stages.proofs.EscapeBlockLaws.{filter-stays, list_any-none_between, holds_backslash-plain, byte_at-past}
 use Rattle.simd_json_stages.proofs.Bits.Places.{length-ones}
@@ -127,22 +127,22 @@ rest-few b p out m h marks =
     let bits = length-ones 64 (64 * whole b) m.starts marks.starts.small in
     omega (arith, few-positions b)
 
-pub rest-listed : (b : List ℕ) (s : Sorting) (listed : List ℕ) (m : Sorted) → IsSorted b (whole b) s listed → AreSorted b (64 * whole b) m → m.has_backslash ≡ true → s.listed < blocks_in (length b)
+pub rest-listed : (b : List ℕ) (s : Classifying) (listed : List ℕ) (m : Classified) → IsClassified b (whole b) s listed → AreClassified b (64 * whole b) m → m.has_backslash ≡ true → s.listed < blocks_in (length b)
 unfolding holds_backslash
-rest-listed b s listed m h sorted e = elim (cases_lt (whole b) (blocks_in (length b))) [
+rest-listed b s listed m h classified e = elim (cases_lt (whole b) (blocks_in (length b))) [
   | inl l ↦ (let few = h.few in omega arith)
   | inr r ↦
       let none : holds_backslash b (whole b) ≡ false = holds_backslash-plain b (whole b) (λ j f t. byte_at-past b j (omega arith)) in
-      let no : true ≡ false = sym e ∙ sorted.escapes ∙ none in
+      let no : true ≡ false = sym e ∙ classified.escapes ∙ none in
       absurd (cc)
 ]
 
 -- the blocks that hold a backslash, where the last does or does not
-pub rest-blocks : (b : List ℕ) (s : Sorting) (listed : List ℕ) (m : Sorted) (t : Bool) → IsSorted b (whole b) s listed → AreSorted b (64 * whole b) m → m.has_backslash ≡ t
+pub rest-blocks : (b : List ℕ) (s : Classifying) (listed : List ℕ) (m : Classified) (t : Bool) → IsClassified b (whole b) s listed → AreClassified b (64 * whole b) m → m.has_backslash ≡ t
     → (if t then take s.listed listed ++ whole b ∷ [] else take s.listed listed) ≡ backslash_blocks b
 unfolding holds_backslash backslash_blocks
-rest-blocks b s listed m t h sorted e =
+rest-blocks b s listed m t h classified e =
     let k = whole b in
     let holds = holds_backslash b in
-    ap (λ ks. if t then ks ++ k ∷ [] else ks) h.found ∙ sym (filter-next holds k t (sym sorted.escapes ∙ e))
+    ap (λ ks. if t then ks ++ k ∷ [] else ks) h.found ∙ sym (filter-next holds k t (sym classified.escapes ∙ e))
     ∙ filter-stays holds (blocks_in (length b)) (k + 1) (omega arith) (λ j f l. holds_backslash-plain b j (λ i g u. byte_at-past b i (omega arith)))

@@ -18,12 +18,12 @@ use Rattle.simd_json_parts.specs.Positions.{backslashes_before, real_quotes, is_
 use Rattle.simd_json_stages.specs.Carries.{is_escaped_at, has_control_before}
 use Rattle.simd_json_stages.specs.EscapeBlocks.{holds_backslash}
 use Rattle.simd_json_stages.specs.Words.{is_set, HasBits, set_bits}
-use Rattle.simd_json_stages.specs.Blocks.{is_plain_before, IsCarried, AreBlocks, AreSorted, AreMarks, IsSorted, IsPlaced, IsScanned}
+use Rattle.simd_json_stages.specs.Blocks.{is_plain_before, IsCarried, AreBlocks, AreClassified, AreMarks, IsClassified, IsPlaced, IsScanned}
 use Rattle.simd_json_stages.specs.declared.stage1.words.Marks.{Marks}
-use Rattle.simd_json_stages.specs.declared.stage1.words.Sorted.{Sorted}
+use Rattle.simd_json_stages.specs.declared.stage1.words.Classified.{Classified}
 use Rattle.simd_json_stages.specs.declared.stage1.scan.Placing.{Placing}
 use Rattle.simd_json_stages.specs.declared.stage1.scan.Scanned.{Scanned}
-use Rattle.simd_json_stages.specs.declared.stage1.scan.Sorting.{Sorting}
+use Rattle.simd_json_stages.specs.declared.stage1.scan.Classifying.{Classifying}
 use Rattle.simd_json_stages.proofs.CarryLaws.{filter-next}
 use Rattle.simd_json_stages.proofs.Bits.Places.{set_bits-filter}
 
@@ -100,18 +100,18 @@ bool-small false = omega arith
 
 -- ---- all of it
 
-pub IsSorted-next : (b : List ℕ) (k : ℕ) (s : Sorting) (listed : List ℕ) (m : Sorted) (high : ℕ) (after : List ℕ) (end : ℕ) → IsSorted b k s listed → AreSorted b (64 * k) m
+pub IsClassified-next : (b : List ℕ) (k : ℕ) (s : Classifying) (listed : List ℕ) (m : Classified) (high : ℕ) (after : List ℕ) (end : ℕ) → IsClassified b k s listed → AreClassified b (64 * k) m
     → take end after ≡ (if m.has_backslash then take s.listed listed ++ k ∷ [] else take s.listed listed) → end ≡ s.listed + bool_byte m.has_backslash → end ≤ length after
-    → IsSorted b (k + 1) (record { escaped = m.next; high = high; listed = end }) after
+    → IsClassified b (k + 1) (record { escaped = m.next; high = high; listed = end }) after
 unfolding holds_backslash
-IsSorted-next b k s listed m high after end h sorted written count within =
+IsClassified-next b k s listed m high after end h classified written count within =
     let e : 64 * k + 64 ≡ 64 * (k + 1) = omega arith in
     let one = bool-small m.has_backslash in
     record {
-      escaped = sorted.next ∙ ap (λ n. from_bool (is_escaped_at b n)) e;
+      escaped = classified.next ∙ ap (λ n. from_bool (is_escaped_at b n)) e;
       few = let f = h.few in omega arith;
       within = within;
-      found = listed-next (holds_backslash b) k s.listed listed after end m.has_backslash sorted.escapes h.found written;
+      found = listed-next (holds_backslash b) k s.listed listed after end m.has_backslash classified.escapes h.found written;
     }
 
 pub IsPlaced-next : (b : List ℕ) (k : ℕ) (p : Placing) (out : List ℕ) (m : Marks) (after : List ℕ) (used : ℕ) → IsPlaced b k p out → AreMarks b (64 * k) m
@@ -129,8 +129,8 @@ IsPlaced-next b k p out m after used h marks written few within =
 
 -- ---- the same block, counted otherwise
 
-pub IsSorted-same : {b : List ℕ} {m n : ℕ} {s : Sorting} {listed : List ℕ} → m ≡ n → IsSorted b m s listed → IsSorted b n s listed
-IsSorted-same {b} {m} {n} {s} {listed} e h = subst (λ k. IsSorted b k s listed) e h
+pub IsClassified-same : {b : List ℕ} {m n : ℕ} {s : Classifying} {listed : List ℕ} → m ≡ n → IsClassified b m s listed → IsClassified b n s listed
+IsClassified-same {b} {m} {n} {s} {listed} e h = subst (λ k. IsClassified b k s listed) e h
 
 pub IsPlaced-same : {b : List ℕ} {m n : ℕ} {p : Placing} {out : List ℕ} → m ≡ n → IsPlaced b m p out → IsPlaced b n p out
 IsPlaced-same {b} {m} {n} {p} {out} e h = subst (λ k. IsPlaced b k p out) e h
@@ -140,16 +140,16 @@ IsScanned-same {b} {m} {n} {s} {out} {listed} e h = subst (λ k. IsScanned b k s
 
 -- a window begins with no byte that is no ASCII
 pub IsScanned-high : {b : List ℕ} {k : ℕ} {s : Scanned} {out listed : List ℕ} → (high : ℕ) → IsScanned b k s out listed
-    → IsScanned b k (record { sorting = record { escaped = s.sorting.escaped; high = high; listed = s.sorting.listed }; placing = s.placing }) out listed
-IsScanned-high high h = record { sorted = record { escaped = h.sorted.escaped; few = h.sorted.few; within = h.sorted.within; found = h.sorted.found }; placed = h.placed }
+    → IsScanned b k (record { classifying = record { escaped = s.classifying.escaped; high = high; listed = s.classifying.listed }; placing = s.placing }) out listed
+IsScanned-high high h = record { classified = record { escaped = h.classified.escaped; few = h.classified.few; within = h.classified.within; found = h.classified.found }; placed = h.placed }
 
 -- ---- at the start, and where lists grow
 
 pub IsScanned-none : (b : List ℕ) (out listed : List ℕ)
-    → IsScanned b 0 (record { sorting = record { escaped = 0; high = 0; listed = 0 }; placing = record { carry = record { inside = 0; plain = 0 }; bad = 0; used = 0 } }) out listed
+    → IsScanned b 0 (record { classifying = record { escaped = 0; high = 0; listed = 0 }; placing = record { carry = record { inside = 0; plain = 0 }; bad = 0; used = 0 } }) out listed
 unfolding backslashes_before real_quotes is_plain_before
 IsScanned-none b out listed = record {
-  sorted = record { escaped = refl; few = omega arith; within = omega arith; found = refl };
+  classified = record { escaped = refl; few = omega arith; within = omega arith; found = refl };
   placed = record { carried = record { inside = refl; plain = refl }; bad = refl; few = omega arith; within = omega arith; found = refl };
 }
 
@@ -160,9 +160,9 @@ pub IsScanned-capacity : (b : List ℕ) (k : ℕ) (s : Scanned) (out listed more
     → take (length listed) more_listed ≡ listed → length listed ≤ length more_listed → IsScanned b k s more more_listed
 IsScanned-capacity b k s out listed more more_listed h e l f m =
     let p = h.placed in
-    let t = h.sorted in
+    let t = h.classified in
     record {
-      sorted = record { escaped = t.escaped; few = t.few; within = (let w = t.within in omega arith); found = prefix s.sorting.listed listed more_listed t.within f ∙ t.found };
+      classified = record { escaped = t.escaped; few = t.few; within = (let w = t.within in omega arith); found = prefix s.classifying.listed listed more_listed t.within f ∙ t.found };
       placed = record { carried = p.carried; bad = p.bad; few = p.few; within = (let w = p.within in omega arith); found = prefix s.placing.used out more p.within e ∙ p.found };
     }
 

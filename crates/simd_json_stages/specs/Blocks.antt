@@ -11,10 +11,10 @@ use Rattle.simd_json_stages.specs.Carries.{is_escaped_at, is_open_at, has_contro
 use Rattle.simd_json_stages.specs.declared.stage1.words.Carry.{Carry}
 use Rattle.simd_json_stages.specs.declared.stage1.words.Marks.{Marks}
 use Rattle.simd_json_stages.specs.declared.stage1.words.Parts.{Parts}
-use Rattle.simd_json_stages.specs.declared.stage1.words.Sorted.{Sorted}
+use Rattle.simd_json_stages.specs.declared.stage1.words.Classified.{Classified}
 use Rattle.simd_json_stages.specs.declared.stage1.scan.Placing.{Placing}
 use Rattle.simd_json_stages.specs.declared.stage1.scan.Scanned.{Scanned}
-use Rattle.simd_json_stages.specs.declared.stage1.scan.Sorting.{Sorting}
+use Rattle.simd_json_stages.specs.declared.stage1.scan.Classifying.{Classifying}
 
 -- the byte at index i goes on with a token, wherever it stands
 abbrev pub is_plain : List ℕ → ℕ → Bool
@@ -60,7 +60,7 @@ pub record HasClasses (b : List ℕ) (from s h c e : ℕ) : Type 0 where
   pub escaped : HasBits e (λ i. is_escaped_at b (from + i))
 
 -- what is found in a block by itself
-pub record AreSorted (b : List ℕ) (from : ℕ) (m : Sorted) : Type 0 where
+pub record AreClassified (b : List ℕ) (from : ℕ) (m : Classified) : Type 0 where
   pub classes : HasClasses b from m.soft m.hard m.control m.escaped
   pub next : m.next ≡ from_bool (is_escaped_at b (from + 64))
   pub ascii : m.high ≡ 0 → IsAscii b from (from + 64)
@@ -86,7 +86,7 @@ pub record AreMarks (b : List ℕ) (from : ℕ) (m : Marks) : Type 0 where
   pub carry : IsCarried b (from + 64) m.carry
 
 -- After the first k blocks: whether the next byte is escaped, and at the front of the list those of them that hold a backslash.
-pub record IsSorted (b : List ℕ) (k : ℕ) (s : Sorting) (listed : List ℕ) : Type 0 where
+pub record IsClassified (b : List ℕ) (k : ℕ) (s : Classifying) (listed : List ℕ) : Type 0 where
   pub escaped : s.escaped ≡ from_bool (is_escaped_at b (64 * k))
   pub few : s.listed ≤ k
   pub within : s.listed ≤ length listed
@@ -102,5 +102,5 @@ pub record IsPlaced (b : List ℕ) (k : ℕ) (p : Placing) (out : List ℕ) : Ty
 
 -- both
 pub record IsScanned (b : List ℕ) (k : ℕ) (s : Scanned) (out : List ℕ) (listed : List ℕ) : Type 0 where
-  pub sorted : IsSorted b k s.sorting listed
+  pub classified : IsClassified b k s.classifying listed
   pub placed : IsPlaced b k s.placing out

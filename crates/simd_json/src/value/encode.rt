@@ -21,6 +21,9 @@ impl Value<'_, '_> {
     /// (section 7). The text denotes a value that is equal to this one and nests as deep, so parsed again it
     /// is that value.
     ///
+    /// Each container that is open while it prints takes up to 80 bytes of the machine's stack, so 8 MB of it
+    /// are enough for 103,000 arrays in one another. The depth limit of the parse bounds how many there are.
+    ///
     /// Returns `OutOfMemory`, at index 0 without a character, where an allocation fails, and no other error.
     ///
     /// ```
@@ -69,7 +72,8 @@ impl Value<'_, '_> {
         Ok(unsafe { String::from_utf8_unchecked(text) })
     }
 
-    /// Writes the text of [`encode`](Value::encode). It takes no memory.
+    /// Writes the text of [`encode`](Value::encode). It takes no memory but the machine's stack, as much as
+    /// that does.
     ///
     /// A writer that fails ends it at once with its own error, one that is `Interrupted` too; one that takes
     /// no byte of a piece that is not empty ends it with an error of kind `WriteZero`. What was written by
@@ -94,7 +98,8 @@ impl Value<'_, '_> {
         write_compact(w, self.nodes())
     }
 
-    /// Writes the text of [`encode_pp`](Value::encode_pp). It takes no memory.
+    /// Writes the text of [`encode_pp`](Value::encode_pp). It takes no memory but the machine's stack, as
+    /// [`encode`](Value::encode) does.
     ///
     /// The errors are those of [`write`](Value::write), and leave a prefix of this text.
     ///

@@ -1,15 +1,15 @@
 //! What stands between the brackets: scalars, names, and where a line begins.
+ghost use Rattle.std.specs.Fmt.{decimal, signed_decimal};
 ghost use Rattle.simd_json_parts.specs.Bytes.{comma, left_brace, left_bracket, quote, space};
 ghost use Rattle.simd_json_parts.specs.Nodes.{item_of, string_item};
 ghost use Rattle.simd_json_parts.specs.Printed.{quoted, new_line};
 ghost use Rattle.simd_json_parts.specs.declared.node.StaticNode.TheVariants as fixed;
-ghost use Rattle.std.specs.Prelude.{◌≡◌, ◌<◌, ◌++◌, ◌∷◌, ◌*◌, ℕ, ℤ, List, [], cond, replicate, codes};
+ghost use Rattle.std.specs.Prelude.{◌≡◌, ◌<◌, ◌++◌, ◌∷◌, ◌*◌, ℕ, ℤ, List, [], cond, replicate, codes, unsigned_abs};
 ghost use Rattle.simd_json_print.specs.Layout.{line, after_name, scalar_text, static_text};
 ghost use Rattle.simd_json_print.specs.Places.{Gives, Grows};
 
 use crate::place::Sink;
 use crate::print::put_quoted;
-use itoa::{Buffer, Integer};
 use simd_json_parts::node::{Node, StaticNode};
 
 // A line feed and the spaces of 16 open containers.
@@ -44,12 +44,19 @@ fn put_static<P, S: Sink<P>>(sink: &mut S, target: &mut P, value: StaticNode)
     ensures { Gives (S.place sink.old target.old) (S.place sink.new target.new) (static_text value) }
 {
     if let StaticNode::U64(number) = value {
-        put_integer(sink, target, number);
+        sink.put_decimal(target, b"", number, b"");
     } else if let StaticNode::I64(number) = value {
-        put_integer(sink, target, number);
+        sink.put_decimal(target, minus_of(number), number.unsigned_abs(), b"");
     } else {
         put_word(sink, target, value);
     }
+}
+
+#[inline(always)]
+fn minus_of(number: i64) -> &'static [u8]
+    ensures { signed_decimal number ≡ result.now ++ decimal (unsigned_abs number) }
+{
+    if number < 0 { b"-" } else { b"" }
 }
 
 // What is no integer. Out of line, so that the kinds of values stay a chain of tests and become no jump by a
@@ -67,13 +74,6 @@ fn put_word<P, S: Sink<P>>(sink: &mut S, target: &mut P, value: StaticNode)
     } else {
         sink.put(target, b"null");
     }
-}
-
-fn put_integer<P, S: Sink<P>, I: Integer>(sink: &mut S, target: &mut P, number: I)
-    ensures { Gives (S.place sink.old target.old) (S.place sink.new target.new) (I.text number) }
-{
-    let mut buffer = Buffer::new();
-    sink.put(target, buffer.format(number).as_bytes());
 }
 
 /// The name of a member, from its node: what stands before it, its line in pretty text, and the colon after
@@ -135,7 +135,7 @@ fn name_front(is_first: bool) -> &'static [u8]
 }
 
 /// A node that is no header, in an array of compact text, and what stands before it: as one piece, if it is a
-/// string or a decimal.
+/// string, a decimal or an unsigned number.
 #[inline(never)]
 pub(crate) fn put_scalar_element<P, S: Sink<P>>(
     sink: &mut S,
@@ -151,6 +151,8 @@ pub(crate) fn put_scalar_element<P, S: Sink<P>>(
         sink.put_string(target, front, string, b"\"");
     } else if let Node::Decimal(literal) = *node {
         sink.put_between(target, &front[..1], literal.as_bytes(), b"");
+    } else if let Node::Static(StaticNode::U64(number)) = *node {
+        sink.put_decimal(target, &front[..1], number, b"");
     } else {
         sink.put(target, &front[..1]);
         put_scalar(sink, target, node);

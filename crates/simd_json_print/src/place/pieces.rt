@@ -1,11 +1,14 @@
 //! Text on its way to a writer: it is collected, and handed over in pieces.
 ghost use Rattle.std.specs.Prelude.{◌≡◌, ◌+◌, ◌≤◌, [], ◌++◌, flat_map, length, take, OnOk, IsTrue, IsFalse};
+ghost use Rattle.std.specs.Fmt.{decimal};
 ghost use Rattle.simd_json_parts.specs.Printed.{escaped_byte};
 ghost use Rattle.simd_json_print.specs.Sent.{Sends};
 
+mod decimals;
 mod runs;
 mod stores;
 
+use decimals::{DIGITS, store_decimal};
 use runs::store_run;
 use std::io;
 use std::io::{ErrorKind, Write};
@@ -59,18 +62,18 @@ impl<const SIZE: usize> Pieces<SIZE> {
         self.used += bytes.len();
     }
 
-    // Whether these bytes are few, with little in front of them and after them, and there is capacity for
+    // Whether so many bytes are few, with little in front of them and after them, and there is capacity for
     // all.
     #[inline(always)]
-    fn holds(&self, front: &[u8], bytes: &[u8], back: &[u8]) -> bool
-        ensures few { IsTrue result → length bytes.now ≤ 32 }
+    fn holds(&self, front: &[u8], len: usize, back: &[u8]) -> bool
+        ensures few { IsTrue result → len ≤ 32 }
         ensures fits { IsTrue result
-            → length self.now + (length front.now + length bytes.now + length back.now) ≤ SIZE }
+            → length self.now + (length front.now + len + length back.now) ≤ SIZE }
     {
-        if bytes.len() > FEW || front.len() > MARKS || back.len() > MARKS {
+        if len > FEW || front.len() > MARKS || back.len() > MARKS {
             return false;
         }
-        front.len() + bytes.len() + back.len() <= SIZE - self.used
+        front.len() + len + back.len() <= SIZE - self.used
     }
 
     // A few bytes, between what stands in front of them and after them, where they fit.
@@ -79,11 +82,25 @@ impl<const SIZE: usize> Pieces<SIZE> {
         ensures collected { IsTrue result → self.new ≡ self.old ++ (front.now ++ (bytes.now ++ back.now)) }
         ensures kept { IsFalse result → self.new ≡ self.old }
     {
-        if !self.holds(front, bytes, back) {
+        if !self.holds(front, bytes.len(), back) {
             return false;
         }
         store_between(&mut self.bytes, self.used, front, bytes, back);
         self.used += front.len() + bytes.len() + back.len();
+        true
+    }
+
+    // A number in decimal, likewise.
+    #[inline(always)]
+    pub(crate) fn collect_decimal(&mut self, front: &[u8], number: u64, back: &[u8]) -> bool
+        ensures collected { IsTrue result → self.new
+            ≡ self.old ++ (front.now ++ (decimal number ++ back.now)) }
+        ensures kept { IsFalse result → self.new ≡ self.old }
+    {
+        if !self.holds(front, DIGITS, back) {
+            return false;
+        }
+        self.used = store_decimal(&mut self.bytes, self.used, front, number, back);
         true
     }
 
@@ -95,7 +112,7 @@ impl<const SIZE: usize> Pieces<SIZE> {
             ≡ self.old ++ (front.now ++ (flat_map escaped_byte string.now ++ back.now)) }
         ensures kept { IsFalse result → self.new ≡ self.old }
     {
-        if !self.holds(front, string, back) {
+        if !self.holds(front, string.len(), back) {
             return false;
         }
         let len = front.len() + string.len() + back.len();

@@ -6,6 +6,7 @@ mod tests;
 
 use crate::place::Sink;
 use crate::place::pieces::Pieces;
+use itoa::Buffer;
 use std::io;
 use std::io::{ErrorKind, Write};
 use std::marker::Model;
@@ -47,6 +48,13 @@ impl<W: Write, const SIZE: usize> Sink<W> for Writing<SIZE> {
     }
 
     #[inline(always)]
+    fn put_decimal(&mut self, target: &mut W, front: &[u8], number: u64, back: &[u8]) {
+        if !self.put_digits(front, number, back) {
+            self.put_formatted(target, front, number, back);
+        }
+    }
+
+    #[inline(always)]
     fn put_string(&mut self, target: &mut W, front: &[u8], string: &str, back: &[u8]) {
         let bytes = string.as_bytes();
         if self.has_stopped || !self.pieces.collect_string(front, bytes, back) {
@@ -63,6 +71,7 @@ impl<W: Write, const SIZE: usize> Sink<W> for Writing<SIZE> {
 impl<const SIZE: usize> Writing<SIZE> {
     ghost use Rattle.std.specs.Prelude.{◌≡◌, ◌≤◌, ◌++◌, ℕ, List, Option, Some, None, []};
     ghost use Rattle.std.specs.Prelude.{flat_map, length, take, IsTrue, IsFalse, OnOk, OnErr};
+    ghost use Rattle.std.specs.Fmt.{decimal};
     ghost use Rattle.std.specs.Io.KnownBytes.{Appends};
     ghost use Rattle.simd_json_parts.specs.Printed.{escaped_byte};
     ghost use Rattle.simd_json_print.specs.Places.{Gives, IsLonger};
@@ -99,7 +108,27 @@ impl<const SIZE: usize> Writing<SIZE> {
         !self.has_stopped && self.pieces.collect_few(front, bytes, back)
     }
 
-    // Any bytes, likewise, one part after the other.
+    // A number, likewise.
+    #[inline(always)]
+    fn put_digits(&mut self, front: &[u8], number: u64, back: &[u8]) -> bool
+        ensures given { IsTrue result → (held : Option (List ℕ))
+            → Gives (held, self.old) (held, self.new) (front.now ++ (decimal number ++ back.now)) }
+        ensures kept { IsFalse result → self.new ≡ self.old }
+    {
+        !self.has_stopped && self.pieces.collect_decimal(front, number, back)
+    }
+
+    // The same, where it need not fit.
+    #[inline(never)]
+    fn put_formatted<W: Write>(&mut self, writer: &mut W, front: &[u8], number: u64, back: &[u8])
+        ensures { Gives (W.contents writer.old, self.old) (W.contents writer.new, self.new)
+            (front.now ++ (decimal number ++ back.now)) }
+    {
+        let mut buffer = Buffer::new();
+        self.put_parts(writer, front, buffer.format(number).as_bytes(), back);
+    }
+
+    // Any bytes, one part after the other.
     #[inline(never)]
     fn put_parts<W: Write>(&mut self, writer: &mut W, front: &[u8], bytes: &[u8], back: &[u8])
         ensures { Gives (W.contents writer.old, self.old) (W.contents writer.new, self.new)

@@ -11,7 +11,7 @@ mod windows;
 
 use super::capacity::{grow, put};
 use super::encoding::check_window;
-use super::words::{Carry, find_marks, find_parts, sort};
+use super::words::{Carry, classify, find_marks, find_parts};
 use super::writing::write_exactly;
 use super::{BLOCK_LEN, Found};
 use simd_json_parts::error::Result;
@@ -20,7 +20,7 @@ use windows::{WINDOW, Window, capacity_for, scan_window};
 
 // What is kept from one block to the next of those that are looked at by themselves.
 #[derive(Clone, Copy, Drop)]
-struct Sorting {
+struct Classifying {
     // 1 where the next byte is escaped, else 0.
     escaped: u64,
     // Not 0 where a byte of the last window is no ASCII.
@@ -40,12 +40,12 @@ struct Placing {
 // What is known after some whole blocks.
 #[derive(Clone, Copy, Drop)]
 struct Scanned {
-    sorting: Sorting,
+    classifying: Classifying,
     placing: Placing,
 }
 
 const START: Scanned = Scanned {
-    sorting: Sorting {
+    classifying: Classifying {
         escaped: 0,
         high: 0,
         listed: 0,
@@ -99,7 +99,7 @@ fn scan_blocks<A: Allocator>(
             escape_blocks.as_mut_slice(),
             done,
         );
-        let is_ascii = done.sorting.high == 0;
+        let is_ascii = done.classifying.high == 0;
         checked = check_window(input, checked, BLOCK_LEN * first, BLOCK_LEN * end, is_ascii)?;
         first = end;
     }
@@ -139,18 +139,23 @@ fn scan_rest<A: Allocator>(
         × (length escape_blocks.old.items ≤ length escape_blocks.new.items) }
 {
     let number = input.len() / BLOCK_LEN;
-    let sorted = sort(&last_block(rest), done.sorting.escaped);
-    let is_ascii = sorted.high == 0;
+    let classified = classify(&last_block(rest), done.classifying.escaped);
+    let is_ascii = classified.high == 0;
     check_window(input, checked, BLOCK_LEN * number, input.len(), is_ascii)?;
-    let parts = find_parts(sorted.soft, sorted.hard, sorted.control, sorted.escaped);
-    let marks = find_marks(parts, sorted.control, done.placing.carry);
+    let parts = find_parts(
+        classified.soft,
+        classified.hard,
+        classified.control,
+        classified.escaped,
+    );
+    let marks = find_marks(parts, classified.control, done.placing.carry);
     let used = done.placing.used;
     let positions = used + marks.starts.count_ones() as usize;
     grow(structural_indexes, positions, positions, input.len())?;
     let out = structural_indexes.as_mut_slice();
     write_exactly(out, used, (BLOCK_LEN * number) as u32, marks.starts);
-    let mut listed = done.sorting.listed;
-    if sorted.has_backslash {
+    let mut listed = done.classifying.listed;
+    if classified.has_backslash {
         let max_blocks = input.len().div_ceil(BLOCK_LEN);
         put(escape_blocks, listed, number as u32, max_blocks)?;
         listed += 1;

@@ -4,7 +4,7 @@ ghost use Rattle.std.specs.Int.{from_bool};
 ghost use Rattle.simd_json_stages.specs.Words.{HasBits, escaped_in, parity};
 ghost use Rattle.simd_json_stages.specs.Carries.{is_escaped_at};
 ghost use Rattle.simd_json_stages.specs.Blocks.{IsBlock, IsControl, IsCarried, HasClasses};
-ghost use Rattle.simd_json_stages.specs.Blocks.{AreMarks, AreParts, AreSorted};
+ghost use Rattle.simd_json_stages.specs.Blocks.{AreMarks, AreParts, AreClassified};
 
 use super::classes::{backslashes, classes};
 
@@ -19,7 +19,7 @@ struct Escaped {
 // What is found in a block by itself: a bit for each byte of a class, and for each that is escaped. `next` is
 // 1 where the byte after the block is escaped, else 0; `high` is not 0 where a byte is no ASCII.
 #[derive(Clone, Copy, Drop)]
-pub(super) struct Sorted {
+pub(super) struct Classified {
     pub(super) soft: u64,
     pub(super) hard: u64,
     pub(super) control: u64,
@@ -87,9 +87,9 @@ fn prefix_xor(x: u64) -> u64
 
 // The classes of a block, and what is escaped in it. `before` is 1 where its first byte is, else 0.
 #[inline(always)]
-pub(super) fn sort(bytes: &[u8; 64], before: u64) -> Sorted
+pub(super) fn classify(bytes: &[u8; 64], before: u64) -> Classified
     ensures { (b : List ℕ) (i : ℕ) → IsBlock b i bytes.now → before ≡ from_bool (is_escaped_at b i)
-        → AreSorted b i result }
+        → AreClassified b i result }
 {
     let m = classes(bytes);
     // Most blocks hold no backslash.
@@ -101,7 +101,7 @@ pub(super) fn sort(bytes: &[u8; 64], before: u64) -> Sorted
             next: 0,
         }
     };
-    Sorted {
+    Classified {
         soft: m.soft,
         hard: m.hard,
         control: m.control,

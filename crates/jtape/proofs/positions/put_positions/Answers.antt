@@ -14,7 +14,7 @@ returns-then-has_stopped g c = given-lost number_line c.args.positions.now c.loo
 pub loop-position-preserved : goal.loop-position-preserved
 loop-position-preserved g c =
     given-more number_line c.args.positions.now c.loop-position.position-index 0 _ _ _ c.loop-position-test.true c.loop-position.invariant
-    (gives-is _ _ _ _ (ap number_line (get_or_default c.args.positions.now c.loop-position.position-index _ 0 c.loop-position-test.true)) c.put_position.ensures)
+    (gives-is _ _ _ _ (ap number_line (get_or_default c.args.positions.now c.loop-position.position-index _ 0 c.loop-position-test.true)) c.put_decimal.ensures)
 
 pub returns : goal.returns
 returns g c = given-all number_line c.args.positions.now c.loop-position.position-index _ _ (omega arith) c.loop-position.invariant

@@ -3,6 +3,7 @@ use crate::document::{put_compact, put_pretty};
 use crate::print::put_quoted;
 use simd_json_parts::node::{Node, StaticNode};
 use std::alloc::Global;
+use std::process::Abort;
 use std::test::Fail;
 
 // ` [ "ab\n" , { "a name of more than thirty-two letters" : -12 } , [] ] `
@@ -108,6 +109,65 @@ fn strings_stand_between_what_is_around_them(rt: HostRuntime) -> std::result::Re
         }
     }
     Ok(())
+}
+
+fn number_between<const SIZE: usize>(
+    alloc: Global,
+    mut sink: Writing<SIZE>,
+    number: u64,
+) -> std::result::Result<Vec<u8>, Fail> {
+    let mut out = Vec::new(alloc);
+    sink.put_decimal(&mut out, b"I64 -", number, b": ");
+    sink.finish(&mut out)?;
+    Ok(out)
+}
+
+fn assert_number(
+    rt: &impl Abort,
+    alloc: Global,
+    number: u64,
+    digits: &[u8],
+) -> std::result::Result<(), Fail> {
+    let mut wanted = Vec::from_slice(alloc, b"I64 -")?;
+    wanted.extend_from_slice(digits)?;
+    wanted.extend_from_slice(b": ")?;
+    let wanted = wanted.as_slice();
+    assert_eq!(rt;
+        number_between(alloc, Writing::<1>::new(), number)?.as_slice(),
+        wanted
+    );
+    assert_eq!(rt;
+        number_between(alloc, Writing::<26>::new(), number)?.as_slice(),
+        wanted
+    );
+    assert_eq!(rt;
+        number_between(alloc, Writing::<27>::new(), number)?.as_slice(),
+        wanted
+    );
+    assert_eq!(rt;
+        number_between(alloc, Writing::<64>::new(), number)?.as_slice(),
+        wanted
+    );
+    Ok(())
+}
+
+// The least and the greatest number of so many digits, where there is capacity for each number and where there
+// is none.
+#[test]
+fn numbers_have_their_digits(rt: HostRuntime) -> std::result::Result<(), Fail> {
+    let mut least = Vec::from_slice(rt.alloc(), b"1")?;
+    let mut greatest = Vec::from_slice(rt.alloc(), b"9")?;
+    let mut power = 1u64;
+    assert_number(&rt, rt.alloc(), 0, b"0")?;
+    assert_number(&rt, rt.alloc(), 1, b"1")?;
+    for _ in 0..19 {
+        power = power.wrapping_mul(10);
+        least.push(b'0')?;
+        assert_number(&rt, rt.alloc(), power.wrapping_sub(1), greatest.as_slice())?;
+        assert_number(&rt, rt.alloc(), power, least.as_slice())?;
+        greatest.push(b'9')?;
+    }
+    assert_number(&rt, rt.alloc(), u64::MAX, b"18446744073709551615")
 }
 
 // Fails at its first call, and would take all at the next one.

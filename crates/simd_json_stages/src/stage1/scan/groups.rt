@@ -3,13 +3,13 @@
 ghost use Rattle.std.specs.Prelude.{◌≡◌, ◌+◌, ◌-◌, ◌*◌, ◌%◌, ◌^◌, ◌≤◌, ℕ, List, length};
 ghost use Rattle.std.specs.Int.{from_bool};
 ghost use Rattle.simd_json_stages.specs.Carries.{is_escaped_at};
-ghost use Rattle.simd_json_stages.specs.Blocks.{AreBlocks, IsAscii, IsPlaced, IsScanned, IsSorted};
+ghost use Rattle.simd_json_stages.specs.Blocks.{AreBlocks, IsAscii, IsClassified, IsPlaced, IsScanned};
 ghost use Rattle.simd_json_stages.specs.Groups.{HaveClasses, HaveControl, HaveParts};
 
 use super::windows::Window;
-use super::{Placing, Scanned, Sorting};
+use super::{Classifying, Placing, Scanned};
 use crate::stage1::BLOCK_LEN;
-use crate::stage1::words::{Parts, find_marks, find_parts, sort};
+use crate::stage1::words::{Parts, classify, find_marks, find_parts};
 use crate::stage1::writing::{list_block, write};
 
 // How many blocks a group has.
@@ -61,38 +61,38 @@ impl Group {
 }
 
 // What each block tells by itself. Those with a backslash are listed.
-fn sort_group(
+fn classify_group(
     blocks: &[[u8; 64]],
     first: usize,
     listed: &mut [u32],
     classes: &mut GroupClasses,
-    before: Sorting,
-) -> Sorting
+    before: Classifying,
+) -> Classifying
     requires within { first + 8 ≤ length blocks.now }
     requires short { 64 * (first + 8) ≤ 2 ^ 32 }
     requires capacity { before.listed + 8 ≤ length listed.old }
-    ensures sorted { (b : List ℕ) → AreBlocks b blocks.now → IsSorted b first before listed.old
-        → IsSorted b (first + 8) result listed.new }
+    ensures classified { (b : List ℕ) → AreBlocks b blocks.now → IsClassified b first before listed.old
+        → IsClassified b (first + 8) result listed.new }
     ensures few { result.listed ≤ before.listed + 8 }
-    ensures classes { (b : List ℕ) → AreBlocks b blocks.now → IsSorted b first before listed.old
+    ensures classes { (b : List ℕ) → AreBlocks b blocks.now → IsClassified b first before listed.old
         → HaveClasses b first 8 classes.new.soft classes.new.hard classes.new.control classes.new.escaped }
-    ensures ascii { (b : List ℕ) → AreBlocks b blocks.now → IsSorted b first before listed.old
+    ensures ascii { (b : List ℕ) → AreBlocks b blocks.now → IsClassified b first before listed.old
         → result.high ≡ 0 → (before.high ≡ 0) × IsAscii b (64 * first) (64 * (first + 8)) }
 {
     let mut now = before;
     let mut k = 0;
     while k < GROUP {
-        let sorted = sort(&blocks[first + k], now.escaped);
+        let classified = classify(&blocks[first + k], now.escaped);
         let number = (first + k) as u32;
-        now = Sorting {
-            escaped: sorted.next,
-            high: now.high | sorted.high,
-            listed: list_block(listed, now.listed, number, sorted.has_backslash),
+        now = Classifying {
+            escaped: classified.next,
+            high: now.high | classified.high,
+            listed: list_block(listed, now.listed, number, classified.has_backslash),
         };
-        classes.soft[k] = sorted.soft;
-        classes.hard[k] = sorted.hard;
-        classes.control[k] = sorted.control;
-        classes.escaped[k] = sorted.escaped;
+        classes.soft[k] = classified.soft;
+        classes.hard[k] = classified.hard;
+        classes.control[k] = classified.control;
+        classes.escaped[k] = classified.escaped;
         k += 1;
     }
     now
@@ -172,20 +172,29 @@ fn scan_group(
     requires within { first + 8 ≤ length blocks.now }
     requires short { 64 * (first + 8) ≤ 2 ^ 32 }
     requires capacity { before.placing.used + 512 ≤ length out.old }
-    requires block_capacity { before.sorting.listed + 8 ≤ length listed.old }
+    requires block_capacity { before.classifying.listed + 8 ≤ length listed.old }
     ensures few { (result.placing.used ≤ before.placing.used + 512)
-        × (result.sorting.listed ≤ before.sorting.listed + 8) }
+        × (result.classifying.listed ≤ before.classifying.listed + 8) }
     ensures scanned { (b : List ℕ) → AreBlocks b blocks.now → IsScanned b first before out.old listed.old
         → IsScanned b (first + 8) result out.new listed.new }
     ensures ascii { (b : List ℕ) → AreBlocks b blocks.now → IsScanned b first before out.old listed.old
-        → result.sorting.high ≡ 0
-        → (before.sorting.high ≡ 0) × IsAscii b (64 * first) (64 * (first + 8)) }
+        → result.classifying.high ≡ 0
+        → (before.classifying.high ≡ 0) × IsAscii b (64 * first) (64 * (first + 8)) }
 {
-    let sorting = sort_group(blocks, first, listed, &mut group.classes, before.sorting);
+    let classifying = classify_group(
+        blocks,
+        first,
+        listed,
+        &mut group.classes,
+        before.classifying,
+    );
     part_group(&group.classes, &mut group.parts);
     let control = &group.classes.control;
     let placing = place_group(first, &group.parts, control, out, before.placing);
-    Scanned { sorting, placing }
+    Scanned {
+        classifying,
+        placing,
+    }
 }
 
 // The groups of a window that has nothing else, likewise.
@@ -201,15 +210,15 @@ pub(super) fn scan_groups(
     requires groups { (window.end - window.first) % 8 ≡ 0 }
     requires short { 64 * window.end ≤ 2 ^ 32 }
     requires capacity { before.placing.used + 64 * (window.end - window.first) ≤ length out.old }
-    requires block_capacity { before.sorting.listed + (window.end - window.first) ≤ length listed.old }
+    requires block_capacity { before.classifying.listed + (window.end - window.first) ≤ length listed.old }
     ensures few { (result.placing.used ≤ before.placing.used + 64 * (window.end - window.first))
-        × (result.sorting.listed ≤ before.sorting.listed + (window.end - window.first)) }
+        × (result.classifying.listed ≤ before.classifying.listed + (window.end - window.first)) }
     ensures scanned { (b : List ℕ) → AreBlocks b blocks.now
         → IsScanned b window.first before out.old listed.old
         → IsScanned b window.end result out.new listed.new }
     ensures ascii { (b : List ℕ) → AreBlocks b blocks.now → IsScanned b window.first before out.old listed.old
-        → result.sorting.high ≡ 0
-        → (before.sorting.high ≡ 0) × IsAscii b (64 * window.first) (64 * window.end) }
+        → result.classifying.high ≡ 0
+        → (before.classifying.high ≡ 0) × IsAscii b (64 * window.first) (64 * window.end) }
 {
     let mut group = Group::EMPTY;
     let mut done = before;

@@ -6,11 +6,11 @@ ghost use Rattle.simd_json_stages.specs.Blocks.{AreBlocks, IsAscii, IsScanned};
 ghost use Rattle.simd_json_stages.specs.Scans.{IsBadEncoding, LacksMemory};
 
 use super::groups::{GROUP, scan_groups};
-use super::{Placing, Scanned, Sorting};
+use super::{Classifying, Placing, Scanned};
 use crate::stage1::BLOCK_LEN;
 use crate::stage1::capacity::grow;
 use crate::stage1::encoding::check_rest;
-use crate::stage1::words::{find_marks, find_parts, sort};
+use crate::stage1::words::{classify, find_marks, find_parts};
 use crate::stage1::writing::{list_block, write};
 use simd_json_parts::error::Result;
 use std::alloc::Allocator;
@@ -36,26 +36,36 @@ fn scan_few(
     requires within { (window.first ≤ window.end) × (window.end ≤ length blocks.now) }
     requires short { 64 * window.end ≤ 2 ^ 32 }
     requires capacity { before.placing.used + 64 * (window.end - window.first) ≤ length out.old }
-    requires block_capacity { before.sorting.listed + (window.end - window.first) ≤ length listed.old }
+    requires block_capacity { before.classifying.listed + (window.end - window.first) ≤ length listed.old }
     ensures scanned { (b : List ℕ) → AreBlocks b blocks.now
         → IsScanned b window.first before out.old listed.old
         → IsScanned b window.end result out.new listed.new }
     ensures ascii { (b : List ℕ) → AreBlocks b blocks.now → IsScanned b window.first before out.old listed.old
-        → result.sorting.high ≡ 0
-        → (before.sorting.high ≡ 0) × IsAscii b (64 * window.first) (64 * window.end) }
+        → result.classifying.high ≡ 0
+        → (before.classifying.high ≡ 0) × IsAscii b (64 * window.first) (64 * window.end) }
 {
-    let mut sorting = before.sorting;
+    let mut classifying = before.classifying;
     let mut placing = before.placing;
     let mut i = window.first;
     while i < window.end {
-        let sorted = sort(&blocks[i], sorting.escaped);
-        sorting = Sorting {
-            escaped: sorted.next,
-            high: sorting.high | sorted.high,
-            listed: list_block(listed, sorting.listed, i as u32, sorted.has_backslash),
+        let classified = classify(&blocks[i], classifying.escaped);
+        classifying = Classifying {
+            escaped: classified.next,
+            high: classifying.high | classified.high,
+            listed: list_block(
+                listed,
+                classifying.listed,
+                i as u32,
+                classified.has_backslash,
+            ),
         };
-        let parts = find_parts(sorted.soft, sorted.hard, sorted.control, sorted.escaped);
-        let marks = find_marks(parts, sorted.control, placing.carry);
+        let parts = find_parts(
+            classified.soft,
+            classified.hard,
+            classified.control,
+            classified.escaped,
+        );
+        let marks = find_marks(parts, classified.control, placing.carry);
         placing = Placing {
             carry: marks.carry,
             bad: placing.bad | marks.bad,
@@ -63,7 +73,10 @@ fn scan_few(
         };
         i += 1;
     }
-    Scanned { sorting, placing }
+    Scanned {
+        classifying,
+        placing,
+    }
 }
 
 // The blocks of a window, into lists with capacity for all that they may have.
@@ -77,15 +90,15 @@ pub(super) fn scan_window(
     requires within { (window.first ≤ window.end) × (window.end ≤ length blocks.now) }
     requires short { 64 * window.end ≤ 2 ^ 32 }
     requires capacity { before.placing.used + 64 * (window.end - window.first) ≤ length out.old }
-    requires block_capacity { before.sorting.listed + (window.end - window.first) ≤ length listed.old }
+    requires block_capacity { before.classifying.listed + (window.end - window.first) ≤ length listed.old }
     ensures scanned { (b : List ℕ) → AreBlocks b blocks.now
         → IsScanned b window.first before out.old listed.old
         → IsScanned b window.end result out.new listed.new }
     ensures ascii { (b : List ℕ) → AreBlocks b blocks.now → IsScanned b window.first before out.old listed.old
-        → result.sorting.high ≡ 0 → IsAscii b (64 * window.first) (64 * window.end) }
+        → result.classifying.high ≡ 0 → IsAscii b (64 * window.first) (64 * window.end) }
 {
     let mut done = before;
-    done.sorting.high = 0;
+    done.classifying.high = 0;
     let middle = window.end - (window.end - window.first) % GROUP;
     let groups = Window {
         end: middle,
@@ -114,11 +127,11 @@ pub(super) fn capacity_for<A: Allocator>(
     requires size { length input.now ≤ max_length }
     requires within { (window.first < window.end) × (64 * window.end ≤ length input.now) }
     requires checked { (checked ≤ length input.now) × IsUtf8 (take checked input.now) }
-    requires used { (done.placing.used ≤ 64 * window.first) × (done.sorting.listed ≤ window.first) }
+    requires used { (done.placing.used ≤ 64 * window.first) × (done.classifying.listed ≤ window.first) }
     ensures checked { IfOk result (λ to. (to ≤ length input.now) × IsUtf8 (take to input.now)) }
     ensures positions { IfOk result (λ to. done.placing.used + 64 * (window.end - window.first)
         ≤ length structural_indexes.new.items) }
-    ensures blocks { IfOk result (λ to. done.sorting.listed + (window.end - window.first)
+    ensures blocks { IfOk result (λ to. done.classifying.listed + (window.end - window.first)
         ≤ length escape_blocks.new.items) }
     ensures kept { (take (length structural_indexes.old.items) structural_indexes.new.items
         ≡ structural_indexes.old.items)
@@ -130,7 +143,7 @@ pub(super) fn capacity_for<A: Allocator>(
 {
     let count = window.end - window.first;
     let positions = done.placing.used + BLOCK_LEN * count;
-    let blocks = done.sorting.listed + count;
+    let blocks = done.classifying.listed + count;
     if positions <= structural_indexes.len() && blocks <= escape_blocks.len() {
         return Ok(checked);
     }

@@ -13,7 +13,7 @@ returns-in-String g c =
     gives-is _ _ _ _ (ap (λ us. before ∷ us) (append-nil (quoted c.in-String.string.now)) ∙ ap (λ x. before ∷ scalar_text (item_of x)) (sym c.in-String.is))
     (gives-string _ _ _ c.element_front-front.result.now c.in-String.string.now [] c.element_front-front.ensures c.put_string.ensures)
 
-pub returns-in_default-node : goal.returns-in_default-node
-returns-in_default-node g c =
+pub returns-in_default-node-2 : goal.returns-in_default-node-2
+returns-in_default-node-2 g c =
     gives-then _ _ _ (cond c.args.is_first left_bracket comma ∷ []) (scalar_text (item_of c.args.node.now))
     (gives-front _ _ _ c.element_front-front.result.now c.element_front-front.ensures c.put.ensures) c.put_scalar.ensures

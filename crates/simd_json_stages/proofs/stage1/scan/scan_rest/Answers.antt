@@ -6,43 +6,43 @@ use Rattle.simd_json_stages.proofs.EncodingLaws.{utf8-reached}
 use Rattle.simd_json_stages.proofs.RestLaws.{whole, IsBlock-rest, rest-bad, rest-positions, rest-few, rest-listed, rest-blocks}
 use Rattle.simd_json_stages.proofs.ScanLaws.{written-back, prefix}
 use Rattle.simd_json_stages.proofs.stage1.scan.scan_rest.Goals as goal
-use Rattle.simd_json_stages.proofs.stage1.scan.scan_rest.Goals.{then-sorted+in_ok-put, else-sorted}
+use Rattle.simd_json_stages.proofs.stage1.scan.scan_rest.Goals.{then-classified+in_ok-put, else-classified}
 use Rattle.simd_json_stages.proofs.Exits.{passed-on}
 
 pub check_window-requires-clause-ascii : goal.check_window-requires-clause-ascii
 check_window-requires-clause-ascii g c =
     let b = c.args.input.now in
-    let s = c.requires.scanned.sorted in
-    let sorted = c.sort-sorted.ensures b _ (IsBlock-rest b c.args.rest.now _ c.requires.rest c.last_block.ensures) s.escaped in
-    λ zero i from end. sorted.ascii (eqb-true _ _ zero) i from (omega arith)
+    let s = c.requires.scanned.classified in
+    let classified = c.classify-classified.ensures b _ (IsBlock-rest b c.args.rest.now _ c.requires.rest c.last_block.ensures) s.escaped in
+    λ zero i from end. classified.ascii (eqb-true _ _ zero) i from (omega arith)
 
 pub grow-requires : goal.grow-requires
 grow-requires g c =
     let b = c.args.input.now in
     let s = c.requires.scanned in
-    let sorted = c.sort-sorted.ensures b _ (IsBlock-rest b c.args.rest.now _ c.requires.rest c.last_block.ensures) s.sorted.escaped in
-    let marks = c.find_marks-marks.ensures b _ (c.find_parts-parts.ensures b _ sorted.classes) sorted.classes.control s.placed.carried in
+    let classified = c.classify-classified.ensures b _ (IsBlock-rest b c.args.rest.now _ c.requires.rest c.last_block.ensures) s.classified.escaped in
+    let marks = c.find_marks-marks.ensures b _ (c.find_parts-parts.ensures b _ classified.classes) classified.classes.control s.placed.carried in
     rest-few b c.args.done.placing _ c.find_marks-marks.result s.placed marks
 
 pub put-requires-clause-within : goal.put-requires-clause-within
 put-requires-clause-within g c =
     let b = c.args.input.now in
-    let s = c.requires.scanned.sorted in
-    let sorted = c.sort-sorted.ensures b _ (IsBlock-rest b c.args.rest.now _ c.requires.rest c.last_block.ensures) s.escaped in
-    let l : c.args.done.sorting.listed < blocks_in (length b) = rest-listed b c.args.done.sorting _ c.sort-sorted.result s sorted c.if-sorted.true in
+    let s = c.requires.scanned.classified in
+    let classified = c.classify-classified.ensures b _ (IsBlock-rest b c.args.rest.now _ c.requires.rest c.last_block.ensures) s.escaped in
+    let l : c.args.done.classifying.listed < blocks_in (length b) = rest-listed b c.args.done.classifying _ c.classify-classified.result s classified c.if-classified.true in
     omega (arith, c.div_ceil-max_blocks.ensures)
 
 pub returns-clause-found : goal.returns-clause-found
 returns-clause-found g c =
     let b = c.args.input.now in
     let s = c.requires.scanned in
-    let t = c.sort-sorted.result in
+    let t = c.classify-classified.result in
     let m = c.find_marks-marks.result in
-    let sorted = c.sort-sorted.ensures b _ (IsBlock-rest b c.args.rest.now _ c.requires.rest c.last_block.ensures) s.sorted.escaped in
-    let marks = c.find_marks-marks.ensures b _ (c.find_parts-parts.ensures b _ sorted.classes) sorted.classes.control s.placed.carried in
+    let classified = c.classify-classified.ensures b _ (IsBlock-rest b c.args.rest.now _ c.requires.rest c.last_block.ensures) s.classified.escaped in
+    let marks = c.find_marks-marks.ensures b _ (c.find_parts-parts.ensures b _ classified.classes) classified.classes.control s.placed.carried in
     let a = c.grow in
     let w = c.write_exactly in
-    let d = c.args.done.sorting in
+    let d = c.args.done.classifying in
     let p = c.args.done.placing in
     let long : length w.new.out ≡ a.new.list.len = omega arith in
     let out : take a.new.list.len (w.new.out ++ drop (length w.new.out) a.new.list.items) ≡ w.new.out = written-back w.new.out _ a.new.list.len long in
@@ -51,13 +51,13 @@ returns-clause-found g c =
     let capacity : p.used + ones m.starts ≤ length w.new.out = omega (arith, ap length c.as_mut_slice-out.ensures.value, c.in_ok-grow.ensures.capacity) in
     let utf8 = c.in_ok-check_window.ensures.utf8 in
     let end : c.in_ok-check_window.field-0 ≡ length b = c.in_ok-check_window.ensures.whole refl in
-    let blocks : (c.if-sorted.listed ≤ length c.if-sorted.escape_blocks.items) × (take c.if-sorted.listed c.if-sorted.escape_blocks.items ≡ backslash_blocks b) =
-    elim c.if-sorted.branch [
-      | then-sorted+in_ok-put w ↦ let more : d.listed + 1 ≤ length w.put.new.list.items = omega (arith, w.in_ok-put.ensures.stored.0) in rw (w.escape_blocks-is, w.listed-is) (
+    let blocks : (c.if-classified.listed ≤ length c.if-classified.escape_blocks.items) × (take c.if-classified.listed c.if-classified.escape_blocks.items ≡ backslash_blocks b) =
+    elim c.if-classified.branch [
+      | then-classified+in_ok-put w ↦ let more : d.listed + 1 ≤ length w.put.new.list.items = omega (arith, w.in_ok-put.ensures.stored.0) in rw (w.escape_blocks-is, w.listed-is) (
         more,
-        w.in_ok-put.ensures.stored.1 ∙ rest-blocks b d _ t true s.sorted sorted w.if-sorted.true,
+        w.in_ok-put.ensures.stored.1 ∙ rest-blocks b d _ t true s.classified classified w.if-classified.true,
       )
-      | else-sorted w ↦ rw (w.escape_blocks-is, w.listed-is) (s.sorted.within, rest-blocks b d _ t false s.sorted sorted w.if-sorted.false)
+      | else-classified w ↦ rw (w.escape_blocks-is, w.listed-is) (s.classified.within, rest-blocks b d _ t false s.classified classified w.if-classified.false)
     ] in
     record {
       encoding = utf8-reached b c.in_ok-check_window.field-0 end utf8.1;

@@ -8,12 +8,12 @@ invariant-loop-i l = record {
   to : l.i ≤ l.window.end;
   groups : (l.window.end - l.i) % 8 ≡ 0;
   few : l.done.placing.used ≤ l.fn.before.placing.used + 64 * (l.i - l.window.first);
-  few_blocks : l.done.sorting.listed ≤ l.fn.before.sorting.listed + (l.i - l.window.first);
+  few_blocks : l.done.classifying.listed ≤ l.fn.before.classifying.listed + (l.i - l.window.first);
   capacity : l.done.placing.used + 64 * (l.window.end - l.i) ≤ length l.out;
-  block_capacity : l.done.sorting.listed + (l.window.end - l.i) ≤ length l.listed;
+  block_capacity : l.done.classifying.listed + (l.window.end - l.i) ≤ length l.listed;
   scanned : (b : List ℕ) → AreBlocks b l.blocks → IsScanned b l.window.first l.fn.before l.fn.out l.fn.listed → IsScanned b l.i l.done l.out l.listed;
-  ascii : (b : List ℕ) → AreBlocks b l.blocks → IsScanned b l.window.first l.fn.before l.fn.out l.fn.listed → l.done.sorting.high ≡ 0
-      → (l.fn.before.sorting.high ≡ 0) × IsAscii b (64 * l.window.first) (64 * l.i);
+  ascii : (b : List ℕ) → AreBlocks b l.blocks → IsScanned b l.window.first l.fn.before l.fn.out l.fn.listed → l.done.classifying.high ≡ 0
+      → (l.fn.before.classifying.high ≡ 0) × IsAscii b (64 * l.window.first) (64 * l.i);
 }
 
 abbrev pub decreases-loop-i : goal.decreases-loop-i

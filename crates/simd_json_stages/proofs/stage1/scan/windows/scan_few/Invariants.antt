@@ -7,11 +7,11 @@ invariant-loop-i l = record {
   from : l.window.first ≤ l.i;
   to : l.i ≤ l.window.end;
   capacity : l.placing.used + 64 * (l.window.end - l.i) ≤ length l.out;
-  block_capacity : l.sorting.listed + (l.window.end - l.i) ≤ length l.listed;
+  block_capacity : l.classifying.listed + (l.window.end - l.i) ≤ length l.listed;
   scanned : (b : List ℕ) → AreBlocks b l.blocks → IsScanned b l.window.first l.fn.before l.fn.out l.fn.listed
-      → IsScanned b l.i (record { sorting = l.sorting; placing = l.placing }) l.out l.listed;
-  ascii : (b : List ℕ) → AreBlocks b l.blocks → IsScanned b l.window.first l.fn.before l.fn.out l.fn.listed → l.sorting.high ≡ 0
-      → (l.fn.before.sorting.high ≡ 0) × IsAscii b (64 * l.window.first) (64 * l.i);
+      → IsScanned b l.i (record { classifying = l.classifying; placing = l.placing }) l.out l.listed;
+  ascii : (b : List ℕ) → AreBlocks b l.blocks → IsScanned b l.window.first l.fn.before l.fn.out l.fn.listed → l.classifying.high ≡ 0
+      → (l.fn.before.classifying.high ≡ 0) × IsAscii b (64 * l.window.first) (64 * l.i);
 }
 
 abbrev pub decreases-loop-i : goal.decreases-loop-i

@@ -20,7 +20,7 @@ returns-clause-ascii c = λ b blocks before none.
     let start = IsScanned-high 0 before in
     let i = c.if-window-middle in
     let middle = c.args.window.end - (c.args.window.end - c.args.window.first) % 8 in
-    let first : IsScanned b middle i.done i.out i.listed × (i.done.sorting.high ≡ 0 → IsAscii b (64 * c.args.window.first) (64 * middle)) = elim i.branch [
+    let first : IsScanned b middle i.done i.out i.listed × (i.done.classifying.high ≡ 0 → IsAscii b (64 * c.args.window.first) (64 * middle)) = elim i.branch [
       | then-window-middle w ↦ rw (w.out-is, w.listed-is, w.done-is) (w.scan_groups-done.ensures.scanned b blocks start, λ zero. (w.scan_groups-done.ensures.ascii b blocks start zero).1)
       | else-window-middle w ↦ (
           let same : c.args.window.first ≡ middle = omega arith in

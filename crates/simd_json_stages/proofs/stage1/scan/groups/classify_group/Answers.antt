@@ -3,9 +3,9 @@ use Rattle.std.proofs.lemmas.List.{length-set}
 use Rattle.std.proofs.lemmas.Nat.{le_or_l, le_or_r}
 use mir.Val.{bool_byte}
 use Rattle.simd_json_stages.specs.Blocks.{IsAscii}
-use Rattle.simd_json_stages.proofs.ScanLaws.{bool-small, IsSorted-next, IsSorted-same}
+use Rattle.simd_json_stages.proofs.ScanLaws.{bool-small, IsClassified-next, IsClassified-same}
 use Rattle.simd_json_stages.proofs.GroupLaws.{HaveClasses-next, IsAscii-next}
-use Rattle.simd_json_stages.proofs.stage1.scan.groups.sort_group.Goals as goal
+use Rattle.simd_json_stages.proofs.stage1.scan.groups.classify_group.Goals as goal
 
 pub loop-k-init : goal.loop-k-init
 loop-k-init c =
@@ -18,8 +18,8 @@ loop-k-init c =
       escaped_words = omega arith;
       capacity = omega arith;
       few = omega arith;
-      sorted = λ b blocks before. IsSorted-same first before;
-      sorts = λ b blocks before k l. absurd (omega arith);
+      classified = λ b blocks before. IsClassified-same first before;
+      classifies = λ b blocks before k l. absurd (omega arith);
       ascii = λ b blocks before none. (none, λ i from to. absurd (omega arith));
     }
 
@@ -27,7 +27,7 @@ pub loop-k-preserved : goal.loop-k-preserved
 loop-k-preserved c =
     let l = c.loop-k in
     let i = l.invariant in
-    let m = c.sort-sorted in
+    let m = c.classify-classified in
     let d = c.list_block in
     let one : bool_byte m.result.has_backslash ≤ 1 = bool-small m.result.has_backslash in
     let next : c.args.first + l.k + 1 ≡ c.args.first + (l.k + 1) = omega arith in
@@ -39,15 +39,15 @@ loop-k-preserved c =
       escaped_words = length-set l.classes.escaped l.k _ ∙ i.escaped_words;
       capacity = omega arith;
       few = omega arith;
-      sorted = λ b blocks before.
-          let h = i.sorted b blocks before in
+      classified = λ b blocks before.
+          let h = i.classified b blocks before in
           let found = m.ensures b _ (blocks (c.args.first + l.k) _ (omega arith)) h.escaped in
-          IsSorted-same next (IsSorted-next b (c.args.first + l.k) l.now l.listed m.result _ d.new.listed d.result h found d.ensures.listed d.ensures.count (omega arith));
-      sorts = λ b blocks before.
-          let found = m.ensures b _ (blocks (c.args.first + l.k) _ (omega arith)) (i.sorted b blocks before).escaped in
-          HaveClasses-next b c.args.first l.k l.classes.soft l.classes.hard l.classes.control l.classes.escaped _ _ _ _ i.soft_words i.hard_words i.control_words i.escaped_words (omega arith) (i.sorts b blocks before) found.classes;
+          IsClassified-same next (IsClassified-next b (c.args.first + l.k) l.now l.listed m.result _ d.new.listed d.result h found d.ensures.listed d.ensures.count (omega arith));
+      classifies = λ b blocks before.
+          let found = m.ensures b _ (blocks (c.args.first + l.k) _ (omega arith)) (i.classified b blocks before).escaped in
+          HaveClasses-next b c.args.first l.k l.classes.soft l.classes.hard l.classes.control l.classes.escaped _ _ _ _ i.soft_words i.hard_words i.control_words i.escaped_words (omega arith) (i.classifies b blocks before) found.classes;
       ascii = λ b blocks before none.
-          let found = m.ensures b _ (blocks (c.args.first + l.k) _ (omega arith)) (i.sorted b blocks before).escaped in
+          let found = m.ensures b _ (blocks (c.args.first + l.k) _ (omega arith)) (i.classified b blocks before).escaped in
           let so-far : l.now.high ≡ 0 = omega (arith, le_or_l l.now.high m.result.high) in
           let here : m.result.high ≡ 0 = omega (arith, le_or_r l.now.high m.result.high) in
           let first = i.ascii b blocks before so-far in
@@ -55,16 +55,16 @@ loop-k-preserved c =
           (first.0, IsAscii-next b (64 * c.args.first) (64 * (c.args.first + l.k)) _ first.1 (subst (λ n. IsAscii b (64 * (c.args.first + l.k)) n) end (found.ascii here)));
     }
 
-pub returns-clause-sorted : goal.returns-clause-sorted
-returns-clause-sorted c =
+pub returns-clause-classified : goal.returns-clause-classified
+returns-clause-classified c =
     let l = c.loop-k in
     let e : c.args.first + l.k ≡ c.args.first + 8 = omega arith in
-    λ b blocks before. IsSorted-same e (l.invariant.sorted b blocks before)
+    λ b blocks before. IsClassified-same e (l.invariant.classified b blocks before)
 
 pub returns-clause-classes : goal.returns-clause-classes
 returns-clause-classes c =
     let l = c.loop-k in
-    λ b blocks before k to. l.invariant.sorts b blocks before k (omega arith)
+    λ b blocks before k to. l.invariant.classifies b blocks before k (omega arith)
 
 pub returns-clause-ascii : goal.returns-clause-ascii
 returns-clause-ascii c =

@@ -1,19 +1,19 @@
 use Rattle.std.proofs.Common.{◌∙◌, ◌==◌, ap, sym, arith}
 use Rattle.simd_json_parts.specs.Bytes.{backslash}
 use Rattle.simd_json_stages.proofs.Bits.Combined.{bits-same}
-use Rattle.simd_json_stages.proofs.BlockWords.{none-any, escaped-some, escaped-none, sorted-found}
+use Rattle.simd_json_stages.proofs.BlockWords.{none-any, escaped-some, escaped-none, classified-found}
 use Rattle.simd_json_stages.proofs.BlockLaws.{escaped_at}
-use Rattle.simd_json_stages.proofs.stage1.words.sort.Goals as goal
+use Rattle.simd_json_stages.proofs.stage1.words.classify.Goals as goal
 
 pub returns-then-m : goal.returns-then-m
 returns-then-m c = λ b i e before.
     let m = c.classes-m.ensures in
     let found = escaped-some b i c.backslashes.result _ _ (bits-same c.backslashes.ensures (λ n l. ap (λ y. y == backslash) (e.same n l))) (c.find_escaped-e.ensures (escaped_at b i) before) in
-    sorted-found b i c.args.bytes.now _ e c.fits-bytes m.soft m.hard m.control m.ascii m.escapes found
+    classified-found b i c.args.bytes.now _ e c.fits-bytes m.soft m.hard m.control m.ascii m.escapes found
 
 pub returns-else-m : goal.returns-else-m
 returns-else-m c = λ b i e before.
     let m = c.classes-m.ensures in
     let none = none-any (λ y. y == backslash) c.args.bytes.now (sym m.escapes ∙ c.if-m.false) in
     let found = escaped-none b i c.args.before before (λ n l. ap (λ y. y == backslash) (sym (e.same n l)) ∙ none n (omega (arith, e.len))) in
-    sorted-found b i c.args.bytes.now _ e c.fits-bytes m.soft m.hard m.control m.ascii m.escapes found
+    classified-found b i c.args.bytes.now _ e c.fits-bytes m.soft m.hard m.control m.ascii m.escapes found

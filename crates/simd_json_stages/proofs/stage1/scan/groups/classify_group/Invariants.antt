@@ -1,7 +1,7 @@
 use Rattle.std.proofs.Common.{◌≡◌, ◌+◌, ◌-◌, ◌*◌, ◌≤◌, ℕ, List, length}
-use Rattle.simd_json_stages.specs.Blocks.{AreBlocks, IsAscii, IsSorted}
+use Rattle.simd_json_stages.specs.Blocks.{AreBlocks, IsAscii, IsClassified}
 use Rattle.simd_json_stages.specs.Groups.{HaveClasses}
-use Rattle.simd_json_stages.proofs.stage1.scan.groups.sort_group.Given as goal
+use Rattle.simd_json_stages.proofs.stage1.scan.groups.classify_group.Given as goal
 
 abbrev pub invariant-loop-k : goal.invariant-loop-k
 invariant-loop-k l = record {
@@ -12,9 +12,9 @@ invariant-loop-k l = record {
   escaped_words : length l.classes.escaped ≡ 8;
   capacity : l.now.listed + (8 - l.k) ≤ length l.listed;
   few : l.now.listed ≤ l.fn.before.listed + l.k;
-  sorted : (b : List ℕ) → AreBlocks b l.blocks → IsSorted b l.first l.fn.before l.fn.listed → IsSorted b (l.first + l.k) l.now l.listed;
-  sorts : (b : List ℕ) → AreBlocks b l.blocks → IsSorted b l.first l.fn.before l.fn.listed → HaveClasses b l.first l.k l.classes.soft l.classes.hard l.classes.control l.classes.escaped;
-  ascii : (b : List ℕ) → AreBlocks b l.blocks → IsSorted b l.first l.fn.before l.fn.listed → l.now.high ≡ 0
+  classified : (b : List ℕ) → AreBlocks b l.blocks → IsClassified b l.first l.fn.before l.fn.listed → IsClassified b (l.first + l.k) l.now l.listed;
+  classifies : (b : List ℕ) → AreBlocks b l.blocks → IsClassified b l.first l.fn.before l.fn.listed → HaveClasses b l.first l.k l.classes.soft l.classes.hard l.classes.control l.classes.escaped;
+  ascii : (b : List ℕ) → AreBlocks b l.blocks → IsClassified b l.first l.fn.before l.fn.listed → l.now.high ≡ 0
       → (l.fn.before.high ≡ 0) × IsAscii b (64 * l.first) (64 * (l.first + l.k));
 }
 
