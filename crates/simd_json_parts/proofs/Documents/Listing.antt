@@ -1,12 +1,15 @@
 -- Laws of listings.
-use Rattle.std.proofs.Common.{◌≡◌, refl, sym, ◌∙◌, ap, ℕ, true, false, pos, neg_ℤ, List, [], ◌++◌, length, drop, append_assoc}
-use Rattle.std.proofs.Math.IntN.{neg_ℤ-neg_ℤ}
+use Rattle.std.proofs.Common.{◌≡◌, refl, sym, ◌∙◌, ap, ℕ, Bool, List, [], ◌++◌, length, drop, append_assoc}
+use Rattle.std.specs.Prelude.{Some, None}
 use Rattle.simd_json_parts.specs.Document.{Document, null, boolean, integer, decimal, string, array, object, Elements, no_elements, element, elements, Members, no_members, member, members}
 use Rattle.simd_json_parts.specs.Headers.{IsHeaded}
-use Rattle.simd_json_parts.specs.Integers.{integer_node}
+use Rattle.simd_json_parts.specs.Integers.{number_of, integer_node}
 use Rattle.simd_json_parts.specs.Listing.{listing, elements_listing, members_listing}
 use Rattle.simd_json_parts.specs.Nodes.{Item, static_item, decimal_item, string_item, array_item, object_item}
+use Rattle.simd_json_parts.specs.StaticNodes.{number_in}
+use Rattle.simd_json_parts.specs.declared.node.StaticNode.{StaticNode}
 use Rattle.simd_json_parts.specs.declared.node.StaticNode.TheVariants as fixed
+use Rattle.simd_json_parts.proofs.Documents.Integers.{number_in-integer_node, integer_node_cancel}
 
 -- A listing is a first node and as many more as its `count` says, with as many members as its `len`.
 pub IsHeaded-document : (d : Document) → IsHeaded d
@@ -32,20 +35,22 @@ IsHeaded-document (object ms) = record {
   kind = refl;
 }
 
--- Numbers with one negative are the same.
-neg_ℤ_cancel : (m n : ℕ) → neg_ℤ (pos m) ≡ neg_ℤ (pos n) → m ≡ n
-neg_ℤ_cancel m n e = let same : pos m ≡ pos n = sym (neg_ℤ-neg_ℤ (pos m)) ∙ ap neg_ℤ e ∙ neg_ℤ-neg_ℤ (pos n) in cc
+-- An integer's node is no other.
+no_integer : (s : StaticNode) (minus : Bool) (n : ℕ) → number_in s ≡ None → s ≡ integer_node minus n → ⊥
+no_integer s minus n none e =
+    let number : Some (number_of minus n) ≡ None = sym (number_in-integer_node minus n) ∙ ap number_in (sym e) ∙ none in
+    cc
 
 mutual
   -- A listing is of one document, and ends where that document does.
-  -- (An integer's node computes only at a known sign, so `null` and `boolean` are each met by one sign before the catch-all.)
   pub listing_cancel : (d e : Document) (xs ys : List Item) → listing d ++ xs ≡ listing e ++ ys → (d ≡ e) × (xs ≡ ys)
   listing_cancel null null xs ys h = (refl, cc)
-  listing_cancel null (integer true n) xs ys h = cc
+  listing_cancel null (integer minus n) xs ys h = absurd (no_integer fixed.Null minus n refl (cc))
+  listing_cancel (integer minus n) null xs ys h = absurd (no_integer fixed.Null minus n refl (cc))
   listing_cancel (boolean a) (boolean b) xs ys h = (cc, cc)
-  listing_cancel (boolean a) (integer true n) xs ys h = cc
-  listing_cancel (integer true m) (integer true n) xs ys h = let same : m ≡ n = neg_ℤ_cancel m n (cc) in (cc, cc)
-  listing_cancel (integer false m) (integer false n) xs ys h = (cc, cc)
+  listing_cancel (boolean a) (integer minus n) xs ys h = absurd (no_integer (fixed.Bool a) minus n refl (cc))
+  listing_cancel (integer minus n) (boolean a) xs ys h = absurd (no_integer (fixed.Bool a) minus n refl (cc))
+  listing_cancel (integer minus m) (integer minus' n) xs ys h = (integer_node_cancel minus minus' m n (cc), cc)
   listing_cancel (decimal a) (decimal b) xs ys h = (cc, cc)
   listing_cancel (string a) (string b) xs ys h = (cc, cc)
   listing_cancel (array ds) (array es) xs ys h = let both : (ds ≡ es) × (xs ≡ ys) = elements_listing_cancel ds es xs ys (cc) (cc) in (ap array both.0, both.1)

@@ -1,23 +1,36 @@
 -- Documents are equal exactly if their nodes are, one by one.
-use Rattle.std.proofs.Common.{◌≡◌, refl, sym, ◌∙◌, ap, true, false, ◌==◌, pos, negsuc, suc, zero, List, [], ◌∷◌, ◌++◌, map, length, Decides, arith}
-use Rattle.std.proofs.lemmas.Bool.Decides.{Decides-and, Decides-like, same_from_decides}
+use Rattle.std.proofs.Common.{◌≡◌, refl, sym, ◌∙◌, ap, ap₂, Bool, true, false, not, ◌&&◌, ◌==◌, ℕ, ℤ, pos, negsuc, suc, zero, List, [], ◌∷◌, ◌++◌, map, length, Decides, arith}
+use Rattle.std.specs.Cmp.{booleans_Decides}
+use Rattle.std.specs.Option.{option_eq}
+use Rattle.std.specs.Prelude.{Option, Some, None}
+use Rattle.std.proofs.lemmas.Bool.Decides.{Decides-and, Decides-int_eq, Decides-like, same_from_decides}
 use Rattle.std.proofs.lemmas.List.{length-map, map-append}
 use Rattle.std.proofs.lemmas.Slice.Eq.{bytes_eq-Decides}
 use Rattle.simd_json_parts.specs.Document.{Document, null, boolean, integer, decimal, string, array, object, Elements, no_elements, element, elements, Members, no_members, member, members}
 use Rattle.simd_json_parts.specs.Equality.{equal, normalized, normalized_elements, normalized_members}
+use Rattle.simd_json_parts.specs.Integers.{number_of, integer_node}
 use Rattle.simd_json_parts.specs.Listing.{listing, elements_listing, members_listing}
 use Rattle.simd_json_parts.specs.NodeEquality.{same_item, same_items}
 use Rattle.simd_json_parts.specs.Nodes.{Item, static_item, decimal_item, string_item, array_item, object_item}
-use Rattle.simd_json_parts.specs.StaticNodes.{same_static}
+use Rattle.simd_json_parts.specs.StaticNodes.{truth_of, number_in, same_static}
 use Rattle.simd_json_parts.specs.declared.node.StaticNode.{StaticNode}
 use Rattle.simd_json_parts.specs.declared.node.StaticNode.TheVariants as fixed
 use Rattle.simd_json_parts.proofs.Documents.Equality.{Decides-equal}
+use Rattle.simd_json_parts.proofs.Documents.Integers.{number_in-integer_node, truth_of-integer_node}
 use Rattle.simd_json_parts.proofs.Documents.Listing.{listing_cancel}
 
--- An integer that is not negative as it is written without a sign.
+-- the node of a number, which has a sign only where it is negative
+abbrev node_of : ℤ → StaticNode
+node_of (pos n) = integer_node false n
+node_of (negsuc n) = integer_node true (suc n)
+
+abbrev node_with : Option Bool → Option ℤ → StaticNode
+node_with (Some b) number = fixed.Bool b
+node_with None (Some z) = node_of z
+node_with None None = fixed.Null
+
 abbrev normalized_static : StaticNode → StaticNode
-normalized_static (fixed.I64 (pos n)) = fixed.U64 n
-normalized_static s = s
+normalized_static s = node_with (truth_of s) (number_in s)
 
 abbrev normalized_item : Item → Item
 normalized_item (static_item s) = static_item (normalized_static s)
@@ -25,21 +38,32 @@ normalized_item x = x
 
 -- ---- nodes are equal exactly if they are then the same
 
--- (An integer's node computes only at a known sign, so each other node is met by one sign before the catch-all.)
+abbrev key : StaticNode → Option Bool × Option ℤ
+key s = (truth_of s, number_in s)
+
+Decides-option : {A : Type 0} {E : A → A → Bool} → ((a b : A) → Decides (E a b) (a ≡ b)) → (x y : Option A) → Decides (option_eq E x y) (x ≡ y)
+Decides-option d None None = (λ h. refl, λ h. refl)
+Decides-option d (Some a) (Some b) = Decides-like _ (λ h. cc) (λ h. cc) (d a b)
+Decides-option d _ _ = (λ h. cc, λ h. cc)
+
+Decides-key : (a b : StaticNode) → Decides (same_static a b) (key a ≡ key b)
+Decides-key a b =
+    Decides-like _ (λ h. ap₂ (λ t n. (t, n)) h.0 h.1) (λ h. (ap (λ k. k.0) h, ap (λ k. k.1) h))
+    (Decides-and _ _ (Decides-option booleans_Decides (truth_of a) (truth_of b)) (Decides-option Decides-int_eq (number_in a) (number_in b)))
+
+key-node_of : (z : ℤ) → key (node_of z) ≡ (None, Some z)
+key-node_of (pos n) = ap₂ (λ t n. (t, n)) (truth_of-integer_node false n) (number_in-integer_node false n)
+key-node_of (negsuc n) = ap₂ (λ t n. (t, n)) (truth_of-integer_node true (suc n)) (number_in-integer_node true (suc n))
+
+key-normalized : (s : StaticNode) → key (normalized_static s) ≡ key s
+key-normalized fixed.Null = refl
+key-normalized (fixed.Bool b) = refl
+key-normalized (fixed.I64 z) = key-node_of z
+key-normalized (fixed.U64 n) = key-node_of (pos n)
+
 Decides-same_static : (a b : StaticNode) → Decides (same_static a b) (normalized_static a ≡ normalized_static b)
-Decides-same_static fixed.Null fixed.Null = (λ h. refl, λ h. refl)
-Decides-same_static fixed.Null (fixed.I64 (negsuc n)) = (λ h. cc, λ h. cc)
-Decides-same_static (fixed.Bool true) (fixed.Bool true) = (λ h. refl, λ h. refl)
-Decides-same_static (fixed.Bool false) (fixed.Bool false) = (λ h. refl, λ h. refl)
-Decides-same_static (fixed.Bool a) (fixed.I64 (negsuc n)) = (λ h. cc, λ h. cc)
-Decides-same_static (fixed.I64 (negsuc m)) fixed.Null = (λ h. cc, λ h. cc)
-Decides-same_static (fixed.I64 (negsuc m)) (fixed.Bool b) = (λ h. cc, λ h. cc)
-Decides-same_static (fixed.I64 (pos m)) (fixed.I64 (pos n)) = (λ h. grind arith, λ h. grind arith)
-Decides-same_static (fixed.I64 (negsuc m)) (fixed.I64 (negsuc n)) = (λ h. grind arith, λ h. grind arith)
-Decides-same_static (fixed.I64 (pos m)) (fixed.U64 n) = (λ h. grind arith, λ h. grind arith)
-Decides-same_static (fixed.U64 m) (fixed.I64 (pos n)) = (λ h. grind arith, λ h. grind arith)
-Decides-same_static (fixed.U64 m) (fixed.U64 n) = (λ h. grind arith, λ h. grind arith)
-Decides-same_static _ _ = (λ h. cc, λ h. cc)
+Decides-same_static a b =
+    Decides-like _ (λ h. ap (λ k. node_with k.0 k.1) h) (λ h. sym (key-normalized a) ∙ ap key h ∙ key-normalized b) (Decides-key a b)
 
 Decides-same_item : (x y : Item) → Decides (same_item x y) (normalized_item x ≡ normalized_item y)
 Decides-same_item (static_item a) (static_item b) = Decides-like _ (λ h. cc) (λ h. cc) (Decides-same_static a b)
@@ -64,14 +88,20 @@ length-normalized_members : (ms : Members) → length (members (normalized_membe
 length-normalized_members no_members = refl
 length-normalized_members (member k d ms) = ap suc (length-normalized_members ms)
 
+normalized-integer_node : (minus : Bool) (n : ℕ) → normalized_static (integer_node minus n) ≡ integer_node (minus && not (n == 0)) n
+normalized-integer_node minus n = ap₂ node_with (truth_of-integer_node minus n) (number_in-integer_node minus n) ∙ by_sign minus n
+  where
+    by_sign : (minus : Bool) (n : ℕ) → node_of (number_of minus n) ≡ integer_node (minus && not (n == 0)) n
+    by_sign true zero = refl
+    by_sign true (suc n) = let signed : (suc n == 0) ≡ false = grind arith in rw signed
+    by_sign false n = refl
+
 mutual
   -- A document without the sign of a zero has the nodes without the sign of a zero.
   listing-normalized : (d : Document) → map normalized_item (listing d) ≡ listing (normalized d)
   listing-normalized null = refl
   listing-normalized (boolean b) = refl
-  listing-normalized (integer true zero) = refl
-  listing-normalized (integer true (suc n)) = let signed : (suc n == 0) ≡ false = grind arith in rw signed
-  listing-normalized (integer false n) = refl
+  listing-normalized (integer minus n) = ap (λ s. static_item s ∷ []) (normalized-integer_node minus n)
   listing-normalized (decimal literal) = refl
   listing-normalized (string t) = refl
   listing-normalized (array ds) =

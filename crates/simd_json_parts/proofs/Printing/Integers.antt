@@ -1,11 +1,11 @@
 -- An integer's decimal digits, with a sign or without, are a literal of that integer.
-use Rattle.std.proofs.Common.{◌≡◌, refl, sym, ◌∙◌, ap, subst, drop, map, cond, ℕ, zero, suc, ◌^◌, ◌≤◌, ◌<◌, inl, inr, List, [], ◌∷◌, length, get_or, Bool, true, false, not, ◌==◌, arith}
+use Rattle.std.proofs.Common.{◌≡◌, refl, sym, ◌∙◌, ap, subst, drop, map, cond, ℕ, zero, suc, ◌+◌, ◌/◌, ◌%◌, ◌^◌, ◌≤◌, ◌<◌, lit<, inl, inr, List, [], ◌∷◌, ◌++◌, length, get_or, Bool, true, false, not, ◌==◌, arith}
 use Rattle.std.specs.Char.{digit_value}
 use Rattle.std.specs.Fmt.{decimal, signed_decimal, digits}
 use Rattle.std.specs.Int.Digits.{number_from_digits}
 use Rattle.std.specs.Str.Parse.{AllDigits, digits_value}
 use Rattle.std.proofs.lemmas.Bool.{ne_eqb}
-use Rattle.std.proofs.lemmas.Fmt.{decimal_is_IsNumeral, first_decimal}
+use Rattle.std.proofs.lemmas.Fmt.{decimal_is_IsNumeral_wide, decimal_by_steps_wide}
 use Rattle.std.proofs.lemmas.Int.Digits.{digits_value_is}
 use Rattle.std.proofs.lemmas.Str.Parse.{digit_at}
 use Rattle.simd_json_parts.specs.Document.{integer}
@@ -38,12 +38,28 @@ record Spells (n : ℕ) (ds : List ℕ) : Type 0 where
   is_int : Matches int ds
   value : digits_value 10 ds ≡ n
 
+-- An integer in range has at most 64 digits.
+pub below-printed : (minus : Bool) (n : ℕ) → n ≤ max_magnitude minus → n < 10 ^ 64
+below-printed true n fits = let most : max_magnitude true < 10 ^ 64 = lit< tt in omega arith
+below-printed false n fits = let most : max_magnitude false < 10 ^ 64 = lit< tt in omega arith
+
+-- of a number other than 0 the first digit is none
+abbrev Leads : ℕ → List ℕ → Type 0
+Leads n ds = 0 < n → (0 < length ds) × (48 < get_or ds 0 0)
+
+leads-more : (n : ℕ) (ds : List ℕ) → 10 ≤ n → Leads (n / 10) ds → Leads n (ds ++ ((48 + n % 10) ∷ []))
+leads-more n [] l h some = absurd (omega (arith, (h (omega arith)).0))
+leads-more n (c ∷ ds) l h some = (omega arith, (h (omega arith)).1)
+
+first_decimal : (n : ℕ) → 0 < n → n < 10 ^ 64 → 48 < get_or (decimal n) 0 0
+first_decimal n some small = (decimal_by_steps_wide Leads (λ m l k. (omega arith, omega arith)) leads-more n small some).1
+
 -- what is printed of a number
-Spells-decimal : (n : ℕ) → n < 2 ^ 64 → Spells n (decimal n)
+Spells-decimal : (n : ℕ) → n < 10 ^ 64 → Spells n (decimal n)
 unfolding digits
 Spells-decimal zero small = record { some = omega arith; all = (omega arith, tt); is_int = inl (48, refl, omega arith, omega arith); value = refl }
 Spells-decimal (suc n) small =
-    let numeral = decimal_is_IsNumeral (suc n) small in
+    let numeral = decimal_is_IsNumeral_wide (suc n) small in
     record { some = numeral.0.0; all = numeral.0.1; is_int = int-digits (decimal (suc n)) numeral.0.1 numeral.0.0 (first_decimal (suc n) (omega arith) small); value = numeral.1 }
 
 -- ---- integers
@@ -61,8 +77,8 @@ value-signed n ds s = ((45 ∷ [], ds, refl, inr (45, refl, omega arith, omega a
 
 -- What is printed of an integer is a literal of it, and no zero has a sign.
 pub value-integer : (minus : Bool) (n : ℕ) → n ≤ max_magnitude minus → IsValue (normalized (integer minus n)) (signed_decimal (number_of minus n))
-value-integer false n fits = value-unsigned n (decimal n) (Spells-decimal n (omega (arith, fits)))
+value-integer false n fits = value-unsigned n (decimal n) (Spells-decimal n (below-printed false n fits))
 value-integer true zero fits = value-unsigned 0 (decimal 0) (Spells-decimal 0 (omega arith))
 value-integer true (suc n) fits =
     let sign : (suc n == 0) ≡ false = ne_eqb (suc n) 0 (λ e. omega arith) in
-    subst (λ t. IsValue (integer (not t) (suc n)) (45 ∷ decimal (suc n))) (sym sign) (value-signed (suc n) (decimal (suc n)) (Spells-decimal (suc n) (omega (arith, fits))))
+    subst (λ t. IsValue (integer (not t) (suc n)) (45 ∷ decimal (suc n))) (sym sign) (value-signed (suc n) (decimal (suc n)) (Spells-decimal (suc n) (below-printed true (suc n) fits)))

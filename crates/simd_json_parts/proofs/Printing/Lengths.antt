@@ -5,7 +5,7 @@ use Rattle.std.specs.Prelude.{Option, Some, encode_utf8_all}
 use Rattle.std.specs.Char.{encode_utf8}
 use Rattle.std.specs.Fmt.{decimal, signed_decimal}
 use Rattle.std.proofs.lemmas.Bool.{cases_lt, cond_both, or_cases, eqb-true}
-use Rattle.std.proofs.lemmas.Fmt.{length-decimal-le}
+use Rattle.std.proofs.lemmas.Fmt.{length-decimal-le_wide}
 use Rattle.std.proofs.lemmas.Int.Digits.{digits_value-lt}
 use Rattle.std.proofs.lemmas.List.Concat.{flat_map-append}
 use Rattle.std.proofs.lemmas.Str.{encode_ascii, length-encode}
@@ -18,6 +18,7 @@ use Rattle.simd_json_parts.specs.Patterns.{Matches}
 use Rattle.simd_json_parts.specs.Printed.{escaped_byte, quoted}
 use Rattle.simd_json_parts.specs.Strings.{escaped_character, IsPiece, ArePieces, IsStringLiteral}
 use Rattle.simd_json_parts.proofs.Numbers.Values.{start, after_start, after_start-is, int-digits, integer-AllDigits, magnitude-is}
+use Rattle.simd_json_parts.proofs.Printing.Integers.{below-printed}
 use Rattle.simd_json_parts.proofs.Printing.Strings.{escaped-plain, escaped-encoded}
 use Rattle.simd_json_parts.proofs.Strings.Escapes.{escaped_character-small}
 
@@ -38,18 +39,18 @@ integer-some bs (us, vs, e, inr (c, h, low, high), m) =
     subst (λ ds. start ds < length ds) (sym same) (omega (arith, int-some vs m))
 
 -- as many digits as the literal has after its sign, at most
-decimal-length : (bs : List ℕ) (minus : Bool) (n : ℕ) → IsValue (integer minus n) bs → n < 2 ^ 64 → length (decimal n) + start bs ≤ length bs
+decimal-length : (bs : List ℕ) (minus : Bool) (n : ℕ) → IsValue (integer minus n) bs → n < 10 ^ 64 → length (decimal n) + start bs ≤ length bs
 decimal-length bs minus n (m, has, value) small =
     let ds : List ℕ = after_start bs in
     let size : length ds ≡ length bs - start bs = ap length (after_start-is bs) ∙ length-drop (start bs) bs in
     let some : start bs < length bs = integer-some bs m in
     let below : n < 10 ^ length ds = subst (λ v. v < 10 ^ length ds) (sym (magnitude-is bs) ∙ value) (digits_value-lt 10 ds (integer-AllDigits bs m)) in
-    omega (arith, length-decimal-le (length ds) n (omega arith) below small)
+    omega (arith, length-decimal-le_wide (length ds) n (omega arith) below small)
 
 pub integer-length : (minus : Bool) (n : ℕ) (bs : List ℕ) → IsValue (integer minus n) bs → n ≤ max_magnitude minus → length (signed_decimal (number_of minus n)) ≤ length bs
-integer-length false n bs h fits = omega (arith, decimal-length bs false n h (omega (arith, fits)))
+integer-length false n bs h fits = omega (arith, decimal-length bs false n h (below-printed false n fits))
 integer-length true zero bs h fits = omega (arith, decimal-length bs true 0 h (omega arith))
-integer-length true (suc n) bs h fits = omega (arith, decimal-length bs true (suc n) h (omega (arith, fits)), ap bool_byte h.1)
+integer-length true (suc n) bs h fits = omega (arith, decimal-length bs true (suc n) h (below-printed true (suc n) fits), ap bool_byte h.1)
 
 -- ---- characters
 
