@@ -5,13 +5,15 @@ use Rattle.simd_json_parts.specs.Bytes.{line_feed}
 use Rattle.simd_json_parts.specs.Nodes.{Item, static_item, decimal_item, string_item, array_item, object_item}
 use Rattle.simd_json_parts.specs.Printed.{quoted, truth_text}
 use Rattle.simd_json_parts.specs.declared.node.StaticNode.{StaticNode}
-use Rattle.simd_json_parts.specs.declared.node.StaticNode.TheVariants.{Null, Bool, I64, U64}
+use Rattle.simd_json_parts.specs.declared.node.StaticNode.TheVariants.{Null, Bool, I64, U64, I128, U128}
 
 abbrev pub static_text : StaticNode → List ℕ
 static_text Null = codes "Null"
 static_text (Bool b) = codes "Bool " ++ truth_text b
 static_text (I64 z) = codes "I64 " ++ signed_decimal z
 static_text (U64 n) = codes "U64 " ++ decimal n
+static_text (I128 z) = codes "I128 " ++ signed_decimal z
+static_text (U128 n) = codes "U128 " ++ decimal n
 
 -- of a container: its kind, `len` and `count`
 abbrev pub header_text : List ℕ → ℕ → ℕ → List ℕ

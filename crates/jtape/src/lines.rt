@@ -8,6 +8,7 @@ ghost use Rattle.simd_json_parts.specs.declared.node.StaticNode.{StaticNode};
 ghost use Rattle.simd_json_parts.specs.declared.node.StaticNode.TheVariants.{I64, U64};
 ghost use Rattle.simd_json_print.specs.Places.{Gives};
 
+use itoa::{Buffer, Integer};
 use simd_json::{Node, StaticNode};
 use simd_json_print::place::Sink;
 
@@ -61,7 +62,7 @@ fn signed_front(number: i64) -> &'static [u8]
     if number < 0 { b"I64 -" } else { b"I64 " }
 }
 
-// Null, or a truth value.
+// Null, a truth value, or an integer that does not fit 64 bits.
 #[inline(never)]
 fn put_word<P, S: Sink<P>>(sink: &mut S, target: &mut P, value: StaticNode)
     requires unsigned { (number : ℕ) → value ≢ U64 number }
@@ -73,9 +74,22 @@ fn put_word<P, S: Sink<P>>(sink: &mut S, target: &mut P, value: StaticNode)
         sink.put(target, b"Bool true\n");
     } else if let StaticNode::Bool(false) = value {
         sink.put(target, b"Bool false\n");
+    } else if let StaticNode::U128(unsigned) = value {
+        put_wide(sink, target, b"U128 ", unsigned);
+    } else if let StaticNode::I128(signed) = value {
+        put_wide(sink, target, b"I128 ", signed);
     } else {
         sink.put(target, b"Null\n");
     }
+}
+
+// An integer of 128 bits, after its kind.
+fn put_wide<P, S: Sink<P>, I: Integer>(sink: &mut S, target: &mut P, kind: &[u8], number: I)
+    ensures { Gives (S.place sink.old target.old) (S.place sink.new target.new)
+        ((kind.now ++ I.text number) ++ line_feed ∷ []) }
+{
+    let mut buffer = Buffer::new();
+    sink.put_between(target, kind, buffer.format(number).as_bytes(), b"\n");
 }
 
 // A header, or a decimal.

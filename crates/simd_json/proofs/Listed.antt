@@ -1,18 +1,25 @@
 -- A listing read backwards is its document.
-use Rattle.std.proofs.Common.{◌≡◌, ◌≢◌, ◌∙◌, ap, sym, refl, ℕ, zero, suc, pos, neg_ℤ, true, false, List, [], ◌∷◌, ◌++◌, length, get_or, map, drop, append_assoc, arith, inl, inr}
+use Rattle.std.proofs.Common.{◌≡◌, ◌≢◌, ◌∙◌, ap, sym, refl, ℕ, zero, suc, pos, neg_ℤ, Bool, true, List, [], ◌∷◌, ◌++◌, length, get_or, map, drop, append_assoc, arith, inl, inr}
 use Rattle.std.proofs.lemmas.List.{append-nil}
 use Rattle.simd_json_parts.proofs.Documents.Listing.{IsHeaded-document}
 use Rattle.simd_json_parts.proofs.Documents.Fronts.{sized}
+use Rattle.simd_json_parts.proofs.Documents.Integers.{of-integer_node}
 use Rattle.simd_json_parts.specs.Document.{Document, null, boolean, integer, decimal, string, array, object, Elements, no_elements, element, elements, Members, no_members, member, members}
+use Rattle.simd_json_parts.specs.Integers.{integer_node}
 use Rattle.simd_json_parts.specs.Listing.{listing, elements_listing, members_listing, IsTape, member_count}
 use Rattle.simd_json_parts.specs.Nodes.{Item, array_item, object_item, item_of, count_of, len_of}
 use Rattle.simd_json_parts.specs.declared.node.Node.{Node}
 use Rattle.simd_json_parts.specs.declared.node.Node.TheVariants as nodes
-use Rattle.simd_json.specs.Documents.{magnitude_below, first, front, others, in_pairs, front_pairs, other_pairs, elements_of, document_of, members_of, IsListing, AreElements, AreMembers}
+use Rattle.simd_json.specs.Documents.{magnitude_below, static_document, first, front, others, in_pairs, front_pairs, other_pairs, elements_of, document_of, members_of, IsListing, AreElements, AreMembers}
 
 pub magnitude-below : (n : ℕ) → magnitude_below (neg_ℤ (pos n)) ≡ n
 magnitude-below zero = refl
 magnitude-below (suc n) = refl
+
+document-integer : (minus : Bool) (n : ℕ) → static_document (integer_node minus n) ≡ integer minus n
+document-integer =
+    of-integer_node (λ minus n s. static_document s ≡ integer minus n) (λ n. ap (integer true) (magnitude-below n)) (λ n. refl)
+    (λ n. ap (integer true) (magnitude-below n)) (λ n. refl)
 
 -- ---- documents in a row
 
@@ -55,8 +62,7 @@ mutual
   pub elements_of-listing : (d : Document) (ns : List Item) → elements_of (listing d ++ ns) ≡ element d (elements_of ns)
   elements_of-listing null ns = refl
   elements_of-listing (boolean b) ns = refl
-  elements_of-listing (integer true n) ns = ap (λ m. element (integer true m) (elements_of ns)) (magnitude-below n)
-  elements_of-listing (integer false n) ns = refl
+  elements_of-listing (integer minus n) ns = ap (λ d. element d (elements_of ns)) (document-integer minus n)
   elements_of-listing (decimal literal) ns = refl
   elements_of-listing (string t) ns = refl
   elements_of-listing (array ds) ns =

@@ -1,15 +1,16 @@
 -- Nodes of which each can be printed list a document that can be spelled and whose integers fit, and such a document lists them.
-use Rattle.std.proofs.Common.{◌≡◌, refl, sym, subst, ℕ, ◌≤◌, true, false, List, [], ◌∷◌, ◌++◌, map, take, drop, length, All, inl, inr}
+use Rattle.std.proofs.Common.{◌≡◌, refl, sym, ◌∙◌, ap, subst, ℕ, Bool, true, nat_le, List, [], ◌∷◌, ◌++◌, map, take, drop, length, All, inl, inr}
 use Rattle.std.proofs.lemmas.Bool.{le-leb, leb-true}
 use Rattle.std.proofs.lemmas.Str.{IsUtf8-from_is_utf8, is_utf8-from_IsUtf8}
 use Rattle.std.proofs.Math.Seq.{take-append_seam, drop-append_seam}
 use Rattle.std.proofs.lemmas.List.Elements.{All-nil, All-cons, All-head, All-tail, All-append, All-take, All-drop, All-map}
+use Rattle.simd_json_parts.proofs.Documents.Integers.{of-integer_node}
 use Rattle.simd_json_parts.proofs.Patterns.Sets.{Matches-matches, matches-Matches}
 use Rattle.simd_json_parts.specs.Document.{Document, null, boolean, integer, decimal, string, array, object, Elements, no_elements, element, Members, no_members, member}
-use Rattle.simd_json_parts.specs.Integers.{max_magnitude}
+use Rattle.simd_json_parts.specs.Integers.{max_magnitude, integer_node}
 use Rattle.simd_json_parts.specs.Limits.{IntegersFit, ElementsFit, MembersFit}
 use Rattle.simd_json_parts.specs.Listing.{listing, elements_listing, members_listing, IsTape}
-use Rattle.simd_json_parts.specs.Nodes.{Item, item_of}
+use Rattle.simd_json_parts.specs.Nodes.{Item, static_item, item_of}
 use Rattle.simd_json_parts.specs.Numbers.{decimal_literal}
 use Rattle.simd_json_parts.specs.Spellable.{IsSpellable, ElementsSpellable, MembersSpellable}
 use Rattle.simd_json_parts.specs.declared.node.Node.{Node}
@@ -29,14 +30,18 @@ front xs ys all = subst (All IsPrintable) (take-append_seam xs ys) (All-take IsP
 back : (xs ys : List Item) → All IsPrintable (xs ++ ys) → All IsPrintable ys
 back xs ys all = subst (All IsPrintable) (drop-append_seam xs ys) (All-drop IsPrintable (length xs) (xs ++ ys) all)
 
+integer-printable : (minus : Bool) (n : ℕ) → is_printable (static_item (integer_node minus n)) ≡ nat_le n (max_magnitude minus)
+integer-printable =
+    of-integer_node (λ minus n s. is_printable (static_item s) ≡ nat_le n (max_magnitude minus)) (λ n. ap (λ m. nat_le m (max_magnitude true)) (magnitude-below n)) (λ n. refl)
+    (λ n. ap (λ m. nat_le m (max_magnitude true)) (magnitude-below n)) (λ n. refl)
+
 -- ---- from documents to nodes
 
 mutual
   printable : (d : Document) → IsSpellable d → IntegersFit d → All IsPrintable (listing d)
   printable null spelled fits = one _ refl
   printable (boolean b) spelled fits = one _ refl
-  printable (integer true n) spelled fits = one _ (le-leb _ (max_magnitude true) (subst (λ m. m ≤ max_magnitude true) (sym (magnitude-below n)) fits))
-  printable (integer false n) spelled fits = one _ (le-leb n (max_magnitude false) fits)
+  printable (integer minus n) spelled fits = one _ (integer-printable minus n ∙ le-leb n (max_magnitude minus) fits)
   printable (decimal literal) spelled fits = one _ (Matches-matches decimal_literal literal spelled)
   printable (string t) spelled fits = one _ (is_utf8-from_IsUtf8 t spelled)
   printable (array ds) spelled fits = All-cons IsPrintable _ (elements_listing ds) refl (printable-elements ds spelled fits)
@@ -59,8 +64,7 @@ mutual
   spelled : (d : Document) → All IsPrintable (listing d) → IsSpellable d × IntegersFit d
   spelled null all = (tt, tt)
   spelled (boolean b) all = (tt, tt)
-  spelled (integer true n) all = (tt, subst (λ m. m ≤ max_magnitude true) (magnitude-below n) (leb-true _ (max_magnitude true) (All-head IsPrintable _ [] all)))
-  spelled (integer false n) all = (tt, leb-true n (max_magnitude false) (All-head IsPrintable _ [] all))
+  spelled (integer minus n) all = (tt, leb-true n (max_magnitude minus) (sym (integer-printable minus n) ∙ All-head IsPrintable _ [] all))
   spelled (decimal literal) all = (matches-Matches decimal_literal literal (All-head IsPrintable _ [] all), tt)
   spelled (string t) all = (IsUtf8-from_is_utf8 t (All-head IsPrintable _ [] all), tt)
   spelled (array ds) all = spelled-elements ds (All-tail IsPrintable _ (elements_listing ds) all)

@@ -17,6 +17,8 @@ static_document fixed.Null = null
 static_document (fixed.Bool b) = boolean b
 static_document (fixed.I64 z) = integer true (magnitude_below z)
 static_document (fixed.U64 n) = integer false n
+static_document (fixed.I128 z) = integer true (magnitude_below z)
+static_document (fixed.U128 n) = integer false n
 
 -- ---- documents in a row
 

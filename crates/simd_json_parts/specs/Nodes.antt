@@ -28,6 +28,8 @@ static_type fixed.Null = kinds.Null
 static_type (fixed.Bool b) = kinds.Bool
 static_type (fixed.I64 z) = kinds.I64
 static_type (fixed.U64 n) = kinds.U64
+static_type (fixed.I128 z) = kinds.I128
+static_type (fixed.U128 n) = kinds.U128
 
 abbrev pub item_type : Item → ValueType
 item_type (static_item s) = static_type s

@@ -14,6 +14,8 @@ truth_of _ = None
 abbrev pub number_in : StaticNode → Option ℤ
 number_in (fixed.I64 z) = Some z
 number_in (fixed.U64 n) = Some (pos n)
+number_in (fixed.I128 z) = Some z
+number_in (fixed.U128 n) = Some (pos n)
 number_in _ = None
 
 abbrev pub same_static : StaticNode → StaticNode → Bool

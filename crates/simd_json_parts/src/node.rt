@@ -11,13 +11,13 @@ pub enum ValueType {
     Bool,
     /// A string.
     String,
-    /// An integer written with `-`.
+    /// An integer written with `-` that fits `i64`.
     I64,
-    /// An integer written without `-`.
+    /// An integer written without `-` that fits `u64`.
     U64,
-    /// An integer of up to 128 bits written with `-`.
+    /// An integer written with `-` that fits `i128` and not `i64`.
     I128,
-    /// An integer of up to 128 bits written without `-`.
+    /// An integer written without `-` that fits `u128` and not `u64`.
     U128,
     /// A number with a fraction or an exponent, kept as its literal.
     Decimal,
@@ -36,19 +36,23 @@ pub enum StaticNode {
     Null,
     /// `true` or `false`.
     Bool(bool),
-    /// An integer written with `-`; `-0` is `I64(0)`.
+    /// An integer written with `-` that fits `i64`; `-0` is `I64(0)`.
     I64(i64),
-    /// An integer written without `-`.
+    /// An integer written without `-` that fits `u64`.
     U64(u64),
+    /// An integer written with `-` that fits `i128` and not `i64`.
+    I128(i128),
+    /// An integer written without `-` that fits `u128` and not `u64`.
+    U128(u128),
 }
 
 impl StaticNode {
-    ghost use Rattle.simd_json_parts.specs.Integers.{max_magnitude, integer_node};
+    ghost use Rattle.simd_json_parts.specs.Integers.{max_magnitude, max_magnitude_64, integer_node};
 
-    /// The integer of this magnitude that is written with `-`, or without it.
+    /// The integer of this magnitude that is written with `-`, or without it, where 64 bits hold it.
     #[inline]
     pub fn integer(minus: bool, magnitude: u64) -> StaticNode
-        requires { magnitude ≤ max_magnitude minus }
+        requires { magnitude ≤ max_magnitude_64 minus }
         ensures { result ≡ integer_node minus magnitude }
     {
         if !minus {
@@ -61,6 +65,25 @@ impl StaticNode {
         }
     }
 
+    /// The integer of this magnitude that is written with `-`, or without it: of a kind of 64 bits where these
+    /// hold it, else of 128.
+    pub fn wide(minus: bool, magnitude: u128) -> StaticNode
+        requires { magnitude ≤ max_magnitude minus }
+        ensures { result ≡ integer_node minus magnitude }
+    {
+        let most = if minus { 1 << 63 } else { u64::MAX as u128 };
+        if magnitude <= most {
+            StaticNode::integer(minus, magnitude as u64)
+        } else if !minus {
+            StaticNode::U128(magnitude)
+        } else if magnitude < 1 << 127 {
+            StaticNode::I128(-(magnitude as i128))
+        } else {
+            // The least integer has no positive counterpart.
+            StaticNode::I128(i128::MIN)
+        }
+    }
+
     /// The kind of the value.
     pub fn value_type(&self) -> ValueType
         ensures { result ≡ static_type self.now }
@@ -70,6 +93,8 @@ impl StaticNode {
             StaticNode::Bool(_) => ValueType::Bool,
             StaticNode::I64(_) => ValueType::I64,
             StaticNode::U64(_) => ValueType::U64,
+            StaticNode::I128(_) => ValueType::I128,
+            StaticNode::U128(_) => ValueType::U128,
         }
     }
 }
@@ -92,6 +117,18 @@ impl PartialEq for StaticNode {
             (StaticNode::I64(a), StaticNode::U64(b)) | (StaticNode::U64(b), StaticNode::I64(a)) => {
                 a >= 0 && a as u64 == b
             }
+            (StaticNode::I128(a), StaticNode::I128(b)) => a == b,
+            (StaticNode::U128(a), StaticNode::U128(b)) => a == b,
+            (StaticNode::I64(a), StaticNode::I128(b)) | (StaticNode::I128(b), StaticNode::I64(a)) =>
+                a as i128 == b,
+            (StaticNode::U64(a), StaticNode::I128(b)) | (StaticNode::I128(b), StaticNode::U64(a)) =>
+                a as i128 == b,
+            (StaticNode::U64(a), StaticNode::U128(b)) | (StaticNode::U128(b), StaticNode::U64(a)) =>
+                a as u128 == b,
+            (StaticNode::I64(a), StaticNode::U128(b)) | (StaticNode::U128(b), StaticNode::I64(a)) =>
+                a >= 0 && a as u128 == b,
+            (StaticNode::I128(a), StaticNode::U128(b))
+            | (StaticNode::U128(b), StaticNode::I128(a)) => a >= 0 && a as u128 == b,
             _ => false,
         }
     }
@@ -174,6 +211,13 @@ mod tests {
         assert!(rt; StaticNode::U64(1) == StaticNode::I64(1));
         assert!(rt; StaticNode::I64(0) == StaticNode::U64(0));
         assert!(rt; StaticNode::I64(-1) != StaticNode::U64(u64::MAX));
+        assert!(rt; StaticNode::U128(1) == StaticNode::I64(1));
+        assert!(rt; StaticNode::I64(-1) == StaticNode::I128(-1));
+        assert!(rt; StaticNode::U64(1) == StaticNode::U128(1));
+        assert!(rt; StaticNode::I128(1) == StaticNode::U64(1));
+        assert!(rt; StaticNode::I128(1) == StaticNode::U128(1));
+        assert!(rt; StaticNode::I128(-1) != StaticNode::U128(u128::MAX));
+        assert!(rt; StaticNode::I64(-1) != StaticNode::U128(u128::MAX));
         assert!(rt; StaticNode::Null != StaticNode::U64(0));
         assert!(rt; StaticNode::Bool(true) != StaticNode::U64(1));
         assert!(rt; StaticNode::Bool(true) != StaticNode::Bool(false));
@@ -200,12 +244,45 @@ mod tests {
     }
 
     #[test]
+    fn kinds_change_past_64_bits(rt: HostRuntime) {
+        const SHORT: u128 = u64::MAX as u128;
+        assert!(rt; matches!(StaticNode::wide(false, SHORT), StaticNode::U64(u64::MAX)));
+        assert!(rt;
+            matches!(
+                StaticNode::wide(false, SHORT + 1),
+                StaticNode::U128(18_446_744_073_709_551_616)
+            )
+        );
+        assert!(rt;
+            matches!(
+                StaticNode::wide(false, u128::MAX),
+                StaticNode::U128(u128::MAX)
+            )
+        );
+        assert!(rt; matches!(StaticNode::wide(true, 1 << 63), StaticNode::I64(i64::MIN)));
+        assert!(rt;
+            matches!(
+                StaticNode::wide(true, (1 << 63) + 1),
+                StaticNode::I128(-9_223_372_036_854_775_809)
+            )
+        );
+        assert!(rt;
+            matches!(
+                StaticNode::wide(true, 1 << 127),
+                StaticNode::I128(i128::MIN)
+            )
+        );
+    }
+
+    #[test]
     fn nodes_have_their_kinds(rt: HostRuntime) {
         let nodes = [
             (Node::Static(StaticNode::Null), ValueType::Null),
             (Node::Static(StaticNode::Bool(true)), ValueType::Bool),
             (Node::Static(StaticNode::I64(-1)), ValueType::I64),
             (Node::Static(StaticNode::U64(1)), ValueType::U64),
+            (Node::Static(StaticNode::I128(-1)), ValueType::I128),
+            (Node::Static(StaticNode::U128(1)), ValueType::U128),
             (Node::String("1"), ValueType::String),
             (Node::Decimal("1.5"), ValueType::Decimal),
             (Node::Array { len: 1, count: 2 }, ValueType::Array),

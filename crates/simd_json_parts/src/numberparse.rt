@@ -15,6 +15,8 @@ mod plain;
 #[cfg(test)]
 mod tests;
 
+pub use integers::parse_long;
+
 /// What stands at the front of some bytes, read as a number.
 #[derive(Clone, Copy, Debug, Drop, PartialEq, Eq)]
 pub enum Number {
@@ -26,11 +28,14 @@ pub enum Number {
     Invalid(usize),
 }
 
-/// The same in two words, for a reader that knows the first byte: it tells the sign of an integer.
+/// The same in two words, for a reader that knows the first byte: it tells the sign of an integer. An integer
+/// of more than nineteen bytes is left to [`parse_long`], so that readers of shorter ones know no 128 bits.
 #[derive(Clone, Copy, Debug, Drop, PartialEq, Eq)]
 pub enum Numeral {
-    /// An integer in range of this magnitude; [`StaticNode::integer`] makes its node.
+    /// An integer of this magnitude, which 64 bits hold; [`StaticNode::integer`] makes its node.
     Integer(u64),
+    /// An integer whose literal has so many bytes, in range or not; [`parse_long`] reads it.
+    Long(usize),
     /// A number with a fraction or an exponent, whose literal has so many bytes.
     Decimal(usize),
     /// No number, or an integer out of range: the fault is reported so many bytes after the first.
@@ -56,6 +61,10 @@ pub fn parse_number(bytes: &[u8]) -> Number
             let len = int_end(bytes, minus as usize);
             Number::Integer(StaticNode::integer(minus, magnitude), len)
         }
+        Numeral::Long(len) => match parse_long(bytes, len) {
+            Ok(node) => Number::Integer(node, len),
+            Err(offset) => Number::Invalid(offset),
+        },
         Numeral::Decimal(len) => Number::Decimal(len),
         Numeral::Invalid(offset) => Number::Invalid(offset),
     }

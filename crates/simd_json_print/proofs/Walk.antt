@@ -1,17 +1,19 @@
 -- What a walk over nodes meets, turn by turn.
-use Rattle.std.proofs.Common.{◌≡◌, ◌∙◌, ap, sym, refl, ◌<◌, ◌+◌, ℕ, suc, Bool, true, false, not, nat_eq, Bor, List, [], ◌∷◌, ◌++◌, length, length-append, map, take, drop, get_or, append_assoc, codes, arith}
+use Rattle.std.proofs.Common.{◌≡◌, ◌∙◌, ap, sym, refl, ◌<◌, ◌+◌, ℕ, suc, Bool, not, nat_eq, Bor, List, [], ◌∷◌, ◌++◌, length, length-append, map, take, drop, get_or, append_assoc, codes, arith}
 use Rattle.std.proofs.lemmas.List.{length-map}
+use Rattle.std.specs.Fmt.{signed_decimal}
 use Rattle.simd_json_parts.proofs.Documents.Fronts.{positive, sized, front-listed}
+use Rattle.simd_json_parts.proofs.Documents.Integers.{of-integer_node}
 use Rattle.simd_json_parts.specs.Bytes.{left_bracket, right_bracket, left_brace, right_brace}
 use Rattle.simd_json_parts.specs.Document.{Document, null, boolean, integer, decimal, string, array, object, Elements, no_elements, element, elements, Members, no_members, member, members}
 use Rattle.simd_json_parts.specs.Listing.{listing, elements_listing, members_listing}
 use Rattle.simd_json_parts.specs.Nodes.{Item, static_item, decimal_item, string_item, array_item, object_item, item_of, count_of}
-use Rattle.simd_json_parts.specs.Integers.{integer_node}
+use Rattle.simd_json_parts.specs.Integers.{number_of, integer_node}
 use Rattle.simd_json_parts.specs.Printed.{quoted}
 use Rattle.simd_json_parts.specs.declared.node.Node.{Node}
 use Rattle.simd_json_parts.specs.declared.node.Node.TheVariants as nodes
 use Rattle.simd_json_parts.specs.declared.node.StaticNode.TheVariants as fixed
-use Rattle.simd_json_print.specs.Layout.{line, scalar_text, text, elements_text, members_text}
+use Rattle.simd_json_print.specs.Layout.{line, static_text, scalar_text, text, elements_text, members_text}
 
 -- ---- a value at the front
 
@@ -145,7 +147,7 @@ array-beneath ns beneath default d len count kind after is =
   where
     array-of : (e : Document) (l c : ℕ) (xs : List Item) → listing e ≡ array_item l c ∷ xs → (ds : Elements) × (e ≡ array ds) × (xs ≡ elements_listing ds)
     array-of (array ds) l c xs same = (ds, refl, cc)
-    array-of (integer true m) l c xs same = cc
+    array-of (integer minus m) l c xs same = cc
     array-of _ l c xs same = cc
 
 pub object-beneath : (ns beneath : List Node) (default : Node) (d : Document) (len count : ℕ) → get_or ns 0 default ≡ nodes.Object len count → beneath ≡ drop 1 ns → map item_of ns ≡ listing d
@@ -156,15 +158,17 @@ object-beneath ns beneath default d len count kind after is =
   where
     object-of : (e : Document) (l c : ℕ) (xs : List Item) → listing e ≡ object_item l c ∷ xs → (ms : Members) × (e ≡ object ms) × (xs ≡ members_listing ms)
     object-of (object ms) l c xs same = (ms, refl, cc)
-    object-of (integer true m) l c xs same = cc
+    object-of (integer minus m) l c xs same = cc
     object-of _ l c xs same = cc
+
+of-integer : (minus : Bool) (m : ℕ) → static_text (integer_node minus m) ≡ signed_decimal (number_of minus m)
+of-integer = of-integer_node (λ minus m s. static_text s ≡ signed_decimal (number_of minus m)) (λ m. refl) (λ m. refl) (λ m. refl) (λ m. refl)
 
 of-item : (p : Bool) (n : ℕ) (x : Item) (d : Document) (rest : List Item) → ((len count : ℕ) → x ≡ array_item len count → ⊥) → ((len count : ℕ) → x ≡ object_item len count → ⊥)
     → x ∷ rest ≡ listing d → scalar_text x ≡ text p d n
 of-item p n x null rest no_array no_object is = let same : x ≡ static_item fixed.Null = cc in ap scalar_text same
 of-item p n x (boolean b) rest no_array no_object is = let same : x ≡ static_item (fixed.Bool b) = cc in ap scalar_text same
-of-item p n x (integer true m) rest no_array no_object is = let same : x ≡ static_item (integer_node true m) = cc in ap scalar_text same
-of-item p n x (integer false m) rest no_array no_object is = let same : x ≡ static_item (integer_node false m) = cc in ap scalar_text same
+of-item p n x (integer minus m) rest no_array no_object is = let same : x ≡ static_item (integer_node minus m) = cc in ap scalar_text same ∙ of-integer minus m
 of-item p n x (decimal literal) rest no_array no_object is = let same : x ≡ decimal_item literal = cc in ap scalar_text same
 of-item p n x (string t) rest no_array no_object is = let same : x ≡ string_item t = cc in ap scalar_text same
 of-item p n x (array ds) rest no_array no_object is = absurd (no_array (length (elements ds)) (length (elements_listing ds)) (cc))

@@ -22,6 +22,8 @@ static_text fixed.Null = codes "null"
 static_text (fixed.Bool b) = truth_text b
 static_text (fixed.I64 z) = signed_decimal z
 static_text (fixed.U64 n) = decimal_digits n
+static_text (fixed.I128 z) = signed_decimal z
+static_text (fixed.U128 n) = decimal_digits n
 
 -- of a scalar; a container is none, and has no text here
 abbrev pub scalar_text : Item → List ℕ

@@ -17,7 +17,7 @@ use std::alloc::Global;
 pub(crate) enum Item {
     Null,
     Truth(bool),
-    Integer { is_negative: bool, magnitude: u64 },
+    Integer { is_negative: bool, magnitude: u128 },
     Decimal { start: usize, end: usize },
     String { start: usize, end: usize },
     Array { len: usize, count: usize },
@@ -95,14 +95,28 @@ fn is_static(node: StaticNode, item: Item) -> bool {
                 is_negative: false,
                 magnitude,
             },
-        ) => n == magnitude,
+        ) => u128::from(n) == magnitude,
         (
             StaticNode::I64(n),
             Item::Integer {
                 is_negative: true,
                 magnitude,
             },
-        ) => n <= 0 && n.unsigned_abs() == magnitude,
+        ) => n <= 0 && u128::from(n.unsigned_abs()) == magnitude,
+        (
+            StaticNode::U128(n),
+            Item::Integer {
+                is_negative: false,
+                magnitude,
+            },
+        ) => n > u128::from(u64::MAX) && n == magnitude,
+        (
+            StaticNode::I128(n),
+            Item::Integer {
+                is_negative: true,
+                magnitude,
+            },
+        ) => n < i128::from(i64::MIN) && n.unsigned_abs() == magnitude,
         _ => false,
     }
 }

@@ -11,7 +11,7 @@ mod tokens;
 type Tested = std::result::Result<(), Fail>;
 
 // Short documents and refusals of each sort, and one that is longer than a block of 64 bytes.
-fn inputs() -> [&'static [u8]; 17] {
+fn inputs() -> [&'static [u8]; 20] {
     [
         b"{\"the_answer\": 42}",
         b"[1,[2,3],4]",
@@ -29,6 +29,9 @@ fn inputs() -> [&'static [u8]; 17] {
         b"{\"a\n\":[true,null,-1,1.5]}",
         b"{\"a\\n\":[true,null,-1,1.5]}",
         b"[-9223372036854775809,18446744073709551616]",
+        b"[-170141183460469231731687303715884105728,340282366920938463463374607431768211455]",
+        b"-170141183460469231731687303715884105729",
+        b"340282366920938463463374607431768211456",
         b"{\"content\":\"aaaaaaaaaaaaaaaaaaaaaaaaaaaaaaaaaaaaaaaaaaaaaaaaa\\\\\\\"\",\"\xc3\xa9\":[ [{}], false ]}",
     ]
 }

@@ -19,7 +19,6 @@ use Rattle.simd_json_parts.specs.Tokens.{Form, begin_array, end_array, begin_obj
 use Rattle.simd_json_parts.specs.StringAt.{string_at}
 use Rattle.simd_json_stages.specs.Refusals.{refused_kind}
 use Rattle.simd_json_stages.specs.declared.stage2.fault.FaultKind.TheVariants as kinds
-use Rattle.simd_json_stages.specs.ScalarRead.{is_no_scalar}
 use Rattle.simd_json_parts.specs.declared.error.ErrorType.{ErrorType}
 use Rattle.simd_json_parts.specs.declared.error.ErrorType.TheVariants.{ExpectedTrue, ExpectedFalse, ExpectedNull, InvalidNumber}
 
@@ -90,6 +89,11 @@ form_at-no_null b rest i e f h =
     form_at-atom b i 110 f refl
     ∙ ap scalar (ap (λ c. if c == 116 then atom_or (codes "true") (boolean true) ExpectedTrue b i else if c == 102 then atom_or (codes "false") (boolean false) ExpectedFalse b i else atom_or (codes "null") null ExpectedNull b i) f
     ∙ atom_or-fault (codes "null") null ExpectedNull b rest i 4 e refl h)
+
+-- a form that is no atom and no number
+abbrev pub is_no_scalar : Form → Bool
+is_no_scalar (scalar read) = false
+is_no_scalar _ = true
 
 pub refused_kind-other : (c : ℕ) → nat_eq c 116 ≡ false → nat_eq c 102 ≡ false → nat_eq c 110 ≡ false → refused_kind c ≡ kinds.InternalError
 refused_kind-other c t f n = simp (t, f, n)

@@ -1,6 +1,6 @@
--- A scalar that is put, or refused: a decimal's literal is UTF-8 and ends inside the input, and a refusal tells no scalar.
-use Rattle.std.proofs.Common.{◌≡◌, ◌≢◌, refl, sym, ◌∙◌, ap, subst, ℕ, ◌+◌, ◌<◌, ◌≤◌, inl, inr, List, length, get_or, take, drop, true, false, ◌||◌, ◌&&◌, ◌==◌, nat_eq, nat_le, nat_lt, arith}
-use Rattle.std.specs.Prelude.{Option, Some, None, Result, Ok, Err, IfOk, IsUtf8, codes, if◌then◌else◌}
+-- A scalar that becomes a node, or is refused: a decimal's literal is UTF-8 and ends inside the input, and a fault is of no scalar.
+use Rattle.std.proofs.Common.{◌≡◌, ◌≢◌, refl, sym, ◌∙◌, ap, ap₂, subst, ℕ, ◌+◌, ◌<◌, ◌≤◌, inl, inr, List, [], ◌∷◌, length, get_or, take, drop, true, false, ◌||◌, ◌&&◌, ◌==◌, nat_eq, nat_le, nat_lt, arith}
+use Rattle.std.specs.Prelude.{Option, Some, None, Result, Ok, Err, IfOk, IsUtf8, codes, slice_set, if◌then◌else◌}
 use Rattle.std.specs.List.{starts_with}
 use Rattle.std.specs.Str.{IsAscii}
 use Rattle.std.proofs.lemmas.Bool.{and_parts, cases_lt, cond_both, leb-false}
@@ -12,6 +12,8 @@ use Rattle.simd_json_parts.specs.Derivatives.{matches, longest_prefix}
 use Rattle.simd_json_parts.specs.Document.{Document, null, boolean, decimal}
 use Rattle.simd_json_parts.specs.Faults.{fault_at, fault_with}
 use Rattle.simd_json_parts.specs.Integers.{max_magnitude}
+use Rattle.simd_json_parts.specs.Listing.{listing}
+use Rattle.simd_json_parts.specs.Nodes.{static_item}
 use Rattle.simd_json_parts.specs.NumberAt.{number_at, integer_or, first_excess}
 use Rattle.simd_json_parts.specs.Numbers.{number_literal, integer_literal, has_minus, magnitude}
 use Rattle.simd_json_parts.specs.StringAt.{string_at}
@@ -21,16 +23,17 @@ use Rattle.simd_json_parts.specs.declared.error.ErrorType.{ErrorType}
 use Rattle.simd_json_parts.specs.declared.error.ErrorType.TheVariants.{ExpectedTrue, ExpectedFalse, ExpectedNull, InvalidNumber}
 use Rattle.simd_json_parts.proofs.Patterns.Bytes.{All-Matches}
 use Rattle.simd_json_parts.proofs.Patterns.Sets.{matches-Matches, longest_prefix-le}
-use Rattle.simd_json_stages.specs.Put.{IsNoScalar}
-use Rattle.simd_json_stages.specs.Refusals.{error_type, refused_kind, refusal, offset_of}
-use Rattle.simd_json_stages.specs.ScalarRead.{IsScalarAt}
+use Rattle.simd_json_stages.specs.Left.{Left}
+use Rattle.simd_json_stages.specs.Progresses.{IsUnread}
+use Rattle.simd_json_stages.specs.Put.{IsScalarPut, IsNoScalar}
+use Rattle.simd_json_stages.specs.Refusals.{error_type, refused_kind, number_refusal}
+use Rattle.simd_json_parts.specs.declared.node.Node.{Node}
+use Rattle.simd_json_parts.specs.declared.node.Node.TheVariants.{Static}
 use Rattle.simd_json_parts.specs.declared.node.StaticNode.{StaticNode}
 use Rattle.simd_json_stages.specs.declared.stage2.fault.Fault.{Fault}
 use Rattle.simd_json_stages.specs.declared.stage2.fault.FaultKind.{FaultKind}
 use Rattle.simd_json_stages.specs.declared.stage2.fault.FaultKind.TheVariants as kinds
-use Rattle.simd_json_stages.specs.declared.stage2.scalar.Scalar.{Scalar}
-use Rattle.simd_json_stages.specs.declared.stage2.scalar.Scalar.TheVariants.{Value, Decimal, Invalid, Refused}
-use Rattle.simd_json_stages.proofs.ScalarLaws.{number_at-within}
+use Rattle.simd_json_stages.proofs.ScalarLaws.{is_no_scalar, number_at-within}
 use Rattle.simd_json_stages.proofs.TokenForms.{no_value}
 
 -- ---- a decimal
@@ -103,24 +106,33 @@ form-here b i l =
 pub decimal-here : (b : List ℕ) (i : ℕ) (literal : List ℕ) (end : ℕ) → i ≤ length b → form_at b i ≡ scalar (Ok (decimal literal, end)) → IsUtf8 literal × (end ≤ length b)
 decimal-here b i literal end l is = subst (FormHere b) is (form-here b i l)
 
+-- ---- a node of fixed size
+
+-- nothing is split off before it
+pub static-put : (b : List ℕ) (i used end : ℕ) (nodes : List Node) (u : Left) (d : Document) (s : StaticNode) → IsUnread b u i → form_at b i ≡ scalar (Ok (d, end))
+    → listing d ≡ static_item s ∷ [] → IsScalarPut b i used nodes (slice_set nodes used (Static s)) u
+static-put b i used end nodes u d s unread is listed =
+    record { document = d; end = end; node = Static s; read = is; listed = listed; put = refl; unread = unread.same; before = inl unread.before }
+
 -- ---- a refusal
 
--- it tells a place inside the input
-pub offset-within : (b : List ℕ) (i : ℕ) (r : Scalar) → IsScalarAt b i r → i ≤ length b → offset_of r ≤ length (drop i b)
-offset-within b i (Invalid offset) is l = omega (arith, length-drop i b, number_at-within b i (fault_at b InvalidNumber (i + offset)) l is.1)
-offset-within b i (Value node) is l = omega arith
-offset-within b i (Decimal len) is l = omega arith
-offset-within b i Refused is l = omega arith
+-- a number's lies inside the input
+pub offset-within : (b : List ℕ) (i offset : ℕ) → i ≤ length b → number_at b i ≡ Err (fault_at b InvalidNumber (i + offset)) → offset ≤ length (drop i b)
+offset-within b i offset l is = omega (arith, length-drop i b, number_at-within b i (fault_at b InvalidNumber (i + offset)) l is)
 
--- it is the scalar's own, or no value begins there
-pub refusal-told : (b : List ℕ) (i c : ℕ) (r : Scalar) → IsScalarAt b i r → ((node : StaticNode) → r ≡ Value node → ⊥) → ((len : ℕ) → r ≡ Decimal len → ⊥)
-    → byte_at b i ≡ c → c ≢ 34 → c ≢ 91 → c ≢ 123 → IsNoScalar b i (refusal b i c r)
-refusal-told b i c (Value node) is no_node no_decimal e no_string no_array no_object = absurd (no_node node refl)
-refusal-told b i c (Decimal len) is no_node no_decimal e no_string no_array no_object = absurd (no_decimal len refl)
-refusal-told b i c (Invalid offset) is no_node no_decimal e no_string no_array no_object = inl (is.0 ∙ ap scalar is.1)
-refusal-told b i c Refused (inl atom) no_node no_decimal e no_string no_array no_object = inl (atom ∙ ap (λ x. scalar (Err (fault_with (error_type (refused_kind x)) i x))) e)
-refusal-told b i c Refused (inr (kind, none)) no_node no_decimal e no_string no_array no_object =
+pub number-refused : (b : List ℕ) (i offset : ℕ) (f : Fault) → form_at b i ≡ scalar (number_at b i) → number_at b i ≡ Err (fault_at b InvalidNumber (i + offset))
+    → f ≡ number_refusal b (i + offset) → IsNoScalar b i f
+number-refused b i offset f form is same = subst (IsNoScalar b i) (sym same) (inl (form ∙ ap scalar is))
+
+-- an atom's, or that of a token that begins no value
+pub atom-refused : (b : List ℕ) (i c : ℕ) (f : Fault) → f ≡ record { kind = refused_kind c; index = i; byte = c } → c ≡ byte_at b i
+    → form_at b i ≡ scalar (Err (fault_at b (error_type (refused_kind c)) i)) → IsNoScalar b i f
+atom-refused b i c f same e is = subst (IsNoScalar b i) (sym same) (inl (is ∙ ap (λ x. scalar (Err (fault_with (error_type (refused_kind c)) i x))) (sym e)))
+
+pub none-refused : (b : List ℕ) (i c : ℕ) (f : Fault) → f ≡ record { kind = refused_kind c; index = i; byte = c } → c ≡ byte_at b i
+    → refused_kind c ≡ kinds.InternalError → is_no_scalar (form_at b i) ≡ true → c ≢ 34 → c ≢ 91 → c ≢ 123 → IsNoScalar b i f
+none-refused b i c f same e kind none no_string no_array no_object =
     inr (
-      no_value b i none (λ h. no_string (sym e ∙ h)) (λ h. no_array (sym e ∙ h)) (λ h. no_object (sym e ∙ h)),
-      ap (λ (k : FaultKind). let f : Fault = record { kind = k; index = i; byte = c } in f) (ap refused_kind (sym e) ∙ kind) ∙ ap (λ (x : ℕ). let f : Fault = record { kind = kinds.InternalError; index = i; byte = x } in f) (sym e),
+      no_value b i none (λ h. no_string (e ∙ h)) (λ h. no_array (e ∙ h)) (λ h. no_object (e ∙ h)),
+      same ∙ ap₂ (λ (k : FaultKind) (x : ℕ). let f : Fault = record { kind = k; index = i; byte = x } in f) kind e,
     )

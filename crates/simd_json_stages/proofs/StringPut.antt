@@ -1,11 +1,11 @@
 -- The string at the last token: where it ends, and that nothing of it is a position.
-use Rattle.std.proofs.Common.{◌≡◌, ◌≢◌, refl, sym, ◌∙◌, ap, subst, ℕ, suc, ◌+◌, ◌-◌, ◌<◌, ◌≤◌, ◌⊎◌, inl, inr, List, [], ◌∷◌, length, get_or, drop, true, false, not, ◌==◌, Contains, arith}
+use Rattle.std.proofs.Common.{◌≡◌, ◌≢◌, refl, sym, ◌∙◌, ap, subst, ℕ, suc, ◌+◌, ◌-◌, ◌<◌, ◌≤◌, ◌⊎◌, inl, inr, List, [], ◌∷◌, length, get_or, drop, true, false, not, ◌==◌, ◌&&◌, Contains, arith}
 use Rattle.std.specs.Prelude.{None, Err, IsUtf8, slice_range}
-use Rattle.std.proofs.lemmas.Bool.{cases_Bool, cases_lt, false≢true}
+use Rattle.std.proofs.lemmas.Bool.{and_parts, eqb-true, cases_Bool, cases_lt, false≢true}
 use Rattle.std.proofs.lemmas.List.{get_or-drop, length-drop}
 use Rattle.simd_json_parts.specs.Bytes.{quote, backslash, is_structural, is_whitespace, byte_at}
 use Rattle.simd_json_parts.specs.InputFaults.{input_fault}
-use Rattle.simd_json_parts.specs.Positions.{is_real_quote, is_inside, is_fresh, is_position, positions}
+use Rattle.simd_json_parts.specs.Positions.{is_even, backslashes_before, is_real_quote, is_inside, is_fresh, is_position, positions}
 use Rattle.simd_json_parts.specs.StringAt.{closing_quote, escape_fault, read_pieces, string_read, string_at}
 use Rattle.simd_json_parts.specs.Tokens.{tokens}
 use Rattle.simd_json_parts.specs.declared.error.Error.{Error}
@@ -106,17 +106,39 @@ module _ {b indexes : List ℕ} {u : Left} {p : Progress} {end next : ℕ} (inpu
   pub within : next ≤ u.at + length u.bytes
   within = omega (arith, is, whole, next-inside b p)
 
-  -- a string without escape ends before it, where a quote stands there
-  pub ending : byte_at u.bytes (next - 1 - u.at) ≡ quote → Contains (tokens b) (token b p.at) → next - 1 - p.at ≡ closing_quote (drop (p.at - u.at) u.bytes) 0
-  ending last c =
-      let none = λ (j : ℕ) (f : p.at < j) (t : j < next). none-between b p read j f (omega (arith, is)) in
-      let quoted : byte_at b (next - 1) ≡ quote = sym (unread-byte b u p.at (next - 1) unread (omega (arith, later))) ∙ last in
-      let ends : closing_quote b p.at + 1 ≡ next = string-ends b (token b p.at) next c opening closed later there none quoted in
-      let place : closing_quote b p.at ≡ p.at + closing_quote (drop (p.at - u.at) u.bytes) 0 = closing_quote-further b p.at opening ∙ ap (λ us. p.at + closing_quote us 0) (sym after) in
-      omega arith
+  unfold-real : (k : ℕ) → is_real_quote b k ≡ true → ((byte_at b k == quote) && is_even (backslashes_before b k)) ≡ true
+  unfolding is_real_quote
+  unfold-real k h = h
 
-  pub plain : PlainFrom b p.at next → (j : ℕ) → 0 < j → j < next - 1 - p.at → byte_at (drop (p.at - u.at) u.bytes) j ≢ backslash
-  plain none j f t e = none (p.at + j) (omega arith) (omega arith) (sym (get_or-drop p.at b j 32) ∙ ap (λ us. byte_at us j) (sym after) ∙ e)
+  place : closing_quote b p.at ≡ p.at + closing_quote (drop (p.at - u.at) u.bytes) 0
+  place = closing_quote-further b p.at opening ∙ ap (λ us. p.at + closing_quote us 0) (sym after)
+
+  ends : Contains (tokens b) (token b p.at) → (closing_quote b p.at < next) × ((k : ℕ) → closing_quote b p.at ≤ k → k < next → byte_at b k ≡ quote → closing_quote b p.at ≡ k)
+  ends c = string-ends b (token b p.at) next c opening closed later there (λ (j : ℕ) (f : p.at < j) (t : j < next). none-between b p read j f (omega (arith, is)))
+
+  quoted : byte_at u.bytes (closing_quote b p.at - u.at) ≡ quote
+  quoted =
+      let real : is_real_quote b (closing_quote b p.at) ≡ true = (closing_quote-next b p.at).2 closed in
+      unread-byte b u p.at (closing_quote b p.at) unread (omega (arith, (closing_quote-next b p.at).0)) ∙ eqb-true _ quote (and_parts _ _ (unfold-real (closing_quote b p.at) real)).0
+
+  -- its closing quote stands before that,
+  pub some-quote : Contains (tokens b) (token b p.at) → (j : ℕ) × (u.at ≤ j) × (j < next) × (byte_at u.bytes (j - u.at) ≡ quote)
+  some-quote c = (closing_quote b p.at, omega (arith, unread.before, (closing_quote-next b p.at).0), (ends c).0, quoted)
+
+  -- and is the last one that does
+  pub ending : (k : ℕ) → k < next → byte_at u.bytes (k - u.at) ≡ quote → ((j : ℕ) → k < j → j < next → byte_at u.bytes (j - u.at) ≢ quote) → Contains (tokens b) (token b p.at)
+      → (p.at < k) × (k - p.at ≡ closing_quote (drop (p.at - u.at) u.bytes) 0)
+  ending k below last none c =
+      elim (cases_lt k (closing_quote b p.at)) [
+        | inl before ↦ absurd (none (closing_quote b p.at) before (ends c).0 quoted)
+        | inr from ↦
+            let at : byte_at b k ≡ quote = sym (unread-byte b u p.at k unread (omega (arith, (closing_quote-next b p.at).0))) ∙ last in
+            let same : closing_quote b p.at ≡ k = (ends c).1 k from below at in
+            (omega (arith, (closing_quote-next b p.at).0), omega (arith, same, place))
+      ]
+
+  pub plain : PlainFrom b p.at next → (k : ℕ) → k < next → (j : ℕ) → 0 < j → j < k - p.at → byte_at (drop (p.at - u.at) u.bytes) j ≢ backslash
+  plain none k below j f t e = none (p.at + j) (omega arith) (omega arith) (sym (get_or-drop p.at b j 32) ∙ ap (λ us. byte_at us j) (sym after) ∙ e)
 
   pub closes : closing_quote (drop (p.at - u.at) u.bytes) 0 < length (drop (p.at - u.at) u.bytes)
   closes =

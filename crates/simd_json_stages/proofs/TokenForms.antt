@@ -9,8 +9,8 @@ use Rattle.simd_json_parts.specs.Descent.{last_index}
 use Rattle.simd_json_parts.specs.StringAt.{string_at}
 use Rattle.simd_json_parts.specs.TokensAlong.{goes_on, tokens_along}
 use Rattle.simd_json_stages.specs.Put.{begins_value}
-use Rattle.simd_json_stages.specs.ScalarRead.{is_no_scalar}
 use Rattle.simd_json_stages.proofs.Places.{token}
+use Rattle.simd_json_stages.proofs.ScalarLaws.{is_no_scalar}
 use Rattle.simd_json_stages.proofs.Steps.{is_end_array, is_end_object, is_string, is_name_separator, ends_element, ends_member}
 
 pub last_index-append : (ts : List Token) (t : Token) → last_index (ts ++ t ∷ []) ≡ t.index

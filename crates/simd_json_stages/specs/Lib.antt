@@ -14,7 +14,6 @@ pub mod Stored
 pub mod Left
 pub mod EscapesAhead
 pub mod Continued
-pub mod ScalarRead
 pub mod Building
 pub mod Progresses
 pub mod Members

@@ -1,13 +1,11 @@
 -- The faults of tokens that the second stage reports.
-use Rattle.std.specs.Prelude.{◌≡◌, ℕ, ◌+◌, List, ◌==◌, if◌then◌else◌}
+use Rattle.std.specs.Prelude.{◌≡◌, ℕ, List, ◌==◌, if◌then◌else◌}
 use Rattle.simd_json_parts.specs.Bytes.{byte_at}
 use Rattle.simd_json_parts.specs.Faults.{fault_with}
 use Rattle.simd_json_parts.specs.declared.error.Error.{Error}
 use Rattle.simd_json_parts.specs.declared.error.ErrorType.{ErrorType}
 use Rattle.simd_json_parts.specs.declared.error.ErrorType.TheVariants as errors
 use Rattle.simd_json_stages.specs.declared.stage2.fault.Fault.{Fault}
-use Rattle.simd_json_stages.specs.declared.stage2.scalar.Scalar.{Scalar}
-use Rattle.simd_json_stages.specs.declared.stage2.scalar.Scalar.TheVariants.{Invalid, Refused}
 use Rattle.simd_json_stages.specs.declared.stage2.fault.FaultKind.{FaultKind}
 use Rattle.simd_json_stages.specs.declared.stage2.fault.FaultKind.TheVariants as kinds
 
@@ -33,17 +31,6 @@ refused_kind c = if c == 116 then kinds.ExpectedTrue else if c == 102 then kinds
 
 abbrev pub number_refusal : List ℕ → ℕ → Fault
 number_refusal b i = record { kind = kinds.InvalidNumber; index = i; byte = byte_at b i }
-
--- how far after its first byte the scalar is refused
-abbrev pub offset_of : Scalar → ℕ
-offset_of (Invalid offset) = offset
-offset_of _ = 0
-
--- of the scalar at index i, whose first byte is c
-abbrev pub refusal : List ℕ → ℕ → ℕ → Scalar → Fault
-refusal b i c (Invalid offset) = number_refusal b (i + offset)
-refusal b i c Refused = record { kind = refused_kind c; index = i; byte = c }
-refusal b i c _ = record { kind = kinds.InternalError; index = i; byte = c }
 
 -- it is of one of these kinds, and carries a character
 abbrev pub IsTokenFault : Error → Type 0

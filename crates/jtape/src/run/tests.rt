@@ -35,7 +35,7 @@ fn run_within(rt: &impl AllocGlobal, mode: Mode, depth: usize, input: &[u8]) -> 
 
 #[test]
 fn documents_are_printed(rt: HostRuntime) {
-    let rows: [(&[u8], &[u8]); 14] = [
+    let rows: [(&[u8], &[u8]); 16] = [
         (
             b"[1,[2,3],4]",
             b"Array 3 5\nU64 1\nArray 2 2\nU64 2\nU64 3\nU64 4\n",
@@ -46,6 +46,14 @@ fn documents_are_printed(rt: HostRuntime) {
         (b"[true,false]", b"Array 2 2\nBool true\nBool false\n"),
         (b"-9223372036854775808", b"I64 -9223372036854775808\n"),
         (b"18446744073709551615", b"U64 18446744073709551615\n"),
+        (
+            b"[-9223372036854775809,18446744073709551616]",
+            b"Array 2 2\nI128 -9223372036854775809\nU128 18446744073709551616\n",
+        ),
+        (
+            b"-170141183460469231731687303715884105728",
+            b"I128 -170141183460469231731687303715884105728\n",
+        ),
         (
             b"\t[ [ ] , null\r\n, [[1]] ] ",
             b"Array 3 5\nArray 0 0\nNull\nArray 1 2\nArray 1 1\nU64 1\n",

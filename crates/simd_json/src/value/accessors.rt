@@ -87,6 +87,8 @@ impl<'tape, 'input> Value<'tape, 'input> {
         match self.node() {
             Node::Static(StaticNode::I64(number)) => Some(i128::from(number)),
             Node::Static(StaticNode::U64(number)) => Some(i128::from(number)),
+            Node::Static(StaticNode::I128(number)) => Some(number),
+            Node::Static(StaticNode::U128(number)) => i128::try_from(number).ok(),
             _ => None,
         }
     }
@@ -139,6 +141,8 @@ impl<'tape, 'input> Value<'tape, 'input> {
         match self.node() {
             Node::Static(StaticNode::I64(number)) => u128::try_from(number).ok(),
             Node::Static(StaticNode::U64(number)) => Some(u128::from(number)),
+            Node::Static(StaticNode::I128(number)) => u128::try_from(number).ok(),
+            Node::Static(StaticNode::U128(number)) => Some(number),
             _ => None,
         }
     }

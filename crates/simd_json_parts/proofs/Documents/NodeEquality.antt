@@ -60,6 +60,8 @@ key-normalized fixed.Null = refl
 key-normalized (fixed.Bool b) = refl
 key-normalized (fixed.I64 z) = key-node_of z
 key-normalized (fixed.U64 n) = key-node_of (pos n)
+key-normalized (fixed.I128 z) = key-node_of z
+key-normalized (fixed.U128 n) = key-node_of (pos n)
 
 Decides-same_static : (a b : StaticNode) → Decides (same_static a b) (normalized_static a ≡ normalized_static b)
 Decides-same_static a b =

@@ -1,14 +1,15 @@
 -- What the digits of an integer are worth, and what number stands where its literal was found.
-use Rattle.std.proofs.Common.{◌≡◌, refl, sym, ◌∙◌, ap, subst, ℕ, ◌+◌, ◌-◌, ◌*◌, ◌^◌, ◌≤◌, ◌<◌, lit≤, lit<, inl, inr, List, [], ◌∷◌, ◌++◌, length, length-drop, zero-add, take, drop, get_or, map, Bool, true, false, cond, ◌==◌, nat_lt, IsTrue, find, Some, None, Ok, Err, add_assoc, arith}
+use Rattle.std.proofs.Common.{◌≡◌, refl, sym, ◌∙◌, ap, ap₂, subst, ℕ, zero, suc, ◌+◌, ◌-◌, ◌*◌, ◌^◌, ◌≤◌, ◌<◌, lit≤, lit<, inl, inr, List, [], ◌∷◌, ◌++◌, length, length-append, length-drop, zero-add, take, drop, get_or, map, Bool, true, false, cond, ◌==◌, nat_lt, IsTrue, find, Some, None, Ok, Err, add_assoc, arith}
 use mir.Val.{bool_byte}
 use Rattle.std.specs.Char.{digit_value}
 use Rattle.std.specs.List.{concat, AllByRecursion}
 use Rattle.std.specs.Int.Digits.{number_from_digits}
-use Rattle.std.specs.Str.Parse.{AllDigits, digits_value}
-use Rattle.std.proofs.Math.Nat.{pow-le-pow_right}
+use Rattle.std.specs.Str.Parse.{AllDigits, digits_value, digits_value_after}
+use Rattle.std.proofs.Math.Nat.{pow-le-pow_right, pow-succ'}
+use Rattle.std.proofs.Math.Seq.{take-append_seam}
 use Rattle.std.proofs.lemmas.Bool.{both_ways, ne_eqb, le-ltb, lt-ltb, cond-true}
 use Rattle.std.proofs.lemmas.Int.Digits.{digits_value_is, digits_value_more, digits_value-lt}
-use Rattle.std.proofs.lemmas.List.{take_rest, take-take, drop-take, get_or-take, get_or_append_left}
+use Rattle.std.proofs.lemmas.List.{take-append-drop, take_rest, take-take, drop-take, get_or-take, get_or_append_left}
 use Rattle.std.proofs.lemmas.List.FromFn.{get_or-range_with_len, length-range_with_len}
 use Rattle.std.proofs.lemmas.List.Recursion.{found_at}
 use Rattle.std.proofs.lemmas.Str.{digit_value_digit}
@@ -18,12 +19,13 @@ use Rattle.simd_json_parts.specs.Derivatives.{matches}
 use Rattle.simd_json_parts.specs.Document.{integer}
 use Rattle.simd_json_parts.specs.Patterns.{Matches}
 use Rattle.simd_json_parts.specs.Numbers.{integer_literal, int, digit, has_minus, magnitude}
-use Rattle.simd_json_parts.specs.Integers.{max_magnitude}
+use Rattle.simd_json_parts.specs.Integers.{max_magnitude, max_magnitude_64}
 use Rattle.simd_json_parts.specs.NumberAt.{number_at, integer_or, first_excess}
-use Rattle.simd_json_parts.specs.NumeralRead.{IsNumeralAt}
+use Rattle.simd_json_parts.specs.NumeralRead.{IsIntegerLiteral, IsNumeralAt}
 use Rattle.simd_json_parts.specs.Faults.{fault_at}
 use Rattle.simd_json_parts.specs.declared.error.ErrorType.TheVariants.{InvalidNumber}
-use Rattle.simd_json_parts.specs.declared.numberparse.Numeral.TheVariants.{Integer}
+use Rattle.simd_json_parts.specs.declared.numberparse.Numeral.TheVariants.{Integer, Long}
+use Rattle.simd_json_parts.proofs.Patterns.Bytes.{byte_at-append}
 use Rattle.simd_json_parts.proofs.Patterns.Sets.{Matches-matches}
 use Rattle.simd_json_parts.proofs.Numbers.Literals.{byte_at-front, integer-number, number_at-integer, number_at-literal, magnitude-take, first_excess-none}
 
@@ -50,6 +52,35 @@ digits_value-fits ds k all short =
     let most : 10 ^ length ds ≤ 10 ^ 19 = pow-le-pow_right (lit< tt) short in
     let fits : 10 ^ 19 < 2 ^ 64 = lit< tt in
     omega (arith, digits_value-take-le 10 ds k (lit≤ tt), digits_value-lt 10 ds all)
+
+pub max_magnitude_64-le : (minus : Bool) → max_magnitude_64 minus ≤ max_magnitude minus
+max_magnitude_64-le true = lit≤ tt
+max_magnitude_64-le false = lit≤ tt
+
+pub AllDigits-take : (n : ℕ) (ds : List ℕ) → AllDigits 10 ds → AllDigits 10 (take n ds)
+AllDigits-take zero ds all = tt
+AllDigits-take (suc n) [] all = tt
+AllDigits-take (suc n) (d ∷ ds) all = (all.0, AllDigits-take n ds all.1)
+
+-- Two runs of digits are worth the first, moved by as many places as the second has, and the second.
+value_after : (n : ℕ) (ds : List ℕ) → digits_value_after 10 n ds ≡ n * 10 ^ length ds + digits_value 10 ds
+value_after n [] = omega arith
+value_after n (d ∷ ds) =
+    let places : 10 ^ length (d ∷ ds) ≡ 10 * 10 ^ length ds = pow-succ' 10 (length ds) in
+    value_after (n * 10 + digit_value d) ds
+    ∙ shift n (digit_value d) (10 ^ length ds) (digits_value 10 ds)
+    ∙ ap₂ (λ p r. n * p + r) (sym places) (sym (value_after (0 * 10 + digit_value d) ds))
+  where
+    shift : (n v p t : ℕ) → (n * 10 + v) * p + t ≡ n * (10 * p) + ((0 * 10 + v) * p + t)
+    shift n v p t = grind arith
+
+after_append : (n : ℕ) (xs ys : List ℕ) → digits_value_after 10 n (xs ++ ys) ≡ digits_value_after 10 (digits_value_after 10 n xs) ys
+after_append n [] ys = refl
+after_append n (x ∷ xs) ys = after_append (n * 10 + digit_value x) xs ys
+
+pub digits_value-join : (n : ℕ) (ds : List ℕ) → digits_value 10 ds ≡ digits_value 10 (take n ds) * 10 ^ length (drop n ds) + digits_value 10 (drop n ds)
+digits_value-join n ds =
+    ap (digits_value 10) (sym (take-append-drop n ds)) ∙ after_append 0 (take n ds) (drop n ds) ∙ value_after (digits_value 10 (take n ds)) (drop n ds)
 
 -- ---- the digits of an integer's literal
 
@@ -106,15 +137,15 @@ magnitude-is xs =
     ap (λ k. number_from_digits 10 (map digit_value (drop k xs))) (cond-bool_byte (has_minus xs))
     ∙ sym (ap (digits_value 10) (after_start-is xs) ∙ digits_value_is 10 (drop (start xs) xs))
 
--- Nineteen bytes are in range: with a sign, eighteen digits.
-pub short-in_range : (xs : List ℕ) → Matches integer_literal xs → length xs ≤ 19 → digits_value 10 (after_start xs) ≤ max_magnitude (has_minus xs)
+-- Nineteen bytes fit 64 bits: with a sign, eighteen digits.
+pub short-in_range : (xs : List ℕ) → Matches integer_literal xs → length xs ≤ 19 → digits_value 10 (after_start xs) ≤ max_magnitude_64 (has_minus xs)
 short-in_range xs m short =
     let size : length (after_start xs) ≡ length xs - start xs = ap length (after_start-is xs) ∙ length-drop (start xs) xs in
     let below : digits_value 10 (after_start xs) < 10 ^ length (after_start xs) = digits_value-lt 10 (after_start xs) (integer-AllDigits xs m) in
     at-sign (has_minus xs) refl size below
   where
     at-sign : (minus : Bool) → has_minus xs ≡ minus → length (after_start xs) ≡ length xs - start xs
-        → digits_value 10 (after_start xs) < 10 ^ length (after_start xs) → digits_value 10 (after_start xs) ≤ max_magnitude minus
+        → digits_value 10 (after_start xs) < 10 ^ length (after_start xs) → digits_value 10 (after_start xs) ≤ max_magnitude_64 minus
     at-sign true h size below =
         let one : start xs ≡ 1 = ap bool_byte h in
         let few : length (after_start xs) ≤ 18 = omega arith in
@@ -171,15 +202,25 @@ module _ (b : List ℕ) (i : ℕ) (xs rest : List ℕ) (e : drop i b ≡ xs ++ r
   sign-at : (byte_at b i == minus_sign) ≡ has_minus xs
   sign-at = ap (λ c. c == minus_sign) (byte_at-front b i (xs ++ rest) e ∙ get_or_append_left xs rest 32 0 (integer-some xs m))
 
-  pub number_at-numeral : (value : ℕ) → value ≡ digits_value 10 (after_start xs) → value ≤ max_magnitude (has_minus xs) → IsNumeralAt b i (Integer value)
-  number_at-numeral value v fits =
+  pub number_at-value : (value : ℕ) → value ≡ digits_value 10 (after_start xs) → value ≤ max_magnitude (has_minus xs)
+      → number_at b i ≡ Ok (integer (has_minus xs) value, i + length xs)
+  number_at-value value v fits =
       let same : value ≡ magnitude xs = v ∙ sym (magnitude-is xs) in
-      let at : number_at b i ≡ Ok (integer (has_minus xs) (magnitude xs), i + length xs) =
-      number_at-integer b i xs rest e t m (subst (λ k. k ≤ max_magnitude (has_minus xs)) same fits) in (
+      number_at-integer b i xs rest e t m (subst (λ k. k ≤ max_magnitude (has_minus xs)) same fits) ∙ ap (λ n. Ok (integer (has_minus xs) n, i + length xs)) (sym same)
+
+  pub number_at-numeral : (value : ℕ) → value ≡ digits_value 10 (after_start xs) → value ≤ max_magnitude_64 (has_minus xs) → IsNumeralAt b i (Integer value)
+  number_at-numeral value v fits =
+      let most : max_magnitude_64 (has_minus xs) ≤ max_magnitude (has_minus xs) = max_magnitude_64-le (has_minus xs) in (
         i + length xs,
-        at ∙ ap (λ n. Ok (integer (has_minus xs) n, i + length xs)) (sym same) ∙ ap (λ minus. Ok (integer minus value, i + length xs)) (sym sign-at),
-        subst (λ minus. value ≤ max_magnitude minus) (sym sign-at) fits,
+        number_at-value value v (omega arith) ∙ ap (λ minus. Ok (integer minus value, i + length xs)) (sym sign-at),
+        subst (λ minus. value ≤ max_magnitude_64 minus) (sym sign-at) fits,
       )
+
+  pub number_at-long : IsNumeralAt b i (Long (length xs))
+  number_at-long =
+      let within : length xs ≤ length (xs ++ rest) = omega (arith, length-append xs rest) in
+      let after : byte_at (xs ++ rest) (length xs) ≡ byte_at rest 0 = byte_at-append xs rest in
+      subst (λ bs. IsIntegerLiteral bs (length xs)) (sym e) (within, subst (Matches integer_literal) (sym (take-append_seam xs rest)) m, ap is_terminator after ∙ t)
 
   pub number_at-below : (value : ℕ) → value ≡ digits_value 10 (after_start xs) → value ≤ max_magnitude false → max_magnitude (has_minus xs) < value
       → number_at b i ≡ Err (fault_at b InvalidNumber (i + length xs))

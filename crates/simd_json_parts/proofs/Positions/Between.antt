@@ -112,17 +112,11 @@ module _ (b : List ℕ) where
       → ((j : ℕ) → end ≤ j → j ≤ k → IsFalse (is_position b j)) → IsTrue (is_whitespace (byte_at b k))
   whitespace-after t end k c is g l none = space-after t.index end k (token-ends t end c is) g l (λ j i h. none j i (omega arith))
 
-  -- So a string that is closed ends at the byte before the next position, or before the end, where that byte is a quote.
+  -- So a string that is closed ends before the next position, or before the end, and no quote stands between.
   pub string-ends : (t : Token) (next : ℕ) → Contains (tokens b) t → byte_at b t.index ≡ quote → closing_quote b t.index < length b → t.index + 1 < next
-      → Contains (positions b) next ⊎ (next ≡ length b) → ((j : ℕ) → t.index < j → j < next → IsFalse (is_position b j)) → byte_at b (next - 1) ≡ quote
-      → closing_quote b t.index + 1 ≡ next
-  string-ends t next c e closed l there none last =
-      elim (cases_lt (suc close) next) [
-        | inl before ↦
-            let white : is_whitespace (byte_at b (next - 1)) ≡ true = space-after t.index (suc close) (next - 1) ends (omega arith) (omega (arith, inside)) (λ j g h. none j (omega (arith, ends.after)) (omega arith)) in
-            absurd (false≢true (ap is_whitespace (sym last) ∙ white))
-        | inr after ↦ omega (arith, not_within)
-      ]
+      → Contains (positions b) next ⊎ (next ≡ length b) → ((j : ℕ) → t.index < j → j < next → IsFalse (is_position b j))
+      → (closing_quote b t.index < next) × ((k : ℕ) → closing_quote b t.index ≤ k → k < next → byte_at b k ≡ quote → closing_quote b t.index ≡ k)
+  string-ends t next c e closed l there none = (omega (arith, not_within), last)
     where
       close : ℕ
       close = closing_quote b t.index
@@ -141,6 +135,15 @@ module _ (b : List ℕ) where
               | inr same ↦ omega (arith, same)
             ]
             | inr h ↦ h
+          ]
+
+      last : (k : ℕ) → close ≤ k → k < next → byte_at b k ≡ quote → close ≡ k
+      last k from below quoted =
+          elim (cases_lt close k) [
+            | inl before ↦
+                let white : is_whitespace (byte_at b k) ≡ true = space-after t.index (suc close) k ends (omega arith) (omega (arith, inside)) (λ j g h. none j (omega (arith, ends.after)) (omega arith)) in
+                absurd (false≢true (ap is_whitespace (sym quoted) ∙ white))
+            | inr after ↦ omega arith
           ]
 
 -- ---- where no token is read

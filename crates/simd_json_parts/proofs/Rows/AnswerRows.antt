@@ -40,11 +40,16 @@ wanted = map (λ row. row.wanted)
 abbrev numbers : List Row
 numbers =
     reads (codes "-9223372036854775808") (integer true 9223372036854775808)
-    ∷ refuses (codes "-9223372036854775809") InvalidNumber 20 (codes " ")
-    ∷ refuses (codes "[-9223372036854775809]") InvalidNumber 21 (codes "]")
+    ∷ reads (codes "-9223372036854775809") (integer true 9223372036854775809)
     ∷ reads (codes "18446744073709551615") (integer false 18446744073709551615)
-    ∷ refuses (codes "18446744073709551616") InvalidNumber 19 (codes "6")
+    ∷ reads (codes "18446744073709551616") (integer false 18446744073709551616)
     ∷ refuses (codes "18446744073709551616x") InvalidNumber 20 (codes "x")
+    ∷ reads (codes "-170141183460469231731687303715884105728") (integer true 170141183460469231731687303715884105728)
+    ∷ refuses (codes "-170141183460469231731687303715884105729") InvalidNumber 40 (codes " ")
+    ∷ refuses (codes "[-170141183460469231731687303715884105729]") InvalidNumber 41 (codes "]")
+    ∷ reads (codes "340282366920938463463374607431768211455") (integer false 340282366920938463463374607431768211455)
+    ∷ refuses (codes "340282366920938463463374607431768211456") InvalidNumber 38 (codes "6")
+    ∷ refuses (codes "-340282366920938463463374607431768211456") InvalidNumber 39 (codes "6")
     ∷ reads (codes "[-0,0,1e309,1.50]") (list ((integer true 0) ∷ (integer false 0) ∷ (decimal (codes "1e309")) ∷ (decimal (codes "1.50")) ∷ []))
     ∷ refuses (codes "1\"a\"") InvalidNumber 1 (codes "\"")
     ∷ reads (codes "-0") (integer true 0)
@@ -87,7 +92,7 @@ numbers =
     ∷ reads (codes "257") (integer false 257)
     ∷ reads (codes "-999999999999999999") (integer true 999999999999999999)
     ∷ reads (codes "9223372036854775808") (integer false 9223372036854775808)
-    ∷ refuses (codes "-18446744073709551616") InvalidNumber 20 (codes "6")
+    ∷ reads (codes "-18446744073709551616") (integer true 18446744073709551616)
     ∷ []
 
 numbers-answered : answered numbers ≡ wanted numbers

@@ -1,6 +1,6 @@
 -- Worked rows: two inputs, and whether their documents are equal; and maps beside objects.
 use Rattle.std.proofs.Common.{◌≡◌, refl, ℕ, List, [], ◌∷◌, map, Bool, true, false, cond, nat_eq}
-use Rattle.std.specs.Prelude.{codes, Option, Some, None, bytes_eq, pos}
+use Rattle.std.specs.Prelude.{codes, Option, Some, None, bytes_eq, pos, negsuc}
 use Rattle.simd_json_parts.specs.Document.{Document}
 use Rattle.simd_json_parts.specs.Equality.{equal}
 use Rattle.simd_json_parts.specs.MapEquality.{equals_map}
@@ -78,6 +78,12 @@ no_object = refl
 
 kinds-compared : same_static (fixed.U64 1) (fixed.I64 (pos 1)) ≡ true
 kinds-compared = refl
+
+wide_kinds-compared : same_static (fixed.U128 1) (fixed.I64 (pos 1)) ≡ true
+wide_kinds-compared = refl
+
+signs-compared : same_static (fixed.I128 (negsuc 0)) (fixed.U128 340282366920938463463374607431768211455) ≡ false
+signs-compared = refl
 
 null-compared : same_static fixed.Null (fixed.U64 0) ≡ false
 null-compared = refl

@@ -4,7 +4,7 @@ use Rattle.std.specs.Prelude.{codes, pos, negsuc, Some, find}
 use Rattle.simd_json_parts.specs.Limits.{depth}
 use Rattle.simd_json_parts.specs.Listing.{listing}
 use Rattle.simd_json_parts.specs.Nodes.{Item, static_item, decimal_item, string_item, array_item, object_item}
-use Rattle.simd_json_parts.specs.declared.node.StaticNode.TheVariants.{Null, Bool, I64, U64}
+use Rattle.simd_json_parts.specs.declared.node.StaticNode.TheVariants.{Null, Bool, I64, U64, I128, U128}
 use Rattle.simd_json_parts.proofs.Rows.Computes.{computes}
 use Rattle.simd_json_parts.proofs.Rows.Samples.{parsed, nested}
 
@@ -22,6 +22,11 @@ rows =
     ∷ (codes "-0", static_item (I64 (pos 0)) ∷ [])
     ∷ (codes "-9223372036854775808", static_item (I64 (negsuc 9223372036854775807)) ∷ [])
     ∷ (codes "18446744073709551615", unsigned 18446744073709551615 ∷ [])
+    ∷ (codes "-9223372036854775809", static_item (I128 (negsuc 9223372036854775808)) ∷ [])
+    ∷ (codes "18446744073709551616", static_item (U128 18446744073709551616) ∷ [])
+    ∷ (codes "-18446744073709551616", static_item (I128 (negsuc 18446744073709551615)) ∷ [])
+    ∷ (codes "-170141183460469231731687303715884105728", static_item (I128 (negsuc 170141183460469231731687303715884105727)) ∷ [])
+    ∷ (codes "340282366920938463463374607431768211455", static_item (U128 340282366920938463463374607431768211455) ∷ [])
     ∷ (codes "[]", array_item 0 0 ∷ [])
     ∷ (codes "[[]]", array_item 1 1 ∷ array_item 0 0 ∷ [])
     ∷ (codes "[true,false]", array_item 2 2 ∷ static_item (Bool true) ∷ static_item (Bool false) ∷ [])

@@ -199,6 +199,28 @@ three_hundred-decimal = refl
 three_hundred-refused : try_as_t accessors.u8 (number 300) ≡ Err (expected_got kinds.U64 kinds.U64)
 three_hundred-refused = refl
 
+-- 2^64, and next below -2^63
+abbrev past_u64 : Document
+past_u64 = integer false 18446744073709551616
+
+past_u64-u64 : as_t accessors.u64 past_u64 ≡ None
+past_u64-u64 = refl
+
+past_u64-u128 : as_t accessors.u128 past_u64 ≡ Some 18446744073709551616
+past_u64-u128 = refl
+
+past_u64-i128 : as_t accessors.i128 past_u64 ≡ Some (pos 18446744073709551616)
+past_u64-i128 = refl
+
+past_u64-refused : try_as_t accessors.u64 past_u64 ≡ Err (expected_got kinds.U64 kinds.U128)
+past_u64-refused = refl
+
+below_i64-refused : try_as_t accessors.i64 (integer true 9223372036854775809) ≡ Err (expected_got kinds.I64 kinds.I128)
+below_i64-refused = refl
+
+greatest-refused : try_as_t accessors.i128 (number 340282366920938463463374607431768211455) ≡ Err (expected_got kinds.I128 kinds.U128)
+greatest-refused = refl
+
 -- the first and the last number that fit, and those next to them that do not
 abbrev signed_ends : Accessor ℤ → ℕ → List Bool
 signed_ends t end = map (λ d. is_some (as_t t d)) (integer true (suc end) ∷ integer true end ∷ integer false (end - 1) ∷ integer false end ∷ [])
@@ -206,13 +228,13 @@ signed_ends t end = map (λ d. is_some (as_t t d)) (integer true (suc end) ∷ i
 abbrev fit_within : List Bool
 fit_within = false ∷ true ∷ true ∷ false ∷ []
 
-signed-ends : map (λ (p : Accessor ℤ × ℕ). signed_ends p.0 p.1) ((accessors.i8, 128) ∷ (accessors.i16, 32768) ∷ (accessors.i32, 2147483648) ∷ (accessors.i64, 9223372036854775808) ∷ []) ≡ fit_within ∷ fit_within ∷ fit_within ∷ fit_within ∷ []
+signed-ends : map (λ (p : Accessor ℤ × ℕ). signed_ends p.0 p.1) ((accessors.i8, 128) ∷ (accessors.i16, 32768) ∷ (accessors.i32, 2147483648) ∷ (accessors.i64, 9223372036854775808) ∷ (accessors.i128, 170141183460469231731687303715884105728) ∷ []) ≡ fit_within ∷ fit_within ∷ fit_within ∷ fit_within ∷ fit_within ∷ []
 signed-ends = refl
 
 abbrev unsigned_ends : Accessor ℕ → ℕ → List Bool
 unsigned_ends t max = map (λ d. is_some (as_t t d)) (integer true 1 ∷ integer true 0 ∷ integer false max ∷ integer false (suc max) ∷ [])
 
-unsigned-ends : map (λ (p : Accessor ℕ × ℕ). unsigned_ends p.0 p.1) ((accessors.u8, 255) ∷ (accessors.u16, 65535) ∷ (accessors.u32, 4294967295) ∷ (accessors.u64, 18446744073709551615) ∷ (accessors.usize, 18446744073709551615) ∷ []) ≡ fit_within ∷ fit_within ∷ fit_within ∷ fit_within ∷ fit_within ∷ []
+unsigned-ends : map (λ (p : Accessor ℕ × ℕ). unsigned_ends p.0 p.1) ((accessors.u8, 255) ∷ (accessors.u16, 65535) ∷ (accessors.u32, 4294967295) ∷ (accessors.u64, 18446744073709551615) ∷ (accessors.usize, 18446744073709551615) ∷ (accessors.u128, 340282366920938463463374607431768211455) ∷ []) ≡ fit_within ∷ fit_within ∷ fit_within ∷ fit_within ∷ fit_within ∷ fit_within ∷ []
 unsigned-ends = refl
 
 -- the kinds that refusals expect

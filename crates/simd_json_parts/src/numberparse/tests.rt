@@ -6,7 +6,7 @@ fn numbers_are_read(rt: HostRuntime) {
     let nines = [b'9'; 10_001];
     let mut negative = nines;
     negative[0] = b'-';
-    let rows: [(&[u8], Number); 45] = [
+    let rows: [(&[u8], Number); 51] = [
         (b"0", Number::Integer(StaticNode::U64(0), 1)),
         (b"-0", Number::Integer(StaticNode::I64(0), 2)),
         (b"-1", Number::Integer(StaticNode::I64(-1), 2)),
@@ -29,10 +29,46 @@ fn numbers_are_read(rt: HostRuntime) {
         (b"0e99999999999", Number::Decimal(13)),
         (b"", Number::Invalid(0)),
         (b"x", Number::Invalid(0)),
-        (b"18446744073709551616", Number::Invalid(19)),
+        (
+            b"18446744073709551616",
+            Number::Integer(StaticNode::U128(1 << 64), 20),
+        ),
         (b"18446744073709551616x", Number::Invalid(20)),
-        (b"-9223372036854775809", Number::Invalid(20)),
-        (b"-18446744073709551616", Number::Invalid(20)),
+        (
+            b"-9223372036854775809",
+            Number::Integer(StaticNode::I128(-9_223_372_036_854_775_809), 20),
+        ),
+        (
+            b"-18446744073709551616",
+            Number::Integer(StaticNode::I128(-18_446_744_073_709_551_616), 21),
+        ),
+        (
+            b"340282366920938463463374607431768211455",
+            Number::Integer(StaticNode::U128(u128::MAX), 39),
+        ),
+        (
+            b"-170141183460469231731687303715884105728",
+            Number::Integer(StaticNode::I128(i128::MIN), 40),
+        ),
+        (
+            b"340282366920938463463374607431768211456",
+            Number::Invalid(38),
+        ),
+        (
+            b"-170141183460469231731687303715884105729",
+            Number::Invalid(40),
+        ),
+        (
+            b"-340282366920938463463374607431768211456",
+            Number::Invalid(39),
+        ),
+        (
+            b"99999999999999999999999999999999999999,",
+            Number::Integer(
+                StaticNode::U128(99_999_999_999_999_999_999_999_999_999_999_999_999),
+                38,
+            ),
+        ),
         (b"01", Number::Invalid(1)),
         (b"-01", Number::Invalid(2)),
         (b"1a", Number::Invalid(1)),
@@ -56,8 +92,8 @@ fn numbers_are_read(rt: HostRuntime) {
         (b"0e99999999999x", Number::Invalid(13)),
         (b"0e99999999999.5", Number::Invalid(13)),
         (b"1\"a\"", Number::Invalid(1)),
-        (&nines[1..], Number::Invalid(19)),
-        (&negative, Number::Invalid(20)),
+        (&nines[1..], Number::Invalid(38)),
+        (&negative, Number::Invalid(39)),
     ];
     for (bytes, number) in &rows {
         assert_eq!(rt; parse_number(bytes), *number);
@@ -75,10 +111,13 @@ fn numerals_are_read(rt: HostRuntime) {
             b"-257 is read at one look at 32 bytes",
             Numeral::Integer(257),
         ),
-        (b"18446744073709551615", Numeral::Integer(u64::MAX)),
-        (b"-9223372036854775808", Numeral::Integer(1 << 63)),
-        (b"-9223372036854775809", Numeral::Invalid(20)),
-        (b"18446744073709551616", Numeral::Invalid(19)),
+        (
+            b"9999999999999999999,",
+            Numeral::Integer(9_999_999_999_999_999_999),
+        ),
+        (b"18446744073709551615", Numeral::Long(20)),
+        (b"-9223372036854775808", Numeral::Long(20)),
+        (b"-9223372036854775809x", Numeral::Invalid(20)),
         (b"-1.5e7", Numeral::Decimal(6)),
         (b"-x", Numeral::Invalid(1)),
     ];

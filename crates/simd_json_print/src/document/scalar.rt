@@ -10,6 +10,7 @@ ghost use Rattle.simd_json_print.specs.Places.{Gives, Grows};
 
 use crate::place::Sink;
 use crate::print::put_quoted;
+use itoa::{Buffer, Integer};
 use simd_json_parts::node::{Node, StaticNode};
 
 // A line feed and the spaces of 16 open containers.
@@ -59,8 +60,8 @@ fn minus_of(number: i64) -> &'static [u8]
     if number < 0 { b"-" } else { b"" }
 }
 
-// What is no integer. Out of line, so that the kinds of values stay a chain of tests and become no jump by a
-// table.
+// What is no integer of 64 bits. Out of line, so that the kinds of values stay a chain of tests and become no
+// jump by a table.
 #[inline(never)]
 fn put_word<P, S: Sink<P>>(sink: &mut S, target: &mut P, value: StaticNode)
     requires unsigned { (n : ℕ) → value ≡ fixed.U64 n → ⊥ }
@@ -71,9 +72,21 @@ fn put_word<P, S: Sink<P>>(sink: &mut S, target: &mut P, value: StaticNode)
         sink.put(target, b"true");
     } else if let StaticNode::Bool(false) = value {
         sink.put(target, b"false");
+    } else if let StaticNode::U128(unsigned) = value {
+        put_wide(sink, target, unsigned);
+    } else if let StaticNode::I128(signed) = value {
+        put_wide(sink, target, signed);
     } else {
         sink.put(target, b"null");
     }
+}
+
+// An integer of 128 bits. Few documents have one, so its digits are made apart and then copied.
+fn put_wide<P, S: Sink<P>, I: Integer>(sink: &mut S, target: &mut P, number: I)
+    ensures { Gives (S.place sink.old target.old) (S.place sink.new target.new) (I.text number) }
+{
+    let mut buffer = Buffer::new();
+    sink.put(target, buffer.format(number).as_bytes());
 }
 
 /// The name of a member, from its node: what stands before it, its line in pretty text, and the colon after

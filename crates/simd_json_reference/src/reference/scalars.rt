@@ -92,12 +92,12 @@ pub(super) fn number_ends(bytes: &[u8], start: usize) -> Result<(usize, usize)> 
     Ok((integer, end))
 }
 
-// The integer that stands between two indexes, within 64 bits.
+// The integer that stands between two indexes, within 128 bits.
 pub(super) fn integer(bytes: &[u8], start: usize, end: usize) -> Result<Item> {
     let is_negative = at(bytes, start) == b'-';
-    let mut magnitude = 0u64;
+    let mut magnitude = 0u128;
     for i in after_one_of(bytes, start, b"-")..end {
-        let digit = u64::from(at(bytes, i).saturating_sub(b'0'));
+        let digit = u128::from(at(bytes, i).saturating_sub(b'0'));
         let Some(more) = magnitude
             .checked_mul(10)
             .and_then(|tens| tens.checked_add(digit))
@@ -106,7 +106,7 @@ pub(super) fn integer(bytes: &[u8], start: usize, end: usize) -> Result<Item> {
         };
         magnitude = more;
     }
-    if is_negative && magnitude > 0x8000_0000_0000_0000 {
+    if is_negative && magnitude > i128::MIN.unsigned_abs() {
         return Err(invalid(bytes, end));
     }
     Ok(Item::Integer {

@@ -22,17 +22,16 @@ impl<'de> Machine<'_, 'de> {
     // The elements of an array, from the first token of one on, up to a container that opens in it or to its
     // end.
     #[inline(always)]
-    fn elements(
+    fn elements<const CLOSED: bool>(
         &mut self,
         route: Route,
         nodes: &mut [Node<'de>],
         first: Progress,
-        closed: bool,
     ) -> std::result::Result<Value, Fault>
         ghost b: { List ℕ }
         requires whole { input_fault b ≡ None }
         requires element { AtElement b route.indexes.now route.max_depth self.old nodes.old first }
-        requires closed { IsTrue closed → EndsClosed b route.indexes.now }
+        requires closed { IsTrue CLOSED → EndsClosed b route.indexes.now }
         ensures kept { (length nodes.new ≡ length nodes.old)
             × (length self.new.stack.now ≡ length self.old.stack.now) }
         ensures came { IfOk result
@@ -42,10 +41,10 @@ impl<'de> Machine<'_, 'de> {
     {
         let mut p = first;
         'values: loop {
-            match self.read_value(route, nodes, p, closed)? {
+            match self.read_value(route, nodes, p, CLOSED)? {
                 Value::Opened(opened) => return Ok(Value::Opened(opened)),
                 Value::Read(read) => {
-                    match self.after_member(route, nodes, read, Container::Array, closed)? {
+                    match self.after_member(route, nodes, read, Container::Array, CLOSED)? {
                         Turn::Next(next) => p = next,
                         Turn::Closed(closed) => return Ok(Value::Read(closed)),
                     }
@@ -56,18 +55,17 @@ impl<'de> Machine<'_, 'de> {
 
     // The members of an object, likewise. Where the first has no name, the fault is of this kind.
     #[inline(always)]
-    fn members(
+    fn members<const CLOSED: bool>(
         &mut self,
         route: Route,
         nodes: &mut [Node<'de>],
         first: Progress,
         kind: FaultKind,
-        closed: bool,
     ) -> std::result::Result<Value, Fault>
         ghost b: { List ℕ }
         requires whole { input_fault b ≡ None }
         requires pair { AtPair b route.indexes.now route.max_depth self.old nodes.old first kind }
-        requires closed { IsTrue closed → EndsClosed b route.indexes.now }
+        requires closed { IsTrue CLOSED → EndsClosed b route.indexes.now }
         ensures kept { (length nodes.new ≡ length nodes.old)
             × (length self.new.stack.now ≡ length self.old.stack.now) }
         ensures came { IfOk result
@@ -78,11 +76,11 @@ impl<'de> Machine<'_, 'de> {
         let mut p = first;
         let mut kind = kind;
         'pairs: loop {
-            let value = self.text.read_name(route.indexes, nodes, p, kind, closed)?;
-            match self.read_value(route, nodes, value, closed)? {
+            let value = self.text.read_name(route.indexes, nodes, p, kind, CLOSED)?;
+            match self.read_value(route, nodes, value, CLOSED)? {
                 Value::Opened(opened) => return Ok(Value::Opened(opened)),
                 Value::Read(read) => {
-                    match self.after_member(route, nodes, read, Container::Object, closed)? {
+                    match self.after_member(route, nodes, read, Container::Object, CLOSED)? {
                         Turn::Next(next) => p = next,
                         Turn::Closed(closed) => return Ok(Value::Read(closed)),
                     }
@@ -120,8 +118,8 @@ impl<'de> Machine<'_, 'de> {
                 },
             };
             value = match p.container {
-                Container::Array => self.elements(route, nodes, p, CLOSED)?,
-                Container::Object => { self.members(route, nodes, p, kind, CLOSED)? }
+                Container::Array => self.elements::<CLOSED>(route, nodes, p)?,
+                Container::Object => self.members::<CLOSED>(route, nodes, p, kind)?
             };
         }
     }

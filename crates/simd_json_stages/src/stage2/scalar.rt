@@ -1,31 +1,27 @@
-//! Scalars that are no strings.
+//! Scalars that are no strings become nodes.
 ghost use Rattle.std.specs.Prelude.{◌≡◌, ◌≢◌, ◌<◌, ◌≤◌, ◌+◌, ◌^◌, ◌==◌, ◌&&◌, ◌||◌, ℕ, List, length, drop};
-ghost use Rattle.std.specs.Prelude.{nat_eq, codes};
+ghost use Rattle.std.specs.Prelude.{nat_eq, codes, MatchResult, IfErr, OnOk};
 ghost use Rattle.std.specs.Char.{is_ascii_digit};
 ghost use Rattle.std.specs.List.{starts_with};
 ghost use Rattle.simd_json_parts.specs.Bytes.{is_terminator, byte_at};
 ghost use Rattle.simd_json_parts.specs.NumberAt.{number_at};
+ghost use Rattle.simd_json_parts.specs.NumberRead.{IsNumberAt};
+ghost use Rattle.simd_json_parts.specs.NumeralRead.{IsIntegerLiteral};
 ghost use Rattle.simd_json_parts.specs.Tokens.{form_at, scalar};
-ghost use Rattle.simd_json_stages.specs.Refusals.{refused_kind, number_refusal, refusal, offset_of};
-ghost use Rattle.simd_json_stages.specs.ScalarRead.{IsScalarAt};
+ghost use Rattle.simd_json_parts.specs.declared.numberparse.Number.TheVariants.{Integer, Invalid};
+ghost use Rattle.simd_json_stages.specs.Progresses.{IsUnread};
+ghost use Rattle.simd_json_stages.specs.Put.{IsScalarPut, IsNoScalar};
+ghost use Rattle.simd_json_stages.specs.Refusals.{error_type, refused_kind, number_refusal};
 
-use crate::stage2::fault::{Fault, FaultKind};
+use super::Progress;
+use super::fault::{Fault, FaultKind};
+use super::unread::Unread;
 use simd_json_parts::charutils::{byte_or_space, is_structural_or_whitespace};
-use simd_json_parts::node::StaticNode;
-use simd_json_parts::numberparse::{Numeral, is_integer, parse_numeral};
+use simd_json_parts::node::{Node, StaticNode};
+use simd_json_parts::numberparse::{Numeral, is_integer, parse_long, parse_numeral};
 
 #[cfg(test)]
 mod tests;
-
-// A scalar that is no string: a node, the length of a decimal's literal, how far after its first byte a number
-// is refused, or no value of these kinds.
-#[derive(Clone, Copy, Debug, Drop)]
-pub(crate) enum Scalar {
-    Value(StaticNode),
-    Decimal(usize),
-    Invalid(usize),
-    Refused,
-}
 
 /// Whether the bytes begin with `true`, and end there or go on with a structural character or whitespace.
 pub fn is_valid_true_atom(bytes: &[u8]) -> bool
@@ -55,64 +51,111 @@ fn ends_at(bytes: &[u8], at: usize) -> bool
     is_structural_or_whitespace(byte_or_space(bytes, at))
 }
 
-// The scalar at the front of what is left of an input from some index on. Its first byte is c.
+// The scalar at the last token, which is no string, becomes the next node. Each kind has a branch that stores its
+// own node, a constant but for a number: one that is joined from branches is copied piece by piece.
 #[inline(always)]
-pub(crate) fn read_scalar(rest: &[u8], c: u8) -> Scalar
-    ensures { (b : List ℕ) (i : ℕ) → drop i b ≡ rest.now → byte_at b i ≡ c → IsScalarAt b i result }
+pub(super) fn put_scalar<'de>(
+    unread: &mut Unread<'de>,
+    nodes: &mut [Node<'de>],
+    p: Progress,
+) -> std::result::Result<(), Fault>
+    ghost b: { List ℕ }
+    requires unread { IsUnread b unread.old p.at }
+    requires at { (p.at < length b) × (p.byte ≡ byte_at b p.at) }
+    requires other { (p.byte ≢ 34) × (p.byte ≢ 91) × (p.byte ≢ 123) }
+    requires capacity { p.used < length nodes.old }
+    ensures kept { length nodes.new ≡ length nodes.old }
+    ensures put { OnOk result (IsScalarPut b p.at p.used nodes.old nodes.new unread.new) }
+    ensures refused { IfErr result (IsNoScalar b p.at) }
 {
-    match c {
-        b't' if is_valid_true_atom(rest) => Scalar::Value(StaticNode::Bool(true)),
-        b'f' if is_valid_false_atom(rest) => Scalar::Value(StaticNode::Bool(false)),
-        b'n' if is_valid_null_atom(rest) => Scalar::Value(StaticNode::Null),
-        b't' | b'f' | b'n' => Scalar::Refused,
-        _ => number_or_refused(rest, c),
+    let rest = unread.from(p.at);
+    match p.byte {
+        b't' if is_valid_true_atom(rest) => nodes[p.used] = Node::Static(StaticNode::Bool(true)),
+        b'f' if is_valid_false_atom(rest) => nodes[p.used] = Node::Static(StaticNode::Bool(false)),
+        b'n' if is_valid_null_atom(rest) => nodes[p.used] = Node::Static(StaticNode::Null),
+        b't' | b'f' | b'n' => return Err(no_scalar(p.at, p.byte)),
+        _ => {
+            if begins_number(p.byte) {
+                return put_number(unread, nodes, p);
+            }
+            return Err(no_scalar(p.at, p.byte));
+        }
     }
+    Ok(())
 }
 
-// The same where no atom begins.
-#[inline(always)]
-fn number_or_refused(rest: &[u8], c: u8) -> Scalar
-    requires { (c ≢ 116) × (c ≢ 102) × (c ≢ 110) }
-    ensures { (b : List ℕ) (i : ℕ) → drop i b ≡ rest.now → byte_at b i ≡ c → IsScalarAt b i result }
-{
-    if begins_number(c) {
-        read_number(rest)
-    } else {
-        Scalar::Refused
-    }
-}
-
-// The fault of a scalar that is refused, at index `at` with the first byte c. What is left begins with it.
+// The fault at a token where no scalar stands that begins with its byte.
 #[cold]
-pub(crate) fn refuse(rest: &[u8], at: usize, c: u8, scalar: Scalar) -> Fault
-    requires { at + length rest.now < 2 ^ 64 }
-    ensures { (b : List ℕ) → drop at b ≡ rest.now → offset_of scalar ≤ length rest.now
-        → result ≡ refusal b at c scalar }
+fn no_scalar(at: usize, byte: u8) -> Fault
+    ensures { result ≡ record { kind = refused_kind byte; index = at; byte = byte } }
 {
-    match scalar {
-        Scalar::Invalid(offset) => invalid_number(rest, at, offset),
-        Scalar::Refused => Fault {
-            kind: no_atom(c),
-            index: at,
-            byte: c,
-        },
-        Scalar::Value(_) | Scalar::Decimal(_) => Fault {
-            kind: FaultKind::InternalError,
-            index: at,
-            byte: c,
-        },
-    }
-}
-
-// The kind of fault where no scalar that begins with this byte stands.
-fn no_atom(c: u8) -> FaultKind
-    ensures { result ≡ refused_kind c }
-{
-    match c {
+    let kind = match byte {
         b't' => FaultKind::ExpectedTrue,
         b'f' => FaultKind::ExpectedFalse,
         b'n' => FaultKind::ExpectedNull,
         _ => FaultKind::InternalError,
+    };
+    Fault {
+        index: at,
+        byte,
+        kind,
+    }
+}
+
+// Whether a number may begin with the byte.
+#[inline(always)]
+fn begins_number(c: u8) -> bool
+    ensures { result ≡ ((c == 45) || is_ascii_digit c) }
+{
+    c == b'-' || is_integer(c)
+}
+
+// The number at the last token becomes the next node.
+#[inline(always)]
+fn put_number<'de>(
+    unread: &mut Unread<'de>,
+    nodes: &mut [Node<'de>],
+    p: Progress,
+) -> std::result::Result<(), Fault>
+    ghost b: { List ℕ }
+    requires unread { IsUnread b unread.old p.at }
+    requires at { (p.at < length b) × (p.byte ≡ byte_at b p.at) }
+    requires number { form_at b p.at ≡ scalar (number_at b p.at) }
+    requires capacity { p.used < length nodes.old }
+    ensures kept { length nodes.new ≡ length nodes.old }
+    ensures put { OnOk result (IsScalarPut b p.at p.used nodes.old nodes.new unread.new) }
+    ensures refused { IfErr result (IsNoScalar b p.at) }
+{
+    let rest = unread.from(p.at);
+    match parse_numeral(rest) {
+        Numeral::Integer(magnitude) => {
+            if p.byte == b'-' {
+                nodes[p.used] = Node::Static(StaticNode::integer(true, magnitude));
+            } else {
+                nodes[p.used] = Node::Static(StaticNode::U64(magnitude));
+            }
+        }
+        Numeral::Decimal(len) => nodes[p.used] = Node::Decimal(unread.share(p.at, len)),
+        Numeral::Long(len) => nodes[p.used] = Node::Static(read_long(rest, p.at, len)?),
+        Numeral::Invalid(offset) => return Err(invalid_number(rest, p.at, offset)),
+    }
+    Ok(())
+}
+
+// The integer at the front whose literal has so many bytes, or its fault. What is left of the input begins
+// with it, at index `at`.
+#[cold]
+#[inline(never)]
+fn read_long(rest: &[u8], at: usize, len: usize) -> std::result::Result<StaticNode, Fault>
+    requires literal { IsIntegerLiteral rest.now len }
+    requires fits { at + length rest.now < 2 ^ 64 }
+    ensures { (b : List ℕ) → drop at b ≡ rest.now → at ≤ length b → MatchResult result
+        (λ node. IsNumberAt b at (Integer node len)) (λ f. (offset : ℕ)
+        × IsNumberAt b at (Invalid offset) × (f ≡ number_refusal b (at + offset))) }
+{
+    match parse_long(rest, len) {
+        Ok(node) => Ok(node),
+        Err(offset) => Err(invalid_number(rest, at, offset)),
     }
 }
 
@@ -128,33 +171,5 @@ fn invalid_number(rest: &[u8], at: usize, offset: usize) -> Fault
         kind: FaultKind::InvalidNumber,
         index: at + offset,
         byte: byte_or_space(rest, offset),
-    }
-}
-
-// Whether a number may begin with the byte.
-#[inline(always)]
-fn begins_number(c: u8) -> bool
-    ensures { result ≡ ((c == 45) || is_ascii_digit c) }
-{
-    c == b'-' || is_integer(c)
-}
-
-// The number at the front of what is left.
-#[inline(always)]
-fn read_number(rest: &[u8]) -> Scalar
-    ensures { (b : List ℕ) (i : ℕ) → drop i b ≡ rest.now → form_at b i ≡ scalar (number_at b i)
-        → IsScalarAt b i result }
-{
-    let numeral = parse_numeral(rest);
-    if let Numeral::Integer(magnitude) = numeral {
-        let minus = byte_or_space(rest, 0) == b'-';
-        Scalar::Value(StaticNode::integer(minus, magnitude))
-    } else if let Numeral::Decimal(len) = numeral {
-        Scalar::Decimal(len)
-    } else if let Numeral::Invalid(offset) = numeral {
-        Scalar::Invalid(offset)
-    } else {
-        // No variant is left.
-        Scalar::Refused
     }
 }

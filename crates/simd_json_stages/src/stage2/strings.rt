@@ -50,7 +50,8 @@ fn bad_escape(at: usize, bad: BadEscape) -> Fault
 }
 
 impl<'de> Text<'_, 'de> {
-    // The string at the last token becomes the next node. It ends before the next position.
+    // The string at the last token becomes the next node. Only whitespace stands between its closing quote and
+    // the next position, so where it has no escape none of its bytes is read.
     #[inline(always)]
     pub(super) fn put_string(
         &mut self,
@@ -75,8 +76,9 @@ impl<'de> Text<'_, 'de> {
     {
         let next = position_or_end(indexes, p.read, self.unread.end(), closed);
         let may_have_escape = self.escapes.may_lie_between(p.at, next);
-        if !may_have_escape && self.unread.byte(next - 1) == b'"' {
-            nodes[p.used] = Node::String(self.unread.share_string(p.at, next - 1));
+        if !may_have_escape {
+            let closing = self.unread.last_quote(next);
+            nodes[p.used] = Node::String(self.unread.share_string(p.at, closing));
             return Ok(());
         }
         match self.unread.parse_string(p.at) {

@@ -49,7 +49,7 @@ fn array<'de>(len: usize, count: usize) -> Node<'de> {
 
 #[test]
 fn builds_scalars_and_lists(rt: HostRuntime) -> std::result::Result<(), Fail> {
-    let rows: [(&str, usize, &[Node<'_>]); 9] = [
+    let rows: [(&str, usize, &[Node<'_>]); 10] = [
         (
             "[1,[2,3],4]",
             1024,
@@ -64,6 +64,15 @@ fn builds_scalars_and_lists(rt: HostRuntime) -> std::result::Result<(), Fail> {
         ),
         (" null ", 1024, &[Node::Static(StaticNode::Null)]),
         ("-0", 1024, &[Node::Static(StaticNode::I64(0))]),
+        (
+            "[18446744073709551616,-9223372036854775809]",
+            1024,
+            &[
+                array(2, 2),
+                Node::Static(StaticNode::U128(1 << 64)),
+                Node::Static(StaticNode::I128(-9_223_372_036_854_775_809)),
+            ],
+        ),
         ("[]", 1024, &[array(0, 0)]),
         (
             "[true,false]",
@@ -116,7 +125,7 @@ fn builds_strings_objects_and_decimals(rt: HostRuntime) -> std::result::Result<(
             &[object(1, 2), string("the_answer"), integer(42)],
         ),
         (
-            " { \"a\" : { \"b\" : [ [ ] , { } ] } , \"a\" : 2 } ",
+            " { \"a\" : { \"b\" : [ [ ] , { } ] } , \"a\"\r\n\t : 2 } ",
             &[
                 object(2, 8),
                 string("a"),

@@ -52,6 +52,23 @@ impl<'de> Unread<'de> {
         self.rest[i - self.at]
     }
 
+    // The index of the last quote before index i, where there is one.
+    #[inline(always)]
+    pub(crate) fn last_quote(&self, i: usize) -> usize
+        requires bounds { i ≤ self.now.at + length self.now.bytes }
+        requires some { (j : ℕ) × (self.now.at ≤ j) × (j < i)
+            × (byte_at self.now.bytes (j - self.now.at) ≡ quote) }
+        ensures within { (self.now.at ≤ result) × (result < i) }
+        ensures found { byte_at self.now.bytes (result - self.now.at) ≡ quote }
+        ensures last { (j : ℕ) → result < j → j < i → byte_at self.now.bytes (j - self.now.at) ≢ quote }
+    {
+        let mut last = i - 1;
+        'back: while self.byte(last) != b'"' {
+            last -= 1;
+        }
+        last
+    }
+
     // All from index i on.
     #[inline(always)]
     pub(crate) fn from(&self, i: usize) -> &[u8]

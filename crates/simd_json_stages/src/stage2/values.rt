@@ -1,43 +1,16 @@
 //! Values, from their first token on.
-ghost use Rattle.std.specs.Prelude.{◌≡◌, ◌≢◌, ◌<◌, ℕ, List, length, None, IfOk, IfErr, OnOk, IsTrue};
-ghost use Rattle.simd_json_parts.specs.Bytes.{byte_at};
+ghost use Rattle.std.specs.Prelude.{◌≡◌, ℕ, List, length, None, IfOk, IfErr, IsTrue};
 ghost use Rattle.simd_json_parts.specs.InputFaults.{input_fault};
 ghost use Rattle.simd_json_stages.specs.Building.{Opens, Tells};
 ghost use Rattle.simd_json_stages.specs.EscapesAhead.{AreAhead};
 ghost use Rattle.simd_json_stages.specs.Members.{AtFirst};
-ghost use Rattle.simd_json_stages.specs.Progresses.{EndsClosed, IsUnread, IsWithin, Advances};
-ghost use Rattle.simd_json_stages.specs.Put.{IsScalarPut, IsNoScalar};
+ghost use Rattle.simd_json_stages.specs.Progresses.{EndsClosed, IsWithin, Advances};
 
 use super::fault::Fault;
 use super::machine::Machine;
-use super::scalar::{Scalar, read_scalar, refuse};
-use super::unread::Unread;
+use super::scalar::put_scalar;
 use super::{Container, Progress, Route, Value};
 use simd_json_parts::node::Node;
-
-// The scalar at the last token, which is no string.
-#[inline(always)]
-fn put_scalar<'de>(
-    unread: &mut Unread<'de>,
-    nodes: &mut [Node<'de>],
-    p: Progress,
-) -> std::result::Result<(), Fault>
-    ghost b: { List ℕ }
-    requires unread { IsUnread b unread.old p.at }
-    requires at { (p.at < length b) × (p.byte ≡ byte_at b p.at) }
-    requires other { (p.byte ≢ 34) × (p.byte ≢ 91) × (p.byte ≢ 123) }
-    requires capacity { p.used < length nodes.old }
-    ensures kept { length nodes.new ≡ length nodes.old }
-    ensures put { OnOk result (IsScalarPut b p.at p.used nodes.old nodes.new unread.new) }
-    ensures refused { IfErr result (IsNoScalar b p.at) }
-{
-    match read_scalar(unread.from(p.at), p.byte) {
-        Scalar::Value(node) => nodes[p.used] = Node::Static(node),
-        Scalar::Decimal(len) => nodes[p.used] = Node::Decimal(unread.share(p.at, len)),
-        refused => return Err(refuse(unread.from(p.at), p.at, p.byte, refused)),
-    }
-    Ok(())
-}
 
 impl<'de> Machine<'_, 'de> {
     // The value whose first token is the last one.

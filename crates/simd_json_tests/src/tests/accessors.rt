@@ -121,6 +121,44 @@ fn integers_fit_from_a_width_on(rt: HostRuntime) -> Tested {
 }
 
 #[test]
+fn integers_past_64_bits_have_kinds_of_their_own(rt: HostRuntime) -> Tested {
+    let source =
+        b"[18446744073709551616,-9223372036854775809,340282366920938463463374607431768211455,-170141183460469231731687303715884105728]";
+    let mut input = *source;
+    let tape = to_tape(rt.alloc(), &mut input)?;
+    assert!(rt; !tape.is_empty());
+    let value = tape.as_value();
+    let past_u64 = value.get_idx(0).expect(&rt, "it is there");
+    let below_i64 = value.get_idx(1).expect(&rt, "it is there");
+    let greatest = value.get_idx(2).expect(&rt, "it is there");
+    let least = value.get_idx(3).expect(&rt, "it is there");
+    assert_eq!(rt; past_u64.as_u64(), None);
+    assert_eq!(rt; past_u64.as_u128(), Some(1 << 64));
+    assert_eq!(rt; past_u64.as_i128(), Some(1 << 64));
+    assert_eq!(rt;
+        past_u64.try_as_u64(),
+        refused(ValueType::U64, ValueType::U128)
+    );
+    assert_eq!(rt; below_i64.as_i64(), None);
+    assert_eq!(rt; below_i64.as_i128(), Some(-9_223_372_036_854_775_809));
+    assert_eq!(rt;
+        below_i64.try_as_i64(),
+        refused(ValueType::I64, ValueType::I128)
+    );
+    assert_eq!(rt; greatest.as_u128(), Some(u128::MAX));
+    assert_eq!(rt;
+        greatest.try_as_i128(),
+        refused(ValueType::I128, ValueType::U128)
+    );
+    assert_eq!(rt; least.as_i128(), Some(i128::MIN));
+    assert_eq!(rt; least.as_u128(), None);
+    assert!(rt; least.eq_i128(i128::MIN) && greatest.eq_u128(u128::MAX));
+    let text = value.encode(rt.alloc())?;
+    assert_eq!(rt; text.as_bytes(), source.as_slice());
+    Ok(())
+}
+
+#[test]
 fn refusals_name_both_kinds(rt: HostRuntime) -> Tested {
     let mut input = *b"[-1,255,300,-0,[]]";
     let tape = to_tape(rt.alloc(), &mut input)?;

@@ -68,8 +68,8 @@ fn refusals_are_printed_and_classed(rt: HostRuntime) -> Tested {
             [false, true, false, false],
         ),
         (
-            b"-9223372036854775809",
-            "InvalidNumber at character 20 (' ')",
+            b"-170141183460469231731687303715884105729",
+            "InvalidNumber at character 40 (' ')",
             [false, false, true, false],
         ),
         (

@@ -97,7 +97,7 @@ fn the_whole_input_is_refused(rt: HostRuntime) -> Tested {
 
 #[test]
 fn tokens_are_refused(rt: HostRuntime) -> Tested {
-    let rows: [(&[u8], usize, char, ErrorType); 20] = [
+    let rows: [(&[u8], usize, char, ErrorType); 21] = [
         (b"[1,]", 3, ']', ErrorType::InternalError),
         (b"[1] 2", 2, ']', ErrorType::InternalError),
         (b"[1 2]", 3, '2', ErrorType::ExpectedArrayContent),
@@ -106,8 +106,19 @@ fn tokens_are_refused(rt: HostRuntime) -> Tested {
         (b"1 2", 0, '1', ErrorType::TrailingData),
         (b"01", 1, '1', ErrorType::InvalidNumber),
         (b"1a", 1, 'a', ErrorType::InvalidNumber),
-        (b"-9223372036854775809", 20, ' ', ErrorType::InvalidNumber),
-        (b"18446744073709551616", 19, '6', ErrorType::InvalidNumber),
+        (
+            b"-170141183460469231731687303715884105729",
+            40,
+            ' ',
+            ErrorType::InvalidNumber,
+        ),
+        (
+            b"340282366920938463463374607431768211456",
+            38,
+            '6',
+            ErrorType::InvalidNumber,
+        ),
+        (b"18446744073709551616x", 20, 'x', ErrorType::InvalidNumber),
         (b"[true, falsy]", 7, 'f', ErrorType::ExpectedFalse),
         (b"\xef\xbb\xbf1", 0, '\u{ef}', ErrorType::InternalError),
         (

@@ -104,12 +104,12 @@ fn reservations_are_refused(rt: HostRuntime) -> Tested {
     assert_eq!(rt; tape.reserve(usize::MAX).err().as_ref(), Some(&wanted));
     let full = ballast(rt.alloc(), &heap, 0)?;
     assert_eq!(rt; buffers.reserve(1000).err().as_ref(), Some(&wanted));
-    assert_eq!(rt; tape.reserve(1000).err().as_ref(), Some(&wanted));
+    assert_eq!(rt; tape.reserve(500).err().as_ref(), Some(&wanted));
     assert_eq!(rt; buffers.structural_indexes(), [0, 1, 2, 3, 4].as_slice());
     assert_eq!(rt; tape.nodes().len(), 3);
     drop(full);
     assert_eq!(rt; buffers.reserve(1000), Ok(()));
-    assert_eq!(rt; tape.reserve(1000), Ok(()));
+    assert_eq!(rt; tape.reserve(500), Ok(()));
     assert_eq!(rt; buffers.structural_indexes(), [0, 1, 2, 3, 4].as_slice());
     assert_eq!(rt; tape.nodes().len(), 3);
     Ok(())

@@ -116,7 +116,7 @@ fn long_inputs_are_refused(rt: HostRuntime) -> Tested {
             10_000,
             b"",
             0,
-            at(19, '9', ErrorType::InvalidNumber),
+            at(38, '9', ErrorType::InvalidNumber),
         ),
         (
             b"-",
@@ -124,7 +124,7 @@ fn long_inputs_are_refused(rt: HostRuntime) -> Tested {
             10_000,
             b"",
             0,
-            at(20, '9', ErrorType::InvalidNumber),
+            at(39, '9', ErrorType::InvalidNumber),
         ),
         (
             b"",

@@ -13,6 +13,9 @@ integer-requires c =
     let read = c.in-Integer.ensures c.args.bytes.now 0 refl in
     rw c.byte_or_space-minus.ensures read.2
 
+pub parse_long-requires : goal.parse_long-requires
+parse_long-requires c = c.in-Long.ensures c.args.bytes.now 0 refl
+
 pub returns-in-Integer : goal.returns-in-Integer
 returns-in-Integer c b i e =
     let l = c.args.bytes.now in

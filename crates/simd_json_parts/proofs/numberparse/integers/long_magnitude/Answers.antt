@@ -1,6 +1,9 @@
 use Rattle.std.proofs.Common.{arith}
-use Rattle.simd_json_parts.proofs.Numbers.Values.{Grows, digits_value-grows}
+use Rattle.simd_json_parts.proofs.Numbers.Values.{Grows, digits_value-grows, AllDigits-take}
 use Rattle.simd_json_parts.proofs.numberparse.integers.long_magnitude.Goals as goal
+
+pub wide_magnitude-value-requires-clause-digits : goal.wide_magnitude-value-requires-clause-digits
+wide_magnitude-value-requires-clause-digits c = AllDigits-take c.min-first.result c.args.digits.now c.requires
 
 pub overflow_sub-digit : goal.overflow_sub-digit
 overflow_sub-digit c = (digits_value-grows _ _ c.requires c.loop-at-test.true).low

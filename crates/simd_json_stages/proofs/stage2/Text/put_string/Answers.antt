@@ -1,39 +1,29 @@
-use Rattle.std.proofs.Common.{sym, ◌∙◌, ◌<◌, ◌+◌, arith}
+use Rattle.std.proofs.Common.{sym, arith}
 use Rattle.simd_json_stages.proofs.Bounds.{some-left}
-use Rattle.simd_json_stages.proofs.StringPut.{later, within, ending, plain, closes, utf8, bad-within}
+use Rattle.simd_json_stages.proofs.StringPut.{within, some-quote, ending, plain, closes, utf8, bad-within}
 use Rattle.simd_json_stages.proofs.stage2.Text.put_string.Goals as goal
 
-pub overflow_sub-next : goal.overflow_sub-next
-overflow_sub-next g c =
-    let h : c.args.p.at + 1 < c.position_or_end-next.result = later c.requires.1.0 c.requires.1.1.0 c.requires.1.1.1.1.0 c.requires.1.1.1.1.1.1.0 c.end.ensures c.position_or_end-next.ensures in
-    omega arith
-
-pub byte-requires : goal.byte-requires
-byte-requires g c =
-    let h = later c.requires.1.0 c.requires.1.1.0 c.requires.1.1.1.1.0 c.requires.1.1.1.1.1.1.0 c.end.ensures c.position_or_end-next.ensures in
+pub last_quote-closing-requires : goal.last_quote-closing-requires
+last_quote-closing-requires g c =
     let w = within c.requires.1.0 c.requires.1.1.0 c.requires.1.1.1.1.0 c.requires.1.1.1.1.1.1.0 c.end.ensures c.position_or_end-next.ensures in
-    (omega (arith, h, c.requires.1.1.0.before), omega (arith, h, w))
-
-pub overflow_sub-next-then-byte-eq34 : goal.overflow_sub-next-then-byte-eq34
-overflow_sub-next-then-byte-eq34 g c =
-    let h = later c.requires.1.0 c.requires.1.1.0 c.requires.1.1.1.1.0 c.requires.1.1.1.1.1.1.0 c.end.ensures c.position_or_end-next.ensures in
-    omega (arith, h)
+    record { bounds = w; some = some-quote c.requires.1.0 c.requires.1.1.0 c.requires.1.1.1.1.0 c.requires.1.1.1.1.1.1.0 c.end.ensures c.position_or_end-next.ensures c.requires.1.1.1.1.1.0 }
 
 pub share_string-requires-clause-bounds : goal.share_string-requires-clause-bounds
 share_string-requires-clause-bounds g c =
-    let h = later c.requires.1.0 c.requires.1.1.0 c.requires.1.1.1.1.0 c.requires.1.1.1.1.1.1.0 c.end.ensures c.position_or_end-next.ensures in
     let w = within c.requires.1.0 c.requires.1.1.0 c.requires.1.1.1.1.0 c.requires.1.1.1.1.1.1.0 c.end.ensures c.position_or_end-next.ensures in
-    (c.requires.1.1.0.before, omega (arith, h), omega (arith, h, w))
+    let end = ending c.requires.1.0 c.requires.1.1.0 c.requires.1.1.1.1.0 c.requires.1.1.1.1.1.1.0 c.end.ensures c.position_or_end-next.ensures
+    c.last_quote-closing.result c.last_quote-closing.ensures.within.1 c.last_quote-closing.ensures.found c.last_quote-closing.ensures.last c.requires.1.1.1.1.1.0 in
+    (c.requires.1.1.0.before, end.0, omega (arith, c.last_quote-closing.ensures.within.1, w))
 
 pub share_string-requires-clause-closing : goal.share_string-requires-clause-closing
 share_string-requires-clause-closing g c =
-    ending c.requires.1.0 c.requires.1.1.0 c.requires.1.1.1.1.0 c.requires.1.1.1.1.1.1.0 c.end.ensures c.position_or_end-next.ensures
-    (sym c.byte.ensures ∙ c.if-byte-eq34.true) c.requires.1.1.1.1.1.0
+    (ending c.requires.1.0 c.requires.1.1.0 c.requires.1.1.1.1.0 c.requires.1.1.1.1.1.1.0 c.end.ensures c.position_or_end-next.ensures
+    c.last_quote-closing.result c.last_quote-closing.ensures.within.1 c.last_quote-closing.ensures.found c.last_quote-closing.ensures.last c.requires.1.1.1.1.1.0).1
 
 pub share_string-requires-clause-plain : goal.share_string-requires-clause-plain
 share_string-requires-clause-plain g c =
     plain c.requires.1.0 c.requires.1.1.0 c.requires.1.1.1.1.0 c.requires.1.1.1.1.1.1.0 c.end.ensures c.position_or_end-next.ensures
-    (c.may_lie_between-may_have_escape.ensures.plain c.if-not-may_have_escape.true)
+    (c.may_lie_between-may_have_escape.ensures.plain c.if-not-may_have_escape.true) c.last_quote-closing.result c.last_quote-closing.ensures.within.1
 
 pub share_string-requires-clause-utf8 : goal.share_string-requires-clause-utf8
 share_string-requires-clause-utf8 g c =

@@ -9,7 +9,7 @@ read_name-requires g c =
     let s = c.pairs.invariant.pair in
     let token = name-token g.b c.args.route.indexes.now s.capacity.positions c.args.route.max_depth (error_type c.pairs.kind) c.pairs.self.stack.now c.pairs.nodes c.pairs.p s.name in
     let left = node-left _ _ _ _ _ c.pairs.p s.progress s.depth s.capacity.node_capacity in
-    (c.requires.1.1, ((s.capacity.positions, c.requires.0), (s.progress, (s.escapes, (token, left)))))
+    (c.requires.1.1.1, ((s.capacity.positions, c.requires.1.0), (s.progress, (s.escapes, (token, left)))))
 
 pub returns-in_err-value-clause-refused : goal.returns-in_err-value-clause-refused
 returns-in_err-value-clause-refused g c =
