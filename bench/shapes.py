@@ -11,7 +11,7 @@ ACCEPTED = {
     "brackets, 1,000 deep": (b"[[]", b"," + b"[" * 1000 + b"]" * 1000, b"]"),
     "objects, 1,000 deep": (b"[{}", b"," + b'{"":' * 1000 + b"1" + b"}" * 1000, b"]"),
     "digits": (b"0.", b"9", b""),
-    "greatest integers": (b"[1", b",18446744073709551615", b"]"),
+    "greatest integers": (b"[1", b",340282366920938463463374607431768211455", b"]"),
     "one-digit integers": (b"[1", b",1", b"]"),
     "whitespace": (b"[", b" ", b"]"),
     "one string": (b'"', b"a", b'"'),
