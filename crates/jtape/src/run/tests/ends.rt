@@ -62,6 +62,53 @@ fn failing_readers_print_nothing(rt: HostRuntime) {
     }
 }
 
+// Is interrupted at its second call, and then goes on.
+#[derive(Drop)]
+struct Interrupted<'a> {
+    rest: &'a [u8],
+    calls: usize,
+}
+
+impl Read for Interrupted<'_> {
+    fn read(&mut self, buf: &mut [u8]) -> io::Result<usize> {
+        self.calls = self.calls.saturating_add(1);
+        if self.calls == 2 {
+            return Err(io::Error::from(io::ErrorKind::Interrupted));
+        }
+        match self.rest.split_first() {
+            Some((byte, rest)) if !buf.is_empty() => {
+                buf[0] = *byte;
+                self.rest = rest;
+                Ok(1)
+            }
+            _ => Ok(0),
+        }
+    }
+}
+
+// No read follows one that was interrupted, though it would succeed.
+#[test]
+fn interrupted_reads_end_the_run(rt: HostRuntime) {
+    for mode in ALL_MODES {
+        let mut reader = Port::new(Interrupted {
+            rest: b"[1]",
+            calls: 0,
+        });
+        let mut writer = Port::new(Vec::new(rt.alloc()));
+        let answer = run(
+            rt.alloc(),
+            mode,
+            DEFAULT_MAX_DEPTH,
+            &mut reader,
+            &mut writer,
+        );
+        assert_eq!(rt; answer, Err(RunFault::Read));
+        assert!(rt; reader.failed() && !reader.ended());
+        assert_eq!(rt; reader.into_inner().calls, 2);
+        assert_eq!(rt; writer.into_inner().len(), 0);
+    }
+}
+
 // Takes at most three bytes a call. After so many calls it takes none, or fails.
 #[derive(Drop)]
 struct Full {
@@ -200,6 +247,32 @@ fn large_outputs_are_begun(rt: HostRuntime) -> Tested {
             let taken = writer.into_inner().taken;
             assert_eq!(rt; Some(taken.as_slice()), whole.as_slice().get(..room));
         }
+    }
+    Ok(())
+}
+
+// One string of 1.2 MB, and a writer that is full after 1 MB.
+#[test]
+fn a_megabyte_is_written_of_more(rt: HostRuntime) -> Tested {
+    let mut input = Vec::from_slice(rt.alloc(), b"\"")?;
+    input.resize(1_200_000, b'a')?;
+    input.push(b'"')?;
+    for mode in [Mode::Tape, Mode::Compact, Mode::Pretty, Mode::Lines] {
+        let mut reader = Port::new(input.as_slice());
+        let mut writer = Port::new(Short {
+            taken: Vec::new(rt.alloc()),
+            room: 1_000_000,
+        });
+        let answer = run(
+            rt.alloc(),
+            mode,
+            DEFAULT_MAX_DEPTH,
+            &mut reader,
+            &mut writer,
+        );
+        assert_eq!(rt; answer, Err(RunFault::Write));
+        assert!(rt; writer.failed() && !reader.failed());
+        assert_eq!(rt; writer.into_inner().taken.len(), 1_000_000);
     }
     Ok(())
 }

@@ -6,7 +6,7 @@ use std::io;
 
 #[test]
 fn pieces_are_printed(rt: HostRuntime) {
-    let rows: [(usize, &[u8], &[u8], bool); 16] = [
+    let rows: [(usize, &[u8], &[u8], bool); 17] = [
         (
             1024,
             b"{\"a\": 1}\n\n[1,]\n 2 ",
@@ -48,6 +48,14 @@ fn pieces_are_printed(rt: HostRuntime) {
             1024,
             b"1\n1a\n01\n4",
             b"1\n! InvalidNumber at character 1 ('a')\n! InvalidNumber at character 1 ('1')\n4\n",
+            false,
+        ),
+        (
+            1024,
+            b"[ 340282366920938463463374607431768211455, -170141183460469231731687303715884105728 ]\n\
+              340282366920938463463374607431768211456\n-170141183460469231731687303715884105729\n",
+            b"[340282366920938463463374607431768211455,-170141183460469231731687303715884105728]\n\
+              ! InvalidNumber at character 38 ('6')\n! InvalidNumber at character 40 (' ')\n",
             false,
         ),
         (
@@ -121,6 +129,32 @@ fn pieces_have_each_length(rt: HostRuntime) -> Tested {
         let writer = writer.into_inner();
         assert_eq!(rt; writer.taken.as_slice(), input.as_slice());
         assert_eq!(rt; writer.calls, calls);
+    }
+    Ok(())
+}
+
+// Ten short lines, and then one that has memory for its bytes and none for its nodes: ten lines are written.
+#[test]
+fn lines_before_one_that_lacks_memory_are_written(rt: HostRuntime) -> Tested {
+    let mut input = Vec::new(rt.alloc());
+    let mut short = Vec::new(rt.alloc());
+    for _ in 0..10 {
+        input.extend_from_slice(b"[ 1 ]\n")?;
+        short.extend_from_slice(b"[1]\n")?;
+    }
+    input.extend_from_slice(b"[2")?;
+    for _ in 0..400 {
+        input.extend_from_slice(b",2")?;
+    }
+    input.extend_from_slice(b"]\n3\n")?;
+    for size in [8_000usize, 12_000, 16_000] {
+        let heap = LocalHeap::new(rt.alloc(), size)?;
+        let mut reader = Port::new(input.as_slice());
+        let mut writer = Port::new(Vec::new(rt.alloc()));
+        let answer = run(&heap, Mode::Lines, 8, &mut reader, &mut writer);
+        let memory = Error::generic(ErrorType::OutOfMemory);
+        assert_eq!(rt; answer, Err(RunFault::Refused(memory)));
+        assert_eq!(rt; writer.into_inner().as_slice(), short.as_slice());
     }
     Ok(())
 }
