@@ -122,39 +122,60 @@ fn integers_fit_from_a_width_on(rt: HostRuntime) -> Tested {
 
 #[test]
 fn integers_past_64_bits_have_kinds_of_their_own(rt: HostRuntime) -> Tested {
-    let source =
-        b"[18446744073709551616,-9223372036854775809,340282366920938463463374607431768211455,-170141183460469231731687303715884105728]";
-    let mut input = *source;
-    let tape = to_tape(rt.alloc(), &mut input)?;
-    assert!(rt; !tape.is_empty());
-    let value = tape.as_value();
-    let past_u64 = value.get_idx(0).expect(&rt, "it is there");
-    let below_i64 = value.get_idx(1).expect(&rt, "it is there");
-    let greatest = value.get_idx(2).expect(&rt, "it is there");
-    let least = value.get_idx(3).expect(&rt, "it is there");
-    assert_eq!(rt; past_u64.as_u64(), None);
-    assert_eq!(rt; past_u64.as_u128(), Some(1 << 64));
-    assert_eq!(rt; past_u64.as_i128(), Some(1 << 64));
-    assert_eq!(rt;
-        past_u64.try_as_u64(),
-        refused(ValueType::U64, ValueType::U128)
-    );
-    assert_eq!(rt; below_i64.as_i64(), None);
-    assert_eq!(rt; below_i64.as_i128(), Some(-9_223_372_036_854_775_809));
-    assert_eq!(rt;
-        below_i64.try_as_i64(),
-        refused(ValueType::I64, ValueType::I128)
-    );
-    assert_eq!(rt; greatest.as_u128(), Some(u128::MAX));
-    assert_eq!(rt;
-        greatest.try_as_i128(),
-        refused(ValueType::I128, ValueType::U128)
-    );
-    assert_eq!(rt; least.as_i128(), Some(i128::MIN));
-    assert_eq!(rt; least.as_u128(), None);
-    assert!(rt; least.eq_i128(i128::MIN) && greatest.eq_u128(u128::MAX));
-    let text = value.encode(rt.alloc())?;
-    assert_eq!(rt; text.as_bytes(), source.as_slice());
+    // a literal, what it is with a sign and without, and its kind
+    let rows: [(&[u8], Option<i128>, Option<u128>, ValueType); 6] = [
+        (
+            b"18446744073709551616",
+            Some(1 << 64),
+            Some(1 << 64),
+            ValueType::U128,
+        ),
+        (
+            b"-9223372036854775809",
+            Some(-9_223_372_036_854_775_809),
+            None,
+            ValueType::I128,
+        ),
+        (
+            b"170141183460469231731687303715884105727",
+            Some(i128::MAX),
+            Some((1 << 127) - 1),
+            ValueType::U128,
+        ),
+        (
+            b"170141183460469231731687303715884105728",
+            None,
+            Some(1 << 127),
+            ValueType::U128,
+        ),
+        (
+            b"-170141183460469231731687303715884105728",
+            Some(i128::MIN),
+            None,
+            ValueType::I128,
+        ),
+        (
+            b"340282366920938463463374607431768211455",
+            None,
+            Some(u128::MAX),
+            ValueType::U128,
+        ),
+    ];
+    for (literal, signed, unsigned, kind) in rows {
+        let mut input = Vec::from_slice(rt.alloc(), literal)?;
+        let tape = to_tape(rt.alloc(), input.as_mut_slice())?;
+        assert!(rt; !tape.is_empty());
+        let value = tape.as_value();
+        assert_eq!(rt; value.value_type(), kind);
+        assert_eq!(rt; value.as_i128(), signed);
+        assert_eq!(rt; value.as_u128(), unsigned);
+        assert_eq!(rt; value.try_as_i64(), refused(ValueType::I64, kind));
+        assert_eq!(rt; value.try_as_u64(), refused(ValueType::U64, kind));
+        assert_eq!(rt; value.try_as_i128().is_ok(), signed.is_some());
+        assert_eq!(rt; value.eq_u128(u128::MAX), unsigned == Some(u128::MAX));
+        let text = value.encode(rt.alloc())?;
+        assert_eq!(rt; text.as_bytes(), literal);
+    }
     Ok(())
 }
 
