@@ -9,9 +9,9 @@ cpu = $(if $(CPU),--cpu $(CPU))
 
 # The program stands on all other crates but the benchmark's, so that proving it proves them.
 all: has-rt $(if $(CPU),library)
-	cd crates/jtape && rt run $(cpu) -- tape < ../../examples/nested-list.json > /dev/null
+	cd crates/jtape_main && rt run $(cpu) -- tape < ../../examples/nested-list.json > /dev/null
 	mkdir -p build
-	cp crates/jtape/out/jtape build/jtape
+	cp crates/jtape_main/out/jtape_main build/jtape
 	build/jtape tape < examples/nested-list.json
 
 # The static library that programs in C call.

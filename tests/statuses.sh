@@ -4,7 +4,7 @@
 #
 # usage: sh tests/statuses.sh [PROGRAM]
 set -u
-program=${1:-$(dirname "$0")/../crates/jtape/out/jtape}
+program=${1:-$(dirname "$0")/../crates/jtape_main/out/jtape_main}
 [ -x "$program" ] || { echo "$program is not there: run make test" >&2; exit 1; }
 room=$(mktemp -d) || exit 1
 trap 'rm -rf "$room"' EXIT

@@ -1,20 +1,29 @@
--- What a loop gives to a place: what each element stands for, one after another.
-use Rattle.std.proofs.Common.{◌≡◌, ◌∙◌, ap, sym, ◌<◌, ◌+◌, ℕ, List, take, drop, length, get_or, flat_map, take-append-drop}
+-- What a loop puts: what each element stands for, one after another.
+use Rattle.std.proofs.Common.{◌≡◌, ◌∙◌, ap, sym, true, ◌<◌, ◌+◌, ℕ, List, take, drop, length, get_or, flat_map, take-append-drop}
 use Rattle.std.proofs.Math.Seq.{take-length}
 use Rattle.std.proofs.lemmas.List.Concat.{flat_map-append}
-use Rattle.simd_json_print.specs.Places.{Place, Gives, HasStopped}
+use Rattle.std.specs.Prelude.{is_some}
+use Rattle.simd_json_print.specs.Texts.{Place, Adds}
+use Rattle.simd_json_print.specs.declared.text.Text.{Text}
 use Rattle.simd_json_print.proofs.FlatMaps.{flat_map-more}
-use Rattle.simd_json_print.proofs.Places.{gives-is, gives-then, gives-lost}
+use Rattle.simd_json_print.proofs.Texts.{adds-is, adds-then, adds-lost}
 
 -- one element more
-pub given-more : {X : Type 0} (f : X → List ℕ) (xs : List X) (i : ℕ) (d : X) (a b c : Place) → i < length xs → Gives a b (flat_map f (take i xs)) → Gives b c (f (get_or xs i d)) → Gives a c (flat_map f (take (i + 1) xs))
-given-more f xs i d a b c more g h = gives-is a c _ _ (sym (flat_map-more f xs i d more)) (gives-then a b c (flat_map f (take i xs)) (f (get_or xs i d)) g h)
+pub adds-more : {T : Type 0} {size : ℕ} {X : Type 0} (place : T → Place) (f : X → List ℕ) (xs : List X) (i : ℕ) (d : X) (a b c : Text T size)
+    → i < length xs → Adds place a b (flat_map f (take i xs)) → Adds place b c (f (get_or xs i d))
+    → Adds place a c (flat_map f (take (i + 1) xs))
+adds-more place f xs i d a b c more g h =
+    adds-is place a c _ _ (sym (flat_map-more f xs i d more))
+    (adds-then place a b c (flat_map f (take i xs)) (f (get_or xs i d)) g h)
 
 -- all of them
-pub given-all : {X : Type 0} (f : X → List ℕ) (xs : List X) (i : ℕ) (a b : Place) → i ≡ length xs → Gives a b (flat_map f (take i xs)) → Gives a b (flat_map f xs)
-given-all f xs i a b all g = gives-is a b _ _ (ap (λ n. flat_map f (take n xs)) all ∙ ap (flat_map f) (take-length xs)) g
+pub adds-all : {T : Type 0} {size : ℕ} {X : Type 0} (place : T → Place) (f : X → List ℕ) (xs : List X) (i : ℕ) (a b : Text T size)
+    → i ≡ length xs → Adds place a b (flat_map f (take i xs)) → Adds place a b (flat_map f xs)
+adds-all place f xs i a b all g = adds-is place a b _ _ (ap (λ n. flat_map f (take n xs)) all ∙ ap (flat_map f) (take-length xs)) g
 
--- what is not given any more to a place that has stopped
-pub given-lost : {X : Type 0} (f : X → List ℕ) (xs : List X) (i : ℕ) (a b : Place) → HasStopped b → Gives a b (flat_map f (take i xs)) → Gives a b (flat_map f xs)
-given-lost f xs i a b stopped g =
-    gives-is a b _ _ (sym (flat_map-append f (take i xs) (drop i xs)) ∙ ap (flat_map f) (take-append-drop i xs)) (gives-lost a b (flat_map f (take i xs)) (flat_map f (drop i xs)) stopped g)
+-- the others are dropped, once the target failed
+pub adds-others : {T : Type 0} {size : ℕ} {X : Type 0} (place : T → Place) (f : X → List ℕ) (xs : List X) (i : ℕ) (a b : Text T size)
+    → is_some b.fault ≡ true → Adds place a b (flat_map f (take i xs)) → Adds place a b (flat_map f xs)
+adds-others place f xs i a b stopped g =
+    adds-is place a b _ _ (sym (flat_map-append f (take i xs) (drop i xs)) ∙ ap (flat_map f) (take-append-drop i xs))
+    (adds-lost place a b (flat_map f (take i xs)) (flat_map f (drop i xs)) stopped g)

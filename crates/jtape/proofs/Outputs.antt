@@ -1,12 +1,11 @@
 -- From what a parse answers and what printing wrote to the output of an input.
-use Rattle.std.proofs.Common.{◌≡◌, ap, sym, subst, ℕ, List, length, take, true, Option, None}
-use Rattle.std.proofs.Math.Seq.{take-length}
+use Rattle.std.proofs.Common.{◌≡◌, ap, sym, subst, ℕ, List, take, true, Option, None}
 use Rattle.std.specs.Prelude.{Result, Ok, Err, OnOk, OnErr, IfErr}
 use Rattle.std.specs.Io.KnownBytes.{Appends}
 use Rattle.jtape.specs.Output.{Output, document_output, output_of, printed, all_printed}
-use Rattle.jtape.specs.declared.run.RunFault.{RunFault}
-use Rattle.jtape.specs.declared.run.RunFault.TheVariants.{Write}
-use Rattle.jtape.specs.declared.settings.Mode.{Mode}
+use Rattle.jtape.specs.declared.runs.RunFault.{RunFault}
+use Rattle.jtape.specs.declared.runs.RunFault.TheVariants.{Write}
+use Rattle.jtape.specs.declared.words.Mode.{Mode}
 use Rattle.simd_json.specs.Parsed.{IsParse}
 use Rattle.simd_json_parts.specs.Document.{Document}
 use Rattle.simd_json_parts.specs.Listing.{listing}
@@ -29,9 +28,3 @@ pub begun-written : {T : Type 0} (r : Result T RunFault) (P : Type 0) (a b : Opt
     → OnErr r ((count : ℕ) × Appends a b (take count bytes)) → IfErr r (λ fault. fault ≡ Write → P × ((count : ℕ) × Appends a b (take count out.bytes)))
 begun-written (Ok x) P a b bytes out is p q = tt
 begun-written (Err e) P a b bytes out is p q = λ asked. (p.1, (q.0, subst (λ us. Appends a b (take q.0 us)) (sym (ap (λ o. o.bytes) is)) q.1))
-
--- a beginning, or all
-pub begun-or-all : {T E : Type 0} (r : Result T E) (a b : Option (List ℕ)) (bytes : List ℕ) → OnOk r (Appends a b bytes) → OnErr r ((count : ℕ) × Appends a b (take count bytes))
-    → (count : ℕ) × Appends a b (take count bytes)
-begun-or-all (Ok x) a b bytes p q = (length bytes, subst (λ us. Appends a b us) (sym (take-length bytes)) p)
-begun-or-all (Err e) a b bytes p q = q

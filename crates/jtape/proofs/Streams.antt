@@ -1,132 +1,181 @@
--- What is written of some pieces of an input, and of one more.
-use Rattle.std.proofs.Common.{◌≡◌, ◌∙◌, refl, ap, sym, subst, ℕ, List, [], ◌∷◌, ◌++◌, take, drop, length, append-nil, append_assoc, Bool, true, false, ◌&&◌, Option, inl, inr}
+-- What is put of some pieces of an input, and of one more, and what a port's text ends with.
+use Rattle.std.proofs.Common.{◌≡◌, ◌∙◌, refl, ap, sym, subst, inl, inr, Bool, true, false, ◌&&◌, Option, None, Some}
+use Rattle.std.proofs.Common.{ℕ, List, [], ◌∷◌, ◌++◌, take, drop, length, append-nil, append_assoc}
 use Rattle.std.specs.Io.KnownBytes.{Appends}
-use Rattle.std.proofs.KnownBytes.{Appends-nil, Appends-trans}
+use Rattle.std.specs.Prelude.{Result, Ok, Err, OnOk, OnErr, IfOk, IfErr, is_ok, is_some}
 use Rattle.std.proofs.Math.Seq.{take-append_seam}
+use Rattle.std.proofs.lemmas.Bool.{false≢true}
 use Rattle.std.proofs.lemmas.List.{take-append-drop}
 use Rattle.std.proofs.lemmas.List.Concat.{flat_map-append}
 use Rattle.std.proofs.lemmas.List.Folds.{list_all-append}
-use Rattle.jtape.specs.Output.{stream_output}
 use Rattle.jtape.specs.Pieces.{pieces, piece_text, pieces_text, is_clean, all_clean}
-use Rattle.jtape.specs.Runs.{HasWritten}
-use Rattle.jtape.specs.Streams.{StopsAt, StopsWithin}
-use Rattle.jtape.specs.declared.run.RunFault.{RunFault}
-use Rattle.jtape.specs.declared.run.RunFault.TheVariants.{Write}
+use Rattle.jtape.specs.Runs.{lacks_memory}
+use Rattle.jtape.specs.Streams.{HasPut, StopsWithin}
+use Rattle.jtape.specs.declared.runs.RunFault.{RunFault}
+use Rattle.jtape.specs.declared.runs.RunFault.TheVariants.{Write}
 use Rattle.jtape.proofs.Pieces.{pieces-some}
-use Rattle.simd_json_print.specs.Sent.{IsSent}
+use Rattle.simd_json_print.specs.Texts.{Place, IsLeft, failed_or, HasGiven, Adds, HasEnded}
+use Rattle.simd_json_print.specs.declared.text.Text.{Text}
+use Rattle.simd_json_print.proofs.Texts.{appends-none, adds-none, adds-is, adds-then, adds-lost, ended-sound, ended-failed}
 
--- ---- at one piece
-
--- the writer failed after the piece's text was appended
-pub sent-all : (held holds : Option (List ℕ)) (before text whole : List ℕ) → whole ≡ before ++ text → ((count : ℕ) × Appends held holds (take count whole))
-    → (lost : List ℕ) × IsSent held before holds lost text
-sent-all held holds before text whole is begun = (drop begun.0 whole, (take begun.0 whole, begun.1, take-append-drop begun.0 whole ∙ is))
-
--- it failed while the text before the piece's was written
-pub sent-earlier : (held holds : Option (List ℕ)) (before text whole : List ℕ) → whole ≡ before → ((count : ℕ) × Appends held holds (take count whole))
-    → (lost : List ℕ) × IsSent held before holds lost text
-sent-earlier held holds before text whole is begun =
-    (drop begun.0 whole ++ text, (take begun.0 whole, begun.1, sym (append_assoc (take begun.0 whole) (drop begun.0 whole) text) ∙ ap (λ xs. xs ++ text) (take-append-drop begun.0 whole ∙ is)))
-
--- ---- in two steps
-
-pub sent-more : (held middle holds : Option (List ℕ)) (first text last more : List ℕ) → IsSent held [] middle text first → IsSent middle text holds last more → IsSent held [] holds last (first ++ more)
-sent-more held middle holds first text last more (s, p, is) (t, q, are) =
-    (s ++ t, Appends-trans held middle holds s t p q, append_assoc s t last ∙ ap (λ xs. s ++ xs) are ∙ sym (append_assoc s text more) ∙ ap (λ xs. xs ++ more) is)
-
--- a beginning, by how long it is
-begun : (held holds : Option (List ℕ)) (sent rest bytes : List ℕ) → bytes ≡ sent ++ rest → Appends held holds sent → (count : ℕ) × Appends held holds (take count bytes)
-begun held holds sent rest bytes is p = (length sent, subst (Appends held holds) (sym (ap (take (length sent)) is ∙ take-append_seam sent rest)) p)
-
--- ---- some pieces
-
--- All pieces but the later ones are done: their text was written, or is in the list, and whether they are clean is known.
-pub record AreDone (depth : ℕ) (input : List ℕ) (later : List (List ℕ)) (held holds : Option (List ℕ)) (text : List ℕ) (clean : Bool) : Type 0 where
+-- All pieces but the later ones are done: their text was put, and whether they are clean is known.
+pub record AreDone {T : Type 0} {size : ℕ} (place : T → Place) (old new : Text T size) (depth : ℕ) (input : List ℕ) (later : List (List ℕ))
+    (clean : Bool) : Type 0 where
   pub earlier : List (List ℕ)
   pub cut : pieces input ≡ earlier ++ later
-  pub sent : IsSent held [] holds text (pieces_text depth earlier)
+  pub put : Adds place old new (pieces_text depth earlier)
   pub are_clean : clean ≡ all_clean depth earlier
 
-pub none-done : (depth : ℕ) (input : List ℕ) (held : Option (List ℕ)) (text : List ℕ) → text ≡ [] → AreDone depth input (pieces input) held held text true
-none-done depth input held text is = record { earlier = []; cut = refl; sent = ([], Appends-nil held, is); are_clean = refl }
+pub none-done : {T : Type 0} {size : ℕ} (place : T → Place) (text : Text T size) (depth : ℕ) (input : List ℕ)
+    → AreDone place text text depth input (pieces input) true
+none-done place text depth input = record { earlier = []; cut = refl; put = adds-none place text; are_clean = refl }
 
 and-true : (p : Bool) → (p && true) ≡ p
 and-true true = refl
 and-true false = refl
 
-pub one-more : (limit depth : ℕ) (input piece : List ℕ) (later all : List (List ℕ)) (held middle holds : Option (List ℕ)) (text last : List ℕ) (clean is : Bool)
-    → limit ≡ depth → all ≡ piece ∷ later → AreDone depth input all held middle text clean → IsSent middle text holds last (piece_text limit piece) → is ≡ is_clean limit piece
-    → AreDone depth input later held holds last (clean && is)
-one-more limit depth input piece later all held middle holds text last clean is same cut done more are =
+pub one-more : {T : Type 0} {size : ℕ} {place : T → Place} {a b c : Text T size} {limit depth : ℕ} {input piece : List ℕ}
+    {later all : List (List ℕ)} {clean is : Bool} → limit ≡ depth → all ≡ piece ∷ later → AreDone place a b depth input all clean
+    → Adds place b c (piece_text limit piece) → is ≡ is_clean limit piece → AreDone place a c depth input later (clean && is)
+one-more {place = place} {a = a} {b = b} {c = c} {depth = depth} {piece = piece} {later = later} {is = is} same cut done more are =
+    let front = pieces_text depth done.earlier in
+    let one : pieces_text depth (done.earlier ++ piece ∷ []) ≡ front ++ piece_text depth piece =
+    flat_map-append (piece_text depth) done.earlier (piece ∷ []) ∙ ap (λ ys. front ++ ys) (append-nil (piece_text depth piece)) in
     record {
       earlier = done.earlier ++ piece ∷ [];
       cut = done.cut ∙ ap (λ ps. done.earlier ++ ps) cut ∙ sym (append_assoc done.earlier (piece ∷ []) later);
-      sent =
-          subst (IsSent held [] holds last) (sym (flat_map-append (piece_text depth) done.earlier (piece ∷ []) ∙ ap (λ ys. pieces_text depth done.earlier ++ ys) (append-nil (piece_text depth piece))))
-          (sent-more held middle holds (pieces_text depth done.earlier) text last (piece_text depth piece) done.sent (subst (λ n. IsSent middle text holds last (piece_text n piece)) same more));
+      put =
+          adds-is place a c _ _ (sym one)
+          (adds-then place a b c front (piece_text depth piece) done.put (subst (λ n. Adds place b c (piece_text n piece)) same more));
       are_clean =
-          ap (λ b. b && is) done.are_clean ∙ ap (λ b. all_clean depth done.earlier && b) (are ∙ ap (λ n. is_clean n piece) same ∙ sym (and-true (is_clean depth piece)))
+          ap (λ b. b && is) done.are_clean
+          ∙ ap (λ b. all_clean depth done.earlier && b) (are ∙ ap (λ n. is_clean n piece) same ∙ sym (and-true (is_clean depth piece)))
           ∙ sym (list_all-append (is_clean depth) done.earlier (piece ∷ []));
     }
 
--- the last text is written
-pub all-written : (depth : ℕ) (input : List ℕ) (held middle holds : Option (List ℕ)) (text : List ℕ) (clean : Bool)
-    → AreDone depth input [] held middle text clean → Appends middle holds text
-    → Appends held holds (stream_output depth input).bytes × (clean ≡ all_clean depth (pieces input))
-all-written depth input held middle holds text clean done more =
-    let all : pieces input ≡ done.earlier = done.cut ∙ append-nil done.earlier in (
-      subst (Appends held holds) (done.sent.2 ∙ sym (ap (pieces_text depth) all)) (Appends-trans held middle holds done.sent.0 text done.sent.1 more),
-      done.are_clean ∙ sym (ap (all_clean depth) all),
+-- after the last piece
+pub all-put : {T : Type 0} {size : ℕ} {place : T → Place} {a b : Text T size} {depth : ℕ} {input : List ℕ} {clean : Bool}
+    → AreDone place a b depth input [] clean → Adds place a b (pieces_text depth (pieces input)) × (clean ≡ all_clean depth (pieces input))
+all-put {place = place} {a = a} {b = b} {depth = depth} {input = input} done =
+    let all : done.earlier ≡ pieces input = sym (done.cut ∙ append-nil done.earlier) in (
+      adds-is place a b _ _ (ap (pieces_text depth) all) done.put,
+      done.are_clean ∙ ap (all_clean depth) all,
     )
 
--- ---- what stops it
+-- the later pieces are dropped, once the target failed
+pub others-lost : {T : Type 0} {size : ℕ} {place : T → Place} {a b : Text T size} {depth : ℕ} {input : List ℕ}
+    {later : List (List ℕ)} {clean : Bool} → is_some b.fault ≡ true → AreDone place a b depth input later clean
+    → Adds place a b (pieces_text depth (pieces input))
+others-lost {place = place} {a = a} {b = b} {depth = depth} {later = later} stopped done =
+    adds-is place a b _ _ (sym (flat_map-append (piece_text depth) done.earlier later) ∙ ap (pieces_text depth) (sym done.cut))
+    (adds-lost place a b (pieces_text depth done.earlier) (pieces_text depth later) stopped done.put)
+
+-- ---- where an allocation fails
 
 -- before the first piece
-pub stops-before : (depth : ℕ) (input : List ℕ) (held : Option (List ℕ)) → HasWritten depth input held held
-stops-before depth input held =
+pub stops-before : {T : Type 0} {size : ℕ} (place : T → Place) (text : Text T size) (depth : ℕ) (input : List ℕ)
+    → HasPut place text text depth input
+stops-before place text depth input =
     let some = pieces-some input in
-    record { earlier = []; piece = some.0; later = some.1; cut = some.2; written = Appends-nil held }
+    record { earlier = []; piece = some.0; later = some.1; cut = some.2; put = adds-none place text }
 
--- at a piece
-pub stops-at : (fault : RunFault) (failed : Bool) (limit depth : ℕ) (input piece : List ℕ) (later all : List (List ℕ)) (held middle holds : Option (List ℕ)) (text : List ℕ) (clean : Bool)
-    → limit ≡ depth → all ≡ piece ∷ later → AreDone depth input all held middle text clean → StopsAt fault failed middle holds text (piece_text limit piece)
-    → StopsWithin fault failed held holds depth input
-stops-at fault failed limit depth input piece later all held middle holds text clean same cut done (inl (is, sound, more)) =
-    inl (
-      is,
-      sound,
-      record {
-        earlier = done.earlier;
-        piece = piece;
-        later = later;
-        cut = done.cut ∙ ap (λ ps. done.earlier ++ ps) cut;
-        written = subst (Appends held holds) done.sent.2 (Appends-trans held middle holds done.sent.0 text done.sent.1 more);
-      },
-    )
-stops-at fault failed limit depth input piece later all held middle holds text clean same cut done (inr (is, unsound, (lost, more))) =
-    let front = pieces_text depth done.earlier in
-    let one = piece_text depth piece in
-    let others = pieces_text depth later in
-    let sent = sent-more held middle holds front text lost one done.sent (subst (λ n. IsSent middle text holds lost (piece_text n piece)) same more) in
-    inr (
-      is,
-      unsound,
-      begun held holds sent.0 (lost ++ others) (stream_output depth input).bytes
-          (ap (pieces_text depth) (done.cut ∙ ap (λ ps. done.earlier ++ ps) cut) ∙ flat_map-append (piece_text depth) done.earlier (piece ∷ later)
-          ∙ sym (append_assoc front one others) ∙ ap (λ xs. xs ++ others) (sym sent.2) ∙ append_assoc sent.0 lost others)
-          sent.1,
-    )
+-- at a piece, of which nothing is put
+pub stops-at : {T : Type 0} {size : ℕ} {place : T → Place} {a b c : Text T size} {depth : ℕ} {input piece : List ℕ}
+    {later all : List (List ℕ)} {clean : Bool} → all ≡ piece ∷ later → AreDone place a b depth input all clean → Adds place b c []
+    → HasPut place a c depth input
+stops-at {place = place} {a = a} {b = b} {c = c} {piece = piece} {later = later} cut done none =
+    record {
+      earlier = done.earlier;
+      piece = piece;
+      later = later;
+      cut = done.cut ∙ ap (λ ps. done.earlier ++ ps) cut;
+      put = adds-is place a c _ _ (append-nil _) (adds-then place a b c _ [] done.put none);
+    }
 
--- after the last one
-pub stops-after : (fault : RunFault) (failed : Bool) (depth : ℕ) (input : List ℕ) (held middle holds : Option (List ℕ)) (text : List ℕ) (clean : Bool)
-    → AreDone depth input [] held middle text clean → fault ≡ Write → failed ≡ true → ((count : ℕ) × Appends middle holds (take count text)) → StopsWithin fault failed held holds depth input
-stops-after fault failed depth input held middle holds text clean done is unsound more =
-    let s = done.sent.0 in
-    let t = take more.0 text in
-    inr (
-      is,
-      unsound,
-      begun held holds (s ++ t) (drop more.0 text) (stream_output depth input).bytes
-          (ap (pieces_text depth) (done.cut ∙ append-nil done.earlier) ∙ sym done.sent.2 ∙ ap (λ xs. s ++ xs) (sym (take-append-drop more.0 text)) ∙ sym (append_assoc s t (drop more.0 text)))
-          (Appends-trans held middle holds s t done.sent.1 more.1),
-    )
+-- ---- at the end, of a port that had not failed
+
+some-is : {x y : Bool} → Some x ≡ Some y → x ≡ y
+some-is is = cc
+
+any-left : {E : Type 0} (o : Option E) (collected left : List ℕ) → is_some o ≡ true → IsLeft o collected left
+any-left None collected left off = cc
+any-left (Some e) collected left off = tt
+
+-- what was given to the text since the target was anywhere is what it ends with
+abbrev pub Ends : {T E : Type 0} {size : ℕ} → (T → Place) → Result Unit E → Text T size → Place → Type 0
+Ends place r text end = (start : Place) (bytes : List ℕ) → HasGiven place start text bytes → HasEnded r start end bytes
+
+-- nothing failed where the text ends well
+sound-text : {T E : Type 0} {size : ℕ} (place : T → Place) (r : Result Unit E) (start end : Place) (text : Text T size) (bytes : List ℕ)
+    (failed : Bool) → is_some text.fault ≡ failed → is_ok r ≡ true → start.failed ≡ Some false → HasGiven place start text bytes
+    → Ends place r text end → is_some text.fault ≡ false
+sound-text place r start end text bytes false is ok old given ends = is
+sound-text place (Err e) start end text bytes true is ok old given ends = cc
+sound-text place (Ok u) start end text bytes true is ok old given ends =
+    let here = place text.target.now in
+    let failed : here.failed ≡ Some true = given.failed ∙ ap (λ f. failed_or f start.failed) is ∙ ap (failed_or true) old in
+    let again : HasGiven place here text [] = record {
+      sent = [];
+      left = [];
+      is_left = any-left text.fault text.pieces [] is;
+      taken = appends-none here.held;
+      whole = refl;
+      failed = failed ∙ sym (ap (λ f. failed_or f here.failed) is ∙ ap (failed_or true) failed);
+    } in
+    let one = (ends here [] again).1 ∙ failed in
+    let two = (ends start bytes given).1 ∙ old in
+    absurd (false≢true (some-is (sym two ∙ one)))
+
+pub stream-returned : {T E : Type 0} {size : ℕ} {place : T → Place} (r : Result Unit E) {start : Place} (end : Place) {a b : Text T size}
+    (m : Result Bool RunFault) (depth : ℕ) (input : List ℕ) → is_ok r ≡ true → start.failed ≡ Some false → HasGiven place start a []
+    → OnOk m (Adds place a b (pieces_text depth (pieces input)))
+    → IfOk m (λ clean. is_some b.fault ≡ false → clean ≡ all_clean depth (pieces input)) → Ends place r b end
+    → OnOk m (m ≡ Ok (all_clean depth (pieces input)))
+stream-returned {place = place} r {start = start} end {b = b} (Ok clean) depth input ok old given put are ends =
+    let whole = pieces_text depth (pieces input) in
+    ap Ok (are (sound-text place r start end b whole (is_some b.fault) refl ok old (put.given start [] given) ends))
+stream-returned r end (Err fault) depth input ok old given put are ends = tt
+
+pub stream-written : {T E : Type 0} {size : ℕ} {place : T → Place} (r : Result Unit E) {held : Option (List ℕ)} {old : Bool}
+    (holds : Option (List ℕ)) (new : Bool) {a b : Text T size} (m : Result Bool RunFault) (whole : List ℕ) → is_ok r ≡ true → old ≡ false
+    → HasGiven place (record { held = held; failed = Some old }) a [] → OnOk m (Adds place a b whole)
+    → Ends place r b (record { held = holds; failed = Some new }) → OnOk m ((new ≡ false) × Appends held holds whole)
+stream-written r holds new (Ok clean) whole ok sound given put ends =
+    ended-sound r _ _ _ _ whole (ends _ whole (put.given _ [] given)) sound ok
+stream-written r holds new (Err fault) whole ok sound given put ends = tt
+
+pub stream-stopped : {T E : Type 0} {size : ℕ} {place : T → Place} (r : Result Unit E) {held : Option (List ℕ)} {old : Bool}
+    (holds : Option (List ℕ)) (new : Bool) {a b : Text T size} (m : Result Bool RunFault) (depth : ℕ) (input : List ℕ)
+    → is_ok r ≡ true → old ≡ false → HasGiven place (record { held = held; failed = Some old }) a []
+    → IfErr m (λ fault. fault ≡ lacks_memory) → OnErr m (HasPut place a b depth input)
+    → Ends place r b (record { held = holds; failed = Some new }) → IfErr m (λ fault. StopsWithin fault new held holds depth input)
+stream-stopped r holds new (Ok clean) depth input ok sound given lacks put ends = tt
+stream-stopped r holds new (Err fault) depth input ok sound given lacks put ends =
+    let front = pieces_text depth put.earlier in
+    let all = ended-sound r _ _ _ _ front (ends _ front (put.put.given _ [] given)) sound ok in
+    inl (lacks, all.0, record { earlier = put.earlier; piece = put.piece; later = put.later; cut = put.cut; written = all.1 })
+
+-- a beginning of a beginning
+take-front : (n : ℕ) (front rest : List ℕ) → (count : ℕ) × (take n front ≡ take count (front ++ rest))
+take-front n front rest =
+    let begun = take n front in
+    let all : begun ++ (drop n front ++ rest) ≡ front ++ rest =
+    sym (append_assoc begun (drop n front) rest) ∙ ap (λ us. us ++ rest) (take-append-drop n front) in
+    (length begun, sym (ap (take (length begun)) (sym all) ∙ take-append_seam begun (drop n front ++ rest)))
+
+pub stream-begun : {T E : Type 0} {size : ℕ} {place : T → Place} (r : Result Unit E) {held : Option (List ℕ)} {old : Bool}
+    (holds : Option (List ℕ)) (new : Bool) {a b : Text T size} (m : Result Bool RunFault) (depth : ℕ) (input : List ℕ)
+    → is_ok r ≡ false → HasGiven place (record { held = held; failed = Some old }) a []
+    → OnOk m (Adds place a b (pieces_text depth (pieces input))) → OnErr m (HasPut place a b depth input)
+    → Ends place r b (record { held = holds; failed = Some new }) → StopsWithin Write new held holds depth input
+stream-begun r holds new (Ok clean) depth input failed given put stopped ends =
+    let whole = pieces_text depth (pieces input) in
+    let begun = ended-failed r _ _ _ _ whole (ends _ whole (put.given _ [] given)) failed in
+    inr (refl, begun.0, begun.1)
+stream-begun r {held = held} holds new (Err fault) depth input failed given put stopped ends =
+    let front = pieces_text depth stopped.earlier in
+    let rest = stopped.piece ∷ stopped.later in
+    let begun = ended-failed r _ _ _ _ front (ends _ front (stopped.put.given _ [] given)) failed in
+    let count = take-front begun.1.0 front (pieces_text depth rest) in
+    let whole = ap (pieces_text depth) stopped.cut ∙ flat_map-append (piece_text depth) stopped.earlier rest in
+    inr (refl, begun.0, (count.0, subst (Appends held holds) (count.1 ∙ ap (take count.0) (sym whole)) begun.1.1))

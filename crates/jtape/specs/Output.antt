@@ -2,10 +2,10 @@
 use Rattle.std.specs.Prelude.{ℕ, List, [], ◌∷◌, ◌++◌, Bool, true, Result, Ok, Err}
 use Rattle.jtape.specs.Lines.{lines, number_lines}
 use Rattle.jtape.specs.Pieces.{pieces, pieces_text, all_clean}
-use Rattle.jtape.specs.declared.run.RunFault.{RunFault}
-use Rattle.jtape.specs.declared.run.RunFault.TheVariants.{Refused}
-use Rattle.jtape.specs.declared.settings.Mode.{Mode}
-use Rattle.jtape.specs.declared.settings.Mode.TheVariants.{Tape, Positions, Compact, Pretty, Lines}
+use Rattle.jtape.specs.declared.runs.RunFault.{RunFault}
+use Rattle.jtape.specs.declared.runs.RunFault.TheVariants.{Refused}
+use Rattle.jtape.specs.declared.words.Mode.{Mode}
+use Rattle.jtape.specs.declared.words.Mode.TheVariants.{Tape, Positions, Compact, Pretty, Lines}
 use Rattle.simd_json_parts.specs.Answer.{answer}
 use Rattle.simd_json_parts.specs.Bytes.{line_feed}
 use Rattle.simd_json_parts.specs.Document.{Document}

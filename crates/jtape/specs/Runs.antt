@@ -3,9 +3,9 @@ use Rattle.std.specs.Prelude.{◌≡◌, ◌⊎◌, ◌∷◌, ◌++◌, ℕ, Li
 use Rattle.std.specs.Io.KnownBytes.{Appends, Consumes, IsAtEnd}
 use Rattle.jtape.specs.Output.{output}
 use Rattle.jtape.specs.Pieces.{pieces, pieces_text}
-use Rattle.jtape.specs.declared.run.RunFault.{RunFault}
-use Rattle.jtape.specs.declared.run.RunFault.TheVariants.{Refused, Read}
-use Rattle.jtape.specs.declared.settings.Mode.{Mode}
+use Rattle.jtape.specs.declared.runs.RunFault.{RunFault}
+use Rattle.jtape.specs.declared.runs.RunFault.TheVariants.{Refused, Read}
+use Rattle.jtape.specs.declared.words.Mode.{Mode}
 use Rattle.simd_json_parts.specs.Faults.{whole_fault}
 use Rattle.simd_json_parts.specs.declared.error.ErrorType.TheVariants.{OutOfMemory}
 

@@ -3,8 +3,8 @@ use Rattle.std.specs.Prelude.{ℕ, ◌^◌, List, [], ◌∷◌, length, codes, 
 use Rattle.std.specs.Char.{is_ascii_digit}
 use Rattle.std.specs.List.{list_all}
 use Rattle.std.specs.Str.Parse.{digits_value}
-use Rattle.jtape.specs.declared.settings.Mode.{Mode}
-use Rattle.jtape.specs.declared.settings.Mode.TheVariants.{Tape, Positions, Compact, Pretty, Lines}
+use Rattle.jtape.specs.declared.words.Mode.{Mode}
+use Rattle.jtape.specs.declared.words.Mode.TheVariants.{Tape, Positions, Compact, Pretty, Lines}
 use Rattle.simd_json.specs.MaxDepth.{default_max_depth}
 
 abbrev pub mode_of : List ℕ → Option Mode

@@ -1,20 +1,24 @@
 -- Why a stream of lines is not written whole. Only private clauses cite it.
-use Rattle.std.specs.Prelude.{◌≡◌, ◌⊎◌, ℕ, List, Bool, true, false, Option, take}
+use Rattle.std.specs.Prelude.{◌≡◌, ◌⊎◌, ◌∷◌, ◌++◌, ℕ, List, Bool, true, false, Option, take}
 use Rattle.std.specs.Io.KnownBytes.{Appends}
 use Rattle.jtape.specs.Output.{stream_output}
+use Rattle.jtape.specs.Pieces.{pieces, pieces_text}
 use Rattle.jtape.specs.Runs.{HasWritten, lacks_memory}
-use Rattle.jtape.specs.declared.run.RunFault.{RunFault}
-use Rattle.jtape.specs.declared.run.RunFault.TheVariants.{Write}
-use Rattle.simd_json_print.specs.Sent.{IsSent}
+use Rattle.jtape.specs.declared.runs.RunFault.{RunFault}
+use Rattle.jtape.specs.declared.runs.RunFault.TheVariants.{Write}
+use Rattle.simd_json_print.specs.Texts.{Place, Adds}
+use Rattle.simd_json_print.specs.declared.text.Text.{Text}
 
--- At a piece with this text, where the text before it was not yet written: an allocation failed, and the text before it was
--- written; or the writer failed, and a beginning of both was.
-abbrev pub StopsAt : RunFault → Bool → Option (List ℕ) → Option (List ℕ) → List ℕ → List ℕ → Type 0
-StopsAt fault failed held holds before text =
-    ((fault ≡ lacks_memory) × (failed ≡ false) × Appends held holds before)
-    ⊎ ((fault ≡ Write) × (failed ≡ true) × ((lost : List ℕ) × IsSent held before holds lost text))
+-- the text of all pieces before one of them was put, and nothing else
+pub record HasPut {T : Type 0} {size : ℕ} (place : T → Place) (old new : Text T size) (depth : ℕ) (input : List ℕ) : Type 0 where
+  pub earlier : List (List ℕ)
+  pub piece : List ℕ
+  pub later : List (List ℕ)
+  pub cut : pieces input ≡ earlier ++ piece ∷ later
+  pub put : Adds place old new (pieces_text depth earlier)
 
--- of all pieces of an input
+-- Of all pieces of an input: an allocation failed at one of them, and the text of all before it was written; or the writer
+-- failed, and a beginning of the text of all was.
 abbrev pub StopsWithin : RunFault → Bool → Option (List ℕ) → Option (List ℕ) → ℕ → List ℕ → Type 0
 StopsWithin fault failed held holds depth input =
     ((fault ≡ lacks_memory) × (failed ≡ false) × HasWritten depth input held holds)

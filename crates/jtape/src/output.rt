@@ -3,27 +3,26 @@ ghost use Rattle.std.specs.Prelude.{◌≡◌, ◌≢◌, ◌⊎◌, true, false
 ghost use Rattle.std.specs.Io.KnownBytes.{Appends};
 ghost use Rattle.jtape.specs.Output.{document_output, printed, nothing_printed};
 ghost use Rattle.jtape.specs.Runs.{lacks_memory};
-ghost use Rattle.jtape.specs.declared.run.RunFault.TheVariants as faults;
+ghost use Rattle.jtape.specs.declared.runs.RunFault.TheVariants as faults;
 ghost use Rattle.simd_json_parts.specs.Document.{Document};
 ghost use Rattle.simd_json_parts.specs.Listing.{listing};
 ghost use Rattle.simd_json_parts.specs.Nodes.{item_of};
 ghost use Rattle.simd_json_parts.specs.Positions.{positions};
-ghost use Rattle.simd_json_print.specs.Places.{Gives};
+ghost use Rattle.simd_json_print.specs.Texts.{Adds, AddsSome};
 
 use crate::lines::put_lines;
 use crate::port::Port;
 use crate::positions::put_positions;
-use crate::run::RunFault;
-use crate::settings::Mode;
+use crate::runs::RunFault;
+use crate::words::Mode;
 use simd_json::{Buffers, Node, to_tape_with_buffers};
 use simd_json_print::document::{put_compact, put_pretty};
-use simd_json_print::place::Sink;
-use simd_json_print::place::writer::Writing;
+use simd_json_print::text::{Target, Text};
 use std::alloc::Allocator;
 use std::io::Write;
 
 // How many bytes are collected for the writer.
-const PIECE: usize = 65_536;
+pub(crate) const PIECE: usize = 65_536;
 
 // Writes what the mode asks for of an input that is read as one document, or a beginning of it where the
 // writer fails. All memory is taken before the first byte is written, so that nothing is written where an
@@ -72,38 +71,36 @@ fn print<W: Write>(
     ensures sound { OnOk result (writer.new.failed ≡ false) }
     ensures fault { IfErr result (λ fault. (fault ≡ faults.Write) × (writer.new.failed ≡ true)) }
 {
-    let mut sink = Writing::<PIECE>::new();
-    put_printed(&mut sink, writer, mode, nodes, structural_indexes);
-    let written = sink.finish(writer);
-    if written.is_err() || writer.failed() {
-        writer.fail();
-        return Err(RunFault::Write);
+    let mut text = Text::<Port<W>, PIECE>::new(writer);
+    put_printed(&mut text, mode, nodes, structural_indexes);
+    match text.finish() {
+        Ok(()) => Ok(()),
+        Err(_) => Err(RunFault::Write),
     }
-    Ok(())
 }
 
-// Gives a place what the mode asks for of a document.
-fn put_printed<P, S: Sink<P>>(
-    sink: &mut S,
-    target: &mut P,
+// Puts what the mode asks for of a document.
+fn put_printed<T: Target, const SIZE: usize>(
+    text: &mut Text<'_, T, SIZE>,
     mode: Mode,
     nodes: &[Node<'_>],
     structural_indexes: &[u32],
 )
-    ensures { (d : Document) → (input : List ℕ)
+    ensures kept { AddsSome T.place text.old text.new }
+    ensures given { (d : Document) → (input : List ℕ)
         → map item_of nodes.now ≡ listing d → structural_indexes.now ≡ positions input
-        → Gives (S.place sink.old target.old) (S.place sink.new target.new) (printed mode input d) }
+        → Adds T.place text.old text.new (printed mode input d) }
 {
     match mode {
-        Mode::Tape => put_lines(sink, target, nodes),
-        Mode::Positions => put_positions(sink, target, structural_indexes),
+        Mode::Tape => put_lines(text, nodes),
+        Mode::Positions => put_positions(text, structural_indexes),
         Mode::Compact | Mode::Lines => {
-            put_compact(sink, target, nodes);
-            sink.put(target, b"\n");
+            put_compact(text, nodes);
+            text.put(b"\n");
         }
         Mode::Pretty => {
-            put_pretty(sink, target, nodes);
-            sink.put(target, b"\n");
+            put_pretty(text, nodes);
+            text.put(b"\n");
         }
     }
 }

@@ -1,13 +1,16 @@
 //! A reader or a writer, and what has happened to it.
-ghost use Rattle.std.specs.Prelude.{◌≡◌, ◌<◌, ◌||◌, ℕ, Bool, false, true, length, is_err};
-ghost use Rattle.std.specs.Io.{ReadsAtMost, WritesAtMost};
-ghost use Rattle.std.specs.Io.KnownBytes.{ReadConsumes, WriteAppends};
-ghost use Rattle.jtape.specs.Ports.{took_none};
+ghost use Rattle.std.specs.Prelude.{◌≡◌, ◌||◌, false, length, is_err};
+ghost use Rattle.std.specs.Io.{ReadsAtMost};
+ghost use Rattle.std.specs.Io.KnownBytes.{ReadConsumes, Keeps};
+ghost use Rattle.simd_json_print.specs.Texts.{took_none};
 
+use simd_json_print::text::Target;
 use std::io;
 use std::io::{Read, Write};
 
-/// A reader or a writer that remembers whether a call on it failed, and whether it came to its end.
+/// A reader or a writer that remembers whether a call on it failed, and whether it came to its end. The port's
+/// own calls alone set what it remembers, so that [`failed`](Port::failed) and [`ended`](Port::ended) tell what
+/// has happened.
 #[derive(Drop)]
 pub struct Port<T> {
     inner: T,
@@ -27,8 +30,8 @@ impl<T> Port<T> {
         }
     }
 
-    /// Whether a read or a write through the port returned an error, or wrote nothing of a piece that is not
-    /// empty.
+    /// Whether a read, a write or a flush through the port returned an error, or a write took nothing of a
+    /// piece that is not empty.
     pub fn failed(&self) -> bool
         ensures { result ≡ self.now.failed }
     {
@@ -69,36 +72,41 @@ impl<R: Read> Port<R> {
     }
 }
 
-impl<W> Port<W> {
-    // Remembers that what was written through the port ended with an error.
-    pub(crate) fn fail(&mut self)
-        ensures { self.new ≡ record { inner = self.old.inner; failed = true; ended = self.old.ended } }
+impl<W: Write> Port<W> {
+    /// Sees to it that what was written through the port reaches its destination, as `Write::flush` does.
+    ///
+    /// Fails where the writer does. The port has failed then.
+    pub fn flush(&mut self) -> io::Result<()>
+        ensures bytes { Keeps (W.contents self.old.inner) (W.contents self.new.inner) }
+        ensures failed { self.new.failed ≡ (self.old.failed || is_err result) }
+        ensures ended { self.new.ended ≡ self.old.ended }
     {
-        let failed = &mut self.failed;
-        *failed = true;
+        let flushed = self.inner.flush();
+        if flushed.is_err() {
+            self.failed = true;
+        }
+        flushed
     }
 }
 
-impl<W: Write> Write for Port<W> {
-    ghost contents = { λ port. W.contents port.inner };
+// No other way leads to the writer, so that whoever writes can't forget to say that it failed.
+impl<W: Write> Target for Port<W> {
+    ghost use Rattle.std.specs.Prelude.{Some};
+    ghost use Rattle.simd_json_print.specs.Texts.{Takes};
 
-    fn write(&mut self, piece: &[u8]) -> io::Result<usize>
-        ensures bound { WritesAtMost result piece.now }
-        ensures bytes { WriteAppends (W.contents self.old.inner) (W.contents self.new.inner)
-            result piece.now }
-        ensures failed { self.new.failed
-            ≡ (self.old.failed || is_err result || took_none result (length piece.now)) }
+    ghost place = { λ port. record { held = W.contents port.inner; failed = Some port.failed } };
+
+    fn take_some(&mut self, bytes: &[u8]) -> io::Result<usize>
+        ensures takes { Takes (record { held = W.contents self.old.inner; failed = Some self.old.failed })
+            (record { held = W.contents self.new.inner; failed = Some self.new.failed })
+            result bytes.now }
         ensures ended { self.new.ended ≡ self.old.ended }
     {
-        let written = self.inner.write(piece);
+        let written = self.inner.write(bytes);
         match &written {
-            Ok(n) if *n > 0 || piece.is_empty() => {}
+            Ok(n) if *n > 0 || bytes.is_empty() => {}
             _ => self.failed = true,
         }
         written
-    }
-
-    fn flush(&mut self) -> io::Result<()> {
-        self.inner.flush()
     }
 }

@@ -1,18 +1,21 @@
 //! The lines of positions.
-ghost use Rattle.std.specs.Prelude.{◌≡◌};
 ghost use Rattle.jtape.specs.Lines.{number_lines};
-ghost use Rattle.simd_json_print.specs.Places.{Gives};
+ghost use Rattle.simd_json_print.specs.Texts.{Adds};
 
-use simd_json_print::place::Sink;
+use simd_json::StaticNode;
+use simd_json_print::text::{Target, Text};
 
-// Gives a place a line for each position.
-pub(crate) fn put_positions<P, S: Sink<P>>(sink: &mut S, target: &mut P, positions: &[u32])
-    ensures { Gives (S.place sink.old target.old) (S.place sink.new target.new) (number_lines positions.now) }
+// Puts a line for each position.
+pub(crate) fn put_positions<T: Target, const SIZE: usize>(
+    text: &mut Text<'_, T, SIZE>,
+    positions: &[u32],
+)
+    ensures { Adds T.place text.old text.new (number_lines positions.now) }
 {
     for &position in positions {
-        if sink.has_stopped(target) {
+        if text.has_failed() {
             return;
         }
-        sink.put_decimal(target, b"", position as u64, b"\n");
+        text.put_static(b"", StaticNode::U64(position as u64), b"\n");
     }
 }

@@ -1,30 +1,27 @@
-//! Mode `lines`: what is written of each piece between line feeds. One set of lists serves all pieces.
-ghost use Rattle.std.specs.Prelude.{◌≡◌, ◌≢◌, ◌++◌, ◌∷◌, [], ℕ, List, false, true, take};
-ghost use Rattle.std.specs.Prelude.{IfOk, IfErr, OnOk, OnErr, Err};
+//! Mode `lines`: what is written of each piece between line feeds. One set of lists serves all pieces, and one
+//! text goes to the writer.
+ghost use Rattle.std.specs.Prelude.{◌≡◌, ◌≢◌, ◌++◌, ◌∷◌, [], false, is_some, string_bytes, IfOk, IfErr, OnOk, OnErr, Err};
 ghost use Rattle.std.specs.Io.KnownBytes.{Appends};
 ghost use Rattle.jtape.specs.Output.{stream_output};
-ghost use Rattle.jtape.specs.Pieces.{answer_text, is_blank, is_clean, piece_text};
+ghost use Rattle.jtape.specs.Pieces.{all_clean, answer_text, is_blank, is_clean, piece_text, pieces, pieces_text};
 ghost use Rattle.jtape.specs.Runs.{lacks_memory};
-ghost use Rattle.jtape.specs.Streams.{StopsAt, StopsWithin};
-ghost use Rattle.jtape.specs.declared.run.RunFault.TheVariants as faults;
+ghost use Rattle.jtape.specs.Streams.{HasPut, StopsWithin};
 ghost use Rattle.simd_json_parts.specs.Bytes.{line_feed};
 ghost use Rattle.simd_json_parts.specs.declared.error.ErrorType.TheVariants as errors;
-ghost use Rattle.simd_json_print.specs.Prefix.{IsPrefix};
-ghost use Rattle.simd_json_print.specs.Sent.{IsSent};
+ghost use Rattle.simd_json_print.specs.Texts.{Adds};
 
+use crate::output::PIECE;
 use crate::port::Port;
-use crate::run::RunFault;
+use crate::runs::RunFault;
 use memchr::memchr;
 use simd_json::{Buffers, Error, ErrorType, Tape, fill_tape};
-use simd_json_print::document::append_compact;
+use simd_json_print::document::put_compact;
+use simd_json_print::text::{Target, Text};
 use std::alloc::{AllocError, Allocator};
 use std::io::Write;
 
-// The writer is called once there are so many bytes of text.
-const GATHERED: usize = 65_536;
-
 // Writes the text of each piece, in the input's order, and returns whether each is clean: blank, or a
-// document.
+// document. Where an allocation fails, the texts of all earlier pieces are written first.
 pub(crate) fn write_stream<A: Allocator + Copy, W: Write>(
     a: A,
     depth: usize,
@@ -39,87 +36,77 @@ pub(crate) fn write_stream<A: Allocator + Copy, W: Write>(
     ensures fault { IfErr result (λ fault. StopsWithin fault writer.new.failed
         (W.contents writer.old.inner) (W.contents writer.new.inner) depth input.old) }
 {
+    let mut text = Text::<Port<W>, PIECE>::new(writer);
+    let put = put_stream(a, depth, input, &mut text);
+    match text.finish() {
+        Ok(()) => put,
+        Err(_) => Err(RunFault::Write),
+    }
+}
+
+// Puts the text of each piece, and returns whether each is clean, which is left open where the target fails:
+// that ends it at once. Where an allocation fails, nothing is put of that piece and of later ones.
+fn put_stream<A: Allocator + Copy, T: Target, const SIZE: usize>(
+    a: A,
+    depth: usize,
+    input: &mut [u8],
+    text: &mut Text<'_, T, SIZE>,
+) -> Result<bool, RunFault>
+    ensures clean { IfOk result (λ clean. is_some text.new.fault ≡ false
+        → clean ≡ all_clean depth (pieces input.old)) }
+    ensures put { OnOk result (Adds T.place text.old text.new (pieces_text depth (pieces input.old))) }
+    ensures fault { IfErr result (λ fault. fault ≡ lacks_memory) }
+    ensures stopped { OnErr result (HasPut T.place text.old text.new depth input.old) }
+{
     let mut stream = Stream::new(a, depth)?;
     let mut all_clean = true;
     let mut rest = input;
     while let Some(end) = memchr(b'\n', rest) {
         let (piece, after) = rest.split_at_mut(end);
         let (_, more) = after.split_at_mut(1);
-        all_clean &= stream.add(piece, writer)?;
+        all_clean &= stream.put(piece, text)?;
+        if text.has_failed() {
+            return Ok(false);
+        }
         rest = more;
     }
-    all_clean &= stream.add(rest, writer)?;
-    stream.write_out(writer)?;
+    all_clean &= stream.put(rest, text)?;
     Ok(all_clean)
 }
 
-// What all pieces use one after another, and the text of some of them that is not yet written.
+// What all pieces use one after another.
 #[derive(Drop)]
 struct Stream<'de, A: Allocator> {
     buffers: Buffers<A>,
     tape: Tape<'de, A>,
     fault: String<A>,
-    text: Vec<u8, A>,
 }
 
 impl<'de, A: Allocator + Copy> Stream<'de, A> {
-    // Nothing of it holds text.
     fn new(a: A, depth: usize) -> Result<Stream<'de, A>, RunFault>
-        ensures made { IfOk result (λ stream. (stream.text.items ≡ []) × (stream.buffers.limit ≡ depth)) }
+        ensures made { IfOk result (λ stream. stream.buffers.limit ≡ depth) }
         ensures fault { IfErr result (λ fault. fault ≡ lacks_memory) }
     {
         Ok(Stream {
             buffers: Buffers::with_max_depth(a, 0, depth)?,
             tape: Tape::null(a)?,
             fault: String::new(a),
-            text: Vec::new(a),
         })
     }
 }
 
 impl<'de, A: Allocator> Stream<'de, A> {
-    // Adds the text of one piece, and writes what there is of texts where that is much. Returns whether the
-    // piece is clean. Where an allocation fails, the texts of earlier pieces are written, and nothing of this
-    // one's.
-    fn add<W: Write>(
+    // Puts the text of one piece, and returns whether the piece is clean. Where an allocation fails, nothing
+    // of it is put.
+    fn put<T: Target, const SIZE: usize>(
         &mut self,
         piece: &'de mut [u8],
-        writer: &mut Port<W>,
-    ) -> Result<bool, RunFault>
-        requires { writer.old.failed ≡ false }
+        text: &mut Text<'_, T, SIZE>,
+    ) -> Result<bool, AllocError>
         ensures clean { IfOk result (λ clean. clean ≡ is_clean self.old.buffers.limit piece.old) }
-        ensures sent { OnOk result ((writer.new.failed ≡ false)
-            × IsSent (W.contents writer.old.inner) self.old.text.items
-            (W.contents writer.new.inner) self.new.text.items
+        ensures put { OnOk result (Adds T.place text.old text.new
             (piece_text self.old.buffers.limit piece.old)) }
-        ensures limit { self.new.buffers.limit ≡ self.old.buffers.limit }
-        ensures fault { IfErr result (λ fault. StopsAt fault writer.new.failed
-            (W.contents writer.old.inner) (W.contents writer.new.inner) self.old.text.items
-            (piece_text self.old.buffers.limit piece.old)) }
-    {
-        let before = self.text.len();
-        match self.append(piece) {
-            Ok(clean) => {
-                if self.text.len() >= GATHERED {
-                    self.write_out(writer)?;
-                }
-                Ok(clean)
-            }
-            Err(e) => {
-                self.text.truncate(before);
-                self.write_out(writer)?;
-                Err(RunFault::from(e))
-            }
-        }
-    }
-
-    // Appends the text of one piece, and returns whether the piece is clean. Where an allocation fails, a
-    // part of the text may stand there.
-    fn append(&mut self, piece: &'de mut [u8]) -> Result<bool, AllocError>
-        ensures clean { IfOk result (λ clean. clean ≡ is_clean self.old.buffers.limit piece.old) }
-        ensures appended { OnOk result (self.new.text.items
-            ≡ self.old.text.items ++ piece_text self.old.buffers.limit piece.old) }
-        ensures kept { IsPrefix self.old.text.items self.new.text.items }
+        ensures none { OnErr result (Adds T.place text.old text.new []) }
         ensures limit { self.new.buffers.limit ≡ self.old.buffers.limit }
     {
         if is_blank(piece) {
@@ -127,47 +114,30 @@ impl<'de, A: Allocator> Stream<'de, A> {
         }
         match fill_tape(piece, &mut self.buffers, &mut self.tape) {
             Ok(()) => {
-                append_compact(&mut self.text, self.tape.nodes())?;
-                self.text.push(b'\n')?;
+                put_compact(text, self.tape.nodes());
+                text.put(b"\n");
                 Ok(true)
             }
             Err(e) => {
-                self.append_fault(&e)?;
+                self.tell(&e)?;
+                text.put(self.fault.as_bytes());
                 Ok(false)
             }
         }
     }
 
-    // Appends the line of a fault. Want of memory has none: it is passed on.
-    fn append_fault(&mut self, e: &Error) -> Result<(), AllocError>
-        ensures appended { OnOk result (self.new.text.items
-            ≡ self.old.text.items ++ (answer_text (Err e.now) ++ line_feed ∷ [])) }
+    // Makes the line of a fault, before anything of it is put. Want of memory has none: it is passed on.
+    fn tell(&mut self, e: &Error) -> Result<(), AllocError>
+        ensures line { OnOk result (string_bytes self.new.fault
+            ≡ answer_text (Err e.now) ++ line_feed ∷ []) }
         ensures told { OnOk result (e.now.error ≢ errors.OutOfMemory) }
-        ensures kept { IsPrefix self.old.text.items self.new.text.items }
         ensures limit { self.new.buffers.limit ≡ self.old.buffers.limit }
     {
         if *e.error() == ErrorType::OutOfMemory {
             return Err(AllocError);
         }
         self.fault.clear();
-        writeln!(self.fault, "! {e}")?;
-        self.text.extend_from_slice(self.fault.as_bytes())
-    }
-
-    // Writes the texts that are not yet written.
-    fn write_out<W: Write>(&mut self, writer: &mut Port<W>) -> Result<(), RunFault>
-        requires { writer.old.failed ≡ false }
-        ensures all { OnOk result ((writer.new.failed ≡ false) × (self.new.text.items ≡ [])
-            × Appends (W.contents writer.old.inner) (W.contents writer.new.inner) self.old.text.items) }
-        ensures fault { IfErr result (λ fault. (fault ≡ faults.Write) × (writer.new.failed ≡ true)) }
-        ensures begun { OnErr result ((count : ℕ)
-            × Appends (W.contents writer.old.inner) (W.contents writer.new.inner)
-            (take count self.old.text.items)) }
-        ensures limit { self.new.buffers.limit ≡ self.old.buffers.limit }
-    {
-        write_all(writer, self.text.as_slice())?;
-        self.text.clear();
-        Ok(())
+        writeln!(self.fault, "! {e}")
     }
 }
 
@@ -178,23 +148,4 @@ fn is_blank(piece: &[u8]) -> bool
     piece
         .iter()
         .all(|byte| matches!(*byte, b' ' | b'\t' | b'\n' | b'\r'))
-}
-
-// Writes all of the bytes, or a beginning of them where the writer fails.
-fn write_all<W: Write>(writer: &mut Port<W>, bytes: &[u8]) -> Result<(), RunFault>
-    requires { writer.old.failed ≡ false }
-    ensures all { OnOk result ((writer.new.failed ≡ false)
-        × Appends (W.contents writer.old.inner) (W.contents writer.new.inner) bytes.now) }
-    ensures fault { IfErr result (λ fault. (fault ≡ faults.Write) × (writer.new.failed ≡ true)) }
-    ensures begun { OnErr result ((count : ℕ)
-        × Appends (W.contents writer.old.inner) (W.contents writer.new.inner) (take count bytes.now)) }
-{
-    let mut done = 0;
-    while done < bytes.len() {
-        match writer.write(&bytes[done..]) {
-            Ok(n) if n > 0 => done += n,
-            _ => return Err(RunFault::Write),
-        }
-    }
-    Ok(())
 }

@@ -1,9 +1,7 @@
 pub mod FlatMaps
-pub mod Prefixes
-pub mod Places
-pub mod Sent
+pub mod Texts
 pub mod Walk
-pub mod Turns
+pub mod Nestings
 pub mod Layouts
 pub mod Lines
 pub mod Runs

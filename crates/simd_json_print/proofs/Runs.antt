@@ -5,8 +5,9 @@ use Rattle.simd_json_parts.specs.Bytes.{is_control}
 use Rattle.simd_json_parts.specs.StringContent.{is_stop}
 use Rattle.std.proofs.lemmas.List.Concat.{flat_map-append}
 use Rattle.simd_json_parts.specs.Printed.{escaped_byte}
-use Rattle.simd_json_print.specs.Places.{Place, Gives}
-use Rattle.simd_json_print.proofs.Places.{gives-then}
+use Rattle.simd_json_print.specs.Texts.{Place, Adds}
+use Rattle.simd_json_print.specs.declared.text.Text.{Text}
+use Rattle.simd_json_print.proofs.Texts.{adds-then}
 
 -- ---- bytes that are printed as they are
 
@@ -35,11 +36,11 @@ one-run done bytes (x ∷ xs) whole k default so_far back some =
     append_assoc done (flat_map escaped_byte (take k bytes) ++ escaped_byte x) (flat_map escaped_byte xs)
     ∙ ap (λ us. done ++ us) (append_assoc (flat_map escaped_byte (take k bytes)) (escaped_byte x) (flat_map escaped_byte xs) ∙ sym (split-run bytes (x ∷ xs) k back)) ∙ so_far
 
-pub given-run : (a b c d : Place) (done bytes others after whole : List ℕ) (k default : ℕ) → Gives a b done → done ++ flat_map escaped_byte bytes ≡ whole → Gives b c (flat_map escaped_byte (take k bytes))
-    → Gives c d (escaped_byte (get_or others 0 default)) → others ≡ drop k bytes → 0 < length others → after ≡ drop 1 others
-    → (more : List ℕ) × Gives a d more × (more ++ flat_map escaped_byte after ≡ whole)
-given-run a b c d done bytes others after whole k default g so_far h e back some next = (
+pub given-run : {T : Type 0} {size : ℕ} (place : T → Place) (a b c d : Text T size) (done bytes others after whole : List ℕ) (k default : ℕ) → Adds place a b done → done ++ flat_map escaped_byte bytes ≡ whole → Adds place b c (flat_map escaped_byte (take k bytes))
+    → Adds place c d (escaped_byte (get_or others 0 default)) → others ≡ drop k bytes → 0 < length others → after ≡ drop 1 others
+    → (more : List ℕ) × Adds place a d more × (more ++ flat_map escaped_byte after ≡ whole)
+given-run place a b c d done bytes others after whole k default g so_far h e back some next = (
   done ++ (flat_map escaped_byte (take k bytes) ++ escaped_byte (get_or others 0 default)),
-  gives-then a b d done _ g (gives-then b c d (flat_map escaped_byte (take k bytes)) _ h e),
+  adds-then place a b d done _ g (adds-then place b c d (flat_map escaped_byte (take k bytes)) _ h e),
   ap (λ us. (done ++ (flat_map escaped_byte (take k bytes) ++ escaped_byte (get_or others 0 default))) ++ flat_map escaped_byte us) next ∙ one-run done bytes others whole k default so_far back some,
 )

@@ -25,13 +25,13 @@ static_text (fixed.U64 n) = decimal_digits n
 static_text (fixed.I128 z) = signed_decimal z
 static_text (fixed.U128 n) = decimal_digits n
 
--- of a scalar; a container is none, and has no text here
-abbrev pub scalar_text : Item → List ℕ
-scalar_text (static_item s) = static_text s
-scalar_text (decimal_item literal) = literal
-scalar_text (string_item t) = quoted t
-scalar_text (array_item len count) = []
-scalar_text (object_item len count) = []
+-- of a scalar, or of a container with nothing in it
+abbrev pub leaf_text : Item → List ℕ
+leaf_text (static_item s) = static_text s
+leaf_text (decimal_item literal) = literal
+leaf_text (string_item t) = quoted t
+leaf_text (array_item len count) = codes "[]"
+leaf_text (object_item len count) = codes "{}"
 
 -- a member's name, and what stands between it and the value
 -- with n containers open around it

@@ -1,5 +1,5 @@
 pub mod Prefix
-pub mod Sent
-pub mod Places
+pub mod Texts
 pub mod Layout
+pub mod Frames
 pub mod Unescaped

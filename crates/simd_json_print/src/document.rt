@@ -1,12 +1,12 @@
-//! The printed text of a document, from its nodes: compact, or pretty with a line for each member. Each
-//! container that is open while it prints takes up to 80 bytes of the machine's stack.
+//! The printed text of a document, from its nodes: compact, or pretty with a line for each member. 64 containers
+//! that are open while it prints take 664 bytes of the machine's stack.
 ghost use Rattle.std.specs.Prelude.{◌≡◌, ◌++◌, ℕ, map, take, OnOk, OnErr};
 ghost use Rattle.std.specs.Io.KnownBytes.{Appends};
 ghost use Rattle.simd_json_parts.specs.Document.{Document};
 ghost use Rattle.simd_json_parts.specs.Listing.{listing};
 ghost use Rattle.simd_json_parts.specs.Nodes.{item_of};
-ghost use Rattle.simd_json_parts.specs.Printed.{compact, pretty};
-ghost use Rattle.simd_json_print.specs.Places.{Gives, Grows, IsLonger};
+ghost use Rattle.simd_json_parts.specs.Printed.{compact, pretty, quoted};
+ghost use Rattle.simd_json_print.specs.Texts.{Adds, AddsSome, IsLonger};
 ghost use Rattle.simd_json_print.specs.Prefix.{IsPrefix};
 
 mod scalar;
@@ -15,8 +15,7 @@ mod tests;
 mod walk;
 
 use crate::document::walk::put_value;
-use crate::place::Sink;
-use crate::place::writer::Writing;
+use crate::text::{Target, Text};
 use simd_json_parts::node::Node;
 use std::alloc::{AllocError, Allocator};
 use std::io;
@@ -26,22 +25,22 @@ use std::io::Write;
 // document pays for.
 const PIECE: usize = 4096;
 
-/// Gives a place the compact text of the document that the nodes list.
-pub fn put_compact<P, S: Sink<P>>(sink: &mut S, target: &mut P, nodes: &[Node<'_>])
-    ensures kept { Grows (S.place sink.old target.old) (S.place sink.new target.new) }
+/// Puts the compact text of the document that the nodes list.
+pub fn put_compact<T: Target, const SIZE: usize>(out: &mut Text<'_, T, SIZE>, nodes: &[Node<'_>])
+    ensures kept { AddsSome T.place out.old out.new }
     ensures given { (d : Document) → map item_of nodes.now ≡ listing d
-        → Gives (S.place sink.old target.old) (S.place sink.new target.new) (compact d) }
+        → Adds T.place out.old out.new (compact d) }
 {
-    put_value::<_, _, false>(sink, target, nodes, 0);
+    put_value::<T, SIZE, false>(out, nodes, 0);
 }
 
-/// Gives a place the pretty text of the document that the nodes list.
-pub fn put_pretty<P, S: Sink<P>>(sink: &mut S, target: &mut P, nodes: &[Node<'_>])
-    ensures kept { Grows (S.place sink.old target.old) (S.place sink.new target.new) }
+/// Puts the pretty text of the document that the nodes list.
+pub fn put_pretty<T: Target, const SIZE: usize>(out: &mut Text<'_, T, SIZE>, nodes: &[Node<'_>])
+    ensures kept { AddsSome T.place out.old out.new }
     ensures given { (d : Document) → map item_of nodes.now ≡ listing d
-        → Gives (S.place sink.old target.old) (S.place sink.new target.new) (pretty d) }
+        → Adds T.place out.old out.new (pretty d) }
 {
-    put_value::<_, _, true>(sink, target, nodes, 0);
+    put_value::<T, SIZE, true>(out, nodes, 0);
 }
 
 /// Appends the compact text of the document that the nodes list.
@@ -87,9 +86,9 @@ pub fn write_compact<W: Write>(writer: &mut W, nodes: &[Node<'_>]) -> io::Result
         × Appends (W.contents writer.old) (W.contents writer.new) (take count (compact d))) }
     ensures kept { IsLonger (W.contents writer.old) (W.contents writer.new) }
 {
-    let mut sink = Writing::<PIECE>::new();
-    put_compact(&mut sink, writer, nodes);
-    sink.finish(writer)
+    let mut out = Text::<W, PIECE>::new(writer);
+    put_compact(&mut out, nodes);
+    out.finish()
 }
 
 /// Writes the pretty text of the document that the nodes list.
@@ -105,7 +104,37 @@ pub fn write_pretty<W: Write>(writer: &mut W, nodes: &[Node<'_>]) -> io::Result<
         × Appends (W.contents writer.old) (W.contents writer.new) (take count (pretty d))) }
     ensures kept { IsLonger (W.contents writer.old) (W.contents writer.new) }
 {
-    let mut sink = Writing::<PIECE>::new();
-    put_pretty(&mut sink, writer, nodes);
-    sink.finish(writer)
+    let mut out = Text::<W, PIECE>::new(writer);
+    put_pretty(&mut out, nodes);
+    out.finish()
+}
+
+/// Appends a string as it is printed (RFC 8259, section 7): between quotes, with a quote, a backslash and what is
+/// below 0x20 escaped.
+///
+/// Fails where an allocation fails. What `out` held is then still in front, and a part of the string may
+/// stand after it.
+pub fn append_quoted<A: Allocator>(
+    out: &mut Vec<u8, A>,
+    string: &str,
+) -> std::result::Result<(), AllocError>
+    ensures appended { OnOk result (out.new.items ≡ out.old.items ++ quoted string.now) }
+    ensures kept { IsPrefix out.old.items out.new.items }
+{
+    write_quoted(out, string).map_err(|_| AllocError)
+}
+
+/// Writes a string as [`append_quoted`] appends it.
+///
+/// Fails as [`write_compact`] does, and leaves what that leaves.
+pub fn write_quoted<W: Write>(writer: &mut W, string: &str) -> io::Result<()>
+    ensures written { OnOk result
+        (Appends (W.contents writer.old) (W.contents writer.new) (quoted string.now)) }
+    ensures begun { OnErr result ((count : ℕ)
+        × Appends (W.contents writer.old) (W.contents writer.new) (take count (quoted string.now))) }
+    ensures kept { IsLonger (W.contents writer.old) (W.contents writer.new) }
+{
+    let mut out = Text::<W, 256>::new(writer);
+    out.put_string(b"\"", string, b"\"");
+    out.finish()
 }

@@ -147,3 +147,79 @@ fn deep_lines_begin_with_their_spaces(rt: HostRuntime) -> std::result::Result<()
     }
     Ok(())
 }
+
+#[test]
+fn strings_are_escaped(rt: HostRuntime) -> std::result::Result<(), Fail> {
+    let rows: [(&str, &[u8]); 4] = [
+        ("", b"\"\""),
+        (
+            "\"\\/\u{8}\u{c}\n\r\t\u{1}\u{7f}",
+            b"\"\\\"\\\\/\\b\\f\\n\\r\\t\\u0001\x7f\"",
+        ),
+        (
+            "\u{0}\u{1f}\u{e9}\u{1f600}",
+            b"\"\\u0000\\u001f\xc3\xa9\xf0\x9f\x98\x80\"",
+        ),
+        (
+            "sixteen bytes and a few, then\na line feed, and \"quotes\"",
+            b"\"sixteen bytes and a few, then\\na line feed, and \\\"quotes\\\"\"",
+        ),
+    ];
+    for (string, wanted) in rows.iter() {
+        let mut out = Vec::new(rt.alloc());
+        append_quoted(&mut out, string)?;
+        assert_eq!(rt; out.as_slice(), *wanted);
+    }
+    Ok(())
+}
+
+// A line feed at each place of strings of each length up to 100, and at none.
+#[test]
+fn escapes_are_found_wherever_they_stand(rt: HostRuntime) -> std::result::Result<(), Fail> {
+    for len in 0..100usize {
+        for at in 0..=len {
+            let mut string = String::new(rt.alloc());
+            let mut wanted = Vec::from_slice(rt.alloc(), b"\"")?;
+            for i in 0..len {
+                string.push(if i == at { '\n' } else { 'a' })?;
+                wanted.extend_from_slice(if i == at { b"\\n" } else { b"a" })?;
+            }
+            wanted.push(b'"')?;
+            let mut out = Vec::new(rt.alloc());
+            append_quoted(&mut out, &string)?;
+            assert_eq!(rt; out.as_slice(), wanted.as_slice());
+        }
+    }
+    Ok(())
+}
+
+// Far more containers than a call keeps open, of both kinds in turn: `[{"":[{"":..`.
+#[test]
+fn deep_values_take_little_of_the_stack(rt: HostRuntime) -> std::result::Result<(), Fail> {
+    for pairs in [31, 32, 33, 100, 250_000usize] {
+        let mut nodes = Vec::new(rt.alloc());
+        for open in 0..pairs {
+            let count = 3 * (pairs - open);
+            nodes.push(Node::Array { len: 1, count })?;
+            let len = 1;
+            nodes.push(Node::Object {
+                len,
+                count: count - 1,
+            })?;
+            nodes.push(Node::String(""))?;
+        }
+        nodes.push(Node::Static(StaticNode::Null))?;
+        let mut compact = Vec::new(rt.alloc());
+        append_compact(&mut compact, nodes.as_slice())?;
+        let mut wanted = Vec::new(rt.alloc());
+        for _ in 0..pairs {
+            wanted.extend_from_slice(b"[{\"\":")?;
+        }
+        wanted.extend_from_slice(b"null")?;
+        for _ in 0..pairs {
+            wanted.extend_from_slice(b"}]")?;
+        }
+        assert!(rt; compact.as_slice() == wanted.as_slice(), "{pairs} pairs");
+    }
+    Ok(())
+}

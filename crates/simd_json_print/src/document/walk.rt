@@ -1,165 +1,155 @@
 //! The one walk over the nodes of a document that prints it.
-ghost use Rattle.std.specs.Prelude.{◌≡◌, ◌+◌, ◌<◌, ◌≤◌, ◌^◌, ◌++◌, ◌∷◌, ℕ, List};
-ghost use Rattle.std.specs.Prelude.{cond, drop, length, map, take, IsFalse};
-ghost use Rattle.simd_json_parts.specs.Bytes.{left_bracket, comma};
-ghost use Rattle.simd_json_parts.specs.Document.{Document, Elements, array, Members, object};
-ghost use Rattle.simd_json_parts.specs.Listing.{listing, elements_listing, members_listing};
-ghost use Rattle.simd_json_parts.specs.Nodes.{Item, count_of, item_of};
-ghost use Rattle.simd_json_parts.specs.declared.node.Node.TheVariants as kinds;
+ghost use Rattle.std.specs.Prelude.{◌≡◌, ◌+◌, ◌-◌, ◌*◌, ◌<◌, ◌≤◌, ◌^◌, ◌++◌, ◌∷◌, [], ℕ, List};
+ghost use Rattle.std.specs.Prelude.{true, false, cond, drop, get_or, length, map, set, take};
+ghost use Rattle.simd_json_parts.specs.Bytes.{right_brace, right_bracket};
+ghost use Rattle.simd_json_parts.specs.Document.{Document};
+ghost use Rattle.simd_json_parts.specs.Listing.{listing};
+ghost use Rattle.simd_json_parts.specs.Nodes.{count_of, item_of};
+ghost use Rattle.simd_json_print.specs.Frames.{Frame, IsAtValue, IsBetween, frame_listing, frame_text};
+ghost use Rattle.simd_json_print.specs.Frames.{has_members, is_object_item};
 ghost use Rattle.simd_json_print.specs.Layout.{line, text};
-ghost use Rattle.simd_json_print.specs.Places.{Gives, Grows};
+ghost use Rattle.simd_json_print.specs.Texts.{Adds, AddsSome};
 
-use crate::document::scalar::{
-    element_front, put_line, put_name, put_scalar, put_scalar_element, put_string,
-};
-use crate::place::Sink;
+use crate::document::scalar::{put_element, put_front, put_leaf, put_line, put_name};
+use crate::text::{Target, Text};
 use simd_json_parts::node::Node;
 
+// How many containers one call keeps open. What is nested deeper is printed by another call, so that a container
+// takes about ten bytes of the machine's stack, and no memory.
+const OPEN: usize = 64;
+
+// The containers that one call has open, the outermost first.
+#[derive(Drop)]
+struct Nesting {
+    // How many nodes are left when each ends.
+    ends: [usize; OPEN],
+    are_objects: [bool; OPEN],
+    count: usize,
+}
+
+impl Nesting {
+    // One container, which ends with the nodes.
+    #[inline(always)]
+    fn new(is_object: bool) -> Nesting
+        ensures end { get_or result.ends 0 0 ≡ 0 }
+        ensures kind { get_or result.are_objects 0 false ≡ is_object }
+        ensures one { result.count ≡ 1 }
+    {
+        let mut are_objects = [false; OPEN];
+        are_objects[0] = is_object;
+        Nesting {
+            ends: [0; OPEN],
+            are_objects,
+            count: 1,
+        }
+    }
+
+    // Whether the innermost is an object.
+    #[inline(always)]
+    fn is_object(&self) -> bool
+        requires { (0 < self.now.count) × (self.now.count ≤ 64) }
+        ensures { result ≡ get_or self.now.are_objects (self.now.count - 1) false }
+    {
+        self.are_objects[self.count - 1]
+    }
+
+    // How many nodes are left when the innermost ends.
+    #[inline(always)]
+    fn end(&self) -> usize
+        requires { (0 < self.now.count) × (self.now.count ≤ 64) }
+        ensures { result ≡ get_or self.now.ends (self.now.count - 1) 0 }
+    {
+        self.ends[self.count - 1]
+    }
+
+    // One more, within the innermost.
+    #[inline(always)]
+    fn push(&mut self, is_object: bool, end: usize)
+        requires { self.old.count < 64 }
+        ensures ends { self.new.ends ≡ set self.old.ends self.old.count end }
+        ensures kinds { self.new.are_objects ≡ set self.old.are_objects self.old.count is_object }
+        ensures count { self.new.count ≡ self.old.count + 1 }
+    {
+        self.ends[self.count] = end;
+        self.are_objects[self.count] = is_object;
+        self.count += 1;
+    }
+}
+
 /// Puts the value that the nodes are, with `depth` containers open around it.
-#[inline(always)]
 #[cycle(value)]
-pub(crate) fn put_value<P, S: Sink<P>, const PRETTY: bool>(
-    sink: &mut S,
-    target: &mut P,
+pub(crate) fn put_value<T: Target, const SIZE: usize, const PRETTY: bool>(
+    out: &mut Text<'_, T, SIZE>,
     nodes: &[Node<'_>],
     depth: usize,
 )
     requires { depth + length nodes.now < 2 ^ 64 }
-    ensures kept { Grows (S.place sink.old target.old) (S.place sink.new target.new) }
+    ensures kept { AddsSome T.place out.old out.new }
     ensures given { (d : Document) → map item_of nodes.now ≡ listing d
-        → Gives (S.place sink.old target.old) (S.place sink.new target.new) (text PRETTY d depth) }
+        → Adds T.place out.old out.new (text PRETTY d depth) }
 {
     if nodes.is_empty() {
         return;
     }
-    if let Node::String(string) = nodes[0] {
-        put_string(sink, target, string);
-    } else if let Node::Array { .. } = nodes[0] {
-        put_array::<P, S, PRETTY>(sink, target, nodes.split_at(1).1, depth);
-    } else if let Node::Object { .. } = nodes[0] {
-        put_object::<P, S, PRETTY>(sink, target, nodes.split_at(1).1, depth);
+    let (first, beneath) = nodes.split_at(1);
+    if beneath.is_empty() {
+        put_leaf(out, &first[0]);
     } else {
-        put_scalar(sink, target, &nodes[0]);
+        put_container::<T, SIZE, PRETTY>(out, is_object(&first[0]), beneath, depth);
     }
 }
 
-// An array, from the nodes beneath its header.
+// A container that is not empty, from the nodes beneath its header.
 #[cycle(value)]
-fn put_array<P, S: Sink<P>, const PRETTY: bool>(
-    sink: &mut S,
-    target: &mut P,
-    nodes: &[Node<'_>],
-    depth: usize,
-)
-    requires { depth + length nodes.now + 1 < 2 ^ 64 }
-    ensures kept { Grows (S.place sink.old target.old) (S.place sink.new target.new) }
-    ensures given { (ds : Elements) → map item_of nodes.now ≡ elements_listing ds
-        → Gives (S.place sink.old target.old) (S.place sink.new target.new) (text PRETTY (array ds) depth) }
-{
-    if nodes.is_empty() {
-        return sink.put(target, b"[]");
-    }
-    let mut left = Unprinted { nodes };
-    let mut is_first = true;
-    while !left.nodes.is_empty() {
-        if sink.has_stopped(target) {
-            return;
-        }
-        let (first, after) = left.split_node();
-        if !PRETTY && !is_header(&first[0]) {
-            put_scalar_element(sink, target, is_first, &first[0]);
-            left = after;
-        } else {
-            let (element, others) = left.split_value();
-            put_element::<P, S, PRETTY>(sink, target, is_first, element, depth + 1);
-            left = others;
-        }
-        is_first = false;
-    }
-    put_line::<P, S, PRETTY>(sink, target, depth);
-    sink.put(target, b"]");
-}
-
-// An element, what stands before it, and its line in pretty text.
-#[inline(always)]
-#[cycle(value)]
-fn put_element<P, S: Sink<P>, const PRETTY: bool>(
-    sink: &mut S,
-    target: &mut P,
-    is_first: bool,
+fn put_container<T: Target, const SIZE: usize, const PRETTY: bool>(
+    out: &mut Text<'_, T, SIZE>,
+    is_object: bool,
     nodes: &[Node<'_>],
     depth: usize,
 )
     requires some { 0 < length nodes.now }
-    requires room { depth + length nodes.now < 2 ^ 64 }
-    ensures kept { Grows (S.place sink.old target.old) (S.place sink.new target.new) }
-    ensures given { (d : Document) → map item_of nodes.now ≡ listing d
-        → Gives (S.place sink.old target.old) (S.place sink.new target.new)
-        (cond is_first left_bracket comma ∷ (line PRETTY depth ++ text PRETTY d depth)) }
+    requires room { depth + length nodes.now + 1 < 2 ^ 64 }
+    ensures kept { AddsSome T.place out.old out.new }
+    ensures given { (f : Frame) → has_members f ≡ is_object → map item_of nodes.now ≡ frame_listing f
+        → Adds T.place out.old out.new (frame_text PRETTY depth true f) }
 {
-    let front = element_front(is_first);
-    sink.put(target, &front[..1]);
-    put_line::<P, S, PRETTY>(sink, target, depth);
-    put_value::<P, S, PRETTY>(sink, target, nodes, depth);
-}
-
-// An object, from the nodes beneath its header.
-#[cycle(value)]
-fn put_object<P, S: Sink<P>, const PRETTY: bool>(
-    sink: &mut S,
-    target: &mut P,
-    nodes: &[Node<'_>],
-    depth: usize,
-)
-    requires { depth + length nodes.now + 1 < 2 ^ 64 }
-    ensures kept { Grows (S.place sink.old target.old) (S.place sink.new target.new) }
-    ensures given { (ms : Members) → map item_of nodes.now ≡ members_listing ms
-        → Gives (S.place sink.old target.old) (S.place sink.new target.new) (text PRETTY (object ms) depth) }
-{
-    if nodes.is_empty() {
-        return sink.put(target, b"{}");
-    }
+    let mut nesting = Nesting::new(is_object);
     let mut left = Unprinted { nodes };
     let mut is_first = true;
-    while !left.nodes.is_empty() {
-        if sink.has_stopped(target) {
+    while nesting.count > 0 {
+        if out.has_failed() {
             return;
         }
-        let (name, values) = left.split_name();
-        let (value, others) = values.split_value();
-        put_name::<P, S, PRETTY>(sink, target, is_first, depth + 1, name);
-        put_value::<P, S, PRETTY>(sink, target, value, depth + 1);
-        is_first = false;
+        let (others, is_still_first) = put_elements::<T, SIZE, PRETTY>(
+            out, &nesting, is_first, depth, left,
+        );
         left = others;
+        is_first = is_still_first;
+        if left.nodes.len() <= nesting.end() {
+            put_end::<T, SIZE, PRETTY>(out, &mut nesting, depth);
+            is_first = false;
+            continue;
+        }
+        let value = put_before::<T, SIZE, PRETTY>(out, &nesting, is_first, depth, left);
+        if value.nodes.is_empty() {
+            return;
+        }
+        let (rest, is_open) = put_next::<T, SIZE, PRETTY>(out, &mut nesting, depth, value);
+        left = rest;
+        is_first = is_open;
     }
-    put_line::<P, S, PRETTY>(sink, target, depth);
-    sink.put(target, b"}");
 }
 
-// The nodes of a container that are not printed yet. What a loop of the walk keeps is on the stack for each
-// open container, so it is these alone, and no index beside all of them.
+// The nodes that are not printed yet.
 #[derive(Clone, Copy)]
 struct Unprinted<'tape, 'input> {
     nodes: &'tape [Node<'input>],
 }
 
 impl<'tape, 'input> Unprinted<'tape, 'input> {
-    // The nodes of the first value, and what is left after it.
+    // The first node, and those after it.
     #[inline(always)]
-    fn split_value(self) -> (&'tape [Node<'input>], Unprinted<'tape, 'input>)
-        ensures some { 0 < length self.entry.nodes.now → 0 < length result.0.now }
-        ensures all { length result.0.now + length result.1.nodes.now ≡ length self.entry.nodes.now }
-        ensures whole { (d : Document) (rest : List Item)
-            → map item_of self.entry.nodes.now ≡ listing d ++ rest
-            → (map item_of result.0.now ≡ listing d) × (map item_of result.1.nodes.now ≡ rest) }
-    {
-        let (value, nodes) = self.nodes.split_at(size(self.nodes));
-        (value, Unprinted { nodes })
-    }
-
-    // The same where the value is one node, which no count need be read for.
-    #[inline(always)]
-    fn split_node(self) -> (&'tape [Node<'input>], Unprinted<'tape, 'input>)
+    fn split_first(self) -> (&'tape [Node<'input>], Unprinted<'tape, 'input>)
         requires { 0 < length self.nodes.now }
         ensures front { result.0.now ≡ take 1 self.entry.nodes.now }
         ensures back { result.1.nodes.now ≡ drop 1 self.entry.nodes.now }
@@ -167,49 +157,154 @@ impl<'tape, 'input> Unprinted<'tape, 'input> {
         let (node, nodes) = self.nodes.split_at(1);
         (node, Unprinted { nodes })
     }
-
-    // The first node, and what is left after it.
-    #[inline(always)]
-    fn split_name(self) -> (&'tape Node<'input>, Unprinted<'tape, 'input>)
-        requires { 0 < length self.nodes.now }
-        ensures all { 1 + length result.1.nodes.now ≡ length self.entry.nodes.now }
-        ensures whole { map item_of self.entry.nodes.now
-            ≡ item_of result.0.now ∷ map item_of result.1.nodes.now }
-    {
-        let (name, nodes) = self.nodes.split_at(1);
-        (&name[0], Unprinted { nodes })
-    }
 }
 
-// How many of the nodes are the first value, at most all.
-fn size(nodes: &[Node<'_>]) -> usize
-    ensures within { result ≤ length nodes.now }
-    ensures some { 0 < length nodes.now → 0 < result }
-    ensures whole { (d : Document) (rest : List Item) → map item_of nodes.now ≡ listing d ++ rest
-        → result ≡ length (listing d) }
-{
-    if nodes.is_empty() {
-        return 0;
-    }
-    beneath(nodes[0]).min(nodes.len() - 1) + 1
-}
-
-// Whether a container begins with the node.
+// The elements of an array that are leaves, up to its end or the first container. What is left, and whether
+// nothing of the array is printed.
 #[inline(always)]
-fn is_header(node: &Node<'_>) -> bool
-    ensures array { IsFalse result → (len count : ℕ) → node.now ≡ kinds.Array len count → ⊥ }
-    ensures object { IsFalse result → (len count : ℕ) → node.now ≡ kinds.Object len count → ⊥ }
+fn put_elements<'tape, 'input, T: Target, const SIZE: usize, const PRETTY: bool>(
+    out: &mut Text<'_, T, SIZE>,
+    nesting: &Nesting,
+    is_first: bool,
+    depth: usize,
+    nodes: Unprinted<'tape, 'input>,
+) -> (Unprinted<'tape, 'input>, bool)
+    requires nested { (0 < nesting.now.count) × (nesting.now.count ≤ 64) }
+    requires room { depth + nesting.now.count < 2 ^ 64 }
+    ensures within { length result.0.nodes.now ≤ length nodes.entry.nodes.now }
+    ensures kept { AddsSome T.place out.old out.new }
+    ensures given { (done whole : List ℕ)
+        → IsBetween PRETTY depth nesting.now is_first (map item_of nodes.entry.nodes.now) done whole
+        → (more : List ℕ) × Adds T.place out.old out.new more
+        × IsBetween PRETTY depth nesting.now result.1 (map item_of result.0.nodes.now) (done ++ more) whole }
 {
-    matches!(node, Node::Array { .. } | Node::Object { .. })
+    if nesting.is_object() {
+        return (nodes, is_first);
+    }
+    let end = nesting.end();
+    let mut left = nodes;
+    let mut is_still_first = is_first;
+    while left.nodes.len() > end {
+        let (first, after) = left.split_first();
+        if beneath(&first[0]) != 0 {
+            return (left, is_still_first);
+        }
+        put_element::<T, SIZE, PRETTY>(out, is_still_first, depth + nesting.count, &first[0]);
+        left = after;
+        is_still_first = false;
+    }
+    (left, is_still_first)
+}
+
+// What stands in front of a value: a bracket or a comma, its line in pretty text, and in an object its name. The
+// nodes from the value on.
+#[inline(always)]
+fn put_before<'tape, 'input, T: Target, const SIZE: usize, const PRETTY: bool>(
+    out: &mut Text<'_, T, SIZE>,
+    nesting: &Nesting,
+    is_first: bool,
+    depth: usize,
+    left: Unprinted<'tape, 'input>,
+) -> Unprinted<'tape, 'input>
+    requires some { 0 < length left.nodes.now }
+    requires nested { (0 < nesting.now.count) × (nesting.now.count ≤ 64) }
+    requires room { depth + nesting.now.count < 2 ^ 64 }
+    ensures within { length result.nodes.now ≤ length left.entry.nodes.now }
+    ensures kept { AddsSome T.place out.old out.new }
+    ensures given { (done whole : List ℕ) → get_or nesting.now.ends (nesting.now.count - 1) 0 < length left.entry.nodes.now
+        → IsBetween PRETTY depth nesting.now is_first (map item_of left.entry.nodes.now) done whole
+        → (more : List ℕ) × Adds T.place out.old out.new more
+        × IsAtValue PRETTY depth nesting.now (map item_of result.nodes.now) (done ++ more) whole }
+{
+    let is_object = nesting.is_object();
+    let (names, values) = left.nodes.split_at(is_object as usize);
+    if is_object {
+        put_name::<T, SIZE, PRETTY>(out, is_first, depth + nesting.count, &names[0]);
+        return Unprinted { nodes: values };
+    }
+    put_front::<T, SIZE, PRETTY>(out, is_first, depth + nesting.count);
+    Unprinted { nodes: values }
+}
+
+// The value, or what it begins with if it is a container. The nodes after it, and whether it is open now.
+#[inline(always)]
+#[cycle(value)]
+fn put_next<'tape, 'input, T: Target, const SIZE: usize, const PRETTY: bool>(
+    out: &mut Text<'_, T, SIZE>,
+    nesting: &mut Nesting,
+    depth: usize,
+    left: Unprinted<'tape, 'input>,
+) -> (Unprinted<'tape, 'input>, bool)
+    requires some { 0 < length left.nodes.now }
+    requires nested { (0 < nesting.old.count) × (nesting.old.count ≤ 64) }
+    requires room { depth + nesting.old.count + length left.nodes.now < 2 ^ 64 }
+    ensures shorter { length result.0.nodes.now < length left.entry.nodes.now }
+    ensures nested { (0 < nesting.new.count) × (nesting.new.count ≤ 64) }
+    ensures room { nesting.new.count + length result.0.nodes.now ≤ nesting.old.count + length left.entry.nodes.now }
+    ensures kept { AddsSome T.place out.old out.new }
+    ensures given { (done whole : List ℕ)
+        → IsAtValue PRETTY depth nesting.old (map item_of left.entry.nodes.now) done whole
+        → (more : List ℕ) × Adds T.place out.old out.new more
+        × IsBetween PRETTY depth nesting.new result.1 (map item_of result.0.nodes.now) (done ++ more) whole }
+{
+    let (first, rest) = left.nodes.split_at(1);
+    let count = beneath(&first[0]).min(rest.len());
+    if count == 0 {
+        put_leaf(out, &first[0]);
+        return (Unprinted { nodes: rest }, false);
+    }
+    if nesting.count < OPEN {
+        nesting.push(is_object(&first[0]), rest.len() - count);
+        return (Unprinted { nodes: rest }, true);
+    }
+    let (value, others) = left.nodes.split_at(count + 1);
+    put_value::<T, SIZE, PRETTY>(out, value, depth + nesting.count);
+    (Unprinted { nodes: others }, false)
+}
+
+// The end of the innermost container.
+#[inline(always)]
+fn put_end<T: Target, const SIZE: usize, const PRETTY: bool>(
+    out: &mut Text<'_, T, SIZE>,
+    nesting: &mut Nesting,
+    depth: usize,
+)
+    requires nested { (0 < nesting.old.count) × (nesting.old.count ≤ 64) }
+    requires room { depth + nesting.old.count < 2 ^ 64 }
+    ensures fewer { nesting.new.count ≡ nesting.old.count - 1 }
+    ensures ends { nesting.new.ends ≡ nesting.old.ends }
+    ensures kinds { nesting.new.are_objects ≡ nesting.old.are_objects }
+    ensures put { Adds T.place out.old out.new (line PRETTY (depth + nesting.new.count)
+        ++ cond (get_or nesting.old.are_objects nesting.new.count false) right_brace right_bracket ∷ []) }
+{
+    nesting.count -= 1;
+    put_line::<T, SIZE, PRETTY>(out, depth + nesting.count);
+    out.put(end_of(nesting.are_objects[nesting.count]));
+}
+
+#[inline(always)]
+fn end_of(is_object: bool) -> &'static [u8]
+    ensures { result.now ≡ cond is_object right_brace right_bracket ∷ [] }
+{
+    if is_object { b"}" } else { b"]" }
+}
+
+// Whether it is an object's header.
+#[inline(always)]
+fn is_object(node: &Node<'_>) -> bool
+    ensures { result ≡ is_object_item (item_of node.now) }
+{
+    matches!(node, Node::Object { .. })
 }
 
 // How many nodes a node says lie beneath it.
-fn beneath(node: Node<'_>) -> usize
-    ensures { result ≡ count_of (item_of node.entry) }
+#[inline(always)]
+fn beneath(node: &Node<'_>) -> usize
+    ensures { result ≡ count_of (item_of node.now) }
 {
-    if let Node::Array { count, .. } = node {
+    if let Node::Array { count, .. } = *node {
         count
-    } else if let Node::Object { count, .. } = node {
+    } else if let Node::Object { count, .. } = *node {
         count
     } else {
         0

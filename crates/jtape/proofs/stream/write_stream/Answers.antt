@@ -1,106 +1,35 @@
-use Rattle.std.proofs.Common.{◌∙◌, ap, inl, [], Ok}
-use Rattle.std.proofs.lemmas.Result.{err_from_is_err_and}
-use Rattle.jtape.specs.Pieces.{pieces}
-use Rattle.jtape.proofs.Pieces.{found-cut, not_found-last}
-use Rattle.jtape.proofs.Streams.{none-done, one-more, all-written, stops-before, stops-at, stops-after}
+use Rattle.std.proofs.Common.{rules, ap}
+use Rattle.std.specs.Prelude.{Some}
+use Rattle.simd_json_print.specs.Texts.{Place}
+use Rattle.jtape.specs.Pieces.{pieces, pieces_text}
+use Rattle.jtape.proofs.Streams.{stream-returned, stream-written, stream-stopped, stream-begun}
 use Rattle.jtape.proofs.stream.write_stream.Goals as goal
 
-pub returns-in_err-stream-clause-fault : goal.returns-in_err-stream-clause-fault
-returns-in_err-stream-clause-fault g c =
-    let p = err_from_is_err_and c.from_residual.result c.from_residual.ensures.1 in
-    rw (p.1, p.2) (inl (c.in_err-stream.ensures.fault, c.requires, stops-before c.args.depth c.args.input.now (g.W.Write.contents c.args.writer.now.inner)))
+pub returns-in-Ok-clause-returned : goal.returns-in-Ok-clause-returned
+returns-in-Ok-clause-returned g c =
+    let start : Place = record { held = g.W.Write.contents c.args.writer.now.inner; failed = Some c.args.writer.now.failed } in
+    let put = c.put_stream-put.ensures in
+    stream-returned c.finish.result {start = start} _ c.put_stream-put.result c.args.depth c.args.input.now
+    (search rules) (ap Some c.requires) c.new-text.ensures.empty put.put put.clean c.finish.ensures
 
-pub loop-end-init : goal.loop-end-init
-loop-end-init g c =
-    let made = c.in_ok-stream.ensures.made in
-    record {
-      limit = made.1;
-      sound = c.requires;
-      done = none-done c.args.depth c.args.input.now (g.W.Write.contents c.args.writer.now.inner) c.in_ok-stream.stream.text.items made.0;
-    }
+pub returns-in-Ok-clause-written : goal.returns-in-Ok-clause-written
+returns-in-Ok-clause-written g c =
+    let whole = pieces_text c.args.depth (pieces c.args.input.now) in
+    let put = c.put_stream-put.ensures in
+    let written = stream-written c.finish.result {old = c.args.writer.now.failed} _ _ c.put_stream-put.result whole
+    (search rules) c.requires c.new-text.ensures.empty put.put c.finish.ensures in
+    search rules
 
-pub returns-in_err-all_clean-clause-fault : goal.returns-in_err-all_clean-clause-fault
-returns-in_err-all_clean-clause-fault g c =
-    let p = err_from_is_err_and c.from_residual-in_err-all_clean.result c.from_residual-in_err-all_clean.ensures.1 in
-    let rest = c.loop-end.rest.now in
-    let piece = c.split_at_mut-piece.result.0.now in
-    let more = c.split_at_mut-more.result.1.now in
-    rw (p.1, p.2) (
-    stops-at c.in_err-all_clean.field-0.0 c.add.new.writer.failed c.loop-end.stream.buffers.limit c.args.depth c.args.input.now piece (pieces more) (pieces rest)
-    (g.W.Write.contents c.args.writer.now.inner) (g.W.Write.contents c.loop-end.writer.inner) (g.W.Write.contents c.add.new.writer.inner)
-    c.loop-end.stream.text.items c.loop-end.all_clean c.loop-end.invariant.limit
-    (found-cut rest piece c.split_at_mut-piece.result.1.now more c.in-Some.end c.in-Some.ensures c.split_at_mut-piece.ensures.front c.split_at_mut-piece.ensures.back c.split_at_mut-more.ensures.back)
-    c.loop-end.invariant.done c.in_err-all_clean.ensures.fault
-    )
+pub returns-in-Ok-clause-fault : goal.returns-in-Ok-clause-fault
+returns-in-Ok-clause-fault g c =
+    let put = c.put_stream-put.ensures in
+    let stopped = stream-stopped c.finish.result {old = c.args.writer.now.failed} _ _ c.put_stream-put.result c.args.depth c.args.input.now
+    (search rules) c.requires c.new-text.ensures.empty put.fault put.stopped c.finish.ensures in
+    search rules
 
-pub loop-end-preserved : goal.loop-end-preserved
-loop-end-preserved g c =
-    let rest = c.loop-end.rest.now in
-    let piece = c.split_at_mut-piece.result.0.now in
-    let more = c.split_at_mut-more.result.1.now in
-    let added = c.in_ok-all_clean.ensures in
-    record {
-      limit = added.limit ∙ c.loop-end.invariant.limit;
-      sound = added.sent.0;
-      done =
-          one-more c.loop-end.stream.buffers.limit c.args.depth c.args.input.now piece (pieces more) (pieces rest)
-          (g.W.Write.contents c.args.writer.now.inner) (g.W.Write.contents c.loop-end.writer.inner) (g.W.Write.contents c.add.new.writer.inner)
-          c.loop-end.stream.text.items c.add.new.self.text.items c.loop-end.all_clean c.in_ok-all_clean.field-0 c.loop-end.invariant.limit
-          (found-cut rest piece c.split_at_mut-piece.result.1.now more c.in-Some.end c.in-Some.ensures c.split_at_mut-piece.ensures.front c.split_at_mut-piece.ensures.back c.split_at_mut-more.ensures.back)
-          c.loop-end.invariant.done added.sent.1 added.clean;
-    }
-
-pub returns-in_err-all_clean-2-clause-fault : goal.returns-in_err-all_clean-2-clause-fault
-returns-in_err-all_clean-2-clause-fault g c =
-    let p = err_from_is_err_and c.from_residual-in_err-all_clean-2.result c.from_residual-in_err-all_clean-2.ensures.1 in
-    let rest = c.loop-end.rest.now in
-    rw (p.1, p.2) (
-    stops-at c.in_err-all_clean-2.field-0.0 c.add-2.new.writer.failed c.loop-end.stream.buffers.limit c.args.depth c.args.input.now rest [] (pieces rest)
-    (g.W.Write.contents c.args.writer.now.inner) (g.W.Write.contents c.loop-end.writer.inner) (g.W.Write.contents c.add-2.new.writer.inner)
-    c.loop-end.stream.text.items c.loop-end.all_clean c.loop-end.invariant.limit (not_found-last rest c.in_default.ensures)
-    c.loop-end.invariant.done c.in_err-all_clean-2.ensures.fault
-    )
-
-pub returns-in_err-write_out-clause-fault : goal.returns-in_err-write_out-clause-fault
-returns-in_err-write_out-clause-fault g c =
-    let p = err_from_is_err_and c.from_residual-in_err-write_out.result c.from_residual-in_err-write_out.ensures.1 in
-    let rest = c.loop-end.rest.now in
-    let added = c.in_ok-all_clean-2.ensures in
-    let failed = c.in_err-write_out.ensures in
-    let held = g.W.Write.contents c.args.writer.now.inner in
-    let middle = g.W.Write.contents c.add-2.new.writer.inner in
-    let text = c.add-2.new.self.text.items in
-    let done =
-    one-more c.loop-end.stream.buffers.limit c.args.depth c.args.input.now rest [] (pieces rest) held (g.W.Write.contents c.loop-end.writer.inner) middle
-    c.loop-end.stream.text.items text c.loop-end.all_clean c.in_ok-all_clean-2.field-0 c.loop-end.invariant.limit (not_found-last rest c.in_default.ensures)
-    c.loop-end.invariant.done added.sent.1 added.clean in
-    rw (p.1, p.2) (
-    stops-after c.in_err-write_out.field-0.0 c.write_out.new.writer.failed c.args.depth c.args.input.now held middle (g.W.Write.contents c.write_out.new.writer.inner)
-    text _ done failed.fault.0 failed.fault.1 failed.begun
-    )
-
-pub returns-clause-returned : goal.returns-clause-returned
-returns-clause-returned g c =
-    let rest = c.loop-end.rest.now in
-    let added = c.in_ok-all_clean-2.ensures in
-    let held = g.W.Write.contents c.args.writer.now.inner in
-    let middle = g.W.Write.contents c.add-2.new.writer.inner in
-    let text = c.add-2.new.self.text.items in
-    let done =
-    one-more c.loop-end.stream.buffers.limit c.args.depth c.args.input.now rest [] (pieces rest) held (g.W.Write.contents c.loop-end.writer.inner) middle
-    c.loop-end.stream.text.items text c.loop-end.all_clean c.in_ok-all_clean-2.field-0 c.loop-end.invariant.limit (not_found-last rest c.in_default.ensures)
-    c.loop-end.invariant.done added.sent.1 added.clean in
-    ap Ok (all-written c.args.depth c.args.input.now held middle (g.W.Write.contents c.write_out.new.writer.inner) text _ done c.in_ok-write_out.ensures.all.2).1
-
-pub returns-clause-written : goal.returns-clause-written
-returns-clause-written g c =
-    let rest = c.loop-end.rest.now in
-    let added = c.in_ok-all_clean-2.ensures in
-    let held = g.W.Write.contents c.args.writer.now.inner in
-    let middle = g.W.Write.contents c.add-2.new.writer.inner in
-    let text = c.add-2.new.self.text.items in
-    let done =
-    one-more c.loop-end.stream.buffers.limit c.args.depth c.args.input.now rest [] (pieces rest) held (g.W.Write.contents c.loop-end.writer.inner) middle
-    c.loop-end.stream.text.items text c.loop-end.all_clean c.in_ok-all_clean-2.field-0 c.loop-end.invariant.limit (not_found-last rest c.in_default.ensures)
-    c.loop-end.invariant.done added.sent.1 added.clean in
-    (c.in_ok-write_out.ensures.all.0, (all-written c.args.depth c.args.input.now held middle (g.W.Write.contents c.write_out.new.writer.inner) text _ done c.in_ok-write_out.ensures.all.2).0)
+pub returns-in-Err-clause-fault : goal.returns-in-Err-clause-fault
+returns-in-Err-clause-fault g c =
+    let put = c.put_stream-put.ensures in
+    let begun = stream-begun c.finish.result {old = c.args.writer.now.failed} _ _ c.put_stream-put.result c.args.depth c.args.input.now
+    (search rules) c.new-text.ensures.empty put.put put.stopped c.finish.ensures in
+    search rules

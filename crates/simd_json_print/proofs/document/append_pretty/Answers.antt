@@ -1,4 +1,4 @@
-use Rattle.simd_json_print.proofs.Places.{longer-prefix}
+use Rattle.simd_json_print.proofs.Texts.{longer-prefix}
 use Rattle.simd_json_print.proofs.document.append_pretty.Goals as goal
 
 pub returns-clause-kept : goal.returns-clause-kept

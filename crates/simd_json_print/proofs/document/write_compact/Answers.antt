@@ -1,13 +1,28 @@
-use Rattle.simd_json_print.proofs.Places.{gives-new, grows-longer, longer-then}
+use Rattle.std.proofs.Common.{rules, []}
+use Rattle.std.specs.Prelude.{None}
+use Rattle.simd_json_parts.specs.Printed.{compact}
+use Rattle.simd_json_print.specs.Texts.{Place}
+use Rattle.simd_json_print.proofs.Texts.{ended-written, ended-begun, ended-longer}
 use Rattle.simd_json_print.proofs.document.write_compact.Goals as goal
 
 pub returns-clause-written : goal.returns-clause-written
 returns-clause-written g c d is =
-    c.finish.ensures.all _ _ (gives-new _ _ _ _ c.new-sink.ensures (c.put_compact.ensures.given d is))
+    let start : Place = record { held = g.W.Write.contents c.args.writer.now; failed = None } in
+    let ends = c.finish.ensures start (compact d) ((c.put_compact.ensures.given d is).given start [] c.new-out.ensures.empty) in
+    let all = ended-written c.finish.result start _ (compact d) ends in
+    search rules
 
 pub returns-clause-begun : goal.returns-clause-begun
 returns-clause-begun g c d is =
-    c.finish.ensures.some _ _ (gives-new _ _ _ _ c.new-sink.ensures (c.put_compact.ensures.given d is))
+    let start : Place = record { held = g.W.Write.contents c.args.writer.now; failed = None } in
+    let ends = c.finish.ensures start (compact d) ((c.put_compact.ensures.given d is).given start [] c.new-out.ensures.empty) in
+    let all = ended-begun c.finish.result start _ (compact d) ends in
+    search rules
 
 pub returns-clause-kept : goal.returns-clause-kept
-returns-clause-kept g c = longer-then _ _ _ (grows-longer _ _ c.put_compact.ensures.kept) c.finish.ensures.kept
+returns-clause-kept g c =
+    let start : Place = record { held = g.W.Write.contents c.args.writer.now; failed = None } in
+    let some = c.put_compact.ensures.kept in
+    let ends = c.finish.ensures start some.0 (some.1.given start [] c.new-out.ensures.empty) in
+    let all = ended-longer c.finish.result start _ some.0 ends in
+    search rules

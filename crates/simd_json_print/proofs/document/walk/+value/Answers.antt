@@ -1,156 +1,127 @@
-use Rattle.std.proofs.Common.{◌∙◌, ap, sym, ◌+◌, not, nat_eq, length, [], ◌∷◌, ◌++◌, cond, arith, rules}
-use Rattle.std.proofs.lemmas.List.{length-drop}
-use Rattle.simd_json_parts.specs.Bytes.{comma, left_bracket, right_bracket, right_brace}
-use Rattle.simd_json_print.specs.Layout.{line, text}
-use Rattle.simd_json_print.proofs.Places.{gives-none, gives-then, gives-is, gives-lost, gives-grows, grows-none, grows-then}
-use Rattle.simd_json_print.proofs.Walk.{empty-array, array-begins, elements-end, split-one, empty-object, object-begins, members-end, no-document, array-beneath, object-beneath, scalar-text, string-text, plain-element}
-use Rattle.simd_json_print.proofs.Lines.{gives-front}
-use Rattle.simd_json_print.proofs.Turns.{given-element, given-member}
+use Rattle.std.proofs.Common.{◌∙◌, ◌++◌, [], ap, refl, set, true, sym, append-nil, map, not, nat_eq, arith, rules}
+use Rattle.std.proofs.lemmas.List.{length-map}
+use Rattle.simd_json_parts.specs.Nodes.{item_of}
+use Rattle.simd_json_print.specs.Frames.{frame_text}
+use Rattle.simd_json_print.proofs.Nestings.{begins, after-end, no-value, leaf-step, open-step, deep-step, no-document, value-leaf, value-opened}
+use Rattle.simd_json_print.proofs.Texts.{adds-none, adds-is, adds-then, adds-lost, adds-some, some-none, some-then}
 use Rattle.simd_json_print.proofs.document.walk.+value.Goals as goal
 
--- ---- arrays
+-- ---- a container
 
-pub put_array-returns-then-is_empty-clause-kept : goal.put_array-returns-then-is_empty-clause-kept
-put_array-returns-then-is_empty-clause-kept g t c = gives-grows _ _ _ c.put.ensures
-
-pub put_array-returns-then-is_empty-clause-given : goal.put_array-returns-then-is_empty-clause-given
-put_array-returns-then-is_empty-clause-given g t c ds is =
-    gives-is _ _ _ _ (empty-array (not (nat_eq g.row.PRETTY 0)) c.args.depth c.args.nodes.now ds (search (arith, rules)) is) c.put.ensures
-
-pub put_array-loop-left-init : goal.put_array-loop-left-init
-put_array-loop-left-init g t c = (
-  omega arith,
-  grows-none _,
-  λ ds is. ([], ds, is, gives-none _, array-begins (not (nat_eq g.row.PRETTY 0)) c.args.depth c.args.nodes.now ds (search (arith, rules)) is),
-)
-
-pub put_array-returns-then-has_stopped-clause-given : goal.put_array-returns-then-has_stopped-clause-given
-put_array-returns-then-has_stopped-clause-given g t c ds is =
-    let so_far = c.loop-left.invariant.2 ds is in
-    gives-is _ _ _ _ so_far.4 (gives-lost _ _ so_far.0 _ (c.if-has_stopped.ensures (search rules)) so_far.3)
-
-pub put_array-loop-left-preserved-then-not-is_header : goal.put_array-loop-left-preserved-then-not-is_header
-put_array-loop-left-preserved-then-not-is_header g t c =
-    let pretty = not (nat_eq g.row.PRETTY 0) in
-    let ns = c.loop-left.left.nodes.now in
-    let one = split-one ns c.split_node.result.0.now c.split_node.result.1.nodes.now _ (search (arith, rules)) c.split_node.ensures.front c.split_node.ensures.back
-    (c.is_header.ensures.array c.if-not-is_header.true) (c.is_header.ensures.object c.if-not-is_header.true) in (
-      omega (arith, c.loop-left.invariant.0, ap length c.split_node.ensures.back, length-drop 1 ns),
-      grows-then _ _ _ c.loop-left.invariant.1 (gives-grows _ _ _ c.put_scalar_element.ensures),
-      λ ds is.
-          let so_far = c.loop-left.invariant.2 ds is in
-          given-element pretty (c.args.depth + 1) _ ns c.split_node.result.0.now c.split_node.result.1.nodes.now _ _ _ _ _ so_far.0 so_far.1 (search (arith, rules)) so_far.2 so_far.3 so_far.4 one
-          (λ d front. gives-is _ _ _ _
-          (plain-element g.row.PRETTY (c.args.depth + 1) _ c.split_node.result.0.now _ d c.if-not-this.true (c.is_header.ensures.array c.if-not-is_header.true) (c.is_header.ensures.object c.if-not-is_header.true) front)
-          c.put_scalar_element.ensures),
+pub put_container-loop-nesting-init : goal.put_container-loop-nesting-init
+put_container-loop-nesting-init g t c =
+    let n = c.new-nesting in (
+      omega (arith, n.ensures.one),
+      omega (arith, n.ensures.one),
+      some-none _ _,
+      λ f kind is. ([], adds-none _ _, begins (not (nat_eq g.row.PRETTY 0)) c.args.depth n.result f (map item_of c.args.nodes.now) n.ensures.one n.ensures.end (n.ensures.kind ∙ sym kind) is),
     )
 
-pub put_array-loop-left-preserved : goal.put_array-loop-left-preserved
-put_array-loop-left-preserved g t c = (
-  omega (arith, c.split_value.ensures.all, c.loop-left.invariant.0),
-  grows-then _ _ _ c.loop-left.invariant.1 c.put_element.ensures.kept,
-  λ ds is.
-      let so_far = c.loop-left.invariant.2 ds is in
-      given-element (not (nat_eq g.row.PRETTY 0)) (c.args.depth + 1) _ c.loop-left.left.nodes.now c.split_value.result.0.now c.split_value.result.1.nodes.now _ _ _ _ _ so_far.0 so_far.1
-      (search (arith, rules)) so_far.2 so_far.3 so_far.4 c.split_value.ensures.whole c.put_element.ensures.given,
-)
+pub put_container-returns-then-has_failed-clause-given : goal.put_container-returns-then-has_failed-clause-given
+put_container-returns-then-has_failed-clause-given g t c f kind is =
+    let so_far = c.loop-nesting.invariant.3 f kind is in
+    adds-is _ _ _ _ _ so_far.2.printed (adds-lost _ _ _ so_far.0 _ (search rules) so_far.1)
 
-pub put_array-returns-clause-kept : goal.put_array-returns-clause-kept
-put_array-returns-clause-kept g t c = grows-then _ _ _ c.loop-left.invariant.1 (grows-then _ _ _ (gives-grows _ _ _ c.put_line.ensures) (gives-grows _ _ _ c.put-2.ensures))
-
-pub put_array-returns-clause-given : goal.put_array-returns-clause-given
-put_array-returns-clause-given g t c ds is =
+pub put_container-loop-nesting-preserved-then-left-end : goal.put_container-loop-nesting-preserved-then-left-end
+put_container-loop-nesting-preserved-then-left-end g t c =
     let pretty = not (nat_eq g.row.PRETTY 0) in
-    let so_far = c.loop-left.invariant.2 ds is in
-    let close = line pretty c.args.depth ++ right_bracket ∷ [] in
-    let end = elements-end pretty _ (c.args.depth + 1) c.loop-left.left.nodes.now so_far.1 (search (arith, rules)) so_far.2 in
-    gives-is _ _ _ _ (ap (λ us. so_far.0 ++ (us ++ close)) (sym end) ∙ so_far.4)
-    (gives-then _ _ _ so_far.0 _ so_far.3 (gives-then _ _ _ (line pretty c.args.depth) (right_bracket ∷ []) c.put_line.ensures c.put-2.ensures))
+    let l = c.loop-nesting in
+    let m = c.put_elements-is_still_first in
+    let e = c.put_end in (
+      omega (arith, l.invariant.0, e.ensures.fewer),
+      omega (arith, l.invariant.1, m.ensures.within, e.ensures.fewer),
+      some-then _ _ _ _ l.invariant.2 (some-then _ _ _ _ m.ensures.kept (adds-some _ _ _ _ e.ensures.put)),
+      λ f kind is.
+          let so_far = l.invariant.3 f kind is in
+          let whole = frame_text pretty c.args.depth true f in
+          let at = m.ensures.given so_far.0 whole so_far.2 in (
+            (so_far.0 ++ at.0) ++ _,
+            adds-then _ _ _ _ (so_far.0 ++ at.0) _ (adds-then _ _ _ _ so_far.0 at.0 so_far.1 at.1) e.ensures.put,
+            after-end pretty c.args.depth l.nesting e.new.nesting m.result.1 (map item_of m.result.0.nodes.now) (so_far.0 ++ at.0) whole (search (rules, arith)) (search (rules, arith, length-map))
+                e.ensures.ends e.ensures.kinds e.ensures.fewer at.2,
+          ),
+    )
 
--- ---- objects
+pub put_container-returns-then-is_empty-clause-kept : goal.put_container-returns-then-is_empty-clause-kept
+put_container-returns-then-is_empty-clause-kept g t c =
+    some-then _ _ _ _ c.loop-nesting.invariant.2 (some-then _ _ _ _ c.put_elements-is_still_first.ensures.kept c.put_before-value.ensures.kept)
 
-pub put_object-returns-then-is_empty-clause-kept : goal.put_object-returns-then-is_empty-clause-kept
-put_object-returns-then-is_empty-clause-kept g t c = gives-grows _ _ _ c.put.ensures
-
-pub put_object-returns-then-is_empty-clause-given : goal.put_object-returns-then-is_empty-clause-given
-put_object-returns-then-is_empty-clause-given g t c ms is =
-    gives-is _ _ _ _ (empty-object (not (nat_eq g.row.PRETTY 0)) c.args.depth c.args.nodes.now ms (search (arith, rules)) is) c.put.ensures
-
-pub put_object-loop-left-init : goal.put_object-loop-left-init
-put_object-loop-left-init g t c = (
-  omega arith,
-  grows-none _,
-  λ ms is. ([], ms, is, gives-none _, object-begins (not (nat_eq g.row.PRETTY 0)) c.args.depth c.args.nodes.now ms (search (arith, rules)) is),
-)
-
-pub put_object-returns-then-has_stopped-clause-given : goal.put_object-returns-then-has_stopped-clause-given
-put_object-returns-then-has_stopped-clause-given g t c ms is =
-    let so_far = c.loop-left.invariant.2 ms is in
-    gives-is _ _ _ _ so_far.4 (gives-lost _ _ so_far.0 _ (c.if-has_stopped.ensures (search rules)) so_far.3)
-
-pub put_object-loop-left-preserved : goal.put_object-loop-left-preserved
-put_object-loop-left-preserved g t c = (
-  omega (arith, c.split_name.ensures.all, c.split_value.ensures.all, c.loop-left.invariant.0),
-  grows-then _ _ _ c.loop-left.invariant.1 (grows-then _ _ _ c.put_name.ensures.kept c.put_value.ensures.kept),
-  λ ms is.
-      let so_far = c.loop-left.invariant.2 ms is in
-      given-member (not (nat_eq g.row.PRETTY 0)) (c.args.depth + 1) _ c.loop-left.left.nodes.now c.split_name.result.1.nodes.now c.split_value.result.0.now c.split_value.result.1.nodes.now c.split_name.result.0.now
-      _ _ _ _ _ _ so_far.0 so_far.1 (search (arith, rules)) so_far.2 so_far.3 so_far.4 c.split_name.ensures.whole c.split_value.ensures.whole
-      c.put_name.ensures.given c.put_value.ensures.given,
-)
-
-pub put_object-returns-clause-kept : goal.put_object-returns-clause-kept
-put_object-returns-clause-kept g t c = grows-then _ _ _ c.loop-left.invariant.1 (grows-then _ _ _ (gives-grows _ _ _ c.put_line.ensures) (gives-grows _ _ _ c.put-2.ensures))
-
-pub put_object-returns-clause-given : goal.put_object-returns-clause-given
-put_object-returns-clause-given g t c ms is =
+pub put_container-returns-then-is_empty-clause-given : goal.put_container-returns-then-is_empty-clause-given
+put_container-returns-then-is_empty-clause-given g t c f kind is =
     let pretty = not (nat_eq g.row.PRETTY 0) in
-    let so_far = c.loop-left.invariant.2 ms is in
-    let close = line pretty c.args.depth ++ right_brace ∷ [] in
-    let end = members-end pretty _ (c.args.depth + 1) c.loop-left.left.nodes.now so_far.1 (search (arith, rules)) so_far.2 in
-    gives-is _ _ _ _ (ap (λ us. so_far.0 ++ (us ++ close)) (sym end) ∙ so_far.4)
-    (gives-then _ _ _ so_far.0 _ so_far.3 (gives-then _ _ _ (line pretty c.args.depth) (right_brace ∷ []) c.put_line.ensures c.put-2.ensures))
+    let so_far = c.loop-nesting.invariant.3 f kind is in
+    let whole = frame_text pretty c.args.depth true f in
+    let next = c.put_elements-is_still_first.ensures.given so_far.0 whole so_far.2 in
+    let at = c.put_before-value.ensures.given (so_far.0 ++ next.0) whole (search (rules, arith)) next.2 in
+    absurd (no-value pretty c.args.depth c.loop-nesting.nesting (map item_of c.put_before-value.result.nodes.now) _ _ (search (rules, arith, length-map)) at.2)
 
--- ---- values
+pub put_container-loop-nesting-preserved : goal.put_container-loop-nesting-preserved
+put_container-loop-nesting-preserved g t c =
+    let pretty = not (nat_eq g.row.PRETTY 0) in
+    let l = c.loop-nesting in
+    let m = c.put_elements-is_still_first in
+    let b = c.put_before-value in
+    let n = c.put_next-is_open in (
+      n.ensures.nested.1,
+      omega (arith, l.invariant.1, m.ensures.within, b.ensures.within, n.ensures.room),
+      some-then _ _ _ _ l.invariant.2 (some-then _ _ _ _ m.ensures.kept (some-then _ _ _ _ b.ensures.kept n.ensures.kept)),
+      λ f kind is.
+          let so_far = l.invariant.3 f kind is in
+          let whole = frame_text pretty c.args.depth true f in
+          let next = m.ensures.given so_far.0 whole so_far.2 in
+          let at = b.ensures.given (so_far.0 ++ next.0) whole (search (rules, arith)) next.2 in
+          let after = n.ensures.given ((so_far.0 ++ next.0) ++ at.0) whole at.2 in
+          let front = adds-then _ _ _ _ so_far.0 next.0 so_far.1 next.1 in (
+            ((so_far.0 ++ next.0) ++ at.0) ++ after.0,
+            adds-then _ _ _ _ ((so_far.0 ++ next.0) ++ at.0) after.0 (adds-then _ _ _ _ (so_far.0 ++ next.0) at.0 front at.1) after.1,
+            after.2,
+          ),
+    )
+
+-- ---- what begins at a value
+
+pub put_next-returns-then-count-eq0-clause-given : goal.put_next-returns-then-count-eq0-clause-given
+put_next-returns-then-count-eq0-clause-given g t c done whole is = (
+  _,
+  c.put_leaf.ensures,
+  leaf-step (not (nat_eq g.row.PRETTY 0)) c.args.depth c.args.nesting.now c.args.left.nodes.now c.split_at.result.0.now c.split_at.result.1.now _ _ _ done whole c.requires.some
+      c.split_at.ensures.front c.split_at.ensures.back c.beneath.ensures c.min-count.ensures (search (rules, arith)) is,
+)
+
+pub put_next-returns-then-nesting-lt-OPEN-clause-kept : goal.put_next-returns-then-nesting-lt-OPEN-clause-kept
+put_next-returns-then-nesting-lt-OPEN-clause-kept g t c = some-none _ _
+
+pub put_next-returns-then-nesting-lt-OPEN-clause-given : goal.put_next-returns-then-nesting-lt-OPEN-clause-given
+put_next-returns-then-nesting-lt-OPEN-clause-given g t c done whole is = (
+  [],
+  adds-none _ _,
+  open-step (not (nat_eq g.row.PRETTY 0)) c.args.depth c.args.nesting.now c.push.new.self c.args.left.nodes.now c.split_at.result.0.now c.split_at.result.1.now _ _ _ _ done whole c.requires.some
+      c.split_at.ensures.front c.split_at.ensures.back c.beneath.ensures c.min-count.ensures (search (rules, arith)) refl (search (rules, arith)) (search (rules, arith))
+      c.push.ensures.ends (c.push.ensures.kinds ∙ ap (λ b. set c.args.nesting.now.are_objects c.args.nesting.now.count b) c.is_object.ensures) c.push.ensures.count is,
+)
+
+pub put_next-returns-clause-given : goal.put_next-returns-clause-given
+put_next-returns-clause-given g t c done whole is =
+    let v = c.split_at-2 in
+    let deep = deep-step (not (nat_eq g.row.PRETTY 0)) c.args.depth c.args.nesting.now c.args.left.nodes.now c.split_at.result.0.now c.split_at.result.1.now v.result.0.now v.result.1.now _ _ _
+    done whole c.requires.some c.split_at.ensures.front c.split_at.ensures.back c.beneath.ensures c.min-count.ensures (search (rules, arith)) v.ensures.front v.ensures.back is in
+    (_, c.put_value.ensures.given deep.document deep.listed, deep.after)
+
+-- ---- a value
 
 pub put_value-returns-then-is_empty-clause-kept : goal.put_value-returns-then-is_empty-clause-kept
-put_value-returns-then-is_empty-clause-kept g t c = grows-none _
+put_value-returns-then-is_empty-clause-kept g t c = some-none _ _
 
 pub put_value-returns-then-is_empty-clause-given : goal.put_value-returns-then-is_empty-clause-given
-put_value-returns-then-is_empty-clause-given g t c d is = absurd (no-document c.args.nodes.now d (search (arith, rules)) is)
+put_value-returns-then-is_empty-clause-given g t c d is = absurd (no-document c.args.nodes.now d (search (rules, arith)) is)
 
-pub put_value-returns-in-String-clause-kept : goal.put_value-returns-in-String-clause-kept
-put_value-returns-in-String-clause-kept g t c = gives-grows _ _ _ c.put_string.ensures
+pub put_value-returns-then-is_empty-2-clause-given : goal.put_value-returns-then-is_empty-2-clause-given
+put_value-returns-then-is_empty-2-clause-given g t c d is =
+    adds-is _ _ _ _ _ (value-leaf (not (nat_eq g.row.PRETTY 0)) c.args.depth c.args.nodes.now c.split_at.result.0.now c.split_at.result.1.now _ d (search (rules, arith))
+    c.split_at.ensures.front c.split_at.ensures.back (search (rules, arith)) is) c.put_leaf.ensures
 
-pub put_value-returns-in-String-clause-given : goal.put_value-returns-in-String-clause-given
-put_value-returns-in-String-clause-given g t c d is =
-    gives-is _ _ _ _ (string-text (not (nat_eq g.row.PRETTY 0)) c.args.depth c.args.nodes.now _ c.in-String.string d c.in-String.is is) c.put_string.ensures
-
-pub put_value-returns-in-Array-clause-given : goal.put_value-returns-in-Array-clause-given
-put_value-returns-in-Array-clause-given g t c d is =
-    let under = array-beneath c.args.nodes.now c.split_at.result.1.now _ d _ _ c.in-Array.is c.split_at.ensures.back is in
-    gives-is _ _ _ _ (ap (λ e. text (not (nat_eq g.row.PRETTY 0)) e c.args.depth) (sym under.1)) (c.put_array.ensures.given under.0 under.2)
-
-pub put_value-returns-in-Object-clause-given : goal.put_value-returns-in-Object-clause-given
-put_value-returns-in-Object-clause-given g t c d is =
-    let under = object-beneath c.args.nodes.now c.split_at-in-Object.result.1.now _ d _ _ c.in-Object.is c.split_at-in-Object.ensures.back is in
-    gives-is _ _ _ _ (ap (λ e. text (not (nat_eq g.row.PRETTY 0)) e c.args.depth) (sym under.1)) (c.put_object.ensures.given under.0 under.2)
-
-pub put_value-returns-in_default-nodes-2 : goal.put_value-returns-in_default-nodes-2
-put_value-returns-in_default-nodes-2 g t c = record {
-  kept = gives-grows _ _ _ c.put_scalar.ensures;
-  given = λ d is.
-      gives-is _ _ _ _ (scalar-text (not (nat_eq g.row.PRETTY 0)) c.args.depth c.args.nodes.now _ d c.in_default-nodes.not-Array c.in_default-nodes-2.not-Object is) c.put_scalar.ensures;
-}
-
--- ---- elements
-
-pub put_element-returns-clause-kept : goal.put_element-returns-clause-kept
-put_element-returns-clause-kept g t c =
-    grows-then _ _ _ (gives-grows _ _ _ c.put.ensures) (grows-then _ _ _ (gives-grows _ _ _ c.put_line.ensures) c.put_value.ensures.kept)
-
-pub put_element-returns-clause-given : goal.put_element-returns-clause-given
-put_element-returns-clause-given g t c d is =
-    let pretty = not (nat_eq g.row.PRETTY 0) in
-    gives-then _ _ _ (cond c.args.is_first left_bracket comma ∷ []) _ (gives-front _ _ _ c.element_front-front.result.now c.element_front-front.ensures c.put.ensures)
-    (gives-then _ _ _ (line pretty c.args.depth) (text pretty d c.args.depth) c.put_line.ensures (c.put_value.ensures.given d is))
+pub put_value-returns-else-is_empty-2-clause-given : goal.put_value-returns-else-is_empty-2-clause-given
+put_value-returns-else-is_empty-2-clause-given g t c d is =
+    let o = value-opened (not (nat_eq g.row.PRETTY 0)) c.args.depth c.args.nodes.now c.split_at.result.0.now c.split_at.result.1.now _ d (search (rules, arith))
+    c.split_at.ensures.front c.split_at.ensures.back (search (rules, arith)) is in
+    adds-is _ _ _ _ _ (sym o.printed) (c.put_container.ensures.given o.frame (sym (c.is_object.ensures ∙ o.kind)) (o.after ∙ append-nil _))

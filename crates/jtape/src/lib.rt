@@ -1,0 +1,35 @@
+//! From the bytes of a reader to the lines of a writer: one JSON document, or a stream of lines, printed as a
+//! mode asks.
+//!
+//! [`run`] reads and writes through two [`Port`]s, which remember what failed and what ended. [`settings`]
+//! says which mode words ask for, and [`status`] which status a program ends with:
+//!
+//! ```
+//! use jtape::{Answer, Mode, Port, run};
+//!
+//! fn compacted(rt: &impl AllocGlobal, json: &[u8]) -> (Answer, Vec<u8>) {
+//!     let mut reader = Port::new(json);
+//!     let mut writer = Port::new(Vec::new(rt.alloc()));
+//!     let answer = run(rt.alloc(), Mode::Compact, 1024, &mut reader, &mut writer);
+//!     (answer, writer.into_inner())
+//! }
+//! ```
+//!
+//! Of ` [ 1, 2 ] ` it returns `Ok(true)` and the bytes `[1,2]` and a line feed. Of `[1,]`, which is refused, it
+//! returns `Err(RunFault::Refused(e))` and no byte, and `e` is displayed as
+//! `InternalError at character 3 (']')`.
+#![tactic(auto)]
+
+mod failure;
+mod lines;
+mod output;
+mod port;
+mod positions;
+mod runs;
+mod stream;
+mod words;
+
+pub use failure::status;
+pub use port::Port;
+pub use runs::{Answer, RunFault, run};
+pub use words::{Mode, settings};

@@ -1,0 +1,172 @@
+//! From a reader's bytes to a writer's.
+ghost use Rattle.std.specs.Prelude.{◌≡◌, ◌≢◌, ◌↔◌, ◌⊎◌, ◌<◌, ℕ, List, Option, length};
+ghost use Rattle.std.specs.Prelude.{true, false, IfOk, IfErr, OnOk, Err};
+ghost use Rattle.std.specs.Io.KnownBytes.{Consumes, IsAtEnd, Keeps};
+ghost use Rattle.jtape.specs.Runs.{HasRun, HasBegun, HasStopped, IsReadFault, OnAnswer, lacks_memory};
+ghost use Rattle.jtape.specs.declared.runs.RunFault.TheVariants as faults;
+ghost use Rattle.jtape.specs.declared.words.Mode.TheVariants as modes;
+
+use crate::output::write_output;
+use crate::port::Port;
+use crate::stream::write_stream;
+use crate::words::Mode;
+use simd_json::Error;
+use std::alloc::{AllocError, Allocator};
+use std::io::{Read, Write};
+
+type Result<T> = std::result::Result<T, RunFault>;
+
+/// What a run returns. `Ok` says whether all that was read is printed: `false` is for modes that print many
+/// documents, and go on after one that is refused. A mode of one document refuses it as a fault, and its `Ok`
+/// is `true`.
+pub type Answer = Result<bool>;
+
+/// Why a run wrote less than all of its output.
+#[derive(Debug, Drop, PartialEq)]
+pub enum RunFault {
+    /// The input was refused, or a growth was.
+    Refused(Error),
+    /// The reader failed.
+    Read,
+    /// The writer failed.
+    Write,
+}
+
+impl From<Error> for RunFault {
+    ghost use Rattle.jtape.specs.declared.runs.RunFault.TheVariants.{Refused};
+    ghost use Rattle.std.specs.Prelude.{◌≡◌};
+
+    ghost from_gives = { λ e fault. fault ≡ Refused e };
+
+    fn from(e: Error) -> RunFault {
+        RunFault::Refused(e)
+    }
+}
+
+impl From<AllocError> for RunFault {
+    ghost use Rattle.jtape.specs.declared.runs.RunFault.TheVariants.{Refused};
+    ghost use Rattle.std.specs.Prelude.{◌≡◌};
+    ghost use Rattle.simd_json_parts.specs.Faults.{whole_fault};
+    ghost use Rattle.simd_json_parts.specs.declared.error.ErrorType.{ErrorType};
+
+    ghost from_gives = { λ _ fault. fault ≡ Refused (whole_fault ErrorType.OutOfMemory) };
+
+    fn from(refused: AllocError) -> RunFault {
+        RunFault::Refused(Error::from(refused))
+    }
+}
+
+/// Reads all that the reader gives, and writes what the mode asks for of the document that it read, in which
+/// at most `depth` containers may be open at a time. So what is written and returned is a function of the
+/// mode, the depth limit and what the reader gave; but an allocation may fail (`OutOfMemory`), the reader
+/// (`Read`) or the writer (`Write`).
+///
+/// Nothing is written before the reader's port has ended, nor where the input is refused, nor after
+/// `OutOfMemory` or `Read`; after `Write` a beginning of the output was. Returns `Read` exactly where the
+/// reader's port has failed, and `Write` exactly where the writer's has.
+///
+/// In mode `Lines` each piece between line feeds is a document of its own, or blank. One that is refused has
+/// a line that says why, and the run goes on and returns `Ok(false)`. After `OutOfMemory` the text of all
+/// pieces before the one that lacked memory was written there, and nothing else.
+///
+/// ```
+/// use jtape::{Mode, Port, run, status};
+///
+/// fn pretty(rt: &impl AllocGlobal, json: &[u8]) -> (u8, Vec<u8>) {
+///     let mut reader = Port::new(json);
+///     let mut writer = Port::new(Vec::new(rt.alloc()));
+///     let answer = run(rt.alloc(), Mode::Pretty, 1024, &mut reader, &mut writer);
+///     (status(&answer), writer.into_inner())
+/// }
+/// ```
+pub fn run<A: Allocator + Copy, R: Read, W: Write>(
+    a: A,
+    mode: Mode,
+    depth: usize,
+    reader: &mut Port<R>,
+    writer: &mut Port<W>,
+) -> Answer
+    requires reader { (reader.old.failed ≡ false) × (reader.old.ended ≡ false) }
+    requires writer { (writer.old.failed ≡ false) × (writer.old.ended ≡ false) }
+    ensures output { OnAnswer result ((reader.new.ended ≡ true)
+        × HasRun mode depth (R.remaining reader.old.inner) (R.remaining reader.new.inner)
+        (W.contents writer.old.inner) (W.contents writer.new.inner) result) }
+    ensures silent { mode ≢ modes.Lines → IfErr result (λ fault. fault ≢ faults.Write
+        → Keeps (W.contents writer.old.inner) (W.contents writer.new.inner)) }
+    ensures unread { result ≡ Err faults.Read
+        → Keeps (W.contents writer.old.inner) (W.contents writer.new.inner) }
+    ensures stopped { mode ≡ modes.Lines → result ≡ Err lacks_memory
+        → Keeps (W.contents writer.old.inner) (W.contents writer.new.inner) ⊎ ((reader.new.ended ≡ true)
+        × HasStopped depth (R.remaining reader.old.inner) (R.remaining reader.new.inner)
+        (W.contents writer.old.inner) (W.contents writer.new.inner)) }
+    ensures begun { result ≡ Err faults.Write → (reader.new.ended ≡ true)
+        × HasBegun mode depth (R.remaining reader.old.inner) (R.remaining reader.new.inner)
+        (W.contents writer.old.inner) (W.contents writer.new.inner) }
+    ensures read { (result ≡ Err faults.Read) ↔ (reader.new.failed ≡ true) }
+    ensures write { (result ≡ Err faults.Write) ↔ (writer.new.failed ≡ true) }
+{
+    let mut input = read_all(a, reader)?;
+    match mode {
+        Mode::Lines => write_stream(a, depth, input.as_mut_slice(), writer),
+        _ => {
+            write_output(a, mode, depth, input.as_mut_slice(), writer)?;
+            Ok(true)
+        }
+    }
+}
+
+// How many bytes are asked of the reader at a time.
+const BLOCK: usize = 16_384;
+
+// How many are reserved once a whole block was read. An allocator that gets so much from the system by itself
+// grows it with no copy, and what is never touched takes no memory.
+const MORE: usize = 262_144;
+
+// Reads to the reader's end.
+fn read_all<R: Read, A: Allocator>(a: A, reader: &mut Port<R>) -> Result<Vec<u8, A>>
+    requires { (reader.old.failed ≡ false) × (reader.old.ended ≡ false) }
+    ensures all { IfOk result (λ input.
+        Consumes (R.remaining reader.old.inner) (R.remaining reader.new.inner) input.items
+        × IsAtEnd (R.remaining reader.new.inner) × (reader.new.ended ≡ true) × (reader.new.failed ≡ false)) }
+    ensures fault { IfErr result (IsReadFault reader.new.failed) }
+{
+    let mut input = Vec::new(a);
+    let mut block = [0; BLOCK];
+    while read_more(reader, &mut block, &mut input)? {}
+    Ok(input)
+}
+
+// Reads at most one block more after the input so far. Returns whether the reader may have more.
+fn read_more<R: Read, A: Allocator>(
+    reader: &mut Port<R>,
+    block: &mut [u8],
+    input: &mut Vec<u8, A>,
+) -> Result<bool>
+    requires reader { (reader.old.failed ≡ false) × (reader.old.ended ≡ false) }
+    requires capacity { 0 < length block.old }
+    ensures kept { length block.new ≡ length block.old }
+    ensures read { OnOk result ((before : Option (List ℕ))
+        → Consumes before (R.remaining reader.old.inner) input.old.items
+        → Consumes before (R.remaining reader.new.inner) input.new.items) }
+    ensures more { IfOk result (λ more. more ≡ true
+        → (length input.old.items < length input.new.items) × (reader.new.ended ≡ false)) }
+    ensures end { IfOk result (λ more. more ≡ false
+        → IsAtEnd (R.remaining reader.new.inner) × (reader.new.ended ≡ true)) }
+    ensures sound { OnOk result (reader.new.failed ≡ false) }
+    ensures fault { IfErr result (IsReadFault reader.new.failed) }
+{
+    match reader.read(block) {
+        Ok(0) => Ok(false),
+        Ok(n) => {
+            if input.is_empty() && n == BLOCK {
+                input.reserve(MORE)?;
+            }
+            input.extend_from_slice(&block[..n])?;
+            Ok(true)
+        }
+        Err(_) => Err(RunFault::Read),
+    }
+}
+
+#[cfg(test)]
+mod tests;

@@ -1,0 +1,22 @@
+-- What the program's arguments ask for, and what it says of its end: a line on standard error, and a status.
+use Rattle.std.specs.Prelude.{ℕ, List, codes, drop, Bool, Result, Ok, Err}
+use Rattle.std.specs.Option.{ok_or}
+use Rattle.jtape.specs.Failures.{fault_text, status_of}
+use Rattle.jtape.specs.Settings.{settings_of}
+use Rattle.jtape.specs.declared.words.Mode.{Mode}
+use Rattle.jtape_main.specs.declared.failure.Failure.{Failure}
+use Rattle.jtape_main.specs.declared.failure.Failure.TheVariants.{Usage, Run}
+
+-- the line, without its line feed
+abbrev pub failure_text : Failure → List ℕ
+failure_text Usage = codes "usage: jtape MODE [DEPTH]"
+failure_text (Run fault) = fault_text fault
+
+abbrev pub exit_status_of : Result Bool Failure → ℕ
+exit_status_of (Ok all) = status_of (Ok all)
+exit_status_of (Err Usage) = 2
+exit_status_of (Err (Run fault)) = status_of (Err fault)
+
+-- what the arguments ask for, of which the first is the program's name
+abbrev pub asked_of : List (List ℕ) → Result (Mode × ℕ) Failure
+asked_of arguments = ok_or (settings_of (drop 1 arguments)) Usage

@@ -1,0 +1,30 @@
+//! `jtape MODE [DEPTH]` reads one JSON document from standard input, or a stream of lines, and prints it as
+//! the mode asks. What is read and written stands in the library `jtape`, and here what its arguments ask for
+//! and how it ends: with a line on standard error or none, and a status.
+#![tactic(auto)]
+
+mod failure;
+
+use failure::{Failure, asked, exit_status};
+use jtape::{Port, run};
+use std::process::ExitCode;
+use std::{env, io};
+
+fn main(rt: HostRuntime) -> ExitCode {
+    let ended = program(&rt);
+    if let Err(failure) = &ended {
+        let _ = eprintln!(rt; "{failure}");
+    }
+    ExitCode::from(exit_status(ended))
+}
+
+fn program(rt: &HostRuntime) -> Result<bool, Failure> {
+    let (mode, depth) = asked(arguments(rt))?;
+    let mut reader = Port::new(rt.reader());
+    let mut writer = Port::new(io::writer(rt));
+    Ok(run(rt.alloc(), mode, depth, &mut reader, &mut writer)?)
+}
+
+fn arguments(rt: &HostRuntime) -> io::Result<Vec<String>> {
+    Ok(env::args(rt)?.collect(rt.alloc())?)
+}
