@@ -23,7 +23,8 @@ digits-count k n l u h =
     omega (arith, long k n l h, length-decimal-le (suc k) n (omega arith) (omega (arith, more)) h)
 
 -- from an index on, with what stood in front of it
-pub stored-digits : (old new digits : List ℕ) (at from end : ℕ) → from + length digits ≡ end → end ≡ at + length digits → drop from new ≡ digits ++ drop end old → take from new ≡ take from old
+pub stored-digits : (old new digits : List ℕ) (at from end : ℕ) → from + length digits ≡ end → end ≡ at + length digits
+    → drop from new ≡ digits ++ drop end old → take from new ≡ take from old
     → take end new ≡ take at old ++ digits
 stored-digits old new digits at from end start size written before =
     let place : from + length digits ≡ end = omega arith in

@@ -15,11 +15,13 @@ use Rattle.simd_json_print.proofs.Texts.{adds-none, adds-is}
 
 -- ---- lines
 
-pub adds-no-line : {T : Type 0} {size : ℕ} (place : T → Place) (m n : ℕ) (a : Text T size) → m ≡ 0 → Adds place a a (line (not (nat_eq m 0)) n)
+pub adds-no-line : {T : Type 0} {size : ℕ} (place : T → Place) (m n : ℕ) (a : Text T size) → m ≡ 0
+    → Adds place a a (line (not (nat_eq m 0)) n)
 adds-no-line place m n a is = subst (λ k. Adds place a a (line (not (nat_eq k 0)) n)) (sym is) (adds-none place a)
 
 pub front-of-line : (n : ℕ) → n ≤ 32 → take (1 + n) (line_feed ∷ replicate 32 space) ≡ line_feed ∷ replicate n space
-front-of-line n within = take-append-add (line_feed ∷ []) (replicate 32 space) n ∙ ap (λ us. line_feed ∷ us) (take-replicate n 32 space within)
+front-of-line n within = take-append-add (line_feed ∷ []) (replicate 32 space) n
+    ∙ ap (λ us. line_feed ∷ us) (take-replicate n 32 space within)
 
 pub short-line : (n : ℕ) → n < 16 → take (1 + 2 * (n % 16)) (line_feed ∷ replicate 32 space) ≡ new_line n
 short-line n short =
@@ -48,22 +50,27 @@ pub quoted-whole : (t : List ℕ) → quote ∷ (flat_map escaped_byte t ++ quot
 unfolding quoted
 quoted-whole t = refl
 
-pub adds-string : {T : Type 0} {size : ℕ} (place : T → Place) (a b : Text T size) (before : ℕ) (front t back : List ℕ) → front ≡ before ∷ quote ∷ [] → Adds place a b (front ++ (flat_map escaped_byte t ++ quote ∷ back)) → Adds place a b (before ∷ (quoted t ++ back))
+pub adds-string : {T : Type 0} {size : ℕ} (place : T → Place) (a b : Text T size) (before : ℕ) (front t back : List ℕ)
+    → front ≡ before ∷ quote ∷ [] → Adds place a b (front ++ (flat_map escaped_byte t ++ quote ∷ back))
+    → Adds place a b (before ∷ (quoted t ++ back))
 adds-string place a b before front t back is g =
     adds-is place a b _ _ (ap (λ us. us ++ (flat_map escaped_byte t ++ quote ∷ back)) is ∙ ap (λ us. before ∷ us) (quoted-then t back)) g
 
-pub adds-front : {T : Type 0} {size : ℕ} (place : T → Place) (a b : Text T size) (before : ℕ) (front : List ℕ) → front ≡ before ∷ quote ∷ [] → Adds place a b (take 1 front) → Adds place a b (before ∷ [])
+pub adds-front : {T : Type 0} {size : ℕ} (place : T → Place) (a b : Text T size) (before : ℕ) (front : List ℕ)
+    → front ≡ before ∷ quote ∷ [] → Adds place a b (take 1 front) → Adds place a b (before ∷ [])
 adds-front place a b before front is g = adds-is place a b _ _ (ap (take 1) is) g
 
 -- ---- names
 
-pub adds-pretty-name : {T : Type 0} {size : ℕ} (place : T → Place) (m n before : ℕ) (a b : Text T size) (t k : List ℕ) → (m ≡ 0 → ⊥) → string_item t ≡ string_item k → Adds place a b (before ∷ (new_line n ++ (quoted t ++ codes ": ")))
+pub adds-pretty-name : {T : Type 0} {size : ℕ} (place : T → Place) (m n before : ℕ) (a b : Text T size) (t k : List ℕ) → (m ≡ 0 → ⊥)
+    → string_item t ≡ string_item k → Adds place a b (before ∷ (new_line n ++ (quoted t ++ codes ": ")))
     → Adds place a b (before ∷ (line (not (nat_eq m 0)) n ++ (quoted k ++ after_name (not (nat_eq m 0)))))
 adds-pretty-name place m n before a b t k is same g =
     let name : t ≡ k = cc in
     subst (λ p. Adds place a b (before ∷ (line p n ++ (quoted k ++ after_name p)))) (sym (ap not (ne_eqb m 0 is))) (subst (λ us. Adds place a b (before ∷ (new_line n ++ (quoted us ++ codes ": ")))) name g)
 
-pub adds-compact-name : {T : Type 0} {size : ℕ} (place : T → Place) (m n before : ℕ) (a b : Text T size) (t k : List ℕ) → m ≡ 0 → string_item t ≡ string_item k → Adds place a b (before ∷ (quoted t ++ codes ":"))
+pub adds-compact-name : {T : Type 0} {size : ℕ} (place : T → Place) (m n before : ℕ) (a b : Text T size) (t k : List ℕ) → m ≡ 0
+    → string_item t ≡ string_item k → Adds place a b (before ∷ (quoted t ++ codes ":"))
     → Adds place a b (before ∷ (line (not (nat_eq m 0)) n ++ (quoted k ++ after_name (not (nat_eq m 0)))))
 adds-compact-name place m n before a b t k is same g =
     let name : t ≡ k = cc in

@@ -17,7 +17,8 @@ use Rattle.simd_json_print.proofs.Walk.{IsOpened, is-leaf, is-opened, beneath-wi
 
 -- ---- the first step and the last
 
-pub begins : (p : Bool) (n : ℕ) (o : Nesting) (f : Frame) (items : List Item) → o.count ≡ 1 → get_or o.ends 0 0 ≡ 0 → get_or o.are_objects 0 false ≡ has_members f → items ≡ frame_listing f
+pub begins : (p : Bool) (n : ℕ) (o : Nesting) (f : Frame) (items : List Item) → o.count ≡ 1 → get_or o.ends 0 0 ≡ 0
+    → get_or o.are_objects 0 false ≡ has_members f → items ≡ frame_listing f
     → IsBetween p n o true items [] (frame_text p n true f)
 begins p n o f items one end kind is = record {
   frames = f ∷ [];
@@ -27,11 +28,13 @@ begins p n o f items one end kind is = record {
   printed = append-nil (frame_text p (n + 0) true f) ∙ ap (λ k. frame_text p k true f) (omega arith);
 }
 
-ends-empty : (p : Bool) (n : ℕ) (first : Bool) (fs : List Frame) (done whole : List ℕ) → length fs ≡ 0 → done ++ frames_text p n first fs ≡ whole → done ≡ whole
+ends-empty : (p : Bool) (n : ℕ) (first : Bool) (fs : List Frame) (done whole : List ℕ) → length fs ≡ 0
+    → done ++ frames_text p n first fs ≡ whole → done ≡ whole
 ends-empty p n first [] done whole none is = sym (append-nil done) ∙ is
 ends-empty p n first (f ∷ fs) done whole none is = absurd (omega (arith, none))
 
-pub at-last : (p : Bool) (n : ℕ) (o : Nesting) (first : Bool) (items : List Item) (done whole : List ℕ) → o.count ≡ 0 → IsBetween p n o first items done whole → done ≡ whole
+pub at-last : (p : Bool) (n : ℕ) (o : Nesting) (first : Bool) (items : List Item) (done whole : List ℕ) → o.count ≡ 0
+    → IsBetween p n o first items done whole → done ≡ whole
 at-last p n o first items done whole none is = ends-empty p n first is.frames done whole (is.number ∙ none) is.printed
 
 -- ---- an element or a member
@@ -40,17 +43,20 @@ at-last p n o first items done whole none is = ends-empty p n first is.frames do
 same-end : (ends : List ℕ) (k : ℕ) (outer : List Frame) → suc (length outer) ≡ k → get_or ends (k - 1) 0 ≡ get_or ends (length outer) 0
 same-end ends k outer is = let same : k - 1 ≡ length outer = omega (arith, is) in ap (λ i. get_or ends i 0) same
 
-same-kind : (are : List Bool) (k : ℕ) (outer : List Frame) → suc (length outer) ≡ k → get_or are (k - 1) false ≡ get_or are (length outer) false
+same-kind : (are : List Bool) (k : ℕ) (outer : List Frame) → suc (length outer) ≡ k
+    → get_or are (k - 1) false ≡ get_or are (length outer) false
 same-kind are k outer is = let same : k - 1 ≡ length outer = omega (arith, is) in ap (λ i. get_or are i false) same
 
-turned : (done before value more close outer : List ℕ) → (done ++ before) ++ (value ++ ((more ++ close) ++ outer)) ≡ done ++ (((before ++ (value ++ more)) ++ close) ++ outer)
+turned : (done before value more close outer : List ℕ)
+    → (done ++ before) ++ (value ++ ((more ++ close) ++ outer)) ≡ done ++ (((before ++ (value ++ more)) ++ close) ++ outer)
 turned done before value more close outer = grind (arith, common_steps)
 
 turned-name : (done before name value more close outer : List ℕ)
     → (done ++ (before ++ name)) ++ (value ++ ((more ++ close) ++ outer)) ≡ done ++ (((before ++ (name ++ (value ++ more))) ++ close) ++ outer)
 turned-name done before name value more close outer = grind (arith, common_steps)
 
-element-at : (p : Bool) (n i j : ℕ) (first : Bool) (done whole : List ℕ) (d : Document) (ds : Elements) (outer : List Frame) → i ≡ suc (n + length outer) → j ≡ suc (n + length outer)
+element-at : (p : Bool) (n i j : ℕ) (first : Bool) (done whole : List ℕ) (d : Document) (ds : Elements) (outer : List Frame)
+    → i ≡ suc (n + length outer) → j ≡ suc (n + length outer)
     → done ++ frames_text p n first (elements_left (element d ds) ∷ outer) ≡ whole
     → (done ++ (cond first left_bracket comma ∷ line p i)) ++ (text p d j ++ frames_text p n false (elements_left ds ∷ outer)) ≡ whole
 element-at p n i j first done whole d ds outer one two is =
@@ -59,7 +65,8 @@ element-at p n i j first done whole d ds outer one two is =
     ap₂ (λ u v. (done ++ (b ∷ line p u)) ++ (text p d v ++ frames_text p n false (elements_left ds ∷ outer))) one two
     ∙ turned done (b ∷ line p (suc k)) (text p d (suc k)) (elements_text p comma ds (suc k)) (line p k ++ right_bracket ∷ []) (frames_text p n false outer) ∙ is
 
-member-at : (p : Bool) (n i j : ℕ) (first : Bool) (done whole : List ℕ) (k : List ℕ) (d : Document) (ms : Members) (outer : List Frame) → i ≡ suc (n + length outer) → j ≡ suc (n + length outer)
+member-at : (p : Bool) (n i j : ℕ) (first : Bool) (done whole : List ℕ) (k : List ℕ) (d : Document) (ms : Members) (outer : List Frame)
+    → i ≡ suc (n + length outer) → j ≡ suc (n + length outer)
     → done ++ frames_text p n first (members_left (member k d ms) ∷ outer) ≡ whole
     → (done ++ (cond first left_brace comma ∷ (line p i ++ (quoted k ++ after_name p)))) ++ (text p d j ++ frames_text p n false (members_left ms ∷ outer)) ≡ whole
 member-at p n i j first done whole k d ms outer one two is =
@@ -72,8 +79,10 @@ true-false : (b : Bool) → b ≡ true → b ≡ false → ⊥
 true-false true is not = cc
 true-false false is not = cc
 
-elements-front : (p : Bool) (n : ℕ) (o : Nesting) (first : Bool) (items : List Item) (done whole : List ℕ) (fs : List Frame) → length fs ≡ o.count → AreNested o.ends o.are_objects fs
-    → items ≡ frames_listing fs → done ++ frames_text p n first fs ≡ whole → 0 < o.count → get_or o.are_objects (o.count - 1) false ≡ false → get_or o.ends (o.count - 1) 0 < length items
+elements-front : (p : Bool) (n : ℕ) (o : Nesting) (first : Bool) (items : List Item) (done whole : List ℕ) (fs : List Frame)
+    → length fs ≡ o.count → AreNested o.ends o.are_objects fs
+    → items ≡ frames_listing fs → done ++ frames_text p n first fs ≡ whole → 0 < o.count
+    → get_or o.are_objects (o.count - 1) false ≡ false → get_or o.ends (o.count - 1) 0 < length items
     → IsAtValue p n o items (done ++ (cond first left_bracket comma ∷ line p (n + o.count))) whole
 elements-front p n o first items done whole [] number are listed is some kind live = absurd (omega (arith, number, some))
 elements-front p n o first items done whole (members_left ms ∷ outer) number are listed is some kind live =
@@ -89,7 +98,8 @@ elements-front p n o first items done whole (elements_left (element d ds) ∷ ou
   printed = element-at p n (n + o.count) (n + suc (length outer)) first done whole d ds outer (omega (arith, number)) (omega arith) is;
 }
 
-pub element-before : (p : Bool) (n : ℕ) (o : Nesting) (first : Bool) (items : List Item) (done whole : List ℕ) → IsBetween p n o first items done whole
+pub element-before : (p : Bool) (n : ℕ) (o : Nesting) (first : Bool) (items : List Item) (done whole : List ℕ)
+    → IsBetween p n o first items done whole
     → 0 < o.count → get_or o.are_objects (o.count - 1) false ≡ false → get_or o.ends (o.count - 1) 0 < length items
     → IsAtValue p n o items (done ++ (cond first left_bracket comma ∷ line p (n + o.count))) whole
 element-before p n o first items done whole is some kind live = elements-front p n o first items done whole is.frames is.number is.are_nested is.listed is.printed some kind live
@@ -100,8 +110,10 @@ pub record IsNamed (p : Bool) (n : ℕ) (o : Nesting) (first : Bool) (x : Item) 
   pub named : x ≡ string_item name
   pub at : IsAtValue p n o items (done ++ (cond first left_brace comma ∷ (line p (n + o.count) ++ (quoted name ++ after_name p)))) whole
 
-members-front : (p : Bool) (n : ℕ) (o : Nesting) (first : Bool) (x : Item) (items : List Item) (done whole : List ℕ) (fs : List Frame) → length fs ≡ o.count → AreNested o.ends o.are_objects fs
-    → x ∷ items ≡ frames_listing fs → done ++ frames_text p n first fs ≡ whole → 0 < o.count → get_or o.are_objects (o.count - 1) false ≡ true → get_or o.ends (o.count - 1) 0 < suc (length items)
+members-front : (p : Bool) (n : ℕ) (o : Nesting) (first : Bool) (x : Item) (items : List Item) (done whole : List ℕ) (fs : List Frame)
+    → length fs ≡ o.count → AreNested o.ends o.are_objects fs
+    → x ∷ items ≡ frames_listing fs → done ++ frames_text p n first fs ≡ whole → 0 < o.count
+    → get_or o.are_objects (o.count - 1) false ≡ true → get_or o.ends (o.count - 1) 0 < suc (length items)
     → IsNamed p n o first x items done whole
 members-front p n o first x items done whole [] number are listed is some kind live = absurd (omega (arith, number, some))
 members-front p n o first x items done whole (elements_left ds ∷ outer) number are listed is some kind live =
@@ -121,18 +133,21 @@ members-front p n o first x items done whole (members_left (member k d ms) ∷ o
   };
 }
 
-pub member-before : (p : Bool) (n : ℕ) (o : Nesting) (first : Bool) (x : Item) (items : List Item) (done whole : List ℕ) → IsBetween p n o first (x ∷ items) done whole
+pub member-before : (p : Bool) (n : ℕ) (o : Nesting) (first : Bool) (x : Item) (items : List Item) (done whole : List ℕ)
+    → IsBetween p n o first (x ∷ items) done whole
     → 0 < o.count → get_or o.are_objects (o.count - 1) false ≡ true → get_or o.ends (o.count - 1) 0 < suc (length items)
     → IsNamed p n o first x items done whole
 member-before p n o first x items done whole is some kind live = members-front p n o first x items done whole is.frames is.number is.are_nested is.listed is.printed some kind live
 
 -- ---- a value
 
-pub no-value : (p : Bool) (n : ℕ) (o : Nesting) (items : List Item) (done whole : List ℕ) → length items ≡ 0 → IsAtValue p n o items done whole → ⊥
+pub no-value : (p : Bool) (n : ℕ) (o : Nesting) (items : List Item) (done whole : List ℕ) → length items ≡ 0
+    → IsAtValue p n o items done whole → ⊥
 no-value p n o items done whole none is = omega (arith, positive is.value, none, ap length is.listed, length-append (listing is.value) (frames_listing is.frames))
 
 -- with nothing beneath its first node
-pub after-leaf : (p : Bool) (n : ℕ) (o : Nesting) (x : Item) (items : List Item) (done whole : List ℕ) → count_of x ≡ 0 → IsAtValue p n o (x ∷ items) done whole
+pub after-leaf : (p : Bool) (n : ℕ) (o : Nesting) (x : Item) (items : List Item) (done whole : List ℕ) → count_of x ≡ 0
+    → IsAtValue p n o (x ∷ items) done whole
     → IsBetween p n o false items (done ++ leaf_text x) whole
 after-leaf p n o x items done whole none is =
     let l = is-leaf p (n + length is.frames) x items (frames_listing is.frames) is.value is.listed none in
@@ -146,7 +161,8 @@ after-leaf p n o x items done whole none is =
     }
 
 -- a leaf of an array
-pub after-element : (p : Bool) (n : ℕ) (o : Nesting) (first : Bool) (x : Item) (items : List Item) (done whole : List ℕ) → count_of x ≡ 0 → IsBetween p n o first (x ∷ items) done whole
+pub after-element : (p : Bool) (n : ℕ) (o : Nesting) (first : Bool) (x : Item) (items : List Item) (done whole : List ℕ) → count_of x ≡ 0
+    → IsBetween p n o first (x ∷ items) done whole
     → 0 < o.count → get_or o.are_objects (o.count - 1) false ≡ false → get_or o.ends (o.count - 1) 0 < suc (length items)
     → IsBetween p n o false items (done ++ (cond first left_bracket comma ∷ (line p (n + o.count) ++ leaf_text x))) whole
 after-element p n o first x items done whole none is some kind live =
@@ -155,7 +171,8 @@ after-element p n o first x items done whole none is some kind live =
     (after-leaf p n o x items (done ++ front) whole none (element-before p n o first (x ∷ items) done whole is some kind live))
 
 -- a container of which some is open
-nested-more : (ends : List ℕ) (are : List Bool) (fs : List Frame) (k end : ℕ) (b : Bool) → length fs ≤ k → AreNested ends are fs → AreNested (set ends k end) (set are k b) fs
+nested-more : (ends : List ℕ) (are : List Bool) (fs : List Frame) (k end : ℕ) (b : Bool) → length fs ≤ k → AreNested ends are fs
+    → AreNested (set ends k end) (set are k b) fs
 nested-more ends are [] k end b fits is = is
 nested-more ends are (f ∷ outer) k end b fits is = (
   get_or-set_other ends k (length outer) end 0 (λ same. absurd (omega (arith, fits, same))) ∙ is.0,
@@ -169,8 +186,10 @@ set-here ends k j v room same = ap (λ i. get_or (set ends k v) i 0) same ∙ ge
 kind-here : (are : List Bool) (k j : ℕ) (b : Bool) → k < length are → j ≡ k → get_or (set are k b) j false ≡ b
 kind-here are k j b room same = ap (λ i. get_or (set are k b) i false) same ∙ get_or-set_same are k b false room
 
-pub after-opening : (p : Bool) (n : ℕ) (o q : Nesting) (x : Item) (items : List Item) (done whole : List ℕ) (end : ℕ) → 0 < count_of x → end ≡ length items - count_of x
-    → o.count < length o.ends → o.count < length o.are_objects → q.ends ≡ set o.ends o.count end → q.are_objects ≡ set o.are_objects o.count (is_object_item x) → q.count ≡ o.count + 1
+pub after-opening : (p : Bool) (n : ℕ) (o q : Nesting) (x : Item) (items : List Item) (done whole : List ℕ) (end : ℕ) → 0 < count_of x
+    → end ≡ length items - count_of x
+    → o.count < length o.ends → o.count < length o.are_objects → q.ends ≡ set o.ends o.count end
+    → q.are_objects ≡ set o.are_objects o.count (is_object_item x) → q.count ≡ o.count + 1
     → IsAtValue p n o (x ∷ items) done whole → IsBetween p n q true items (done ++ []) whole
 after-opening p n o q x items done whole end some at room rooms ends kinds count is =
     let c = is-opened p (n + length is.frames) x items (frames_listing is.frames) is.value is.listed some in
@@ -182,7 +201,8 @@ after-opening p n o q x items done whole end some at room rooms ends kinds count
       number = omega (arith, is.number, count);
       are_nested = (
         ap (λ es. get_or es (length is.frames) 0) ends ∙ set-here o.ends o.count (length is.frames) end room is.number ∙ left,
-        ap (λ es. get_or es (length is.frames) false) kinds ∙ kind-here o.are_objects o.count (length is.frames) (is_object_item x) rooms is.number ∙ c.kind,
+        ap (λ es. get_or es (length is.frames) false) kinds
+            ∙ kind-here o.are_objects o.count (length is.frames) (is_object_item x) rooms is.number ∙ c.kind,
         subst (λ es. AreNested es q.are_objects is.frames) (sym ends) (subst (λ ks. AreNested (set o.ends o.count end) ks is.frames) (sym kinds) old),
       );
       listed = c.after;
@@ -197,18 +217,21 @@ pub record IsDeep (p : Bool) (n : ℕ) (o : Nesting) (value rest : List Item) (d
   pub after : IsBetween p n o false rest (done ++ text p document (n + o.count)) whole
 
 pub after-deep : (p : Bool) (n : ℕ) (o : Nesting) (x : Item) (items value rest : List Item) (done whole : List ℕ) → 0 < count_of x
-    → value ≡ take (count_of x + 1) (x ∷ items) → rest ≡ drop (count_of x + 1) (x ∷ items) → IsAtValue p n o (x ∷ items) done whole → IsDeep p n o value rest done whole
+    → value ≡ take (count_of x + 1) (x ∷ items) → rest ≡ drop (count_of x + 1) (x ∷ items) → IsAtValue p n o (x ∷ items) done whole
+    → IsDeep p n o value rest done whole
 after-deep p n o x items value rest done whole some front back is =
     let c = is-opened p (n + length is.frames) x items (frames_listing is.frames) is.value is.listed some in
     let size : count_of x + 1 ≡ length (listing is.value) = omega (arith, c.count, ap length c.whole) in
     record {
       document = is.value;
-      listed = front ∙ ap (λ k. take k (x ∷ items)) size ∙ ap (take (length (listing is.value))) is.listed ∙ take-append_seam (listing is.value) (frames_listing is.frames);
+      listed = front ∙ ap (λ k. take k (x ∷ items)) size ∙ ap (take (length (listing is.value))) is.listed
+          ∙ take-append_seam (listing is.value) (frames_listing is.frames);
       after = record {
         frames = is.frames;
         number = is.number;
         are_nested = is.are_nested;
-        listed = back ∙ ap (λ k. drop k (x ∷ items)) size ∙ ap (drop (length (listing is.value))) is.listed ∙ drop-append_seam (listing is.value) (frames_listing is.frames);
+        listed = back ∙ ap (λ k. drop k (x ∷ items)) size ∙ ap (drop (length (listing is.value))) is.listed
+            ∙ drop-append_seam (listing is.value) (frames_listing is.frames);
         printed = append_assoc done (text p is.value (n + o.count)) (frames_text p n false is.frames)
             ∙ ap (λ k. done ++ (text p is.value (n + k) ++ frames_text p n false is.frames)) (sym is.number) ∙ is.printed;
       };
@@ -216,7 +239,8 @@ after-deep p n o x items value rest done whole some front back is =
 
 -- ---- an end
 
-closed-text : (p : Bool) (k : ℕ) (first : Bool) (f : Frame) → frame_listing f ≡ [] → frame_text p k first f ≡ line p k ++ cond (has_members f) right_brace right_bracket ∷ []
+closed-text : (p : Bool) (k : ℕ) (first : Bool) (f : Frame) → frame_listing f ≡ []
+    → frame_text p k first f ≡ line p k ++ cond (has_members f) right_brace right_bracket ∷ []
 closed-text p k first (elements_left no_elements) none = refl
 closed-text p k first (members_left no_members) none = refl
 closed-text p k first (elements_left (element d ds)) none = absurd (omega (arith, positive d, ap length none, length-append (listing d) (elements_listing ds)))
@@ -226,8 +250,10 @@ none-of : (xs : List Item) → length xs ≡ 0 → xs ≡ []
 none-of [] none = refl
 none-of (x ∷ xs) none = absurd (omega (arith, none))
 
-closed : (p : Bool) (n : ℕ) (o q : Nesting) (first : Bool) (items : List Item) (done whole : List ℕ) (fs : List Frame) → length fs ≡ o.count → AreNested o.ends o.are_objects fs → items ≡ frames_listing fs
-    → done ++ frames_text p n first fs ≡ whole → 0 < o.count → length items ≤ get_or o.ends (o.count - 1) 0 → q.ends ≡ o.ends → q.are_objects ≡ o.are_objects → q.count ≡ o.count - 1
+closed : (p : Bool) (n : ℕ) (o q : Nesting) (first : Bool) (items : List Item) (done whole : List ℕ) (fs : List Frame)
+    → length fs ≡ o.count → AreNested o.ends o.are_objects fs → items ≡ frames_listing fs
+    → done ++ frames_text p n first fs ≡ whole → 0 < o.count → length items ≤ get_or o.ends (o.count - 1) 0 → q.ends ≡ o.ends
+    → q.are_objects ≡ o.are_objects → q.count ≡ o.count - 1
     → IsBetween p n q false items (done ++ (line p (n + q.count) ++ cond (get_or o.are_objects q.count false) right_brace right_bracket ∷ [])) whole
 closed p n o q first items done whole [] number are listed is some few ends kinds count = absurd (omega (arith, number, some))
 closed p n o q first items done whole (f ∷ outer) number are listed is some few ends kinds count =
@@ -243,7 +269,8 @@ closed p n o q first items done whole (f ∷ outer) number are listed is some fe
       printed = append_assoc done _ (frames_text p n false outer) ∙ ap (λ us. done ++ (us ++ frames_text p n false outer)) end ∙ is;
     }
 
-pub after-end : (p : Bool) (n : ℕ) (o q : Nesting) (first : Bool) (items : List Item) (done whole : List ℕ) → 0 < o.count → length items ≤ get_or o.ends (o.count - 1) 0
+pub after-end : (p : Bool) (n : ℕ) (o q : Nesting) (first : Bool) (items : List Item) (done whole : List ℕ) → 0 < o.count
+    → length items ≤ get_or o.ends (o.count - 1) 0
     → q.ends ≡ o.ends → q.are_objects ≡ o.are_objects → q.count ≡ o.count - 1 → IsBetween p n o first items done whole
     → IsBetween p n q false items (done ++ (line p (n + q.count) ++ cond (get_or o.are_objects q.count false) right_brace right_bracket ∷ [])) whole
 after-end p n o q first items done whole some few ends kinds count is =
@@ -251,8 +278,10 @@ after-end p n o q first items done whole some few ends kinds count is =
 
 -- ---- with nodes
 
-pub leaf-step : (p : Bool) (n : ℕ) (o : Nesting) (ns first rest : List Node) (default : Node) (beneath count : ℕ) (done whole : List ℕ) → 0 < length ns → first ≡ take 1 ns → rest ≡ drop 1 ns
-    → beneath ≡ count_of (item_of (get_or first 0 default)) → count ≡ min beneath (length rest) → count ≡ 0 → IsAtValue p n o (map item_of ns) done whole
+pub leaf-step : (p : Bool) (n : ℕ) (o : Nesting) (ns first rest : List Node) (default : Node) (beneath count : ℕ) (done whole : List ℕ)
+    → 0 < length ns → first ≡ take 1 ns → rest ≡ drop 1 ns
+    → beneath ≡ count_of (item_of (get_or first 0 default)) → count ≡ min beneath (length rest) → count ≡ 0
+    → IsAtValue p n o (map item_of ns) done whole
     → IsBetween p n o false (map item_of rest) (done ++ leaf_text (item_of (get_or first 0 default))) whole
 leaf-step p n o ns first rest default beneath count done whole some front back sized least none is =
     let x = item_of (get_or first 0 default) in
@@ -261,8 +290,10 @@ leaf-step p n o ns first rest default beneath count done whole some front back s
     after-leaf p n o x (map item_of rest) done whole (omega (arith, few, length-map rest item_of, sized, least, none)) at
 
 pub open-step : (p : Bool) (n : ℕ) (o q : Nesting) (ns first rest : List Node) (default : Node) (beneath count end : ℕ) (done whole : List ℕ) → 0 < length ns → first ≡ take 1 ns → rest ≡ drop 1 ns
-    → beneath ≡ count_of (item_of (get_or first 0 default)) → count ≡ min beneath (length rest) → 0 < count → end ≡ length rest - count → o.count < length o.ends → o.count < length o.are_objects
-    → q.ends ≡ set o.ends o.count end → q.are_objects ≡ set o.are_objects o.count (is_object_item (item_of (get_or first 0 default))) → q.count ≡ o.count + 1
+    → beneath ≡ count_of (item_of (get_or first 0 default)) → count ≡ min beneath (length rest) → 0 < count → end ≡ length rest - count
+    → o.count < length o.ends → o.count < length o.are_objects
+    → q.ends ≡ set o.ends o.count end → q.are_objects ≡ set o.are_objects o.count (is_object_item (item_of (get_or first 0 default)))
+    → q.count ≡ o.count + 1
     → IsAtValue p n o (map item_of ns) done whole → IsBetween p n q true (map item_of rest) (done ++ []) whole
 open-step p n o q ns first rest default beneath count end done whole some front back sized least more at_end room rooms ends kinds counted is =
     let x = item_of (get_or first 0 default) in
@@ -276,7 +307,8 @@ pub record IsDeepNodes (p : Bool) (n : ℕ) (o : Nesting) (value rest : List Nod
   pub after : IsBetween p n o false (map item_of rest) (done ++ text p document (n + o.count)) whole
 
 pub deep-step : (p : Bool) (n : ℕ) (o : Nesting) (ns first rest value others : List Node) (default : Node) (beneath count : ℕ) (done whole : List ℕ) → 0 < length ns → first ≡ take 1 ns
-    → rest ≡ drop 1 ns → beneath ≡ count_of (item_of (get_or first 0 default)) → count ≡ min beneath (length rest) → 0 < count → value ≡ take (count + 1) ns → others ≡ drop (count + 1) ns
+    → rest ≡ drop 1 ns → beneath ≡ count_of (item_of (get_or first 0 default)) → count ≡ min beneath (length rest) → 0 < count
+    → value ≡ take (count + 1) ns → others ≡ drop (count + 1) ns
     → IsAtValue p n o (map item_of ns) done whole → IsDeepNodes p n o value others done whole
 deep-step p n o ns first rest value others default beneath count done whole some front back sized least more fronts backs is =
     let x = item_of (get_or first 0 default) in
@@ -290,7 +322,8 @@ deep-step p n o ns first rest value others default beneath count done whole some
     record { document = deep.document; listed = deep.listed; after = deep.after }
 
 pub element-step : (p : Bool) (n : ℕ) (o : Nesting) (is_first : Bool) (ns first rest : List Node) (default : Node) (beneath : ℕ) (done whole : List ℕ) → 0 < length ns
-    → first ≡ take 1 ns → rest ≡ drop 1 ns → beneath ≡ count_of (item_of (get_or first 0 default)) → beneath ≡ 0 → 0 < o.count → get_or o.are_objects (o.count - 1) false ≡ false
+    → first ≡ take 1 ns → rest ≡ drop 1 ns → beneath ≡ count_of (item_of (get_or first 0 default)) → beneath ≡ 0 → 0 < o.count
+    → get_or o.are_objects (o.count - 1) false ≡ false
     → get_or o.ends (o.count - 1) 0 < length ns → IsBetween p n o is_first (map item_of ns) done whole
     → IsBetween p n o false (map item_of rest) (done ++ (cond is_first left_bracket comma ∷ (line p (n + o.count) ++ leaf_text (item_of (get_or first 0 default))))) whole
 element-step p n o is_first ns first rest default beneath done whole some front back sized none open_some kind live is =
@@ -305,7 +338,8 @@ element-step p n o is_first ns first rest default beneath done whole some front 
 pub no-document : (ns : List Node) (d : Document) → length ns ≡ 0 → map item_of ns ≡ listing d → ⊥
 no-document ns d none is = omega (arith, positive d, ap length is, length-map ns item_of)
 
-pub value-leaf : (p : Bool) (n : ℕ) (ns first beneath : List Node) (default : Node) (d : Document) → 0 < length ns → first ≡ take 1 ns → beneath ≡ drop 1 ns → length beneath ≡ 0
+pub value-leaf : (p : Bool) (n : ℕ) (ns first beneath : List Node) (default : Node) (d : Document) → 0 < length ns → first ≡ take 1 ns
+    → beneath ≡ drop 1 ns → length beneath ≡ 0
     → map item_of ns ≡ listing d → leaf_text (item_of (get_or first 0 default)) ≡ text p d n
 value-leaf p n ns first beneath default d some front back none is =
     let x = item_of (get_or first 0 default) in
@@ -313,7 +347,8 @@ value-leaf p n ns first beneath default d some front back none is =
     let few = beneath-within x (map item_of beneath) [] d whole in
     (is-leaf p n x (map item_of beneath) [] d whole (omega (arith, few, none, length-map beneath item_of))).printed
 
-pub value-opened : (p : Bool) (n : ℕ) (ns first beneath : List Node) (default : Node) (d : Document) → 0 < length ns → first ≡ take 1 ns → beneath ≡ drop 1 ns → 0 < length beneath
+pub value-opened : (p : Bool) (n : ℕ) (ns first beneath : List Node) (default : Node) (d : Document) → 0 < length ns → first ≡ take 1 ns
+    → beneath ≡ drop 1 ns → 0 < length beneath
     → map item_of ns ≡ listing d → IsOpened p n (item_of (get_or first 0 default)) (map item_of beneath) [] d
 value-opened p n ns first beneath default d some front back more is = by-count (count_of x) refl
   where
@@ -329,9 +364,11 @@ value-opened p n ns first beneath default d some front back more is = by-count (
 
 -- ---- what was printed in two steps
 
-pub with-none : (p : Bool) (n : ℕ) (o : Nesting) (first : Bool) (items : List Item) (done whole : List ℕ) → IsBetween p n o first items done whole → IsBetween p n o first items (done ++ []) whole
+pub with-none : (p : Bool) (n : ℕ) (o : Nesting) (first : Bool) (items : List Item) (done whole : List ℕ)
+    → IsBetween p n o first items done whole → IsBetween p n o first items (done ++ []) whole
 with-none p n o first items done whole is = subst (λ us. IsBetween p n o first items us whole) (sym (append-nil done)) is
 
-pub with-both : (p : Bool) (n : ℕ) (o : Nesting) (first : Bool) (items : List Item) (done xs ys whole : List ℕ) → IsBetween p n o first items ((done ++ xs) ++ ys) whole
+pub with-both : (p : Bool) (n : ℕ) (o : Nesting) (first : Bool) (items : List Item) (done xs ys whole : List ℕ)
+    → IsBetween p n o first items ((done ++ xs) ++ ys) whole
     → IsBetween p n o first items (done ++ (xs ++ ys)) whole
 with-both p n o first items done xs ys whole is = subst (λ us. IsBetween p n o first items us whole) (append_assoc done xs ys) is

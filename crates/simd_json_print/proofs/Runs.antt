@@ -17,19 +17,22 @@ plain-byte x stop control = grind (arith, nat_tests, stop, control)
 -- ---- runs
 
 -- a run, and what stands after it
-split-run : (bytes others : List ℕ) (k : ℕ) → others ≡ drop k bytes → flat_map escaped_byte bytes ≡ flat_map escaped_byte (take k bytes) ++ flat_map escaped_byte others
+split-run : (bytes others : List ℕ) (k : ℕ) → others ≡ drop k bytes
+    → flat_map escaped_byte bytes ≡ flat_map escaped_byte (take k bytes) ++ flat_map escaped_byte others
 split-run bytes others k back =
     ap (flat_map escaped_byte) (sym (take-append-drop k bytes)) ∙ flat_map-append escaped_byte (take k bytes) (drop k bytes)
     ∙ ap (λ us. flat_map escaped_byte (take k bytes) ++ flat_map escaped_byte us) (sym back)
 
 -- a run that is the last
-pub last-run : (done bytes others whole : List ℕ) (k : ℕ) → done ++ flat_map escaped_byte bytes ≡ whole → others ≡ drop k bytes → length others ≡ 0 → done ++ flat_map escaped_byte (take k bytes) ≡ whole
+pub last-run : (done bytes others whole : List ℕ) (k : ℕ) → done ++ flat_map escaped_byte bytes ≡ whole → others ≡ drop k bytes
+    → length others ≡ 0 → done ++ flat_map escaped_byte (take k bytes) ≡ whole
 last-run done bytes [] whole k so_far back none =
     ap (λ us. done ++ us) (sym (append-nil (flat_map escaped_byte (take k bytes))) ∙ sym (split-run bytes [] k back)) ∙ so_far
 last-run done bytes (x ∷ xs) whole k so_far back none = cc
 
 -- a run, and the byte after it
-one-run : (done bytes others whole : List ℕ) (k default : ℕ) → done ++ flat_map escaped_byte bytes ≡ whole → others ≡ drop k bytes → 0 < length others
+one-run : (done bytes others whole : List ℕ) (k default : ℕ) → done ++ flat_map escaped_byte bytes ≡ whole → others ≡ drop k bytes
+    → 0 < length others
     → (done ++ (flat_map escaped_byte (take k bytes) ++ escaped_byte (get_or others 0 default))) ++ flat_map escaped_byte (drop 1 others) ≡ whole
 one-run done bytes [] whole k default so_far back some = absurd (omega arith)
 one-run done bytes (x ∷ xs) whole k default so_far back some =
@@ -42,5 +45,6 @@ pub given-run : {T : Type 0} {size : ℕ} (place : T → Place) (a b c d : Text 
 given-run place a b c d done bytes others after whole k default g so_far h e back some next = (
   done ++ (flat_map escaped_byte (take k bytes) ++ escaped_byte (get_or others 0 default)),
   adds-then place a b d done _ g (adds-then place b c d (flat_map escaped_byte (take k bytes)) _ h e),
-  ap (λ us. (done ++ (flat_map escaped_byte (take k bytes) ++ escaped_byte (get_or others 0 default))) ++ flat_map escaped_byte us) next ∙ one-run done bytes others whole k default so_far back some,
+  ap (λ us. (done ++ (flat_map escaped_byte (take k bytes) ++ escaped_byte (get_or others 0 default))) ++ flat_map escaped_byte us) next
+      ∙ one-run done bytes others whole k default so_far back some,
 )

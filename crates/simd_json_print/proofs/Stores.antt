@@ -17,7 +17,8 @@ stored-vector all bytes at from n some room =
     ∙ take_at (take at all ++ part) (drop (length part) (drop at all)) (at + n) both
 
 -- what stands in front of an index within what is stored
-stored-front : (old new bytes : List ℕ) (at m n : ℕ) → m ≤ n → at ≤ length old → take (at + n) new ≡ take at old ++ take n bytes → take (at + m) new ≡ take at old ++ take m bytes
+stored-front : (old new bytes : List ℕ) (at m n : ℕ) → m ≤ n → at ≤ length old → take (at + n) new ≡ take at old ++ take n bytes
+    → take (at + m) new ≡ take at old ++ take m bytes
 stored-front old new bytes at m n l room is =
     let size : length (take at old) ≡ at = length-take-le at old room in
     sym (take-take (at + m) (at + n) new (omega arith))
@@ -28,7 +29,8 @@ stored-front old new bytes at m n l room is =
     ∙ ap (λ us. take at old ++ us) (take-take m n bytes l)
 
 -- a second part, from an index within the first on
-pub stored-then : (old middle new bytes : List ℕ) (at m n k : ℕ) → m ≤ n → at ≤ length old → take (at + n) middle ≡ take at old ++ take n bytes
+pub stored-then : (old middle new bytes : List ℕ) (at m n k : ℕ) → m ≤ n → at ≤ length old
+    → take (at + n) middle ≡ take at old ++ take n bytes
     → take (at + m + k) new ≡ take (at + m) middle ++ take k (drop m bytes) → take (at + (m + k)) new ≡ take at old ++ take (m + k) bytes
 stored-then old middle new bytes at m n k l room first second =
     let place : at + (m + k) ≡ at + m + k = omega arith in
@@ -39,8 +41,10 @@ stored-then old middle new bytes at m n k l room first second =
     ∙ ap (λ us. take at old ++ us) (sym (take-add m k bytes))
 
 -- all of the bytes
-pub stored-ends : (old middle new bytes : List ℕ) (at n : ℕ) → n ≤ length bytes → length bytes ≤ n + n → at ≤ length old → take (at + n) middle ≡ take at old ++ take n bytes
-    → take (at + (length bytes - n) + n) new ≡ take (at + (length bytes - n)) middle ++ take n (drop (length bytes - n) bytes) → take (at + length bytes) new ≡ take at old ++ bytes
+pub stored-ends : (old middle new bytes : List ℕ) (at n : ℕ) → n ≤ length bytes → length bytes ≤ n + n → at ≤ length old
+    → take (at + n) middle ≡ take at old ++ take n bytes
+    → take (at + (length bytes - n) + n) new ≡ take (at + (length bytes - n)) middle ++ take n (drop (length bytes - n) bytes)
+    → take (at + length bytes) new ≡ take at old ++ bytes
 stored-ends old middle new bytes at n covers within room first second =
     let all : length bytes - n + n ≡ length bytes = omega arith in
     sym (ap (λ i. take (at + i) new) all)
@@ -51,8 +55,10 @@ stored-ends old middle new bytes at n covers within room first second =
 -- ---- a run
 
 -- a part that begins within what is stored, as far as it counts
-pub stored-run : (old middle new bytes : List ℕ) (at from done n count : ℕ) → from ≤ done → count ≤ n → at ≤ length old → take (at + done) middle ≡ take at old ++ take done bytes
-    → take (at + from + n) new ≡ take (at + from) middle ++ take n (drop from bytes) → take (at + (from + count)) new ≡ take at old ++ take (from + count) bytes
+pub stored-run : (old middle new bytes : List ℕ) (at from done n count : ℕ) → from ≤ done → count ≤ n → at ≤ length old
+    → take (at + done) middle ≡ take at old ++ take done bytes
+    → take (at + from + n) new ≡ take (at + from) middle ++ take n (drop from bytes)
+    → take (at + (from + count)) new ≡ take at old ++ take (from + count) bytes
 stored-run old middle new bytes at from done n count l within room first second =
     stored-front old new bytes at (from + count) (from + n) (omega arith) room (stored-then old middle new bytes at from done n l room first second)
 

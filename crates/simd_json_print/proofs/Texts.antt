@@ -39,13 +39,15 @@ none-now None t is = refl
 none-now (Some true) t is = refl
 none-now (Some false) t is = ap Some is
 
-pub write-failed : {E : Type 0} (e : E) (a b c : Place) (sent left whole : List ℕ) → Takes b c (Err e) left → Appends a.held b.held sent → sent ++ left ≡ whole → b.failed ≡ a.failed → HasFailed a c whole
+pub write-failed : {E : Type 0} (e : E) (a b c : Place) (sent left whole : List ℕ) → Takes b c (Err e) left → Appends a.held b.held sent
+    → sent ++ left ≡ whole → b.failed ≡ a.failed → HasFailed a c whole
 write-failed e a b c sent left whole t p all same = (
   (length sent, subst (λ us. Appends a.held c.held us) (sym (take-append_seam sent left) ∙ ap (take (length sent)) all) (appends-keeps a.held b.held c.held sent p t.taken)),
   t.failed ∙ failed-now b.failed _ ∙ ap (option_map (λ _. true)) same,
 )
 
-pub write-zero : {E : Type 0} (n : ℕ) (a b c : Place) (sent left whole : List ℕ) → n ≡ 0 → Takes {E = E} b c (Ok n) left → nat_lt 0 (length left) ≡ true → Appends a.held b.held sent → sent ++ left ≡ whole → b.failed ≡ a.failed → HasFailed a c whole
+pub write-zero : {E : Type 0} (n : ℕ) (a b c : Place) (sent left whole : List ℕ) → n ≡ 0 → Takes {E = E} b c (Ok n) left
+    → nat_lt 0 (length left) ≡ true → Appends a.held b.held sent → sent ++ left ≡ whole → b.failed ≡ a.failed → HasFailed a c whole
 write-zero zero a b c sent left whole is t some p all same = (
   (
     length sent,
@@ -64,18 +66,21 @@ and-off : (b t : Bool) → b ≡ false → (b && t) ≡ false
 and-off true t is = cc
 and-off false t is = refl
 
-pub write-more : {E : Type 0} (n : ℕ) (a b c : Place) (sent left rest whole : List ℕ) → Takes {E = E} b c (Ok n) left → (n == 0) ≡ false → rest ≡ drop n left → Appends a.held b.held sent → sent ++ left ≡ whole → b.failed ≡ a.failed
+pub write-more : {E : Type 0} (n : ℕ) (a b c : Place) (sent left rest whole : List ℕ) → Takes {E = E} b c (Ok n) left → (n == 0) ≡ false
+    → rest ≡ drop n left → Appends a.held b.held sent → sent ++ left ≡ whole → b.failed ≡ a.failed
     → (more : List ℕ) × Appends a.held c.held more × (more ++ rest ≡ whole) × (c.failed ≡ a.failed)
 write-more n a b c sent left rest whole t some is p all same = (
   sent ++ take n left,
   appends-then a.held b.held c.held sent (take n left) p t.taken,
-  ap (λ us. (sent ++ take n left) ++ us) is ∙ append_assoc sent (take n left) (drop n left) ∙ ap (λ us. sent ++ us) (take-append-drop n left) ∙ all,
+  ap (λ us. (sent ++ take n left) ++ us) is ∙ append_assoc sent (take n left) (drop n left)
+      ∙ ap (λ us. sent ++ us) (take-append-drop n left) ∙ all,
   t.failed ∙ sound-now b.failed _ (and-off (n == 0) (nat_lt 0 (length left)) some) ∙ same,
 )
 
 -- ---- texts
 
-pub adds-then : {T : Type 0} {size : ℕ} (place : T → Place) (a b c : Text T size) (xs ys : List ℕ) → Adds place a b xs → Adds place b c ys → Adds place a c (xs ++ ys)
+pub adds-then : {T : Type 0} {size : ℕ} (place : T → Place) (a b c : Text T size) (xs ys : List ℕ) → Adds place a b xs → Adds place b c ys
+    → Adds place a c (xs ++ ys)
 adds-then place a b c xs ys g h = record {
   same_target = h.same_target ∙ g.same_target;
   given = λ start before is. subst (λ us. HasGiven place start c us) (append_assoc before xs ys) (h.given start (before ++ xs) (g.given start before is));
@@ -102,7 +107,8 @@ ended true o is = refl
 ended false o is = cc
 
 -- what fits is collected, or dropped after a failure
-pub adds-collected : {T : Type 0} {size : ℕ} (place : T → Place) (old new : Text T size) (bytes : List ℕ) → new.target ≡ old.target → new.fault ≡ old.fault → new.pieces ≡ old.pieces ++ bytes → Adds place old new bytes
+pub adds-collected : {T : Type 0} {size : ℕ} (place : T → Place) (old new : Text T size) (bytes : List ℕ) → new.target ≡ old.target
+    → new.fault ≡ old.fault → new.pieces ≡ old.pieces ++ bytes → Adds place old new bytes
 adds-collected place old new bytes target fault all = record {
   same_target = ap (λ o. o.ghost_name) target;
   given = λ start before is. record {
@@ -121,8 +127,10 @@ adds-collected place old new bytes target fault all = record {
     more o (Some e) xs ys left same is l = tt
 
 -- all was taken
-pub adds-taken : {T : Type 0} {size : ℕ} (place : T → Place) (old new : Text T size) (bytes chunk : List ℕ) → new.target.ghost_name ≡ old.target.ghost_name → is_some old.fault ≡ false → is_some new.fault ≡ false
-    → chunk ≡ old.pieces ++ bytes → new.pieces ≡ [] → Appends (place old.target.now).held (place new.target.now).held chunk → (place new.target.now).failed ≡ (place old.target.now).failed → Adds place old new bytes
+pub adds-taken : {T : Type 0} {size : ℕ} (place : T → Place) (old new : Text T size) (bytes chunk : List ℕ)
+    → new.target.ghost_name ≡ old.target.ghost_name → is_some old.fault ≡ false → is_some new.fault ≡ false
+    → chunk ≡ old.pieces ++ bytes → new.pieces ≡ [] → Appends (place old.target.now).held (place new.target.now).held chunk
+    → (place new.target.now).failed ≡ (place old.target.now).failed → Adds place old new bytes
 adds-taken place old new bytes chunk same sound new_sound all none taken failed = record {
   same_target = same;
   given = λ start before is. record {
@@ -130,14 +138,16 @@ adds-taken place old new bytes chunk same sound new_sound all none taken failed 
     left = [];
     is_left = is-left new.fault new.pieces [] new_sound (sym none);
     taken = appends-then start.held _ _ is.sent chunk is.taken taken;
-    whole = append-nil _ ∙ ap (λ us. is.sent ++ us) (all ∙ ap (λ us. us ++ bytes) (sym (left-of old.fault old.pieces is.left sound is.is_left)))
+    whole = append-nil _
+        ∙ ap (λ us. is.sent ++ us) (all ∙ ap (λ us. us ++ bytes) (sym (left-of old.fault old.pieces is.left sound is.is_left)))
         ∙ sym (append_assoc is.sent is.left bytes) ∙ ap (λ us. us ++ bytes) is.whole;
     failed = failed ∙ is.failed ∙ still _ start.failed sound ∙ sym (still _ start.failed new_sound);
   };
 }
 
 -- a beginning was taken
-pub adds-failed : {T : Type 0} {size : ℕ} (place : T → Place) (old new : Text T size) (bytes chunk : List ℕ) → new.target.ghost_name ≡ old.target.ghost_name → is_some old.fault ≡ false → is_some new.fault ≡ true
+pub adds-failed : {T : Type 0} {size : ℕ} (place : T → Place) (old new : Text T size) (bytes chunk : List ℕ)
+    → new.target.ghost_name ≡ old.target.ghost_name → is_some old.fault ≡ false → is_some new.fault ≡ true
     → chunk ≡ old.pieces ++ bytes → HasFailed (place old.target.now) (place new.target.now) chunk → Adds place old new bytes
 adds-failed place old new bytes chunk same sound stopped all ends = record {
   same_target = same;
@@ -146,14 +156,16 @@ adds-failed place old new bytes chunk same sound stopped all ends = record {
     left = drop ends.0.0 chunk;
     is_left = any-left new.fault new.pieces _ stopped;
     taken = appends-then start.held _ _ is.sent (take ends.0.0 chunk) is.taken ends.0.1;
-    whole = append_assoc is.sent (take ends.0.0 chunk) (drop ends.0.0 chunk) ∙ ap (λ us. is.sent ++ us) (take-append-drop ends.0.0 chunk ∙ all ∙ ap (λ us. us ++ bytes) (sym (left-of old.fault old.pieces is.left sound is.is_left)))
+    whole = append_assoc is.sent (take ends.0.0 chunk) (drop ends.0.0 chunk)
+        ∙ ap (λ us. is.sent ++ us) (take-append-drop ends.0.0 chunk ∙ all ∙ ap (λ us. us ++ bytes) (sym (left-of old.fault old.pieces is.left sound is.is_left)))
         ∙ sym (append_assoc is.sent is.left bytes) ∙ ap (λ us. us ++ bytes) is.whole;
     failed = ends.1 ∙ ap (option_map (λ _. true)) (is.failed ∙ still _ start.failed sound) ∙ sym (ended _ start.failed stopped);
   };
 }
 
 -- what is given after a failure is dropped
-pub adds-dropped : {T : Type 0} {size : ℕ} (place : T → Place) (old : Text T size) (bytes : List ℕ) → is_some old.fault ≡ true → Adds place old old bytes
+pub adds-dropped : {T : Type 0} {size : ℕ} (place : T → Place) (old : Text T size) (bytes : List ℕ) → is_some old.fault ≡ true
+    → Adds place old old bytes
 adds-dropped place old bytes stopped = record {
   same_target = refl;
   given = λ start before is. record {
@@ -172,18 +184,21 @@ adds-none place a = record {
   given = λ start before is. subst (λ us. HasGiven place start a us) (sym (append-nil before)) is;
 }
 
-pub adds-is : {T : Type 0} {size : ℕ} (place : T → Place) (a b : Text T size) (xs ys : List ℕ) → xs ≡ ys → Adds place a b xs → Adds place a b ys
+pub adds-is : {T : Type 0} {size : ℕ} (place : T → Place) (a b : Text T size) (xs ys : List ℕ) → xs ≡ ys → Adds place a b xs
+    → Adds place a b ys
 adds-is place a b xs ys is g = subst (λ us. Adds place a b us) is g
 
 -- what is put after the target failed is dropped
-pub adds-lost : {T : Type 0} {size : ℕ} (place : T → Place) (a b : Text T size) (xs ys : List ℕ) → is_some b.fault ≡ true → Adds place a b xs
+pub adds-lost : {T : Type 0} {size : ℕ} (place : T → Place) (a b : Text T size) (xs ys : List ℕ) → is_some b.fault ≡ true
+    → Adds place a b xs
     → Adds place a b (xs ++ ys)
 adds-lost place a b xs ys stopped g = adds-then place a b b xs ys g (adds-dropped place b ys stopped)
 
 pub some-none : {T : Type 0} {size : ℕ} (place : T → Place) (a : Text T size) → AddsSome place a a
 some-none place a = ([], adds-none place a)
 
-pub some-then : {T : Type 0} {size : ℕ} (place : T → Place) (a b c : Text T size) → AddsSome place a b → AddsSome place b c → AddsSome place a c
+pub some-then : {T : Type 0} {size : ℕ} (place : T → Place) (a b c : Text T size) → AddsSome place a b → AddsSome place b c
+    → AddsSome place a c
 some-then place a b c g h = (g.0 ++ h.0, adds-then place a b c g.0 h.0 g.1 h.1)
 
 pub adds-some : {T : Type 0} {size : ℕ} (place : T → Place) (a b : Text T size) (xs : List ℕ) → Adds place a b xs → AddsSome place a b
@@ -195,7 +210,8 @@ pub none-then : {E : Type 0} {P : Type 0} (o : Option E) → is_none o ≡ true 
 none-then None is p = p
 none-then (Some e) is p = cc
 
-pub ends-before : {T : Type 0} {size : ℕ} (place : T → Place) (start : Place) (text : Text T size) (bytes : List ℕ) → is_some text.fault ≡ true → HasGiven place start text bytes → HasFailed start (place text.target.now) bytes
+pub ends-before : {T : Type 0} {size : ℕ} (place : T → Place) (start : Place) (text : Text T size) (bytes : List ℕ)
+    → is_some text.fault ≡ true → HasGiven place start text bytes → HasFailed start (place text.target.now) bytes
 ends-before place start text bytes stopped g = (
   (length g.sent, subst (λ us. Appends start.held (place text.target.now).held us) (sym (take-append_seam g.sent g.left) ∙ ap (take (length g.sent)) g.whole) g.taken),
   g.failed ∙ ended _ start.failed stopped,
@@ -220,23 +236,27 @@ ends-after (Err e) place start end text bytes sound g ends = (
   ends.1 ∙ ap (option_map (λ _. true)) (g.failed ∙ still _ start.failed sound),
 )
 
-pub ended-written : {E : Type 0} (r : Result Unit E) (a b : Place) (bytes : List ℕ) → HasEnded r a b bytes → OnOk r (Appends a.held b.held bytes)
+pub ended-written : {E : Type 0} (r : Result Unit E) (a b : Place) (bytes : List ℕ) → HasEnded r a b bytes
+    → OnOk r (Appends a.held b.held bytes)
 ended-written (Ok u) a b bytes ends = ends.0
 ended-written (Err e) a b bytes ends = tt
 
-pub ended-begun : {E : Type 0} (r : Result Unit E) (a b : Place) (bytes : List ℕ) → HasEnded r a b bytes → OnErr r ((count : ℕ) × Appends a.held b.held (take count bytes))
+pub ended-begun : {E : Type 0} (r : Result Unit E) (a b : Place) (bytes : List ℕ) → HasEnded r a b bytes
+    → OnErr r ((count : ℕ) × Appends a.held b.held (take count bytes))
 ended-begun (Ok u) a b bytes ends = tt
 ended-begun (Err e) a b bytes ends = ends.0
 
 -- of a port that had not failed
-pub ended-sound : {E : Type 0} (r : Result Unit E) (a b : Option (List ℕ)) (old new : Bool) (bytes : List ℕ) → HasEnded r (record { held = a; failed = Some old }) (record { held = b; failed = Some new }) bytes → old ≡ false → is_ok r ≡ true
+pub ended-sound : {E : Type 0} (r : Result Unit E) (a b : Option (List ℕ)) (old new : Bool) (bytes : List ℕ)
+    → HasEnded r (record { held = a; failed = Some old }) (record { held = b; failed = Some new }) bytes → old ≡ false → is_ok r ≡ true
     → (new ≡ false) × Appends a b bytes
 ended-sound (Ok u) a b old false bytes ends sound ok = (refl, ends.0)
 ended-sound (Ok u) a b false true bytes ends sound ok = cc
 ended-sound (Ok u) a b true true bytes ends sound ok = cc
 ended-sound (Err e) a b old new bytes ends sound ok = cc
 
-pub ended-failed : {E : Type 0} (r : Result Unit E) (a b : Option (List ℕ)) (old new : Bool) (bytes : List ℕ) → HasEnded r (record { held = a; failed = Some old }) (record { held = b; failed = Some new }) bytes → is_ok r ≡ false
+pub ended-failed : {E : Type 0} (r : Result Unit E) (a b : Option (List ℕ)) (old new : Bool) (bytes : List ℕ)
+    → HasEnded r (record { held = a; failed = Some old }) (record { held = b; failed = Some new }) bytes → is_ok r ≡ false
     → (new ≡ true) × ((count : ℕ) × Appends a b (take count bytes))
 ended-failed (Ok u) a b old new bytes ends ok = cc
 ended-failed (Err e) a b old true bytes ends ok = (refl, ends.0)

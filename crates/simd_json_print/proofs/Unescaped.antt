@@ -38,8 +38,10 @@ pub mask-three : (n : ℕ) (v : List ℕ) → length v ≡ n → n ≤ 64
 mask-three n v long short =
     let stops = zip2_of_maps bit_or (λ x. hit x 34) (λ x. hit x 92) v (zip2_splat hit v n 34 long) (zip2_splat hit v n 92 long) in
     let lanes = zip2_of_maps bit_or (λ x. bit_or (hit x 34) (hit x 92)) (λ x. below x 32) v stops (zip2_splat below v n 32 long) in
-    let tops = map-map (top 7) (λ x. bit_or (bit_or (hit x 34) (hit x 92)) (below x 32)) v ∙ map-same _ _ (λ x. top-three (eqb x 34) (eqb x 92) (ltb x 32)) v in
-    ap (λ us. mask_l us % 2 ^ 64) (ap (map (top 7)) lanes ∙ tops) ∙ mask_l-mod (map needs_escape v) 64 (omega (arith, length-map v needs_escape))
+    let tops = map-map (top 7) (λ x. bit_or (bit_or (hit x 34) (hit x 92)) (below x 32)) v
+    ∙ map-same _ _ (λ x. top-three (eqb x 34) (eqb x 92) (ltb x 32)) v in
+    ap (λ us. mask_l us % 2 ^ 64) (ap (map (top 7)) lanes ∙ tops)
+    ∙ mask_l-mod (map needs_escape v) 64 (omega (arith, length-map v needs_escape))
 
 -- a vector of which no bit is set
 pub unescaped-vector : (d : List ℕ) (i n : ℕ) → i + n ≤ length d → mask_l (map needs_escape (chunk i n d)) ≡ 0 → AreUnescaped d i (i + n)
@@ -52,7 +54,8 @@ front-count d i n mask room few is some =
     ap (count_trailing_zeros 64) is
     ∙ trailing_mask_l needs_escape 64 (chunk i n d) (omega (arith, length-chunk i n d room)) (omega (arith, is, some))
 
-pub front-within : (d : List ℕ) (i n mask : ℕ) → i + n ≤ length d → n ≤ 64 → mask ≡ mask_l (map needs_escape (chunk i n d)) → mask ≢ 0 → count_trailing_zeros 64 mask ≤ n
+pub front-within : (d : List ℕ) (i n mask : ℕ) → i + n ≤ length d → n ≤ 64 → mask ≡ mask_l (map needs_escape (chunk i n d)) → mask ≢ 0
+    → count_trailing_zeros 64 mask ≤ n
 front-within d i n mask room few is some =
     omega (arith, front-count d i n mask room few is some, prefix_len-le-length (λ x. not (needs_escape x)) (chunk i n d), length-chunk i n d room)
 
@@ -74,7 +77,8 @@ unescaped-all (x ∷ xs) h =
     ap₂ (λ us vs. us ++ vs) (plain-byte x none.0 none.1) (unescaped-all xs (λ k p q. h (suc k) (omega arith) (omega arith)))
 
 -- one in front and one at the end
-pub unescaped-overlap : (d : List ℕ) (n : ℕ) → n ≤ length d → length d ≤ n + n → AreUnescaped d 0 n → AreUnescaped d (length d - n) (length d - n + n) → flat_map escaped_byte d ≡ d
+pub unescaped-overlap : (d : List ℕ) (n : ℕ) → n ≤ length d → length d ≤ n + n → AreUnescaped d 0 n
+    → AreUnescaped d (length d - n) (length d - n + n) → flat_map escaped_byte d ≡ d
 unescaped-overlap d n covers within front back =
     unescaped-all d (λ k p q. elim (cases_lt k n) [
       | inl h ↦ front k p h
@@ -89,7 +93,8 @@ unescaped-prefix d n room is =
     subst (λ x. IsFalse (needs_escape x)) (sym (get_or-take n d k 0 (omega (arith, size)))) (is k p (omega (arith, size))))
 
 -- more, from an index within them on
-pub unescaped-further : (d : List ℕ) (from done n : ℕ) → from ≤ done → AreUnescaped d 0 done → AreUnescaped d from (from + n) → AreUnescaped d 0 (from + n)
+pub unescaped-further : (d : List ℕ) (from done n : ℕ) → from ≤ done → AreUnescaped d 0 done → AreUnescaped d from (from + n)
+    → AreUnescaped d 0 (from + n)
 unescaped-further d from done n within before more k p q = elim (cases_lt k done) [
   | inl h ↦ before k p h
   | inr h ↦ more k (omega arith) q

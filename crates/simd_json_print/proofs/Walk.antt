@@ -33,7 +33,8 @@ pub record IsLeaf (p : Bool) (n : ℕ) (x : Item) (items rest : List Item) (d : 
   pub printed : leaf_text x ≡ text p d n
   pub after : items ≡ rest
 
-leaf : (p : Bool) (n : ℕ) (x y : Item) (items rest : List Item) (d : Document) → x ∷ items ≡ y ∷ rest → leaf_text y ≡ text p d n → IsLeaf p n x items rest d
+leaf : (p : Bool) (n : ℕ) (x y : Item) (items rest : List Item) (d : Document) → x ∷ items ≡ y ∷ rest → leaf_text y ≡ text p d n
+    → IsLeaf p n x items rest d
 leaf p n x y items rest d is same = record {
   printed = ap leaf_text (same-first x y items rest is) ∙ same;
   after = same-rest x y items rest is;
@@ -42,7 +43,8 @@ leaf p n x y items rest d is same = record {
 not-leaf : (x y : Item) (items others more : List Item) (k : ℕ) → x ∷ items ≡ y ∷ others → count_of y ≡ k → 0 < k → count_of x ≡ 0 → ⊥
 not-leaf x y items others more k is count some none = omega (arith, ap count_of (same-first x y items others is), count, some, none)
 
-pub is-leaf : (p : Bool) (n : ℕ) (x : Item) (items rest : List Item) (d : Document) → x ∷ items ≡ listing d ++ rest → count_of x ≡ 0 → IsLeaf p n x items rest d
+pub is-leaf : (p : Bool) (n : ℕ) (x : Item) (items rest : List Item) (d : Document) → x ∷ items ≡ listing d ++ rest → count_of x ≡ 0
+    → IsLeaf p n x items rest d
 is-leaf p n x items rest null is none = leaf p n x _ items rest null is refl
 is-leaf p n x items rest (boolean b) is none = leaf p n x _ items rest (boolean b) is refl
 is-leaf p n x items rest (integer minus m) is none = leaf p n x _ items rest (integer minus m) is (of-integer minus m)
@@ -63,8 +65,10 @@ pub record IsOpened (p : Bool) (n : ℕ) (x : Item) (items rest : List Item) (d 
   pub whole : listing d ≡ x ∷ frame_listing frame
   pub printed : text p d n ≡ frame_text p n true frame
 
-opened : (p : Bool) (n : ℕ) (x y : Item) (items rest : List Item) (d : Document) (f : Frame) → x ∷ items ≡ y ∷ (frame_listing f ++ rest) → is_object_item y ≡ has_members f
-    → count_of y ≡ length (frame_listing f) → listing d ≡ y ∷ frame_listing f → text p d n ≡ frame_text p n true f → IsOpened p n x items rest d
+opened : (p : Bool) (n : ℕ) (x y : Item) (items rest : List Item) (d : Document) (f : Frame) → x ∷ items ≡ y ∷ (frame_listing f ++ rest)
+    → is_object_item y ≡ has_members f
+    → count_of y ≡ length (frame_listing f) → listing d ≡ y ∷ frame_listing f → text p d n ≡ frame_text p n true f
+    → IsOpened p n x items rest d
 opened p n x y items rest d f is kind count whole printed = record {
   frame = f;
   kind = ap is_object_item (same-first x y items _ is) ∙ kind;
@@ -77,7 +81,8 @@ opened p n x y items rest d f is kind count whole printed = record {
 no-container : (x y : Item) (items rest : List Item) → x ∷ items ≡ y ∷ rest → count_of y ≡ 0 → 0 < count_of x → ⊥
 no-container x y items rest is none some = omega (arith, ap count_of (same-first x y items rest is), none, some)
 
-pub is-opened : (p : Bool) (n : ℕ) (x : Item) (items rest : List Item) (d : Document) → x ∷ items ≡ listing d ++ rest → 0 < count_of x → IsOpened p n x items rest d
+pub is-opened : (p : Bool) (n : ℕ) (x : Item) (items rest : List Item) (d : Document) → x ∷ items ≡ listing d ++ rest → 0 < count_of x
+    → IsOpened p n x items rest d
 is-opened p n x items rest null is some = absurd (no-container x _ items rest is refl some)
 is-opened p n x items rest (boolean b) is some = absurd (no-container x _ items rest is refl some)
 is-opened p n x items rest (integer minus m) is some = absurd (no-container x _ items rest is refl some)

@@ -1,5 +1,6 @@
 //! Inputs of which it is known what a run over them returns and writes.
 use super::*;
+use std::process::Abort;
 
 const ALL: &[Mode] = &[
     Mode::Tape,
@@ -32,8 +33,8 @@ use Wanted::{Clean, Refusal};
 
 type Row = (&'static [Mode], usize, &'static [u8], Wanted, &'static [u8]);
 
-const ROWS: [Row; 53] = [
-    // Documents.
+// Documents.
+const DOCUMENTS: [Row; 15] = [
     (
         TAPE,
         1024,
@@ -127,7 +128,10 @@ const ROWS: [Row; 53] = [
     ),
     (TAPE, 0, b"7", Clean(true), b"U64 7\n"),
     (TAPE, 2, b"[[]]", Clean(true), b"Array 1 1\nArray 0 0\n"),
-    // What is refused, in each mode.
+];
+
+// What is refused, in each mode.
+const REFUSED: [Row; 15] = [
     (
         ALL,
         0,
@@ -215,6 +219,9 @@ const ROWS: [Row; 53] = [
         Refusal("TrailingData at character 0 ('t')"),
         b"",
     ),
+];
+
+const REFUSED_TOO: [Row; 15] = [
     (
         ALL,
         1024,
@@ -320,7 +327,10 @@ const ROWS: [Row; 53] = [
         Refusal("ExpectedFalse at character 7 ('f')"),
         b"",
     ),
-    // What is blank is no document, but a stream of no lines.
+];
+
+// What is blank is no document, but a stream of no lines; and streams of lines.
+const STREAMS: [Row; 8] = [
     (DOCUMENT, 1024, b"", Refusal("Eof at character 0"), b""),
     (
         DOCUMENT,
@@ -331,7 +341,6 @@ const ROWS: [Row; 53] = [
     ),
     (LINES, 1024, b"", Clean(true), b""),
     (LINES, 1024, b"\n  \n \n\n", Clean(true), b""),
-    // Streams of lines.
     (LINES, 1024, b"1\r\n2\n", Clean(true), b"1\n2\n"),
     (
         LINES,
@@ -356,37 +365,63 @@ const ROWS: [Row; 53] = [
     ),
 ];
 
-#[test]
-fn known_outputs_are_written(rt: HostRuntime) -> Tested {
-    for (modes, depth, input, wanted, output) in ROWS {
-        for &mode in modes {
-            let ran = run_within(&rt, mode, depth, input);
-            assert!(rt; ran.has_ended);
-            match wanted {
-                Clean(is_clean) => {
-                    assert_eq!(rt; ran.answer, Ok(is_clean), "{input:?}");
-                    assert_eq!(rt; ran.written.as_slice(), output, "{input:?}");
-                }
-                Refusal(text) if mode == Mode::Lines => {
-                    let line = format!(in rt.alloc(); "! {text}\n")?;
-                    assert_eq!(rt; ran.answer, Ok(false), "{input:?}");
-                    assert_eq!(rt; ran.written.as_slice(), line.as_bytes(), "{input:?}");
-                }
-                Refusal(text) => {
-                    let Err(fault) = &ran.answer else {
-                        panic!(rt; "{input:?} was printed");
-                    };
-                    assert_eq!(rt;
-                        format!(in rt.alloc(); "{fault}")?.as_str(),
-                        text,
-                        "{input:?}"
-                    );
-                    assert_eq!(rt; ran.written.len(), 0, "{input:?}");
-                }
-            }
-            let all = matches!(wanted, Clean(true));
-            assert_eq!(rt; status(&ran.answer), if all { 0 } else { 1 }, "{input:?}");
+fn assert_rows(rt: &(impl Abort + AllocGlobal), rows: &[Row]) -> Tested {
+    for row in rows {
+        for &mode in row.0 {
+            let ran = run_within(rt, mode, row.1, row.2);
+            assert_ran(rt, &ran, mode, row)?;
         }
     }
     Ok(())
+}
+
+fn assert_ran(rt: &(impl Abort + AllocGlobal), ran: &Ran, mode: Mode, row: &Row) -> Tested {
+    let (_, _, input, wanted, output) = *row;
+    assert!(rt; ran.has_ended);
+    let all = matches!(wanted, Clean(true));
+    assert_eq!(rt; status(&ran.answer), if all { 0 } else { 1 }, "{input:?}");
+    match wanted {
+        Clean(is_clean) => {
+            assert_eq!(rt; ran.answer, Ok(is_clean), "{input:?}");
+            assert_eq!(rt; ran.written.as_slice(), output, "{input:?}");
+            Ok(())
+        }
+        Refusal(text) => assert_refused(rt, ran, mode, text),
+    }
+}
+
+// In mode `lines` the error is a line.
+fn assert_refused(rt: &(impl Abort + AllocGlobal), ran: &Ran, mode: Mode, text: &str) -> Tested {
+    if mode == Mode::Lines {
+        assert_eq!(rt; ran.answer, Ok(false), "{text}");
+        let line = format!(in rt.alloc(); "! {text}\n")?;
+        assert_eq!(rt; ran.written.as_slice(), line.as_bytes(), "{text}");
+        return Ok(());
+    }
+    assert_eq!(rt; ran.written.len(), 0, "{text}");
+    let Err(fault) = &ran.answer else {
+        panic!(rt; "printed, and not {text}");
+    };
+    assert_eq!(rt; format!(in rt.alloc(); "{fault}")?.as_str(), text);
+    Ok(())
+}
+
+#[test]
+fn known_documents_are_written(rt: HostRuntime) -> Tested {
+    assert_rows(&rt, &DOCUMENTS)
+}
+
+#[test]
+fn known_inputs_are_refused(rt: HostRuntime) -> Tested {
+    assert_rows(&rt, &REFUSED)
+}
+
+#[test]
+fn more_known_inputs_are_refused(rt: HostRuntime) -> Tested {
+    assert_rows(&rt, &REFUSED_TOO)
+}
+
+#[test]
+fn known_streams_are_written(rt: HostRuntime) -> Tested {
+    assert_rows(&rt, &STREAMS)
 }

@@ -10,7 +10,8 @@ returns-then-number-lt10-clause-end c = ap (λ us. c.args.at + length us) (sym (
 
 pub returns-then-number-lt10-clause-stored : goal.returns-then-number-lt10-clause-stored
 returns-then-number-lt10-clause-stored c =
-    take_more_set c.args.all.now c.args.at (48 + c.args.number) (omega arith) ∙ ap (λ us. take c.args.at c.args.all.now ++ us) (sym (decimal_digit c.args.number c.if-number-lt10.true))
+    take_more_set c.args.all.now c.args.at (48 + c.args.number) (omega arith)
+    ∙ ap (λ us. take c.args.at c.args.all.now ++ us) (sym (decimal_digit c.args.number c.if-number-lt10.true))
 
 pub returns-clause-stored : goal.returns-clause-stored
 returns-clause-stored c =
