@@ -14,8 +14,8 @@ use crate::document::scalar::{put_element, put_front, put_leaf, put_line, put_na
 use crate::text::{Target, Text};
 use simd_json_parts::node::Node;
 
-// How many containers one call keeps open. What is nested deeper is printed by another call, so that a container
-// takes about ten bytes of the machine's stack, and no memory.
+// How many containers one call keeps open. What is nested deeper is printed by another call, so that a
+// container takes about ten bytes of the machine's stack, and no memory.
 const OPEN: usize = 64;
 
 // The containers that one call has open, the outermost first.
@@ -196,8 +196,8 @@ fn put_elements<'tape, 'input, T: Target, const SIZE: usize, const PRETTY: bool>
     (left, is_still_first)
 }
 
-// What stands in front of a value: a bracket or a comma, its line in pretty text, and in an object its name. The
-// nodes from the value on.
+// What stands in front of a value: a bracket or a comma, its line in pretty text, and in an object its key.
+// Returns the nodes from the value on.
 #[inline(always)]
 fn put_before<'tape, 'input, T: Target, const SIZE: usize, const PRETTY: bool>(
     out: &mut Text<'_, T, SIZE>,
@@ -211,7 +211,8 @@ fn put_before<'tape, 'input, T: Target, const SIZE: usize, const PRETTY: bool>(
     requires room { depth + nesting.now.count < 2 ^ 64 }
     ensures within { length result.nodes.now ≤ length left.entry.nodes.now }
     ensures kept { AddsSome T.place out.old out.new }
-    ensures given { (done whole : List ℕ) → get_or nesting.now.ends (nesting.now.count - 1) 0 < length left.entry.nodes.now
+    ensures given { (done whole : List ℕ)
+        → get_or nesting.now.ends (nesting.now.count - 1) 0 < length left.entry.nodes.now
         → IsBetween PRETTY depth nesting.now is_first (map item_of left.entry.nodes.now) done whole
         → (more : List ℕ) × Adds T.place out.old out.new more
         × IsAtValue PRETTY depth nesting.now (map item_of result.nodes.now) (done ++ more) whole }
@@ -240,7 +241,8 @@ fn put_next<'tape, 'input, T: Target, const SIZE: usize, const PRETTY: bool>(
     requires room { depth + nesting.old.count + length left.nodes.now < 2 ^ 64 }
     ensures shorter { length result.0.nodes.now < length left.entry.nodes.now }
     ensures nested { (0 < nesting.new.count) × (nesting.new.count ≤ 64) }
-    ensures room { nesting.new.count + length result.0.nodes.now ≤ nesting.old.count + length left.entry.nodes.now }
+    ensures room { nesting.new.count + length result.0.nodes.now
+        ≤ nesting.old.count + length left.entry.nodes.now }
     ensures kept { AddsSome T.place out.old out.new }
     ensures given { (done whole : List ℕ)
         → IsAtValue PRETTY depth nesting.old (map item_of left.entry.nodes.now) done whole
