@@ -21,9 +21,10 @@ library: has-rt
 	cp crates/simd_json_bench/out/libsimd_json_bench.a build/
 
 # Every proof from nothing, the must-fail edits, the tests and the programs. Its last line is 'N passed, M failed'. After it the
-# program that it built is run on inputs of which the lines and the status are known, which is silent where all is well.
+# program that it built is run on inputs of which the lines and the status are known, and the counts of lines in DESIGN.md are
+# compared with the files; both are silent where all is well.
 test: has-rt
-	rt ci && sh tests/statuses.sh
+	rt ci && sh tests/statuses.sh && sh tests/counts.sh
 
 # Beside the parsers that are installed, over generated texts and FILES. SAVE=1 puts the results into docs/.
 bench: has-rt

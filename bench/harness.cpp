@@ -4,8 +4,9 @@
 // A contender is simdjson, stage1 (simdjson's), rapidjson, yajl, serde_json=LIBRARY.so, or ours: parse-LEVEL=LIBRARY.so,
 // scan-LEVEL=LIBRARY.so, or refuse-LEVEL=LIBRARY.so, which is timed at texts that it refuses, and at no other.
 // Writes a line for each text and contender: its path, its bytes, what is timed, the contender, and the nanoseconds of a
-// byte at the fastest round, or `-` where the text was refused. A contender that is not installed is named on standard
-// error. Those who count, count the same, or nothing is told: that is the test that each did the work.
+// byte at the fastest round, or `-` where the text was refused. Libraries of one LEVEL that differ in where the code lies are
+// contenders of one name, with a line each. A contender that is not installed is named on standard error. Those who count,
+// count the same, or nothing is told: that is the test that each did the work.
 #include <dlfcn.h>
 #include <malloc.h>
 
@@ -243,7 +244,7 @@ static void race(const std::string &path, size_t rounds, const std::vector<std::
     auto all = contenders(words);
     int64_t counts[2] = {0, 0};
     // Fewer rounds over the largest texts. The first warms up: its times are the slowest, and the fastest counts.
-    rounds = std::clamp<size_t>((256 << 20) / (copies.count * text.size()), std::min<size_t>(rounds, 7), rounds);
+    rounds = std::clamp<size_t>((192 << 20) / (copies.count * text.size()), std::min<size_t>(rounds, 2), rounds);
     for (size_t round = 0; round <= rounds; round++)
         for (size_t i = 0; i < all.size(); i++) {
             Contender &next = all[(i + round) % all.size()];

@@ -1,13 +1,14 @@
 #!/bin/sh
 # The benchmark: `make bench` calls it. From the top of the repository: sh bench/run.sh [FILE..]
 # Times the texts that bench/texts.py makes, each FILE, and the shapes of bench/shapes.py, which are made to be slow, and prints
-# three tables. ROUNDS says how often. With SAVE=1 the
+# three tables. ROUNDS says how often, PLACEMENTS at how many places our code is timed. With SAVE=1 the
 # tables are put into docs/SPEED.md, between its marks, and docs/speed.svg is drawn; without, build/bench has the chart.
 # It installs nothing: a parser whose package is absent is left out, and named.
 set -eu
 cd "$(dirname "$0")/.."
 OUT=$PWD/build/bench
-ROUNDS=${ROUNDS:-21}
+ROUNDS=${ROUNDS:-11}
+PLACEMENTS=${PLACEMENTS:-3}
 KIT=$(dirname "$(dirname "$(readlink -f "$(command -v rt)")")")
 mkdir -p "$OUT"
 
@@ -20,7 +21,9 @@ else
     say "left out: level x86-64-v3, which this processor lacks"
 fi
 
-# Ours, at each level: a static library, and that as a shared one, so that both fit into one process.
+# Ours, at each level: a static library, and that as shared ones, so that all fit into one process. Where the linker puts the
+# code, 16 bytes up or down, can change what a text costs by half, and is chance. So the code is linked behind 0, 16, 32 bytes
+# of padding and so on, each of these is timed, and the tables have the median. The others are timed where they lie.
 parses=
 scans=
 refusals=
@@ -28,11 +31,17 @@ for level in $levels; do
     say "proving and building the library at $level"
     (cd crates/simd_json_bench && rt lib --cpu "$level") > "$OUT/$level.log" || { tail -n 20 "$OUT/$level.log" >&2; exit 1; }
     cp crates/simd_json_bench/out/libsimd_json_bench.a "$OUT/$level.a"
-    cc -shared -o "$OUT/$level.so" -Wl,--whole-archive "$OUT/$level.a" -Wl,--no-whole-archive \
-        "$KIT/c/liblibc_c.a" "$KIT/c/libos_c.a" -Wl,-Bsymbolic
-    parses="$parses parse-${level#x86-64-}=$OUT/$level.so"
-    scans="$scans scan-${level#x86-64-}=$OUT/$level.so"
-    refusals="$refusals refuse-${level#x86-64-}=$OUT/$level.so"
+    placement=0
+    while [ "$placement" -lt "$PLACEMENTS" ]; do
+        library=$OUT/$level-$placement.so
+        echo "__asm__(\".text; .fill 16 * $placement, 1, 0x90\");" | cc -c -x c - -o "$OUT/padding.o"
+        cc -shared -o "$library" "$OUT/padding.o" -Wl,--whole-archive "$OUT/$level.a" -Wl,--no-whole-archive \
+            "$KIT/c/liblibc_c.a" "$KIT/c/libos_c.a" -Wl,-Bsymbolic
+        parses="$parses parse-${level#x86-64-}=$library"
+        scans="$scans scan-${level#x86-64-}=$library"
+        refusals="$refusals refuse-${level#x86-64-}=$library"
+        placement=$((placement + 1))
+    done
 done
 
 # The others, as far as they are installed. The harness finds their headers by itself.
@@ -62,7 +71,7 @@ say "timing"
 # shellcheck disable=SC2086
 "$OUT/harness" "$ROUNDS" "$OUT"/texts/sizes/*.json -- simdjson $parses > "$OUT/sizes.tsv"
 # shellcheck disable=SC2086
-sh bench/shapes.sh "$OUT" "$ROUNDS" "$OUT/x86-64-v2.so" $parses $refusals
+sh bench/shapes.sh "$OUT" "$ROUNDS" "$OUT/x86-64-v2-0.so" $parses $refusals
 
 python3 bench/tables.py "$OUT/kinds.tsv" "$OUT/sizes.tsv" "$OUT/shapes.tsv" "$OUT/memory.tsv" > "$OUT/tables.md"
 python3 bench/chart.py "$OUT/sizes.tsv" > "$OUT/speed.svg"

@@ -3,25 +3,30 @@
 With a document, they stand there between the marks `<!-- results -->` and `<!-- end of results -->`; else they are printed."""
 import math
 import re
+import statistics
 import sys
 from pathlib import Path
 
 # The generated texts come first, in this order.
-KINDS = ["tweets", "tweets_ascii", "catalogue", "numbers", "escapes", "long_strings", "deep", "200_bytes"]
+KINDS = """tweets tweets_ascii catalogue numbers escapes long_strings deep chains literals settings rows integers
+200_bytes""".split()
 # The sizes of the shapes that are made to be slow.
 SHAPE_BYTES = [10**6, 64 * 10**6]
 
 
 class Results:
-    """`ns[path of a text, contender]`: the nanoseconds of a byte at the fastest round, or None where it was refused."""
+    """`ns[path of a text, contender]`: the nanoseconds of a byte at the fastest round, or None where it was refused.
+
+    Of a contender whose code was timed at more than one place, the median over these."""
 
     def __init__(self, path):
-        self.sizes, self.parts, self.ns = {}, {}, {}
+        self.sizes, self.parts, placed = {}, {}, {}
         for line in Path(path).read_text().splitlines():
             text, size, part, contender, ns = line.split("\t")
             self.sizes[text] = int(size)
             self.parts[contender] = part
-            self.ns[text, contender] = None if ns == "-" else float(ns)
+            placed.setdefault((text, contender), []).append(ns)
+        self.ns = {of: None if "-" in ns else statistics.median(map(float, ns)) for of, ns in placed.items()}
 
     def contenders(self, part, ours):
         """Those of simd_json, or all others."""
@@ -84,6 +89,14 @@ def table_of_sizes(results):
     return rows(head, lines)
 
 
+def means(*parts):
+    """Of ours, at each level, with buffers kept and made anew: the mean over all texts."""
+    return "; ".join(
+        f"{contender.removeprefix('simd_json ')} {shown(mean([of.ratio(t, contender) for of in parts for t in of.sizes]))}"
+        for contender in parts[0].contenders("parse", ours=True)
+    )
+
+
 def table_of_shapes(shapes, memory):
     """Nanoseconds of a byte at both sizes and their ratio; for kept buffers besides how often that is a tweet's, at most."""
     kept = [c for c in shapes.contenders("parse", ours=True) if " kept, " in c]
@@ -112,10 +125,13 @@ def main():
     kinds, sizes, shapes, memory = *map(Results, sys.argv[1:4]), sys.argv[4]
     whole, scan = ("simdjson's best DOM parse", "its best stage 1") if kinds.has_simdjson() else ("the fastest", "the fastest")
     text = (
-        f"Speed at the fastest round, as a multiple: of a whole parse over {whole}, of a scan over {scan}.\n\n"
+        f"Speed at the fastest round, ours as the median over the places of its code, as a multiple: of a whole parse over {whole}, "
+        f"of a scan over {scan}.\n\n"
         f"{table_of_kinds(kinds)}\n\n"
         f"Cost against size, over tweets; in brackets the speed over {whole}.\n\n"
         f"{table_of_sizes(sizes)}\n\n"
+        f"Geometric mean of our speed over {whole}, over all {len(kinds.sizes) + len(sizes.sizes)} texts of both tables: "
+        f"{means(kinds, sizes)}.\n\n"
         f"Shapes that are made to be slow: nanoseconds of a byte at 1 MB, at 64 MB (and how many times as much that is).\n\n"
         f"{table_of_shapes(shapes, memory)}\n"
     )

@@ -89,6 +89,29 @@ def chain(s):
     return value
 
 
+def settings(s):
+    names = [s.one_of(LATIN) for _ in range(4 + s.below(12))]
+    return {name: s.one_of([0, s.below(1000), s.below(2) == 0, s.one_of(LATIN)]) for name in names}
+
+
+def short_chain(s):
+    """Arrays and objects in turn, some 20 deep."""
+    value = s.below(100)
+    for _ in range(8 + s.below(5)):
+        value = {f"k{s.below(10)}": [value]}
+    return value
+
+
+def row(s):
+    return [s.one_of([s.one_of(LATIN), s.below(10**5), s.below(10**5) / 100, None]) for _ in range(8)]
+
+
+def long_integer(s):
+    """Of 8 to 16 digits, each length as often as the others."""
+    least = 10 ** (7 + s.below(9))
+    return least + s.below(9 * least)
+
+
 def compact(value, ascii_only=False):
     return json.dumps(value, separators=(",", ":"), ensure_ascii=ascii_only)
 
@@ -114,6 +137,12 @@ def kinds():
     yield "escapes", of(lambda s: compact(tweet(s, 0.5), ascii_only=True), 5)
     yield "long_strings", of(lambda s: compact(paragraph(s)), 6)
     yield "deep", of(lambda s: compact(chain(s)), 7)
+    yield "chains", of(lambda s: compact(short_chain(s)), 10)
+    yield "literals", of(lambda s: s.one_of(["true", "false", "null"]), 11)
+    yield "settings", of(lambda s: json.dumps(settings(s), indent=4, separators=(",", " : ")), 12)
+    yield "rows", of(lambda s: compact(row(s)), 13)
+    yield "integers", of(lambda s: str(long_integer(s)), 14)
+    # Small enough that a text's own costs show: the harness parses each copy by itself.
     s = Source(8)
     short = {"id": s.below(10**6), "name": s.words(2), "tags": [s.one_of(LATIN) for _ in range(6)], "price": 12.5}
     short["text"] = s.words(20)[: 200 - len(compact(short | {"text": ""}))]

@@ -1,5 +1,6 @@
 mod DepthWords
 mod Given
+mod Modes
 mod Outputs
 mod Pieces
 mod Streams

@@ -20,7 +20,6 @@
 //! `InternalError at character 3 (']')`.
 #![tactic(auto)]
 
-mod failure;
 mod lines;
 mod output;
 mod port;
@@ -29,7 +28,6 @@ mod runs;
 mod stream;
 mod words;
 
-pub use failure::status;
 pub use port::Port;
-pub use runs::{Answer, RunFault, run};
+pub use runs::{Answer, RunFault, run, status};
 pub use words::{Mode, settings};

@@ -8,7 +8,6 @@ ghost use Rattle.simd_json_parts.specs.Document.{Document};
 ghost use Rattle.simd_json_parts.specs.Listing.{listing};
 ghost use Rattle.simd_json_parts.specs.Nodes.{item_of};
 ghost use Rattle.simd_json_parts.specs.Positions.{positions};
-ghost use Rattle.simd_json_print.specs.Texts.{Adds, AddsSome};
 
 use crate::lines::put_lines;
 use crate::port::Port;
@@ -17,7 +16,7 @@ use crate::runs::RunFault;
 use crate::words::Mode;
 use simd_json::{Buffers, Node, to_tape_with_buffers};
 use simd_json_print::document::{put_compact, put_pretty};
-use simd_json_print::text::{Target, Text};
+use simd_json_print::text::Text;
 use std::alloc::Allocator;
 use std::io::Write;
 
@@ -72,35 +71,20 @@ fn print<W: Write>(
     ensures fault { IfErr result (λ fault. (fault ≡ faults.Write) × (writer.new.failed ≡ true)) }
 {
     let mut text = Text::<Port<W>, PIECE>::new(writer);
-    put_printed(&mut text, mode, nodes, structural_indexes);
-    match text.finish() {
-        Ok(()) => Ok(()),
-        Err(_) => Err(RunFault::Write),
-    }
-}
-
-// Puts what the mode asks for of a document.
-fn put_printed<T: Target, const SIZE: usize>(
-    text: &mut Text<'_, T, SIZE>,
-    mode: Mode,
-    nodes: &[Node<'_>],
-    structural_indexes: &[u32],
-)
-    ensures kept { AddsSome T.place text.old text.new }
-    ensures given { (d : Document) → (input : List ℕ)
-        → map item_of nodes.now ≡ listing d → structural_indexes.now ≡ positions input
-        → Adds T.place text.old text.new (printed mode input d) }
-{
     match mode {
-        Mode::Tape => put_lines(text, nodes),
-        Mode::Positions => put_positions(text, structural_indexes),
+        Mode::Tape => put_lines(&mut text, nodes),
+        Mode::Positions => put_positions(&mut text, structural_indexes),
         Mode::Compact | Mode::Lines => {
-            put_compact(text, nodes);
+            put_compact(&mut text, nodes);
             text.put(b"\n");
         }
         Mode::Pretty => {
-            put_pretty(text, nodes);
+            put_pretty(&mut text, nodes);
             text.put(b"\n");
         }
+    }
+    match text.finish() {
+        Ok(()) => Ok(()),
+        Err(_) => Err(RunFault::Write),
     }
 }

@@ -1,7 +1,8 @@
-//! From a reader's bytes to a writer's.
+//! From a reader's bytes to a writer's, and what is said of how that ended: a line, and a status.
 ghost use Rattle.std.specs.Prelude.{◌≡◌, ◌≢◌, ◌↔◌, ◌⊎◌, ◌<◌, ℕ, List, Option, length};
 ghost use Rattle.std.specs.Prelude.{true, false, IfOk, IfErr, OnOk, Err};
 ghost use Rattle.std.specs.Io.KnownBytes.{Consumes, IsAtEnd, Keeps};
+ghost use Rattle.jtape.specs.Failures.{status_of};
 ghost use Rattle.jtape.specs.Runs.{HasRun, HasBegun, HasStopped, IsReadFault, OnAnswer, lacks_memory};
 ghost use Rattle.jtape.specs.declared.runs.RunFault.TheVariants as faults;
 ghost use Rattle.jtape.specs.declared.words.Mode.TheVariants as modes;
@@ -12,6 +13,7 @@ use crate::stream::write_stream;
 use crate::words::Mode;
 use simd_json::Error;
 use std::alloc::{AllocError, Allocator};
+use std::fmt;
 use std::io::{Read, Write};
 
 type Result<T> = std::result::Result<T, RunFault>;
@@ -53,6 +55,33 @@ impl From<AllocError> for RunFault {
 
     fn from(refused: AllocError) -> RunFault {
         RunFault::Refused(Error::from(refused))
+    }
+}
+
+impl fmt::Display for RunFault {
+    ghost use Rattle.std.specs.Prelude.{Some};
+    ghost use Rattle.jtape.specs.Failures.{fault_text};
+
+    ghost output = { λ fault. Some (fault_text fault) };
+
+    fn fmt<W: fmt::Write>(&self, f: &mut fmt::Formatter<W>) -> fmt::Result {
+        match self {
+            RunFault::Refused(e) => write!(f, "{e}"),
+            RunFault::Read => f.write_str("reading failed"),
+            RunFault::Write => f.write_str("writing failed"),
+        }
+    }
+}
+
+/// The status that a run ends with: 0 where all is well, 1 where the input is refused or an allocation
+/// failed, 3 where the reader or the writer failed.
+pub fn status(answer: &Answer) -> u8
+    ensures { result ≡ status_of answer.now }
+{
+    match answer {
+        Ok(true) => 0,
+        Ok(false) | Err(RunFault::Refused(_)) => 1,
+        Err(RunFault::Read | RunFault::Write) => 3,
     }
 }
 

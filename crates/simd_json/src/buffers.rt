@@ -1,5 +1,5 @@
 //! Lists that parses use one after another.
-ghost use Rattle.std.specs.Prelude.{◌≡◌, ◌≤◌, ◌<◌, ◌⊎◌, [], length, min, max};
+ghost use Rattle.std.specs.Prelude.{◌≡◌, ◌≤◌, ◌<◌, ◌⊎◌, [], length, min, max, take};
 ghost use Rattle.std.specs.Prelude.{OnOk, OnErr, IfOk, IfErr, Some, None};
 ghost use Rattle.simd_json.specs.Memory.{IsOutOfMemory, LacksMemory};
 ghost use Rattle.simd_json.specs.Capacities.{KeepsCapacities, ListsSame, capacity, capped, new_buffers};
@@ -9,7 +9,6 @@ ghost use Rattle.simd_json_parts.specs.Positions.{positions};
 ghost use Rattle.simd_json_stages.specs.EscapeBlocks.{backslash_blocks, blocks_in};
 
 use crate::DEFAULT_MAX_DEPTH;
-use crate::capacity::lengthen;
 use simd_json_parts::error::Result;
 use simd_json_stages::stage1::{BLOCK_LEN, BlockStage1Parse, Stage1Parse};
 use simd_json_stages::stage2::StackState;
@@ -85,11 +84,6 @@ impl<A: Allocator + Copy> Buffers<A> {
             max_depth,
         }
     }
-
-    // The allocator of the lists.
-    pub(crate) fn allocator(&self) -> A {
-        *self.structural_indexes.allocator()
-    }
 }
 
 impl<A: Allocator> Buffers<A> {
@@ -119,11 +113,7 @@ impl<A: Allocator> Buffers<A> {
     {
         let len = input_len.min(u32::MAX as usize);
         self.reserve_lists(len)?;
-        lengthen(
-            &mut self.stack,
-            len.min(self.max_depth),
-            StackState::default(),
-        )
+        lengthen(&mut self.stack, len.min(self.max_depth), StackState::EMPTY)
     }
 
     // Reserves capacity for the positions of so many bytes, and for their blocks.
@@ -171,10 +161,28 @@ impl<A: Allocator> Buffers<A> {
         lengthen(
             &mut self.stack,
             found.positions.min(self.max_depth),
-            StackState::default(),
+            StackState::EMPTY,
         )?;
         self.used = found.positions;
         self.used_blocks = found.escape_blocks;
         Ok(())
     }
+}
+
+// Makes the list as long as `len` at least: lists are kept filled up to their capacity, so that a store into
+// them needs no memory. What it held stays, and where a growth is refused it is as it was.
+pub(crate) fn lengthen<T: Copy, A: Allocator>(
+    list: &mut Vec<T, A>,
+    len: usize,
+    filler: T,
+) -> Result<()>
+    ensures kept { take (length list.old.items) list.new.items ≡ list.old.items }
+    ensures longer { OnOk result (length list.new.items ≡ max (length list.old.items) len) }
+    ensures refused { IfErr result (λ e. IsOutOfMemory e × (list.new.items ≡ list.old.items)
+        × (length list.old.items < len)) }
+{
+    if list.len() < len {
+        list.resize(len, filler)?;
+    }
+    Ok(())
 }

@@ -12,7 +12,6 @@
 #![tactic(auto)]
 
 mod buffers;
-mod capacity;
 mod deserializer;
 pub mod laws;
 mod parse;

@@ -79,7 +79,7 @@ pub fn to_tape_with_buffers<'de, A: Allocator + Copy>(
     ensures limit { buffers.new.limit ≡ buffers.old.limit }
     ensures capacities { KeepsCapacities buffers.old buffers.new }
 {
-    let mut tape = Tape::empty(buffers.allocator());
+    let mut tape = Tape::empty(*buffers.structural_indexes.allocator());
     fill_tape(s, buffers, &mut tape)?;
     Ok(tape)
 }

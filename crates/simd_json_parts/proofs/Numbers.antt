@@ -5,5 +5,7 @@ pub mod Steps
 pub mod Values
 pub mod Reader
 pub mod DigitRuns
+pub mod DigitWords
+pub mod DigitsWorth
 pub mod Looks
 pub mod LeadingZeros

@@ -13,7 +13,7 @@ mod runs;
 mod tests;
 
 use escapes::unescape_one;
-use runs::{move_run, plain_end};
+use runs::{move_plain, plain_end};
 
 /// A string, taken off the front of the unread bytes.
 // Where a result holds it, its first number shares its place with an error's byte, and the references stay
@@ -46,6 +46,7 @@ pub struct BadEscape {
 ///
 /// Of `"caf\u00e9", 1` the string is `café`, of 11 bytes, and `, 1` is left; of `"\q"` the escape at offset 1
 /// is invalid.
+#[inline(never)]
 pub fn parse_str<'de>(unread: &'de mut [u8]) -> Result<ParsedString<'de>, BadEscape>
     requires opening { byte_at unread.old 0 ≡ quote }
     requires closing { closing_quote unread.old 0 < length unread.old }
@@ -114,13 +115,17 @@ fn unescape(unread: &mut [u8], from: usize) -> Result<Ends, BadEscape>
     };
     while unread[ends.read] == b'\\' {
         match unescape_one(unread, ends) {
-            Some(next) => ends = move_run(unread, next),
+            Some(next) => ends = next,
             None => {
                 return Err(BadEscape {
                     letter: unread[ends.read + 1],
                     offset: ends.read,
                 });
             }
+        }
+        // Another escape may follow at once.
+        if unread[ends.read] != b'\\' {
+            ends = move_plain(unread, ends.read, ends.written);
         }
     }
     Ok(ends)

@@ -19,6 +19,10 @@ pub adds-no-line : {T : Type 0} {size : ℕ} (place : T → Place) (m n : ℕ) (
     → Adds place a a (line (not (nat_eq m 0)) n)
 adds-no-line place m n a is = subst (λ k. Adds place a a (line (not (nat_eq k 0)) n)) (sym is) (adds-none place a)
 
+pub adds-a-line : {T : Type 0} {size : ℕ} (place : T → Place) (m n : ℕ) (a b : Text T size) → (m ≡ 0 → ⊥)
+    → Adds place a b (new_line n) → Adds place a b (line (not (nat_eq m 0)) n)
+adds-a-line place m n a b is g = subst (λ p. Adds place a b (line p n)) (sym (ap not (ne_eqb m 0 is))) g
+
 pub front-of-line : (n : ℕ) → n ≤ 32 → take (1 + n) (line_feed ∷ replicate 32 space) ≡ line_feed ∷ replicate n space
 front-of-line n within = take-append-add (line_feed ∷ []) (replicate 32 space) n
     ∙ ap (λ us. line_feed ∷ us) (take-replicate n 32 space within)

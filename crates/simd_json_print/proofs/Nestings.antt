@@ -10,12 +10,13 @@ use Rattle.simd_json_parts.specs.Listing.{listing, elements_listing, members_lis
 use Rattle.simd_json_parts.specs.Nodes.{Item, string_item, item_of, count_of}
 use Rattle.simd_json_parts.specs.Printed.{quoted}
 use Rattle.simd_json_parts.specs.declared.node.Node.{Node}
-use Rattle.simd_json_print.specs.Frames.{Frame, elements_left, members_left, has_members, is_object_item, frame_listing, frame_text, frames_listing, frames_text, AreNested, IsBetween, IsAtValue}
+use Rattle.simd_json_parts.specs.declared.node.Node.TheVariants as nodes
+use Rattle.simd_json_print.specs.Frames.{Frame, elements_left, members_left, has_members, frame_listing, frame_text, frames_listing, frames_text, AreNested, IsBetween, IsAtValue}
 use Rattle.simd_json_print.specs.Layout.{line, after_name, leaf_text, text, elements_text, members_text}
 use Rattle.simd_json_print.specs.declared.document.walk.Nesting.{Nesting}
-use Rattle.simd_json_print.proofs.Walk.{IsOpened, is-leaf, is-opened, beneath-within, same-first, same-rest, split-first}
+use Rattle.simd_json_print.proofs.Walk.{IsOpened, is_object_item, is-leaf, is-opened, beneath-within, same-first, same-rest, split-first}
 
--- ---- the first step and the last
+-- ---- the first step
 
 pub begins : (p : Bool) (n : ℕ) (o : Nesting) (f : Frame) (items : List Item) → o.count ≡ 1 → get_or o.ends 0 0 ≡ 0
     → get_or o.are_objects 0 false ≡ has_members f → items ≡ frame_listing f
@@ -27,15 +28,6 @@ begins p n o f items one end kind is = record {
   listed = is ∙ sym (append-nil (frame_listing f));
   printed = append-nil (frame_text p (n + 0) true f) ∙ ap (λ k. frame_text p k true f) (omega arith);
 }
-
-ends-empty : (p : Bool) (n : ℕ) (first : Bool) (fs : List Frame) (done whole : List ℕ) → length fs ≡ 0
-    → done ++ frames_text p n first fs ≡ whole → done ≡ whole
-ends-empty p n first [] done whole none is = sym (append-nil done) ∙ is
-ends-empty p n first (f ∷ fs) done whole none is = absurd (omega (arith, none))
-
-pub at-last : (p : Bool) (n : ℕ) (o : Nesting) (first : Bool) (items : List Item) (done whole : List ℕ) → o.count ≡ 0
-    → IsBetween p n o first items done whole → done ≡ whole
-at-last p n o first items done whole none is = ends-empty p n first is.frames done whole (is.number ∙ none) is.printed
 
 -- ---- an element or a member
 
@@ -301,25 +293,19 @@ open-step p n o q ns first rest default beneath count end done whole some front 
     let few = beneath-within x (map item_of rest) (frames_listing at.frames) at.value at.listed in
     after-opening p n o q x (map item_of rest) done whole end (omega (arith, sized, least, more)) (omega (arith, few, length-map rest item_of, sized, least, at_end)) room rooms ends kinds counted at
 
-pub record IsDeepNodes (p : Bool) (n : ℕ) (o : Nesting) (value rest : List Node) (done whole : List ℕ) : Type 0 where
-  pub document : Document
-  pub listed : map item_of value ≡ listing document
-  pub after : IsBetween p n o false (map item_of rest) (done ++ text p document (n + o.count)) whole
-
 pub deep-step : (p : Bool) (n : ℕ) (o : Nesting) (ns first rest value others : List Node) (default : Node) (beneath count : ℕ) (done whole : List ℕ) → 0 < length ns → first ≡ take 1 ns
     → rest ≡ drop 1 ns → beneath ≡ count_of (item_of (get_or first 0 default)) → count ≡ min beneath (length rest) → 0 < count
     → value ≡ take (count + 1) ns → others ≡ drop (count + 1) ns
-    → IsAtValue p n o (map item_of ns) done whole → IsDeepNodes p n o value others done whole
+    → IsAtValue p n o (map item_of ns) done whole → IsDeep p n o (map item_of value) (map item_of others) done whole
 deep-step p n o ns first rest value others default beneath count done whole some front back sized least more fronts backs is =
     let x = item_of (get_or first 0 default) in
     let one = split-first ns first rest default 1 some refl front back in
     let at = subst (λ us. IsAtValue p n o us done whole) one is in
     let few = beneath-within x (map item_of rest) (frames_listing at.frames) at.value at.listed in
     let size : count + 1 ≡ count_of x + 1 = omega (arith, few, length-map rest item_of, sized, least) in
-    let deep = after-deep p n o x (map item_of rest) (map item_of value) (map item_of others) done whole (omega (arith, sized, least, more))
+    after-deep p n o x (map item_of rest) (map item_of value) (map item_of others) done whole (omega (arith, sized, least, more))
     (ap (map item_of) (fronts ∙ ap (λ k. take k ns) size) ∙ sym (take-map item_of (count_of x + 1) ns) ∙ ap (take (count_of x + 1)) one)
-    (ap (map item_of) (backs ∙ ap (λ k. drop k ns) size) ∙ sym (drop-map item_of (count_of x + 1) ns) ∙ ap (drop (count_of x + 1)) one) at in
-    record { document = deep.document; listed = deep.listed; after = deep.after }
+    (ap (map item_of) (backs ∙ ap (λ k. drop k ns) size) ∙ sym (drop-map item_of (count_of x + 1) ns) ∙ ap (drop (count_of x + 1)) one) at
 
 pub element-step : (p : Bool) (n : ℕ) (o : Nesting) (is_first : Bool) (ns first rest : List Node) (default : Node) (beneath : ℕ) (done whole : List ℕ) → 0 < length ns
     → first ≡ take 1 ns → rest ≡ drop 1 ns → beneath ≡ count_of (item_of (get_or first 0 default)) → beneath ≡ 0 → 0 < o.count
@@ -332,6 +318,14 @@ element-step p n o is_first ns first rest default beneath done whole some front 
     let at = subst (λ us. IsBetween p n o is_first us done whole) one is in
     after-element p n o is_first x (map item_of rest) done whole (omega (arith, sized, none)) at open_some kind
     (subst (λ k. get_or o.ends (o.count - 1) 0 < k) (sym (length-map ns item_of) ∙ ap length one) live)
+
+-- only an object's header is one
+pub no-object : (x : Node) → ((len count : ℕ) → x ≡ nodes.Object len count → ⊥) → is_object_item (item_of x) ≡ false
+no-object (nodes.String s) none = refl
+no-object (nodes.Static s) none = refl
+no-object (nodes.Decimal s) none = refl
+no-object (nodes.Array len count) none = refl
+no-object (nodes.Object len count) none = absurd (none len count refl)
 
 -- ---- the nodes of one value
 

@@ -23,6 +23,11 @@ split-run bytes others k back =
     ap (flat_map escaped_byte) (sym (take-append-drop k bytes)) ∙ flat_map-append escaped_byte (take k bytes) (drop k bytes)
     ∙ ap (λ us. flat_map escaped_byte (take k bytes) ++ flat_map escaped_byte us) (sym back)
 
+-- where nothing is left
+pub no-run : (done bytes whole : List ℕ) → done ++ flat_map escaped_byte bytes ≡ whole → length bytes ≡ 0 → done ≡ whole
+no-run done [] whole so_far none = sym (append-nil done) ∙ so_far
+no-run done (x ∷ xs) whole so_far none = cc
+
 -- a run that is the last
 pub last-run : (done bytes others whole : List ℕ) (k : ℕ) → done ++ flat_map escaped_byte bytes ≡ whole → others ≡ drop k bytes
     → length others ≡ 0 → done ++ flat_map escaped_byte (take k bytes) ≡ whole

@@ -1,5 +1,5 @@
 -- Bytes that are stored in a list from an index on: what stands in front of where they end.
-use Rattle.std.proofs.Common.{◌≡◌, ◌∙◌, ap, sym, ℕ, ◌+◌, ◌-◌, ◌≤◌, List, ◌++◌, length, take, drop, append_assoc, append-nil, take-add, arith}
+use Rattle.std.proofs.Common.{◌≡◌, ◌∙◌, ap, sym, ℕ, ◌+◌, ◌-◌, ◌≤◌, List, ◌++◌, length, take, drop, append_assoc, take-add, arith}
 use Rattle.std.proofs.lemmas.List.{length-append, length-take-le, take-take, take_at, drop_at}
 use Rattle.std.proofs.Math.Seq.{take-length}
 use Rattle.std.proofs.lemmas.Simd.{put_chunk_is, length-chunk}
@@ -61,22 +61,3 @@ pub stored-run : (old middle new bytes : List ℕ) (at from done n count : ℕ) 
     → take (at + (from + count)) new ≡ take at old ++ take (from + count) bytes
 stored-run old middle new bytes at from done n count l within room first second =
     stored-front old new bytes at (from + count) (from + n) (omega arith) room (stored-then old middle new bytes at from done n l room first second)
-
-pub run-starts : (old bytes : List ℕ) (at : ℕ) → take (at + 0) old ≡ take at old ++ take 0 bytes
-run-starts old bytes at =
-    let place : at + 0 ≡ at = omega arith in
-    ap (λ i. take i old) place ∙ sym (append-nil (take at old))
-
--- ---- three parts
-
-pub stored-between : (old one two new front string back : List ℕ) (at : ℕ) → take (at + length front) one ≡ take at old ++ front
-    → take (at + length front + length string) two ≡ take (at + length front) one ++ string
-    → take (at + length front + length string + length back) new ≡ take (at + length front + length string) two ++ back
-    → take (at + (length front + length string + length back)) new ≡ take at old ++ (front ++ (string ++ back))
-stored-between old one two new front string back at first second third =
-    let place : at + (length front + length string + length back) ≡ at + length front + length string + length back = omega arith in
-    ap (λ i. take i new) place
-    ∙ third
-    ∙ ap (λ us. us ++ back) (second ∙ ap (λ us. us ++ string) first)
-    ∙ append_assoc (take at old ++ front) string back
-    ∙ append_assoc (take at old) front (string ++ back)

@@ -3,13 +3,9 @@ use Rattle.std.specs.Prelude.{◌≡◌, ℕ, suc, ◌+◌, List, [], ◌∷◌,
 use Rattle.simd_json_parts.specs.Bytes.{comma, left_bracket, right_bracket, left_brace, right_brace}
 use Rattle.simd_json_parts.specs.Document.{Document, Elements, Members}
 use Rattle.simd_json_parts.specs.Listing.{listing, elements_listing, members_listing}
-use Rattle.simd_json_parts.specs.Nodes.{Item, object_item}
+use Rattle.simd_json_parts.specs.Nodes.{Item}
 use Rattle.simd_json_print.specs.Layout.{line, text, elements_text, members_text}
 use Rattle.simd_json_print.specs.declared.document.walk.Nesting.{Nesting}
-
-abbrev pub is_object_item : Item → Bool
-is_object_item (object_item len count) = true
-is_object_item _ = false
 
 -- the elements or the members of a container that are left
 pub data Frame : Type 0 where

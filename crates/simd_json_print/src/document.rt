@@ -1,5 +1,5 @@
 //! The printed text of a document, from its nodes: compact, or pretty with a line for each member. 64 containers
-//! that are open while it prints take 656 bytes of the machine's stack.
+//! that are open while it prints take 672 bytes of the machine's stack at most.
 ghost use Rattle.std.specs.Prelude.{◌≡◌, ◌++◌, ℕ, map, take, OnOk, OnErr};
 ghost use Rattle.std.specs.Io.KnownBytes.{Appends};
 ghost use Rattle.simd_json_parts.specs.Document.{Document};

@@ -73,10 +73,9 @@ impl<'w, T: Target, const SIZE: usize> Text<'w, T, SIZE> {
     pub fn put(&mut self, bytes: &[u8])
         ensures { Adds T.place self.old self.new bytes.now }
     {
-        if !self.pieces.fits(bytes) {
-            return self.put_past(bytes);
+        if !self.pieces.collect(bytes) {
+            self.put_past(bytes);
         }
-        self.pieces.collect(bytes);
     }
 
     // What does not fit, and what is dropped.
@@ -86,9 +85,7 @@ impl<'w, T: Target, const SIZE: usize> Text<'w, T, SIZE> {
         ensures { Adds T.place self.old self.new bytes.now }
     {
         self.send();
-        if self.pieces.fits(bytes) {
-            self.pieces.collect(bytes);
-        } else if self.fault.is_none() {
+        if !self.pieces.collect(bytes) && self.fault.is_none() {
             if let Err(fault) = write_all(self.target, bytes) {
                 self.fault = Some(fault);
                 self.pieces.close();
@@ -118,7 +115,7 @@ impl<'w, T: Target, const SIZE: usize> Text<'w, T, SIZE> {
     pub fn put_between(&mut self, front: &[u8], bytes: &[u8], back: &[u8])
         ensures { Adds T.place self.old self.new (front.now ++ (bytes.now ++ back.now)) }
     {
-        if !self.pieces.collect_few(front, bytes, back) {
+        if !self.pieces.collect_few(front, bytes, back, false) {
             self.put_parts(front, bytes, back);
         }
     }

@@ -38,12 +38,14 @@ escaped_at b i = not (is_even (backslashes_before b i))
 abbrev pub open_at : List ℕ → ℕ → Bool
 open_at b i = not (is_even (real_quotes b i))
 
-pub escaped-along : (b : List ℕ) (at : ℕ) (c : Bool) (x : ℕ) → c ≡ escaped_at b at → ((i : ℕ) → i < 64 → is_set x i ≡ (byte_at b (at + i) == backslash)) → (i : ℕ) → i ≤ 64
+pub escaped-along : (b : List ℕ) (at : ℕ) (c : Bool) (x : ℕ) → c ≡ escaped_at b at
+    → ((i : ℕ) → i < 64 → is_set x i ≡ (byte_at b (at + i) == backslash)) → (i : ℕ) → i ≤ 64
     → escaped_in c x i ≡ escaped_at b (at + i)
 unfolding escaped_in
 escaped-along b at c x start h zero l = start ∙ ap (escaped_at b) (sym (add-zero at))
 escaped-along b at c x start h (suc i) l =
-    ap₂ (λ s t. s && not t) (h i (omega arith)) (escaped-along b at c x start h i (omega arith)) ∙ ap (λ t. (byte_at b (at + i) == backslash) && t) (not-not (is_even (backslashes_before b (at + i))))
+    ap₂ (λ s t. s && not t) (h i (omega arith)) (escaped-along b at c x start h i (omega arith))
+    ∙ ap (λ t. (byte_at b (at + i) == backslash) && t) (not-not (is_even (backslashes_before b (at + i))))
     ∙ sym (odd-next b (at + i)) ∙ ap (escaped_at b) (sym (add-suc at i))
 
 pub quote-real : (b : List ℕ) (i : ℕ) → ((byte_at b i == quote) && not (escaped_at b i)) ≡ is_real_quote b i
@@ -74,13 +76,16 @@ swap false true false = refl
 swap false false true = refl
 swap false false false = refl
 
-open-along : (b : List ℕ) (at : ℕ) (q : ℕ) → ((i : ℕ) → i < 64 → is_set q i ≡ is_real_quote b (at + i)) → (i : ℕ) → i ≤ 64 → xor (parity q i) (open_at b at) ≡ open_at b (at + i)
+open-along : (b : List ℕ) (at : ℕ) (q : ℕ) → ((i : ℕ) → i < 64 → is_set q i ≡ is_real_quote b (at + i)) → (i : ℕ) → i ≤ 64
+    → xor (parity q i) (open_at b at) ≡ open_at b (at + i)
 unfolding parity
 open-along b at q h zero l = ap (open_at b) (sym (add-zero at))
 open-along b at q h (suc i) l =
-    swap (parity q i) (is_set q i) (open_at b at) ∙ ap₂ xor (open-along b at q h i (omega arith)) (h i (omega arith)) ∙ sym (open-next b (at + i)) ∙ ap (open_at b) (sym (add-suc at i))
+    swap (parity q i) (is_set q i) (open_at b at) ∙ ap₂ xor (open-along b at q h i (omega arith)) (h i (omega arith))
+    ∙ sym (open-next b (at + i)) ∙ ap (open_at b) (sym (add-suc at i))
 
-pub inside-along : (b : List ℕ) (at : ℕ) (q : ℕ) → ((i : ℕ) → i < 64 → is_set q i ≡ is_real_quote b (at + i)) → (i : ℕ) → i < 64 → xor (parity q (i + 1)) (open_at b at) ≡ is_inside b (at + i)
+pub inside-along : (b : List ℕ) (at : ℕ) (q : ℕ) → ((i : ℕ) → i < 64 → is_set q i ≡ is_real_quote b (at + i)) → (i : ℕ) → i < 64
+    → xor (parity q (i + 1)) (open_at b at) ≡ is_inside b (at + i)
 inside-along b at q h i l =
     let e : at + (i + 1) ≡ suc (at + i) = omega arith in
     open-along b at q h (i + 1) (omega arith) ∙ ap (open_at b) e ∙ sym (inside-open b (at + i))
@@ -130,14 +135,18 @@ no_quote false k e h = refl
 
 space-real : (b : List ℕ) (i : ℕ) → byte_at b i < 256 → (is_whitespace (byte_at b i) && is_real_quote b i) ≡ false
 unfolding is_real_quote
-space-real b i small = no_quote (is_whitespace (byte_at b i)) (byte_at b i == quote) (is_even (backslashes_before b i)) (by_bytes (λ x. is_whitespace x && (x == quote)) (λ x. false) tt (byte_at b i) small)
+space-real b i small = no_quote (is_whitespace (byte_at b i)) (byte_at b i == quote) (is_even (backslashes_before b i))
+    (by_bytes (λ x. is_whitespace x && (x == quote)) (λ x. false) tt (byte_at b i) small)
 
 pub position-found : (b : List ℕ) (i : ℕ) → byte_at b i < 256
-    → not (((is_plain b i && is_plain_before b i) || is_whitespace (byte_at b i)) || xor (is_inside b i) (is_real_quote b i)) ≡ is_position b i
+    → not (((is_plain b i && is_plain_before b i) || is_whitespace (byte_at b i)) || xor (is_inside b i) (is_real_quote b i))
+    ≡ is_position b i
 unfolding is_position
 position-found b i small =
     let x = byte_at b i in
     let e : is_inside b i ≡ xor (open_at b i) (is_real_quote b i) = inside-open b i ∙ open-next b i in
     ap (λ t. not (((is_plain b i && is_plain_before b i) || is_whitespace x) || xor t (is_real_quote b i))) e
-    ∙ found (is_structural x) (is_whitespace x) (is_real_quote b i) (open_at b i) (is_fresh b i) (is_plain_before b i) (apart x small) (space-real b i small) (fresh-plain b i)
-    ∙ ap (λ t. (is_real_quote b i && t) || ((not t && not (is_real_quote b i)) && (is_structural x || (not (is_whitespace x) && is_fresh b i)))) (sym e)
+    ∙ found (is_structural x) (is_whitespace x) (is_real_quote b i) (open_at b i) (is_fresh b i) (is_plain_before b i)
+    (apart x small) (space-real b i small) (fresh-plain b i)
+    ∙ ap (λ t. (is_real_quote b i && t) || ((not t && not (is_real_quote b i)) &&
+    (is_structural x || (not (is_whitespace x) && is_fresh b i)))) (sym e)

@@ -30,14 +30,23 @@ quotes soft hard = bit_and soft hard
 abbrev real : ℕ → ℕ → ℕ → ℕ
 real soft hard escaped = bit_and (quotes soft hard) (flip escaped)
 
-pub parts-found : (b : List ℕ) (at soft hard control escaped parity : ℕ) → HasClasses b at soft hard control escaped → HasBits parity (λ i. parity_of (real soft hard escaped) (i + 1))
-    → AreParts b at (record { parity = parity; plain = flip (bit_or (bit_or (bit_and hard (flip (bit_or control soft))) (bit_xor soft (quotes soft hard))) (real soft hard escaped)); space = bit_xor soft (quotes soft hard); quote = real soft hard escaped })
+pub parts-found : (b : List ℕ) (at soft hard control escaped parity : ℕ) → HasClasses b at soft hard control escaped
+    → HasBits parity (λ i. parity_of (real soft hard escaped) (i + 1))
+    → AreParts b at (record {
+      parity = parity;
+      plain = flip (bit_or
+          (bit_or (bit_and hard (flip (bit_or control soft))) (bit_xor soft (quotes soft hard))) (real soft hard escaped));
+      space = bit_xor soft (quotes soft hard);
+      quote = real soft hard escaped;
+    })
 parts-found b at soft hard control escaped parity c h =
     let op : HasBits (bit_and hard (flip (bit_or control soft))) (λ i. is_structural (byte_at b (at + i))) =
     bits-same (bits-and c.hard (bits-not (bits-or c.control c.soft))) (λ i l. structural-classes _ (c.bytes i l)) in
-    let space : HasBits (bit_xor soft (quotes soft hard)) (λ i. is_whitespace (byte_at b (at + i))) = bits-same (bits-xor c.soft (bits-and c.soft c.hard)) (λ i l. space-classes _ (c.bytes i l)) in
+    let space : HasBits (bit_xor soft (quotes soft hard)) (λ i. is_whitespace (byte_at b (at + i))) = bits-same
+    (bits-xor c.soft (bits-and c.soft c.hard)) (λ i l. space-classes _ (c.bytes i l)) in
     let quote : HasBits (real soft hard escaped) (λ i. is_real_quote b (at + i)) =
-    bits-same (bits-and (bits-same (bits-and c.soft c.hard) (λ i l. quote-classes _ (c.bytes i l))) (bits-not c.escaped)) (λ i l. quote-real b (at + i)) in
+    bits-same (bits-and (bits-same (bits-and c.soft c.hard) (λ i l. quote-classes _ (c.bytes i l))) (bits-not c.escaped))
+    (λ i l. quote-real b (at + i)) in
     record {
       bytes = c.bytes;
       plain = bits-not (bits-or (bits-or op space) quote);
@@ -48,7 +57,8 @@ parts-found b at soft hard control escaped parity c h =
 
 -- ---- its positions, from what stands before it
 
-module _ (b : List ℕ) (at : ℕ) (p : Parts) (control : ℕ) (c : Carry) (parts : AreParts b at p) (hcontrol : IsControl b at control) (carried : IsCarried b at c) where
+module _ (b : List ℕ) (at : ℕ) (p : Parts) (control : ℕ) (c : Carry) (parts : AreParts b at p) (hcontrol : IsControl b at control)
+    (carried : IsCarried b at c) where
   abbrev within : ℕ
   within = bit_xor p.parity c.inside
 
@@ -57,7 +67,8 @@ module _ (b : List ℕ) (at : ℕ) (p : Parts) (control : ℕ) (c : Carry) (part
 
   hwithin : HasBits within (λ i. is_inside b (at + i))
   hwithin =
-      let whole : HasBits c.inside (λ i. open_at b at) = subst (λ w. HasBits w (λ i. open_at b at)) (sym carried.inside) (bits-all (open_at b at)) in
+      let whole : HasBits c.inside (λ i. open_at b at) = subst (λ w. HasBits w (λ i. open_at b at)) (sym carried.inside)
+      (bits-all (open_at b at)) in
       bits-same (bits-xor parts.parity whole) (inside-along b at p.quote parts.quote.bits)
 
   follow : (i : ℕ) → i < 64 → after (is_plain_before b at) (λ i. is_plain b (at + i)) i ≡ is_plain_before b (at + i)
@@ -66,16 +77,19 @@ module _ (b : List ℕ) (at : ℕ) (p : Parts) (control : ℕ) (c : Carry) (part
   follow (suc i) l = ap (is_plain_before b) (sym (add-suc at i))
 
   hfollows : HasBits follows (λ i. is_plain_before b (at + i))
-  hfollows = bits-same (subst (λ w. HasBits (bit_or (shl 1 p.plain) w) (after (is_plain_before b at) (λ i. is_plain b (at + i)))) (sym carried.plain) (bits-after (is_plain_before b at) parts.plain)) follow
+  hfollows = bits-same (subst (λ w. HasBits (bit_or (shl 1 p.plain) w) (after (is_plain_before b at) (λ i. is_plain b (at + i))))
+      (sym carried.plain) (bits-after (is_plain_before b at) parts.plain)) follow
 
   starts-bits : HasBits (flip (bit_or (bit_or (bit_and p.plain follows) p.space) (bit_xor within p.quote))) (λ i. is_position b (at + i))
-  starts-bits = bits-same (bits-not (bits-or (bits-or (bits-and parts.plain hfollows) parts.space) (bits-xor hwithin parts.quote))) (λ i l. position-found b (at + i) (parts.bytes i l))
+  starts-bits = bits-same (bits-not (bits-or (bits-or (bits-and parts.plain hfollows) parts.space)
+      (bits-xor hwithin parts.quote))) (λ i l. position-found b (at + i) (parts.bytes i l))
 
   bad-bits : HasBits (bit_and control within) (λ i. is_inside b (at + i) && is_control (byte_at b (at + i)))
   bad-bits = bits-same (bits-and hcontrol hwithin) (λ i l. and-swap (is_control (byte_at b (at + i))) (is_inside b (at + i)))
 
   inside-out : (0 + (2 ^ 64 - within / 2 ^ 63)) % 2 ^ 64 ≡ all_bits (open_at b (at + 64))
-  inside-out = let e : suc (at + 63) ≡ at + 64 = omega arith in bits-last_spread hwithin ∙ ap all_bits (inside-open b (at + 63) ∙ ap (open_at b) e)
+  inside-out = let e : suc (at + 63) ≡ at + 64 = omega arith in bits-last_spread hwithin
+      ∙ ap all_bits (inside-open b (at + 63) ∙ ap (open_at b) e)
 
   plain-out : p.plain / 2 ^ 63 ≡ bool_byte (is_plain_before b (at + 64))
   unfolding is_plain_before
@@ -84,12 +98,18 @@ module _ (b : List ℕ) (at : ℕ) (p : Parts) (control : ℕ) (c : Carry) (part
       let now : is_plain b (at + 63) ≡ is_plain_before b (suc (at + 63)) = refl in
       bits-last parts.plain ∙ ap bool_byte (now ∙ ap (is_plain_before b) e)
 
-  pub marks-found : AreMarks b at (record { starts = flip (bit_or (bit_or (bit_and p.plain follows) p.space) (bit_xor within p.quote)); bad = bit_and control within; carry = record { inside = (0 + (2 ^ 64 - within / 2 ^ 63)) % 2 ^ 64; plain = p.plain / 2 ^ 63 } })
+  pub marks-found : AreMarks b at (record {
+    starts = flip (bit_or (bit_or (bit_and p.plain follows) p.space)
+        (bit_xor within p.quote));
+    bad = bit_and control within;
+    carry = record { inside = (0 + (2 ^ 64 - within / 2 ^ 63)) % 2 ^ 64; plain = p.plain / 2 ^ 63 };
+  })
   marks-found = record { starts = starts-bits; bad = bad-bits; carry = record { inside = inside-out; plain = plain-out } }
 
 -- ---- the bytes of a block, as those of the input
 
-pub any-bytes : (p : ℕ → Bool) (f : ℕ → ℕ) (at : ℕ) (xs : List ℕ) → ((i : ℕ) → i < length xs → get_or xs i 0 ≡ f (at + i)) → list_any p xs ≡ list_any (λ i. p (f i)) (range_with_len at (length xs))
+pub any-bytes : (p : ℕ → Bool) (f : ℕ → ℕ) (at : ℕ) (xs : List ℕ) → ((i : ℕ) → i < length xs → get_or xs i 0 ≡ f (at + i))
+    → list_any p xs ≡ list_any (λ i. p (f i)) (range_with_len at (length xs))
 any-bytes p f at [] h = refl
 any-bytes p f at (x ∷ xs) h =
     ap₂ (λ s t. s || t) (ap p (h 0 (omega arith) ∙ ap f (add-zero at)))
@@ -114,12 +134,14 @@ abbrev pub AreEscaped : List ℕ → ℕ → ℕ → ℕ → Type 0
 AreEscaped b at escaped next = HasBits escaped (λ i. escaped_at b (at + i)) × (next ≡ bool_byte (escaped_at b (at + 64)))
 
 pub escaped-some : (b : List ℕ) (at : ℕ) (x escaped next : ℕ) → HasBits x (λ i. byte_at b (at + i) == backslash)
-    → HasBits escaped (escaped_in (escaped_at b at) x) × (next ≡ bool_byte (escaped_in (escaped_at b at) x 64)) → AreEscaped b at escaped next
+    → HasBits escaped (escaped_in (escaped_at b at) x) × (next ≡ bool_byte (escaped_in (escaped_at b at) x 64))
+    → AreEscaped b at escaped next
 escaped-some b at x escaped next h r =
     let along = escaped-along b at (escaped_at b at) x (λ _. escaped_at b at) h.bits in
     (bits-same r.0 (λ j l. along j (omega arith)), r.1 ∙ ap bool_byte (along 64 (omega arith)))
 
-pub escaped-none : (b : List ℕ) (at : ℕ) (before : ℕ) → before ≡ bool_byte (escaped_at b at) → ((i : ℕ) → i < 64 → (byte_at b (at + i) == backslash) ≡ false) → AreEscaped b at before 0
+pub escaped-none : (b : List ℕ) (at : ℕ) (before : ℕ) → before ≡ bool_byte (escaped_at b at)
+    → ((i : ℕ) → i < 64 → (byte_at b (at + i) == backslash) ≡ false) → AreEscaped b at before 0
 escaped-none b at before e none =
     let along = escaped-along b at (escaped_at b at) 0 (λ _. escaped_at b at) (λ j l. none_set j ∙ sym (none j l)) in
     let r = no_escapes (escaped_at b at) before e in
@@ -128,8 +150,10 @@ escaped-none b at before e none =
 -- ---- what is found in a block by itself
 
 pub classified-found : (b : List ℕ) (at : ℕ) (bytes : List ℕ) (m : Classified) → IsBlock b at bytes → ((i : ℕ) → get_or bytes i 0 < 256)
-    → HasBits m.soft (λ i. is_soft (get_or bytes i 0)) → HasBits m.hard (λ i. is_hard (get_or bytes i 0)) → HasBits m.control (λ i. is_control (get_or bytes i 0))
-    → (m.high ≡ 0 → (i : ℕ) → i < 64 → get_or bytes i 0 < 128) → m.has_backslash ≡ list_any (λ x. x == backslash) bytes → AreEscaped b at m.escaped m.next → AreClassified b at m
+    → HasBits m.soft (λ i. is_soft (get_or bytes i 0)) → HasBits m.hard (λ i. is_hard (get_or bytes i 0))
+    → HasBits m.control (λ i. is_control (get_or bytes i 0))
+    → (m.high ≡ 0 → (i : ℕ) → i < 64 → get_or bytes i 0 < 128) → m.has_backslash ≡ list_any (λ x. x == backslash) bytes
+    → AreEscaped b at m.escaped m.next → AreClassified b at m
 classified-found b at bytes m block small soft hard control ascii escapes escaped = record {
   classes = record {
     bytes = λ i l. subst (λ x. x < 256) (block.same i l) (small i);
@@ -139,6 +163,8 @@ classified-found b at bytes m block small soft hard control ascii escapes escape
     escaped = escaped.0;
   };
   next = escaped.1;
-  ascii = λ none n from end. let e : at + (n - at) ≡ n = omega arith in subst (λ k. byte_at b k < 128) e (subst (λ x. x < 128) (block.same (n - at) (omega arith)) (ascii none (n - at) (omega arith)));
-  escapes = escapes ∙ any-bytes (λ x. x == backslash) (byte_at b) at bytes (λ i l. block.same i (omega (arith, block.len))) ∙ ap (λ n. list_any (λ i. byte_at b i == backslash) (range_with_len at n)) block.len;
+  ascii = λ none n from end. let e : at + (n - at) ≡ n = omega arith in
+      subst (λ k. byte_at b k < 128) e (subst (λ x. x < 128) (block.same (n - at) (omega arith)) (ascii none (n - at) (omega arith)));
+  escapes = escapes ∙ any-bytes (λ x. x == backslash) (byte_at b) at bytes (λ i l. block.same i (omega (arith, block.len)))
+      ∙ ap (λ n. list_any (λ i. byte_at b i == backslash) (range_with_len at n)) block.len;
 }

@@ -10,28 +10,29 @@ use Rattle.simd_json_parts.specs.TokensAlong.{tokens_along}
 use Rattle.simd_json_parts.specs.declared.error.ErrorType.{ErrorType}
 use Rattle.simd_json_parts.specs.declared.node.Node.{Node}
 use Rattle.simd_json_stages.specs.Building.{AtValue, AtName, Tells}
-use Rattle.simd_json_stages.specs.Left.{Left}
 use Rattle.simd_json_stages.specs.NodesEnough.{nodes_enough}
 use Rattle.simd_json_stages.specs.Progresses.{EndsClosed, IsRead, IsNext, IsBefore, IsAfter}
 use Rattle.simd_json_stages.specs.declared.stage2.Container.{Container}
 use Rattle.simd_json_stages.specs.Put.{IsStringPut, IsScalarPut}
-use Rattle.simd_json_stages.specs.declared.stage2.Progress.{Progress}
+use Rattle.simd_json_stages.specs.declared.stage2.progress.Progress.{Progress}
 use Rattle.simd_json_stages.specs.declared.stage2.StackState.{StackState}
 use Rattle.simd_json_stages.specs.declared.stage2.fault.Fault.{Fault}
 use Rattle.simd_json_stages.specs.declared.stage2.fault.FaultKind.{FaultKind}
 use Rattle.simd_json_stages.specs.declared.stage2.fault.FaultKind.TheVariants as kinds
 use Rattle.simd_json_stages.proofs.Exits.{passed-on}
-use Rattle.simd_json_stages.proofs.Places.{token, at-inside, position-inside, next-later, IsRead-next, IsRead-same, end-before_next, unread-length, unread-byte, token-read}
+use Rattle.simd_json_stages.proofs.Places.{token, at-inside, position-inside, next-later, IsRead-next, IsRead-same, end-before_next, token-read}
 use Rattle.simd_json_stages.proofs.TokenForms.{quotes}
 
 -- a fault at the last token
-pub told-at : (b ps : List ℕ) (limit : ℕ) (kind : FaultKind) (p : Progress) (f : Fault) → f ≡ record { kind = kind; index = p.at; byte = p.byte } → p.byte ≡ byte_at b p.at
+pub told-at : (b ps : List ℕ) (limit : ℕ) (kind : FaultKind) (p : Progress) (f : Fault)
+    → f ≡ record { kind = kind; index = p.at; byte = p.byte } → p.byte ≡ byte_at b p.at
     → Tells b ps limit (record { kind = kind; index = p.at; byte = byte_at b p.at }) → Tells b ps limit f
 told-at b ps limit kind p f is first told =
     subst (Tells b ps limit) (sym is) (subst (λ x. Tells b ps limit (record { kind = kind; index = p.at; byte = x })) (sym first) told)
 
 -- no token after the last one, as `next_token` answers, and a `?` hands it on
-pub told-none : {A : Type 0} (b ps : List ℕ) (limit : ℕ) (p : Progress) (r : Result A Fault) (f : Fault) → IsErrAnd r (λ x. x ≡ f) → f ≡ record { kind = kinds.Syntax; index = p.at; byte = byte_at b p.at }
+pub told-none : {A : Type 0} (b ps : List ℕ) (limit : ℕ) (p : Progress) (r : Result A Fault) (f : Fault) → IsErrAnd r (λ x. x ≡ f)
+    → f ≡ record { kind = kinds.Syntax; index = p.at; byte = byte_at b p.at }
     → Tells b ps limit (record { kind = kinds.Syntax; index = p.at; byte = byte_at b p.at }) → IfErr r (Tells b ps limit)
 told-none b ps limit p r f handed is told = passed-on r f (Tells b ps limit) handed (subst (Tells b ps limit) (sym is) told)
 
@@ -42,7 +43,8 @@ some-left b ps p closed r x y =
       | inl h ↦ h
       | inr h ↦
           let all : p.read ≡ length ps = omega (arith, r.within) in
-          let byte : p.byte ≡ byte_at b (slice_index ps (length ps - 1)) = r.first ∙ ap (byte_at b) (r.last ∙ ap (λ n. slice_index ps (n - 1)) all) in
+          let byte : p.byte ≡ byte_at b (slice_index ps (length ps - 1)) = r.first
+          ∙ ap (byte_at b) (r.last ∙ ap (λ n. slice_index ps (n - 1)) all) in
           absurd (elim closed [
             | inl is ↦ x (byte ∙ is)
             | inr is ↦ y (byte ∙ is)
@@ -50,14 +52,16 @@ some-left b ps p closed r x y =
     ]
 
 -- where a value or a name stands, there is a node for it
-pub node-left : (b ps : List ℕ) (u : Left) (limit n : ℕ) (p : Progress) → IsBefore b ps u p → p.depth ≤ limit → nodes_enough (length ps) limit ≤ n → p.used < n
+pub node-left : (b ps : List ℕ) (reads : ℕ → Type 0) (limit n : ℕ) (p : Progress) → IsBefore b ps reads p → p.depth ≤ limit
+    → nodes_enough (length ps) limit ≤ n → p.used < n
 unfolding nodes_enough
-node-left b ps u limit n p r deep enough = omega (arith, r.read.within, r.used, r.deep)
+node-left b ps reads limit n p r deep enough = omega (arith, r.read.within, r.used, r.deep)
 
 -- after a value no more nodes are in use than there are
-pub nodes-within : (b ps : List ℕ) (u : Left) (limit n : ℕ) (p : Progress) → IsAfter b ps u p → p.depth ≤ limit → nodes_enough (length ps) limit ≤ n → p.used ≤ n
+pub nodes-within : (b ps : List ℕ) (reads : ℕ → Type 0) (limit n : ℕ) (p : Progress) → IsAfter b ps reads p → p.depth ≤ limit
+    → nodes_enough (length ps) limit ≤ n → p.used ≤ n
 unfolding nodes_enough
-nodes-within b ps u limit n p r deep enough = omega (arith, r.read.within, r.used, r.deep)
+nodes-within b ps reads limit n p r deep enough = omega (arith, r.read.within, r.used, r.deep)
 
 -- nor after the last
 pub all-within : (used positions limit n : ℕ) → 2 * used ≤ positions + 1 → nodes_enough positions limit ≤ n → used ≤ n
@@ -70,6 +74,10 @@ next-read b ps p q n = ap (λ (q : Progress). q.read) n.same
 
 pub next-byte : (b ps : List ℕ) (p q : Progress) → IsNext b ps p q → byte_at b (get_or ps p.read 0) ≡ q.byte
 next-byte b ps p q n = sym (ap (λ (q : Progress). q.byte) n.same)
+
+-- what can be read from one index on can be from a later one
+abbrev pub IsKept : (ℕ → Type 0) → Type 0
+IsKept reads = (i j : ℕ) → reads i → i ≤ j → reads j
 
 module _ (b ps : List ℕ) (e : ps ≡ positions b) where
   lift : (P : List ℕ → Type 0) → P (positions b) → P ps
@@ -84,27 +92,18 @@ module _ (b ps : List ℕ) (e : ps ≡ positions b) where
   pub later : (p : Progress) → IsRead b ps p → p.read < length ps → p.at < get_or ps p.read 0
   later = lift (λ ps. (p : Progress) → IsRead b ps p → p.read < length ps → p.at < get_or ps p.read 0) (next-later b)
 
-  pub read-next : (p q : Progress) → IsRead b ps p → p.read < length ps → q.read ≡ p.read + 1 → q.at ≡ get_or ps p.read 0 → q.byte ≡ byte_at b (get_or ps p.read 0) → IsRead b ps q
-  read-next = lift (λ ps. (p q : Progress) → IsRead b ps p → p.read < length ps → q.read ≡ p.read + 1 → q.at ≡ get_or ps p.read 0 → q.byte ≡ byte_at b (get_or ps p.read 0) → IsRead b ps q) (IsRead-next b)
+  pub read-next : (p q : Progress) → IsRead b ps p → p.read < length ps → q.read ≡ p.read + 1 → q.at ≡ get_or ps p.read 0
+      → q.byte ≡ byte_at b (get_or ps p.read 0) → IsRead b ps q
+  read-next = lift (λ ps. (p q : Progress) → IsRead b ps p → p.read < length ps → q.read ≡ p.read + 1 → q.at ≡ get_or ps p.read 0
+      → q.byte ≡ byte_at b (get_or ps p.read 0) → IsRead b ps q) (IsRead-next b)
 
   pub read-same : (p q : Progress) → IsRead b ps p → q.read ≡ p.read → q.at ≡ p.at → q.byte ≡ p.byte → IsRead b ps q
-  read-same = lift (λ ps. (p q : Progress) → IsRead b ps p → q.read ≡ p.read → q.at ≡ p.at → q.byte ≡ p.byte → IsRead b ps q) (IsRead-same b)
-
-  -- an index that is unread may be looked at
-  pub looks : (u : Left) (i : ℕ) → u.bytes ≡ drop u.at b → u.at ≤ i → i < length b → (u.at ≤ i) × (i < u.at + length u.bytes)
-  looks u i same l h = (l, let whole : u.at + length u.bytes ≡ length b = unread-length b u i (record { same = same; before = l }) (omega arith) in omega arith)
-
-  -- and its byte is the input's
-  pub looked : (u : Left) (i x : ℕ) → u.bytes ≡ drop u.at b → u.at ≤ i → x ≡ byte_at u.bytes (i - u.at) → x ≡ byte_at b i
-  looked u i x same l is = is ∙ unread-byte b u i i (record { same = same; before = l }) (omega arith)
-
-  -- the progress at the next position, with the byte there
-  pub at-next : (u : Left) (p q : Progress) (x : ℕ) → u.bytes ≡ drop u.at b → u.at ≤ get_or ps p.read 0 → x ≡ byte_at u.bytes (get_or ps p.read 0 - u.at) → q ≡ record p { read = p.read + 1; at = get_or ps p.read 0; byte = x }
-      → q ≡ record p { read = p.read + 1; at = get_or ps p.read 0; byte = byte_at b (get_or ps p.read 0) }
-  at-next u p q x same l is next = next ∙ ap (λ x. record p { read = p.read + 1; at = get_or ps p.read 0; byte = x }) (looked u (get_or ps p.read 0) x same l is)
+  read-same = lift (λ ps. (p q : Progress) → IsRead b ps p → q.read ≡ p.read → q.at ≡ p.at → q.byte ≡ p.byte → IsRead b ps q)
+      (IsRead-same b)
 
   -- it is the next one
-  pub is-next : (p q : Progress) → IsRead b ps p → p.read < length ps → q ≡ record p { read = p.read + 1; at = get_or ps p.read 0; byte = byte_at b (get_or ps p.read 0) } → IsNext b ps p q
+  pub is-next : (p q : Progress) → IsRead b ps p → p.read < length ps
+      → q ≡ record p { read = p.read + 1; at = get_or ps p.read 0; byte = byte_at b (get_or ps p.read 0) } → IsNext b ps p q
   is-next p q r more is =
       record {
         more = more;
@@ -112,77 +111,116 @@ module _ (b ps : List ℕ) (e : ps ≡ positions b) where
         same = is;
       }
 
-  -- and what is unread no later than one position is unread no later than the next
-  pub next-ahead : (u : Left) (p q : Progress) → IsNext b ps p q → u.at ≤ get_or ps p.read 0 → q.read < length ps → u.at ≤ get_or ps q.read 0
-  next-ahead u p q n l more = omega (arith, ap (λ (q : Progress). q.at) n.same, later q n.read more)
+  -- what can be read from the next position on can be from the one after it
+  pub next-ahead : (reads : ℕ → Type 0) → IsKept reads → (p q : Progress) → IsNext b ps p q → reads (get_or ps p.read 0)
+      → q.read < length ps → reads (get_or ps q.read 0)
+  next-ahead reads kept p q n h more = kept _ _ h (omega (arith, ap (λ (q : Progress). q.at) n.same, later q n.read more))
 
   -- after a first token that closes its container at once
-  pub after-first : (u : Left) (p q : Progress) → IsBefore b ps u p → IsNext b ps p q → IsAfter b ps u (record q { used = q.used + 1; len = q.len + 1 })
-  after-first u p q r n =
+  pub after-first : (reads : ℕ → Type 0) → IsKept reads → (p q : Progress) → IsBefore b ps reads p → IsNext b ps p q
+      → IsAfter b ps reads (record q { used = q.used + 1; len = q.len + 1 })
+  after-first reads kept p q r n =
       let more : p.read < length ps = n.more in
       let l : p.at < get_or ps p.read 0 = later p r.read more in
-      subst (λ (q : Progress). IsAfter b ps u (record q { used = q.used + 1; len = q.len + 1 })) (sym n.same)
-      (let s : Progress = record p { read = p.read + 1; at = get_or ps p.read 0; byte = byte_at b (get_or ps p.read 0); used = p.used + 1; len = p.len + 1 } in
+      subst (λ (q : Progress). IsAfter b ps reads (record q { used = q.used + 1; len = q.len + 1 })) (sym n.same)
+      (let s : Progress = record p {
+        read = p.read + 1;
+        at = get_or ps p.read 0;
+        byte = byte_at b (get_or ps p.read 0);
+        used = p.used + 1;
+        len = p.len + 1;
+      } in
       let read : IsRead b ps s = read-next p s r.read more refl refl refl in
       record {
         read = read;
         used = omega (arith, r.used);
         deep = omega (arith, r.deep);
         len = omega (arith, r.len);
-        same = r.unread.same;
-        before = λ h. omega (arith, r.unread.before, later s read h);
+        text = λ h. kept _ _ r.text (omega (arith, later s read h));
       })
 
   -- at the first token of a container that has members
-  pub before-first : (u : Left) (p q : Progress) (c : Container) → IsBefore b ps u p → IsNext b ps p q
-      → IsBefore b ps u (record { read = q.read; at = q.at; byte = q.byte; used = p.used + 1; depth = p.depth + 1; container = c; len = 0 })
-  before-first u p q c r n =
+  pub before-first : (reads : ℕ → Type 0) → IsKept reads → (p q : Progress) (c : Container) → IsBefore b ps reads p → IsNext b ps p q
+      → IsBefore b ps reads (record {
+        read = q.read;
+        at = q.at;
+        byte = q.byte;
+        used = p.used + 1;
+        depth = p.depth + 1;
+        container = c;
+        len = 0;
+      })
+  before-first reads kept p q c r n =
       let more : p.read < length ps = n.more in
       let l : p.at < get_or ps p.read 0 = later p r.read more in
-      subst (λ (q : Progress). IsBefore b ps u (record { read = q.read; at = q.at; byte = q.byte; used = p.used + 1; depth = p.depth + 1; container = c; len = 0 })) (sym n.same)
+      let opened : Progress → Progress = λ q. record {
+        read = q.read;
+        at = q.at;
+        byte = q.byte;
+        used = p.used + 1;
+        depth = p.depth + 1;
+        container = c;
+        len = 0;
+      } in
+      subst (λ (q : Progress). IsBefore b ps reads (opened q)) (sym n.same)
       (record {
-        read = read-next p (record { read = p.read + 1; at = get_or ps p.read 0; byte = byte_at b (get_or ps p.read 0); used = p.used + 1; depth = p.depth + 1; container = c; len = 0 }) r.read more refl refl refl;
+        read = read-next p (opened (record p {
+          read = p.read + 1;
+          at = get_or ps p.read 0;
+          byte = byte_at b (get_or ps p.read 0);
+        })) r.read more refl refl refl;
         used = omega (arith, r.used);
         deep = omega (arith, r.deep);
-        len = omega arith;
-        unread = record { same = r.unread.same; before = omega (arith, r.unread.before) };
+        len = omega (arith, r.len);
+        text = kept _ _ r.text (omega arith);
       })
 
   -- ---- tokens
 
   -- a value's first token, and a name's, is read by the descent
-  token-along : (before : List Token) (i : ℕ) (rest : List ℕ) → tokens_along b ps ≡ before ++ tokens_along b (i ∷ rest) → Contains (tokens b) (token b i)
-  token-along before i rest along = token-read b before [] i rest (subst (λ ps. tokens_along b ps ≡ before ++ tokens_along b (i ∷ rest)) e along)
+  token-along : (before : List Token) (i : ℕ) (rest : List ℕ) → tokens_along b ps ≡ before ++ tokens_along b (i ∷ rest)
+      → Contains (tokens b) (token b i)
+  token-along before i rest along = token-read b before [] i rest
+      (subst (λ ps. tokens_along b ps ≡ before ++ tokens_along b (i ∷ rest)) e along)
 
-  pub value-token : (limit : ℕ) (stack : List StackState) (nodes : List Node) (p : Progress) → AtValue b ps limit stack nodes p → Contains (tokens b) (token b p.at)
+  pub value-token : (limit : ℕ) (stack : List StackState) (nodes : List Node) (p : Progress) → AtValue b ps limit stack nodes p
+      → Contains (tokens b) (token b p.at)
   value-token limit stack nodes p at = token-along at.before p.at (drop p.read ps) at.along
 
-  pub name-token : (limit : ℕ) (kind : ErrorType) (stack : List StackState) (nodes : List Node) (p : Progress) → AtName b ps limit kind stack nodes p → Contains (tokens b) (token b p.at)
+  pub name-token : (limit : ℕ) (kind : ErrorType) (stack : List StackState) (nodes : List Node) (p : Progress)
+      → AtName b ps limit kind stack nodes p → Contains (tokens b) (token b p.at)
   name-token limit kind stack nodes p at = token-along at.before p.at (drop p.read ps) at.along
 
   -- it ends at the next position at the latest
-  pub ends-before : (p : Progress) (end : ℕ) → IsRead b ps p → Contains (tokens b) (token b p.at) → token_end (token b p.at) ≡ Some end → p.read < length ps → end ≤ get_or ps p.read 0
-  ends-before = lift (λ ps. (p : Progress) (end : ℕ) → IsRead b ps p → Contains (tokens b) (token b p.at) → token_end (token b p.at) ≡ Some end → p.read < length ps → end ≤ get_or ps p.read 0) (end-before_next b)
+  pub ends-before : (p : Progress) (end : ℕ) → IsRead b ps p → Contains (tokens b) (token b p.at)
+      → token_end (token b p.at) ≡ Some end → p.read < length ps → end ≤ get_or ps p.read 0
+  ends-before = lift (λ ps. (p : Progress) (end : ℕ) → IsRead b ps p → Contains (tokens b) (token b p.at)
+      → token_end (token b p.at) ≡ Some end → p.read < length ps → end ≤ get_or ps p.read 0) (end-before_next b)
 
-  -- what is unread after a string begins no later than the next position
-  pub string-ahead : (p : Progress) (nodes nodes' : List Node) (u : Left) → IsRead b ps p → Contains (tokens b) (token b p.at) → byte_at b p.at ≡ 34 → IsStringPut b p.at p.used nodes nodes' u → p.read < length ps → u.at ≤ get_or ps p.read 0
-  string-ahead p nodes nodes' u r t quote put more = ends-before p u.at r t (ap (form_end p.at) (quotes b p.at quote ∙ ap string_token put.read)) more
+  -- what is after a string can be read from the next position on
+  pub string-ahead : (p : Progress) (nodes nodes' : List Node) (reads : ℕ → Type 0) → IsKept reads → IsRead b ps p
+      → Contains (tokens b) (token b p.at) → byte_at b p.at ≡ 34
+      → IsStringPut b p.at p.used nodes nodes' reads → p.read < length ps → reads (get_or ps p.read 0)
+  string-ahead p nodes nodes' reads kept r t quote put more =
+      kept _ _ put.text (ends-before p put.end r t (ap (form_end p.at) (quotes b p.at quote ∙ ap string_token put.read)) more)
 
-  pub scalar-ahead : (p : Progress) (nodes nodes' : List Node) (u : Left) → IsRead b ps p → Contains (tokens b) (token b p.at) → IsScalarPut b p.at p.used nodes nodes' u → p.read < length ps → u.at ≤ get_or ps p.read 0
-  scalar-ahead p nodes nodes' u r t put more =
-      elim put.before [
-        | inl early ↦ omega (arith, early, later p r more)
-        | inr same ↦ omega (arith, same, ends-before p put.end r t (ap (form_end p.at) put.read) more)
+  pub scalar-ahead : (p : Progress) (nodes nodes' : List Node) (reads : ℕ → Type 0) → IsKept reads → IsRead b ps p
+      → Contains (tokens b) (token b p.at)
+      → IsScalarPut b p.at p.used nodes nodes' reads → p.read < length ps → reads (get_or ps p.read 0)
+  scalar-ahead p nodes nodes' reads kept r t put more =
+      elim put.text [
+        | inl early ↦ kept _ _ early (omega (arith, later p r more))
+        | inr end ↦ kept _ _ end (ends-before p put.end r t (ap (form_end p.at) put.read) more)
       ]
 
   -- after a value of one node
-  pub after-value : (u u' : Left) (p : Progress) → IsBefore b ps u p → u'.bytes ≡ drop u'.at b → (p.read < length ps → u'.at ≤ get_or ps p.read 0) → IsAfter b ps u' (record p { used = p.used + 1; len = p.len + 1 })
-  after-value u u' p r same ahead =
+  pub after-value : (reads reads' : ℕ → Type 0) (p : Progress) → IsBefore b ps reads p → (p.read < length ps → reads' (get_or ps p.read 0))
+      → IsAfter b ps reads' (record p { used = p.used + 1; len = p.len + 1 })
+  after-value reads reads' p r ahead =
       record {
         read = read-same p (record p { used = p.used + 1; len = p.len + 1 }) r.read refl refl refl;
         used = omega (arith, r.used);
         deep = omega (arith, r.deep);
         len = omega (arith, r.len);
-        same = same;
-        before = ahead;
+        text = ahead;
       }

@@ -22,7 +22,8 @@ or-false false = refl
 -- ---- the definitions
 
 -- the run of backslashes is of odd length just where the byte before is one, after a run of even length
-pub odd-next : (b : List ℕ) (i : ℕ) → not (is_even (backslashes_before b (suc i))) ≡ ((byte_at b i == backslash) && is_even (backslashes_before b i))
+pub odd-next : (b : List ℕ) (i : ℕ) → not (is_even (backslashes_before b (suc i))) ≡
+    ((byte_at b i == backslash) && is_even (backslashes_before b i))
 unfolding backslashes_before
 odd-next b i = go (byte_at b i == backslash)
   where
@@ -51,17 +52,21 @@ indices-next : (n : ℕ) → range_with_len 0 (suc n) ≡ range_with_len 0 n ++ 
 indices-next n = range-next 0 n ∙ ap (λ m. range_with_len 0 n ++ m ∷ []) (omega arith)
 
 -- the indexes that pass grow by the next one, where it passes
-pub filter-next : (p : ℕ → Bool) (n : ℕ) (t : Bool) → p n ≡ t → filter p (range_with_len 0 (n + 1)) ≡ (if t then filter p (range_with_len 0 n) ++ n ∷ [] else filter p (range_with_len 0 n))
-filter-next p n t e = rw add-one (ap (filter p) (indices-next n) ∙ filter-append p (range_with_len 0 n) (n ∷ []) ∙ ap (λ u. filter p (range_with_len 0 n) ++ (if u then n ∷ [] else [])) e ∙ go t)
+pub filter-next : (p : ℕ → Bool) (n : ℕ) (t : Bool) → p n ≡ t
+    → filter p (range_with_len 0 (n + 1)) ≡ (if t then filter p (range_with_len 0 n) ++ n ∷ [] else filter p (range_with_len 0 n))
+filter-next p n t e = rw add-one (ap (filter p) (indices-next n) ∙ filter-append p (range_with_len 0 n) (n ∷ [])
+    ∙ ap (λ u. filter p (range_with_len 0 n) ++ (if u then n ∷ [] else [])) e ∙ go t)
   where
-    go : (t : Bool) → filter p (range_with_len 0 n) ++ (if t then n ∷ [] else []) ≡ (if t then filter p (range_with_len 0 n) ++ n ∷ [] else filter p (range_with_len 0 n))
+    go : (t : Bool) → filter p (range_with_len 0 n) ++ (if t then n ∷ [] else []) ≡
+        (if t then filter p (range_with_len 0 n) ++ n ∷ [] else filter p (range_with_len 0 n))
     go true = refl
     go false = append-nil (filter p (range_with_len 0 n))
 
 control-next : (b : List ℕ) (i : ℕ) → has_control_before b (suc i) ≡ (has_control_before b i || (is_inside b i && is_control (byte_at b i)))
 control-next b i =
     let p = λ (k : ℕ). is_inside b k && is_control (byte_at b k) in
-    ap (list_any p) (indices-next i) ∙ list_any-append p (range_with_len 0 i) (i ∷ []) ∙ ap (λ t. has_control_before b i || t) (or-false (p i))
+    ap (list_any p) (indices-next i) ∙ list_any-append p (range_with_len 0 i) (i ∷ [])
+    ∙ ap (λ t. has_control_before b i || t) (or-false (p i))
 
 -- ---- a byte, from what is kept before it
 
@@ -83,8 +88,12 @@ escaped-next b i = ap (λ t. (byte_at b i == backslash) && t) (not-not (is_even 
 
 -- What is kept after a byte, and whether it is a position.
 pub kept-next : (b : List ℕ) (i x : ℕ) (escaped inside fresh control : Bool) → x ≡ byte_at b i → IsKept b i escaped inside fresh control
-    → IsKept b (i + 1) ((x == backslash) && not escaped) (is_inside_at inside escaped x) (is_whitespace x || (is_structural x && not (is_inside_at inside escaped x)) || is_quote escaped x) (control || (is_inside_at inside escaped x && is_control x))
-    × (((is_quote escaped x && is_inside_at inside escaped x) || ((not (is_inside_at inside escaped x) && not (is_quote escaped x)) && (is_structural x || (not (is_whitespace x) && fresh)))) ≡ is_position b i)
+    → IsKept b (i + 1) ((x == backslash) && not escaped) (is_inside_at inside escaped x)
+    (is_whitespace x || (is_structural x && not (is_inside_at inside escaped x)) || is_quote escaped x)
+    (control || (is_inside_at inside escaped x && is_control x))
+    × (((is_quote escaped x && is_inside_at inside escaped x) ||
+    ((not (is_inside_at inside escaped x) && not (is_quote escaped x)) &&
+    (is_structural x || (not (is_whitespace x) && fresh)))) ≡ is_position b i)
 unfolding is_inside is_position
 kept-next b i x escaped inside fresh control e k =
     let q : is_quote escaped x ≡ is_real_quote b i = ap₂ is_quote k.escaped e ∙ is_quote-real b i in
@@ -93,9 +102,12 @@ kept-next b i x escaped inside fresh control e k =
       record {
         escaped = ap₂ (λ y t. (y == backslash) && not t) e k.escaped ∙ escaped-next b i;
         inside = n;
-        fresh = ap₂ (λ y s. is_whitespace y || (is_structural y && not s) || is_quote escaped x) e n ∙ ap (λ t. is_whitespace (byte_at b i) || (is_structural (byte_at b i) && not (is_inside b i)) || t) q;
-        control = ap₂ (λ s t. control || (s && is_control t)) n e ∙ ap (λ t. t || (is_inside b i && is_control (byte_at b i))) k.control ∙ sym (control-next b i);
+        fresh = ap₂ (λ y s. is_whitespace y || (is_structural y && not s) || is_quote escaped x) e n
+            ∙ ap (λ t. is_whitespace (byte_at b i) || (is_structural (byte_at b i) && not (is_inside b i)) || t) q;
+        control = ap₂ (λ s t. control || (s && is_control t)) n e
+            ∙ ap (λ t. t || (is_inside b i && is_control (byte_at b i))) k.control ∙ sym (control-next b i);
       },
       ap₂ (λ s t. (s && t) || ((not t && not s) && (is_structural x || (not (is_whitespace x) && fresh)))) q n
-          ∙ ap₂ (λ y t. (is_real_quote b i && is_inside b i) || ((not (is_inside b i) && not (is_real_quote b i)) && (is_structural y || (not (is_whitespace y) && t)))) e k.fresh,
+          ∙ ap₂ (λ y t. (is_real_quote b i && is_inside b i) || ((not (is_inside b i) && not (is_real_quote b i)) &&
+          (is_structural y || (not (is_whitespace y) && t)))) e k.fresh,
     )

@@ -12,14 +12,16 @@ use Rattle.simd_json_stages.specs.Blocks as blocks
 
 -- up to an index, and from there on
 pub utf8-whole : (b : List ℕ) (i : ℕ) → IsUtf8 (take i b) → IsUtf8 (take (length b - i) (drop i b)) → IsUtf8 b
-utf8-whole b i before after = subst IsUtf8 (take-append-drop i b) (IsUtf8-append (take i b) (drop i b) before (subst IsUtf8 (take_rest b i) after))
+utf8-whole b i before after = subst IsUtf8 (take-append-drop i b)
+    (IsUtf8-append (take i b) (drop i b) before (subst IsUtf8 (take_rest b i) after))
 
 -- what is after, where the bytes up to the index are UTF-8
 pub utf8-rest : (b : List ℕ) (i : ℕ) → i ≤ length b → IsUtf8 (take i b) → IsUtf8 b → IsUtf8 (take (length b - i) (drop i b))
 utf8-rest b i l before all = subst IsUtf8 (sym (take_rest b i)) (IsUtf8-drop b i all (IsCharBoundary-from_take b i all l before))
 
 -- all of it was tested
-pub utf8-all : (b : List ℕ) (r : Result ℕ Error) → IfOk r (λ to. (to ≡ length b) × IsUtf8 b) → IfOk r (λ to. (to ≤ length b) × IsUtf8 (take to b))
+pub utf8-all : (b : List ℕ) (r : Result ℕ Error) → IfOk r (λ to. (to ≡ length b) × IsUtf8 b)
+    → IfOk r (λ to. (to ≤ length b) × IsUtf8 (take to b))
 utf8-all b (Ok to) h = (omega (arith, h.0), subst IsUtf8 (sym (take_all to b (omega (arith, h.0)))) h.1)
 utf8-all b (Err e) h = tt
 
@@ -35,9 +37,11 @@ utf8-ascii b i j l m before small = utf8-further b i j l before (IsUtf8-from_asc
   where
     ascii : IsAscii (take (j - i) (drop i b))
     ascii k = elim (cases_lt k (j - i)) [
-      | inl within ↦ subst (λ x. x < 128) (sym (get_or-chunk i (j - i) b k 0 within ∙ get_or_default b (i + k) 0 32 (omega arith))) (small (i + k) (omega arith) (omega arith))
+      | inl within ↦ subst (λ x. x < 128) (sym (get_or-chunk i (j - i) b k 0 within
+          ∙ get_or_default b (i + k) 0 32 (omega arith))) (small (i + k) (omega arith) (omega arith))
       | inr past ↦
-          let none : get_or (take (j - i) (drop i b)) k 0 ≡ 0 = get_or_past (take (j - i) (drop i b)) k 0 (omega (arith, length-take-le (j - i) (drop i b), length-drop i b)) in
+          let none : get_or (take (j - i) (drop i b)) k 0 ≡ 0 = get_or_past (take (j - i) (drop i b)) k 0
+          (omega (arith, length-take-le (j - i) (drop i b), length-drop i b)) in
           subst (λ x. x < 128) (sym none) (omega arith)
     ]
 

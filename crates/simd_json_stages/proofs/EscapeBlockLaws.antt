@@ -28,22 +28,27 @@ list_any-some_between p a n j from to is =
 -- A block of which no byte is a backslash holds none.
 pub holds_backslash-plain : (b : List ℕ) (k : ℕ) → PlainFrom b (64 * k) (64 * k + 64) → holds_backslash b k ≡ false
 unfolding holds_backslash
-holds_backslash-plain b k plain = list_any-none_between (λ j. byte_at b j == backslash) (64 * k) 64 (λ j f t. ne_eqb (byte_at b j) backslash (plain j f t))
+holds_backslash-plain b k plain = list_any-none_between (λ j. byte_at b j == backslash) (64 * k) 64
+    (λ j f t. ne_eqb (byte_at b j) backslash (plain j f t))
 
 -- A block holds the backslash that stands in it.
 pub holds_backslash-at : (b : List ℕ) (i : ℕ) → byte_at b i ≡ backslash → holds_backslash b (i / 64) ≡ true
 unfolding holds_backslash
-holds_backslash-at b i is = list_any-some_between (λ j. byte_at b j == backslash) (64 * (i / 64)) 64 i (omega arith) (omega arith) (ap (λ c. c == backslash) is)
+holds_backslash-at b i is = list_any-some_between (λ j. byte_at b j == backslash) (64 * (i / 64)) 64 i (omega arith) (omega arith)
+    (ap (λ c. c == backslash) is)
 
 -- Numbers that do not pass add nothing.
-pub filter-stays : (p : ℕ → Bool) (m n : ℕ) → m ≤ n → ((k : ℕ) → m ≤ k → k < n → p k ≡ false) → filter p (range_with_len 0 n) ≡ filter p (range_with_len 0 m)
-filter-stays p m n l none = let there : m + (n - m) ≡ n = omega arith in subst (λ k. filter p (range_with_len 0 k) ≡ filter p (range_with_len 0 m)) there (go (n - m) (omega arith))
+pub filter-stays : (p : ℕ → Bool) (m n : ℕ) → m ≤ n → ((k : ℕ) → m ≤ k → k < n → p k ≡ false)
+    → filter p (range_with_len 0 n) ≡ filter p (range_with_len 0 m)
+filter-stays p m n l none = let there : m + (n - m) ≡ n = omega arith in
+    subst (λ k. filter p (range_with_len 0 k) ≡ filter p (range_with_len 0 m)) there (go (n - m) (omega arith))
   where
     go : (k : ℕ) → m + k ≤ n → filter p (range_with_len 0 (m + k)) ≡ filter p (range_with_len 0 m)
     go zero h = let same : m + 0 ≡ m = omega arith in ap (λ k. filter p (range_with_len 0 k)) same
     go (suc k) h =
         let last : m + suc k ≡ (m + k) + 1 = omega arith in
-        ap (λ i. filter p (range_with_len 0 i)) last ∙ filter-next p (m + k) false (none (m + k) (omega arith) (omega arith)) ∙ go k (omega arith)
+        ap (λ i. filter p (range_with_len 0 i)) last ∙ filter-next p (m + k) false (none (m + k) (omega arith) (omega arith))
+        ∙ go k (omega arith)
 
 -- Past the end no byte is a backslash.
 pub byte_at-past : (b : List ℕ) (j : ℕ) → length b ≤ j → byte_at b j ≢ backslash
@@ -60,7 +65,8 @@ pub ListsBlocks-none : (b : List ℕ) → ListsBlocks b 0 0 []
 ListsBlocks-none b = record { begun = omega arith; these = refl; plain = λ j f t. absurd (omega arith) }
 
 -- A byte that is no backslash adds nothing.
-pub ListsBlocks-other : {b : List ℕ} {i n : ℕ} {listed : List ℕ} → ListsBlocks b i n listed → byte_at b i ≢ backslash → ListsBlocks b (i + 1) n listed
+pub ListsBlocks-other : {b : List ℕ} {i n : ℕ} {listed : List ℕ} → ListsBlocks b i n listed → byte_at b i ≢ backslash
+    → ListsBlocks b (i + 1) n listed
 ListsBlocks-other {b} {i} {n} s e = record {
   begun = omega (arith, s.begun);
   these = s.these;
@@ -75,13 +81,16 @@ pub ListsBlocks-again : {b : List ℕ} {i n : ℕ} {listed : List ℕ} → Lists
 ListsBlocks-again s l = record { begun = omega (arith, s.begun); these = s.these; plain = λ j f t. absurd (omega (arith, l)) }
 
 -- The first backslash of a block adds that block.
-pub ListsBlocks-first : {b : List ℕ} {i n : ℕ} {listed : List ℕ} → ListsBlocks b i n listed → byte_at b i ≡ backslash → n ≤ i / 64 → ListsBlocks b (i + 1) (i / 64 + 1) (listed ++ (i / 64) ∷ [])
+pub ListsBlocks-first : {b : List ℕ} {i n : ℕ} {listed : List ℕ} → ListsBlocks b i n listed → byte_at b i ≡ backslash → n ≤ i / 64
+    → ListsBlocks b (i + 1) (i / 64 + 1) (listed ++ (i / 64) ∷ [])
 ListsBlocks-first {b} {i} {n} {listed} s e l =
     let p = holds_backslash b in
-    let none : (k : ℕ) → n ≤ k → k < i / 64 → p k ≡ false = λ k f t. holds_backslash-plain b k (λ j g h. s.plain j (omega arith) (omega arith)) in
+    let none : (k : ℕ) → n ≤ k → k < i / 64 → p k ≡ false = λ k f t. holds_backslash-plain b k
+    (λ j g h. s.plain j (omega arith) (omega arith)) in
     record {
       begun = omega arith;
-      these = sym (filter-next p (i / 64) true (holds_backslash-at b i e) ∙ ap (λ ks. ks ++ (i / 64) ∷ []) (filter-stays p n (i / 64) l none ∙ sym s.these));
+      these = sym (filter-next p (i / 64) true (holds_backslash-at b i e)
+          ∙ ap (λ ks. ks ++ (i / 64) ∷ []) (filter-stays p n (i / 64) l none ∙ sym s.these));
       plain = λ j f t. absurd (omega arith);
     }
 
@@ -89,7 +98,8 @@ ListsBlocks-first {b} {i} {n} {listed} s e l =
 pub ListsBlocks-all : {b : List ℕ} {n : ℕ} {listed : List ℕ} → ListsBlocks b (length b) n listed → listed ≡ backslash_blocks b
 unfolding backslash_blocks
 ListsBlocks-all {b} {n} s =
-    let none : (k : ℕ) → n ≤ k → k < blocks_in (length b) → holds_backslash b k ≡ false = λ k f t. holds_backslash-plain b k (λ j g h. elim (cases_lt j (length b)) [
+    let none : (k : ℕ) → n ≤ k → k < blocks_in (length b) → holds_backslash b k ≡ false = λ k f t. holds_backslash-plain b k
+    (λ j g h. elim (cases_lt j (length b)) [
       | inl l ↦ s.plain j (omega arith) l
       | inr r ↦ byte_at-past b j (omega arith)
     ]) in
@@ -100,4 +110,5 @@ pub backslash-listed : (b : List ℕ) (i : ℕ) → i < length b → byte_at b i
 unfolding backslash_blocks
 backslash-listed b i l is =
     let n : ℕ = blocks_in (length b) in
-    Contains-filter_from (holds_backslash b) (range_with_len 0 n) (i / 64) ((Contains-range_with_len n (i / 64)).1 (omega (arith, l))) (holds_backslash-at b i is)
+    Contains-filter_from (holds_backslash b) (range_with_len 0 n) (i / 64)
+    ((Contains-range_with_len n (i / 64)).1 (omega (arith, l))) (holds_backslash-at b i is)

@@ -3,16 +3,18 @@ use Rattle.std.proofs.Common.{◌≡◌, ◌∙◌, ap, ℕ, suc, ◌+◌, ◌*�
 use Rattle.std.proofs.lemmas.List.{get_or_default}
 use Rattle.simd_json_stages.specs.EscapeBlocks.{blocks_in, backslash_blocks, listed_start}
 use Rattle.simd_json_stages.specs.EscapesAhead.{AreAhead, ArePassed}
-use Rattle.simd_json_stages.specs.declared.stage2.escapes.Escapes.{Escapes}
+use Rattle.simd_json_stages.specs.declared.stage2.text.Escapes.{Escapes}
 use Rattle.simd_json_stages.proofs.BetweenBlocks.{plain-to_next}
 
 -- where a listed block begins
 pub begins : (b blocks : List ℕ) (m : ℕ) → blocks ≡ backslash_blocks b → m < length blocks → 64 * get_or blocks m 0 ≡ listed_start b m
-begins b blocks m is l = ap (λ k. 64 * k) (get_or_default blocks m 0 (blocks_in (length b)) l ∙ ap (λ ks. get_or ks m (blocks_in (length b))) is)
+begins b blocks m is l = ap (λ k. 64 * k) (get_or_default blocks m 0 (blocks_in (length b)) l
+    ∙ ap (λ ks. get_or ks m (blocks_in (length b))) is)
 
 module _ (b : List ℕ) (at : ℕ) where
   -- after a block that is passed, none stands up to the next
-  pub one-passed : (blocks : List ℕ) (m : ℕ) → ArePassed b blocks m at → m < length blocks → 64 * get_or blocks m 0 + 64 ≤ at → ArePassed b blocks (m + 1) at
+  pub one-passed : (blocks : List ℕ) (m : ℕ) → ArePassed b blocks m at → m < length blocks → 64 * get_or blocks m 0 + 64 ≤ at
+      → ArePassed b blocks (m + 1) at
   one-passed blocks m a l h =
       let more : m < length (backslash_blocks b) = omega (arith, ap length a.blocks) in
       let next : m + 1 ≡ suc m = omega arith in
@@ -23,10 +25,18 @@ module _ (b : List ℕ) (at : ℕ) where
       }
 
   -- the mark is where a block begins
-  pub marked : (blocks : List ℕ) (m mark : ℕ) → blocks ≡ backslash_blocks b → (m < length blocks → mark ≡ 64 * get_or blocks m 0) → m < length blocks → mark ≡ listed_start b m
+  pub marked : (blocks : List ℕ) (m mark : ℕ) → blocks ≡ backslash_blocks b → (m < length blocks → mark ≡ 64 * get_or blocks m 0)
+      → m < length blocks → mark ≡ listed_start b m
   marked blocks m mark is at-block l = at-block l ∙ begins b blocks m is l
 
 -- further on it stays
 pub ahead-later : (b : List ℕ) (e : Escapes) (at : ℕ) → AreAhead b e at → (later : ℕ) → at ≤ later → AreAhead b e later
 ahead-later b e at a later l =
-    record { passed = record { blocks = a.passed.blocks; within = a.passed.within; plain = λ j f t. a.passed.plain j (omega arith) t }; mark = a.mark }
+    record {
+      passed = record {
+        blocks = a.passed.blocks;
+        within = a.passed.within;
+        plain = λ j f t. a.passed.plain j (omega arith) t;
+      };
+      mark = a.mark;
+    }

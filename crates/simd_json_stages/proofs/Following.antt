@@ -1,31 +1,30 @@
 -- After a comma stands the next member.
-use Rattle.std.proofs.Common.{◌≡◌, ◌≢◌, refl, sym, ◌∙◌, ap, subst, ℕ, ◌+◌, ◌-◌, ◌<◌, ◌≤◌, List, [], ◌∷◌, length, get_or, map, take, drop, arith}
-use Rattle.std.specs.Prelude.{None, Result, Ok, Err, IfOk, IfErr, IsErrAnd, MatchResult}
+use Rattle.std.proofs.Common.{◌≡◌, ◌≢◌, refl, sym, ◌∙◌, ap, subst, ℕ, ◌+◌, ◌-◌, ◌<◌, ◌≤◌, List, [], ◌∷◌, length, get_or, map, take, arith}
+use Rattle.std.specs.Prelude.{Bool, Result, Ok, Err, IfOk, IfErr, IsErrAnd, MatchResult}
 use Rattle.simd_json_parts.specs.Bytes.{byte_at}
-use Rattle.simd_json_parts.specs.InputFaults.{input_fault}
 use Rattle.simd_json_parts.specs.Positions.{positions}
 use Rattle.simd_json_parts.specs.declared.node.Node.{Node}
 use Rattle.simd_json_parts.specs.declared.node.Node.TheVariants.{Static}
 use Rattle.simd_json_parts.specs.declared.node.StaticNode.TheVariants.{Null}
 use Rattle.simd_json_parts.specs.Nodes.{item_of}
 use Rattle.simd_json_stages.specs.Continued.{Open}
-use Rattle.simd_json_stages.specs.Building.{closer, end_kind, frames, top, patch, HoldsValue, AfterValue, Goes, Tells}
-use Rattle.simd_json_stages.specs.EscapesAhead.{AreAhead}
-use Rattle.simd_json_stages.specs.Left.{Left}
-use Rattle.simd_json_stages.specs.Members.{HasCapacity, AtFirst}
-use Rattle.simd_json_stages.specs.Progresses.{IsRead, IsUnread, IsNext, IsBefore, IsAfter}
-use Rattle.simd_json_stages.specs.declared.stage2.Container.TheVariants.{Array}
-use Rattle.simd_json_stages.specs.declared.stage2.Follower.{Follower}
-use Rattle.simd_json_stages.specs.declared.stage2.Follower.TheVariants.{End}
-use Rattle.simd_json_stages.specs.declared.stage2.Progress.{Progress}
+use Rattle.simd_json_stages.specs.Building.{closer, end_kind, frames, top, patch, HoldsValue, AfterValue, AtMember, AtMemberOf, Tells}
+use Rattle.simd_json_stages.specs.Members.{HasCapacity, AfterLast, AtFirst, HasCome, IsAtMember, IsAtMemberOf, IsFrom}
+use Rattle.simd_json_stages.specs.Refusals.{error_type}
+use Rattle.simd_json_stages.specs.Progresses.{IsOnRoute, IsRead, IsNext, IsBefore, IsAfter}
+use Rattle.simd_json_stages.specs.declared.stage2.Container.TheVariants.{Array, Object}
+use Rattle.simd_json_stages.specs.declared.stage2.Container.{Container}
+use Rattle.simd_json_stages.specs.declared.stage2.machine.Member.{Member}
+use Rattle.simd_json_stages.specs.declared.stage2.machine.Member.TheVariants.{Next, End}
+use Rattle.simd_json_stages.specs.declared.stage2.machine.Value.{Value}
+use Rattle.simd_json_stages.specs.declared.stage2.machine.Value.TheVariants.{Opened, Read}
+use Rattle.simd_json_stages.specs.declared.stage2.progress.Progress.{Progress}
 use Rattle.simd_json_stages.specs.declared.stage2.StackState.{StackState}
 use Rattle.simd_json_stages.specs.declared.stage2.fault.Fault.{Fault}
 use Rattle.simd_json_stages.specs.declared.stage2.fault.FaultKind.{FaultKind}
 use Rattle.simd_json_stages.specs.declared.stage2.fault.FaultKind.TheVariants as kinds
-use Rattle.simd_json_stages.specs.declared.stage2.machine.Machine.{Machine}
-use Rattle.simd_json_stages.proofs.Bounds.{told-at, told-none, inside, later, read-next, next-read}
+use Rattle.simd_json_stages.proofs.Bounds.{IsKept, told-at, told-none, inside, later, read-next, next-read}
 use Rattle.simd_json_stages.proofs.BuildingSteps.{items-length, step-close, step-end, root-value}
-use Rattle.simd_json_stages.proofs.EscapesPassed.{ahead-later}
 use Rattle.simd_json_stages.proofs.Holding.{listing-some}
 use Rattle.simd_json_stages.proofs.Refusing.{tells-trailing}
 
@@ -39,7 +38,8 @@ module _ (b ps : List ℕ) (e : ps ≡ positions b) where
   two_more p = record p { read = p.read + 2; at = get_or ps (p.read + 1) 0; byte = byte_at b (get_or ps (p.read + 1) 0) }
 
   two_more-is : (p : Progress) → one_more (one_more p) ≡ two_more p
-  two_more-is p = let two : (p.read + 1) + 1 ≡ p.read + 2 = omega arith in ap (λ n. record p { read = n; at = get_or ps (p.read + 1) 0; byte = byte_at b (get_or ps (p.read + 1) 0) }) two
+  two_more-is p = let two : (p.read + 1) + 1 ≡ p.read + 2 = omega arith in
+      ap (λ n. record p { read = n; at = get_or ps (p.read + 1) 0; byte = byte_at b (get_or ps (p.read + 1) 0) }) two
 
   -- the second of two positions is after the first
   rises : (p : Progress) → IsRead b ps p → p.read + 1 < length ps → get_or ps p.read 0 < get_or ps (p.read + 1) 0
@@ -52,92 +52,169 @@ module _ (b ps : List ℕ) (e : ps ≡ positions b) where
   pub two-is : (p q s : Progress) → IsNext b ps p q → IsNext b ps q s → s ≡ two_more p
   two-is p q s n m = m.same ∙ ap one_more n.same ∙ two_more-is p
 
-  pub two-advances : (p q s : Progress) → IsRead b ps p → IsNext b ps p q → IsNext b ps q s → (p.read < s.read) × (p.at ≤ s.at) × (s.depth ≡ p.depth) × (s.container ≡ p.container)
+  pub two-advances : (p q s : Progress) → IsRead b ps p → IsNext b ps p q → IsNext b ps q s → (p.read < s.read) × (p.at ≤ s.at)
+      × (s.depth ≡ p.depth) × (s.container ≡ p.container)
   two-advances p q s r n m =
       let l : get_or ps p.read 0 < get_or ps (p.read + 1) 0 = rises p r (two-left p q s n m) in
       let first : p.at < get_or ps p.read 0 = later b ps e p r n.more in
-      subst (λ (s : Progress). (p.read < s.read) × (p.at ≤ s.at) × (s.depth ≡ p.depth) × (s.container ≡ p.container)) (sym (two-is p q s n m)) (omega arith, omega arith, refl, refl)
+      subst (λ (s : Progress). (p.read < s.read) × (p.at ≤ s.at) × (s.depth ≡ p.depth) × (s.container ≡ p.container))
+      (sym (two-is p q s n m)) (omega arith, omega arith, refl, refl)
 
   -- no token after the next one
-  pub told-next_none : {A : Type 0} (limit : ℕ) (p q : Progress) (r : Result A Fault) (f : Fault) → IsNext b ps p q → IsErrAnd r (λ x. x ≡ f) → f ≡ record { kind = kinds.Syntax; index = q.at; byte = byte_at b q.at }
-      → Tells b ps limit (record { kind = kinds.Syntax; index = get_or ps p.read 0; byte = byte_at b (get_or ps p.read 0) }) → IfErr r (Tells b ps limit)
+  pub told-next_none : {A : Type 0} (limit : ℕ) (p q : Progress) (r : Result A Fault) (f : Fault) → IsNext b ps p q
+      → IsErrAnd r (λ x. x ≡ f) → f ≡ record { kind = kinds.Syntax; index = q.at; byte = byte_at b q.at }
+      → Tells b ps limit (record { kind = kinds.Syntax; index = get_or ps p.read 0; byte = byte_at b (get_or ps p.read 0) })
+      → IfErr r (Tells b ps limit)
   told-next_none limit p q r f n handed is told =
-      told-none b ps limit q r f handed is (subst (λ (q : Progress). Tells b ps limit (record { kind = kinds.Syntax; index = q.at; byte = byte_at b q.at })) (sym n.same) told)
+      told-none b ps limit q r f handed is (subst (λ (q : Progress). Tells b ps limit
+      (record { kind = kinds.Syntax; index = q.at; byte = byte_at b q.at })) (sym n.same) told)
 
   -- after a comma
-  pub comma-progress : (u : Left) (p q s : Progress) → IsAfter b ps u p → IsNext b ps p q → IsNext b ps q s → IsBefore b ps u s
-  comma-progress u p q s after n m =
+  pub comma-progress : (reads : ℕ → Type 0) → IsKept reads → (p q s : Progress) → IsAfter b ps reads p → IsNext b ps p q
+      → IsNext b ps q s → IsBefore b ps reads s
+  comma-progress reads kept p q s after n m =
       let two : p.read + 1 < length ps = two-left p q s n m in
       let l : get_or ps p.read 0 < get_or ps (p.read + 1) 0 = rises p after.read two in
-      subst (IsBefore b ps u) (sym (two-is p q s n m))
+      subst (IsBefore b ps reads) (sym (two-is p q s n m))
       (record {
         read = subst (IsRead b ps) (two-is p q s n m) m.read;
         used = omega (arith, after.used);
         deep = omega (arith, after.deep);
         len = after.len;
-        unread = record { same = after.same; before = omega (arith, after.before n.more) };
+        text = kept _ _ (after.text n.more) (omega arith);
       })
 
   -- a fault at the next token
-  pub told-next : (limit : ℕ) (kind : FaultKind) (p q : Progress) (f : Fault) → q ≡ one_more p → f ≡ record { kind = kind; index = q.at; byte = q.byte }
+  pub told-next : (limit : ℕ) (kind : FaultKind) (p q : Progress) (f : Fault) → q ≡ one_more p
+      → f ≡ record { kind = kind; index = q.at; byte = q.byte }
       → Tells b ps limit (record { kind = kind; index = get_or ps p.read 0; byte = byte_at b (get_or ps p.read 0) }) → Tells b ps limit f
-  told-next limit kind p q f is fault told = subst (Tells b ps limit) (sym (fault ∙ ap (λ (q : Progress). record { kind = kind; index = q.at; byte = q.byte }) is)) told
+  told-next limit kind p q f is fault told = subst (Tells b ps limit)
+      (sym (fault ∙ ap (λ (q : Progress). record { kind = kind; index = q.at; byte = q.byte }) is)) told
 
   -- after a closing bracket, as `close` makes the progress
-  pub closed-after : (u : Left) (stack : List StackState) (p q q' : Progress) → IsAfter b ps u p → 0 < p.depth → p.read < length ps → (top stack p.depth).len < p.used → q ≡ one_more p
-      → q' ≡ record q { depth = q.depth - 1; container = (top stack q.depth).outer; len = (top stack q.depth).len + 1 } → IsAfter b ps u q'
-  closed-after u stack p q q' r some more fewer is is' =
-      subst (IsAfter b ps u) (sym (is' ∙ ap (λ (q : Progress). record q { depth = q.depth - 1; container = (top stack q.depth).outer; len = (top stack q.depth).len + 1 }) is))
-      (let s : Progress = record (one_more p) { depth = p.depth - 1; container = (top stack p.depth).outer; len = (top stack p.depth).len + 1 } in
+  pub closed-after : (reads : ℕ → Type 0) → IsKept reads → (stack : List StackState) (p q q' : Progress) → IsAfter b ps reads p
+      → 0 < p.depth → p.read < length ps → (top stack p.depth).len < p.used → q ≡ one_more p
+      → q' ≡ record q { depth = q.depth - 1; container = (top stack q.depth).outer; len = (top stack q.depth).len + 1 }
+      → IsAfter b ps reads q'
+  closed-after reads kept stack p q q' r some more fewer is is' =
+      subst (IsAfter b ps reads) (sym (is' ∙ ap (λ (q : Progress). record q {
+        depth = q.depth - 1;
+        container = (top stack q.depth).outer;
+        len = (top stack q.depth).len + 1;
+      }) is))
+      (let s : Progress = record (one_more p) {
+        depth = p.depth - 1;
+        container = (top stack p.depth).outer;
+        len = (top stack p.depth).len + 1;
+      } in
       let read : IsRead b ps s = read-next b ps e p s r.read more refl refl refl in
       record {
         read = read;
         used = omega (arith, r.used);
         deep = omega (arith, r.deep);
         len = omega arith;
-        same = r.same;
-        before = λ h. omega (arith, r.before more, later b ps e s read h);
+        text = λ h. kept _ _ (r.text more) (omega (arith, later b ps e s read h));
       })
 
-  pub closed-value : (limit : ℕ) (stack : List StackState) (nodes nodes' : List Node) (p q q' : Progress) → AfterValue b ps limit stack nodes p → p.used ≤ length nodes → 0 < p.depth → p.read < length ps → byte_at b (get_or ps p.read 0) ≡ closer p.container → q ≡ one_more p
-      → q' ≡ record q { depth = q.depth - 1; container = (top stack q.depth).outer; len = (top stack q.depth).len + 1 } → nodes' ≡ patch nodes (top stack q.depth) q → AfterValue b ps limit stack nodes' q'
+  pub closed-value : (limit : ℕ) (stack : List StackState) (nodes nodes' : List Node) (p q q' : Progress)
+      → AfterValue b ps limit stack nodes p → p.used ≤ length nodes → 0 < p.depth → p.read < length ps
+      → byte_at b (get_or ps p.read 0) ≡ closer p.container → q ≡ one_more p
+      → q' ≡ record q { depth = q.depth - 1; container = (top stack q.depth).outer; len = (top stack q.depth).len + 1 }
+      → nodes' ≡ patch nodes (top stack q.depth) q → AfterValue b ps limit stack nodes' q'
   closed-value limit stack nodes nodes' p q q' at l some more byte is is' patched =
-      subst (AfterValue b ps limit stack nodes') (sym (is' ∙ ap (λ (q : Progress). record q { depth = q.depth - 1; container = (top stack q.depth).outer; len = (top stack q.depth).len + 1 }) is))
-      (subst (λ ns. AfterValue b ps limit stack ns (record (one_more p) { depth = p.depth - 1; container = (top stack p.depth).outer; len = (top stack p.depth).len + 1 })) (sym (patched ∙ ap (λ (q : Progress). patch nodes (top stack q.depth) q) is))
+      subst (AfterValue b ps limit stack nodes') (sym (is' ∙ ap
+      (λ (q : Progress). record q {
+        depth = q.depth - 1;
+        container = (top stack q.depth).outer;
+        len = (top stack q.depth).len + 1;
+      }) is))
+      (subst (λ ns. AfterValue b ps limit stack ns (record (one_more p)
+      { depth = p.depth - 1; container = (top stack p.depth).outer; len = (top stack p.depth).len + 1 }))
+      (sym (patched ∙ ap (λ (q : Progress). patch nodes (top stack q.depth) q) is))
       (step-close b ps limit stack nodes p at l some more byte))
 
   -- ---- after a name and its colon
 
-  pub named-progress : (u u' : Left) (p q s : Progress) → IsBefore b ps u p → u'.bytes ≡ drop u'.at b → u'.at ≤ get_or ps p.read 0 → IsNext b ps p q → IsNext b ps q s → IsBefore b ps u' (record s { used = p.used + 1 })
-  named-progress u u' p q s r same ahead n m =
+  pub named-progress : (reads reads' : ℕ → Type 0) → IsKept reads' → (p q s : Progress) → IsBefore b ps reads p
+      → reads' (get_or ps p.read 0) → IsNext b ps p q → IsNext b ps q s → IsBefore b ps reads' (record s { used = p.used + 1 })
+  named-progress reads reads' kept p q s r ahead n m =
       let two : p.read + 1 < length ps = two-left p q s n m in
       let l : get_or ps p.read 0 < get_or ps (p.read + 1) 0 = rises p r.read two in
-      subst (λ (s : Progress). IsBefore b ps u' (record s { used = p.used + 1 })) (sym (two-is p q s n m))
+      subst (λ (s : Progress). IsBefore b ps reads' (record s { used = p.used + 1 })) (sym (two-is p q s n m))
       (record {
-        read = read-next b ps e q (record (two_more p) { used = p.used + 1 }) n.read m.more (ap (λ (s : Progress). s.read) (sym (two-is p q s n m) ∙ m.same)) (ap (λ (s : Progress). s.at) (sym (two-is p q s n m) ∙ m.same)) (ap (λ (s : Progress). s.byte) (sym (two-is p q s n m) ∙ m.same));
+        read = read-next b ps e q (record (two_more p) { used = p.used + 1 }) n.read m.more
+            (ap (λ (s : Progress). s.read) (sym (two-is p q s n m) ∙ m.same))
+            (ap (λ (s : Progress). s.at) (sym (two-is p q s n m) ∙ m.same))
+            (ap (λ (s : Progress). s.byte) (sym (two-is p q s n m) ∙ m.same));
         used = omega (arith, r.used);
         deep = omega (arith, r.deep);
         len = omega (arith, r.len);
-        unread = record { same = same; before = omega arith };
+        text = kept _ _ ahead (omega arith);
       })
 
-  -- after the root, as `end` answers
-  pub end-goes : (limit : ℕ) (stack : List StackState) (nodes : List Node) (p : Progress) (r : Result Follower Fault) (Q : Fault → Type 0) → AfterValue b ps limit stack nodes p → p.depth ≡ 0
-      → MatchResult r (λ f. (p.read ≡ length ps) × (f ≡ End p.used)) Q → IfOk r (Goes b ps limit stack nodes)
-  end-goes limit stack nodes p (Err fault) Q at none h = tt
-  end-goes limit stack nodes p (Ok f) Q at none (all, is) = subst (Goes b ps limit stack nodes) (sym is) (step-end b ps limit stack nodes p at none all)
+  -- after the root, as `end` returns it
+  pub end-built : (limit : ℕ) (reads : ℕ → Type 0) (stack : List StackState) (nodes : List Node) (p : Progress)
+      (r : Result Member Fault) (Q : Fault → Type 0) → IsAfter b ps reads p
+      → AfterValue b ps limit stack nodes p → p.depth ≡ 0 → MatchResult r (λ m. (p.read ≡ length ps) × (m ≡ End p.used)) Q
+      → IfOk r (IsAtMember b ps limit reads stack nodes)
+  end-built limit reads stack nodes p (Err fault) Q after at none h = tt
+  end-built limit reads stack nodes p (Ok m) Q after at none (all, is) =
+      subst (IsAtMember b ps limit reads stack nodes) (sym is) (omega (arith, after.used), step-end b ps limit stack nodes p at none all)
 
-  pub end-tells : (limit : ℕ) (stack : List StackState) (nodes : List Node) (p : Progress) (first : Node) (r : Result Follower Fault) (P : Follower → Type 0) → AfterValue b ps limit stack nodes p → IsRead b ps p → p.depth ≡ 0 → 0 < p.used → p.used ≤ length nodes → first ≡ get_or nodes 0 (Static Null)
-      → MatchResult r P (λ fault. (p.read ≢ length ps) × (fault ≡ record { kind = end_kind first; index = p.at; byte = p.byte })) → IfErr r (Tells b ps limit)
-  end-tells limit stack nodes p first (Ok f) P at read none some l is h = tt
+  pub end-from : (p : Progress) (n : ℕ) (r : Result Member Fault) (Q : Fault → Type 0)
+      → MatchResult r (λ m. (p.read ≡ length ps) × (m ≡ End p.used)) Q → IfOk r (IsFrom n)
+  end-from p n (Err fault) Q h = tt
+  end-from p n (Ok m) Q (all, is) = subst (IsFrom n) (sym is) tt
+
+  pub end-tells : (limit : ℕ) (stack : List StackState) (nodes : List Node) (p : Progress) (first : Node)
+      (r : Result Member Fault) (P : Member → Type 0) → AfterValue b ps limit stack nodes p → IsRead b ps p → p.depth ≡ 0
+      → 0 < p.used → p.used ≤ length nodes → first ≡ get_or nodes 0 (Static Null)
+      → MatchResult r P (λ fault. (p.read ≢ length ps) × (fault ≡ record { kind = end_kind first; index = p.at; byte = p.byte }))
+      → IfErr r (Tells b ps limit)
+  end-tells limit stack nodes p first (Ok m) P at read none some l is h = tt
   end-tells limit stack nodes p first (Err fault) P at read none some l is (more, told) =
-      told-at b ps limit (end_kind first) p fault told read.first (tells-trailing b ps limit stack nodes p first at none (omega (arith, more, read.within)) some l is)
+      told-at b ps limit (end_kind first) p fault told read.first
+      (tells-trailing b ps limit stack nodes p first at none (omega (arith, more, read.within)) some l is)
+
+-- ---- from a value to the next member
+
+module _ (b ps : List ℕ) (limit : ℕ) (reads : ℕ → Type 0) (stack : List StackState) (nodes : List Node) where
+  -- past a value
+  pub come-read : (v : Value) (p : Progress) → HasCome b ps limit reads stack nodes v → v ≡ Read p
+      → AfterLast b ps limit reads stack nodes p
+  come-read v p come is =
+      let h : HasCome b ps limit reads stack nodes (Read p) = subst (HasCome b ps limit reads stack nodes) is come in
+      record { capacity = h.capacity; progress = h.within; depth = h.depth; after = h.step }
+
+  -- at the first token of a member
+  pub at-member : (p : Progress) (kind : FaultKind) → HasCapacity ps limit stack nodes → IsBefore b ps reads p → p.depth ≤ limit
+      → 0 < p.depth → AtMember b ps limit kind stack nodes p
+      → IsAtMember b ps limit reads stack nodes (Next p kind)
+  at-member p kind capacity progress depth inside at = go p.container refl at
+    where
+      go : (c : Container) → p.container ≡ c → AtMemberOf b ps limit c (error_type kind) stack nodes p
+          → IsAtMemberOf b ps limit reads stack nodes c p kind
+      go Array is at = record {
+        first = record { capacity = capacity; progress = progress; depth = depth; value = at };
+        inside = inside;
+        array = is;
+      }
+      go Object is at = record { capacity = capacity; progress = progress; depth = depth; name = at }
+
+  -- in a new container
+  pub come-opened : (v : Value) (p : Progress) → HasCome b ps limit reads stack nodes v → v ≡ Opened p
+      → IsAtMember b ps limit reads stack nodes (Next p kinds.ExpectedObjectContent)
+  come-opened v p come is =
+      let h : HasCome b ps limit reads stack nodes (Opened p) = subst (HasCome b ps limit reads stack nodes) is come in
+      at-member p kinds.ExpectedObjectContent h.capacity h.within h.depth h.inside h.step
 
 -- a root that is whole has a node
-pub some-node : (b ps : List ℕ) (limit : ℕ) (stack : List StackState) (nodes : List Node) (p : Progress) → AfterValue b ps limit stack nodes p → p.depth ≡ 0 → p.used ≤ length nodes → 0 < p.used
+pub some-node : (b ps : List ℕ) (limit : ℕ) (stack : List StackState) (nodes : List Node) (p : Progress)
+    → AfterValue b ps limit stack nodes p → p.depth ≡ 0 → p.used ≤ length nodes → 0 < p.used
 some-node b ps limit stack nodes p at none l = go at.opens at.deep at.holds
   where
-    go : (opens : List Open) → length opens ≡ p.depth → HoldsValue opens at.last p.container (frames stack p.depth) p.len (map item_of (take p.used nodes)) → 0 < p.used
+    go : (opens : List Open) → length opens ≡ p.depth → HoldsValue opens at.last p.container (frames stack p.depth) p.len
+        (map item_of (take p.used nodes)) → 0 < p.used
     go [] deep (fs, items) = omega (arith, listing-some at.last, ap length items, items-length nodes p.used l)
     go (o ∷ outer) deep h = absurd (omega (arith, deep, none))
 
@@ -146,29 +223,20 @@ some-node b ps limit stack nodes p at none l = go at.opens at.deep at.holds
 abbrev pub first_token : List ℕ → ℕ → Progress
 first_token ps x = record { read = 1; at = get_or ps 0 0; byte = x; used = 0; depth = 0; container = Array; len = 0 }
 
--- All of the input is unread there.
-pub at-first : (input ps : List ℕ) (m : Machine) (nodes : List Node) (limit x : ℕ) → m.text.unread ≡ record { at = 0; bytes = input } → HasCapacity input ps limit m nodes → input_fault input ≡ None → 0 < length ps → AreAhead input m.text.escapes 0
-    → x ≡ byte_at m.text.unread.bytes (get_or ps 0 0 - m.text.unread.at) → (input_fault m.text.unread.bytes ≡ None) × AtFirst m.text.unread.bytes ps limit m nodes (first_token ps x)
-at-first input ps m nodes limit x is capacity good some ahead byte =
-    let none : get_or ps 0 0 - 0 ≡ get_or ps 0 0 = omega arith in
-    let byte' : x ≡ byte_at input (get_or ps 0 0 - 0) = subst (λ (u : Left). x ≡ byte_at u.bytes (get_or ps 0 0 - u.at)) is byte in
-    subst (λ b. (input_fault b ≡ None) × AtFirst b ps limit m nodes (first_token ps x)) (sym (ap (λ (u : Left). u.bytes) is)) (
-      good,
-      record {
-        capacity = capacity;
-        progress = record {
-          read = record { some = omega arith; within = omega arith; last = refl; first = byte' ∙ ap (byte_at input) none };
-          used = omega arith;
-          deep = omega arith;
-          len = omega arith;
-          unread = subst (λ u. IsUnread input u (get_or ps 0 0)) (sym is) (record { same = refl; before = omega arith });
-        };
-        escapes = ahead-later input m.text.escapes 0 ahead (get_or ps 0 0) (omega arith);
-        depth = omega arith;
-        value = root-value input ps limit m.stack.now nodes x some;
-      },
-    )
-
-pub first-looks : (input ps : List ℕ) (u : Left) → u ≡ record { at = 0; bytes = input } → ps ≡ positions input → 0 < length ps → (u.at ≤ get_or ps 0 0) × (get_or ps 0 0 < u.at + length u.bytes)
-first-looks input ps u is ps-is some =
-    subst (λ (u : Left). (u.at ≤ get_or ps 0 0) × (get_or ps 0 0 < u.at + length u.bytes)) (sym is) (omega arith, omega (arith, inside input ps ps-is 0 some))
+-- All of the input can be read there.
+pub at-first : (closed : Bool) (b ps : List ℕ) (reads : ℕ → Type 0) → IsKept reads
+    → (stack : List StackState) (nodes : List Node) (limit x : ℕ) → IsOnRoute closed b ps → HasCapacity ps limit stack nodes
+    → 0 < length ps → reads 0 → x ≡ byte_at b (get_or ps 0 0) → AtFirst b ps limit reads stack nodes (first_token ps x)
+at-first closed b ps reads kept stack nodes limit x route capacity some text byte =
+    record {
+      capacity = capacity;
+      progress = record {
+        read = record { some = omega arith; within = omega arith; last = refl; first = byte };
+        used = omega arith;
+        deep = omega arith;
+        len = omega arith;
+        text = kept _ _ text (omega arith);
+      };
+      depth = omega arith;
+      value = root-value b ps limit stack nodes x some;
+    }

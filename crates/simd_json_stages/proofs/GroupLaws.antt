@@ -12,23 +12,38 @@ other xs n k x l = get_or-set_other xs n k x 0 (λ e. omega arith)
 last : (xs : List ℕ) (n k x : ℕ) → length xs ≡ 8 → n < 8 → k ≡ n → slice_index (slice_set xs n x) k ≡ x
 last xs n k x e l same = subst (λ i. slice_index (slice_set xs n x) i ≡ x) (sym same) (get_or-set_same xs n x 0 (omega arith))
 
-pub HaveClasses-next : (b : List ℕ) (first n : ℕ) (ss hs cs es : List ℕ) (s h c e : ℕ) → length ss ≡ 8 → length hs ≡ 8 → length cs ≡ 8 → length es ≡ 8 → n < 8 → HaveClasses b first n ss hs cs es
-    → HasClasses b (64 * (first + n)) s h c e → HaveClasses b first (n + 1) (slice_set ss n s) (slice_set hs n h) (slice_set cs n c) (slice_set es n e)
+pub HaveClasses-next : (b : List ℕ) (first n : ℕ) (ss hs cs es : List ℕ) (s h c e : ℕ) → length ss ≡ 8 → length hs ≡ 8
+    → length cs ≡ 8 → length es ≡ 8 → n < 8 → HaveClasses b first n ss hs cs es
+    → HasClasses b (64 * (first + n)) s h c e → HaveClasses b first (n + 1) (slice_set ss n s) (slice_set hs n h)
+    (slice_set cs n c) (slice_set es n e)
 HaveClasses-next b first n ss hs cs es s h c e ls lh lc le l all one = λ k to. elim (cases_lt k n) [
   | inl below ↦ rw (other ss n k s below, other hs n k h below, other cs n k c below, other es n k e below) (all k below)
   | inr from ↦ (
       let same : k ≡ n = omega arith in
-      rw (last ss n k s ls l same, last hs n k h lh l same, last cs n k c lc l same, last es n k e le l same) (subst (λ i. HasClasses b (64 * (first + i)) s h c e) (sym same) one)
+      rw (last ss n k s ls l same, last hs n k h lh l same, last cs n k c lc l same, last es n k e le l same)
+      (subst (λ i. HasClasses b (64 * (first + i)) s h c e) (sym same) one)
       )
 ]
 
-pub HaveParts-next : (b : List ℕ) (first n : ℕ) (ps ls ss qs : List ℕ) (p : Parts) → length ps ≡ 8 → length ls ≡ 8 → length ss ≡ 8 → length qs ≡ 8 → n < 8 → HaveParts b first n ps ls ss qs
-    → AreParts b (64 * (first + n)) p → HaveParts b first (n + 1) (slice_set ps n p.parity) (slice_set ls n p.plain) (slice_set ss n p.space) (slice_set qs n p.quote)
+pub HaveParts-next : (b : List ℕ) (first n : ℕ) (ps ls ss qs : List ℕ) (p : Parts) → length ps ≡ 8 → length ls ≡ 8 → length ss ≡ 8
+    → length qs ≡ 8 → n < 8 → HaveParts b first n ps ls ss qs
+    → AreParts b (64 * (first + n)) p → HaveParts b first (n + 1) (slice_set ps n p.parity) (slice_set ls n p.plain)
+    (slice_set ss n p.space) (slice_set qs n p.quote)
 HaveParts-next b first n ps ls ss qs p lp ll lsp lq l all one = λ k to. elim (cases_lt k n) [
-  | inl below ↦ rw (other ps n k p.parity below, other ls n k p.plain below, other ss n k p.space below, other qs n k p.quote below) (all k below)
+  | inl below ↦ rw (
+    other ps n k p.parity below,
+    other ls n k p.plain below,
+    other ss n k p.space below,
+    other qs n k p.quote below,
+  ) (all k below)
   | inr from ↦ (
       let same : k ≡ n = omega arith in
-      rw (last ps n k p.parity lp l same, last ls n k p.plain ll l same, last ss n k p.space lsp l same, last qs n k p.quote lq l same) (subst (λ i. AreParts b (64 * (first + i)) p) (sym same) one)
+      rw (
+        last ps n k p.parity lp l same,
+        last ls n k p.plain ll l same,
+        last ss n k p.space lsp l same,
+        last qs n k p.quote lq l same,
+      ) (subst (λ i. AreParts b (64 * (first + i)) p) (sym same) one)
       )
 ]
 

@@ -12,6 +12,7 @@ mod Following
 mod EscapeBlockLaws
 mod BetweenBlocks
 mod EscapesPassed
+mod TextLaws
 mod StringEnds
 mod ScalarPut
 mod StringPut

@@ -3,7 +3,7 @@ use Rattle.std.proofs.Common.{◌≡◌, sym, ◌∙◌, ap, subst, ℕ, zero, s
 use Rattle.std.specs.Prelude.{Some, None, IsUtf8}
 use Rattle.std.specs.List.Sorted.{IsStrictlyIncreasing}
 use Rattle.std.proofs.lemmas.Bool.{cases_Bool, cases_lt, or_cases, and_parts, or_from, false≢true}
-use Rattle.std.proofs.lemmas.List.{get_or_default, get_or_past, get_or-drop, drop-drop, length-drop}
+use Rattle.std.proofs.lemmas.List.{get_or_default, get_or_past}
 use Rattle.std.proofs.lemmas.List.Elements.{Contains-append_right}
 use Rattle.simd_json_parts.specs.Bytes.{quote, is_whitespace, is_structural, byte_at}
 use Rattle.simd_json_parts.specs.InputFaults.{input_fault, has_bad_string}
@@ -18,9 +18,8 @@ use Rattle.simd_json_parts.proofs.Sound.CleanInputs.{IsClean, IsClean-input}
 use Rattle.simd_json_parts.proofs.Positions.Order.{IsStrictlyIncreasing-positions, Contains-positions}
 use Rattle.simd_json_parts.proofs.Strings.Standalone.{closing_quote-inside, utf8-opening}
 use Rattle.simd_json_parts.proofs.Positions.TokensAtPositions.{tokens-positions}
-use Rattle.simd_json_stages.specs.Left.{Left}
-use Rattle.simd_json_stages.specs.Progresses.{IsRead, IsUnread}
-use Rattle.simd_json_stages.specs.declared.stage2.Progress.{Progress}
+use Rattle.simd_json_stages.specs.Progresses.{IsRead}
+use Rattle.simd_json_stages.specs.declared.stage2.progress.Progress.{Progress}
 
 abbrev pub token : List ℕ → ℕ → Token
 token b i = record { index = i; form = form_at b i }
@@ -44,7 +43,8 @@ quote-inside b i is e =
       | inl opening ↦ (and_parts _ _ opening).1
       | inr other ↦
           let outside : (not (is_inside b i) && not (is_real_quote b i)) ≡ true = (and_parts _ _ other).0 in
-          let first : (is_structural (byte_at b i) || (not (is_whitespace (byte_at b i)) && is_fresh b i)) ≡ true = (and_parts _ _ other).1 in
+          let first : (is_structural (byte_at b i) || (not (is_whitespace (byte_at b i)) && is_fresh b i)) ≡ true =
+          (and_parts _ _ other).1 in
           let fresh : is_fresh b i ≡ true = ap (λ x. is_structural x || (not (is_whitespace x) && is_fresh b i)) (sym e) ∙ first in
           absurd (false≢true (ap not (sym (is_real_quote-fresh b i fresh (ap (λ x. nat_eq x quote) e))) ∙ (and_parts _ _ outside).1))
     ]
@@ -56,29 +56,51 @@ no_bad_string b none = let clean : IsClean b = IsClean-input b none in or_from _
 module _ (b : List ℕ) where
   -- the last token is at a position, inside the input
   pub at-position : (p : Progress) → IsRead b (positions b) p → Contains (positions b) p.at
-  at-position p r = (p.read - 1, omega (arith, r.some, r.within), get_or_default (positions b) (p.read - 1) p.at 0 (omega (arith, r.some, r.within)) ∙ sym r.last)
+  at-position p r = (
+    p.read - 1,
+    omega (arith, r.some, r.within),
+    get_or_default (positions b) (p.read - 1) p.at 0 (omega (arith, r.some, r.within)) ∙ sym r.last,
+  )
 
   pub at-inside : (p : Progress) → IsRead b (positions b) p → p.at < length b
   at-inside p r = ((Contains-positions b p.at).0 (at-position p r)).0
 
   -- each position is inside the input
   pub position-inside : (k : ℕ) → k < length (positions b) → get_or (positions b) k 0 < length b
-  position-inside k l = ((Contains-positions b (get_or (positions b) k 0)).0 (k, l, get_or_default (positions b) k (get_or (positions b) k 0) 0 l)).0
+  position-inside k l = ((Contains-positions b (get_or (positions b) k 0)).0
+      (k, l, get_or_default (positions b) k (get_or (positions b) k 0) 0 l)).0
 
   -- the next position is after it
   pub next-later : (p : Progress) → IsRead b (positions b) p → p.read < length (positions b) → p.at < get_or (positions b) p.read 0
-  next-later p r l = omega (arith, r.last, rising (positions b) (IsStrictlyIncreasing-positions b) (p.read - 1) p.read (omega (arith, r.some)) l)
+  next-later p r l = omega (
+    arith,
+    r.last,
+    rising (positions b) (IsStrictlyIncreasing-positions b) (p.read - 1) p.read
+        (omega (arith, r.some)) l,
+  )
 
   -- one more position is read
-  pub IsRead-next : (p q : Progress) → IsRead b (positions b) p → p.read < length (positions b) → q.read ≡ p.read + 1 → q.at ≡ get_or (positions b) p.read 0 → q.byte ≡ byte_at b (get_or (positions b) p.read 0) → IsRead b (positions b) q
+  pub IsRead-next : (p q : Progress) → IsRead b (positions b) p → p.read < length (positions b) → q.read ≡ p.read + 1
+      → q.at ≡ get_or (positions b) p.read 0 → q.byte ≡ byte_at b (get_or (positions b) p.read 0) → IsRead b (positions b) q
   IsRead-next p q r l read at byte =
       let before : p.read ≡ q.read - 1 = omega (arith, read) in
-      record { some = omega (arith, read); within = omega (arith, read, l); last = at ∙ ap (λ k. get_or (positions b) k 0) before; first = byte ∙ ap (byte_at b) (sym at) }
+      record {
+        some = omega (arith, read);
+        within = omega (arith, read, l);
+        last = at ∙ ap (λ k. get_or (positions b) k 0) before;
+        first = byte ∙ ap (byte_at b) (sym at);
+      }
 
   -- only these three count
   pub IsRead-same : (p q : Progress) → IsRead b (positions b) p → q.read ≡ p.read → q.at ≡ p.at → q.byte ≡ p.byte → IsRead b (positions b) q
   IsRead-same p q r read at byte =
-      record { some = omega (arith, read, r.some); within = omega (arith, read, r.within); last = at ∙ r.last ∙ ap (λ k. get_or (positions b) (k - 1) 0) (sym read); first = byte ∙ r.first ∙ ap (byte_at b) (sym at) }
+      record {
+        some = omega (arith, read, r.some);
+        within = omega (arith, read, r.within);
+        last = at ∙ r.last
+            ∙ ap (λ k. get_or (positions b) (k - 1) 0) (sym read);
+        first = byte ∙ r.first ∙ ap (byte_at b) (sym at);
+      }
 
   pub next-inside : (p : Progress) → get_or (positions b) p.read (length b) ≤ length b
   next-inside p =
@@ -88,7 +110,8 @@ module _ (b : List ℕ) where
       ]
 
   -- no position lies between it and the next, or the end
-  pub none-between : (p : Progress) → IsRead b (positions b) p → (j : ℕ) → p.at < j → j < get_or (positions b) p.read (length b) → IsFalse (is_position b j)
+  pub none-between : (p : Progress) → IsRead b (positions b) p → (j : ℕ) → p.at < j → j < get_or (positions b) p.read (length b)
+      → IsFalse (is_position b j)
   none-between p r j g h =
       elim (cases_Bool (is_position b j)) [
         | inl is ↦ absurd (between ((Contains-positions b j).1 (omega (arith, h, next-inside p), is)))
@@ -100,18 +123,28 @@ module _ (b : List ℕ) where
           let here : get_or (positions b) k 0 ≡ j = get_or_default (positions b) k 0 j l ∙ e in
           elim (cases_lt k p.read) [
             | inl old ↦ elim (cases_lt k (p.read - 1)) [
-              | inl older ↦ omega (arith, here, g, r.last, rising (positions b) (IsStrictlyIncreasing-positions b) k (p.read - 1) older (omega (arith, r.some, r.within)))
-              | inr last ↦ let same : k ≡ p.read - 1 = omega (arith, r.some) in omega (arith, g, here, r.last, ap (λ n. get_or (positions b) n 0) same)
+              | inl older ↦ omega (
+                arith,
+                here,
+                g,
+                r.last,
+                rising (positions b) (IsStrictlyIncreasing-positions b) k (p.read - 1)
+                    older (omega (arith, r.some, r.within)),
+              )
+              | inr last ↦ let same : k ≡ p.read - 1 = omega (arith, r.some) in
+                  omega (arith, g, here, r.last, ap (λ n. get_or (positions b) n 0) same)
             ]
             | inr new ↦
-                let there : get_or (positions b) p.read (length b) ≡ get_or (positions b) p.read 0 = get_or_default (positions b) p.read (length b) 0 (omega arith) in
+                let there : get_or (positions b) p.read (length b) ≡ get_or (positions b) p.read 0 = get_or_default (positions b)
+                p.read (length b) 0 (omega arith) in
                 elim (cases_lt p.read k) [
                   | inl later ↦ omega (arith, h, here, there, rising (positions b) (IsStrictlyIncreasing-positions b) p.read k later l)
                   | inr last ↦ let same : k ≡ p.read = omega arith in omega (arith, h, here, there, ap (λ n. get_or (positions b) n 0) same)
                 ]
           ]
 
-  pub next-there : (p : Progress) → Contains (positions b) (get_or (positions b) p.read (length b)) ⊎ (get_or (positions b) p.read (length b) ≡ length b)
+  pub next-there : (p : Progress) → Contains (positions b) (get_or (positions b) p.read (length b)) ⊎
+      (get_or (positions b) p.read (length b) ≡ length b)
   next-there p =
       elim (cases_lt p.read (length (positions b))) [
         | inl l ↦ inl (p.read, l, get_or_default (positions b) p.read (get_or (positions b) p.read (length b)) (length b) l)
@@ -126,10 +159,12 @@ module _ (b : List ℕ) where
       ]
 
   -- a token that is read ends at the next position at the latest
-  pub end-before_next : (p : Progress) (end : ℕ) → IsRead b (positions b) p → Contains (tokens b) (token b p.at) → token_end (token b p.at) ≡ Some end → p.read < length (positions b) → end ≤ get_or (positions b) p.read 0
+  pub end-before_next : (p : Progress) (end : ℕ) → IsRead b (positions b) p → Contains (tokens b) (token b p.at)
+      → token_end (token b p.at) ≡ Some end → p.read < length (positions b) → end ≤ get_or (positions b) p.read 0
   end-before_next p end r c is l =
       let next : ℕ = get_or (positions b) p.read 0 in
-      let position : is_position b next ≡ true = ((Contains-positions b next).0 (p.read, l, get_or_default (positions b) p.read next 0 l)).1 in
+      let position : is_position b next ≡ true = ((Contains-positions b next).0
+      (p.read, l, get_or_default (positions b) p.read next 0 l)).1 in
       elim (cases_lt next end) [
         | inl h ↦ absurd (false≢true (sym (no_position-within b (token b p.at) end next c is (next-later p r l) h) ∙ position))
         | inr h ↦ h
@@ -145,25 +180,12 @@ module _ (b : List ℕ) where
   pub string-utf8 : (i : ℕ) → i < length b → byte_at b i ≡ quote → input_fault b ≡ None → IsUtf8 (drop i b)
   string-utf8 i l e none = let clean : IsClean b = IsClean-input b none in utf8-opening b i l e clean.utf8
 
-  -- ---- what is unread
-
-  pub unread-length : (u : Left) (i : ℕ) → IsUnread b u i → i ≤ length b → u.at + length u.bytes ≡ length b
-  unread-length u i un l = omega (arith, ap length un.same, length-drop u.at b, un.before, l)
-
-  pub unread-byte : (u : Left) (i j : ℕ) → IsUnread b u i → i ≤ j → byte_at u.bytes (j - u.at) ≡ byte_at b j
-  unread-byte u i j un l =
-      let there : u.at + (j - u.at) ≡ j = omega (arith, un.before, l) in
-      ap (λ bs. byte_at bs (j - u.at)) un.same ∙ get_or-drop u.at b (j - u.at) 32 ∙ ap (byte_at b) there
-
-  pub unread-drop : (u : Left) (i j : ℕ) → IsUnread b u i → i ≤ j → drop (j - u.at) u.bytes ≡ drop j b
-  unread-drop u i j un l =
-      let there : u.at + (j - u.at) ≡ j = omega (arith, un.before, l) in
-      ap (drop (j - u.at)) un.same ∙ drop-drop (j - u.at) u.at b ∙ ap (λ n. drop n b) there
-
   -- ---- the tokens that are read
 
   -- where the tokens at the positions go on with the token at i, it is one of those that are read
-  pub token-read : (before rest : List Token) (i : ℕ) (is : List ℕ) → tokens_along b (positions b) ≡ before ++ tokens_along b (i ∷ is) → Contains (tokens b) (token b i)
+  pub token-read : (before rest : List Token) (i : ℕ) (is : List ℕ)
+      → tokens_along b (positions b) ≡ before ++ tokens_along b (i ∷ is) → Contains (tokens b) (token b i)
   token-read before rest i is h =
       let here : Contains (tokens_along b (i ∷ is)) (token b i) = (0, omega arith, refl) in
-      subst (λ ts. Contains ts (token b i)) (sym (tokens-positions b ∙ h)) (Contains-append_right before (tokens_along b (i ∷ is)) (token b i) here)
+      subst (λ ts. Contains ts (token b i)) (sym (tokens-positions b ∙ h))
+      (Contains-append_right before (tokens_along b (i ∷ is)) (token b i) here)

@@ -2,7 +2,7 @@
 use Rattle.std.proofs.Common.{◌≡◌, refl, sym, ◌∙◌, ap, ap₂, ℕ, zero, suc, ◌+◌, ◌-◌, ◌*◌, ◌/◌, ◌<◌, ◌≤◌, inl, inr, List, [], ◌∷◌, ◌++◌, length, get_or, take, drop, replicate, Bool, true, false, not, ◌&&◌, ◌||◌, ◌==◌, if◌then◌else◌, add-zero, add-suc, arith, length-drop, length-append}
 use Rattle.std.specs.List.{list_any, range_with_len, filter}
 use Rattle.std.proofs.lemmas.Bool.{cases_lt}
-use Rattle.std.proofs.lemmas.List.{get_or_past, get_or_default, get_or_append_left, get_or-append_right, get_or-replicate, get_or-drop, length-replicate, length-take-le}
+use Rattle.std.proofs.lemmas.List.{get_or_past, get_or_default, get_or_append_left, get_or-append_right, get_or-replicate, get_or-drop, length-replicate, drop-replicate, length-take-le}
 use Rattle.std.proofs.lemmas.List.Sums.{length-filter, count_by-le-length}
 use Rattle.std.proofs.lemmas.List.Folds.{list_any-append}
 use Rattle.std.proofs.lemmas.List.FromFn.{length-range_with_len}
@@ -31,19 +31,24 @@ whole b = length b / 64
 padded : (r p : ℕ) → r < 64 → p ≡ 64 - r → r + p ≡ 64
 padded r p h e = omega arith
 
-pub IsBlock-rest : (b rest bytes : List ℕ) → rest ≡ drop (length b / 64 * 64) b → bytes ≡ rest ++ replicate (64 - length rest) 32 → IsBlock b (64 * whole b) bytes
-IsBlock-rest b rest bytes e f =
+pub IsBlock-rest : (b rest front : List ℕ) → rest ≡ drop (length b / 64 * 64) b → front ≡ rest
+    → IsBlock b (64 * whole b) (front ++ drop (length rest) (replicate 64 32))
+IsBlock-rest b rest front e copied =
+    let f : front ++ drop (length rest) (replicate 64 32) ≡ rest ++ replicate (64 - length rest) 32 = rw (copied, drop-replicate) in
     let n = length-drop (length b / 64 * 64) b in
     let long : length rest ≡ length b - length b / 64 * 64 = ap length e ∙ n in
     let from : length b / 64 * 64 ≡ 64 * whole b = omega arith in
     record {
-      len = ap length f ∙ length-append rest (replicate (64 - length rest) 32) ∙ padded (length rest) _ (omega arith) (length-replicate (64 - length rest) 32);
+      len = ap length f ∙ length-append rest (replicate (64 - length rest) 32)
+          ∙ padded (length rest) _ (omega arith) (length-replicate (64 - length rest) 32);
       same = λ i l. ap (λ xs. get_or xs i 0) f ∙ elim (cases_lt i (length rest)) [
         | inl h ↦
-            get_or_append_left rest (replicate (64 - length rest) 32) 0 i h ∙ ap (λ xs. get_or xs i 0) e ∙ get_or-drop (length b / 64 * 64) b i 0
+            get_or_append_left rest (replicate (64 - length rest) 32) 0 i h ∙ ap (λ xs. get_or xs i 0) e
+            ∙ get_or-drop (length b / 64 * 64) b i 0
             ∙ ap (λ m. get_or b (m + i) 0) from ∙ get_or_default b (64 * whole b + i) 0 32 (omega arith)
         | inr h ↦
-            get_or-append_right rest (replicate (64 - length rest) 32) (length rest) i 0 refl h ∙ get_or-replicate (64 - length rest) (i - length rest) 32 0 (omega arith)
+            get_or-append_right rest (replicate (64 - length rest) 32) (length rest) i 0 refl h
+            ∙ get_or-replicate (64 - length rest) (i - length rest) 32 0 (omega arith)
             ∙ sym (get_or_past b (64 * whole b + i) 32 (omega arith))
       ];
     }
@@ -65,13 +70,15 @@ position-past : (b : List ℕ) (i : ℕ) → length b ≤ i → is_position b i 
 unfolding is_position
 position-past b i l =
     let n = is_inside b i in
-    ap₂ (λ q x. (q && n) || ((not n && not q) && (is_structural x || (not (is_whitespace x) && is_fresh b i)))) (real-past b i l) (space-past b i l) ∙ and-false (not n && true)
+    ap₂ (λ q x. (q && n) || ((not n && not q) && (is_structural x || (not (is_whitespace x) && is_fresh b i)))) (real-past b i l)
+    (space-past b i l) ∙ and-false (not n && true)
 
 quotes-past : (b : List ℕ) (n : ℕ) → real_quotes b (length b + n) ≡ real_quotes b (length b)
 unfolding real_quotes
 quotes-past b zero = ap (real_quotes b) (add-zero (length b))
 quotes-past b (suc n) =
-    ap (real_quotes b) (add-suc (length b) n) ∙ ap (λ t. if t then suc (real_quotes b (length b + n)) else real_quotes b (length b + n)) (real-past b (length b + n) (omega arith)) ∙ quotes-past b n
+    ap (real_quotes b) (add-suc (length b) n) ∙ ap (λ t. if t then suc (real_quotes b (length b + n)) else real_quotes b
+    (length b + n)) (real-past b (length b + n) (omega arith)) ∙ quotes-past b n
 
 pub positions-all : (b : List ℕ) (n : ℕ) → length b ≤ n → filter (is_position b) (range_with_len 0 n) ≡ positions b
 unfolding positions
@@ -86,7 +93,9 @@ unfolding has_control_inside
 control-all b n =
     let f = λ (i : ℕ). is_inside b i && is_control (byte_at b i) in
     ap (list_any f) (range-add 0 (length b) n) ∙ list_any-append f (range_with_len 0 (length b)) (range_with_len (0 + length b) n)
-    ∙ ap (λ t. list_any f (range_with_len 0 (length b)) || t) (list_any-none_between f (0 + length b) n (λ j g h. ap (λ x. is_inside b j && is_control x) (space-past b j (omega arith)) ∙ and-false (is_inside b j)))
+    ∙ ap (λ t. list_any f (range_with_len 0 (length b)) || t)
+    (list_any-none_between f (0 + length b) n (λ j g h. ap (λ x. is_inside b j && is_control x) (space-past b j (omega arith))
+    ∙ and-false (is_inside b j)))
     ∙ or-false (list_any f (range_with_len 0 (length b)))
 
 -- ---- what the last block adds
@@ -107,19 +116,29 @@ rest-bad b p out m h marks =
     let e : 64 * k + 64 ≡ length b + n = omega arith in
     let f : 64 * (k + 1) ≡ length b + n = omega arith in
     ap₂ (λ x y. x || y)
-    (ap (λ w. not (w == 0)) marks.carry.inside ∙ all-zero (not (is_even (real_quotes b (64 * k + 64)))) ∙ ap (λ j. not (is_even (real_quotes b j))) e ∙ ap (λ j. not (is_even j)) (quotes-past b n))
-    (ap not (control-next b k p.bad m.bad h.bad marks.bad) ∙ not-not (has_control_before b (64 * (k + 1))) ∙ ap (has_control_before b) f ∙ control-all b n)
+    (ap (λ w. not (w == 0)) marks.carry.inside ∙ all-zero (not (is_even (real_quotes b (64 * k + 64))))
+    ∙ ap (λ j. not (is_even (real_quotes b j))) e ∙ ap (λ j. not (is_even j)) (quotes-past b n))
+    (ap not (control-next b k p.bad m.bad h.bad marks.bad) ∙ not-not (has_control_before b (64 * (k + 1)))
+    ∙ ap (has_control_before b) f ∙ control-all b n)
 
-pub rest-positions : (b : List ℕ) (p : Placing) (out : List ℕ) (m : Marks) → IsPlaced b (whole b) p out → AreMarks b (64 * whole b) m → take p.used out ++ set_bits 64 (64 * whole b) m.starts ≡ positions b
+pub rest-positions : (b : List ℕ) (p : Placing) (out : List ℕ) (m : Marks) → IsPlaced b (whole b) p out
+    → AreMarks b (64 * whole b) m → take p.used out ++ set_bits 64 (64 * whole b) m.starts ≡ positions b
 rest-positions b p out m h marks =
     let k = whole b in
-    ap (λ l. l ++ set_bits 64 (64 * k) m.starts) h.found ∙ positions-next (is_position b) k m.starts marks.starts ∙ positions-all b (64 * (k + 1)) (omega arith)
+    ap (λ l. l ++ set_bits 64 (64 * k) m.starts) h.found ∙ positions-next (is_position b) k m.starts marks.starts
+    ∙ positions-all b (64 * (k + 1)) (omega arith)
 
 few-positions : (b : List ℕ) → length (positions b) ≤ length b
 unfolding positions
-few-positions b = omega (arith, length-filter (is_position b) (range_with_len 0 (length b)), count_by-le-length (is_position b) (range_with_len 0 (length b)), length-range_with_len 0 (length b))
+few-positions b = omega (
+  arith,
+  length-filter (is_position b) (range_with_len 0 (length b)),
+  count_by-le-length (is_position b) (range_with_len 0 (length b)),
+  length-range_with_len 0 (length b),
+)
 
-pub rest-few : (b : List ℕ) (p : Placing) (out : List ℕ) (m : Marks) → IsPlaced b (whole b) p out → AreMarks b (64 * whole b) m → p.used + ones m.starts ≤ length b
+pub rest-few : (b : List ℕ) (p : Placing) (out : List ℕ) (m : Marks) → IsPlaced b (whole b) p out → AreMarks b (64 * whole b) m
+    → p.used + ones m.starts ≤ length b
 rest-few b p out m h marks =
     let all = ap length (rest-positions b p out m h marks) in
     let two = length-append (take p.used out) (set_bits 64 (64 * whole b) m.starts) in
@@ -127,7 +146,8 @@ rest-few b p out m h marks =
     let bits = length-ones 64 (64 * whole b) m.starts marks.starts.small in
     omega (arith, few-positions b)
 
-pub rest-listed : (b : List ℕ) (s : Classifying) (listed : List ℕ) (m : Classified) → IsClassified b (whole b) s listed → AreClassified b (64 * whole b) m → m.has_backslash ≡ true → s.listed < blocks_in (length b)
+pub rest-listed : (b : List ℕ) (s : Classifying) (listed : List ℕ) (m : Classified) → IsClassified b (whole b) s listed
+    → AreClassified b (64 * whole b) m → m.has_backslash ≡ true → s.listed < blocks_in (length b)
 unfolding holds_backslash
 rest-listed b s listed m h classified e = elim (cases_lt (whole b) (blocks_in (length b))) [
   | inl l ↦ (let few = h.few in omega arith)
@@ -138,11 +158,13 @@ rest-listed b s listed m h classified e = elim (cases_lt (whole b) (blocks_in (l
 ]
 
 -- the blocks that hold a backslash, where the last does or does not
-pub rest-blocks : (b : List ℕ) (s : Classifying) (listed : List ℕ) (m : Classified) (t : Bool) → IsClassified b (whole b) s listed → AreClassified b (64 * whole b) m → m.has_backslash ≡ t
+pub rest-blocks : (b : List ℕ) (s : Classifying) (listed : List ℕ) (m : Classified) (t : Bool) → IsClassified b (whole b) s listed
+    → AreClassified b (64 * whole b) m → m.has_backslash ≡ t
     → (if t then take s.listed listed ++ whole b ∷ [] else take s.listed listed) ≡ backslash_blocks b
 unfolding holds_backslash backslash_blocks
 rest-blocks b s listed m t h classified e =
     let k = whole b in
     let holds = holds_backslash b in
     ap (λ ks. if t then ks ++ k ∷ [] else ks) h.found ∙ sym (filter-next holds k t (sym classified.escapes ∙ e))
-    ∙ filter-stays holds (blocks_in (length b)) (k + 1) (omega arith) (λ j f l. holds_backslash-plain b j (λ i g u. byte_at-past b i (omega arith)))
+    ∙ filter-stays holds (blocks_in (length b)) (k + 1) (omega arith)
+    (λ j f l. holds_backslash-plain b j (λ i g u. byte_at-past b i (omega arith)))

@@ -29,65 +29,83 @@ byte_at-after b rest i n e = sym (get_or-drop i b n 32) ∙ ap (λ l. byte_at l 
 atom_or-ok : (letters : List ℕ) (d : Document) (kind : ErrorType) (b rest : List ℕ) (i n : ℕ) → drop i b ≡ rest → length letters ≡ n
     → (starts_with nat_eq rest letters && is_terminator (byte_at rest n)) ≡ true → atom_or letters d kind b i ≡ Ok (d, i + n)
 atom_or-ok letters d kind b rest i n e is h =
-    ap (λ m. if starts_with nat_eq (drop i b) letters && is_terminator (byte_at b (i + m)) then Ok (d, i + m) else Err (fault_at b kind i)) is
-    ∙ ap (λ t. if t then Ok (d, i + n) else Err (fault_at b kind i)) (ap (λ bs. starts_with nat_eq bs letters && is_terminator (byte_at b (i + n))) e ∙ ap (λ c. starts_with nat_eq rest letters && is_terminator c) (byte_at-after b rest i n e) ∙ h)
+    ap (λ m. if starts_with nat_eq (drop i b) letters && is_terminator (byte_at b (i + m)) then Ok (d, i + m) else Err
+    (fault_at b kind i)) is
+    ∙ ap (λ t. if t then Ok (d, i + n) else Err (fault_at b kind i))
+    (ap (λ bs. starts_with nat_eq bs letters && is_terminator (byte_at b (i + n))) e
+    ∙ ap (λ c. starts_with nat_eq rest letters && is_terminator c) (byte_at-after b rest i n e) ∙ h)
 
 form_at-atom : (b : List ℕ) (i c : ℕ) → byte_at b i ≡ c → form_of b i c ≡ scalar (atom_at b i) → form_at b i ≡ scalar (atom_at b i)
 unfolding form_at
 form_at-atom b i c e f = ap (form_of b i) e ∙ f
 
-pub form_at-true : (b rest : List ℕ) (i : ℕ) → drop i b ≡ rest → byte_at b i ≡ 116 → (starts_with nat_eq rest (codes "true") && is_terminator (byte_at rest 4)) ≡ true
+pub form_at-true : (b rest : List ℕ) (i : ℕ) → drop i b ≡ rest → byte_at b i ≡ 116
+    → (starts_with nat_eq rest (codes "true") && is_terminator (byte_at rest 4)) ≡ true
     → form_at b i ≡ scalar (Ok (boolean true, i + 4))
 unfolding atom_at
 form_at-true b rest i e f h =
     form_at-atom b i 116 f refl
-    ∙ ap scalar (ap (λ c. if c == 116 then atom_or (codes "true") (boolean true) ExpectedTrue b i else if c == 102 then atom_or (codes "false") (boolean false) ExpectedFalse b i else atom_or (codes "null") null ExpectedNull b i) f
+    ∙ ap scalar (ap (λ c. if c == 116 then atom_or (codes "true") (boolean true) ExpectedTrue b i else if c == 102 then atom_or
+    (codes "false") (boolean false) ExpectedFalse b i else atom_or (codes "null") null ExpectedNull b i) f
     ∙ atom_or-ok (codes "true") (boolean true) ExpectedTrue b rest i 4 e refl h)
 
-pub form_at-false : (b rest : List ℕ) (i : ℕ) → drop i b ≡ rest → byte_at b i ≡ 102 → (starts_with nat_eq rest (codes "false") && is_terminator (byte_at rest 5)) ≡ true
+pub form_at-false : (b rest : List ℕ) (i : ℕ) → drop i b ≡ rest → byte_at b i ≡ 102
+    → (starts_with nat_eq rest (codes "false") && is_terminator (byte_at rest 5)) ≡ true
     → form_at b i ≡ scalar (Ok (boolean false, i + 5))
 unfolding atom_at
 form_at-false b rest i e f h =
     form_at-atom b i 102 f refl
-    ∙ ap scalar (ap (λ c. if c == 116 then atom_or (codes "true") (boolean true) ExpectedTrue b i else if c == 102 then atom_or (codes "false") (boolean false) ExpectedFalse b i else atom_or (codes "null") null ExpectedNull b i) f
+    ∙ ap scalar (ap (λ c. if c == 116 then atom_or (codes "true") (boolean true) ExpectedTrue b i else if c == 102 then atom_or
+    (codes "false") (boolean false) ExpectedFalse b i else atom_or (codes "null") null ExpectedNull b i) f
     ∙ atom_or-ok (codes "false") (boolean false) ExpectedFalse b rest i 5 e refl h)
 
-pub form_at-null : (b rest : List ℕ) (i : ℕ) → drop i b ≡ rest → byte_at b i ≡ 110 → (starts_with nat_eq rest (codes "null") && is_terminator (byte_at rest 4)) ≡ true
+pub form_at-null : (b rest : List ℕ) (i : ℕ) → drop i b ≡ rest → byte_at b i ≡ 110
+    → (starts_with nat_eq rest (codes "null") && is_terminator (byte_at rest 4)) ≡ true
     → form_at b i ≡ scalar (Ok (null, i + 4))
 unfolding atom_at
 form_at-null b rest i e f h =
     form_at-atom b i 110 f refl
-    ∙ ap scalar (ap (λ c. if c == 116 then atom_or (codes "true") (boolean true) ExpectedTrue b i else if c == 102 then atom_or (codes "false") (boolean false) ExpectedFalse b i else atom_or (codes "null") null ExpectedNull b i) f
+    ∙ ap scalar (ap (λ c. if c == 116 then atom_or (codes "true") (boolean true) ExpectedTrue b i else if c == 102 then atom_or
+    (codes "false") (boolean false) ExpectedFalse b i else atom_or (codes "null") null ExpectedNull b i) f
     ∙ atom_or-ok (codes "null") null ExpectedNull b rest i 4 e refl h)
 
 atom_or-fault : (letters : List ℕ) (d : Document) (kind : ErrorType) (b rest : List ℕ) (i n : ℕ) → drop i b ≡ rest → length letters ≡ n
     → (starts_with nat_eq rest letters && is_terminator (byte_at rest n)) ≡ false → atom_or letters d kind b i ≡ Err (fault_at b kind i)
 atom_or-fault letters d kind b rest i n e is h =
-    ap (λ m. if starts_with nat_eq (drop i b) letters && is_terminator (byte_at b (i + m)) then Ok (d, i + m) else Err (fault_at b kind i)) is
-    ∙ ap (λ t. if t then Ok (d, i + n) else Err (fault_at b kind i)) (ap (λ bs. starts_with nat_eq bs letters && is_terminator (byte_at b (i + n))) e ∙ ap (λ c. starts_with nat_eq rest letters && is_terminator c) (byte_at-after b rest i n e) ∙ h)
+    ap (λ m. if starts_with nat_eq (drop i b) letters && is_terminator (byte_at b (i + m)) then Ok (d, i + m) else Err
+    (fault_at b kind i)) is
+    ∙ ap (λ t. if t then Ok (d, i + n) else Err (fault_at b kind i))
+    (ap (λ bs. starts_with nat_eq bs letters && is_terminator (byte_at b (i + n))) e
+    ∙ ap (λ c. starts_with nat_eq rest letters && is_terminator c) (byte_at-after b rest i n e) ∙ h)
 
-pub form_at-no_true : (b rest : List ℕ) (i : ℕ) → drop i b ≡ rest → byte_at b i ≡ 116 → (starts_with nat_eq rest (codes "true") && is_terminator (byte_at rest 4)) ≡ false
+pub form_at-no_true : (b rest : List ℕ) (i : ℕ) → drop i b ≡ rest → byte_at b i ≡ 116
+    → (starts_with nat_eq rest (codes "true") && is_terminator (byte_at rest 4)) ≡ false
     → form_at b i ≡ scalar (Err (fault_at b ExpectedTrue i))
 unfolding atom_at
 form_at-no_true b rest i e f h =
     form_at-atom b i 116 f refl
-    ∙ ap scalar (ap (λ c. if c == 116 then atom_or (codes "true") (boolean true) ExpectedTrue b i else if c == 102 then atom_or (codes "false") (boolean false) ExpectedFalse b i else atom_or (codes "null") null ExpectedNull b i) f
+    ∙ ap scalar (ap (λ c. if c == 116 then atom_or (codes "true") (boolean true) ExpectedTrue b i else if c == 102 then atom_or
+    (codes "false") (boolean false) ExpectedFalse b i else atom_or (codes "null") null ExpectedNull b i) f
     ∙ atom_or-fault (codes "true") (boolean true) ExpectedTrue b rest i 4 e refl h)
 
-pub form_at-no_false : (b rest : List ℕ) (i : ℕ) → drop i b ≡ rest → byte_at b i ≡ 102 → (starts_with nat_eq rest (codes "false") && is_terminator (byte_at rest 5)) ≡ false
+pub form_at-no_false : (b rest : List ℕ) (i : ℕ) → drop i b ≡ rest → byte_at b i ≡ 102
+    → (starts_with nat_eq rest (codes "false") && is_terminator (byte_at rest 5)) ≡ false
     → form_at b i ≡ scalar (Err (fault_at b ExpectedFalse i))
 unfolding atom_at
 form_at-no_false b rest i e f h =
     form_at-atom b i 102 f refl
-    ∙ ap scalar (ap (λ c. if c == 116 then atom_or (codes "true") (boolean true) ExpectedTrue b i else if c == 102 then atom_or (codes "false") (boolean false) ExpectedFalse b i else atom_or (codes "null") null ExpectedNull b i) f
+    ∙ ap scalar (ap (λ c. if c == 116 then atom_or (codes "true") (boolean true) ExpectedTrue b i else if c == 102 then atom_or
+    (codes "false") (boolean false) ExpectedFalse b i else atom_or (codes "null") null ExpectedNull b i) f
     ∙ atom_or-fault (codes "false") (boolean false) ExpectedFalse b rest i 5 e refl h)
 
-pub form_at-no_null : (b rest : List ℕ) (i : ℕ) → drop i b ≡ rest → byte_at b i ≡ 110 → (starts_with nat_eq rest (codes "null") && is_terminator (byte_at rest 4)) ≡ false
+pub form_at-no_null : (b rest : List ℕ) (i : ℕ) → drop i b ≡ rest → byte_at b i ≡ 110
+    → (starts_with nat_eq rest (codes "null") && is_terminator (byte_at rest 4)) ≡ false
     → form_at b i ≡ scalar (Err (fault_at b ExpectedNull i))
 unfolding atom_at
 form_at-no_null b rest i e f h =
     form_at-atom b i 110 f refl
-    ∙ ap scalar (ap (λ c. if c == 116 then atom_or (codes "true") (boolean true) ExpectedTrue b i else if c == 102 then atom_or (codes "false") (boolean false) ExpectedFalse b i else atom_or (codes "null") null ExpectedNull b i) f
+    ∙ ap scalar (ap (λ c. if c == 116 then atom_or (codes "true") (boolean true) ExpectedTrue b i else if c == 102 then atom_or
+    (codes "false") (boolean false) ExpectedFalse b i else atom_or (codes "null") null ExpectedNull b i) f
     ∙ atom_or-fault (codes "null") null ExpectedNull b rest i 4 e refl h)
 
 -- a form that is no atom and no number
@@ -99,12 +117,14 @@ pub refused_kind-other : (c : ℕ) → nat_eq c 116 ≡ false → nat_eq c 102 �
 refused_kind-other c t f n = simp (t, f, n)
 
 -- another byte than begins an atom or a number
-pub form_at-no_scalar : (b : List ℕ) (i c : ℕ) → byte_at b i ≡ c → nat_eq c 116 ≡ false → nat_eq c 102 ≡ false → nat_eq c 110 ≡ false → ((c == 45) || is_ascii_digit c) ≡ false → is_no_scalar (form_at b i) ≡ true
+pub form_at-no_scalar : (b : List ℕ) (i c : ℕ) → byte_at b i ≡ c → nat_eq c 116 ≡ false → nat_eq c 102 ≡ false
+    → nat_eq c 110 ≡ false → ((c == 45) || is_ascii_digit c) ≡ false → is_no_scalar (form_at b i) ≡ true
 unfolding form_at
 form_at-no_scalar b i c e t f n d = ap is_no_scalar (ap (form_of b i) e) ∙ go
   where
     rest : (a z o y m k q : Bool) → (x : Form) → is_no_scalar x ≡ true
-        → is_no_scalar (if a then begin_array else if z then end_array else if o then begin_object else if y then end_object else if m then name_separator else if k then value_separator else if q then x else stray) ≡ true
+        → is_no_scalar (if a then begin_array else if z then end_array else if o then begin_object else if y then end_object else
+        if m then name_separator else if k then value_separator else if q then x else stray) ≡ true
     rest true z o y m k q x h = refl
     rest false true o y m k q x h = refl
     rest false false true y m k q x h = refl
@@ -115,19 +135,36 @@ form_at-no_scalar b i c e t f n d = ap is_no_scalar (ap (form_of b i) e) ∙ go
     rest false false false false false false false x h = refl
 
     go : is_no_scalar (form_of b i c) ≡ true
-    go = simp (t, f, n, d) (rest (c == 91) (c == 93) (c == 123) (c == 125) (c == 58) (c == 44) (c == 34) (string_token (string_at b i)) refl)
+    go = simp (t, f, n, d) (rest (c == 91) (c == 93) (c == 123) (c == 125) (c == 58) (c == 44) (c == 34)
+        (string_token (string_at b i)) refl)
 
 -- a minus sign or a digit
-pub form_at-number : (b : List ℕ) (i c : ℕ) → byte_at b i ≡ c → ((c == 45) || is_ascii_digit c) ≡ true → form_at b i ≡ scalar (number_at b i)
+pub form_at-number : (b : List ℕ) (i c : ℕ) → byte_at b i ≡ c → ((c == 45) || is_ascii_digit c) ≡ true
+    → form_at b i ≡ scalar (number_at b i)
 unfolding form_at
-form_at-number b i c e h = ap (form_of b i) e ∙ elim (or_cases _ _ h) [ inl minus ↦ ap (form_of b i) (eqb-true c 45 minus) | inr is ↦ of_digit is ]
+form_at-number b i c e h = ap (form_of b i) e ∙ elim (or_cases _ _ h)
+    [ inl minus ↦ ap (form_of b i) (eqb-true c 45 minus) | inr is ↦ of_digit is ]
   where
     of_digit : is_ascii_digit c ≡ true → form_of b i c ≡ scalar (number_at b i)
     of_digit is =
         let both : (nat_le 48 c ≡ true) × (nat_le c 57 ≡ true) = and_parts _ _ is in
         let low : 48 ≤ c = leb-true 48 c both.0 in
         let high : c ≤ 57 = leb-true c 57 both.1 in
-        simp (ne_eqb c 91 (λ h. omega arith), ne_eqb c 93 (λ h. omega arith), ne_eqb c 123 (λ h. omega arith), ne_eqb c 125 (λ h. omega arith), ne_eqb c 58 (λ h. omega arith), ne_eqb c 44 (λ h. omega arith), ne_eqb c 34 (λ h. omega arith), ne_eqb c 116 (λ h. omega arith), ne_eqb c 102 (λ h. omega arith), ne_eqb c 110 (λ h. omega arith), ne_eqb c 45 (λ h. omega arith), both.0, both.1)
+        simp (
+          ne_eqb c 91 (λ h. omega arith),
+          ne_eqb c 93 (λ h. omega arith),
+          ne_eqb c 123 (λ h. omega arith),
+          ne_eqb c 125 (λ h. omega arith),
+          ne_eqb c 58 (λ h. omega arith),
+          ne_eqb c 44 (λ h. omega arith),
+          ne_eqb c 34 (λ h. omega arith),
+          ne_eqb c 116 (λ h. omega arith),
+          ne_eqb c 102 (λ h. omega arith),
+          ne_eqb c 110 (λ h. omega arith),
+          ne_eqb c 45 (λ h. omega arith),
+          both.0,
+          both.1,
+        )
 
 -- ---- a number's fault lies within the input
 
@@ -135,17 +172,21 @@ found-below : (p : ℕ → Bool) (a n k : ℕ) → find p (range_with_len a n) �
 found-below p a zero k h = cc
 found-below p a (suc n) k h = go (p a) (λ e. found-below p (a + 1) n k e) h
   where
-    go : (t : Bool) → (find p (range_with_len (a + 1) n) ≡ Some k → k < (a + 1) + n) → cond t (Some a) (find p (range_with_len (a + 1) n)) ≡ Some k → k < a + suc n
+    go : (t : Bool) → (find p (range_with_len (a + 1) n) ≡ Some k → k < (a + 1) + n)
+        → cond t (Some a) (find p (range_with_len (a + 1) n)) ≡ Some k → k < a + suc n
     go true more e = let same : a ≡ k = cc in omega arith
     go false more e = let later : k < (a + 1) + n = more e in omega arith
 
-number_between-within : (b literal : List ℕ) (i end bound : ℕ) (e : Error) → end ≤ bound → i + length literal ≤ bound → number_between b i literal end ≡ Err e → e.index ≤ bound
-number_between-within b literal i end bound e l k h = go (matches number_literal literal && is_terminator (byte_at b end)) (matches integer_literal literal) h
+number_between-within : (b literal : List ℕ) (i end bound : ℕ) (e : Error) → end ≤ bound → i + length literal ≤ bound
+    → number_between b i literal end ≡ Err e → e.index ≤ bound
+number_between-within b literal i end bound e l k h = go (matches number_literal literal && is_terminator (byte_at b end))
+    (matches integer_literal literal) h
   where
     told : (j : ℕ) → j ≤ bound → (let r : Result (Document × ℕ) Error = Err (fault_at b InvalidNumber j) in r ≡ Err e) → e.index ≤ bound
     told j m same = let is : fault_at b InvalidNumber j ≡ e = cc in subst (λ (f : Error). f.index ≤ bound) is m
 
-    range : (t : Bool) → (let read : Result (Document × ℕ) Error = Ok (integer (has_minus literal) (magnitude literal), end) in (if t then Err (fault_at b InvalidNumber end) else read) ≡ Err e) → e.index ≤ bound
+    range : (t : Bool) → (let read : Result (Document × ℕ) Error = Ok (integer (has_minus literal) (magnitude literal), end) in
+        (if t then Err (fault_at b InvalidNumber end) else read) ≡ Err e) → e.index ≤ bound
     range true same = told end l same
     range false same = cc
 
@@ -153,7 +194,9 @@ number_between-within b literal i end bound e l k h = go (matches number_literal
     excess None is same = range (nat_lt (max_magnitude (has_minus literal)) (magnitude literal)) same
     excess (Some j) is same = let below : j < 0 + length literal = found-below _ 0 (length literal) j is in told (i + j) (omega arith) same
 
-    go : (t u : Bool) → (let read : Result (Document × ℕ) Error = Ok (decimal literal, end) in (if t then (if u then integer_or b i literal end (first_excess literal) else read) else Err (fault_at b InvalidNumber end)) ≡ Err e) → e.index ≤ bound
+    go : (t u : Bool) → (let read : Result (Document × ℕ) Error = Ok (decimal literal, end) in
+        (if t then (if u then integer_or b i literal end (first_excess literal) else read) else Err
+        (fault_at b InvalidNumber end)) ≡ Err e) → e.index ≤ bound
     go true true same = excess (first_excess literal) refl same
     go true false same = cc
     go false u same = told end l same
@@ -163,4 +206,5 @@ unfolding number_at
 number_at-within b i e l h =
     let n : ℕ = longest_prefix number_literal (drop i b) in
     let most : n ≤ length (drop i b) = longest_prefix-le number_literal (drop i b) in
-    number_between-within b (take n (drop i b)) i (i + n) (length b) e (omega (arith, length-drop i b)) (omega (arith, length-drop i b, length-take-le n (drop i b) most)) h
+    number_between-within b (take n (drop i b)) i (i + n) (length b) e (omega (arith, length-drop i b))
+    (omega (arith, length-drop i b, length-take-le n (drop i b) most)) h

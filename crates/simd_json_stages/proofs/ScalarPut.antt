@@ -23,8 +23,6 @@ use Rattle.simd_json_parts.specs.declared.error.ErrorType.{ErrorType}
 use Rattle.simd_json_parts.specs.declared.error.ErrorType.TheVariants.{ExpectedTrue, ExpectedFalse, ExpectedNull, InvalidNumber}
 use Rattle.simd_json_parts.proofs.Patterns.Bytes.{All-Matches}
 use Rattle.simd_json_parts.proofs.Patterns.Sets.{matches-Matches, longest_prefix-le}
-use Rattle.simd_json_stages.specs.Left.{Left}
-use Rattle.simd_json_stages.specs.Progresses.{IsUnread}
 use Rattle.simd_json_stages.specs.Put.{IsScalarPut, IsNoScalar}
 use Rattle.simd_json_stages.specs.Refusals.{error_type, refused_kind, number_refusal}
 use Rattle.simd_json_parts.specs.declared.node.Node.{Node}
@@ -41,8 +39,10 @@ use Rattle.simd_json_stages.proofs.TokenForms.{no_value}
 -- the bytes of a number are ASCII
 number-utf8 : (bs : List ℕ) → matches number_literal bs ≡ true → IsUtf8 bs
 number-utf8 bs h =
-    let all : (i d : ℕ) → i < length bs → nat_le 128 (get_or bs i d) ≡ false = All-Matches (λ c. nat_le 128 c) number_literal bs refl (matches-Matches number_literal bs h) in
-    let ascii : IsAscii bs = λ i. elim (cases_lt i (length bs)) [ inl l ↦ leb-false 128 (get_or bs i 0) (all i 0 l) | inr past ↦ omega (arith, get_or_past bs i 0 past) ] in
+    let all : (i d : ℕ) → i < length bs → nat_le 128 (get_or bs i d) ≡ false = All-Matches (λ c. nat_le 128 c)
+    number_literal bs refl (matches-Matches number_literal bs h) in
+    let ascii : IsAscii bs = λ i. elim (cases_lt i (length bs))
+    [ inl l ↦ leb-false 128 (get_or bs i 0) (all i 0 l) | inr past ↦ omega (arith, get_or_past bs i 0 past) ] in
     IsUtf8-from_ascii bs ascii
 
 -- of a decimal the literal is UTF-8, and it ends inside the input
@@ -61,16 +61,19 @@ atom-here : (b : List ℕ) (i : ℕ) → ScalarHere b (atom_at b i)
 unfolding atom_at
 atom-here b i =
     cond_both (byte_at b i == 116) _ _ (ScalarHere b) (λ _. letters (codes "true") (boolean true) ExpectedTrue tt)
-    (λ _. cond_both (byte_at b i == 102) _ _ (ScalarHere b) (λ _. letters (codes "false") (boolean false) ExpectedFalse tt) (λ _. letters (codes "null") null ExpectedNull tt))
+    (λ _. cond_both (byte_at b i == 102) _ _ (ScalarHere b) (λ _. letters (codes "false") (boolean false) ExpectedFalse tt)
+    (λ _. letters (codes "null") null ExpectedNull tt))
   where
     letters : (bs : List ℕ) (d : Document) (kind : ErrorType) → DecimalHere b d (i + length bs) → ScalarHere b (atom_or bs d kind b i)
-    letters bs d kind h = cond_both (starts_with nat_eq (drop i b) bs && is_terminator (byte_at b (i + length bs))) _ _ (ScalarHere b) (λ _. h) (λ _. tt)
+    letters bs d kind h = cond_both (starts_with nat_eq (drop i b) bs && is_terminator (byte_at b (i + length bs))) _ _
+        (ScalarHere b) (λ _. h) (λ _. tt)
 
 number-here : (b : List ℕ) (i : ℕ) → i ≤ length b → ScalarHere b (number_at b i)
 unfolding number_at
 number-here b i l =
     cond_both (matches number_literal literal && is_terminator (byte_at b end)) _ _ (ScalarHere b)
-    (λ h. cond_both (matches integer_literal literal) _ _ (ScalarHere b) (λ _. whole (first_excess literal)) (λ _. (number-utf8 literal (and_parts _ _ h).0, within)))
+    (λ h. cond_both (matches integer_literal literal) _ _ (ScalarHere b) (λ _. whole (first_excess literal))
+    (λ _. (number-utf8 literal (and_parts _ _ h).0, within)))
     (λ _. tt)
   where
     n : ℕ
@@ -103,31 +106,36 @@ form-here b i l =
     structural : (c : ℕ) (form other : Form) → FormHere b form → FormHere b other → FormHere b (if x == c then form else other)
     structural c form other here after = cond_both (x == c) form other (FormHere b) (λ _. here) (λ _. after)
 
-pub decimal-here : (b : List ℕ) (i : ℕ) (literal : List ℕ) (end : ℕ) → i ≤ length b → form_at b i ≡ scalar (Ok (decimal literal, end)) → IsUtf8 literal × (end ≤ length b)
+pub decimal-here : (b : List ℕ) (i : ℕ) (literal : List ℕ) (end : ℕ) → i ≤ length b
+    → form_at b i ≡ scalar (Ok (decimal literal, end)) → IsUtf8 literal × (end ≤ length b)
 decimal-here b i literal end l is = subst (FormHere b) is (form-here b i l)
 
 -- ---- a node of fixed size
 
 -- nothing is split off before it
-pub static-put : (b : List ℕ) (i used end : ℕ) (nodes : List Node) (u : Left) (d : Document) (s : StaticNode) → IsUnread b u i → form_at b i ≡ scalar (Ok (d, end))
-    → listing d ≡ static_item s ∷ [] → IsScalarPut b i used nodes (slice_set nodes used (Static s)) u
-static-put b i used end nodes u d s unread is listed =
-    record { document = d; end = end; node = Static s; read = is; listed = listed; put = refl; unread = unread.same; before = inl unread.before }
+pub static-put : (b : List ℕ) (i used end : ℕ) (nodes : List Node) (reads : ℕ → Type 0) (d : Document) (s : StaticNode) → reads i
+    → form_at b i ≡ scalar (Ok (d, end))
+    → listing d ≡ static_item s ∷ [] → IsScalarPut b i used nodes (slice_set nodes used (Static s)) reads
+static-put b i used end nodes reads d s text is listed =
+    record { document = d; end = end; node = Static s; read = is; listed = listed; put = refl; text = inl text }
 
 -- ---- a refusal
 
 -- a number's lies inside the input
-pub offset-within : (b : List ℕ) (i offset : ℕ) → i ≤ length b → number_at b i ≡ Err (fault_at b InvalidNumber (i + offset)) → offset ≤ length (drop i b)
+pub offset-within : (b : List ℕ) (i offset : ℕ) → i ≤ length b → number_at b i ≡ Err (fault_at b InvalidNumber (i + offset))
+    → offset ≤ length (drop i b)
 offset-within b i offset l is = omega (arith, length-drop i b, number_at-within b i (fault_at b InvalidNumber (i + offset)) l is)
 
-pub number-refused : (b : List ℕ) (i offset : ℕ) (f : Fault) → form_at b i ≡ scalar (number_at b i) → number_at b i ≡ Err (fault_at b InvalidNumber (i + offset))
+pub number-refused : (b : List ℕ) (i offset : ℕ) (f : Fault) → form_at b i ≡ scalar (number_at b i)
+    → number_at b i ≡ Err (fault_at b InvalidNumber (i + offset))
     → f ≡ number_refusal b (i + offset) → IsNoScalar b i f
 number-refused b i offset f form is same = subst (IsNoScalar b i) (sym same) (inl (form ∙ ap scalar is))
 
 -- an atom's, or that of a token that begins no value
 pub atom-refused : (b : List ℕ) (i c : ℕ) (f : Fault) → f ≡ record { kind = refused_kind c; index = i; byte = c } → c ≡ byte_at b i
     → form_at b i ≡ scalar (Err (fault_at b (error_type (refused_kind c)) i)) → IsNoScalar b i f
-atom-refused b i c f same e is = subst (IsNoScalar b i) (sym same) (inl (is ∙ ap (λ x. scalar (Err (fault_with (error_type (refused_kind c)) i x))) (sym e)))
+atom-refused b i c f same e is = subst (IsNoScalar b i) (sym same)
+    (inl (is ∙ ap (λ x. scalar (Err (fault_with (error_type (refused_kind c)) i x))) (sym e)))
 
 pub none-refused : (b : List ℕ) (i c : ℕ) (f : Fault) → f ≡ record { kind = refused_kind c; index = i; byte = c } → c ≡ byte_at b i
     → refused_kind c ≡ kinds.InternalError → is_no_scalar (form_at b i) ≡ true → c ≢ 34 → c ≢ 91 → c ≢ 123 → IsNoScalar b i f

@@ -15,7 +15,8 @@ use Rattle.simd_json_parts.proofs.Complete.ArrayTurns.{elements_by-turn}
 use Rattle.simd_json_parts.proofs.Complete.ObjectTurns.{members_by-turn}
 use Rattle.simd_json_parts.proofs.Complete.Shrinking.{value_from-takes}
 
-bind-bind : {A B C : Type 0} (r : Result A Error) (f : A → Result B Error) (g : B → Result C Error) → ((r >>= f) >>= g) ≡ (r >>= λ x. f x >>= g)
+bind-bind : {A B C : Type 0} (r : Result A Error) (f : A → Result B Error) (g : B → Result C Error)
+    → ((r >>= f) >>= g) ≡ (r >>= λ x. f x >>= g)
 bind-bind (Ok x) f g = refl
 bind-bind (Err e) f g = refl
 
@@ -31,7 +32,8 @@ onto-append : (ds : List Document) (d : Document) (rest : Elements) → elements
 onto-append [] d rest = refl
 onto-append (x ∷ ds) d rest = ap (λ r. element x r) (onto-append ds d rest)
 
-members_onto-append : (ms : List (List ℕ × Document)) (m : List ℕ × Document) (rest : Members) → members_onto (ms ++ m ∷ []) rest ≡ members_onto ms (member m.0 m.1 rest)
+members_onto-append : (ms : List (List ℕ × Document)) (m : List ℕ × Document) (rest : Members)
+    → members_onto (ms ++ m ∷ []) rest ≡ members_onto ms (member m.0 m.1 rest)
 members_onto-append [] m rest = refl
 members_onto-append (x ∷ ms) m rest = ap (λ r. member x.0 x.1 r) (members_onto-append ms m rest)
 
@@ -71,11 +73,13 @@ module _ (b : List ℕ) (missing : Error) (limit : ℕ) where
 
   -- elements that are read in a row, inside what is open
   elements_in : (ds : List Document) (outer : List Open) (ts : List Token)
-      → (elements_by b missing (value_from b missing (limit - suc (length outer))) ts >>= λ r. after_value b missing limit outer (array (elements_onto ds r.0)) r.1) ≡ at_value b missing limit (in_array ds ∷ outer) ts
+      → (elements_by b missing (value_from b missing (limit - suc (length outer))) ts >>= λ r. after_value b missing limit outer
+      (array (elements_onto ds r.0)) r.1) ≡ at_value b missing limit (in_array ds ∷ outer) ts
   unfolding after_value
   elements_in ds outer ts =
       let v : Reads Document = value_from b missing (limit - suc (length outer)) in
-      ap (λ r. r >>= λ r. after_value b missing limit outer (array (elements_onto ds r.0)) r.1) (elements_by-turn b missing v (value_from-takes b missing (limit - suc (length outer))) ts)
+      ap (λ r. r >>= λ r. after_value b missing limit outer (array (elements_onto ds r.0)) r.1)
+      (elements_by-turn b missing v (value_from-takes b missing (limit - suc (length outer))) ts)
       ∙ bind-bind (v ts) _ _
       ∙ bind_same (v ts) _ _ (λ first. bind-bind (element_end b missing first.1 (elements_by b missing v)) _ _)
 
@@ -85,17 +89,21 @@ module _ (b : List ℕ) (missing : Error) (limit : ℕ) where
   unfolding after_value
   after_value-comma ds outer d t ts is =
       let v : Reads Document = value_from b missing (limit - suc (length outer)) in
-      ap (λ form. after_element b missing t form ts (elements_by b missing v) >>= λ r. after_value b missing limit outer (array (elements_onto ds (element d r.0))) r.1) is
-      ∙ bind_same (elements_by b missing v ts) _ _ (λ r. ap (λ es. after_value b missing limit outer (array es) r.1) (sym (onto-append ds d r.0)))
+      ap (λ form. after_element b missing t form ts (elements_by b missing v) >>= λ r. after_value b missing limit outer
+      (array (elements_onto ds (element d r.0))) r.1) is
+      ∙ bind_same (elements_by b missing v ts) _ _ (λ r. ap (λ es. after_value b missing limit outer (array es) r.1)
+      (sym (onto-append ds d r.0)))
       ∙ elements_in (ds ++ d ∷ []) outer ts
 
   -- a closing bracket after an element
   pub after_value-close : (ds : List Document) (outer : List Open) (d : Document) (t : Token) (ts : List Token) → t.form ≡ end_array
-      → after_value b missing limit (in_array ds ∷ outer) d (t ∷ ts) ≡ after_value b missing limit outer (array (elements_onto (ds ++ d ∷ []) no_elements)) ts
+      → after_value b missing limit (in_array ds ∷ outer) d (t ∷ ts) ≡ after_value b missing limit outer
+      (array (elements_onto (ds ++ d ∷ []) no_elements)) ts
   unfolding after_value
   after_value-close ds outer d t ts is =
       let v : Reads Document = value_from b missing (limit - suc (length outer)) in
-      ap (λ form. after_element b missing t form ts (elements_by b missing v) >>= λ r. after_value b missing limit outer (array (elements_onto ds (element d r.0))) r.1) is
+      ap (λ form. after_element b missing t form ts (elements_by b missing v) >>= λ r. after_value b missing limit outer
+      (array (elements_onto ds (element d r.0))) r.1) is
       ∙ ap (λ es. after_value b missing limit outer (array es) ts) (sym (onto-append ds d no_elements))
 
   -- an opening bracket, where one more container may be open
@@ -106,7 +114,8 @@ module _ (b : List ℕ) (missing : Error) (limit : ℕ) where
       let capacity : ℕ = limit - suc (length outer) in
       let one_less : limit - length outer ≡ suc capacity = omega arith in
       ap (λ n. value_from b missing n (t ∷ ts) >>= λ r. after_value b missing limit outer r.0 r.1) one_less
-      ∙ ap (λ form. value_of b missing (λ _. array_from b missing (value_from b missing capacity)) (λ _. object_from b missing (value_from b missing capacity)) t form ts >>= λ r. after_value b missing limit outer r.0 r.1) is
+      ∙ ap (λ form. value_of b missing (λ _. array_from b missing (value_from b missing capacity))
+      (λ _. object_from b missing (value_from b missing capacity)) t form ts >>= λ r. after_value b missing limit outer r.0 r.1) is
       ∙ bind-bind (array_from b missing (value_from b missing capacity) ts) _ _
 
   -- after an opening bracket: its closing bracket, or an element
@@ -114,7 +123,8 @@ module _ (b : List ℕ) (missing : Error) (limit : ℕ) where
       → at_array b missing limit outer (t ∷ ts) ≡ after_value b missing limit outer (array no_elements) ts
   at_array-close outer t ts is =
       let v : Reads Document = value_from b missing (limit - suc (length outer)) in
-      ap (λ form. first_element b missing form (t ∷ ts) ts (elements_by b missing v) >>= λ r. after_value b missing limit outer (array r.0) r.1) is
+      ap (λ form. first_element b missing form (t ∷ ts) ts (elements_by b missing v) >>= λ r. after_value b missing limit outer
+      (array r.0) r.1) is
 
   -- an opening bracket, where no more containers may be open
   pub at_value-too_deep : (outer : List Open) (t : Token) (ts : List Token) → limit ≤ length outer → t.form ≡ begin_array
@@ -123,18 +133,21 @@ module _ (b : List ℕ) (missing : Error) (limit : ℕ) where
   at_value-too_deep outer t ts l is =
       let none_left : limit - length outer ≡ 0 = omega arith in
       ap (λ n. value_from b missing n (t ∷ ts) >>= λ r. after_value b missing limit outer r.0 r.1) none_left
-      ∙ ap (λ form. value_of b missing (too_deep b missing) (too_deep b missing) t form ts >>= λ r. after_value b missing limit outer r.0 r.1) is
+      ∙ ap (λ form. value_of b missing (too_deep b missing) (too_deep b missing)
+      t form ts >>= λ r. after_value b missing limit outer r.0 r.1) is
 
   -- after an opening bracket: the first element
   pub at_array-element : (outer : List Open) (t : Token) (ts : List Token) (form : Form) → t.form ≡ form → is_end_array form ≡ false
       → at_array b missing limit outer (t ∷ ts) ≡ at_value b missing limit (in_array [] ∷ outer) (t ∷ ts)
   at_array-element outer t ts form is other =
       let v : Reads Document = value_from b missing (limit - suc (length outer)) in
-      ap (λ r. r >>= λ r. after_value b missing limit outer (array r.0) r.1) (ap (λ form. first_element b missing form (t ∷ ts) ts (elements_by b missing v)) is ∙ not_first form other)
+      ap (λ r. r >>= λ r. after_value b missing limit outer (array r.0) r.1)
+      (ap (λ form. first_element b missing form (t ∷ ts) ts (elements_by b missing v)) is ∙ not_first form other)
       ∙ elements_in [] outer (t ∷ ts)
     where
       not_first : (form : Form) → is_end_array form ≡ false
-          → first_element b missing form (t ∷ ts) ts (elements_by b missing (value_from b missing (limit - suc (length outer)))) ≡ elements_by b missing (value_from b missing (limit - suc (length outer))) (t ∷ ts)
+          → first_element b missing form (t ∷ ts) ts (elements_by b missing (value_from b missing (limit - suc (length outer))))
+          ≡ elements_by b missing (value_from b missing (limit - suc (length outer))) (t ∷ ts)
       not_first end_array h = cc
       not_first _ h = refl
 
@@ -144,9 +157,13 @@ module _ (b : List ℕ) (missing : Error) (limit : ℕ) where
   unfolding value_from
   at_value-scalar open_containers t ts d end is = go (limit - length open_containers)
     where
-      go : (capacity : ℕ) → (value_from b missing capacity (t ∷ ts) >>= λ r. after_value b missing limit open_containers r.0 r.1) ≡ after_value b missing limit open_containers d ts
-      go zero = ap (λ form. value_of b missing (too_deep b missing) (too_deep b missing) t form ts >>= λ r. after_value b missing limit open_containers r.0 r.1) is
-      go (suc capacity) = ap (λ form. value_of b missing (λ _. array_from b missing (value_from b missing capacity)) (λ _. object_from b missing (value_from b missing capacity)) t form ts >>= λ r. after_value b missing limit open_containers r.0 r.1) is
+      go : (capacity : ℕ) → (value_from b missing capacity (t ∷ ts) >>= λ r. after_value b missing limit open_containers r.0 r.1)
+          ≡ after_value b missing limit open_containers d ts
+      go zero = ap (λ form. value_of b missing (too_deep b missing) (too_deep b missing)
+          t form ts >>= λ r. after_value b missing limit open_containers r.0 r.1) is
+      go (suc capacity) = ap (λ form. value_of b missing (λ _. array_from b missing (value_from b missing capacity))
+          (λ _. object_from b missing (value_from b missing capacity))
+          t form ts >>= λ r. after_value b missing limit open_containers r.0 r.1) is
 
   -- with nothing open, the value is the whole
   pub after_value-root : (d : Document) (ts : List Token) → after_value b missing limit [] d ts ≡ Ok (d, ts)
@@ -166,41 +183,57 @@ module _ (b : List ℕ) (missing : Error) (limit : ℕ) where
   pub at_array-missing : (outer : List Open) → at_array b missing limit outer [] ≡ Err missing
   at_array-missing outer = refl
 
-  pub after_value-other : (ds : List Document) (outer : List Open) (d : Document) (t : Token) (ts : List Token) (form : Form) → t.form ≡ form → ends_element form ≡ false
+  pub after_value-other : (ds : List Document) (outer : List Open) (d : Document) (t : Token) (ts : List Token) (form : Form)
+      → t.form ≡ form → ends_element form ≡ false
       → after_value b missing limit (in_array ds ∷ outer) d (t ∷ ts) ≡ Err (fault_at b ExpectedArrayContent t.index)
   unfolding after_value
   after_value-other ds outer d t ts form is other =
-      ap (λ r. r >>= λ r. after_value b missing limit outer (array (elements_onto ds (element d r.0))) r.1) (ap (λ form. after_element b missing t form ts (elements_by b missing (value_from b missing (limit - suc (length outer))))) is ∙ refused form other)
+      ap (λ r. r >>= λ r. after_value b missing limit outer (array (elements_onto ds (element d r.0))) r.1)
+      (ap (λ form. after_element b missing t form ts (elements_by b missing
+      (value_from b missing (limit - suc (length outer))))) is ∙ refused form other)
     where
-      refused : (form : Form) → ends_element form ≡ false → after_element b missing t form ts (elements_by b missing (value_from b missing (limit - suc (length outer)))) ≡ Err (fault_at b ExpectedArrayContent t.index)
+      refused : (form : Form) → ends_element form ≡ false → after_element b missing t form ts
+          (elements_by b missing (value_from b missing (limit - suc (length outer)))) ≡ Err (fault_at b ExpectedArrayContent t.index)
       refused value_separator h = cc
       refused end_array h = cc
       refused _ h = refl
 
-  pub at_value-fault : (open_containers : List Open) (t : Token) (ts : List Token) (e : Error) → t.form ≡ scalar (Err e) → at_value b missing limit open_containers (t ∷ ts) ≡ Err e
+  pub at_value-fault : (open_containers : List Open) (t : Token) (ts : List Token) (e : Error) → t.form ≡ scalar (Err e)
+      → at_value b missing limit open_containers (t ∷ ts) ≡ Err e
   unfolding value_from
   at_value-fault open_containers t ts e is = go (limit - length open_containers)
     where
       go : (capacity : ℕ) → (value_from b missing capacity (t ∷ ts) >>= λ r. after_value b missing limit open_containers r.0 r.1) ≡ Err e
-      go zero = ap (λ form. value_of b missing (too_deep b missing) (too_deep b missing) t form ts >>= λ r. after_value b missing limit open_containers r.0 r.1) is
-      go (suc capacity) = ap (λ form. value_of b missing (λ _. array_from b missing (value_from b missing capacity)) (λ _. object_from b missing (value_from b missing capacity)) t form ts >>= λ r. after_value b missing limit open_containers r.0 r.1) is
+      go zero = ap (λ form. value_of b missing (too_deep b missing) (too_deep b missing)
+          t form ts >>= λ r. after_value b missing limit open_containers r.0 r.1) is
+      go (suc capacity) = ap (λ form. value_of b missing (λ _. array_from b missing (value_from b missing capacity))
+          (λ _. object_from b missing (value_from b missing capacity))
+          t form ts >>= λ r. after_value b missing limit open_containers r.0 r.1) is
 
-  pub at_value-unexpected : (open_containers : List Open) (t : Token) (ts : List Token) (form : Form) → t.form ≡ form → begins_value form ≡ false → at_value b missing limit open_containers (t ∷ ts) ≡ Err (fault_at b InternalError t.index)
+  pub at_value-unexpected : (open_containers : List Open) (t : Token) (ts : List Token) (form : Form) → t.form ≡ form
+      → begins_value form ≡ false → at_value b missing limit open_containers (t ∷ ts) ≡ Err (fault_at b InternalError t.index)
   unfolding value_from
   at_value-unexpected open_containers t ts form is none = go (limit - length open_containers)
     where
-      refused : (arrays : Token → Reads Elements) (objects : Token → Reads Members) (form : Form) → begins_value form ≡ false → value_of b missing arrays objects t form ts ≡ Err (fault_at b InternalError t.index)
+      refused : (arrays : Token → Reads Elements) (objects : Token → Reads Members) (form : Form) → begins_value form ≡ false
+          → value_of b missing arrays objects t form ts ≡ Err (fault_at b InternalError t.index)
       refused arrays objects begin_array h = cc
       refused arrays objects begin_object h = cc
       refused arrays objects (string_token read) h = cc
       refused arrays objects (scalar read) h = cc
       refused arrays objects _ h = refl
 
-      go : (capacity : ℕ) → (value_from b missing capacity (t ∷ ts) >>= λ r. after_value b missing limit open_containers r.0 r.1) ≡ Err (fault_at b InternalError t.index)
-      go zero = ap (λ r. r >>= λ r. after_value b missing limit open_containers r.0 r.1) (ap (λ form. value_of b missing (too_deep b missing) (too_deep b missing) t form ts) is ∙ refused (too_deep b missing) (too_deep b missing) form none)
+      go : (capacity : ℕ) → (value_from b missing capacity (t ∷ ts) >>= λ r. after_value b missing limit open_containers r.0 r.1)
+          ≡ Err (fault_at b InternalError t.index)
+      go zero = ap (λ r. r >>= λ r. after_value b missing limit open_containers r.0 r.1)
+          (ap (λ form. value_of b missing (too_deep b missing) (too_deep b missing) t form ts) is
+          ∙ refused (too_deep b missing) (too_deep b missing) form none)
       go (suc capacity) =
           ap (λ r. r >>= λ r. after_value b missing limit open_containers r.0 r.1)
-          (ap (λ form. value_of b missing (λ _. array_from b missing (value_from b missing capacity)) (λ _. object_from b missing (value_from b missing capacity)) t form ts) is ∙ refused (λ _. array_from b missing (value_from b missing capacity)) (λ _. object_from b missing (value_from b missing capacity)) form none)
+          (ap (λ form. value_of b missing (λ _. array_from b missing (value_from b missing capacity))
+          (λ _. object_from b missing (value_from b missing capacity)) t form ts) is
+          ∙ refused (λ _. array_from b missing (value_from b missing capacity))
+          (λ _. object_from b missing (value_from b missing capacity)) form none)
 
 -- ---- either container
 
@@ -225,7 +258,8 @@ module _ (b : List ℕ) (missing : Error) (limit : ℕ) where
   after_value-closed (in_array ds) outer d t ts is = after_value-close b missing limit ds outer d t ts is
   after_value-closed (in_object ms name) outer d t ts is =
       let v : Reads Document = value_from b missing (limit - suc (length outer)) in
-      ap (λ form. after_member b missing t form ts (members_by b missing v ExpectedObjectKey) >>= λ r. after_value b missing limit outer (object (members_onto ms (member name d r.0))) r.1) is
+      ap (λ form. after_member b missing t form ts (members_by b missing v ExpectedObjectKey)
+      >>= λ r. after_value b missing limit outer (object (members_onto ms (member name d r.0))) r.1) is
       ∙ ap (λ members. after_value b missing limit outer (object members) ts) (sym (members_onto-append ms (name, d) no_members))
 
   pub after_value-none : (o : Open) (outer : List Open) (d : Document) → after_value b missing limit (o ∷ outer) d [] ≡ Err missing
@@ -233,15 +267,19 @@ module _ (b : List ℕ) (missing : Error) (limit : ℕ) where
   after_value-none (in_array ds) outer d = refl
   after_value-none (in_object ms name) outer d = refl
 
-  pub after_value-unexpected : (o : Open) (outer : List Open) (d : Document) (t : Token) (ts : List Token) (form : Form) → t.form ≡ form → ends_member_of o form ≡ false
+  pub after_value-unexpected : (o : Open) (outer : List Open) (d : Document) (t : Token) (ts : List Token) (form : Form)
+      → t.form ≡ form → ends_member_of o form ≡ false
       → after_value b missing limit (o ∷ outer) d (t ∷ ts) ≡ Err (fault_at b (content_error o) t.index)
   unfolding after_value
   after_value-unexpected (in_array ds) outer d t ts form is other = after_value-other b missing limit ds outer d t ts form is other
   after_value-unexpected (in_object ms name) outer d t ts form is other =
       ap (λ r. r >>= λ r. after_value b missing limit outer (object (members_onto ms (member name d r.0))) r.1)
-      (ap (λ form. after_member b missing t form ts (members_by b missing (value_from b missing (limit - suc (length outer))) ExpectedObjectKey)) is ∙ refused form other)
+      (ap (λ form. after_member b missing t form ts (members_by b missing (value_from b missing (limit - suc (length outer)))
+      ExpectedObjectKey)) is ∙ refused form other)
     where
-      refused : (form : Form) → ends_member form ≡ false → after_member b missing t form ts (members_by b missing (value_from b missing (limit - suc (length outer))) ExpectedObjectKey) ≡ Err (fault_at b ExpectedObjectContent t.index)
+      refused : (form : Form) → ends_member form ≡ false → after_member b missing t form ts
+          (members_by b missing (value_from b missing (limit - suc (length outer))) ExpectedObjectKey) ≡ Err
+          (fault_at b ExpectedObjectContent t.index)
       refused value_separator h = cc
       refused end_object h = cc
       refused _ h = refl
@@ -255,7 +293,8 @@ module _ (b : List ℕ) (missing : Error) (limit : ℕ) where
       let capacity : ℕ = limit - suc (length outer) in
       let one_less : limit - length outer ≡ suc capacity = omega arith in
       ap (λ n. value_from b missing n (t ∷ ts) >>= λ r. after_value b missing limit outer r.0 r.1) one_less
-      ∙ ap (λ form. value_of b missing (λ _. array_from b missing (value_from b missing capacity)) (λ _. object_from b missing (value_from b missing capacity)) t form ts >>= λ r. after_value b missing limit outer r.0 r.1) is
+      ∙ ap (λ form. value_of b missing (λ _. array_from b missing (value_from b missing capacity))
+      (λ _. object_from b missing (value_from b missing capacity)) t form ts >>= λ r. after_value b missing limit outer r.0 r.1) is
       ∙ bind-bind (object_from b missing (value_from b missing capacity) ts) _ _
 
   pub at_value-object_too_deep : (outer : List Open) (t : Token) (ts : List Token) → limit ≤ length outer → t.form ≡ begin_object
@@ -264,13 +303,15 @@ module _ (b : List ℕ) (missing : Error) (limit : ℕ) where
   at_value-object_too_deep outer t ts l is =
       let none_left : limit - length outer ≡ 0 = omega arith in
       ap (λ n. value_from b missing n (t ∷ ts) >>= λ r. after_value b missing limit outer r.0 r.1) none_left
-      ∙ ap (λ form. value_of b missing (too_deep b missing) (too_deep b missing) t form ts >>= λ r. after_value b missing limit outer r.0 r.1) is
+      ∙ ap (λ form. value_of b missing (too_deep b missing) (too_deep b missing)
+      t form ts >>= λ r. after_value b missing limit outer r.0 r.1) is
 
   pub at_object-close : (outer : List Open) (t : Token) (ts : List Token) → t.form ≡ end_object
       → at_object b missing limit outer (t ∷ ts) ≡ after_value b missing limit outer (object no_members) ts
   at_object-close outer t ts is =
       let v : Reads Document = value_from b missing (limit - suc (length outer)) in
-      ap (λ form. first_member b missing form (t ∷ ts) ts (members_by b missing v ExpectedObjectContent) >>= λ r. after_value b missing limit outer (object r.0) r.1) is
+      ap (λ form. first_member b missing form (t ∷ ts) ts (members_by b missing v ExpectedObjectContent)
+      >>= λ r. after_value b missing limit outer (object r.0) r.1) is
 
   pub at_object-missing : (outer : List Open) → at_object b missing limit outer [] ≡ Err missing
   at_object-missing outer = refl
@@ -279,10 +320,13 @@ module _ (b : List ℕ) (missing : Error) (limit : ℕ) where
       → at_object b missing limit outer (t ∷ ts) ≡ at_name b missing limit ExpectedObjectContent [] outer (t ∷ ts)
   at_object-name outer t ts form is other =
       ap (λ r. r >>= λ r. after_value b missing limit outer (object r.0) r.1)
-      (ap (λ form. first_member b missing form (t ∷ ts) ts (members_by b missing (value_from b missing (limit - suc (length outer))) ExpectedObjectContent)) is ∙ not_first form other)
+      (ap (λ form. first_member b missing form (t ∷ ts) ts (members_by b missing
+      (value_from b missing (limit - suc (length outer))) ExpectedObjectContent)) is ∙ not_first form other)
     where
       not_first : (form : Form) → is_end_object form ≡ false
-          → first_member b missing form (t ∷ ts) ts (members_by b missing (value_from b missing (limit - suc (length outer))) ExpectedObjectContent) ≡ members_by b missing (value_from b missing (limit - suc (length outer))) ExpectedObjectContent (t ∷ ts)
+          → first_member b missing form (t ∷ ts) ts (members_by b missing (value_from b missing (limit - suc (length outer)))
+          ExpectedObjectContent) ≡ members_by b missing (value_from b missing (limit - suc (length outer)))
+          ExpectedObjectContent (t ∷ ts)
       not_first end_object h = cc
       not_first _ h = refl
 
@@ -291,82 +335,109 @@ module _ (b : List ℕ) (missing : Error) (limit : ℕ) where
   rest_after_name ms outer name = name_end b missing name.1 >>= λ ts. at_value b missing limit (in_object ms name.0 ∷ outer) ts
 
   -- a name is read, its colon, and on
-  at_name-turn : (kind : ErrorType) (ms : List (List ℕ × Document)) (outer : List Open) (ts : List Token) → at_name b missing limit kind ms outer ts ≡ (name_from b missing kind ts >>= rest_after_name ms outer)
+  at_name-turn : (kind : ErrorType) (ms : List (List ℕ × Document)) (outer : List Open) (ts : List Token)
+      → at_name b missing limit kind ms outer ts ≡ (name_from b missing kind ts >>= rest_after_name ms outer)
   unfolding after_value
   at_name-turn kind ms outer ts =
       let capacity : ℕ = limit - suc (length outer) in
       let v : Reads Document = value_from b missing capacity in
-      ap (λ r. r >>= λ r. after_value b missing limit outer (object (members_onto ms r.0)) r.1) (members_by-turn b missing v (value_from-takes b missing capacity) kind ts)
+      ap (λ r. r >>= λ r. after_value b missing limit outer (object (members_onto ms r.0)) r.1)
+      (members_by-turn b missing v (value_from-takes b missing capacity) kind ts)
       ∙ bind-bind (name_from b missing kind ts) _ _
       ∙ bind_same (name_from b missing kind ts) _ _ (λ name. bind-bind (name_end b missing name.1) _ _
       ∙ bind_same (name_end b missing name.1) _ _ (λ us. bind-bind (v us) _ _
       ∙ bind_same (v us) _ _ (λ first. bind-bind (member_end b missing first.1 (members_by b missing v ExpectedObjectKey)) _ _)))
 
   -- the same at a token of a known form
-  at_name-form : (kind : ErrorType) (ms : List (List ℕ × Document)) (outer : List Open) (t : Token) (ts : List Token) (form : Form) → t.form ≡ form
+  at_name-form : (kind : ErrorType) (ms : List (List ℕ × Document)) (outer : List Open) (t : Token) (ts : List Token)
+      (form : Form) → t.form ≡ form
       → at_name b missing limit kind ms outer (t ∷ ts) ≡ (name_of b missing kind t form >>= λ name. rest_after_name ms outer (name.0, ts))
   at_name-form kind ms outer t ts form is =
-      at_name-turn kind ms outer (t ∷ ts) ∙ bind-bind (name_of b missing kind t t.form) _ _ ∙ ap (λ form. name_of b missing kind t form >>= λ name. rest_after_name ms outer (name.0, ts)) is
+      at_name-turn kind ms outer (t ∷ ts) ∙ bind-bind (name_of b missing kind t t.form) _ _
+      ∙ ap (λ form. name_of b missing kind t form >>= λ name. rest_after_name ms outer (name.0, ts)) is
 
   -- a name and its colon
-  pub at_name-value : (kind : ErrorType) (ms : List (List ℕ × Document)) (outer : List Open) (t u : Token) (ts : List Token) (name : List ℕ) (end : ℕ) → t.form ≡ string_token (Ok (name, end)) → u.form ≡ name_separator
+  pub at_name-value : (kind : ErrorType) (ms : List (List ℕ × Document)) (outer : List Open) (t u : Token) (ts : List Token)
+      (name : List ℕ) (end : ℕ) → t.form ≡ string_token (Ok (name, end)) → u.form ≡ name_separator
       → at_name b missing limit kind ms outer (t ∷ u ∷ ts) ≡ at_value b missing limit (in_object ms name ∷ outer) ts
   at_name-value kind ms outer t u ts name end is colon =
-      at_name-form kind ms outer t (u ∷ ts) (string_token (Ok (name, end))) is ∙ ap (λ form. after_name b missing u form ts >>= λ us. at_value b missing limit (in_object ms name ∷ outer) us) colon
+      at_name-form kind ms outer t (u ∷ ts) (string_token (Ok (name, end))) is
+      ∙ ap (λ form. after_name b missing u form ts >>= λ us. at_value b missing limit (in_object ms name ∷ outer) us) colon
 
-  pub at_name-missing : (kind : ErrorType) (ms : List (List ℕ × Document)) (outer : List Open) → at_name b missing limit kind ms outer [] ≡ Err missing
+  pub at_name-missing : (kind : ErrorType) (ms : List (List ℕ × Document)) (outer : List Open)
+      → at_name b missing limit kind ms outer [] ≡ Err missing
   at_name-missing kind ms outer = at_name-turn kind ms outer []
 
-  pub at_name-other : (kind : ErrorType) (ms : List (List ℕ × Document)) (outer : List Open) (t : Token) (ts : List Token) (form : Form) → t.form ≡ form → is_string form ≡ false
+  pub at_name-other : (kind : ErrorType) (ms : List (List ℕ × Document)) (outer : List Open) (t : Token) (ts : List Token)
+      (form : Form) → t.form ≡ form → is_string form ≡ false
       → at_name b missing limit kind ms outer (t ∷ ts) ≡ Err (fault_at b kind t.index)
-  at_name-other kind ms outer t ts form is other = at_name-form kind ms outer t ts form is ∙ ap (λ r. r >>= λ name. rest_after_name ms outer (name.0, ts)) (refused form other)
+  at_name-other kind ms outer t ts form is other = at_name-form kind ms outer t ts form is
+      ∙ ap (λ r. r >>= λ name. rest_after_name ms outer (name.0, ts)) (refused form other)
     where
       refused : (form : Form) → is_string form ≡ false → name_of b missing kind t form ≡ Err (fault_at b kind t.index)
       refused (string_token read) h = cc
       refused _ h = refl
 
-  pub at_name-fault : (kind : ErrorType) (ms : List (List ℕ × Document)) (outer : List Open) (t : Token) (ts : List Token) (e : Error) → t.form ≡ string_token (Err e)
+  pub at_name-fault : (kind : ErrorType) (ms : List (List ℕ × Document)) (outer : List Open) (t : Token) (ts : List Token)
+      (e : Error) → t.form ≡ string_token (Err e)
       → at_name b missing limit kind ms outer (t ∷ ts) ≡ Err e
   at_name-fault kind ms outer t ts e is = at_name-form kind ms outer t ts (string_token (Err e)) is
 
-  pub at_name-no_more : (kind : ErrorType) (ms : List (List ℕ × Document)) (outer : List Open) (t : Token) (name : List ℕ) (end : ℕ) → t.form ≡ string_token (Ok (name, end))
+  pub at_name-no_more : (kind : ErrorType) (ms : List (List ℕ × Document)) (outer : List Open) (t : Token) (name : List ℕ)
+      (end : ℕ) → t.form ≡ string_token (Ok (name, end))
       → at_name b missing limit kind ms outer (t ∷ []) ≡ Err missing
   at_name-no_more kind ms outer t name end is = at_name-form kind ms outer t [] (string_token (Ok (name, end))) is
 
-  pub at_name-no_colon : (kind : ErrorType) (ms : List (List ℕ × Document)) (outer : List Open) (t u : Token) (ts : List Token) (name : List ℕ) (end : ℕ) (form : Form) → t.form ≡ string_token (Ok (name, end)) → u.form ≡ form → is_name_separator form ≡ false
+  pub at_name-no_colon : (kind : ErrorType) (ms : List (List ℕ × Document)) (outer : List Open) (t u : Token) (ts : List Token)
+      (name : List ℕ) (end : ℕ) (form : Form) → t.form ≡ string_token (Ok (name, end)) → u.form ≡ form → is_name_separator form ≡ false
       → at_name b missing limit kind ms outer (t ∷ u ∷ ts) ≡ Err (fault_at b ExpectedObjectColon u.index)
   at_name-no_colon kind ms outer t u ts name end form is colon other =
       at_name-form kind ms outer t (u ∷ ts) (string_token (Ok (name, end))) is
-      ∙ ap (λ r. r >>= λ us. at_value b missing limit (in_object ms name ∷ outer) us) (ap (λ form. after_name b missing u form ts) colon ∙ refused form other)
+      ∙ ap (λ r. r >>= λ us. at_value b missing limit (in_object ms name ∷ outer) us)
+      (ap (λ form. after_name b missing u form ts) colon ∙ refused form other)
     where
-      refused : (form : Form) → is_name_separator form ≡ false → after_name b missing u form ts ≡ Err (fault_at b ExpectedObjectColon u.index)
+      refused : (form : Form) → is_name_separator form ≡ false
+          → after_name b missing u form ts ≡ Err (fault_at b ExpectedObjectColon u.index)
       refused name_separator h = cc
       refused _ h = refl
 
   -- a comma after a member
-  pub after_value-member_comma : (ms : List (List ℕ × Document)) (name : List ℕ) (outer : List Open) (d : Document) (t : Token) (ts : List Token) → t.form ≡ value_separator
-      → after_value b missing limit (in_object ms name ∷ outer) d (t ∷ ts) ≡ at_name b missing limit ExpectedObjectKey (ms ++ (name, d) ∷ []) outer ts
+  pub after_value-member_comma : (ms : List (List ℕ × Document)) (name : List ℕ) (outer : List Open) (d : Document) (t : Token)
+      (ts : List Token) → t.form ≡ value_separator
+      → after_value b missing limit (in_object ms name ∷ outer) d (t ∷ ts) ≡ at_name b missing limit ExpectedObjectKey
+      (ms ++ (name, d) ∷ []) outer ts
   unfolding after_value
   after_value-member_comma ms name outer d t ts is =
       let v : Reads Document = value_from b missing (limit - suc (length outer)) in
-      ap (λ form. after_member b missing t form ts (members_by b missing v ExpectedObjectKey) >>= λ r. after_value b missing limit outer (object (members_onto ms (member name d r.0))) r.1) is
-      ∙ bind_same (members_by b missing v ExpectedObjectKey ts) _ _ (λ r. ap (λ members. after_value b missing limit outer (object members) r.1) (sym (members_onto-append ms (name, d) r.0)))
+      ap (λ form. after_member b missing t form ts (members_by b missing v ExpectedObjectKey)
+      >>= λ r. after_value b missing limit outer (object (members_onto ms (member name d r.0))) r.1) is
+      ∙ bind_same (members_by b missing v ExpectedObjectKey ts) _ _
+      (λ r. ap (λ members. after_value b missing limit outer (object members) r.1) (sym (members_onto-append ms (name, d) r.0)))
 
   -- ---- strings
 
-  pub at_value-string : (open_containers : List Open) (t : Token) (ts : List Token) (s : List ℕ) (end : ℕ) → t.form ≡ string_token (Ok (s, end))
+  pub at_value-string : (open_containers : List Open) (t : Token) (ts : List Token) (s : List ℕ) (end : ℕ)
+      → t.form ≡ string_token (Ok (s, end))
       → at_value b missing limit open_containers (t ∷ ts) ≡ after_value b missing limit open_containers (string s) ts
   unfolding value_from
   at_value-string open_containers t ts s end is = go (limit - length open_containers)
     where
-      go : (capacity : ℕ) → (value_from b missing capacity (t ∷ ts) >>= λ r. after_value b missing limit open_containers r.0 r.1) ≡ after_value b missing limit open_containers (string s) ts
-      go zero = ap (λ form. value_of b missing (too_deep b missing) (too_deep b missing) t form ts >>= λ r. after_value b missing limit open_containers r.0 r.1) is
-      go (suc capacity) = ap (λ form. value_of b missing (λ _. array_from b missing (value_from b missing capacity)) (λ _. object_from b missing (value_from b missing capacity)) t form ts >>= λ r. after_value b missing limit open_containers r.0 r.1) is
+      go : (capacity : ℕ) → (value_from b missing capacity (t ∷ ts) >>= λ r. after_value b missing limit open_containers r.0 r.1)
+          ≡ after_value b missing limit open_containers (string s) ts
+      go zero = ap (λ form. value_of b missing (too_deep b missing) (too_deep b missing)
+          t form ts >>= λ r. after_value b missing limit open_containers r.0 r.1) is
+      go (suc capacity) = ap (λ form. value_of b missing (λ _. array_from b missing (value_from b missing capacity))
+          (λ _. object_from b missing (value_from b missing capacity))
+          t form ts >>= λ r. after_value b missing limit open_containers r.0 r.1) is
 
-  pub at_value-string_fault : (open_containers : List Open) (t : Token) (ts : List Token) (e : Error) → t.form ≡ string_token (Err e) → at_value b missing limit open_containers (t ∷ ts) ≡ Err e
+  pub at_value-string_fault : (open_containers : List Open) (t : Token) (ts : List Token) (e : Error)
+      → t.form ≡ string_token (Err e) → at_value b missing limit open_containers (t ∷ ts) ≡ Err e
   unfolding value_from
   at_value-string_fault open_containers t ts e is = go (limit - length open_containers)
     where
       go : (capacity : ℕ) → (value_from b missing capacity (t ∷ ts) >>= λ r. after_value b missing limit open_containers r.0 r.1) ≡ Err e
-      go zero = ap (λ form. value_of b missing (too_deep b missing) (too_deep b missing) t form ts >>= λ r. after_value b missing limit open_containers r.0 r.1) is
-      go (suc capacity) = ap (λ form. value_of b missing (λ _. array_from b missing (value_from b missing capacity)) (λ _. object_from b missing (value_from b missing capacity)) t form ts >>= λ r. after_value b missing limit open_containers r.0 r.1) is
+      go zero = ap (λ form. value_of b missing (too_deep b missing) (too_deep b missing)
+          t form ts >>= λ r. after_value b missing limit open_containers r.0 r.1) is
+      go (suc capacity) = ap (λ form. value_of b missing (λ _. array_from b missing (value_from b missing capacity))
+          (λ _. object_from b missing (value_from b missing capacity))
+          t form ts >>= λ r. after_value b missing limit open_containers r.0 r.1) is

@@ -68,7 +68,8 @@ module _ (b : List ℕ) where
   pub along : (i : ℕ) (rest : List ℕ) → goes_on (form_at b i) ≡ true → tokens_along b (i ∷ rest) ≡ token b i ∷ tokens_along b rest
   along i rest h = ap (λ t. token b i ∷ cond t (tokens_along b rest) []) h
 
-  pub along-form : (i : ℕ) (rest : List ℕ) (form : Form) → form_at b i ≡ form → goes_on form ≡ true → tokens_along b (i ∷ rest) ≡ token b i ∷ tokens_along b rest
+  pub along-form : (i : ℕ) (rest : List ℕ) (form : Form) → form_at b i ≡ form → goes_on form ≡ true
+      → tokens_along b (i ∷ rest) ≡ token b i ∷ tokens_along b rest
   along-form i rest form is h = along i rest (ap goes_on is ∙ h)
 
   pub next : (ps : List ℕ) (k : ℕ) → k < length ps → tokens_along b (drop k ps) ≡ tokens_along b (get_or ps k 0 ∷ drop (k + 1) ps)
@@ -136,5 +137,6 @@ module _ (b : List ℕ) where
   no_member_ending i ne nc = no_member_ending_of (form_at b i) (byte_at b i) (form-byte i) ne nc
 
   -- what is no scalar, no string and opens nothing begins no value
-  pub no_value : (i : ℕ) → is_no_scalar (form_at b i) ≡ true → byte_at b i ≢ 34 → byte_at b i ≢ 91 → byte_at b i ≢ 123 → begins_value (form_at b i) ≡ false
+  pub no_value : (i : ℕ) → is_no_scalar (form_at b i) ≡ true → byte_at b i ≢ 34 → byte_at b i ≢ 91 → byte_at b i ≢ 123
+      → begins_value (form_at b i) ≡ false
   no_value i h nq na nb = no_value_of (form_at b i) (byte_at b i) (form-byte i) h nq na nb

@@ -1,4 +1,5 @@
--- What a scan by blocks of 64 bytes keeps between two blocks, and what it finds in one. It serves proofs: only the crate's private clauses cite it.
+-- What a scan by blocks of 64 bytes keeps between two blocks, and what it finds in one. It serves proofs: only the crate's
+-- private clauses cite it.
 use Rattle.std.specs.Prelude.{◌≡◌, ℕ, zero, suc, ◌+◌, ◌-◌, ◌*◌, ◌^◌, ◌<◌, ◌≤◌, ◌==◌, List, length, take, filter, Bool, true, false, not, ◌&&◌, ◌||◌, slice_index, slice_index_or}
 use Rattle.std.specs.List.{list_any, range_with_len}
 use Rattle.std.specs.Int.{from_bool}

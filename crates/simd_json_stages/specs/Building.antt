@@ -16,14 +16,12 @@ use Rattle.simd_json_stages.specs.Continued.{Open, in_array, in_object, elements
 use Rattle.simd_json_stages.specs.Refusals.{error_type}
 use Rattle.simd_json_stages.specs.declared.stage2.Container.{Container}
 use Rattle.simd_json_stages.specs.declared.stage2.Container.TheVariants.{Array, Object}
-use Rattle.simd_json_stages.specs.declared.stage2.Follower.{Follower}
-use Rattle.simd_json_stages.specs.declared.stage2.Follower.TheVariants.{Next, End}
-use Rattle.simd_json_stages.specs.declared.stage2.Progress.{Progress}
+use Rattle.simd_json_stages.specs.declared.stage2.progress.Progress.{Progress}
 use Rattle.simd_json_stages.specs.declared.stage2.StackState.{StackState}
-use Rattle.simd_json_stages.specs.declared.stage2.Turn.{Turn}
-use Rattle.simd_json_stages.specs.declared.stage2.Turn.TheVariants as turns
-use Rattle.simd_json_stages.specs.declared.stage2.Value.{Value}
-use Rattle.simd_json_stages.specs.declared.stage2.Value.TheVariants.{Opened, Read}
+use Rattle.simd_json_stages.specs.declared.stage2.machine.Turn.{Turn}
+use Rattle.simd_json_stages.specs.declared.stage2.machine.Turn.TheVariants as turns
+use Rattle.simd_json_stages.specs.declared.stage2.machine.Value.{Value}
+use Rattle.simd_json_stages.specs.declared.stage2.machine.Value.TheVariants.{Opened, Read}
 use Rattle.simd_json_stages.specs.declared.stage2.fault.Fault.{Fault}
 use Rattle.simd_json_stages.specs.declared.stage2.fault.FaultKind.{FaultKind}
 use Rattle.simd_json_stages.specs.declared.stage2.fault.FaultKind.TheVariants as kinds
@@ -82,19 +80,23 @@ patch nodes f p = slice_set nodes f.header (header_of p.container p.len (p.used 
 abbrev pub Headed : (Container → List StackState → ℕ → List Item → Type 0) → List Item → ℕ → List StackState → ℕ → List Item → Type 0
 Headed round beneath n [] len items = ⊥
 Headed round beneath n (f ∷ fs) len items =
-    (before : List Item) × (header : Item) × (items ≡ before ++ header ∷ beneath) × (f.header ≡ length before) × (len ≡ n) × round f.outer fs f.len before
+    (before : List Item) × (header : Item) × (items ≡ before ++ header ∷ beneath) × (f.header ≡ length before) × (len ≡ n)
+    × round f.outer fs f.len before
 
 -- where a value is expected, in these containers; of the innermost it is known what it is and how many members it has
 abbrev pub Holds : List Open → Container → List StackState → ℕ → List Item → Type 0
 Holds [] c fs len items = (fs ≡ []) × (len ≡ 0) × (items ≡ [])
 Holds (in_array ds ∷ outer) c fs len items = (c ≡ Array) × Headed (Holds outer) (listings ds) (length ds) fs len items
-Holds (in_object ms name ∷ outer) c fs len items = (c ≡ Object) × Headed (Holds outer) (member_listings ms ++ string_item name ∷ []) (length ms) fs len items
+Holds (in_object ms name ∷ outer) c fs len items = (c ≡ Object)
+    × Headed (Holds outer) (member_listings ms ++ string_item name ∷ []) (length ms) fs len items
 
 -- after such a value
 abbrev pub HoldsValue : List Open → Document → Container → List StackState → ℕ → List Item → Type 0
 HoldsValue [] d c fs len items = (fs ≡ []) × (items ≡ listing d)
-HoldsValue (in_array ds ∷ outer) d c fs len items = (c ≡ Array) × Headed (Holds outer) (listings (ds ++ d ∷ [])) (length ds + 1) fs len items
-HoldsValue (in_object ms name ∷ outer) d c fs len items = (c ≡ Object) × Headed (Holds outer) (member_listings (ms ++ (name, d) ∷ [])) (length ms + 1) fs len items
+HoldsValue (in_array ds ∷ outer) d c fs len items = (c ≡ Array)
+    × Headed (Holds outer) (listings (ds ++ d ∷ [])) (length ds + 1) fs len items
+HoldsValue (in_object ms name ∷ outer) d c fs len items = (c ≡ Object)
+    × Headed (Holds outer) (member_listings (ms ++ (name, d) ∷ [])) (length ms + 1) fs len items
 
 -- where a name is expected
 abbrev pub HoldsMembers : List (List ℕ × Document) → List Open → Container → List StackState → ℕ → List Item → Type 0
@@ -176,11 +178,6 @@ module _ (b ps : List ℕ) (limit : ℕ) where
   abbrev pub Takes : List StackState → List Node → Turn → Type 0
   Takes stack nodes (turns.Next p) = AtMember kinds.ExpectedObjectKey stack nodes p
   Takes stack nodes (turns.Closed p) = AfterValue stack nodes p
-
-  -- what follows a value
-  abbrev pub Goes : List StackState → List Node → Follower → Type 0
-  Goes stack nodes (Next p) = AtMember kinds.ExpectedObjectKey stack nodes p
-  Goes stack nodes (End used) = IsBuilt nodes used
 
   -- The fault is the descent's.
   abbrev pub Tells : Fault → Type 0

@@ -1,10 +1,12 @@
--- The words of the first n blocks of a group, which begins with the block `first`. It serves proofs: only the crate's private clauses cite it.
+-- The words of the first n blocks of a group, which begins with the block `first`. It serves proofs: only the crate's private
+-- clauses cite it.
 use Rattle.std.specs.Prelude.{ℕ, ◌+◌, ◌*◌, ◌<◌, List, slice_index}
 use Rattle.simd_json_stages.specs.Blocks.{HasClasses, IsControl, AreParts}
 
 -- the classes of each
 abbrev pub HaveClasses : List ℕ → ℕ → ℕ → List ℕ → List ℕ → List ℕ → List ℕ → Type 0
-HaveClasses b first n soft hard control escaped = (k : ℕ) → k < n → HasClasses b (64 * (first + k)) (slice_index soft k) (slice_index hard k) (slice_index control k) (slice_index escaped k)
+HaveClasses b first n soft hard control escaped = (k : ℕ) → k < n
+    → HasClasses b (64 * (first + k)) (slice_index soft k) (slice_index hard k) (slice_index control k) (slice_index escaped k)
 
 -- the control bytes of each
 abbrev pub HaveControl : List ℕ → ℕ → ℕ → List ℕ → Type 0
@@ -13,4 +15,9 @@ HaveControl b first n control = (k : ℕ) → k < n → IsControl b (64 * (first
 -- the parts of each
 abbrev pub HaveParts : List ℕ → ℕ → ℕ → List ℕ → List ℕ → List ℕ → List ℕ → Type 0
 HaveParts b first n parity plain space quote =
-    (k : ℕ) → k < n → AreParts b (64 * (first + k)) (record { parity = slice_index parity k; plain = slice_index plain k; space = slice_index space k; quote = slice_index quote k })
+    (k : ℕ) → k < n → AreParts b (64 * (first + k)) (record {
+      parity = slice_index parity k;
+      plain = slice_index plain k;
+      space = slice_index space k;
+      quote = slice_index quote k;
+    })

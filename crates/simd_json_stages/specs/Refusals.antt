@@ -27,7 +27,8 @@ error_type kinds.DepthLimitExceeded = errors.DepthLimitExceeded
 
 -- of a first byte with which no scalar stands
 abbrev pub refused_kind : ℕ → FaultKind
-refused_kind c = if c == 116 then kinds.ExpectedTrue else if c == 102 then kinds.ExpectedFalse else if c == 110 then kinds.ExpectedNull else kinds.InternalError
+refused_kind c = if c == 116 then kinds.ExpectedTrue else if c == 102 then kinds.ExpectedFalse else if c == 110 then
+    kinds.ExpectedNull else kinds.InternalError
 
 abbrev pub number_refusal : List ℕ → ℕ → Fault
 number_refusal b i = record { kind = kinds.InvalidNumber; index = i; byte = byte_at b i }

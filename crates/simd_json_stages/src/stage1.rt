@@ -1,10 +1,11 @@
 //! From bytes to structural positions, and to the blocks that hold a backslash.
-ghost use Rattle.std.specs.Prelude.{◌≡◌, ◌≤◌, ◌⊎◌, ℕ, List, length, take, Some, None, IfOk, IfErr};
+ghost use Rattle.std.specs.Prelude.{◌≡◌, ◌≤◌, ◌⊎◌, length, take, Some, None, IfOk, IfErr};
 ghost use Rattle.simd_json_parts.specs.InputFaults.{input_fault};
 ghost use Rattle.simd_json_parts.specs.Positions.{positions};
 ghost use Rattle.simd_json_stages.specs.EscapeBlocks.{backslash_blocks};
 ghost use Rattle.simd_json_stages.specs.Scans.{LacksMemory};
 
+use scan::{scan_blocks, scan_rest};
 use simd_json_parts::error::{Error, ErrorType, Result};
 use std::alloc::Allocator;
 
@@ -73,7 +74,16 @@ impl Stage1Parse for BlockStage1Parse {
         if input.len() > u32::MAX as usize {
             return Err(Error::generic(ErrorType::InputTooLarge));
         }
-        let (has_bad_string, found) = scan::scan(input, structural_indexes, escape_blocks)?;
+        let (blocks, rest) = input.as_chunks::<64>();
+        let (done, checked) = scan_blocks(input, blocks, structural_indexes, escape_blocks)?;
+        let (has_bad_string, found) = scan_rest(
+            input,
+            rest,
+            done,
+            checked,
+            structural_indexes,
+            escape_blocks,
+        )?;
         if has_bad_string {
             return Err(Error::generic(ErrorType::Syntax));
         }

@@ -1,32 +1,42 @@
 //! From structural positions to nodes.
-ghost use Rattle.std.specs.Prelude.{◌≡◌, ◌≤◌, ◌⊎◌, length, take, min, None, IfOk, IfErr, IsTrue};
+//!
+//! The machine goes from token to token. Between two of them it is in one of three states:
+//!
+//! ```text
+//! value         read a scalar, an empty array or an empty object     →  after a value
+//!               open a container                                     →  value (array), key (object)
+//! key           read a string and a colon                            →  value
+//! after a value a comma, in a container                              →  value (array), key (object)
+//!               the closing bracket of the container                 →  after a value
+//!               the end of the tokens, in no container               →  done
+//! ```
+//!
+//! `machine` has the states, `progress` how far it is, `text` what it reads from, `scalar` the scalars and `fault`
+//! what it refuses.
+ghost use Rattle.std.specs.Prelude.{◌≡◌, ◌≤◌, ℕ, List, length, take, min, None, IfOk, IfErr, true, false};
 ghost use Rattle.simd_json_parts.specs.Descent.{descent};
 ghost use Rattle.simd_json_parts.specs.InputFaults.{input_fault};
 ghost use Rattle.simd_json_parts.specs.Positions.{positions};
-ghost use Rattle.simd_json_stages.specs.Building.{IsListed};
+ghost use Rattle.simd_json_stages.specs.Building.{IsListed, closer, header_of, content_kind};
 ghost use Rattle.simd_json_stages.specs.EscapeBlocks.{backslash_blocks};
+ghost use Rattle.simd_json_stages.specs.EscapesAhead.{PlainFrom};
+ghost use Rattle.simd_json_stages.specs.Members.{HasCapacity, IsTape};
 ghost use Rattle.simd_json_stages.specs.NodesEnough.{nodes_enough};
+ghost use Rattle.simd_json_stages.specs.Progresses.{IsOnRoute};
 ghost use Rattle.simd_json_stages.specs.Refusals.{IsTokenFault};
 
-mod containers;
-mod escapes;
 mod fault;
 mod machine;
-mod names;
+mod progress;
 mod scalar;
-mod state;
-mod strings;
-mod tokens;
-mod turns;
-mod unread;
-mod values;
+mod text;
 
-use escapes::Escapes;
-use machine::Machine;
+use fault::{Fault, FaultKind};
+use machine::{Machine, Route};
 pub use scalar::{is_valid_false_atom, is_valid_null_atom, is_valid_true_atom};
 use simd_json_parts::error::Result;
 use simd_json_parts::node::Node;
-use unread::Unread;
+use text::Text;
 
 #[cfg(test)]
 mod tests;
@@ -38,85 +48,58 @@ pub enum Container {
     Object,
 }
 
-/// What is kept of an open container, and of the one round it while it is open.
-#[derive(Clone, Copy, Debug, Drop)]
-pub struct StackState {
-    /// Where its header stands among the nodes.
-    pub header: usize,
-    /// What the container round it is.
-    pub outer: Container,
-    /// How many members the container round it has so far.
-    pub len: usize,
-}
-
-impl Default for StackState {
-    /// Of no container.
-    fn default() -> StackState
-        ensures { result ≡ record { header = 0; outer = Container.Array; len = 0 } }
+impl Container {
+    // The byte that closes it.
+    #[inline(always)]
+    fn closer(self) -> u8
+        ensures { result ≡ closer self }
     {
-        StackState {
-            header: 0,
-            outer: Container::Array,
-            len: 0,
+        match self {
+            Container::Array => b']',
+            Container::Object => b'}',
+        }
+    }
+
+    // The node that stands for it.
+    #[inline(always)]
+    fn header<'de>(self, len: usize, count: usize) -> Node<'de>
+        ensures { result ≡ header_of self len count }
+    {
+        match self {
+            Container::Array => Node::Array { len, count },
+            Container::Object => Node::Object { len, count },
+        }
+    }
+
+    // The fault of a token that may not stand after one of its members.
+    fn content_kind(self) -> FaultKind
+        ensures { result ≡ content_kind self }
+    {
+        match self {
+            Container::Array => FaultKind::ExpectedArrayContent,
+            Container::Object => FaultKind::ExpectedObjectContent,
         }
     }
 }
 
-// How far the machine is: the index and the first byte of the last token, what the innermost open container
-// is, how many positions are read, how many nodes are in use, how many containers are open, and how many
-// members the innermost has. It begins as a fault does, so that a result which holds either one keeps it in
-// the same registers.
+/// What is kept of an open container, and of its parent while it is open.
 #[derive(Clone, Copy, Debug, Drop)]
-pub(crate) struct Progress {
-    pub(crate) at: usize,
-    pub(crate) byte: u8,
-    pub(crate) container: Container,
-    pub(crate) read: usize,
-    pub(crate) used: usize,
-    pub(crate) depth: usize,
-    pub(crate) len: usize,
+pub struct StackState {
+    /// Where its header stands among the nodes.
+    pub header: usize,
+    /// What its parent is.
+    pub outer: Container,
+    /// How many members its parent has so far.
+    pub len: usize,
 }
 
-// The bytes that are not read yet, and the blocks ahead that hold a backslash.
-#[derive(Drop)]
-pub(crate) struct Text<'m, 'de> {
-    pub(crate) unread: Unread<'de>,
-    pub(crate) escapes: Escapes<'m>,
-}
-
-// What stays as it is on the way through the tokens: their positions, and how many containers may be open.
-#[derive(Clone, Copy, Drop)]
-pub(crate) struct Route<'m> {
-    pub(crate) indexes: &'m [u32],
-    pub(crate) max_depth: usize,
-}
-
-// After a value's first token: inside a new container, before its first member, or past a complete value.
-#[derive(Clone, Copy, Debug, Drop)]
-enum Value {
-    Opened(Progress),
-    Read(Progress),
-}
-
-// What follows a member: another one, or the end of its container.
-#[derive(Clone, Copy, Debug, Drop)]
-enum Turn {
-    Next(Progress),
-    Closed(Progress),
-}
-
-// What follows a value: another member, or the end of the root.
-#[derive(Clone, Copy, Debug, Drop)]
-enum Follower {
-    Next(Progress),
-    End(usize),
-}
-
-// Whether the byte closes a container.
-fn closes(byte: u8) -> bool
-    ensures { IsTrue result → (byte ≡ 93) ⊎ (byte ≡ 125) }
-{
-    byte == b']' || byte == b'}'
+impl StackState {
+    /// Of no container: what a stack is filled with.
+    pub const EMPTY: StackState = StackState {
+        header: 0,
+        outer: Container::Array,
+        len: 0,
+    };
 }
 
 /// How many nodes are enough for the tape of so many structural positions, with so many containers open at
@@ -157,27 +140,121 @@ pub fn build_tape<'de>(
     ensures built { IfOk result (λ used. IsListed input.old max_depth (take used nodes.new)) }
     ensures refused { IfErr result (λ e. IsTokenFault e × (descent input.old max_depth ≡ Err e)) }
 {
-    let last = input[structural_indexes[structural_indexes.len() - 1] as usize];
-    let unread = Unread::new(input);
-    let escapes = Escapes::new(escape_blocks);
-    let at = structural_indexes[0] as usize;
-    let first = Progress {
-        at,
-        byte: unread.byte(at),
-        container: Container::Array,
-        read: 1,
-        used: 0,
-        depth: 0,
-        len: 0,
-    };
-    let text = Text { unread, escapes };
-    let mut machine = Machine { text, stack };
-    let route = Route {
-        indexes: structural_indexes,
+    match build_nodes(
+        input,
+        structural_indexes,
+        escape_blocks,
+        stack,
+        nodes,
         max_depth,
-    };
-    match machine.build_by_end(route, nodes, first, closes(last)) {
+    ) {
         Ok(used) => Ok(used),
         Err(fault) => Err(fault.into_error()),
     }
+}
+
+// The nodes of the tape, or the fault of the machine.
+fn build_nodes<'de>(
+    input: &'de mut [u8],
+    indexes: &[u32],
+    escape_blocks: &[u32],
+    stack: &mut [StackState],
+    nodes: &mut [Node<'de>],
+    max_depth: usize,
+) -> std::result::Result<usize, Fault>
+    requires positions { indexes.now ≡ positions input.old }
+    requires escapes { escape_blocks.now ≡ backslash_blocks input.old }
+    requires whole { input_fault input.old ≡ None }
+    requires capacity { HasCapacity indexes.now max_depth stack.old nodes.old }
+    ensures { IsTape input.old indexes.now max_depth nodes.old nodes.new result }
+{
+    let last = input[indexes[indexes.len() - 1] as usize];
+    if last != b']' && last != b'}' {
+        return open_tape(input, indexes, escape_blocks, stack, nodes, max_depth);
+    }
+    if escape_blocks.is_empty() {
+        return shared_tape(input, indexes, stack, nodes, max_depth);
+    }
+    closed_tape(input, indexes, escape_blocks, stack, nodes, max_depth)
+}
+
+// There is a copy of the machine for each answer to whether the text has a backslash, and to whether its last
+// position closes a container, so that the loops do not ask. Each is a function of its own, so that its state
+// stays in registers.
+
+#[inline(never)]
+fn shared_tape<'de>(
+    input: &'de [u8],
+    indexes: &[u32],
+    stack: &mut [StackState],
+    nodes: &mut [Node<'de>],
+    max_depth: usize,
+) -> std::result::Result<usize, Fault>
+    ghost b: { List ℕ }
+    requires input { input.now ≡ b }
+    requires plain { PlainFrom b 0 (length b) }
+    requires route { IsOnRoute true b indexes.now }
+    requires capacity { HasCapacity indexes.now max_depth stack.old nodes.old }
+    ensures { IsTape b indexes.now max_depth nodes.old nodes.new result }
+{
+    let text = Text::shared(input);
+    let mut machine = Machine { text, stack };
+    let route = Route {
+        indexes,
+        ends_closed: true,
+        max_depth,
+    };
+    machine.build::<0>(route, nodes)
+}
+
+#[inline(never)]
+fn closed_tape<'de>(
+    input: &'de mut [u8],
+    indexes: &[u32],
+    escape_blocks: &[u32],
+    stack: &mut [StackState],
+    nodes: &mut [Node<'de>],
+    max_depth: usize,
+) -> std::result::Result<usize, Fault>
+    ghost b: { List ℕ }
+    requires input { input.old ≡ b }
+    requires escapes { escape_blocks.now ≡ backslash_blocks b }
+    requires route { IsOnRoute true b indexes.now }
+    requires capacity { HasCapacity indexes.now max_depth stack.old nodes.old }
+    ensures { IsTape b indexes.now max_depth nodes.old nodes.new result }
+{
+    let text = Text::lent(input, escape_blocks);
+    let mut machine = Machine { text, stack };
+    let route = Route {
+        indexes,
+        ends_closed: true,
+        max_depth,
+    };
+    machine.build::<1>(route, nodes)
+}
+
+#[inline(never)]
+fn open_tape<'de>(
+    input: &'de mut [u8],
+    indexes: &[u32],
+    escape_blocks: &[u32],
+    stack: &mut [StackState],
+    nodes: &mut [Node<'de>],
+    max_depth: usize,
+) -> std::result::Result<usize, Fault>
+    ghost b: { List ℕ }
+    requires input { input.old ≡ b }
+    requires escapes { escape_blocks.now ≡ backslash_blocks b }
+    requires route { IsOnRoute false b indexes.now }
+    requires capacity { HasCapacity indexes.now max_depth stack.old nodes.old }
+    ensures { IsTape b indexes.now max_depth nodes.old nodes.new result }
+{
+    let text = Text::lent(input, escape_blocks);
+    let mut machine = Machine { text, stack };
+    let route = Route {
+        indexes,
+        ends_closed: false,
+        max_depth,
+    };
+    machine.build::<2>(route, nodes)
 }

@@ -1,5 +1,4 @@
 use super::*;
-use crate::failure::status;
 use simd_json::DEFAULT_MAX_DEPTH;
 use std::test::Fail;
 

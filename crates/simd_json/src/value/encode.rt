@@ -22,7 +22,7 @@ impl Value<'_, '_> {
     /// is that value.
     ///
     /// Each container that is open while it prints takes about 11 bytes of the machine's stack, so 8 MB of it
-    /// are enough for 800,000 nested arrays. The depth limit of the parse bounds how many there are.
+    /// are enough for 780,000 nested arrays. The depth limit of the parse bounds how many there are.
     ///
     /// Returns `OutOfMemory`, at index 0 without a character, where an allocation fails, and no other error.
     ///

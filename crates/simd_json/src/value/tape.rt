@@ -9,7 +9,7 @@ pub mod array;
 pub mod object;
 mod value;
 
-use crate::capacity::lengthen;
+use crate::buffers::lengthen;
 pub use array::Array;
 pub use object::Object;
 use simd_json_parts::error::Result;

@@ -194,13 +194,13 @@ decoded-left old new from s v bad d here none at letter =
       omega (arith, at, d.size, ap length left),
     )
 
--- where the byte that stands now is a backslash, it was one
-was-backslash : (old cur : List ℕ) (from s v : ℕ) → IsDecoded old from from cur s v → get_or cur s 0 ≡ backslash → byte_at old s ≡ backslash
+-- Where the byte that stands now is a backslash, it was one,
+pub was-backslash : (old cur : List ℕ) (from s v : ℕ) → IsDecoded old from from cur s v → get_or cur s 0 ≡ backslash → byte_at old s ≡ backslash
 was-backslash old cur from s v d here =
     let inside : s < length cur = omega (arith, d.goes_on.closed, d.same_length) in
     sym (decoded-byte old cur from from s v d) ∙ get_or_default cur s 32 0 inside ∙ here
 
--- and a byte stands after it
+-- and a byte stands after it.
 pub decoded-fits : (old cur : List ℕ) (from s v : ℕ) → IsDecoded old from from cur s v → get_or cur s 0 ≡ backslash → s + 1 < length cur
 decoded-fits old cur from s v d here =
     omega (arith, backslash-fits old s d.goes_on (was-backslash old cur from s v d here), length-drop s old, d.same_length)

@@ -2,6 +2,7 @@
 use Rattle.std.proofs.Common.{◌≡◌, refl, ℕ, ◌+◌, ◌-◌, ◌/◌, ◌%◌, ◌<◌, ◌≤◌, List, [], ◌∷◌, ◌++◌, length, take, drop, slice_set, append-nil, sym, ◌∙◌, ap, arith}
 use Rattle.std.specs.Char.{encode_utf8}
 use Rattle.std.proofs.lemmas.Bool.{lt-ltb, le-ltb}
+use Rattle.std.proofs.lemmas.Grind.{common_steps}
 use borrow.Rule.Slice.PartMut.{put_mid, post_of}
 use Rattle.std.proofs.lemmas.List.{drop-drop, drop_at, drop_all, take_rest, length-take-le, length-drop}
 
@@ -43,10 +44,23 @@ pub four-written : (b : List ℕ) (c : ℕ) → 4 ≤ length b → 65536 ≤ c
 unfolding encode_utf8
 four-written b c l h = four-set b _ _ _ _ l ∙ simp (le-ltb c 128 (omega arith), le-ltb c 2048 (omega arith), le-ltb c 65536 h)
 
--- What stands after a prefix that is written into the last part of a list stays.
-pub put_mid-after : (xs ys prefix : List ℕ) (at n : ℕ) → at + n ≤ length xs → length prefix ≡ n → ys ≡ prefix ++ drop n (take (length xs - at) (drop at xs))
-    → drop (at + n) (put_mid at (length xs - at) xs ys) ≡ drop (at + n) xs
-put_mid-after xs ys prefix at n fits size e =
+-- what a list becomes when a prefix is written at an index: nothing before it changes, and nothing after it
+pub record IsWritten (xs zs prefix : List ℕ) (at n : ℕ) : Type 0 where
+  pub written : take (at + n) zs ≡ take at xs ++ prefix
+  pub unread : drop (at + n) zs ≡ drop (at + n) xs
+  pub same_length : length zs ≡ length xs
+
+put_mid-written : (xs ys prefix : List ℕ) (at n : ℕ) → at + n ≤ length xs → length prefix ≡ n
+    → ys ≡ prefix ++ drop n (take (length xs - at) (drop at xs)) → take (at + n) (put_mid at (length xs - at) xs ys) ≡ take at xs ++ prefix
+put_mid-written xs ys prefix at n fits size e = grind (arith, common_steps)
+
+put_mid-length : (xs ys prefix : List ℕ) (at n : ℕ) → at + n ≤ length xs → length prefix ≡ n
+    → ys ≡ prefix ++ drop n (take (length xs - at) (drop at xs)) → length (put_mid at (length xs - at) xs ys) ≡ length xs
+put_mid-length xs ys prefix at n fits size e = grind (arith, common_steps)
+
+put_mid-unread : (xs ys prefix : List ℕ) (at n : ℕ) → at + n ≤ length xs → length prefix ≡ n
+    → ys ≡ prefix ++ drop n (take (length xs - at) (drop at xs)) → drop (at + n) (put_mid at (length xs - at) xs ys) ≡ drop (at + n) xs
+put_mid-unread xs ys prefix at n fits size e =
     let rest : List ℕ = drop n (take (length xs - at) (drop at xs)) in
     let none : post_of at (length xs - at) xs ≡ [] = drop_all (length xs - at) (drop at xs) (omega (arith, length-drop at xs)) in
     sym (drop-drop n at (put_mid at (length xs - at) xs ys))
@@ -56,3 +70,12 @@ put_mid-after xs ys prefix at n fits size e =
     ∙ drop_at prefix rest n size
     ∙ ap (drop n) (take_rest xs at)
     ∙ drop-drop n at xs
+
+-- So is one that is written at the front of what stands from that index on.
+pub put_mid-prefix : (xs ys prefix : List ℕ) (at n : ℕ) → at + n ≤ length xs → length prefix ≡ n
+    → ys ≡ prefix ++ drop n (take (length xs - at) (drop at xs)) → IsWritten xs (put_mid at (length xs - at) xs ys) prefix at n
+put_mid-prefix xs ys prefix at n fits size e = record {
+  written = put_mid-written xs ys prefix at n fits size e;
+  unread = put_mid-unread xs ys prefix at n fits size e;
+  same_length = put_mid-length xs ys prefix at n fits size e;
+}

@@ -1,3 +1,4 @@
+use super::plain::parse_plainly;
 use super::*;
 use std::test::Fail;
 
@@ -188,6 +189,61 @@ fn numbers_of_every_length_are_read_at_one_look(rt: HostRuntime) -> std::result:
                     "{whole} {fraction}"
                 );
             }
+        }
+    }
+    Ok(())
+}
+
+// What digits are read as, by the grammar, after a minus or none and before a byte or the end: no digit, no
+// point and no mark of an exponent follows.
+fn numeral_of(digits: &[u8], minus: usize, next: Option<&u8>) -> Numeral {
+    let len = minus.wrapping_add(digits.len());
+    let mut magnitude = 0u64;
+    for c in digits {
+        magnitude = magnitude
+            .wrapping_mul(10)
+            .wrapping_add(c.wrapping_sub(b'0') as u64);
+    }
+    if digits.len() > 1 && digits.starts_with(b"0") {
+        return Numeral::Invalid(minus.wrapping_add(1));
+    }
+    match next {
+        Some(c) if !b"[]{}:, \t\n\r".contains(c) => Numeral::Invalid(len),
+        _ if len > 19 => Numeral::Long(len),
+        _ => Numeral::Integer(magnitude),
+    }
+}
+
+#[test]
+fn digits_of_every_length_are_read(rt: HostRuntime) -> std::result::Result<(), Fail> {
+    let runs = [
+        b"12345678909876543210",
+        b"99999999999999999999",
+        b"10000000000000000001",
+        b"00000000000000000009",
+        b"05928374650192837465",
+    ];
+    let nexts = b"[]{}:, \t\n\r/;x-\x00\x80\xff";
+    let more = b"7,x.9\xff0-]1e8:\x00 5/;3}\x80 6:9\"2+[4\n7{0:99,8]";
+    for n in 0..147_600 {
+        if let Some(run) = runs.get(n / 29_520) {
+            let digits = &run[..n / 82 % 20 + 1];
+            let minus = n / 41 % 2;
+            let next = nexts.get(n / 1640 % 18);
+            let mut bytes = Vec::new(rt.alloc());
+            if minus == 1 {
+                bytes.push(b'-')?;
+            }
+            bytes.extend_from_slice(digits)?;
+            if let Some(c) = next {
+                bytes.push(*c)?;
+                bytes.extend_from_slice(&more[..n % 41])?;
+            }
+            assert_eq!(rt;
+                parse_numeral(bytes.as_slice()),
+                numeral_of(digits, minus, next),
+                "{n}"
+            );
         }
     }
     Ok(())

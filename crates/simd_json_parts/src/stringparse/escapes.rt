@@ -1,9 +1,8 @@
 //! One escape, decoded where it stands (RFC 8259, section 7).
-ghost use Rattle.std.specs.Prelude.{◌≡◌, ◌≤◌, ◌<◌, ◌+◌, ◌++◌, ◌==◌, if◌then◌else◌, length, take, drop};
-ghost use Rattle.std.specs.Prelude.{encode_utf8, Some, None, MatchOption, IfSome, IsUtf8};
+ghost use Rattle.std.specs.Prelude.{◌≡◌, ◌≤◌, ◌<◌, length, drop, encode_utf8, Some, None};
+ghost use Rattle.std.specs.Prelude.{MatchOption, IfSome};
 ghost use Rattle.std.specs.Char.{len_utf8};
 ghost use Rattle.simd_json_parts.specs.Bytes.{backslash, byte_at};
-ghost use Rattle.simd_json_parts.specs.Strings.{escaped_character};
 ghost use Rattle.simd_json_parts.specs.StringAt.{code_unit_at, unicode_piece, escape_at};
 ghost use Rattle.simd_json_parts.specs.StringDecoded.{IsOpen, IsDecoded};
 
@@ -21,22 +20,10 @@ pub(super) fn unescape_one(unread: &mut [u8], ends: Ends) -> Option<Ends>
         × (ends.read < next.read)) }
 {
     let (character, more) = escape(&unread[ends.read..])?;
-    let written = put(unread, ends.written, character);
+    let len = codepoint_to_utf8(character, &mut unread[ends.written..]);
     let read = ends.read + 1 + more;
+    let written = ends.written + len;
     Some(Ends { read, written })
-}
-
-// Writes the character at an index, and returns the index after it.
-#[inline]
-fn put(bytes: &mut [u8], at: usize, character: char) -> usize
-    requires { at + len_utf8 character ≤ length bytes.old }
-    ensures end { result ≡ at + len_utf8 character }
-    ensures written { take result bytes.new ≡ take at bytes.old ++ encode_utf8 character }
-    ensures utf8 { IsUtf8 (encode_utf8 character) }
-    ensures unread { drop result bytes.new ≡ drop result bytes.old }
-    ensures same_length { length bytes.new ≡ length bytes.old }
-{
-    at + codepoint_to_utf8(character, &mut bytes[at..])
 }
 
 // The character of the escape at the front, and how many bytes of it follow the backslash. The table is asked
@@ -47,7 +34,7 @@ fn escape(bytes: &[u8]) -> Option<(char, usize)>
         (λ e. escape_at bytes.now ≡ Some (encode_utf8 e.0, e.1)) }
     ensures shorter { IfSome result (λ e. len_utf8 e.0 ≤ e.1) }
 {
-    let character = escaped_or_zero(bytes[1]);
+    let character = ESCAPED[bytes[1] as usize];
     if character != 0 {
         return Some((character as char, 1));
     }
@@ -55,15 +42,6 @@ fn escape(bytes: &[u8]) -> Option<(char, usize)>
         return unicode_escape(bytes);
     }
     None
-}
-
-// The character of the escape with this letter, or 0 where there is none.
-#[inline]
-fn escaped_or_zero(letter: u8) -> u8
-    ensures value { escaped_character letter ≡ (if result == 0 then None else Some result) }
-    ensures ascii { result < 128 }
-{
-    ESCAPED[letter as usize]
 }
 
 // The character of each letter after a backslash, or 0; backspace is 8, and form feed 12. A look-up costs

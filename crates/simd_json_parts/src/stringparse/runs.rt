@@ -1,31 +1,15 @@
 //! Runs of bytes between escapes: where they end, and how they are moved down.
-ghost use Rattle.std.specs.Prelude.{◌≡◌, ◌≤◌, ◌<◌, ◌+◌, ◌-◌, ◌++◌, length, take, drop, map, false};
+ghost use Rattle.std.specs.Prelude.{◌≡◌, ◌≤◌, ◌<◌, ◌+◌, ◌-◌, ◌++◌, length, take, drop, map};
 ghost use Rattle.std.specs.List.{prefix_len, copy_within};
 ghost use Rattle.std.specs.Simd.Lanes.{mask_l};
-ghost use Rattle.simd_json_parts.specs.Bytes.{byte_at};
 ghost use Rattle.simd_json_parts.specs.StringContent.{content, is_plain, is_stop};
-ghost use Rattle.simd_json_parts.specs.StringDecoded.{IsOpen, IsDecoded};
 
 use super::Ends;
 use std::simd::prelude::*;
 
-// The bytes up to the next backslash or the closing quote, moved down.
-#[inline]
-pub(super) fn move_run(unread: &mut [u8], ends: Ends) -> Ends
-    requires goes_on { IsOpen unread.old ends.read }
-    requires order { ends.written ≤ ends.read }
-    ensures moved { IsDecoded unread.old ends.read ends.written unread.new result.read result.written }
-    ensures stops { is_plain (byte_at unread.old result.read) ≡ false }
-{
-    if unread[ends.read] == b'\\' {
-        return ends;
-    }
-    move_plain(unread, ends.read, ends.written)
-}
-
 // The bytes up to the next quote or backslash, moved down while it is looked for, 32 bytes at a time.
 #[inline]
-fn move_plain(bytes: &mut [u8], from: usize, to: usize) -> Ends
+pub(super) fn move_plain(bytes: &mut [u8], from: usize, to: usize) -> Ends
     requires inside { from + length (content (drop from bytes.old)) < length bytes.old }
     requires order { to ≤ from }
     ensures read { result.read ≡ from + prefix_len is_plain (drop from bytes.old) }

@@ -2,7 +2,7 @@
 ghost use Rattle.simd_json_parts.specs.Bytes.{comma, left_brace, left_bracket, quote, space};
 ghost use Rattle.simd_json_parts.specs.Nodes.{item_of, string_item};
 ghost use Rattle.simd_json_parts.specs.Printed.{quoted, new_line};
-ghost use Rattle.std.specs.Prelude.{◌≡◌, ◌<◌, ◌++◌, ◌∷◌, ◌*◌, ℕ, List, [], cond, replicate, codes};
+ghost use Rattle.std.specs.Prelude.{◌≡◌, ◌++◌, ◌∷◌, ◌*◌, ℕ, List, [], cond, replicate};
 ghost use Rattle.simd_json_print.specs.Layout.{line, after_name, leaf_text};
 ghost use Rattle.simd_json_print.specs.Texts.{Adds, AddsSome};
 
@@ -31,7 +31,7 @@ pub(crate) fn put_leaf<T: Target, const SIZE: usize>(out: &mut Text<'_, T, SIZE>
 }
 
 /// The name of a member, from its node: what stands before it, its line in pretty text, and the colon after
-/// it.
+/// it; in compact text as one piece.
 #[inline(never)]
 pub(crate) fn put_name<T: Target, const SIZE: usize, const PRETTY: bool>(
     out: &mut Text<'_, T, SIZE>,
@@ -45,49 +45,15 @@ pub(crate) fn put_name<T: Target, const SIZE: usize, const PRETTY: bool>(
         (cond is_first left_brace comma ∷ (line PRETTY depth ++ (quoted k ++ after_name PRETTY))) }
 {
     if let Node::String(name) = *node {
+        let front = front_of(is_first, true);
         if PRETTY {
-            put_pretty_name(out, is_first, depth, name);
+            out.put(&front[..1]);
+            put_new_line(out, depth);
+            out.put_string(b"\"", name, b"\": ");
         } else {
-            put_compact_name(out, is_first, name);
+            out.put_string(front, name, b"\":");
         }
     }
-}
-
-#[inline(always)]
-fn put_pretty_name<T: Target, const SIZE: usize>(
-    out: &mut Text<'_, T, SIZE>,
-    is_first: bool,
-    depth: usize,
-    name: &str,
-)
-    ensures { Adds T.place out.old out.new
-        (cond is_first left_brace comma ∷ (new_line depth ++ (quoted name.now ++ codes ": "))) }
-{
-    let front = name_front(is_first);
-    out.put(&front[..1]);
-    put_new_line(out, depth);
-    out.put_string(b"\"", name, b"\": ");
-}
-
-// As one piece.
-#[inline(always)]
-fn put_compact_name<T: Target, const SIZE: usize>(
-    out: &mut Text<'_, T, SIZE>,
-    is_first: bool,
-    name: &str,
-)
-    ensures { Adds T.place out.old out.new
-        (cond is_first left_brace comma ∷ (quoted name.now ++ codes ":")) }
-{
-    out.put_string(name_front(is_first), name, b"\":");
-}
-
-// The first name stands after the brace, and each other one after a comma.
-#[inline(always)]
-fn name_front(is_first: bool) -> &'static [u8]
-    ensures { result.now ≡ cond is_first left_brace comma ∷ quote ∷ [] }
-{
-    if is_first { b"{\"" } else { b",\"" }
 }
 
 /// A leaf of an array, and what stands before it; in compact text as one piece.
@@ -101,23 +67,12 @@ pub(crate) fn put_element<T: Target, const SIZE: usize, const PRETTY: bool>(
     ensures { Adds T.place out.old out.new
         (cond is_first left_bracket comma ∷ (line PRETTY depth ++ leaf_text (item_of node.now))) }
 {
+    let front = front_of(is_first, false);
     if PRETTY {
-        put_front::<T, SIZE, PRETTY>(out, is_first, depth);
-        put_leaf(out, node);
-    } else {
-        put_compact_element(out, is_first, node);
+        out.put(&front[..1]);
+        put_new_line(out, depth);
+        return put_leaf(out, node);
     }
-}
-
-#[inline(always)]
-fn put_compact_element<T: Target, const SIZE: usize>(
-    out: &mut Text<'_, T, SIZE>,
-    is_first: bool,
-    node: &Node<'_>,
-)
-    ensures { Adds T.place out.old out.new (cond is_first left_bracket comma ∷ leaf_text (item_of node.now)) }
-{
-    let front = element_front(is_first);
     if let Node::String(string) = *node {
         out.put_string(front, string, b"\"");
     } else if let Node::Decimal(literal) = *node {
@@ -131,44 +86,25 @@ fn put_compact_element<T: Target, const SIZE: usize>(
     }
 }
 
-/// What stands before an element, and in pretty text its line.
+/// What stands before a member or an element, and then a quote: the bracket before the first one, and a comma
+/// before each other.
 #[inline(always)]
-pub(crate) fn put_front<T: Target, const SIZE: usize, const PRETTY: bool>(
-    out: &mut Text<'_, T, SIZE>,
-    is_first: bool,
-    depth: usize,
-)
-    ensures { Adds T.place out.old out.new (cond is_first left_bracket comma ∷ line PRETTY depth) }
+pub(crate) fn front_of(is_first: bool, is_object: bool) -> &'static [u8]
+    ensures { result.now ≡ cond is_first (cond is_object left_brace left_bracket) comma ∷ quote ∷ [] }
 {
-    let front = element_front(is_first);
-    out.put(&front[..1]);
-    put_line::<T, SIZE, PRETTY>(out, depth);
-}
-
-// What stands before an element, and then a quote.
-#[inline(always)]
-fn element_front(is_first: bool) -> &'static [u8]
-    ensures { result.now ≡ cond is_first left_bracket comma ∷ quote ∷ [] }
-{
-    if is_first { b"[\"" } else { b",\"" }
-}
-
-/// In pretty text a line feed, and two spaces for each open container.
-#[inline(always)]
-pub(crate) fn put_line<T: Target, const SIZE: usize, const PRETTY: bool>(
-    out: &mut Text<'_, T, SIZE>,
-    depth: usize,
-)
-    ensures { Adds T.place out.old out.new (line PRETTY depth) }
-{
-    if PRETTY {
-        put_new_line(out, depth);
+    if !is_first {
+        b",\""
+    } else if is_object {
+        b"{\""
+    } else {
+        b"[\""
     }
 }
 
-// As one piece where fewer than 16 containers are open. Out of line as [`put_leaf`] is.
+/// A line feed, and two spaces for each open container; as one piece where fewer than 16 are open. Out of line as
+/// [`put_leaf`] is.
 #[inline(never)]
-fn put_new_line<T: Target, const SIZE: usize>(out: &mut Text<'_, T, SIZE>, depth: usize)
+pub(crate) fn put_new_line<T: Target, const SIZE: usize>(out: &mut Text<'_, T, SIZE>, depth: usize)
     ensures { Adds T.place out.old out.new (new_line depth) }
 {
     out.put(&LINE[..1 + 2 * (depth % 16)]);

@@ -1,16 +1,15 @@
 //! The one walk over the nodes of a document that prints it.
-ghost use Rattle.std.specs.Prelude.{◌≡◌, ◌+◌, ◌-◌, ◌*◌, ◌<◌, ◌≤◌, ◌^◌, ◌++◌, ◌∷◌, [], ℕ, List};
-ghost use Rattle.std.specs.Prelude.{true, false, cond, drop, get_or, length, map, set, take};
-ghost use Rattle.simd_json_parts.specs.Bytes.{right_brace, right_bracket};
+ghost use Rattle.std.specs.Prelude.{◌≡◌, ◌+◌, ◌-◌, ◌<◌, ◌≤◌, ◌^◌, ◌++◌, ℕ, List};
+ghost use Rattle.std.specs.Prelude.{true, get_or, length, map};
 ghost use Rattle.simd_json_parts.specs.Document.{Document};
 ghost use Rattle.simd_json_parts.specs.Listing.{listing};
 ghost use Rattle.simd_json_parts.specs.Nodes.{count_of, item_of};
-ghost use Rattle.simd_json_print.specs.Frames.{Frame, IsAtValue, IsBetween, frame_listing, frame_text};
-ghost use Rattle.simd_json_print.specs.Frames.{has_members, is_object_item};
-ghost use Rattle.simd_json_print.specs.Layout.{line, text};
+ghost use Rattle.simd_json_print.specs.Frames.{Frame, IsAtValue, IsBetween};
+ghost use Rattle.simd_json_print.specs.Frames.{frame_listing, frame_text, has_members};
+ghost use Rattle.simd_json_print.specs.Layout.{text};
 ghost use Rattle.simd_json_print.specs.Texts.{Adds, AddsSome};
 
-use crate::document::scalar::{put_element, put_front, put_leaf, put_line, put_name};
+use crate::document::scalar::{front_of, put_element, put_leaf, put_name, put_new_line};
 use crate::text::{Target, Text};
 use simd_json_parts::node::Node;
 
@@ -25,55 +24,6 @@ struct Nesting {
     ends: [usize; OPEN],
     are_objects: [bool; OPEN],
     count: usize,
-}
-
-impl Nesting {
-    // One container, which ends with the nodes.
-    #[inline(always)]
-    fn new(is_object: bool) -> Nesting
-        ensures end { get_or result.ends 0 0 ≡ 0 }
-        ensures kind { get_or result.are_objects 0 false ≡ is_object }
-        ensures one { result.count ≡ 1 }
-    {
-        let mut are_objects = [false; OPEN];
-        are_objects[0] = is_object;
-        Nesting {
-            ends: [0; OPEN],
-            are_objects,
-            count: 1,
-        }
-    }
-
-    // Whether the innermost is an object.
-    #[inline(always)]
-    fn is_object(&self) -> bool
-        requires { (0 < self.now.count) × (self.now.count ≤ 64) }
-        ensures { result ≡ get_or self.now.are_objects (self.now.count - 1) false }
-    {
-        self.are_objects[self.count - 1]
-    }
-
-    // How many nodes are left when the innermost ends.
-    #[inline(always)]
-    fn end(&self) -> usize
-        requires { (0 < self.now.count) × (self.now.count ≤ 64) }
-        ensures { result ≡ get_or self.now.ends (self.now.count - 1) 0 }
-    {
-        self.ends[self.count - 1]
-    }
-
-    // One more, within the innermost.
-    #[inline(always)]
-    fn push(&mut self, is_object: bool, end: usize)
-        requires { self.old.count < 64 }
-        ensures ends { self.new.ends ≡ set self.old.ends self.old.count end }
-        ensures kinds { self.new.are_objects ≡ set self.old.are_objects self.old.count is_object }
-        ensures count { self.new.count ≡ self.old.count + 1 }
-    {
-        self.ends[self.count] = end;
-        self.are_objects[self.count] = is_object;
-        self.count += 1;
-    }
 }
 
 /// Puts the value that the nodes are, with `depth` containers open around it.
@@ -95,7 +45,8 @@ pub(crate) fn put_value<T: Target, const SIZE: usize, const PRETTY: bool>(
     if beneath.is_empty() {
         put_leaf(out, &first[0]);
     } else {
-        put_container::<T, SIZE, PRETTY>(out, is_object(&first[0]), beneath, depth);
+        let is_object = matches!(&first[0], Node::Object { .. });
+        put_container::<T, SIZE, PRETTY>(out, is_object, beneath, depth);
     }
 }
 
@@ -113,7 +64,11 @@ fn put_container<T: Target, const SIZE: usize, const PRETTY: bool>(
     ensures given { (f : Frame) → has_members f ≡ is_object → map item_of nodes.now ≡ frame_listing f
         → Adds T.place out.old out.new (frame_text PRETTY depth true f) }
 {
-    let mut nesting = Nesting::new(is_object);
+    let mut nesting = Nesting {
+        ends: [0; OPEN],
+        are_objects: [is_object; OPEN],
+        count: 1,
+    };
     let mut left = Unprinted { nodes };
     let mut is_first = true;
     while nesting.count > 0 {
@@ -125,8 +80,13 @@ fn put_container<T: Target, const SIZE: usize, const PRETTY: bool>(
         );
         left = others;
         is_first = is_still_first;
-        if left.nodes.len() <= nesting.end() {
-            put_end::<T, SIZE, PRETTY>(out, &mut nesting, depth);
+        if left.nodes.len() <= nesting.ends[nesting.count - 1] {
+            nesting.count -= 1;
+            if PRETTY {
+                put_new_line(out, depth + nesting.count);
+            }
+            let ends_object = nesting.are_objects[nesting.count];
+            out.put(if ends_object { b"}" } else { b"]" });
             is_first = false;
             continue;
         }
@@ -144,19 +104,6 @@ fn put_container<T: Target, const SIZE: usize, const PRETTY: bool>(
 #[derive(Clone, Copy)]
 struct Unprinted<'tape, 'input> {
     nodes: &'tape [Node<'input>],
-}
-
-impl<'tape, 'input> Unprinted<'tape, 'input> {
-    // The first node, and those after it.
-    #[inline(always)]
-    fn split_first(self) -> (&'tape [Node<'input>], Unprinted<'tape, 'input>)
-        requires { 0 < length self.nodes.now }
-        ensures front { result.0.now ≡ take 1 self.entry.nodes.now }
-        ensures back { result.1.nodes.now ≡ drop 1 self.entry.nodes.now }
-    {
-        let (node, nodes) = self.nodes.split_at(1);
-        (node, Unprinted { nodes })
-    }
 }
 
 // The elements of an array that are leaves, up to its end or the first container. What is left, and whether
@@ -178,19 +125,19 @@ fn put_elements<'tape, 'input, T: Target, const SIZE: usize, const PRETTY: bool>
         → (more : List ℕ) × Adds T.place out.old out.new more
         × IsBetween PRETTY depth nesting.now result.1 (map item_of result.0.nodes.now) (done ++ more) whole }
 {
-    if nesting.is_object() {
+    if nesting.are_objects[nesting.count - 1] {
         return (nodes, is_first);
     }
-    let end = nesting.end();
+    let end = nesting.ends[nesting.count - 1];
     let mut left = nodes;
     let mut is_still_first = is_first;
     while left.nodes.len() > end {
-        let (first, after) = left.split_first();
+        let (first, nodes) = left.nodes.split_at(1);
         if beneath(&first[0]) != 0 {
             return (left, is_still_first);
         }
         put_element::<T, SIZE, PRETTY>(out, is_still_first, depth + nesting.count, &first[0]);
-        left = after;
+        left = Unprinted { nodes };
         is_still_first = false;
     }
     (left, is_still_first)
@@ -217,14 +164,16 @@ fn put_before<'tape, 'input, T: Target, const SIZE: usize, const PRETTY: bool>(
         → (more : List ℕ) × Adds T.place out.old out.new more
         × IsAtValue PRETTY depth nesting.now (map item_of result.nodes.now) (done ++ more) whole }
 {
-    let is_object = nesting.is_object();
-    let (names, values) = left.nodes.split_at(is_object as usize);
-    if is_object {
+    if nesting.are_objects[nesting.count - 1] {
+        let (names, values) = left.nodes.split_at(1);
         put_name::<T, SIZE, PRETTY>(out, is_first, depth + nesting.count, &names[0]);
         return Unprinted { nodes: values };
     }
-    put_front::<T, SIZE, PRETTY>(out, is_first, depth + nesting.count);
-    Unprinted { nodes: values }
+    out.put(&front_of(is_first, false)[..1]);
+    if PRETTY {
+        put_new_line(out, depth + nesting.count);
+    }
+    left
 }
 
 // The value, or what it begins with if it is a container. The nodes after it, and whether it is open now.
@@ -256,47 +205,14 @@ fn put_next<'tape, 'input, T: Target, const SIZE: usize, const PRETTY: bool>(
         return (Unprinted { nodes: rest }, false);
     }
     if nesting.count < OPEN {
-        nesting.push(is_object(&first[0]), rest.len() - count);
+        nesting.are_objects[nesting.count] = matches!(&first[0], Node::Object { .. });
+        nesting.ends[nesting.count] = rest.len() - count;
+        nesting.count += 1;
         return (Unprinted { nodes: rest }, true);
     }
     let (value, others) = left.nodes.split_at(count + 1);
     put_value::<T, SIZE, PRETTY>(out, value, depth + nesting.count);
     (Unprinted { nodes: others }, false)
-}
-
-// The end of the innermost container.
-#[inline(always)]
-fn put_end<T: Target, const SIZE: usize, const PRETTY: bool>(
-    out: &mut Text<'_, T, SIZE>,
-    nesting: &mut Nesting,
-    depth: usize,
-)
-    requires nested { (0 < nesting.old.count) × (nesting.old.count ≤ 64) }
-    requires room { depth + nesting.old.count < 2 ^ 64 }
-    ensures fewer { nesting.new.count ≡ nesting.old.count - 1 }
-    ensures ends { nesting.new.ends ≡ nesting.old.ends }
-    ensures kinds { nesting.new.are_objects ≡ nesting.old.are_objects }
-    ensures put { Adds T.place out.old out.new (line PRETTY (depth + nesting.new.count)
-        ++ cond (get_or nesting.old.are_objects nesting.new.count false) right_brace right_bracket ∷ []) }
-{
-    nesting.count -= 1;
-    put_line::<T, SIZE, PRETTY>(out, depth + nesting.count);
-    out.put(end_of(nesting.are_objects[nesting.count]));
-}
-
-#[inline(always)]
-fn end_of(is_object: bool) -> &'static [u8]
-    ensures { result.now ≡ cond is_object right_brace right_bracket ∷ [] }
-{
-    if is_object { b"}" } else { b"]" }
-}
-
-// Whether it is an object's header.
-#[inline(always)]
-fn is_object(node: &Node<'_>) -> bool
-    ensures { result ≡ is_object_item (item_of node.now) }
-{
-    matches!(node, Node::Object { .. })
 }
 
 // How many nodes a node says lie beneath it.

@@ -1,9 +1,9 @@
 //! The bytes that are collected for a target.
-ghost use Rattle.std.specs.Prelude.{◌≡◌, ◌+◌, ◌≤◌, [], ◌++◌, flat_map, length, take, IsTrue, IsFalse};
+ghost use Rattle.std.specs.Prelude.{◌≡◌, ◌+◌, ◌≤◌, [], ◌++◌, cond, flat_map, length, take, IsTrue, IsFalse};
 ghost use Rattle.std.specs.Fmt.{decimal};
 ghost use Rattle.simd_json_parts.specs.Printed.{escaped_byte};
 
-use crate::text::stores::{DIGITS, FEW, store_between, store_bytes, store_decimal, store_run};
+use crate::text::stores::{DIGITS, FEW, store_bytes, store_digits, store_few, store_vectors};
 use std::marker::Model;
 
 // How many bytes may stand in front of a few, and after them.
@@ -36,21 +36,18 @@ impl<const SIZE: usize> Pieces<SIZE> {
         }
     }
 
-    // Whether there is capacity for these bytes after those that are there.
+    // These bytes, where they fit.
     #[inline(always)]
-    pub(super) fn fits(&self, bytes: &[u8]) -> bool
-        ensures { IsTrue result → length self.now + length bytes.now ≤ SIZE }
+    pub(super) fn collect(&mut self, bytes: &[u8]) -> bool
+        ensures collected { IsTrue result → self.new ≡ self.old ++ bytes.now }
+        ensures kept { IsFalse result → self.new ≡ self.old }
     {
-        bytes.len() <= SIZE - self.used
-    }
-
-    #[inline(always)]
-    pub(super) fn collect(&mut self, bytes: &[u8])
-        requires { length self.old + length bytes.now ≤ SIZE }
-        ensures { self.new ≡ self.old ++ bytes.now }
-    {
+        if bytes.len() > SIZE - self.used {
+            return false;
+        }
         store_bytes(&mut self.bytes, self.used, bytes);
         self.used += bytes.len();
+        true
     }
 
     // Whether so many bytes are few, with little in front of them and after them, and there is capacity for
@@ -67,16 +64,30 @@ impl<const SIZE: usize> Pieces<SIZE> {
         front.len() + len + back.len() <= SIZE - self.used
     }
 
-    // A few bytes, between what stands in front of them and after them, where they fit.
+    // A few bytes, between what stands in front of them and after them, where they fit, and those of a string
+    // only if none is to be escaped. They are tested as they are stored, and what is stored counts only then.
     #[inline(always)]
-    pub(super) fn collect_few(&mut self, front: &[u8], bytes: &[u8], back: &[u8]) -> bool
-        ensures collected { IsTrue result → self.new ≡ self.old ++ (front.now ++ (bytes.now ++ back.now)) }
+    pub(super) fn collect_few(
+        &mut self,
+        front: &[u8],
+        bytes: &[u8],
+        back: &[u8],
+        is_string: bool,
+    ) -> bool
+        ensures collected { IsTrue result → self.new ≡ self.old
+            ++ (front.now ++ (cond is_string (flat_map escaped_byte bytes.now) bytes.now ++ back.now)) }
         ensures kept { IsFalse result → self.new ≡ self.old }
     {
         if !self.holds(front, bytes.len(), back) {
             return false;
         }
-        store_between(&mut self.bytes, self.used, front, bytes, back);
+        store_bytes(&mut self.bytes, self.used, front);
+        let start = self.used + front.len();
+        let is_plain = store_few(&mut self.bytes, start, bytes);
+        store_bytes(&mut self.bytes, start + bytes.len(), back);
+        if is_string && !is_plain {
+            return false;
+        }
         self.used += front.len() + bytes.len() + back.len();
         true
     }
@@ -99,27 +110,11 @@ impl<const SIZE: usize> Pieces<SIZE> {
         }
         store_bytes(&mut self.bytes, self.used, front);
         let start = self.used + front.len();
-        self.used = store_decimal(&mut self.bytes, start, minus, number, back);
+        store_bytes(&mut self.bytes, start, minus);
+        let end = store_digits(&mut self.bytes, start + minus.len(), number);
+        store_bytes(&mut self.bytes, end, back);
+        self.used = end + back.len();
         true
-    }
-
-    // A string, between what stands in front of it and after it, where it fits and need not be escaped. It is
-    // tested as it is stored, and what is stored counts only then.
-    #[inline(always)]
-    pub(super) fn collect_string(&mut self, front: &[u8], string: &[u8], back: &[u8]) -> bool
-        ensures collected { IsTrue result → self.new
-            ≡ self.old ++ (front.now ++ (flat_map escaped_byte string.now ++ back.now)) }
-        ensures kept { IsFalse result → self.new ≡ self.old }
-    {
-        if !self.holds(front, string.len(), back) {
-            return false;
-        }
-        let len = front.len() + string.len() + back.len();
-        let is_plain = store_between(&mut self.bytes, self.used, front, string, back);
-        if is_plain {
-            self.used += len;
-        }
-        is_plain
     }
 
     // The bytes in front of the first one that is to be escaped, as far as they fit. How many they are.
@@ -129,7 +124,16 @@ impl<const SIZE: usize> Pieces<SIZE> {
         ensures collected { self.new ≡ self.old ++ flat_map escaped_byte (take result string.now) }
     {
         let len = string.len().min(SIZE - self.used);
-        let count = store_run(&mut self.bytes, self.used, &string[..len]);
+        let run = &string[..len];
+        let count = if len >= 32 {
+            store_vectors::<32>(&mut self.bytes, self.used, run)
+        } else if len >= 8 {
+            store_vectors::<8>(&mut self.bytes, self.used, run)
+        } else if len >= 1 {
+            store_vectors::<1>(&mut self.bytes, self.used, run)
+        } else {
+            0
+        };
         self.used += count;
         count
     }

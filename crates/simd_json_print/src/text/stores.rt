@@ -35,30 +35,6 @@ fn store_many(all: &mut [u8], at: usize, bytes: &[u8])
     all[at..at + bytes.len()].copy_from_slice(bytes);
 }
 
-// At most 32 bytes, between what stands in front of it and after it. Whether none of its bytes is to be
-// escaped.
-#[inline(always)]
-pub(super) fn store_between(
-    all: &mut [u8],
-    at: usize,
-    front: &[u8],
-    string: &[u8],
-    back: &[u8],
-) -> bool
-    requires few { length string.now ≤ 32 }
-    requires room { at + (length front.now + length string.now + length back.now) ≤ length all.old }
-    ensures stored { take (at + (length front.now + length string.now + length back.now)) all.new
-        ≡ take at all.old ++ (front.now ++ (string.now ++ back.now)) }
-    ensures size { length all.new ≡ length all.old }
-    ensures plain { IsTrue result → flat_map escaped_byte string.now ≡ string.now }
-{
-    store_bytes(all, at, front);
-    let start = at + front.len();
-    let is_plain = store_few(all, start, string);
-    store_bytes(all, start + string.len(), back);
-    is_plain
-}
-
 // At most 32 bytes. Whether none of them is to be escaped.
 #[inline(always)]
 pub(super) fn store_few(all: &mut [u8], at: usize, bytes: &[u8]) -> bool
@@ -123,31 +99,11 @@ pub(super) fn store_marked<const N: usize>(
     escapes.to_bitmask()
 }
 
-// Stores the bytes in front of the first one that is to be escaped. How many they are.
+// Stores, of at least N bytes, those in front of the first one that is to be escaped: N at a time, and then the
+// last N, which overlap those before. How many they are. An escape is a way out and not a smaller step, so that
+// no vector waits for the mask of the one before.
 #[inline(always)]
-pub(super) fn store_run(all: &mut [u8], at: usize, bytes: &[u8]) -> usize
-    requires { at + length bytes.now ≤ length all.old }
-    ensures within { result ≤ length bytes.now }
-    ensures stored { take (at + result) all.new ≡ take at all.old ++ take result bytes.now }
-    ensures size { length all.new ≡ length all.old }
-    ensures plain { flat_map escaped_byte (take result bytes.now) ≡ take result bytes.now }
-{
-    let len = bytes.len();
-    if len >= 32 {
-        store_vectors::<32>(all, at, bytes)
-    } else if len >= 8 {
-        store_vectors::<8>(all, at, bytes)
-    } else if len >= 1 {
-        store_vectors::<1>(all, at, bytes)
-    } else {
-        0
-    }
-}
-
-// The same of at least N bytes: N at a time, and then the last N, which overlap those before. An escape is
-// a way out and not a smaller step, so that no vector waits for the mask of the one before.
-#[inline(always)]
-fn store_vectors<const N: usize>(all: &mut [u8], at: usize, bytes: &[u8]) -> usize
+pub(super) fn store_vectors<const N: usize>(all: &mut [u8], at: usize, bytes: &[u8]) -> usize
     requires few { (0 < N) × (N ≤ 64) }
     requires some { N ≤ length bytes.now }
     requires room { at + length bytes.now ≤ length all.old }
@@ -175,29 +131,9 @@ fn store_vectors<const N: usize>(all: &mut [u8], at: usize, bytes: &[u8]) -> usi
 // How many digits a number has at most.
 pub(super) const DIGITS: usize = 20;
 
-// A number, between what stands in front of it and after it. Where that ends.
-#[inline(always)]
-pub(super) fn store_decimal(
-    all: &mut [u8],
-    at: usize,
-    front: &[u8],
-    number: u64,
-    back: &[u8],
-) -> usize
-    requires room { at + (length front.now + 20 + length back.now) ≤ length all.old }
-    ensures end { result ≡ at + length (front.now ++ (decimal number ++ back.now)) }
-    ensures stored { take result all.new ≡ take at all.old ++ (front.now ++ (decimal number ++ back.now)) }
-    ensures size { length all.new ≡ length all.old }
-{
-    store_bytes(all, at, front);
-    let end = store_digits(all, at + front.len(), number);
-    store_bytes(all, end, back);
-    end + back.len()
-}
-
 // The digits of a number. Where they end.
 #[inline(always)]
-fn store_digits(all: &mut [u8], at: usize, number: u64) -> usize
+pub(super) fn store_digits(all: &mut [u8], at: usize, number: u64) -> usize
     requires room { at + 20 ≤ length all.old }
     ensures end { result ≡ at + length (decimal number) }
     ensures few { result ≤ at + 20 }
@@ -208,16 +144,7 @@ fn store_digits(all: &mut [u8], at: usize, number: u64) -> usize
         all[at] = b'0' + number as u8;
         return at + 1;
     }
-    let end = at + count_digits(number);
+    let end = at + number.ilog10() as usize + 1;
     write_digits(number, all, end);
     end
-}
-
-#[inline(always)]
-fn count_digits(number: u64) -> usize
-    requires { 0 < number }
-    ensures count { result ≡ length (decimal number) }
-    ensures few { result ≤ 20 }
-{
-    number.ilog10() as usize + 1
 }

@@ -1,7 +1,4 @@
 //! Strings that are escaped as they are put (RFC 8259, section 7).
-ghost use Rattle.std.specs.Prelude.{◌≡◌, ◌<◌};
-ghost use Rattle.std.specs.Char.{digit_char};
-ghost use Rattle.simd_json_print.specs.Unescaped.{escape_letter};
 
 use crate::text::{Target, Text};
 
@@ -17,47 +14,40 @@ impl<'w, T: Target, const SIZE: usize> Text<'w, T, SIZE> {
             (front.now ++ (flat_map escaped_byte string.now ++ back.now)) }
     {
         let bytes = string.as_bytes();
-        if !self.pieces.collect_string(front, bytes, back) {
+        if !self.pieces.collect_few(front, bytes, back, true) {
             self.put_escaped(front, bytes, back);
         }
     }
 
-    // One that is long, that does not fit, or that has bytes to be escaped.
+    // One that is long, that does not fit, or that has bytes to be escaped: by runs that need no escape, each
+    // with the byte after it, which is to be escaped, or for which there is no capacity.
     #[inline(never)]
     fn put_escaped(&mut self, front: &[u8], string: &[u8], back: &[u8])
         ensures { Adds T.place self.old self.new
             (front.now ++ (flat_map escaped_byte string.now ++ back.now)) }
     {
         self.put(front);
-        self.put_by_runs(string);
-        self.put(back);
-    }
-
-    // By runs that need no escape, each with the byte after it: one that is to be escaped, or for which there
-    // is no capacity.
-    fn put_by_runs(&mut self, string: &[u8])
-        ensures { Adds T.place self.old self.new (flat_map escaped_byte string.now) }
-    {
         let mut left = string;
         while !left.is_empty() && self.fault.is_none() {
-            let others = left.split_at(self.pieces.collect_run(left)).1;
-            if others.is_empty() {
-                return;
+            left = left.split_at(self.pieces.collect_run(left)).1;
+            if left.is_empty() {
+                break;
             }
-            self.put_byte(others[0]);
-            left = others.split_at(1).1;
+            self.put_byte(left[0]);
+            left = left.split_at(1).1;
         }
+        self.put(back);
     }
 
     // Any byte, escaped where it is to be.
     fn put_byte(&mut self, byte: u8)
         ensures { Adds T.place self.old self.new (escaped_byte byte) }
     {
-        let letter = letter(byte);
+        let letter = LETTERS[byte as usize];
         if letter == 0 {
             self.put(&[byte]);
         } else if letter == b'u' {
-            let (tens, ones) = (digit(byte / 16), digit(byte % 16));
+            let (tens, ones) = (DIGITS[(byte / 16) as usize], DIGITS[(byte % 16) as usize]);
             self.put(&[b'\\', b'u', b'0', b'0', tens, ones]);
         } else {
             self.put(&[b'\\', letter]);
@@ -65,26 +55,11 @@ impl<'w, T: Target, const SIZE: usize> Text<'w, T, SIZE> {
     }
 }
 
-// What follows the backslash of an escaped byte: `u` where that is its number, and none, 0, where it stands
-// as it is.
-#[inline(always)]
-fn letter(byte: u8) -> u8
-    ensures { result ≡ escape_letter byte }
-{
-    LETTERS[byte as usize]
-}
-
-// The lower-case hexadecimal digit of a number below 16.
-#[inline(always)]
-fn digit(number: u8) -> u8
-    requires { number < 16 }
-    ensures { result ≡ digit_char number }
-{
-    DIGITS[number as usize]
-}
-
+// The lower-case hexadecimal digits.
 const DIGITS: [u8; 16] = *b"0123456789abcdef";
 
+// What follows the backslash of an escaped byte: `u` where that is its number, and none, 0, where it stands as
+// it is.
 const LETTERS: [u8; 256] = [
     b'u', b'u', b'u', b'u', b'u', b'u', b'u', b'u', b'b', b't', b'n', b'u', b'f', b'r', b'u', b'u',
     b'u', b'u', b'u', b'u', b'u', b'u', b'u', b'u', b'u', b'u', b'u', b'u', b'u', b'u', b'u', b'u',

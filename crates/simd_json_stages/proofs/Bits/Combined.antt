@@ -46,9 +46,11 @@ pub bits-after : {x : ℕ} {p : ℕ → Bool} (c : Bool) → HasBits x p → Has
 bits-after {x} {p} c h = record { small = or_lt 64 (shl 1 x) (bool_byte c) (mod-lt (x * 2) (pow_pos 64)) (byte_lt c); bits = go }
   where
     go : (i : ℕ) → i < 64 → is_set (bit_or (shl 1 x) (bool_byte c)) i ≡ after c p i
-    go zero l = is_set-or (shl 1 x) (bool_byte c) 0 ∙ ap₂ (λ s t. s || t) (is_set-shl_low 1 0 x (omega arith) (omega arith)) (is_set-byte_zero c)
+    go zero l = is_set-or (shl 1 x) (bool_byte c) 0 ∙ ap₂ (λ s t. s || t) (is_set-shl_low 1 0 x (omega arith) (omega arith))
+        (is_set-byte_zero c)
     go (suc i) l =
-        is_set-or (shl 1 x) (bool_byte c) (suc i) ∙ ap₂ (λ s t. s || t) (is_set-shl_one i x l) (is_set-byte_suc c i) ∙ or-false (is_set x i) ∙ h.bits i (omega arith)
+        is_set-or (shl 1 x) (bool_byte c) (suc i) ∙ ap₂ (λ s t. s || t) (is_set-shl_one i x l) (is_set-byte_suc c i)
+        ∙ or-false (is_set x i) ∙ h.bits i (omega arith)
 
 spread-is : (c : Bool) → spread c ≡ all_bits c
 spread-is true = refl

@@ -86,11 +86,14 @@ twice ls h =
     let p : 2 ^ length ls ≡ 18446744073709551616 = ap (λ n. 2 ^ n) h in
     let lt : mask_l (shifted false ls) < 2 ^ length (shifted false ls) = mask_l-lt (shifted false ls) in
     let q : 2 ^ length (shifted false ls) ≡ 18446744073709551616 = ap (λ n. 2 ^ n) (length-shifted false ls ∙ h) in
-    let t : bit (last_or false ls) * 2 ^ length ls ≡ bit (last_or false ls) * 18446744073709551616 = ap (λ n. bit (last_or false ls) * n) p in
+    let t : bit (last_or false ls) * 2 ^ length ls ≡ bit (last_or false ls) * 18446744073709551616 = ap
+    (λ n. bit (last_or false ls) * n) p in
     let e : mask_l ls * 2 ≡ bit (last_or false ls) * 18446744073709551616 + mask_l (shifted false ls) = omega arith in
-    ap (λ n. n % 18446744073709551616) e ∙ mod-mul-add (bit (last_or false ls)) 18446744073709551616 (mask_l (shifted false ls)) (omega arith)
+    ap (λ n. n % 18446744073709551616) e ∙ mod-mul-add (bit (last_or false ls)) 18446744073709551616 (mask_l (shifted false ls))
+    (omega arith)
 
-pub follows-is : (c l : Bool) (ls : List Bool) → length ls ≡ 63 → bit_or (mask_l (shifted false (l ∷ ls))) (bool_byte c) ≡ mask_l (shifted c (l ∷ ls))
+pub follows-is : (c l : Bool) (ls : List Bool) → length ls ≡ 63
+    → bit_or (mask_l (shifted false (l ∷ ls))) (bool_byte c) ≡ mask_l (shifted c (l ∷ ls))
 follows-is c l ls h =
     let long : length (shifted l ls) ≡ 63 = length-shifted l ls ∙ h in
     ap (bit_or (mask_l (shifted false (l ∷ ls)))) (lone c) ∙ or-mask (false ∷ shifted l ls) (c ∷ replicate 63 false) (ap suc long)
@@ -122,7 +125,8 @@ pub record Found (c : Bool) (ys : List Bool) (F S L T : ℕ) : Type 0 where
   pub sum : S + L ≡ T + bit (escape_out c ys) * 18446744073709551616
   pub small : T < 18446744073709551616
 
-found : (c x : Bool) (xs : List Bool) → length xs ≡ 63 → (b L F S T : ℕ) → b ≡ mask_l (x ∷ xs) → L ≡ bit_and b (18446744073709551615 - bool_byte c)
+found : (c x : Bool) (xs : List Bool) → length xs ≡ 63 → (b L F S T : ℕ) → b ≡ mask_l (x ∷ xs)
+    → L ≡ bit_and b (18446744073709551615 - bool_byte c)
     → F ≡ bit_or (L * 2 % 18446744073709551616) (bool_byte c) → S ≡ bit_and (bit_and L 12297829382473034410) (18446744073709551615 - F)
     → T ≡ (S + L) % 18446744073709551616 → Found c (x ∷ xs) F S L T
 found c x xs long b L F S T be le fe se te =
@@ -137,24 +141,31 @@ found c x xs long b L F S T be le fe se te =
     let n-od : length (evens false ls) ≡ 64 = length-evens false ls ∙ n in
     let n-su : length su ≡ 64 = length-sums false st ls (n-st ∙ sym n) ∙ n-st in
     let L-is : L ≡ mask_l ls = le ∙ ap (λ w. bit_and w (18446744073709551615 - bool_byte c)) be ∙ live-is c x xs long in
-    let F-is : F ≡ mask_l sh = fe ∙ ap (λ w. bit_or (w * 2 % 18446744073709551616) (bool_byte c)) L-is ∙ ap (λ w. bit_or w (bool_byte c)) (twice ls n) ∙ follows-is c (x && not c) xs long in
+    let F-is : F ≡ mask_l sh = fe ∙ ap (λ w. bit_or (w * 2 % 18446744073709551616) (bool_byte c)) L-is
+    ∙ ap (λ w. bit_or w (bool_byte c)) (twice ls n) ∙ follows-is c (x && not c) xs long in
     let not-F : 18446744073709551615 - F ≡ mask_l (map not sh) = ap (λ w. 18446744073709551615 - w) F-is ∙ flip-is sh n-sh in
     let S-is : S ≡ mask_l st =
     se ∙ ap₂ bit_and (ap₂ bit_and L-is (odd-is ls n) ∙ and-mask ls (evens false ls) (n ∙ sym n-od)) not-F
-    ∙ and-mask (zip2 ◌&&◌ ls (evens false ls)) (map not sh) (length-zip ◌&&◌ ls (evens false ls) (n ∙ sym n-od) ∙ n ∙ sym (length-map-not sh ∙ n-sh)) ∙ ap mask_l (starts-is true c ls) in
+    ∙ and-mask (zip2 ◌&&◌ ls (evens false ls)) (map not sh) (length-zip ◌&&◌ ls (evens false ls) (n ∙ sym n-od) ∙ n
+    ∙ sym (length-map-not sh ∙ n-sh)) ∙ ap mask_l (starts-is true c ls) in
     let total = sum-mask false st ls (n-st ∙ sym n) in
     let p : 2 ^ length st ≡ 18446744073709551616 = ap (λ k. 2 ^ k) n-st in
     let q : 2 ^ length su ≡ 18446744073709551616 = ap (λ k. 2 ^ k) n-su in
-    let t : bit (carry_out false st ls) * 2 ^ length st ≡ bit (carry_out false st ls) * 18446744073709551616 = ap (λ k. bit (carry_out false st ls) * k) p in
+    let t : bit (carry_out false st ls) * 2 ^ length st ≡ bit (carry_out false st ls) * 18446744073709551616 = ap
+    (λ k. bit (carry_out false st ls) * k) p in
     let lt : mask_l su < 2 ^ length su = mask_l-lt su in
     let both : S + L ≡ bit (carry_out false st ls) * 18446744073709551616 + mask_l su = omega arith in
-    let T-is : T ≡ mask_l su = te ∙ ap (λ w. w % 18446744073709551616) both ∙ mod-mul-add (bit (carry_out false st ls)) 18446744073709551616 (mask_l su) (omega arith) in
+    let T-is : T ≡ mask_l su = te ∙ ap (λ w. w % 18446744073709551616) both
+    ∙ mod-mul-add (bit (carry_out false st ls)) 18446744073709551616 (mask_l su) (omega arith) in
     let n-s2 : length (shifted false su) ≡ 64 = length-shifted false su ∙ n-su in
     let out : carry_out false st ls ≡ escape_out c (x ∷ xs) = machine_out c x xs (ends-even xs long) in
-    let outs : bit (carry_out false st ls) * 18446744073709551616 ≡ bit (escape_out c (x ∷ xs)) * 18446744073709551616 = ap (λ o. bit o * 18446744073709551616) out in
+    let outs : bit (carry_out false st ls) * 18446744073709551616 ≡ bit (escape_out c (x ∷ xs)) * 18446744073709551616 = ap
+    (λ o. bit o * 18446744073709551616) out in
     record {
-      bits = ap₂ bit_and (ap₂ bit_xor (even-is ls n) (ap (λ w. w * 2 % 18446744073709551616) T-is ∙ twice su n-su) ∙ xor-mask (evens true ls) (shifted false su) (n-ev ∙ sym n-s2)) F-is
-          ∙ and-mask (zip2 xor (evens true ls) (shifted false su)) sh (length-zip xor (evens true ls) (shifted false su) (n-ev ∙ sym n-s2) ∙ n-ev ∙ sym n-sh) ∙ ap mask_l (machine c x xs);
+      bits = ap₂ bit_and (ap₂ bit_xor (even-is ls n) (ap (λ w. w * 2 % 18446744073709551616) T-is ∙ twice su n-su)
+          ∙ xor-mask (evens true ls) (shifted false su) (n-ev ∙ sym n-s2)) F-is
+          ∙ and-mask (zip2 xor (evens true ls) (shifted false su)) sh
+          (length-zip xor (evens true ls) (shifted false su) (n-ev ∙ sym n-s2) ∙ n-ev ∙ sym n-sh) ∙ ap mask_l (machine c x xs);
       sum = omega arith;
       small = omega arith;
     }
@@ -166,13 +177,15 @@ found c x xs long b L F S T be le fe se te =
     ends-even : (ys : List Bool) → length ys ≡ 63 → ends false ys ≡ true
     ends-even ys h = ends-is false ys ∙ ap (end false) h
 
-pub found-all : (c : Bool) (ys : List Bool) → length ys ≡ 64 → (b L F S T : ℕ) → b ≡ mask_l ys → L ≡ bit_and b (18446744073709551615 - bool_byte c)
+pub found-all : (c : Bool) (ys : List Bool) → length ys ≡ 64 → (b L F S T : ℕ) → b ≡ mask_l ys
+    → L ≡ bit_and b (18446744073709551615 - bool_byte c)
     → F ≡ bit_or (L * 2 % 18446744073709551616) (bool_byte c) → S ≡ bit_and (bit_and L 12297829382473034410) (18446744073709551615 - F)
     → T ≡ (S + L) % 18446744073709551616 → Found c ys F S L T
 found-all c [] h b L F S T be le fe se te = absurd (omega arith)
 found-all c (x ∷ xs) h b L F S T be le fe se te = found c x xs (omega arith) b L F S T be le fe se te
 
-pub same-flag : (r o : Bool) (A T : ℕ) → FalseIff r (A < 18446744073709551616) → A ≡ T + bit o * 18446744073709551616 → T < 18446744073709551616 → r ≡ o
+pub same-flag : (r o : Bool) (A T : ℕ) → FalseIff r (A < 18446744073709551616) → A ≡ T + bit o * 18446744073709551616
+    → T < 18446744073709551616 → r ≡ o
 same-flag true true A T f e h = refl
 same-flag false false A T f e h = refl
 same-flag true false A T f e h = absurd (f (omega arith))
@@ -195,12 +208,14 @@ unfolding bits_of escaped_in
 escaped-at zero c x i l = absurd (omega arith)
 escaped-at (suc n) c x zero l = refl
 escaped-at (suc n) c x (suc i) l =
-    escaped-at n ((x % 2 == 1) && not c) (x / 2) i (omega arith) ∙ ap (λ t. escaped_in (t && not c) (x / 2) i) (sym (is_set-lowest x)) ∙ sym (escaped_in-half c x i)
+    escaped-at n ((x % 2 == 1) && not c) (x / 2) i (omega arith)
+    ∙ ap (λ t. escaped_in (t && not c) (x / 2) i) (sym (is_set-lowest x)) ∙ sym (escaped_in-half c x i)
 
 escaped-out : (n : ℕ) (c : Bool) (x : ℕ) → escape_out c (bits_of n x) ≡ escaped_in c x n
 unfolding bits_of escaped_in
 escaped-out zero c x = refl
-escaped-out (suc n) c x = escaped-out n ((x % 2 == 1) && not c) (x / 2) ∙ ap (λ t. escaped_in (t && not c) (x / 2) n) (sym (is_set-lowest x)) ∙ sym (escaped_in-half c x n)
+escaped-out (suc n) c x = escaped-out n ((x % 2 == 1) && not c) (x / 2)
+    ∙ ap (λ t. escaped_in (t && not c) (x / 2) n) (sym (is_set-lowest x)) ∙ sym (escaped_in-half c x n)
 
 abbrev even_bits : ℕ
 even_bits = 6148914691236517205
@@ -215,17 +230,24 @@ abbrev starts_of : ℕ → ℕ → ℕ
 starts_of x before = bit_and (bit_and (live_of x before) 12297829382473034410) (18446744073709551615 - follows_of x before)
 
 -- The escaped bytes and what is carried, from the sum of the odd runs' starts and the backslashes.
-pub escaped_words : (c : Bool) (x before sum : ℕ) (over : Bool) → x < 2 ^ 64 → before ≡ bool_byte c → sum ≡ (starts_of x before + live_of x before) % 18446744073709551616
+pub escaped_words : (c : Bool) (x before sum : ℕ) (over : Bool) → x < 2 ^ 64 → before ≡ bool_byte c
+    → sum ≡ (starts_of x before + live_of x before) % 18446744073709551616
     → FalseIff over (starts_of x before + live_of x before < 18446744073709551616)
-    → HasBits (bit_and (bit_xor even_bits (sum * 2 % 18446744073709551616)) (follows_of x before)) (escaped_in c x) × (bool_byte over ≡ bool_byte (escaped_in c x 64))
+    → HasBits (bit_and (bit_xor even_bits (sum * 2 % 18446744073709551616)) (follows_of x before)) (escaped_in c x)
+    × (bool_byte over ≡ bool_byte (escaped_in c x 64))
 escaped_words c x before sum over small is added overflow =
     let ys = bits_of 64 x in
     let long = length-bits 64 x in
-    let f = found-all c ys long x (live_of x before) (follows_of x before) (starts_of x before) sum (sym (bits-mask 64 x small)) (ap (λ n. bit_and x (18446744073709551615 - n)) is)
+    let f = found-all c ys long x (live_of x before) (follows_of x before) (starts_of x before) sum (sym (bits-mask 64 x small))
+    (ap (λ n. bit_and x (18446744073709551615 - n)) is)
     (ap (λ n. bit_or (live_of x before * 2 % 18446744073709551616) n) is) refl added in
-    let fits : mask_l (escaped c ys) < 2 ^ 64 = subst (λ n. mask_l (escaped c ys) < 2 ^ n) (length-escaped c ys ∙ long) (mask_l-lt (escaped c ys)) in
-    let found : HasBits (mask_l (escaped c ys)) (escaped_in c x) = record { small = fits; bits = λ i l. is_set-mask_l (escaped c ys) i ∙ escaped-at 64 c x i l } in
-    (subst (λ w. HasBits w (escaped_in c x)) (sym f.bits) found, ap bool_byte (same-flag _ _ _ _ overflow f.sum f.small ∙ escaped-out 64 c x))
+    let fits : mask_l (escaped c ys) < 2 ^ 64 = subst (λ n. mask_l (escaped c ys) < 2 ^ n) (length-escaped c ys ∙ long)
+    (mask_l-lt (escaped c ys)) in
+    let found : HasBits (mask_l (escaped c ys)) (escaped_in c x)
+    = record { small = fits; bits = λ i l. is_set-mask_l (escaped c ys) i ∙ escaped-at 64 c x i l } in (
+      subst (λ w. HasBits w (escaped_in c x)) (sym f.bits) found,
+      ap bool_byte (same-flag _ _ _ _ overflow f.sum f.small ∙ escaped-out 64 c x),
+    )
 
 -- ---- with no backslash
 
@@ -235,7 +257,10 @@ none_set = is_set-zero
 -- Only what was carried is escaped.
 pub no_escapes : (c : Bool) (before : ℕ) → before ≡ bool_byte c → HasBits before (escaped_in c 0) × (0 ≡ bool_byte (escaped_in c 0 64))
 unfolding escaped_in
-no_escapes c before is = (subst (λ w. HasBits w (escaped_in c 0)) (sym is) (record { small = byte_lt c; bits = bits }), ap (λ t. bool_byte (t && not (escaped_in c 0 63))) (sym (is_set-zero 63)))
+no_escapes c before is = (
+  subst (λ w. HasBits w (escaped_in c 0)) (sym is) (record { small = byte_lt c; bits = bits }),
+  ap (λ t. bool_byte (t && not (escaped_in c 0 63))) (sym (is_set-zero 63)),
+)
   where
     bits : (i : ℕ) → i < 64 → is_set (bool_byte c) i ≡ escaped_in c 0 i
     bits zero l = is_set-byte_zero c

@@ -87,7 +87,8 @@ unfolding is_set
 is_set-shl_high k j x l =
     let e : x * 2 ^ k ≡ x * 2 ^ k + 0 = omega arith in
     let there : k + j - k ≡ j = omega arith in
-    is_set-mod (x * 2 ^ k) (k + j) l ∙ ap (λ n. n == 1) (ap (λ n. bit_at n (k + j)) e ∙ bit_at_cat_high x k 0 (k + j) (pow_pos k) (omega arith) ∙ ap (bit_at x) there)
+    is_set-mod (x * 2 ^ k) (k + j) l ∙ ap (λ n. n == 1) (ap (λ n. bit_at n (k + j)) e
+    ∙ bit_at_cat_high x k 0 (k + j) (pow_pos k) (omega arith) ∙ ap (bit_at x) there)
 
 pub is_set-shl_one : (i x : ℕ) → suc i < 64 → is_set (shl 1 x) (suc i) ≡ is_set x i
 is_set-shl_one i x l = let e : suc i ≡ 1 + i = omega arith in ap (is_set (shl 1 x)) e ∙ is_set-shl_high 1 i x (omega arith)

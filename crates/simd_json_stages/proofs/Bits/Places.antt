@@ -9,7 +9,8 @@ use Rattle.simd_json_stages.proofs.Bits.Operations.{is_set-half, is_set-lowest, 
 
 -- ---- a filter over a range, seen from another place
 
-moved : (p q : ℕ → Bool) (base a n : ℕ) → ((i : ℕ) → a ≤ i → i < a + n → q i ≡ p (base + i)) → map (λ i. base + i) (filter q (range_with_len a n)) ≡ filter p (range_with_len (base + a) n)
+moved : (p q : ℕ → Bool) (base a n : ℕ) → ((i : ℕ) → a ≤ i → i < a + n → q i ≡ p (base + i))
+    → map (λ i. base + i) (filter q (range_with_len a n)) ≡ filter p (range_with_len (base + a) n)
 moved p q base a zero same = refl
 moved p q base a (suc n) same =
     let up : base + (a + 1) ≡ base + a + 1 = omega arith in
@@ -25,9 +26,11 @@ moved p q base a (suc n) same =
     first false false e r = r
 
 -- The places of the bits are the indexes that pass a test, where the bits are its answers.
-pub set_bits-filter : (p : ℕ → Bool) (n base x : ℕ) → ((i : ℕ) → i < n → is_set x i ≡ p (base + i)) → set_bits n base x ≡ filter p (range_with_len base n)
+pub set_bits-filter : (p : ℕ → Bool) (n base x : ℕ) → ((i : ℕ) → i < n → is_set x i ≡ p (base + i))
+    → set_bits n base x ≡ filter p (range_with_len base n)
 unfolding set_bits
-set_bits-filter p n base x same = moved p (is_set x) base 0 n (λ i l m. same i (omega arith)) ∙ ap (λ k. filter p (range_with_len k n)) (add-zero base)
+set_bits-filter p n base x same = moved p (is_set x) base 0 n (λ i l m. same i (omega arith))
+    ∙ ap (λ k. filter p (range_with_len k n)) (add-zero base)
 
 none : (n : ℕ) (a : ℕ) → filter (λ k. false) (range_with_len a n) ≡ []
 none zero a = refl
@@ -38,18 +41,23 @@ set_bits-zero n base = set_bits-filter (λ k. false) n base 0 (λ i l. is_set-ze
 
 -- ---- by halves
 
-pub set_bits-halves : (n base x : ℕ) → set_bits (suc n) base x ≡ (if x % 2 == 1 then base ∷ set_bits n (base + 1) (x / 2) else set_bits n (base + 1) (x / 2))
+pub set_bits-halves : (n base x : ℕ) → set_bits (suc n) base x ≡
+    (if x % 2 == 1 then base ∷ set_bits n (base + 1) (x / 2) else set_bits n (base + 1) (x / 2))
 unfolding set_bits
 set_bits-halves n base x =
-    let rest : map (λ i. base + i) (filter (is_set x) (range_with_len (0 + 1) n)) ≡ map (λ i. base + 1 + i) (filter (is_set (x / 2)) (range_with_len 0 n)) =
+    let rest : map (λ i. base + i) (filter (is_set x) (range_with_len (0 + 1) n)) ≡ map (λ i. base + 1 + i)
+    (filter (is_set (x / 2)) (range_with_len 0 n)) =
     moved (λ j. is_set x (j - base)) (is_set x) base (0 + 1) n (λ i l m. let e : i ≡ base + i - base = omega arith in ap (is_set x) e)
     ∙ ap (λ k. filter (λ j. is_set x (j - base)) (range_with_len k n)) (let e : base + (0 + 1) ≡ base + 1 + 0 = omega arith in e)
-    ∙ sym (moved (λ j. is_set x (j - base)) (is_set (x / 2)) (base + 1) 0 n (λ i l m. let e : suc i ≡ base + 1 + i - base = omega arith in sym (is_set-half x i) ∙ ap (is_set x) e)) in
+    ∙ sym (moved (λ j. is_set x (j - base)) (is_set (x / 2)) (base + 1) 0 n
+    (λ i l m. let e : suc i ≡ base + 1 + i - base = omega arith in sym (is_set-half x i) ∙ ap (is_set x) e)) in
     first (is_set x 0) (x % 2 == 1) (is_set-lowest x) rest
   where
-    first : (s t : Bool) → s ≡ t → map (λ i. base + i) (filter (is_set x) (range_with_len (0 + 1) n)) ≡ map (λ i. base + 1 + i) (filter (is_set (x / 2)) (range_with_len 0 n))
+    first : (s t : Bool) → s ≡ t → map (λ i. base + i) (filter (is_set x) (range_with_len (0 + 1) n)) ≡ map (λ i. base + 1 + i)
+        (filter (is_set (x / 2)) (range_with_len 0 n))
         → map (λ i. base + i) (if s then 0 ∷ filter (is_set x) (range_with_len (0 + 1) n) else filter (is_set x) (range_with_len (0 + 1) n))
-        ≡ (if t then base ∷ map (λ i. base + 1 + i) (filter (is_set (x / 2)) (range_with_len 0 n)) else map (λ i. base + 1 + i) (filter (is_set (x / 2)) (range_with_len 0 n)))
+        ≡ (if t then base ∷ map (λ i. base + 1 + i) (filter (is_set (x / 2)) (range_with_len 0 n)) else map (λ i. base + 1 + i)
+        (filter (is_set (x / 2)) (range_with_len 0 n)))
     first true true e r = ap₂ (λ b l. b ∷ l) (add-zero base) r
     first true false e r = absurd (cc)
     first false true e r = absurd (cc)
@@ -58,10 +66,12 @@ set_bits-halves n base x =
 -- ---- the lowest
 
 odd-first : (n base x : ℕ) → x % 2 ≡ 1 → set_bits (suc n) base x ≡ base ∷ set_bits n (base + 1) (x / 2)
-odd-first n base x odd = set_bits-halves n base x ∙ ap (λ r. if r == 1 then base ∷ set_bits n (base + 1) (x / 2) else set_bits n (base + 1) (x / 2)) odd
+odd-first n base x odd = set_bits-halves n base x ∙ ap (λ r. if r == 1 then base ∷ set_bits n (base + 1) (x / 2) else set_bits n
+    (base + 1) (x / 2)) odd
 
 even-first : (n base x : ℕ) → x % 2 ≡ 0 → set_bits (suc n) base x ≡ set_bits n (base + 1) (x / 2)
-even-first n base x even = set_bits-halves n base x ∙ ap (λ r. if r == 1 then base ∷ set_bits n (base + 1) (x / 2) else set_bits n (base + 1) (x / 2)) even
+even-first n base x even = set_bits-halves n base x ∙ ap (λ r. if r == 1 then base ∷ set_bits n (base + 1) (x / 2) else set_bits n
+    (base + 1) (x / 2)) even
 
 trailing-odd : (n x : ℕ) → x % 2 ≡ 1 → count_trailing_zeros (suc n) x ≡ 0
 unfolding count_trailing_zeros
@@ -85,8 +95,10 @@ first-even n base x some even later =
     let same : bit_and (x / 2) ((x - 1) / 2) ≡ less (x / 2) = ap (bit_and (x / 2)) lower in
     let half : less x / 2 ≡ less (x / 2) = omega arith in
     let still : less x % 2 ≡ 0 = omega arith in
-    let up : base + 1 + count_trailing_zeros n (x / 2) ≡ base + count_trailing_zeros (suc n) x = let t = trailing-even n x even in omega arith in
-    even-first n base x even ∙ later ∙ ap₂ (λ b l. b ∷ l) up (ap (set_bits n (base + 1)) (sym half) ∙ sym (even-first n base (less x) still))
+    let up : base + 1 + count_trailing_zeros n (x / 2) ≡ base + count_trailing_zeros (suc n) x = let t = trailing-even n x even in
+    omega arith in
+    even-first n base x even ∙ later ∙ ap₂ (λ b l. b ∷ l) up (ap (set_bits n (base + 1)) (sym half)
+    ∙ sym (even-first n base (less x) still))
 
 first-odd : (n base x : ℕ) → x % 2 ≡ 1 → IsFirst (suc n) base x
 first-odd n base x odd =
@@ -98,7 +110,8 @@ first-odd n base x odd =
     let here : base ≡ base + count_trailing_zeros (suc n) x = let t = trailing-odd n x odd in omega arith in
     odd-first n base x odd ∙ ap₂ (λ b l. b ∷ l) here (ap (set_bits n (base + 1)) (sym half) ∙ sym (even-first n base (less x) none))
 
-pub set_bits-first : (n base x : ℕ) → 0 < x → x < 2 ^ n → set_bits n base x ≡ (base + count_trailing_zeros n x) ∷ set_bits n base (bit_and x (x - 1))
+pub set_bits-first : (n base x : ℕ) → 0 < x → x < 2 ^ n → set_bits n base x ≡ (base + count_trailing_zeros n x) ∷ set_bits n base
+    (bit_and x (x - 1))
 set_bits-first zero base x some small = absurd (omega arith)
 set_bits-first (suc n) base x some small = elim (cases_lt 0 (x % 2)) [
   | inl odd ↦ first-odd n base x (omega arith)

@@ -46,14 +46,16 @@ doubled x y n h = record {
     | inl below ↦
         let none : i + 1 - n ≡ 0 = omega arith in
         let still : i + 1 - 2 * n ≡ 0 = omega arith in
-        ap (λ t. xor (window x n i) t) (is_set-shl_low n i y below l) ∙ xor-false (window x n i) ∙ ap (λ m. xor (parity x (i + 1)) (parity x m)) (none ∙ sym still)
+        ap (λ t. xor (window x n i) t) (is_set-shl_low n i y below l) ∙ xor-false (window x n i)
+        ∙ ap (λ m. xor (parity x (i + 1)) (parity x m)) (none ∙ sym still)
     | inr above ↦
         let j = i - n in
         let there : i ≡ n + j = omega arith in
         let seam : j + 1 ≡ i + 1 - n = omega arith in
         let end : j + 1 - n ≡ i + 1 - 2 * n = omega arith in
         ap (λ t. xor (window x n i) t)
-        (ap (is_set (shl n y)) there ∙ is_set-shl_high n j y (omega arith) ∙ h.bits j (omega arith) ∙ ap₂ (λ p q. xor (parity x p) (parity x q)) seam end)
+        (ap (is_set (shl n y)) there ∙ is_set-shl_high n j y (omega arith) ∙ h.bits j (omega arith)
+        ∙ ap₂ (λ p q. xor (parity x p) (parity x q)) seam end)
         ∙ chained (parity x (i + 1)) (parity x (i + 1 - n)) (parity x (i + 1 - 2 * n))
   ];
 }
@@ -68,5 +70,6 @@ prefix-bits x small =
     let all = doubled x _ 32 (doubled x _ 16 (doubled x _ 8 (doubled x _ 4 (doubled x _ 2 (doubled x x 1 one))))) in
     record {
       small = all.small;
-      bits = λ i l. let none : i + 1 - 64 ≡ 0 = omega arith in all.bits i l ∙ ap (λ m. xor (parity x (i + 1)) (parity x m)) none ∙ xor-false (parity x (i + 1));
+      bits = λ i l. let none : i + 1 - 64 ≡ 0 = omega arith in all.bits i l ∙ ap (λ m. xor (parity x (i + 1)) (parity x m)) none
+          ∙ xor-false (parity x (i + 1));
     }

@@ -25,7 +25,8 @@ abbrev pub bit : Bool → ℕ
 bit b = cond b 1 0
 
 -- an operation bit by bit
-zip_at : (f : Bool → Bool → Bool) → f false false ≡ false → (xs ys : List Bool) (i : ℕ) → length xs ≡ length ys → get_or (zip2 f xs ys) i false ≡ f (get_or xs i false) (get_or ys i false)
+zip_at : (f : Bool → Bool → Bool) → f false false ≡ false → (xs ys : List Bool) (i : ℕ) → length xs ≡ length ys
+    → get_or (zip2 f xs ys) i false ≡ f (get_or xs i false) (get_or ys i false)
 zip_at f e [] [] i h = sym e
 zip_at f e [] (y ∷ ys) i h = absurd (omega arith)
 zip_at f e (x ∷ xs) [] i h = absurd (omega arith)
@@ -45,7 +46,8 @@ and-mask xs ys h = same_from_bits _ _ (λ i.
 
 pub xor-mask : (xs ys : List Bool) → length xs ≡ length ys → bit_xor (mask_l xs) (mask_l ys) ≡ mask_l (zip2 xor xs ys)
 xor-mask xs ys h = same_from_bits _ _ (λ i.
-    bit_at_xor (mask_l xs) (mask_l ys) i ∙ ap₂ (λ x y. (x + y) % 2) (bit_mask_l xs i) (bit_mask_l ys i) ∙ both (get_or xs i false) (get_or ys i false)
+    bit_at_xor (mask_l xs) (mask_l ys) i ∙ ap₂ (λ x y. (x + y) % 2) (bit_mask_l xs i) (bit_mask_l ys i)
+    ∙ both (get_or xs i false) (get_or ys i false)
     ∙ ap bit (sym (zip_at xor refl xs ys i h)) ∙ sym (bit_mask_l (zip2 xor xs ys) i))
   where
     both : (a b : Bool) → (bit a + bit b) % 2 ≡ bit (xor a b)
@@ -108,7 +110,8 @@ full false true false = refl
 full false false true = refl
 full false false false = refl
 
-pub sum-mask : (c : Bool) (xs ys : List Bool) → length xs ≡ length ys → bit c + mask_l xs + mask_l ys ≡ mask_l (sums c xs ys) + bit (carry_out c xs ys) * 2 ^ length xs
+pub sum-mask : (c : Bool) (xs ys : List Bool) → length xs ≡ length ys
+    → bit c + mask_l xs + mask_l ys ≡ mask_l (sums c xs ys) + bit (carry_out c xs ys) * 2 ^ length xs
 sum-mask c [] [] h = grind arith
 sum-mask c [] (y ∷ ys) h = absurd (omega arith)
 sum-mask c (x ∷ xs) [] h = absurd (omega arith)
@@ -140,7 +143,8 @@ unfolding bits_of
 length-bits zero x = refl
 length-bits (suc n) x = ap suc (length-bits n (x / 2))
 
--- ---- the escapes as a machine: e says whether the place is even, p whether a live backslash stands before it, k is the sum's carry, s the sum's bit before it
+-- ---- the escapes as a machine: e says whether the place is even, p whether a live backslash stands before it, k is the sum's
+-- carry, s the sum's bit before it
 
 abbrev pub evens : Bool → List Bool → List Bool
 evens e [] = []
@@ -221,7 +225,8 @@ machine true false xs = ap (λ l. true ∷ l) (none_runs false false xs)
 machine false true xs = ap (λ l. false ∷ l) (even_runs false xs)
 machine false false xs = ap (λ l. false ∷ l) (none_runs false false xs)
 
-pub machine_out : (c x : Bool) (xs : List Bool) → ends false xs ≡ true → carry_out false (starts true c ((x && not c) ∷ xs)) ((x && not c) ∷ xs) ≡ escape_out c (x ∷ xs)
+pub machine_out : (c x : Bool) (xs : List Bool) → ends false xs ≡ true
+    → carry_out false (starts true c ((x && not c) ∷ xs)) ((x && not c) ∷ xs) ≡ escape_out c (x ∷ xs)
 machine_out true true xs h = none_out false xs h
 machine_out true false xs h = none_out false xs h
 machine_out false true xs h = even_out false xs h

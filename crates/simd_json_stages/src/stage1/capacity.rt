@@ -1,5 +1,5 @@
 // Capacity in the lists of a scan. They grow by what is found, and are filled a step ahead of it.
-ghost use Rattle.std.specs.Prelude.{◌≡◌, ◌≤◌, ◌<◌, ◌+◌, ◌++◌, [], ◌∷◌, length, take, IfErr, OnOk};
+ghost use Rattle.std.specs.Prelude.{◌≡◌, ◌≤◌, ◌<◌, length, take, IfErr, OnOk};
 ghost use Rattle.simd_json_parts.specs.Faults.{whole_fault};
 ghost use Rattle.simd_json_parts.specs.declared.error.ErrorType.{ErrorType};
 
@@ -36,25 +36,5 @@ pub(super) fn grow<A: Allocator>(
     }
     let len = need.saturating_add(STEP).min(list.capacity()).min(max_len);
     list.resize(len, 0)?;
-    Ok(())
-}
-
-// Stores a number after the first `count`, in a list that may need to grow for it, to `max_len` at most.
-pub(super) fn put<A: Allocator>(
-    list: &mut Vec<u32, A>,
-    count: usize,
-    number: u32,
-    max_len: usize,
-) -> Result<()>
-    requires filled { count ≤ length list.old.items }
-    requires within { count < max_len }
-    ensures stored { OnOk result ((count < length list.new.items)
-        × (take (count + 1) list.new.items ≡ take count list.old.items ++ number ∷ [])) }
-    ensures fault { IfErr result (λ e. (e ≡ whole_fault ErrorType.OutOfMemory)
-        × (length list.old.items < max_len)) }
-    ensures longer { length list.old.items ≤ length list.new.items }
-{
-    grow(list, count + 1, 16, max_len)?;
-    list[count] = number;
     Ok(())
 }

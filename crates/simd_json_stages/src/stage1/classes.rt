@@ -1,5 +1,5 @@
 // Three words that tell the classes of 64 bytes apart.
-ghost use Rattle.std.specs.Prelude.{◌≡◌, ◌==◌, ◌<◌, ◌++◌, ℕ, map, slice_index};
+ghost use Rattle.std.specs.Prelude.{◌≡◌, ◌==◌, ◌<◌, ℕ, map, slice_index};
 ghost use Rattle.std.specs.List.{list_any};
 ghost use Rattle.std.specs.Simd.Lanes.{mask_l};
 ghost use Rattle.simd_json_parts.specs.Bytes.{backslash, is_control};
@@ -49,35 +49,6 @@ fn hard(v: u8x32) -> u64
 }
 
 #[inline(always)]
-fn control(v: u8x32) -> u64
-    ensures { result ≡ mask_l (map is_control v) }
-{
-    v.simd_lt(u8x32::splat(0x20)).to_bitmask()
-}
-
-#[inline(always)]
-fn backslash(v: u8x32) -> u64
-    ensures { result ≡ mask_l (map (λ x. x == backslash) v) }
-{
-    v.simd_eq(u8x32::splat(b'\\')).to_bitmask()
-}
-
-#[inline(always)]
-fn any_backslash(low: u8x32, high: u8x32) -> bool
-    ensures { result ≡ list_any (λ x. x == backslash) (low ++ high) }
-{
-    (low.simd_eq(u8x32::splat(b'\\')) | high.simd_eq(u8x32::splat(b'\\'))).to_bitmask() != 0
-}
-
-// Not 0 where a byte is no ASCII.
-#[inline(always)]
-fn high_bits(low: u8x32, high: u8x32) -> u64
-    ensures { result ≡ 0 → (i : ℕ) → i < 32 → (slice_index low i < 128) × (slice_index high i < 128) }
-{
-    (low | high).simd_ge(u8x32::splat(0x80)).to_bitmask()
-}
-
-#[inline(always)]
 pub(super) fn classes(bytes: &[u8; 64]) -> ClassWords
     ensures soft { HasBits result.soft (λ i. is_soft (slice_index bytes.now i)) }
     ensures hard { HasBits result.hard (λ i. is_hard (slice_index bytes.now i)) }
@@ -87,12 +58,14 @@ pub(super) fn classes(bytes: &[u8; 64]) -> ClassWords
 {
     let low = u8x32::from_slice(&bytes[..32]);
     let high = u8x32::from_slice(&bytes[32..]);
+    let space = u8x32::splat(0x20);
+    let backslash = u8x32::splat(b'\\');
     ClassWords {
         soft: soft(low) | (soft(high) << 32),
         hard: hard(low) | (hard(high) << 32),
-        control: control(low) | (control(high) << 32),
-        high: high_bits(low, high),
-        has_backslash: any_backslash(low, high),
+        control: low.simd_lt(space).to_bitmask() | (high.simd_lt(space).to_bitmask() << 32),
+        high: (low | high).simd_ge(u8x32::splat(0x80)).to_bitmask(),
+        has_backslash: (low.simd_eq(backslash) | high.simd_eq(backslash)).to_bitmask() != 0,
     }
 }
 
@@ -102,5 +75,6 @@ pub(super) fn backslashes(bytes: &[u8; 64]) -> u64
 {
     let low = u8x32::from_slice(&bytes[..32]);
     let high = u8x32::from_slice(&bytes[32..]);
-    backslash(low) | (backslash(high) << 32)
+    let backslash = u8x32::splat(b'\\');
+    low.simd_eq(backslash).to_bitmask() | (high.simd_eq(backslash).to_bitmask() << 32)
 }

@@ -1,6 +1,6 @@
 // A scan of a whole input: its whole blocks in windows, and then what is left.
-ghost use Rattle.std.specs.Prelude.{◌≡◌, ◌-◌, ◌*◌, ◌/◌, ◌<◌, ◌≤◌, ◌⊎◌, ◌++◌};
-ghost use Rattle.std.specs.Prelude.{length, take, drop, replicate, IfOk, IfErr, IsUtf8};
+ghost use Rattle.std.specs.Prelude.{◌≡◌, ◌*◌, ◌/◌, ◌<◌, ◌≤◌, ◌⊎◌, length, take, drop};
+ghost use Rattle.std.specs.Prelude.{IfOk, IfErr, IsUtf8};
 ghost use Rattle.std.specs.Simd.{first_chunks};
 ghost use Rattle.simd_json_parts.specs.Limits.{max_length};
 ghost use Rattle.simd_json_stages.specs.Blocks.{IsScanned};
@@ -9,7 +9,7 @@ ghost use Rattle.simd_json_stages.specs.Scans.{IsBadEncoding, IsFound, LacksMemo
 mod groups;
 mod windows;
 
-use super::capacity::{grow, put};
+use super::capacity::grow;
 use super::encoding::check_window;
 use super::words::{Carry, classify, find_marks, find_parts};
 use super::writing::write_exactly;
@@ -39,7 +39,7 @@ struct Placing {
 
 // What is known after some whole blocks.
 #[derive(Clone, Copy, Drop)]
-struct Scanned {
+pub(super) struct Scanned {
     classifying: Classifying,
     placing: Placing,
 }
@@ -61,7 +61,7 @@ const START: Scanned = Scanned {
 };
 
 // The whole blocks, and how far the input is known to be UTF-8 after them.
-fn scan_blocks<A: Allocator>(
+pub(super) fn scan_blocks<A: Allocator>(
     input: &[u8],
     blocks: &[[u8; 64]],
     structural_indexes: &mut Vec<u32, A>,
@@ -106,18 +106,9 @@ fn scan_blocks<A: Allocator>(
     Ok((done, checked))
 }
 
-// The bytes after the last whole block, and spaces.
-fn last_block(rest: &[u8]) -> [u8; 64]
-    requires { length rest.now < 64 }
-    ensures { result ≡ rest.now ++ replicate (64 - length rest.now) 32 }
-{
-    let mut block = [b' '; 64];
-    block[..rest.len()].copy_from_slice(rest);
-    block
-}
-
-// What is after the whole blocks.
-fn scan_rest<A: Allocator>(
+// What is after the whole blocks, as a block that spaces fill up. Answers whether some string is bad, and how
+// many positions and blocks with a backslash there are.
+pub(super) fn scan_rest<A: Allocator>(
     input: &[u8],
     rest: &[u8],
     done: Scanned,
@@ -139,7 +130,9 @@ fn scan_rest<A: Allocator>(
         × (length escape_blocks.old.items ≤ length escape_blocks.new.items) }
 {
     let number = input.len() / BLOCK_LEN;
-    let classified = classify(&last_block(rest), done.classifying.escaped);
+    let mut block = [b' '; 64];
+    block[..rest.len()].copy_from_slice(rest);
+    let classified = classify(&block, done.classifying.escaped);
     let is_ascii = classified.high == 0;
     check_window(input, checked, BLOCK_LEN * number, input.len(), is_ascii)?;
     let parts = find_parts(
@@ -157,7 +150,8 @@ fn scan_rest<A: Allocator>(
     let mut listed = done.classifying.listed;
     if classified.has_backslash {
         let max_blocks = input.len().div_ceil(BLOCK_LEN);
-        put(escape_blocks, listed, number as u32, max_blocks)?;
+        grow(escape_blocks, listed + 1, 16, max_blocks)?;
+        escape_blocks[listed] = number as u32;
         listed += 1;
     }
     let is_open = marks.carry.inside != 0;
@@ -167,31 +161,4 @@ fn scan_rest<A: Allocator>(
         escape_blocks: listed,
     };
     Ok((is_open | has_control, found))
-}
-
-// Writes the positions of the input to the front of one list, and the blocks with a backslash to the front of
-// the other. Answers whether some string is bad, and how many of each there are.
-pub(super) fn scan<A: Allocator>(
-    input: &[u8],
-    structural_indexes: &mut Vec<u32, A>,
-    escape_blocks: &mut Vec<u32, A>,
-) -> Result<(bool, Found)>
-    requires { length input.now ≤ max_length }
-    ensures found { IfOk result (λ r. IsFound input.now r.0 r.1
-        structural_indexes.new.items escape_blocks.new.items) }
-    ensures fault { IfErr result (λ e. IsBadEncoding input.now e
-        ⊎ LacksMemory input.now e structural_indexes.old.items escape_blocks.old.items) }
-    ensures longer { (length structural_indexes.old.items ≤ length structural_indexes.new.items)
-        × (length escape_blocks.old.items ≤ length escape_blocks.new.items) }
-{
-    let (blocks, rest) = input.as_chunks::<64>();
-    let (done, checked) = scan_blocks(input, blocks, structural_indexes, escape_blocks)?;
-    scan_rest(
-        input,
-        rest,
-        done,
-        checked,
-        structural_indexes,
-        escape_blocks,
-    )
 }

@@ -1,17 +1,78 @@
 //! The machine: a loop for the elements of an array, one for the members of an object, and one round both.
-ghost use Rattle.std.specs.Prelude.{◌≡◌, ◌<◌, ◌≤◌, ◌+◌, ◌*◌, ℕ, List, length, None, IfOk, IfErr, IsTrue};
+ghost use Rattle.std.specs.Prelude.{◌≡◌, ◌≢◌, ◌⊎◌, ◌<◌, ◌≤◌, ◌+◌, ◌-◌, ◌*◌, ◌^◌, ℕ, List, length, get_or, slice_index};
+ghost use Rattle.std.specs.Prelude.{None, IfOk, IfErr, OnOk, IsTrue, MatchResult};
+ghost use Rattle.simd_json_parts.specs.Bytes.{quote, byte_at};
+ghost use Rattle.simd_json_parts.specs.Faults.{fault_with};
 ghost use Rattle.simd_json_parts.specs.InputFaults.{input_fault};
-ghost use Rattle.simd_json_stages.specs.Building.{IsBuilt, Tells};
-ghost use Rattle.simd_json_stages.specs.Progresses.{EndsClosed, reached};
-ghost use Rattle.simd_json_stages.specs.Members.{AtFirst, AtElement, AtPair, HasCome};
+ghost use Rattle.simd_json_parts.specs.StringAt.{escape_fault};
+ghost use Rattle.simd_json_stages.specs.Building.{IsBuilt, Opens, Takes, Tells};
+ghost use Rattle.simd_json_stages.specs.Building.{closer, end_kind, patch, top};
+ghost use Rattle.simd_json_stages.specs.Members.{AfterMember, AtElement, AtFirst, AtPair, HasCome};
+ghost use Rattle.simd_json_stages.specs.Members.{AtString, HasCapacity, IsAtMember, IsFrom};
+ghost use Rattle.simd_json_stages.specs.Progresses.{Advances, IsNext, IsOnRoute, IsRead};
+ghost use Rattle.simd_json_stages.specs.Progresses.{IsTurned, IsWithin, Turns, reached};
+ghost use Rattle.simd_json_stages.specs.Put.{IsBadString, IsStringPut};
+ghost use Rattle.simd_json_stages.specs.Refusals.{error_type};
+ghost use Rattle.simd_json_stages.specs.Texts.{Reads};
 
 use super::fault::{Fault, FaultKind};
-use super::{Container, Follower, Progress, Route, StackState, Text, Turn, Value};
+use super::progress::Progress;
+use super::scalar::put_scalar;
+use super::text::Text;
+use super::{Container, StackState};
 use simd_json_parts::node::Node;
+use simd_json_parts::stringparse::BadEscape;
+use std::result::Result;
+
+// What stays as it is on the way through the tokens: their positions, whether the last of them holds a closing
+// bracket, and how many containers may be open.
+#[derive(Clone, Copy, Drop)]
+pub(crate) struct Route<'m> {
+    pub(crate) indexes: &'m [u32],
+    pub(crate) ends_closed: bool,
+    pub(crate) max_depth: usize,
+}
+
+impl Route<'_> {
+    // The position of this number, or the end of the input.
+    #[inline(always)]
+    fn position_or_end(self, number: usize, end: usize) -> usize
+        requires { IsTrue self.ends_closed → number < length self.indexes.now }
+        ensures { result ≡ get_or self.entry.indexes.now number end }
+    {
+        if self.ends_closed || number < self.indexes.len() {
+            self.indexes[number] as usize
+        } else {
+            end
+        }
+    }
+}
+
+// After a value's first token: inside a new container, before its first member, or past a complete value.
+#[derive(Clone, Copy, Debug, Drop)]
+enum Value {
+    Opened(Progress),
+    Read(Progress),
+}
+
+// What follows a member: another one, or the end of its container.
+#[derive(Clone, Copy, Debug, Drop)]
+enum Turn {
+    Next(Progress),
+    Closed(Progress),
+}
+
+// What the machine goes on with: a member of the innermost container, where in an object a fault of this kind is
+// reported if it has no key. At the end of the root nothing, with as many nodes.
+#[derive(Clone, Copy, Debug, Drop)]
+enum Member {
+    Next(Progress, FaultKind),
+    End(usize),
+}
 
 // What the machine changes: what is left of the text, and what is kept of open containers. The nodes are lent
-// beside it, since whoever lends a list of values that share the input does not learn, through a struct, what
-// becomes of it. Whatever takes the machine is inlined, so that its fields stay in registers.
+// beside it, since the prover can't follow, through a struct, a list of values that share the input. Whatever
+// takes the machine is inlined, so that its fields stay in registers.
 #[derive(Drop)]
 pub(crate) struct Machine<'m, 'de> {
     pub(crate) text: Text<'m, 'de>,
@@ -19,32 +80,272 @@ pub(crate) struct Machine<'m, 'de> {
 }
 
 impl<'de> Machine<'_, 'de> {
+    // The token after the last one. Where none is left, the fault is at the last one.
+    #[inline(always)]
+    fn next_token(&self, route: Route, p: Progress) -> Result<Progress, Fault>
+        ghost b: { List ℕ }
+        requires route { IsOnRoute route.ends_closed b route.indexes.now }
+        requires read { IsRead b route.indexes.now p }
+        requires text { p.read < length route.indexes.now
+            → Reads b self.now.text (slice_index route.indexes.now p.read) }
+        ensures next { IfOk result (IsNext b route.entry.indexes.now p) }
+        ensures none { IfErr result (λ f. (p.read ≡ length route.entry.indexes.now)
+            × (f ≡ record { kind = FaultKind.Syntax; index = p.at; byte = byte_at b p.at })) }
+    {
+        if p.is_last(route.indexes, route.ends_closed) {
+            return Err(p.fault(FaultKind::Syntax));
+        }
+        let at = route.indexes[p.read] as usize;
+        Ok(Progress {
+            read: p.read + 1,
+            at,
+            byte: self.text.byte(at),
+            ..p
+        })
+    }
+
+    // The string at the last token becomes the next node. Only whitespace stands between its closing quote and
+    // the next position.
+    #[inline(always)]
+    fn put_string(
+        &mut self,
+        route: Route,
+        nodes: &mut [Node<'de>],
+        p: Progress,
+    ) -> Result<(), Fault>
+        ghost b: { List ℕ }
+        requires route { IsOnRoute route.ends_closed b route.indexes.now }
+        requires string { AtString b route.indexes.now (Reads b self.old.text) nodes.old p }
+        ensures kept { length nodes.new ≡ length nodes.old }
+        ensures stack { self.new.stack ≡ self.old.stack }
+        ensures put { OnOk result
+            (IsStringPut b p.at p.used nodes.old nodes.new (Reads b self.new.text)) }
+        ensures refused { IfErr result (IsBadString b p.at) }
+    {
+        let next = route.position_or_end(p.read, self.text.end());
+        let may_have_escape = self.text.may_have_escape(p.at, next);
+        if !may_have_escape {
+            nodes[p.used] = Node::String(self.text.share_string(p.at, next));
+            return Ok(());
+        }
+        match self.text.parse_string(p.at) {
+            Ok(string) => nodes[p.used] = Node::String(string),
+            Err(bad) => return Err(bad_escape(p.at, bad)),
+        }
+        Ok(())
+    }
+
+    // The key at the last token, and its colon, and on to the first token of the member's value. Where no key
+    // stands, the fault is of this kind.
+    #[inline(always)]
+    fn read_key(
+        &mut self,
+        route: Route,
+        nodes: &mut [Node<'de>],
+        p: Progress,
+        kind: FaultKind,
+    ) -> Result<Progress, Fault>
+        ghost b: { List ℕ }
+        requires route { IsOnRoute route.ends_closed b route.indexes.now }
+        requires pair { AtPair b route.indexes.now route.max_depth (Reads b self.old.text)
+            self.old.stack.now nodes.old p kind }
+        ensures kept { length nodes.new ≡ length nodes.old }
+        ensures stack { self.new.stack ≡ self.old.stack }
+        ensures value { IfOk result (AtFirst b route.entry.indexes.now route.entry.max_depth
+            (Reads b self.new.text) self.new.stack.now nodes.new) }
+        ensures advances { IfOk result (λ q. (p.read < q.read) × (p.at ≤ q.at)
+            × (q.depth ≡ p.depth) × (q.container ≡ p.container)) }
+        ensures refused { IfErr result (Tells b route.entry.indexes.now route.entry.max_depth) }
+    {
+        if p.byte != b'"' {
+            return Err(p.fault(kind));
+        }
+        self.put_string(route, nodes, p)?;
+        let colon = self.next_token(route, p)?;
+        if colon.byte != b':' {
+            return Err(colon.fault(FaultKind::ExpectedObjectColon));
+        }
+        let value = self.next_token(route, colon)?;
+        Ok(Progress {
+            used: p.used + 1,
+            ..value
+        })
+    }
+
+    // The container that opens at the last token: the token after it tells whether it is empty.
+    #[inline(always)]
+    #[tactic(auto, unfolding(crate::specs::NodesEnough::nodes_enough))]
+    fn open(
+        &mut self,
+        route: Route,
+        nodes: &mut [Node<'de>],
+        p: Progress,
+        container: Container,
+    ) -> Result<Value, Fault>
+        ghost b: { List ℕ }
+        requires route { IsOnRoute route.ends_closed b route.indexes.now }
+        requires value { AtFirst b route.indexes.now route.max_depth (Reads b self.old.text)
+            self.old.stack.now nodes.old p }
+        requires opener { p.byte + 2 ≡ closer container }
+        ensures kept { (length nodes.new ≡ length nodes.old)
+            × (length self.new.stack.now ≡ length self.old.stack.now) }
+        ensures text { self.new.text ≡ self.old.text }
+        ensures progress { IfOk result (IsWithin b route.entry.indexes.now (Reads b self.new.text)) }
+        ensures advances { IfOk result (Advances route.entry.max_depth p) }
+        ensures step { IfOk result
+            (Opens b route.entry.indexes.now route.entry.max_depth self.new.stack.now nodes.new) }
+        ensures refused { IfErr result (Tells b route.entry.indexes.now route.entry.max_depth) }
+    {
+        if p.depth == route.max_depth {
+            return Err(p.fault(FaultKind::DepthLimitExceeded));
+        }
+        let q = self.next_token(route, p)?;
+        if q.byte == container.closer() {
+            nodes[p.used] = container.header(0, 0);
+            return Ok(Value::Read(q.with_value()));
+        }
+        self.stack[p.depth] = StackState {
+            header: p.used,
+            outer: p.container,
+            len: p.len,
+        };
+        Ok(Value::Opened(Progress {
+            used: p.used + 1,
+            depth: p.depth + 1,
+            container,
+            len: 0,
+            ..q
+        }))
+    }
+
+    // The value whose first token is the last one.
+    #[inline(always)]
+    fn read_value(
+        &mut self,
+        route: Route,
+        nodes: &mut [Node<'de>],
+        p: Progress,
+    ) -> Result<Value, Fault>
+        ghost b: { List ℕ }
+        requires route { IsOnRoute route.ends_closed b route.indexes.now }
+        requires value { AtFirst b route.indexes.now route.max_depth (Reads b self.old.text)
+            self.old.stack.now nodes.old p }
+        ensures kept { (length nodes.new ≡ length nodes.old)
+            × (length self.new.stack.now ≡ length self.old.stack.now) }
+        ensures progress { IfOk result (IsWithin b route.entry.indexes.now (Reads b self.new.text)) }
+        ensures advances { IfOk result (Advances route.entry.max_depth p) }
+        ensures step { IfOk result
+            (Opens b route.entry.indexes.now route.entry.max_depth self.new.stack.now nodes.new) }
+        ensures refused { IfErr result (Tells b route.entry.indexes.now route.entry.max_depth) }
+    {
+        if p.byte == b'{' {
+            return self.open(route, nodes, p, Container::Object);
+        }
+        if p.byte == b'[' {
+            return self.open(route, nodes, p, Container::Array);
+        }
+        if p.byte == b'"' {
+            self.put_string(route, nodes, p)?;
+        } else {
+            put_scalar(&mut self.text, nodes, p)?;
+        }
+        Ok(Value::Read(p.with_value()))
+    }
+
+    // After a member of a container of this kind: a comma and the first token of the next member, or the
+    // closing bracket.
+    #[inline(always)]
+    #[tactic(auto, unfolding(crate::specs::NodesEnough::nodes_enough))]
+    fn after_member(
+        &self,
+        route: Route,
+        nodes: &mut [Node<'de>],
+        p: Progress,
+        container: Container,
+    ) -> Result<Turn, Fault>
+        ghost b: { List ℕ }
+        requires route { IsOnRoute route.ends_closed b route.indexes.now }
+        requires member { AfterMember b route.indexes.now route.max_depth (Reads b self.now.text)
+            self.now.stack.now nodes.old p container }
+        ensures kept { length nodes.new ≡ length nodes.old }
+        ensures progress { IfOk result (IsTurned b route.entry.indexes.now (Reads b self.now.text)) }
+        ensures advances { IfOk result (Turns p) }
+        ensures step { IfOk result
+            (Takes b route.entry.indexes.now route.entry.max_depth self.now.stack.now nodes.new) }
+        ensures refused { IfErr result (Tells b route.entry.indexes.now route.entry.max_depth) }
+    {
+        let q = self.next_token(route, p)?;
+        if q.byte == b',' {
+            return Ok(Turn::Next(self.next_token(route, q)?));
+        }
+        if q.byte != container.closer() {
+            return Err(q.fault(container.content_kind()));
+        }
+        Ok(Turn::Closed(close(self.stack, nodes, q, container)))
+    }
+
+    // After a value closing brackets and a comma, or the end of the root; in a new container nothing.
+    #[inline(always)]
+    #[tactic(auto, unfolding(crate::specs::NodesEnough::nodes_enough))]
+    fn next_member(
+        &self,
+        route: Route,
+        nodes: &mut [Node<'de>],
+        value: Value,
+    ) -> Result<Member, Fault>
+        ghost b: { List ℕ }
+        requires route { IsOnRoute route.ends_closed b route.indexes.now }
+        requires value { HasCome b route.indexes.now route.max_depth (Reads b self.now.text)
+            self.now.stack.now nodes.old value }
+        ensures kept { length nodes.new ≡ length nodes.old }
+        ensures member { IfOk result (IsAtMember b route.entry.indexes.now route.entry.max_depth
+            (Reads b self.now.text) self.now.stack.now nodes.new) }
+        ensures further { IfOk result (IsFrom (reached value).read) }
+        ensures refused { IfErr result (Tells b route.entry.indexes.now route.entry.max_depth) }
+    {
+        let mut p = match value {
+            Value::Opened(p) => return Ok(Member::Next(p, FaultKind::ExpectedObjectContent)),
+            Value::Read(p) => p,
+        };
+        while p.depth > 0 {
+            match self.after_member(route, nodes, p, p.container)? {
+                Turn::Next(next) => {
+                    return Ok(Member::Next(next, FaultKind::ExpectedObjectKey));
+                }
+                Turn::Closed(closed) => p = closed,
+            }
+        }
+        end(route.indexes, nodes[0], p)
+    }
+
+    // The loops have a copy for each caller of `build`, since what has one caller alone is inlined.
+
     // The elements of an array, from the first token of one on, up to a container that opens in it or to its
     // end.
     #[inline(always)]
-    fn elements<const CLOSED: bool>(
+    fn elements<const COPY: usize>(
         &mut self,
         route: Route,
         nodes: &mut [Node<'de>],
         first: Progress,
-    ) -> std::result::Result<Value, Fault>
+    ) -> Result<Value, Fault>
         ghost b: { List ℕ }
-        requires whole { input_fault b ≡ None }
-        requires element { AtElement b route.indexes.now route.max_depth self.old nodes.old first }
-        requires closed { IsTrue CLOSED → EndsClosed b route.indexes.now }
+        requires route { IsOnRoute route.ends_closed b route.indexes.now }
+        requires element { AtElement b route.indexes.now route.max_depth (Reads b self.old.text)
+            self.old.stack.now nodes.old first }
         ensures kept { (length nodes.new ≡ length nodes.old)
             × (length self.new.stack.now ≡ length self.old.stack.now) }
-        ensures came { IfOk result
-            (HasCome b route.entry.indexes.now route.entry.max_depth self.new nodes.new) }
+        ensures came { IfOk result (HasCome b route.entry.indexes.now route.entry.max_depth
+            (Reads b self.new.text) self.new.stack.now nodes.new) }
         ensures further { IfOk result (λ value. first.read < (reached value).read) }
         ensures refused { IfErr result (Tells b route.entry.indexes.now route.entry.max_depth) }
     {
         let mut p = first;
         'values: loop {
-            match self.read_value(route, nodes, p, CLOSED)? {
+            match self.read_value(route, nodes, p)? {
                 Value::Opened(opened) => return Ok(Value::Opened(opened)),
                 Value::Read(read) => {
-                    match self.after_member(route, nodes, read, Container::Array, CLOSED)? {
+                    match self.after_member(route, nodes, read, Container::Array)? {
                         Turn::Next(next) => p = next,
                         Turn::Closed(closed) => return Ok(Value::Read(closed)),
                     }
@@ -53,34 +354,34 @@ impl<'de> Machine<'_, 'de> {
         }
     }
 
-    // The members of an object, likewise. Where the first has no name, the fault is of this kind.
+    // The members of an object, likewise. Where the first has no key, the fault is of this kind.
     #[inline(always)]
-    fn members<const CLOSED: bool>(
+    fn members<const COPY: usize>(
         &mut self,
         route: Route,
         nodes: &mut [Node<'de>],
         first: Progress,
         kind: FaultKind,
-    ) -> std::result::Result<Value, Fault>
+    ) -> Result<Value, Fault>
         ghost b: { List ℕ }
-        requires whole { input_fault b ≡ None }
-        requires pair { AtPair b route.indexes.now route.max_depth self.old nodes.old first kind }
-        requires closed { IsTrue CLOSED → EndsClosed b route.indexes.now }
+        requires route { IsOnRoute route.ends_closed b route.indexes.now }
+        requires pair { AtPair b route.indexes.now route.max_depth (Reads b self.old.text)
+            self.old.stack.now nodes.old first kind }
         ensures kept { (length nodes.new ≡ length nodes.old)
             × (length self.new.stack.now ≡ length self.old.stack.now) }
-        ensures came { IfOk result
-            (HasCome b route.entry.indexes.now route.entry.max_depth self.new nodes.new) }
+        ensures came { IfOk result (HasCome b route.entry.indexes.now route.entry.max_depth
+            (Reads b self.new.text) self.new.stack.now nodes.new) }
         ensures further { IfOk result (λ value. first.read < (reached value).read) }
         ensures refused { IfErr result (Tells b route.entry.indexes.now route.entry.max_depth) }
     {
         let mut p = first;
         let mut kind = kind;
         'pairs: loop {
-            let value = self.text.read_name(route.indexes, nodes, p, kind, CLOSED)?;
-            match self.read_value(route, nodes, value, CLOSED)? {
+            let value = self.read_key(route, nodes, p, kind)?;
+            match self.read_value(route, nodes, value)? {
                 Value::Opened(opened) => return Ok(Value::Opened(opened)),
                 Value::Read(read) => {
-                    match self.after_member(route, nodes, read, Container::Object, CLOSED)? {
+                    match self.after_member(route, nodes, read, Container::Object)? {
                         Turn::Next(next) => p = next,
                         Turn::Closed(closed) => return Ok(Value::Read(closed)),
                     }
@@ -90,61 +391,107 @@ impl<'de> Machine<'_, 'de> {
         }
     }
 
-    // The tape of the tokens at the positions, from the first value on. There is a copy of the machine for
-    // each answer to whether the last position is known to close, so that the loops do not ask.
+    // The tape of the tokens at the positions, from the first value on.
     #[inline(always)]
-    fn build<const CLOSED: bool>(
+    pub(super) fn build<const COPY: usize>(
         &mut self,
         route: Route,
         nodes: &mut [Node<'de>],
-        first: Progress,
-    ) -> std::result::Result<usize, Fault>
+    ) -> Result<usize, Fault>
         ghost b: { List ℕ }
-        requires closed { IsTrue CLOSED → EndsClosed b route.indexes.now }
-        requires whole { input_fault b ≡ None }
-        requires value { AtFirst b route.indexes.now route.max_depth self.old nodes.old first }
+        requires route { IsOnRoute route.ends_closed b route.indexes.now }
+        requires capacity { HasCapacity route.indexes.now route.max_depth self.old.stack.now nodes.old }
+        requires text { Reads b self.old.text 0 }
         ensures kept { length nodes.new ≡ length nodes.old }
         ensures used { IfOk result (λ used. 2 * used ≤ length route.entry.indexes.now + 1) }
         ensures built { IfOk result (IsBuilt b route.entry.indexes.now route.entry.max_depth nodes.new) }
         ensures refused { IfErr result (Tells b route.entry.indexes.now route.entry.max_depth) }
     {
-        let mut value = self.read_value(route, nodes, first, CLOSED)?;
+        let at = route.indexes[0] as usize;
+        let first = Progress {
+            at,
+            byte: self.text.byte(at),
+            container: Container::Array,
+            read: 1,
+            used: 0,
+            depth: 0,
+            len: 0,
+        };
+        let mut value = self.read_value(route, nodes, first)?;
         'values: loop {
-            let (p, kind) = match value {
-                Value::Opened(p) => (p, FaultKind::ExpectedObjectContent),
-                Value::Read(p) => match self.follow(route, nodes, p, CLOSED)? {
-                    Follower::Next(p) => (p, FaultKind::ExpectedObjectKey),
-                    Follower::End(used) => return Ok(used),
+            value = match self.next_member(route, nodes, value)? {
+                Member::Next(p, kind) => match p.container {
+                    Container::Array => self.elements::<COPY>(route, nodes, p)?,
+                    Container::Object => self.members::<COPY>(route, nodes, p, kind)?,
                 },
-            };
-            value = match p.container {
-                Container::Array => self.elements::<CLOSED>(route, nodes, p)?,
-                Container::Object => self.members::<CLOSED>(route, nodes, p, kind)?
+                Member::End(used) => return Ok(used),
             };
         }
     }
+}
 
-    // The same, by the copy of the machine for this answer.
-    #[inline(always)]
-    pub(super) fn build_by_end(
-        &mut self,
-        route: Route,
-        nodes: &mut [Node<'de>],
-        first: Progress,
-        closed: bool,
-    ) -> std::result::Result<usize, Fault>
-        ghost b: { List ℕ }
-        requires closed { IsTrue closed → EndsClosed b route.indexes.now }
-        requires whole { input_fault b ≡ None }
-        requires value { AtFirst b route.indexes.now route.max_depth self.old nodes.old first }
-        ensures kept { length nodes.new ≡ length nodes.old }
-        ensures used { IfOk result (λ used. 2 * used ≤ length route.entry.indexes.now + 1) }
-        ensures built { IfOk result (IsBuilt b route.entry.indexes.now route.entry.max_depth nodes.new) }
-        ensures refused { IfErr result (Tells b route.entry.indexes.now route.entry.max_depth) }
-    {
-        if closed {
-            return self.build::<true>(route, nodes, first);
-        }
-        self.build::<false>(route, nodes, first)
+// The fault of a bad escape in the string whose opening quote has index `at`.
+#[cold]
+fn bad_escape(at: usize, bad: BadEscape) -> Fault
+    requires { at + bad.offset < 2 ^ 64 }
+    ensures { fault_with (error_type result.kind) result.index result.byte
+        ≡ escape_fault (at + bad.offset) bad.letter }
+{
+    let kind = if bad.letter == b'u' {
+        FaultKind::InvalidUnicodeCodepoint
+    } else {
+        FaultKind::InvalidEscape
+    };
+    Fault {
+        kind,
+        index: at + bad.offset,
+        byte: bad.letter,
+    }
+}
+
+// The innermost container is closed at the last token: its header is patched, and it is one more member of
+// its parent.
+#[inline(always)]
+fn close<'de>(
+    stack: &[StackState],
+    nodes: &mut [Node<'de>],
+    p: Progress,
+    container: Container,
+) -> Progress
+    requires depth { (0 < p.depth) × (p.depth ≤ length stack.now) }
+    requires header { (top stack.now p.depth).header < p.used }
+    requires nodes { p.used ≤ length nodes.old }
+    requires len { (top stack.now p.depth).len < p.used }
+    requires container { container ≡ p.container }
+    ensures progress { result ≡ record p {
+      depth = p.depth - 1;
+      container = (top stack.now p.depth).outer;
+      len = (top stack.now p.depth).len + 1;
+    } }
+    ensures nodes { nodes.new ≡ patch nodes.old (top stack.now p.depth) p }
+{
+    let frame = stack[p.depth - 1];
+    nodes[frame.header] = container.header(p.len, p.used - frame.header - 1);
+    Progress {
+        depth: p.depth - 1,
+        container: frame.outer,
+        len: frame.len + 1,
+        ..p
+    }
+}
+
+// After the root, whose first node is given: no token may stand there.
+fn end<'de>(indexes: &[u32], first: Node<'de>, p: Progress) -> Result<Member, Fault>
+    ensures { MatchResult result
+        (λ f. (p.read ≡ length indexes.now) × (f ≡ Member.End p.used))
+        (λ fault. (p.read ≢ length indexes.now)
+        × (fault ≡ record { kind = end_kind first.entry; index = p.at; byte = p.byte })) }
+{
+    if p.read == indexes.len() {
+        return Ok(Member::End(p.used));
+    }
+    match first {
+        Node::Array { .. } | Node::Object { .. } => Err(p.fault(FaultKind::InternalError)),
+        _ => Err(p.fault(FaultKind::TrailingData)),
     }
 }

@@ -9,13 +9,13 @@ ghost use Rattle.simd_json_parts.specs.NumberRead.{IsNumberAt};
 ghost use Rattle.simd_json_parts.specs.NumeralRead.{IsIntegerLiteral};
 ghost use Rattle.simd_json_parts.specs.Tokens.{form_at, scalar};
 ghost use Rattle.simd_json_parts.specs.declared.numberparse.Number.TheVariants.{Integer, Invalid};
-ghost use Rattle.simd_json_stages.specs.Progresses.{IsUnread};
 ghost use Rattle.simd_json_stages.specs.Put.{IsScalarPut, IsNoScalar};
 ghost use Rattle.simd_json_stages.specs.Refusals.{error_type, refused_kind, number_refusal};
+ghost use Rattle.simd_json_stages.specs.Texts.{Reads};
 
-use super::Progress;
 use super::fault::{Fault, FaultKind};
-use super::unread::Unread;
+use super::progress::Progress;
+use super::text::Text;
 use simd_json_parts::charutils::{byte_or_space, is_structural_or_whitespace};
 use simd_json_parts::node::{Node, StaticNode};
 use simd_json_parts::numberparse::{Numeral, is_integer, parse_long, parse_numeral};
@@ -55,28 +55,28 @@ fn ends_at(bytes: &[u8], at: usize) -> bool
 // own node, a constant but for a number: one that is joined from branches is copied piece by piece.
 #[inline(always)]
 pub(super) fn put_scalar<'de>(
-    unread: &mut Unread<'de>,
+    text: &mut Text<'_, 'de>,
     nodes: &mut [Node<'de>],
     p: Progress,
 ) -> std::result::Result<(), Fault>
     ghost b: { List ℕ }
-    requires unread { IsUnread b unread.old p.at }
+    requires text { Reads b text.old p.at }
     requires at { (p.at < length b) × (p.byte ≡ byte_at b p.at) }
     requires other { (p.byte ≢ 34) × (p.byte ≢ 91) × (p.byte ≢ 123) }
     requires capacity { p.used < length nodes.old }
     ensures kept { length nodes.new ≡ length nodes.old }
-    ensures put { OnOk result (IsScalarPut b p.at p.used nodes.old nodes.new unread.new) }
+    ensures put { OnOk result (IsScalarPut b p.at p.used nodes.old nodes.new (Reads b text.new)) }
     ensures refused { IfErr result (IsNoScalar b p.at) }
 {
-    let rest = unread.from(p.at);
+    let rest = text.from(p.at);
     match p.byte {
         b't' if is_valid_true_atom(rest) => nodes[p.used] = Node::Static(StaticNode::Bool(true)),
         b'f' if is_valid_false_atom(rest) => nodes[p.used] = Node::Static(StaticNode::Bool(false)),
         b'n' if is_valid_null_atom(rest) => nodes[p.used] = Node::Static(StaticNode::Null),
         b't' | b'f' | b'n' => return Err(no_scalar(p.at, p.byte)),
         _ => {
-            if begins_number(p.byte) {
-                return put_number(unread, nodes, p);
+            if p.byte == b'-' || is_integer(p.byte) {
+                return put_number(text, nodes, p);
             }
             return Err(no_scalar(p.at, p.byte));
         }
@@ -102,31 +102,23 @@ fn no_scalar(at: usize, byte: u8) -> Fault
     }
 }
 
-// Whether a number may begin with the byte.
-#[inline(always)]
-fn begins_number(c: u8) -> bool
-    ensures { result ≡ ((c == 45) || is_ascii_digit c) }
-{
-    c == b'-' || is_integer(c)
-}
-
 // The number at the last token becomes the next node.
 #[inline(always)]
 fn put_number<'de>(
-    unread: &mut Unread<'de>,
+    text: &mut Text<'_, 'de>,
     nodes: &mut [Node<'de>],
     p: Progress,
 ) -> std::result::Result<(), Fault>
     ghost b: { List ℕ }
-    requires unread { IsUnread b unread.old p.at }
+    requires text { Reads b text.old p.at }
     requires at { (p.at < length b) × (p.byte ≡ byte_at b p.at) }
     requires number { form_at b p.at ≡ scalar (number_at b p.at) }
     requires capacity { p.used < length nodes.old }
     ensures kept { length nodes.new ≡ length nodes.old }
-    ensures put { OnOk result (IsScalarPut b p.at p.used nodes.old nodes.new unread.new) }
+    ensures put { OnOk result (IsScalarPut b p.at p.used nodes.old nodes.new (Reads b text.new)) }
     ensures refused { IfErr result (IsNoScalar b p.at) }
 {
-    let rest = unread.from(p.at);
+    let rest = text.from(p.at);
     match parse_numeral(rest) {
         Numeral::Integer(magnitude) => {
             if p.byte == b'-' {
@@ -135,7 +127,7 @@ fn put_number<'de>(
                 nodes[p.used] = Node::Static(StaticNode::U64(magnitude));
             }
         }
-        Numeral::Decimal(len) => nodes[p.used] = Node::Decimal(unread.share(p.at, len)),
+        Numeral::Decimal(len) => nodes[p.used] = Node::Decimal(text.share(p.at, len)),
         Numeral::Long(len) => nodes[p.used] = Node::Static(read_long(rest, p.at, len)?),
         Numeral::Invalid(offset) => return Err(invalid_number(rest, p.at, offset)),
     }

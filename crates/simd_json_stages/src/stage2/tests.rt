@@ -13,7 +13,7 @@ fn tape_of<'de>(alloc: Global, input: &'de mut [u8], max_depth: usize) -> Result
     let mut blocks = Vec::new(alloc);
     let found = BlockStage1Parse::find_structural_bits(input, &mut positions, &mut blocks)?;
     let mut stack = Vec::new(alloc);
-    stack.resize(found.positions.min(max_depth), StackState::default())?;
+    stack.resize(found.positions.min(max_depth), StackState::EMPTY)?;
     let mut nodes = Vec::new(alloc);
     nodes.resize(
         nodes_enough(found.positions, max_depth),

@@ -3,36 +3,58 @@ use Rattle.std.specs.Prelude.{Some}
 use Rattle.simd_json_print.specs.Texts.{Place}
 use Rattle.simd_json_print.proofs.Texts.{ended-sound, ended-failed}
 use Rattle.jtape.specs.Output.{printed}
+use Rattle.jtape.proofs.Modes.{IsPut, put-into, put-tape, put-positions, put-compact, put-pretty}
 use Rattle.jtape.proofs.output.print.Goals as goal
+use Rattle.jtape.proofs.output.print.Goals.{in-Tape, in-Positions, in-Compact, in-Pretty}
 
-pub returns-in-Ok-clause-all : goal.returns-in-Ok-clause-all
-returns-in-Ok-clause-all g c d input listed found =
+pub returns-in-Ok : goal.returns-in-Ok
+returns-in-Ok g c =
     let start : Place = record { held = g.W.Write.contents c.args.writer.now.inner; failed = Some c.args.writer.now.failed } in
-    let bytes = printed c.args.mode input d in
-    let ends = c.finish.ensures start bytes ((c.put_printed.ensures.given d input listed found).given start [] c.new-text.ensures.empty) in
-    let all = ended-sound c.finish.result _ _ _ _ bytes ends c.requires (search rules) in
-    search rules
+    let indexes = c.args.structural_indexes.now in
+    let put : IsPut _ c.new-text.result c.match-mode.text c.args.mode c.args.nodes.now indexes = elim c.match-mode.branch [
+      | in-Tape w ↦ put-into _ _ _ _ _ _ _ w.text-is (put-tape _ _ _ _ _ _ w.in-Tape.is w.put_lines.ensures)
+      | in-Positions w ↦ put-into _ _ _ _ _ _ _ w.text-is (put-positions _ _ _ _ _ _ w.in-Positions.is w.put_positions.ensures)
+      | in-Compact w ↦ put-into _ _ _ _ _ _ _ w.text-is
+          (put-compact _ _ _ _ _ _ _ w.in-Compact.is w.put_compact.ensures.kept w.put_compact.ensures.given w.put.ensures)
+      | in-Pretty w ↦ put-into _ _ _ _ _ _ _ w.text-is
+          (put-pretty _ _ _ _ _ _ _ w.in-Pretty.is w.put_pretty.ensures.kept w.put_pretty.ensures.given w.put-in-Pretty.ensures)
+    ] in
+    record {
+      all = λ d input listed found.
+          let bytes = printed c.args.mode input d in
+          let ends = c.finish.ensures start bytes ((put.given d input listed found).given start [] c.new-text.ensures.empty) in
+          let all = ended-sound c.finish.result _ _ _ _ bytes ends c.requires (search rules) in
+          search rules;
+      begun = λ d input listed found. tt;
+      sound =
+          let ends = c.finish.ensures start put.kept.0 (put.kept.1.given start [] c.new-text.ensures.empty) in
+          let sound = ended-sound c.finish.result _ _ _ _ put.kept.0 ends c.requires (search rules) in
+          search rules;
+      fault = tt;
+    }
 
-pub returns-in-Err-clause-begun : goal.returns-in-Err-clause-begun
-returns-in-Err-clause-begun g c d input listed found =
+pub returns-in-Err : goal.returns-in-Err
+returns-in-Err g c =
     let start : Place = record { held = g.W.Write.contents c.args.writer.now.inner; failed = Some c.args.writer.now.failed } in
-    let bytes = printed c.args.mode input d in
-    let ends = c.finish.ensures start bytes ((c.put_printed.ensures.given d input listed found).given start [] c.new-text.ensures.empty) in
-    let begun = ended-failed c.finish.result _ _ _ _ bytes ends (search rules) in
-    search rules
-
-pub returns-in-Ok-clause-sound : goal.returns-in-Ok-clause-sound
-returns-in-Ok-clause-sound g c =
-    let start : Place = record { held = g.W.Write.contents c.args.writer.now.inner; failed = Some c.args.writer.now.failed } in
-    let some = c.put_printed.ensures.kept in
-    let ends = c.finish.ensures start some.0 (some.1.given start [] c.new-text.ensures.empty) in
-    let sound = ended-sound c.finish.result _ _ _ _ some.0 ends c.requires (search rules) in
-    search rules
-
-pub returns-in-Err-clause-fault : goal.returns-in-Err-clause-fault
-returns-in-Err-clause-fault g c =
-    let start : Place = record { held = g.W.Write.contents c.args.writer.now.inner; failed = Some c.args.writer.now.failed } in
-    let some = c.put_printed.ensures.kept in
-    let ends = c.finish.ensures start some.0 (some.1.given start [] c.new-text.ensures.empty) in
-    let failed = ended-failed c.finish.result _ _ _ _ some.0 ends (search rules) in
-    search rules
+    let indexes = c.args.structural_indexes.now in
+    let put : IsPut _ c.new-text.result c.match-mode.text c.args.mode c.args.nodes.now indexes = elim c.match-mode.branch [
+      | in-Tape w ↦ put-into _ _ _ _ _ _ _ w.text-is (put-tape _ _ _ _ _ _ w.in-Tape.is w.put_lines.ensures)
+      | in-Positions w ↦ put-into _ _ _ _ _ _ _ w.text-is (put-positions _ _ _ _ _ _ w.in-Positions.is w.put_positions.ensures)
+      | in-Compact w ↦ put-into _ _ _ _ _ _ _ w.text-is
+          (put-compact _ _ _ _ _ _ _ w.in-Compact.is w.put_compact.ensures.kept w.put_compact.ensures.given w.put.ensures)
+      | in-Pretty w ↦ put-into _ _ _ _ _ _ _ w.text-is
+          (put-pretty _ _ _ _ _ _ _ w.in-Pretty.is w.put_pretty.ensures.kept w.put_pretty.ensures.given w.put-in-Pretty.ensures)
+    ] in
+    record {
+      all = λ d input listed found. tt;
+      begun = λ d input listed found.
+          let bytes = printed c.args.mode input d in
+          let ends = c.finish.ensures start bytes ((put.given d input listed found).given start [] c.new-text.ensures.empty) in
+          let begun = ended-failed c.finish.result _ _ _ _ bytes ends (search rules) in
+          search rules;
+      sound = tt;
+      fault =
+          let ends = c.finish.ensures start put.kept.0 (put.kept.1.given start [] c.new-text.ensures.empty) in
+          let failed = ended-failed c.finish.result _ _ _ _ put.kept.0 ends (search rules) in
+          search rules;
+    }

@@ -1,12 +1,15 @@
 //! The plain form of the first stage, one byte after another: the reference of the form by blocks.
-ghost use Rattle.std.specs.Prelude.{◌≡◌, ◌≤◌, ◌+◌, ◌⊎◌, ℕ, List, length, take, IfOk, IfErr, IsUtf8};
+ghost use Rattle.std.specs.Prelude.{◌≡◌, ◌≤◌, ◌<◌, ◌+◌, ◌++◌, ◌⊎◌, [], ◌∷◌, ℕ, List};
+ghost use Rattle.std.specs.Prelude.{length, take, IfOk, IfErr, OnOk, IsUtf8};
 ghost use Rattle.simd_json_parts.specs.Bytes.{byte_at, is_structural, is_whitespace};
+ghost use Rattle.simd_json_parts.specs.Faults.{whole_fault};
 ghost use Rattle.simd_json_parts.specs.Limits.{max_length};
 ghost use Rattle.simd_json_parts.specs.Positions.{is_position};
+ghost use Rattle.simd_json_parts.specs.declared.error.ErrorType.{ErrorType};
 ghost use Rattle.simd_json_stages.specs.Carries.{IsKept};
 ghost use Rattle.simd_json_stages.specs.Scans.{IsFound, LacksMemory};
 
-use crate::stage1::capacity::put;
+use crate::stage1::capacity::grow;
 use crate::stage1::{BLOCK_LEN, Found, Stage1Parse};
 use simd_json_parts::error::{Error, ErrorType, Result};
 use std::alloc::Allocator;
@@ -82,6 +85,26 @@ fn step(before: Carry, byte: u8) -> (Carry, bool)
     let is_position = (is_quote & is_inside)
         | (is_outside & (is_structural | (!is_whitespace & before.is_fresh)));
     (after, is_position)
+}
+
+// Stores a number after the first `count`, in a list that may need to grow for it, to `max_len` at most.
+fn put<A: Allocator>(
+    list: &mut Vec<u32, A>,
+    count: usize,
+    number: u32,
+    max_len: usize,
+) -> Result<()>
+    requires filled { count ≤ length list.old.items }
+    requires within { count < max_len }
+    ensures stored { OnOk result ((count < length list.new.items)
+        × (take (count + 1) list.new.items ≡ take count list.old.items ++ number ∷ [])) }
+    ensures fault { IfErr result (λ e. (e ≡ whole_fault ErrorType.OutOfMemory)
+        × (length list.old.items < max_len)) }
+    ensures longer { length list.old.items ≤ length list.new.items }
+{
+    grow(list, count + 1, 16, max_len)?;
+    list[count] = number;
+    Ok(())
 }
 
 // The same as the scan by blocks.

@@ -1,9 +1,12 @@
-use Rattle.std.proofs.Common.{◌≡◌, sym, ◌∙◌, ap, ◌+◌, drop, arith}
+use Rattle.std.proofs.Common.{◌≡◌, sym, ◌∙◌, ap, ℕ, ◌+◌, ◌-◌, ◌≤◌, List, length, drop, rules, arith}
 use Rattle.std.specs.Prelude.{Some, encode_utf8}
 use Rattle.std.proofs.lemmas.List.{take_rest}
+use Rattle.std.proofs.lemmas.Str.{length-encode, IsUtf8-encode}
+use borrow.Rule.Slice.PartMut.{put_mid}
 use Rattle.simd_json_parts.specs.StringAt.{escape_at}
 use Rattle.simd_json_parts.specs.StringDecoded.{IsDecoded}
 use Rattle.simd_json_parts.proofs.Strings.Decoding.{backslash-fits, decoded-escape, escape-fits}
+use Rattle.simd_json_parts.proofs.Strings.Utf8Writes.{IsWritten, put_mid-prefix}
 use Rattle.simd_json_parts.proofs.stringparse.escapes.unescape_one.Goals as goal
 
 pub escape-requires : goal.escape-requires
@@ -17,11 +20,21 @@ overflow_add-read-2 c =
 
 pub returns : goal.returns
 returns c =
+    let u = c.args.unread.now in
     let ends = c.args.ends in
+    let character = c.in_ok-character.character in
     let more = c.in_ok-character.more in
     let ok = c.in_ok-character.ensures in
-    let put = c.put-written in
-    let escape : escape_at (drop ends.read c.args.unread.now) ≡ Some (encode_utf8 c.in_ok-character.character, more) = ap escape_at (sym (take_rest c.args.unread.now ends.read)) ∙ ok.value in
-    let d : IsDecoded c.args.unread.now ends.read ends.written put.new.bytes (ends.read + 1 + more) put.result =
-    decoded-escape c.args.unread.now put.new.bytes ends.read ends.written put.result c.in_ok-character.character more c.requires.goes_on c.requires.backslash c.requires.order put.ensures.utf8 escape ok.shorter put.ensures.end put.ensures.written put.ensures.unread put.ensures.same_length in
+    let put = c.codepoint_to_utf8-len in
+    let new : List ℕ = put_mid ends.written (length u - ends.written) u put.new.bytes in
+    let end : ℕ = ends.written + put.result in
+    let escape : escape_at (drop ends.read u) ≡ Some (encode_utf8 character, more) =
+    ap escape_at (sym (take_rest u ends.read)) ∙ ok.value in
+    let fits : end ≤ length u = omega (arith, escape-fits u _ ends.read more c.requires.goes_on c.requires.backslash escape) in
+    let w : IsWritten u new (encode_utf8 character) ends.written put.result =
+    put_mid-prefix u put.new.bytes (encode_utf8 character) ends.written put.result fits
+    (length-encode character ∙ sym put.ensures.len) put.ensures.written in
+    let d : IsDecoded u ends.read ends.written new (ends.read + 1 + more) end =
+    decoded-escape u new ends.read ends.written end character more c.requires.goes_on c.requires.backslash c.requires.order
+    (IsUtf8-encode character (search rules)) escape ok.shorter (omega arith) w.written w.unread w.same_length in
     (d, omega arith)

@@ -15,7 +15,7 @@ pub loop-left-preserved : goal.loop-left-preserved
 loop-left-preserved g c =
     let pretty = not (nat_eq g.row.PRETTY 0) in
     let l = c.loop-left in
-    let s = c.split_first in (
+    let s = c.split_at in (
       omega (arith, l.invariant.0, ap length s.ensures.back, length-drop 1 l.left.nodes.now),
       some-then _ _ _ _ l.invariant.1 (adds-some _ _ _ _ c.put_element.ensures),
       λ done whole is.
@@ -23,13 +23,13 @@ loop-left-preserved g c =
             so_far.0 ++ _,
             adds-then _ _ _ _ so_far.0 _ so_far.1 c.put_element.ensures,
             with-both pretty c.args.depth c.args.nesting.now false _ done so_far.0 _ whole
-                (element-step pretty c.args.depth c.args.nesting.now l.is_still_first l.left.nodes.now s.result.0.now s.result.1.nodes.now _ _ (done ++ so_far.0) whole
+                (element-step pretty c.args.depth c.args.nesting.now l.is_still_first l.left.nodes.now s.result.0.now s.result.1.now _ _ (done ++ so_far.0) whole
                 (search (rules, arith)) s.ensures.front s.ensures.back c.beneath.ensures (search (rules, arith)) (search (rules, arith)) (search (rules, arith)) (search (rules, arith)) so_far.2),
           ),
     )
 
-pub returns-then-is_object-clause-kept : goal.returns-then-is_object-clause-kept
-returns-then-is_object-clause-kept g c = some-none _ _
+pub returns-then-nesting-clause-kept : goal.returns-then-nesting-clause-kept
+returns-then-nesting-clause-kept g c = some-none _ _
 
-pub returns-then-is_object-clause-given : goal.returns-then-is_object-clause-given
-returns-then-is_object-clause-given g c done whole is = ([], adds-none _ _, with-none _ c.args.depth _ _ _ done whole is)
+pub returns-then-nesting-clause-given : goal.returns-then-nesting-clause-given
+returns-then-nesting-clause-given g c done whole is = ([], adds-none _ _, with-none _ c.args.depth _ _ _ done whole is)

@@ -16,7 +16,8 @@ loop-first-init g c =
       blocks_longer = omega arith;
     }
 
-same : (b : List ℕ) (k : ℕ) (s : Scanned) (out listed more more_listed : List ℕ) → out ≡ more → listed ≡ more_listed → IsScanned b k s out listed → IsScanned b k s more more_listed
+same : (b : List ℕ) (k : ℕ) (s : Scanned) (out listed more more_listed : List ℕ) → out ≡ more → listed ≡ more_listed
+    → IsScanned b k s out listed → IsScanned b k s more more_listed
 same b k s out listed more more_listed e f h = subst (λ l. IsScanned b k s more l) f (subst (λ o. IsScanned b k s o listed) e h)
 
 pub check_window-requires-clause-ascii : goal.check_window-requires-clause-ascii
@@ -27,9 +28,11 @@ check_window-requires-clause-ascii g c =
     let z = c.capacity_for.new.escape_blocks in
     let k = c.capacity_for.ensures.kept in
     let more = c.capacity_for.ensures.longer in
-    let wide = IsScanned-capacity b l.first l.done l.structural_indexes.items l.escape_blocks.items a.items z.items l.invariant.scanned k.0 more.0 k.1 more.1 in
+    let wide = IsScanned-capacity b l.first l.done l.structural_indexes.items l.escape_blocks.items a.items z.items l.invariant.scanned
+    k.0 more.0 k.1 more.1 in
     let lent = same b l.first l.done _ _ _ _ (sym c.as_mut_slice.ensures.value) (sym c.as_mut_slice-in-loop-first.ensures.value) wide in
-    λ zero. c.scan_window-done.ensures.ascii b (AreBlocks-chunks b c.args.blocks.now c.requires.blocks c.requires.len) lent (eqb-true _ _ zero)
+    λ zero. c.scan_window-done.ensures.ascii b (AreBlocks-chunks b c.args.blocks.now c.requires.blocks c.requires.len) lent
+    (eqb-true _ _ zero)
 
 pub loop-first-preserved : goal.loop-first-preserved
 loop-first-preserved g c =
@@ -41,13 +44,15 @@ loop-first-preserved g c =
     let k = c.capacity_for.ensures.kept in
     let more = c.capacity_for.ensures.longer in
     let w = c.scan_window-done in
-    let wide = IsScanned-capacity b l.first l.done l.structural_indexes.items l.escape_blocks.items a.items z.items i.scanned k.0 more.0 k.1 more.1 in
+    let wide = IsScanned-capacity b l.first l.done l.structural_indexes.items l.escape_blocks.items a.items z.items i.scanned k.0 more.0
+    k.1 more.1 in
     let lent = same b l.first l.done _ _ _ _ (sym c.as_mut_slice.ensures.value) (sym c.as_mut_slice-in-loop-first.ensures.value) wide in
     let done = w.ensures.scanned b (AreBlocks-chunks b c.args.blocks.now c.requires.blocks c.requires.len) lent in
     let long : length w.new.out ≡ a.len = omega arith in
     let long_listed : length w.new.listed ≡ z.len = omega arith in
     let out : take a.len (w.new.out ++ drop (length w.new.out) a.items) ≡ w.new.out = written-back w.new.out _ a.len long in
-    let listed : take z.len (w.new.listed ++ drop (length w.new.listed) z.items) ≡ w.new.listed = written-back w.new.listed _ z.len long_listed in
+    let listed : take z.len (w.new.listed ++ drop (length w.new.listed) z.items) ≡ w.new.listed = written-back w.new.listed _ z.len
+    long_listed in
     let out_long = ap length out in
     let listed_long = ap length listed in
     let first = ap length c.as_mut_slice.ensures.value in

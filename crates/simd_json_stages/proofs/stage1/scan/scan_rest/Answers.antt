@@ -1,35 +1,41 @@
 use Rattle.std.proofs.Common.{◌≡◌, ◌+◌, ◌*◌, ◌≤◌, ◌<◌, ◌++◌, length, take, drop, subst, refl, sym, ap, ◌∙◌, true, false, eqb-true, inr, arith}
+use Rattle.std.proofs.lemmas.List.{length-set}
 use lib.Count.{ones}
 use Rattle.simd_json_stages.specs.EscapeBlocks.{blocks_in, backslash_blocks}
 use Rattle.simd_json_stages.specs.Words.{set_bits}
 use Rattle.simd_json_stages.proofs.EncodingLaws.{utf8-reached}
 use Rattle.simd_json_stages.proofs.RestLaws.{whole, IsBlock-rest, rest-bad, rest-positions, rest-few, rest-listed, rest-blocks}
-use Rattle.simd_json_stages.proofs.ScanLaws.{written-back, prefix}
+use Rattle.simd_json_stages.proofs.ScanLaws.{written-back, prefix, stored-next}
 use Rattle.simd_json_stages.proofs.stage1.scan.scan_rest.Goals as goal
-use Rattle.simd_json_stages.proofs.stage1.scan.scan_rest.Goals.{then-classified+in_ok-put, else-classified}
+use Rattle.simd_json_stages.proofs.stage1.scan.scan_rest.Goals.{then-classified+in_ok-grow-2, else-classified}
 use Rattle.simd_json_stages.proofs.Exits.{passed-on}
 
 pub check_window-requires-clause-ascii : goal.check_window-requires-clause-ascii
 check_window-requires-clause-ascii g c =
     let b = c.args.input.now in
     let s = c.requires.scanned.classified in
-    let classified = c.classify-classified.ensures b _ (IsBlock-rest b c.args.rest.now _ c.requires.rest c.last_block.ensures) s.escaped in
+    let padded = IsBlock-rest b c.args.rest.now _ c.requires.rest c.copy_from_slice.ensures.after in
+    let classified = c.classify-classified.ensures b _ padded s.escaped in
     λ zero i from end. classified.ascii (eqb-true _ _ zero) i from (omega arith)
 
 pub grow-requires : goal.grow-requires
 grow-requires g c =
     let b = c.args.input.now in
     let s = c.requires.scanned in
-    let classified = c.classify-classified.ensures b _ (IsBlock-rest b c.args.rest.now _ c.requires.rest c.last_block.ensures) s.classified.escaped in
-    let marks = c.find_marks-marks.ensures b _ (c.find_parts-parts.ensures b _ classified.classes) classified.classes.control s.placed.carried in
+    let padded = IsBlock-rest b c.args.rest.now _ c.requires.rest c.copy_from_slice.ensures.after in
+    let classified = c.classify-classified.ensures b _ padded s.classified.escaped in
+    let marks = c.find_marks-marks.ensures b _ (c.find_parts-parts.ensures b _ classified.classes) classified.classes.control
+    s.placed.carried in
     rest-few b c.args.done.placing _ c.find_marks-marks.result s.placed marks
 
-pub put-requires-clause-within : goal.put-requires-clause-within
-put-requires-clause-within g c =
+pub grow-requires-then-classified : goal.grow-requires-then-classified
+grow-requires-then-classified g c =
     let b = c.args.input.now in
     let s = c.requires.scanned.classified in
-    let classified = c.classify-classified.ensures b _ (IsBlock-rest b c.args.rest.now _ c.requires.rest c.last_block.ensures) s.escaped in
-    let l : c.args.done.classifying.listed < blocks_in (length b) = rest-listed b c.args.done.classifying _ c.classify-classified.result s classified c.if-classified.true in
+    let padded = IsBlock-rest b c.args.rest.now _ c.requires.rest c.copy_from_slice.ensures.after in
+    let classified = c.classify-classified.ensures b _ padded s.escaped in
+    let l : c.args.done.classifying.listed < blocks_in (length b) = rest-listed b c.args.done.classifying _ c.classify-classified.result
+    s classified c.if-classified.true in
     omega (arith, c.div_ceil-max_blocks.ensures)
 
 pub returns-clause-found : goal.returns-clause-found
@@ -38,41 +44,55 @@ returns-clause-found g c =
     let s = c.requires.scanned in
     let t = c.classify-classified.result in
     let m = c.find_marks-marks.result in
-    let classified = c.classify-classified.ensures b _ (IsBlock-rest b c.args.rest.now _ c.requires.rest c.last_block.ensures) s.classified.escaped in
-    let marks = c.find_marks-marks.ensures b _ (c.find_parts-parts.ensures b _ classified.classes) classified.classes.control s.placed.carried in
+    let padded = IsBlock-rest b c.args.rest.now _ c.requires.rest c.copy_from_slice.ensures.after in
+    let classified = c.classify-classified.ensures b _ padded s.classified.escaped in
+    let marks = c.find_marks-marks.ensures b _ (c.find_parts-parts.ensures b _ classified.classes) classified.classes.control
+    s.placed.carried in
     let a = c.grow in
     let w = c.write_exactly in
     let d = c.args.done.classifying in
     let p = c.args.done.placing in
     let long : length w.new.out ≡ a.new.list.len = omega arith in
-    let out : take a.new.list.len (w.new.out ++ drop (length w.new.out) a.new.list.items) ≡ w.new.out = written-back w.new.out _ a.new.list.len long in
+    let out : take a.new.list.len (w.new.out ++ drop (length w.new.out) a.new.list.items) ≡ w.new.out = written-back w.new.out _
+    a.new.list.len long in
     let total : w.result ≡ p.used + ones m.starts = omega arith in
-    let before : take p.used c.as_mut_slice-out.result.now ≡ take p.used c.args.structural_indexes.now.items = ap (take p.used) c.as_mut_slice-out.ensures.value ∙ prefix p.used _ _ s.placed.within a.ensures.kept in
-    let capacity : p.used + ones m.starts ≤ length w.new.out = omega (arith, ap length c.as_mut_slice-out.ensures.value, c.in_ok-grow.ensures.capacity) in
+    let before : take p.used c.as_mut_slice-out.result.now ≡ take p.used c.args.structural_indexes.now.items = ap
+    (take p.used) c.as_mut_slice-out.ensures.value ∙ prefix p.used _ _ s.placed.within a.ensures.kept in
+    let capacity : p.used + ones m.starts ≤ length w.new.out = omega
+    (arith, ap length c.as_mut_slice-out.ensures.value, c.in_ok-grow.ensures.capacity) in
     let utf8 = c.in_ok-check_window.ensures.utf8 in
     let end : c.in_ok-check_window.field-0 ≡ length b = c.in_ok-check_window.ensures.whole refl in
-    let blocks : (c.if-classified.listed ≤ length c.if-classified.escape_blocks.items) × (take c.if-classified.listed c.if-classified.escape_blocks.items ≡ backslash_blocks b) =
+    let blocks : (c.if-classified.listed ≤ length c.if-classified.escape_blocks.items) ×
+    (take c.if-classified.listed c.if-classified.escape_blocks.items ≡ backslash_blocks b) =
     elim c.if-classified.branch [
-      | then-classified+in_ok-put w ↦ let more : d.listed + 1 ≤ length w.put.new.list.items = omega (arith, w.in_ok-put.ensures.stored.0) in rw (w.escape_blocks-is, w.listed-is) (
-        more,
-        w.in_ok-put.ensures.stored.1 ∙ rest-blocks b d _ t true s.classified classified w.if-classified.true,
-      )
-      | else-classified w ↦ rw (w.escape_blocks-is, w.listed-is) (s.classified.within, rest-blocks b d _ t false s.classified classified w.if-classified.false)
+      | then-classified+in_ok-grow-2 w ↦
+          let y = c.args.escape_blocks.now.items in
+          let z = w.grow-then-classified.new.list.items in
+          let more : d.listed < length z = omega (arith, w.in_ok-grow-2.ensures.capacity) in
+          let next = stored-next d.listed (whole b) y z s.classified.within w.grow-then-classified.ensures.kept more in
+          rw (w.escape_blocks-is, w.listed-is) (
+            omega (arith, length-set z d.listed (whole b)),
+            next ∙ rest-blocks b d _ t true s.classified classified w.if-classified.true,
+          )
+      | else-classified w ↦ rw (w.escape_blocks-is, w.listed-is)
+          (s.classified.within, rest-blocks b d _ t false s.classified classified w.if-classified.false)
     ] in
     record {
       encoding = utf8-reached b c.in_ok-check_window.field-0 end utf8.1;
       bad = rest-bad b p _ m s.placed marks;
       within = subst (λ xs. p.used + ones m.starts ≤ length xs) (sym out) capacity;
-      listed = ap (take (p.used + ones m.starts)) out ∙ ap (λ n. take n w.new.out) (sym total) ∙ w.ensures.written ∙ ap (λ l. l ++ set_bits 64 (64 * whole b) m.starts) before
+      listed = ap (take (p.used + ones m.starts)) out ∙ ap (λ n. take n w.new.out) (sym total) ∙ w.ensures.written
+      ∙ ap (λ l. l ++ set_bits 64 (64 * whole b) m.starts) before
           ∙ rest-positions b p _ m s.placed marks;
       blocks_within = blocks.0;
       blocks_listed = blocks.1;
     }
 
-pub returns-in_err-put-clause-fault : goal.returns-in_err-put-clause-fault
-returns-in_err-put-clause-fault g c =
+pub returns-in_err-grow-2-clause-fault : goal.returns-in_err-grow-2-clause-fault
+returns-in_err-grow-2-clause-fault g c =
     let b = c.args.input.now in
-    let e = c.in_err-put.ensures.fault in
+    let e = c.in_err-grow-2.ensures.fault in
     let end : c.in_ok-check_window.field-0 ≡ length b = c.in_ok-check_window.ensures.whole refl in
-    passed-on c.from_residual-in_err-put.result _ _ c.from_residual-in_err-put.ensures.1
-    (inr (e.0, c.requires.size, utf8-reached b c.in_ok-check_window.field-0 end c.in_ok-check_window.ensures.utf8.1, inr (omega (arith, e.1, c.div_ceil-max_blocks.ensures))))
+    passed-on c.from_residual-in_err-grow-2.result _ _ c.from_residual-in_err-grow-2.ensures.1
+    (inr (e.0, c.requires.size, utf8-reached b c.in_ok-check_window.field-0 end c.in_ok-check_window.ensures.utf8.1, inr (omega
+    (arith, e.1, c.div_ceil-max_blocks.ensures))))

@@ -11,7 +11,8 @@ loop-rest-init c =
     record {
       from = omega arith;
       few = omega arith;
-      stored = subst (λ k. IsStored c.args.out.now c.args.used (set_bits 64 c.args.base c.args.bits) k c.args.base c.args.out.now c.args.bits) (sym none)
+      stored = subst (λ k. IsStored c.args.out.now c.args.used
+      (set_bits 64 c.args.base c.args.bits) k c.args.base c.args.out.now c.args.bits) (sym none)
           (stored-first c.args.out.now c.args.used c.args.base c.args.bits c.ranges.bits.fits);
     }
 
@@ -53,4 +54,5 @@ returns-clause-written c =
     let i = c.loop-rest.invariant in
     let last = stored-end c.args.out.now c.args.used c.args.base c.args.bits _ _ _ c.ranges.bits.fits i.stored (omega arith) in
     let at : c.loop-rest.end ≡ c.args.used + count_ones c.args.bits = omega arith in
-    ap (λ n. take n c.loop-rest.out) at ∙ stored-all c.args.out.now c.args.used c.args.base c.args.bits _ _ _ c.ranges.bits.fits i.stored last
+    ap (λ n. take n c.loop-rest.out) at ∙ stored-all c.args.out.now c.args.used c.args.base c.args.bits _ _ _ c.ranges.bits.fits i.stored
+    last

@@ -42,17 +42,20 @@ loop-k-preserved c =
       classified = λ b blocks before.
           let h = i.classified b blocks before in
           let found = m.ensures b _ (blocks (c.args.first + l.k) _ (omega arith)) h.escaped in
-          IsClassified-same next (IsClassified-next b (c.args.first + l.k) l.now l.listed m.result _ d.new.listed d.result h found d.ensures.listed d.ensures.count (omega arith));
+          IsClassified-same next (IsClassified-next b (c.args.first + l.k) l.now l.listed m.result _ d.new.listed d.result h found
+          d.ensures.listed d.ensures.count (omega arith));
       classifies = λ b blocks before.
           let found = m.ensures b _ (blocks (c.args.first + l.k) _ (omega arith)) (i.classified b blocks before).escaped in
-          HaveClasses-next b c.args.first l.k l.classes.soft l.classes.hard l.classes.control l.classes.escaped _ _ _ _ i.soft_words i.hard_words i.control_words i.escaped_words (omega arith) (i.classifies b blocks before) found.classes;
+          HaveClasses-next b c.args.first l.k l.classes.soft l.classes.hard l.classes.control l.classes.escaped _ _ _ _ i.soft_words
+          i.hard_words i.control_words i.escaped_words (omega arith) (i.classifies b blocks before) found.classes;
       ascii = λ b blocks before none.
           let found = m.ensures b _ (blocks (c.args.first + l.k) _ (omega arith)) (i.classified b blocks before).escaped in
           let so-far : l.now.high ≡ 0 = omega (arith, le_or_l l.now.high m.result.high) in
           let here : m.result.high ≡ 0 = omega (arith, le_or_r l.now.high m.result.high) in
           let first = i.ascii b blocks before so-far in
           let end : 64 * (c.args.first + l.k) + 64 ≡ 64 * (c.args.first + (l.k + 1)) = omega arith in
-          (first.0, IsAscii-next b (64 * c.args.first) (64 * (c.args.first + l.k)) _ first.1 (subst (λ n. IsAscii b (64 * (c.args.first + l.k)) n) end (found.ascii here)));
+          (first.0, IsAscii-next b (64 * c.args.first) (64 * (c.args.first + l.k)) _ first.1 (subst (λ n. IsAscii b (64 *
+          (c.args.first + l.k)) n) end (found.ascii here)));
     }
 
 pub returns-clause-classified : goal.returns-clause-classified
@@ -70,4 +73,5 @@ pub returns-clause-ascii : goal.returns-clause-ascii
 returns-clause-ascii c =
     let l = c.loop-k in
     let e : c.args.first + l.k ≡ c.args.first + 8 = omega arith in
-    λ b blocks before none. subst (λ n. (c.args.before.high ≡ 0) × IsAscii b (64 * c.args.first) (64 * n)) e (l.invariant.ascii b blocks before none)
+    λ b blocks before none. subst (λ n. (c.args.before.high ≡ 0) × IsAscii b (64 * c.args.first) (64 * n)) e
+    (l.invariant.ascii b blocks before none)

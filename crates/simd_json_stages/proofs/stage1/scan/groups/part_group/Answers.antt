@@ -24,7 +24,8 @@ loop-k-preserved c =
       space_words = length-set l.parts.space l.k _ ∙ i.space_words;
       quote_words = length-set l.parts.quote l.k _ ∙ i.quote_words;
       found = λ b first classes.
-          HaveParts-next b first l.k l.parts.parity l.parts.plain l.parts.space l.parts.quote _ i.parity_words i.plain_words i.space_words i.quote_words (omega arith) (i.found b first classes)
+          HaveParts-next b first l.k l.parts.parity l.parts.plain l.parts.space l.parts.quote _ i.parity_words i.plain_words
+          i.space_words i.quote_words (omega arith) (i.found b first classes)
           (c.find_parts-found.ensures b _ (classes l.k (omega arith)));
     }
 

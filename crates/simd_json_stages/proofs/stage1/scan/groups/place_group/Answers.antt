@@ -28,7 +28,8 @@ loop-k-preserved c =
       placed = λ b control parts before.
           let h = i.placed b control parts before in
           let found = c.find_marks-marks.ensures b _ (parts l.k (omega arith)) (control l.k (omega arith)) h.carried in
-          IsPlaced-same next (IsPlaced-next b (c.args.first + l.k) l.now l.out c.find_marks-marks.result w.new.out w.result h found w.ensures.written w.ensures.count (omega arith));
+          IsPlaced-same next (IsPlaced-next b (c.args.first + l.k) l.now l.out c.find_marks-marks.result w.new.out w.result h found
+          w.ensures.written w.ensures.count (omega arith));
     }
 
 pub returns-clause-placed : goal.returns-clause-placed

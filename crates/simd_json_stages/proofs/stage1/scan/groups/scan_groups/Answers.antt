@@ -46,4 +46,5 @@ pub returns-clause-ascii : goal.returns-clause-ascii
 returns-clause-ascii c =
     let l = c.loop-i in
     let e : l.i ≡ c.args.window.end = omega arith in
-    λ b blocks before none. subst (λ n. (c.args.before.classifying.high ≡ 0) × IsAscii b (64 * c.args.window.first) (64 * n)) e (l.invariant.ascii b blocks before none)
+    λ b blocks before none. subst (λ n. (c.args.before.classifying.high ≡ 0) × IsAscii b (64 * c.args.window.first) (64 * n)) e
+    (l.invariant.ascii b blocks before none)

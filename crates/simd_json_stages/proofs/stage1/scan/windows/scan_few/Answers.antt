@@ -35,8 +35,10 @@ loop-i-preserved c =
           let parts = c.find_parts-parts.ensures b _ found.classes in
           let marks = c.find_marks-marks.ensures b _ parts found.classes.control h.placed.carried in
           record {
-            classified = IsClassified-next b l.i l.classifying l.listed m.result _ d.new.listed d.result h.classified found d.ensures.listed d.ensures.count (omega arith);
-            placed = IsPlaced-next b l.i l.placing l.out c.find_marks-marks.result w.new.out w.result h.placed marks w.ensures.written w.ensures.count (omega arith);
+            classified = IsClassified-next b l.i l.classifying l.listed m.result _ d.new.listed d.result h.classified found
+            d.ensures.listed d.ensures.count (omega arith);
+            placed = IsPlaced-next b l.i l.placing l.out c.find_marks-marks.result w.new.out w.result h.placed marks w.ensures.written
+            w.ensures.count (omega arith);
           };
       ascii = λ b blocks before none.
           let found = m.ensures b _ (blocks l.i _ (omega arith)) (i.scanned b blocks before).classified.escaped in
@@ -51,10 +53,12 @@ pub returns-clause-scanned : goal.returns-clause-scanned
 returns-clause-scanned c =
     let l = c.loop-i in
     let e : l.i ≡ c.args.window.end = omega arith in
-    λ b blocks before. subst (λ n. IsScanned b n (record { classifying = l.classifying; placing = l.placing }) l.out l.listed) e (l.invariant.scanned b blocks before)
+    λ b blocks before. subst (λ n. IsScanned b n (record { classifying = l.classifying; placing = l.placing }) l.out l.listed) e
+    (l.invariant.scanned b blocks before)
 
 pub returns-clause-ascii : goal.returns-clause-ascii
 returns-clause-ascii c =
     let l = c.loop-i in
     let e : l.i ≡ c.args.window.end = omega arith in
-    λ b blocks before none. subst (λ n. (c.args.before.classifying.high ≡ 0) × IsAscii b (64 * c.args.window.first) (64 * n)) e (l.invariant.ascii b blocks before none)
+    λ b blocks before none. subst (λ n. (c.args.before.classifying.high ≡ 0) × IsAscii b (64 * c.args.window.first) (64 * n)) e
+    (l.invariant.ascii b blocks before none)

@@ -11,7 +11,8 @@ returns-clause-scanned c = λ b blocks before.
     let i = c.if-window-middle in
     let first : IsScanned b (c.args.window.end - (c.args.window.end - c.args.window.first) % 8) i.done i.out i.listed = elim i.branch [
       | then-window-middle w ↦ rw (w.out-is, w.listed-is, w.done-is) (w.scan_groups-done.ensures.scanned b blocks start)
-      | else-window-middle w ↦ (let none : c.args.window.first ≡ c.args.window.end - (c.args.window.end - c.args.window.first) % 8 = omega arith in rw (w.out-is, w.listed-is, w.done-is) (IsScanned-same none start))
+      | else-window-middle w ↦ (let none : c.args.window.first ≡ c.args.window.end -
+          (c.args.window.end - c.args.window.first) % 8 = omega arith in rw (w.out-is, w.listed-is, w.done-is) (IsScanned-same none start))
     ] in
     c.scan_few.ensures.scanned b blocks first
 
@@ -20,8 +21,10 @@ returns-clause-ascii c = λ b blocks before none.
     let start = IsScanned-high 0 before in
     let i = c.if-window-middle in
     let middle = c.args.window.end - (c.args.window.end - c.args.window.first) % 8 in
-    let first : IsScanned b middle i.done i.out i.listed × (i.done.classifying.high ≡ 0 → IsAscii b (64 * c.args.window.first) (64 * middle)) = elim i.branch [
-      | then-window-middle w ↦ rw (w.out-is, w.listed-is, w.done-is) (w.scan_groups-done.ensures.scanned b blocks start, λ zero. (w.scan_groups-done.ensures.ascii b blocks start zero).1)
+    let first : IsScanned b middle i.done i.out i.listed × (i.done.classifying.high ≡ 0
+    → IsAscii b (64 * c.args.window.first) (64 * middle)) = elim i.branch [
+      | then-window-middle w ↦ rw (w.out-is, w.listed-is, w.done-is) (w.scan_groups-done.ensures.scanned b blocks start, λ zero.
+          (w.scan_groups-done.ensures.ascii b blocks start zero).1)
       | else-window-middle w ↦ (
           let same : c.args.window.first ≡ middle = omega arith in
           rw (w.out-is, w.listed-is, w.done-is) (IsScanned-same same start, λ zero n from to. absurd (omega arith))

@@ -25,17 +25,24 @@ loop-i-preserved g c =
       few = grind arith;
       within = grind arith;
       so_far = elim c.if-is_position.branch [
-        | then-is_position+in_ok-put w ↦ rw (w.structural_indexes-is, w.positions-is) (w.in_ok-put.ensures.stored.1 ∙ ap (λ ps. ps ++ i ∷ []) c.loop-i.invariant.so_far ∙ sym (filter-next (is_position b) i true (sym stepped.1 ∙ w.if-is_position.true)))
-        | else-is_position w ↦ rw (w.structural_indexes-is, w.positions-is) (c.loop-i.invariant.so_far ∙ sym (filter-next (is_position b) i false (sym stepped.1 ∙ w.if-is_position.false)))
+        | then-is_position+in_ok-put w ↦ rw (w.structural_indexes-is, w.positions-is) (w.in_ok-put.ensures.stored.1
+            ∙ ap (λ ps. ps ++ i ∷ []) c.loop-i.invariant.so_far ∙ sym (filter-next (is_position b) i true (sym stepped.1
+            ∙ w.if-is_position.true)))
+        | else-is_position w ↦ rw (w.structural_indexes-is, w.positions-is) (c.loop-i.invariant.so_far
+            ∙ sym (filter-next (is_position b) i false (sym stepped.1 ∙ w.if-is_position.false)))
       ];
       capacity = grind arith;
       few_blocks = grind arith;
       blocks_within = grind arith;
       blocks_so_far = elim c.if-is_backslash.branch [
-        | then-is_backslash+then-next_block-block+in_ok-put-2 w ↦ rw (w.escape_blocks-is, w.blocks-is, w.next_block-is, w.in_ok-put-2.ensures.stored.1) (ListsBlocks-first listed (sym byte ∙ w.if-is_backslash.true) w.if-next_block-block.true)
+        | then-is_backslash+then-next_block-block+in_ok-put-2 w ↦ rw
+            (w.escape_blocks-is, w.blocks-is, w.next_block-is, w.in_ok-put-2.ensures.stored.1) (ListsBlocks-first listed (sym byte
+            ∙ w.if-is_backslash.true) w.if-next_block-block.true)
         | else-is_backslash w ↦ elim w.else-is_backslash.branch [
-          | else-is_backslash-via-then-is_backslash+else-next_block-block v ↦ rw (w.escape_blocks-is, w.blocks-is, w.next_block-is) (ListsBlocks-again listed (omega arith))
-          | else-is_backslash-via-else-is_backslash v ↦ rw (w.escape_blocks-is, w.blocks-is, w.next_block-is) (ListsBlocks-other listed (λ e. v.if-is_backslash.false (byte ∙ e)))
+          | else-is_backslash-via-then-is_backslash+else-next_block-block v ↦ rw (w.escape_blocks-is, w.blocks-is, w.next_block-is)
+              (ListsBlocks-again listed (omega arith))
+          | else-is_backslash-via-else-is_backslash v ↦ rw (w.escape_blocks-is, w.blocks-is, w.next_block-is) (ListsBlocks-other listed
+              (λ e. v.if-is_backslash.false (byte ∙ e)))
         ]
       ];
       block_capacity = grind arith;

@@ -1,13 +1,14 @@
 use Rattle.std.proofs.Common.{◌≡◌, ◌-◌, length}
 use Rattle.simd_json_stages.specs.Members.{HasCome}
+use Rattle.simd_json_stages.specs.Texts.{Reads}
 use Rattle.simd_json_stages.specs.Progresses.{reached}
 use Rattle.simd_json_stages.proofs.stage2.machine.Machine.build.Given as goal
 
 abbrev pub ghost-read_value : goal.ghost-read_value
 ghost-read_value g a = g.b
 
-abbrev pub ghost-follow : goal.ghost-follow
-ghost-follow g a = g.b
+abbrev pub ghost-next_member : goal.ghost-next_member
+ghost-next_member g a = g.b
 
 abbrev pub ghost-elements : goal.ghost-elements
 ghost-elements g a = g.b
@@ -17,7 +18,7 @@ ghost-members g a = g.b
 
 abbrev pub invariant-values : goal.invariant-values
 invariant-values g l = record {
-  came : HasCome g.b l.route.indexes.now l.route.max_depth l.self l.nodes l.value;
+  came : HasCome g.b l.route.indexes.now l.route.max_depth (Reads g.b l.self.text) l.self.stack.now l.nodes l.value;
   nodes : length l.nodes ≡ length l.fn.nodes;
   stack : length l.self.stack.now ≡ length l.fn.self.stack.now;
 }

@@ -1,9 +1,10 @@
 use Rattle.std.proofs.Common.{◌≡◌, ◌-◌, ◌≤◌, length}
 use Rattle.simd_json_stages.specs.Members.{AtPair}
+use Rattle.simd_json_stages.specs.Texts.{Reads}
 use Rattle.simd_json_stages.proofs.stage2.machine.Machine.members.Given as goal
 
-abbrev pub ghost-read_name : goal.ghost-read_name
-ghost-read_name g a = g.b
+abbrev pub ghost-read_key : goal.ghost-read_key
+ghost-read_key g a = g.b
 
 abbrev pub ghost-read_value : goal.ghost-read_value
 ghost-read_value g a = g.b
@@ -13,7 +14,7 @@ ghost-after_member g a = g.b
 
 abbrev pub invariant-pairs : goal.invariant-pairs
 invariant-pairs g l = record {
-  pair : AtPair g.b l.route.indexes.now l.route.max_depth l.self l.nodes l.p l.kind;
+  pair : AtPair g.b l.route.indexes.now l.route.max_depth (Reads g.b l.self.text) l.self.stack.now l.nodes l.p l.kind;
   further : l.fn.first.read ≤ l.p.read;
   nodes : length l.nodes ≡ length l.fn.nodes;
   stack : length l.self.stack.now ≡ length l.fn.self.stack.now;

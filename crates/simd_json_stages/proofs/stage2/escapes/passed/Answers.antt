@@ -1,6 +1,0 @@
-use Rattle.std.proofs.Common.{arith}
-use Rattle.simd_json_stages.proofs.EscapesPassed.{one-passed}
-use Rattle.simd_json_stages.proofs.stage2.escapes.passed.Goals as goal
-
-pub loop-next-preserved : goal.loop-next-preserved
-loop-next-preserved g c = one-passed g.b c.args.at c.args.blocks.now c.loop-next.next c.loop-next.invariant c.loop-next-test.true (omega arith)

@@ -1,0 +1,25 @@
+#!/bin/sh
+# The lines of definitions that docs/DESIGN.md counts are those of the files, and the sums are right: silent where all is
+# well, and else a line for each count that is wrong, and status 1.
+set -eu
+cd "$(dirname "$0")/.."
+
+wrong=$(
+    # Each name with a number after it is a file of specs/ with so many lines.
+    grep -o '`[A-Za-z]*` [0-9][0-9]*' docs/DESIGN.md | tr -d '`' | while read -r name lines; do
+        for file in crates/*/specs/"$name".antt; do
+            [ -e "$file" ] && [ "$(wc -l < "$file")" -eq "$lines" ] && continue 2
+        done
+        echo "DESIGN.md: $name has not $lines lines"
+    done
+    # A row of such counts ends with their sum.
+    awk -F'|' '/^\|.*` [0-9]+.*\| [0-9]+ \|$/ {
+        row = $3; sum = 0
+        while (match(row, /` [0-9]+/)) { sum += substr(row, RSTART + 2, RLENGTH - 2); row = substr(row, RSTART + RLENGTH) }
+        if (sum != $4 + 0) print "DESIGN.md: the sum of a row is " sum " and not" $4
+    }' docs/DESIGN.md
+)
+if [ -n "$wrong" ]; then
+    printf '%s\n' "$wrong" >&2
+    exit 1
+fi
