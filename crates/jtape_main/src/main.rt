@@ -19,9 +19,12 @@ fn main(rt: HostRuntime) -> ExitCode {
 }
 
 fn program(rt: &HostRuntime) -> Result<bool, Failure> {
-    let words = env::args(rt).and_then(|words| Ok(words.collect(rt.alloc())?));
-    let (mode, depth) = asked(words)?;
+    let (mode, depth) = asked(arguments(rt))?;
     let mut reader = Port::new(rt.reader());
     let mut writer = Port::new(io::writer(rt));
     Ok(run(rt.alloc(), mode, depth, &mut reader, &mut writer)?)
+}
+
+fn arguments(rt: &HostRuntime) -> io::Result<Vec<String>> {
+    Ok(env::args(rt)?.collect(rt.alloc())?)
 }

@@ -1,6 +1,6 @@
 -- After a comma stands the next member.
-use Rattle.std.proofs.Common.{◌≡◌, ◌≢◌, refl, sym, ◌∙◌, ap, subst, ℕ, ◌+◌, ◌-◌, ◌<◌, ◌≤◌, List, [], ◌∷◌, length, get_or, map, take, arith}
-use Rattle.std.specs.Prelude.{Bool, Result, Ok, Err, IfOk, IfErr, IsErrAnd, MatchResult}
+use Rattle.std.proofs.Common.{◌≡◌, refl, sym, ◌∙◌, ap, subst, ℕ, ◌+◌, ◌-◌, ◌<◌, ◌≤◌, List, [], ◌∷◌, length, get_or, map, take, arith}
+use Rattle.std.specs.Prelude.{Bool, Result, IfErr, IsErrAnd}
 use Rattle.simd_json_parts.specs.Bytes.{byte_at}
 use Rattle.simd_json_parts.specs.Positions.{positions}
 use Rattle.simd_json_parts.specs.declared.node.Node.{Node}
@@ -9,12 +9,11 @@ use Rattle.simd_json_parts.specs.declared.node.StaticNode.TheVariants.{Null}
 use Rattle.simd_json_parts.specs.Nodes.{item_of}
 use Rattle.simd_json_stages.specs.Continued.{Open}
 use Rattle.simd_json_stages.specs.Building.{closer, end_kind, frames, top, patch, HoldsValue, AfterValue, AtMember, AtMemberOf, Tells}
-use Rattle.simd_json_stages.specs.Members.{HasCapacity, AfterLast, AtFirst, HasCome, IsAtMember, IsAtMemberOf, IsFrom}
+use Rattle.simd_json_stages.specs.Members.{HasCapacity, AfterLast, AtFirst, HasCome, IsAtMember, IsAtMemberOf}
 use Rattle.simd_json_stages.specs.Refusals.{error_type}
 use Rattle.simd_json_stages.specs.Progresses.{IsOnRoute, IsRead, IsNext, IsBefore, IsAfter}
 use Rattle.simd_json_stages.specs.declared.stage2.Container.TheVariants.{Array, Object}
 use Rattle.simd_json_stages.specs.declared.stage2.Container.{Container}
-use Rattle.simd_json_stages.specs.declared.stage2.machine.Member.{Member}
 use Rattle.simd_json_stages.specs.declared.stage2.machine.Member.TheVariants.{Next, End}
 use Rattle.simd_json_stages.specs.declared.stage2.machine.Value.{Value}
 use Rattle.simd_json_stages.specs.declared.stage2.machine.Value.TheVariants.{Opened, Read}
@@ -152,29 +151,19 @@ module _ (b ps : List ℕ) (e : ps ≡ positions b) where
         text = kept _ _ ahead (omega arith);
       })
 
-  -- after the root, as `end` returns it
-  pub end-built : (limit : ℕ) (reads : ℕ → Type 0) (stack : List StackState) (nodes : List Node) (p : Progress)
-      (r : Result Member Fault) (Q : Fault → Type 0) → IsAfter b ps reads p
-      → AfterValue b ps limit stack nodes p → p.depth ≡ 0 → MatchResult r (λ m. (p.read ≡ length ps) × (m ≡ End p.used)) Q
-      → IfOk r (IsAtMember b ps limit reads stack nodes)
-  end-built limit reads stack nodes p (Err fault) Q after at none h = tt
-  end-built limit reads stack nodes p (Ok m) Q after at none (all, is) =
-      subst (IsAtMember b ps limit reads stack nodes) (sym is) (omega (arith, after.used), step-end b ps limit stack nodes p at none all)
+  -- after the root
+  pub end-built : (limit : ℕ) (reads : ℕ → Type 0) (stack : List StackState) (nodes : List Node) (p : Progress) → IsAfter b ps reads p
+      → AfterValue b ps limit stack nodes p → p.depth ≡ 0 → p.read ≡ length ps → IsAtMember b ps limit reads stack nodes (End p.used)
+  end-built limit reads stack nodes p after at none all =
+      (omega (arith, after.used), step-end b ps limit stack nodes p at none all)
 
-  pub end-from : (p : Progress) (n : ℕ) (r : Result Member Fault) (Q : Fault → Type 0)
-      → MatchResult r (λ m. (p.read ≡ length ps) × (m ≡ End p.used)) Q → IfOk r (IsFrom n)
-  end-from p n (Err fault) Q h = tt
-  end-from p n (Ok m) Q (all, is) = subst (IsFrom n) (sym is) tt
-
-  pub end-tells : (limit : ℕ) (stack : List StackState) (nodes : List Node) (p : Progress) (first : Node)
-      (r : Result Member Fault) (P : Member → Type 0) → AfterValue b ps limit stack nodes p → IsRead b ps p → p.depth ≡ 0
-      → 0 < p.used → p.used ≤ length nodes → first ≡ get_or nodes 0 (Static Null)
-      → MatchResult r P (λ fault. (p.read ≢ length ps) × (fault ≡ record { kind = end_kind first; index = p.at; byte = p.byte }))
-      → IfErr r (Tells b ps limit)
-  end-tells limit stack nodes p first (Ok m) P at read none some l is h = tt
-  end-tells limit stack nodes p first (Err fault) P at read none some l is (more, told) =
+  pub end-tells : (limit : ℕ) (stack : List StackState) (nodes : List Node) (p : Progress) (first : Node) (fault : Fault)
+      → AfterValue b ps limit stack nodes p → IsRead b ps p → p.depth ≡ 0 → 0 < p.used → p.used ≤ length nodes
+      → first ≡ get_or nodes 0 (Static Null) → p.read < length ps
+      → fault ≡ record { kind = end_kind first; index = p.at; byte = p.byte } → Tells b ps limit fault
+  end-tells limit stack nodes p first fault at read none some l is more told =
       told-at b ps limit (end_kind first) p fault told read.first
-      (tells-trailing b ps limit stack nodes p first at none (omega (arith, more, read.within)) some l is)
+      (tells-trailing b ps limit stack nodes p first at none more some l is)
 
 -- ---- from a value to the next member
 

@@ -1,6 +1,6 @@
 //! The machine: a loop for the elements of an array, one for the members of an object, and one round both.
-ghost use Rattle.std.specs.Prelude.{◌≡◌, ◌≢◌, ◌⊎◌, ◌<◌, ◌≤◌, ◌+◌, ◌-◌, ◌*◌, ◌^◌, ℕ, List, length, get_or, slice_index};
-ghost use Rattle.std.specs.Prelude.{None, IfOk, IfErr, OnOk, IsTrue, MatchResult};
+ghost use Rattle.std.specs.Prelude.{◌≡◌, ◌⊎◌, ◌<◌, ◌≤◌, ◌+◌, ◌-◌, ◌*◌, ◌^◌, ℕ, List, length, get_or, slice_index};
+ghost use Rattle.std.specs.Prelude.{None, IfOk, IfErr, OnOk, IsTrue};
 ghost use Rattle.simd_json_parts.specs.Bytes.{quote, byte_at};
 ghost use Rattle.simd_json_parts.specs.Faults.{fault_with};
 ghost use Rattle.simd_json_parts.specs.InputFaults.{input_fault};
@@ -315,7 +315,10 @@ impl<'de> Machine<'_, 'de> {
                 Turn::Closed(closed) => p = closed,
             }
         }
-        end(route.indexes, nodes[0], p)
+        if p.read < route.indexes.len() {
+            return Err(after_root(nodes[0], p));
+        }
+        Ok(Member::End(p.used))
     }
 
     // The loops have a copy for each caller of `build`, since what has one caller alone is inlined.
@@ -480,18 +483,13 @@ fn close<'de>(
     }
 }
 
-// After the root, whose first node is given: no token may stand there.
-fn end<'de>(indexes: &[u32], first: Node<'de>, p: Progress) -> Result<Member, Fault>
-    ensures { MatchResult result
-        (λ f. (p.read ≡ length indexes.now) × (f ≡ Member.End p.used))
-        (λ fault. (p.read ≢ length indexes.now)
-        × (fault ≡ record { kind = end_kind first.entry; index = p.at; byte = p.byte })) }
+// The fault of a token after the root, whose first node is given.
+#[cold]
+fn after_root<'de>(first: Node<'de>, p: Progress) -> Fault
+    ensures { result ≡ record { kind = end_kind first.entry; index = p.at; byte = p.byte } }
 {
-    if p.read == indexes.len() {
-        return Ok(Member::End(p.used));
-    }
     match first {
-        Node::Array { .. } | Node::Object { .. } => Err(p.fault(FaultKind::InternalError)),
-        _ => Err(p.fault(FaultKind::TrailingData)),
+        Node::Array { .. } | Node::Object { .. } => p.fault(FaultKind::InternalError),
+        _ => p.fault(FaultKind::TrailingData),
     }
 }

@@ -7,5 +7,8 @@ pub returns-then-is_utf8-clause-utf8 : goal.returns-then-is_utf8-clause-utf8
 returns-then-is_utf8-clause-utf8 c = (refl, utf8-whole c.args.input.now c.args.checked c.requires.1 (c.if-is_utf8.ensures.0 refl))
 
 pub returns-else-is_utf8-clause-fault : goal.returns-else-is_utf8-clause-fault
-returns-else-is_utf8-clause-fault c = (c.generic.ensures, λ all. false≢true (c.if-is_utf8.ensures.1
-    (utf8-rest c.args.input.now c.args.checked c.requires.0 c.requires.1 all)))
+returns-else-is_utf8-clause-fault c = (
+  c.generic.ensures,
+  λ all. false≢true (c.if-is_utf8.ensures.1
+      (utf8-rest c.args.input.now c.args.checked c.requires.0 c.requires.1 all)),
+)

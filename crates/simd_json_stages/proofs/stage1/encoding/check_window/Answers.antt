@@ -5,14 +5,18 @@ use Rattle.simd_json_stages.proofs.stage1.encoding.check_window.Goals as goal
 
 pub returns-then-checked-start-clause-utf8 : goal.returns-then-checked-start-clause-utf8
 returns-then-checked-start-clause-utf8 c =
-    let at : c.args.start ≡ c.args.checked = sym c.if-checked-start.true in
-    (c.requires.window.1, utf8-ascii c.args.input.now c.args.checked c.args.end (omega arith) c.requires.window.1 c.requires.checked.1
-    (subst (λ i. IsAscii c.args.input.now i c.args.end) at (c.requires.ascii c.if-is_ascii.true)))
+    let at : c.args.start ≡ c.args.checked = sym c.if-checked-start.true in (
+      c.requires.window.1,
+      utf8-ascii c.args.input.now c.args.checked c.args.end (omega arith) c.requires.window.1 c.requires.checked.1
+          (subst (λ i. IsAscii c.args.input.now i c.args.end) at (c.requires.ascii c.if-is_ascii.true)),
+    )
 
 pub returns-then-is_utf8-clause-utf8 : goal.returns-then-is_utf8-clause-utf8
-returns-then-is_utf8-clause-utf8 c =
-    (omega arith, utf8-further c.args.input.now c.args.checked c.character_start-to.result (omega arith) c.requires.checked.1
-    (c.if-is_utf8.ensures.0 refl))
+returns-then-is_utf8-clause-utf8 c = (
+  omega arith,
+  utf8-further c.args.input.now c.args.checked c.character_start-to.result (omega arith) c.requires.checked.1
+      (c.if-is_utf8.ensures.0 refl),
+)
 
 pub returns-clause-utf8 : goal.returns-clause-utf8
 returns-clause-utf8 c = utf8-all c.args.input.now c.check_rest.result c.check_rest.ensures.utf8

@@ -82,7 +82,7 @@ returns-clause-found g c =
       bad = rest-bad b p _ m s.placed marks;
       within = subst (λ xs. p.used + ones m.starts ≤ length xs) (sym out) capacity;
       listed = ap (take (p.used + ones m.starts)) out ∙ ap (λ n. take n w.new.out) (sym total) ∙ w.ensures.written
-      ∙ ap (λ l. l ++ set_bits 64 (64 * whole b) m.starts) before
+          ∙ ap (λ l. l ++ set_bits 64 (64 * whole b) m.starts) before
           ∙ rest-positions b p _ m s.placed marks;
       blocks_within = blocks.0;
       blocks_listed = blocks.1;
@@ -94,5 +94,10 @@ returns-in_err-grow-2-clause-fault g c =
     let e = c.in_err-grow-2.ensures.fault in
     let end : c.in_ok-check_window.field-0 ≡ length b = c.in_ok-check_window.ensures.whole refl in
     passed-on c.from_residual-in_err-grow-2.result _ _ c.from_residual-in_err-grow-2.ensures.1
-    (inr (e.0, c.requires.size, utf8-reached b c.in_ok-check_window.field-0 end c.in_ok-check_window.ensures.utf8.1, inr (omega
-    (arith, e.1, c.div_ceil-max_blocks.ensures))))
+    (inr (
+      e.0,
+      c.requires.size,
+      utf8-reached b c.in_ok-check_window.field-0 end c.in_ok-check_window.ensures.utf8.1,
+      inr (omega
+          (arith, e.1, c.div_ceil-max_blocks.ensures)),
+    ))

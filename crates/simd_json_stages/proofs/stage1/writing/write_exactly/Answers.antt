@@ -12,7 +12,7 @@ loop-rest-init c =
       from = omega arith;
       few = omega arith;
       stored = subst (λ k. IsStored c.args.out.now c.args.used
-      (set_bits 64 c.args.base c.args.bits) k c.args.base c.args.out.now c.args.bits) (sym none)
+          (set_bits 64 c.args.base c.args.bits) k c.args.base c.args.out.now c.args.bits) (sym none)
           (stored-first c.args.out.now c.args.used c.args.base c.args.bits c.ranges.bits.fits);
     }
 

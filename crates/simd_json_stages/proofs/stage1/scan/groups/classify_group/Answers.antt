@@ -53,9 +53,11 @@ loop-k-preserved c =
           let so-far : l.now.high ≡ 0 = omega (arith, le_or_l l.now.high m.result.high) in
           let here : m.result.high ≡ 0 = omega (arith, le_or_r l.now.high m.result.high) in
           let first = i.ascii b blocks before so-far in
-          let end : 64 * (c.args.first + l.k) + 64 ≡ 64 * (c.args.first + (l.k + 1)) = omega arith in
-          (first.0, IsAscii-next b (64 * c.args.first) (64 * (c.args.first + l.k)) _ first.1 (subst (λ n. IsAscii b (64 *
-          (c.args.first + l.k)) n) end (found.ascii here)));
+          let end : 64 * (c.args.first + l.k) + 64 ≡ 64 * (c.args.first + (l.k + 1)) = omega arith in (
+            first.0,
+            IsAscii-next b (64 * c.args.first) (64 * (c.args.first + l.k)) _ first.1 (subst (λ n. IsAscii b (64 *
+                (c.args.first + l.k)) n) end (found.ascii here)),
+          );
     }
 
 pub returns-clause-classified : goal.returns-clause-classified

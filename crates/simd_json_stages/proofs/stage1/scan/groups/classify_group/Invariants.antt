@@ -13,9 +13,9 @@ invariant-loop-k l = record {
   capacity : l.now.listed + (8 - l.k) ≤ length l.listed;
   few : l.now.listed ≤ l.fn.before.listed + l.k;
   classified : (b : List ℕ) → AreBlocks b l.blocks → IsClassified b l.first l.fn.before l.fn.listed
-  → IsClassified b (l.first + l.k) l.now l.listed;
+      → IsClassified b (l.first + l.k) l.now l.listed;
   classifies : (b : List ℕ) → AreBlocks b l.blocks → IsClassified b l.first l.fn.before l.fn.listed
-  → HaveClasses b l.first l.k l.classes.soft l.classes.hard l.classes.control l.classes.escaped;
+      → HaveClasses b l.first l.k l.classes.soft l.classes.hard l.classes.control l.classes.escaped;
   ascii : (b : List ℕ) → AreBlocks b l.blocks → IsClassified b l.first l.fn.before l.fn.listed → l.now.high ≡ 0
       → (l.fn.before.high ≡ 0) × IsAscii b (64 * l.first) (64 * (l.first + l.k));
 }

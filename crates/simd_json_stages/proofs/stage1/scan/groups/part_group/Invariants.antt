@@ -10,7 +10,7 @@ invariant-loop-k l = record {
   space_words : length l.parts.space ≡ 8;
   quote_words : length l.parts.quote ≡ 8;
   found : (b : List ℕ) (first : ℕ) → HaveClasses b first 8 l.classes.soft l.classes.hard l.classes.control l.classes.escaped
-  → HaveParts b first l.k l.parts.parity l.parts.plain l.parts.space l.parts.quote;
+      → HaveParts b first l.k l.parts.parity l.parts.plain l.parts.space l.parts.quote;
 }
 
 abbrev pub decreases-loop-k : goal.decreases-loop-k

@@ -9,7 +9,7 @@ invariant-loop-k l = record {
   capacity : l.now.used + 64 * (8 - l.k) ≤ length l.out;
   few : l.now.used ≤ l.fn.before.used + 64 * l.k;
   placed : (b : List ℕ) → HaveControl b l.first 8 l.control → HaveParts b l.first 8 l.group.parity l.group.plain l.group.space
-  l.group.quote → IsPlaced b l.first l.fn.before l.fn.out
+      l.group.quote → IsPlaced b l.first l.fn.before l.fn.out
       → IsPlaced b (l.first + l.k) l.now l.out;
 }
 

@@ -12,7 +12,7 @@ invariant-loop-i l = record {
   capacity : l.done.placing.used + 64 * (l.window.end - l.i) ≤ length l.out;
   block_capacity : l.done.classifying.listed + (l.window.end - l.i) ≤ length l.listed;
   scanned : (b : List ℕ) → AreBlocks b l.blocks → IsScanned b l.window.first l.fn.before l.fn.out l.fn.listed
-  → IsScanned b l.i l.done l.out l.listed;
+      → IsScanned b l.i l.done l.out l.listed;
   ascii : (b : List ℕ) → AreBlocks b l.blocks → IsScanned b l.window.first l.fn.before l.fn.out l.fn.listed → l.done.classifying.high ≡ 0
       → (l.fn.before.classifying.high ≡ 0) × IsAscii b (64 * l.window.first) (64 * l.i);
 }

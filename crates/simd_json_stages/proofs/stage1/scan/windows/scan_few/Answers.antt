@@ -36,9 +36,9 @@ loop-i-preserved c =
           let marks = c.find_marks-marks.ensures b _ parts found.classes.control h.placed.carried in
           record {
             classified = IsClassified-next b l.i l.classifying l.listed m.result _ d.new.listed d.result h.classified found
-            d.ensures.listed d.ensures.count (omega arith);
+                d.ensures.listed d.ensures.count (omega arith);
             placed = IsPlaced-next b l.i l.placing l.out c.find_marks-marks.result w.new.out w.result h.placed marks w.ensures.written
-            w.ensures.count (omega arith);
+                w.ensures.count (omega arith);
           };
       ascii = λ b blocks before none.
           let found = m.ensures b _ (blocks l.i _ (omega arith)) (i.scanned b blocks before).classified.escaped in

@@ -23,8 +23,11 @@ returns-clause-ascii c = λ b blocks before none.
     let middle = c.args.window.end - (c.args.window.end - c.args.window.first) % 8 in
     let first : IsScanned b middle i.done i.out i.listed × (i.done.classifying.high ≡ 0
     → IsAscii b (64 * c.args.window.first) (64 * middle)) = elim i.branch [
-      | then-window-middle w ↦ rw (w.out-is, w.listed-is, w.done-is) (w.scan_groups-done.ensures.scanned b blocks start, λ zero.
-          (w.scan_groups-done.ensures.ascii b blocks start zero).1)
+      | then-window-middle w ↦ rw (w.out-is, w.listed-is, w.done-is) (
+        w.scan_groups-done.ensures.scanned b blocks start,
+        λ zero.
+            (w.scan_groups-done.ensures.ascii b blocks start zero).1,
+      )
       | else-window-middle w ↦ (
           let same : c.args.window.first ≡ middle = omega arith in
           rw (w.out-is, w.listed-is, w.done-is) (IsScanned-same same start, λ zero n from to. absurd (omega arith))

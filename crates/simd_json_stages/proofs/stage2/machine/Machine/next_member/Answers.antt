@@ -7,7 +7,7 @@ use Rattle.simd_json_stages.specs.Progresses.{IsTurned, Turns, reached}
 use Rattle.simd_json_stages.specs.Texts.{Reads}
 use Rattle.simd_json_stages.specs.declared.stage2.fault.FaultKind.TheVariants as kinds
 use Rattle.simd_json_stages.proofs.Bounds.{nodes-within}
-use Rattle.simd_json_stages.proofs.Following.{at-member, come-opened, come-read, end-built, end-from, end-tells, some-node}
+use Rattle.simd_json_stages.proofs.Following.{at-member, come-opened, come-read, end-built, end-tells, some-node}
 use Rattle.simd_json_stages.proofs.stage2.machine.Machine.next_member.Goals as goal
 
 pub returns-in-Opened-clause-member : goal.returns-in-Opened-clause-member
@@ -68,16 +68,8 @@ returns-in-Next-clause-further g c =
     let along = subst (Turns c.loop-p.p) c.in-Next.is c.in_ok-next.ensures.advances in
     omega (arith, along.0, c.loop-p.invariant.passed)
 
-pub returns-clause-member : goal.returns-clause-member
-returns-clause-member g c =
-    end-built g.b c.args.route.indexes.now c.requires.0.positions c.args.route.max_depth _ c.args.self.now.stack.now
-    c.loop-p.nodes c.loop-p.p c.end.result _ c.loop-p.invariant.progress c.loop-p.invariant.after (omega arith) c.end.ensures
-
-pub returns-clause-further : goal.returns-clause-further
-returns-clause-further g c = end-from g.b c.args.route.indexes.now c.requires.0.positions c.loop-p.p _ c.end.result _ c.end.ensures
-
-pub returns-clause-refused : goal.returns-clause-refused
-returns-clause-refused g c =
+pub returns-then-p-route-clause-refused : goal.returns-then-p-route-clause-refused
+returns-then-p-route-clause-refused g c =
     let ps = c.args.route.indexes.now in
     let r = c.loop-p.invariant.progress in
     let none : c.loop-p.p.depth ≡ 0 = omega arith in
@@ -85,6 +77,12 @@ returns-clause-refused g c =
     c.loop-p.p r c.loop-p.invariant.depth (omega (arith, c.loop-p.invariant.nodes, c.requires.1.capacity.node_capacity)) in
     let some : 0 < c.loop-p.p.used = some-node g.b ps c.args.route.max_depth c.args.self.now.stack.now c.loop-p.nodes c.loop-p.p
     c.loop-p.invariant.after none enough in
-    end-tells g.b ps c.requires.0.positions c.args.route.max_depth c.args.self.now.stack.now c.loop-p.nodes c.loop-p.p _
-    c.end.result _ c.loop-p.invariant.after r.read none some enough
-    (get_or_default c.loop-p.nodes 0 _ (Static Null) (omega arith)) c.end.ensures
+    end-tells g.b ps c.requires.0.positions c.args.route.max_depth c.args.self.now.stack.now c.loop-p.nodes c.loop-p.p _ _
+    c.loop-p.invariant.after r.read none some enough (get_or_default c.loop-p.nodes 0 _ (Static Null) (omega arith))
+    (omega (arith, c.if-p-route)) c.after_root.ensures
+
+pub returns-clause-member : goal.returns-clause-member
+returns-clause-member g c =
+    end-built g.b c.args.route.indexes.now c.requires.0.positions c.args.route.max_depth _ c.args.self.now.stack.now
+    c.loop-p.nodes c.loop-p.p c.loop-p.invariant.progress c.loop-p.invariant.after (omega arith)
+    (omega (arith, c.if-p-route, c.loop-p.invariant.progress.read.within))

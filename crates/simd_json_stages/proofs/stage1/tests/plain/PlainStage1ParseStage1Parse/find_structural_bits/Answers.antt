@@ -27,8 +27,12 @@ pub returns-then-found-eq0-clause-fault : goal.returns-then-found-eq0-clause-fau
 returns-then-found-eq0-clause-fault g c =
     let b = c.args.input.now in
     let f = c.in_ok-has_bad_string.ensures.found in
-    let none : length (positions b) ≡ 0 = omega (arith, ap length f.listed, length-take-le c.in_ok-has_bad_string.found.positions
-    c.scan.new.structural_indexes.items f.within) in
+    let none : length (positions b) ≡ 0 = omega (
+      arith,
+      ap length f.listed,
+      length-take-le c.in_ok-has_bad_string.found.positions
+          c.scan.new.structural_indexes.items f.within,
+    ) in
     inl (none-found b (omega arith) f.encoding (sym f.bad ∙ c.if-has_bad_string.false) (eq-eqb _ _ none)
     ∙ ap Some (sym c.generic-then-found-eq0.ensures))
 
@@ -36,6 +40,10 @@ pub returns-clause-found : goal.returns-clause-found
 returns-clause-found g c =
     let b = c.args.input.now in
     let f = c.in_ok-has_bad_string.ensures.found in
-    let some : length (positions b) ≢ 0 = λ none. omega (arith, ap length f.listed, length-take-le c.in_ok-has_bad_string.found.positions
-    c.scan.new.structural_indexes.items f.within) in
+    let some : length (positions b) ≢ 0 = λ none. omega (
+      arith,
+      ap length f.listed,
+      length-take-le c.in_ok-has_bad_string.found.positions
+          c.scan.new.structural_indexes.items f.within,
+    ) in
     (f.within, f.listed, some-found b (omega arith) f.encoding (sym f.bad ∙ c.if-has_bad_string.false) (ne_eqb _ _ some))
