@@ -1,7 +1,8 @@
 -- What the machine counts stays within bounds from one token to the next.
-use Rattle.std.proofs.Common.{inl, inr, ◌≡◌, ◌≢◌, refl, sym, ◌∙◌, ap, subst, ℕ, ◌+◌, ◌*◌, ◌-◌, ◌<◌, ◌≤◌, List, [], ◌∷◌, ◌++◌, length, get_or, drop, Contains, arith}
+use Rattle.std.proofs.Common.{inl, inr, ◌≡◌, ◌≢◌, refl, sym, ◌∙◌, ap, subst, ℕ, ◌+◌, ◌-◌, ◌<◌, ◌≤◌, List, [], ◌∷◌, ◌++◌, length, get_or, drop, Contains, arith}
 use Rattle.std.specs.Prelude.{Some, Result, IfErr, IsErrAnd, slice_index}
 use Rattle.std.proofs.lemmas.Bool.{cases_lt}
+use Rattle.std.proofs.lemmas.List.{length_push}
 use Rattle.simd_json_parts.specs.Bytes.{byte_at}
 use Rattle.simd_json_parts.specs.Positions.{positions}
 use Rattle.simd_json_parts.specs.Tokens.{form_end, token_end}
@@ -52,21 +53,14 @@ some-left b ps p closed r x y =
     ]
 
 -- where a value or a name stands, there is a node for it
-pub node-left : (b ps : List ℕ) (reads : ℕ → Type 0) (limit n : ℕ) (p : Progress) → IsBefore b ps reads p → p.depth ≤ limit
-    → nodes_enough (length ps) limit ≤ n → p.used < n
+pub node-left : (b ps : List ℕ) (reads : ℕ → Type 0) (limit capacity written : ℕ) (p : Progress) → IsBefore b ps reads written p
+    → p.depth ≤ limit → nodes_enough (length ps) limit ≤ capacity → written < capacity
 unfolding nodes_enough
-node-left b ps reads limit n p r deep enough = omega (arith, r.read.within, r.used, r.deep)
+node-left b ps reads limit capacity written p r deep enough = omega (arith, r.read.within, r.few, r.deep)
 
--- after a value no more nodes are in use than there are
-pub nodes-within : (b ps : List ℕ) (reads : ℕ → Type 0) (limit n : ℕ) (p : Progress) → IsAfter b ps reads p → p.depth ≤ limit
-    → nodes_enough (length ps) limit ≤ n → p.used ≤ n
-unfolding nodes_enough
-nodes-within b ps reads limit n p r deep enough = omega (arith, r.read.within, r.used, r.deep)
-
--- nor after the last
-pub all-within : (used positions limit n : ℕ) → 2 * used ≤ positions + 1 → nodes_enough positions limit ≤ n → used ≤ n
-unfolding nodes_enough
-all-within used positions limit n half enough = omega arith
+-- one more node is written
+pub one-more : (nodes nodes' : List Node) (x : Node) → nodes' ≡ nodes ++ x ∷ [] → length nodes + 1 ≡ length nodes'
+one-more nodes nodes' x put = sym (ap length put ∙ length_push nodes x)
 
 -- the next token's number and byte
 pub next-read : (b ps : List ℕ) (p q : Progress) → IsNext b ps p q → q.read ≡ p.read + 1
@@ -117,59 +111,57 @@ module _ (b ps : List ℕ) (e : ps ≡ positions b) where
   next-ahead reads kept p q n h more = kept _ _ h (omega (arith, ap (λ (q : Progress). q.at) n.same, later q n.read more))
 
   -- after a first token that closes its container at once
-  pub after-first : (reads : ℕ → Type 0) → IsKept reads → (p q : Progress) → IsBefore b ps reads p → IsNext b ps p q
-      → IsAfter b ps reads (record q { used = q.used + 1; len = q.len + 1 })
-  after-first reads kept p q r n =
+  pub after-first : (reads : ℕ → Type 0) → IsKept reads → (written now : ℕ) (p q : Progress) → written + 1 ≡ now
+      → IsBefore b ps reads written p → IsNext b ps p q → IsAfter b ps reads now (record q { len = q.len + 1 })
+  after-first reads kept written now p q more' r n =
       let more : p.read < length ps = n.more in
       let l : p.at < get_or ps p.read 0 = later p r.read more in
-      subst (λ (q : Progress). IsAfter b ps reads (record q { used = q.used + 1; len = q.len + 1 })) (sym n.same)
+      subst (λ (q : Progress). IsAfter b ps reads now (record q { len = q.len + 1 })) (sym n.same)
       (let s : Progress = record p {
         read = p.read + 1;
         at = get_or ps p.read 0;
         byte = byte_at b (get_or ps p.read 0);
-        used = p.used + 1;
         len = p.len + 1;
       } in
       let read : IsRead b ps s = read-next p s r.read more refl refl refl in
       record {
         read = read;
-        used = omega (arith, r.used);
+        few = omega (arith, r.few);
         deep = omega (arith, r.deep);
         len = omega (arith, r.len);
         text = λ h. kept _ _ r.text (omega (arith, later s read h));
       })
 
   -- at the first token of a container that has members
-  pub before-first : (reads : ℕ → Type 0) → IsKept reads → (p q : Progress) (c : Container) → IsBefore b ps reads p → IsNext b ps p q
-      → IsBefore b ps reads (record {
+  pub before-first : (reads : ℕ → Type 0) → IsKept reads → (written now : ℕ) (p q : Progress) (c : Container) → written + 1 ≡ now
+      → IsBefore b ps reads written p → IsNext b ps p q
+      → IsBefore b ps reads now (record {
         read = q.read;
         at = q.at;
         byte = q.byte;
-        used = p.used + 1;
         depth = p.depth + 1;
         container = c;
         len = 0;
       })
-  before-first reads kept p q c r n =
+  before-first reads kept written now p q c more' r n =
       let more : p.read < length ps = n.more in
       let l : p.at < get_or ps p.read 0 = later p r.read more in
       let opened : Progress → Progress = λ q. record {
         read = q.read;
         at = q.at;
         byte = q.byte;
-        used = p.used + 1;
         depth = p.depth + 1;
         container = c;
         len = 0;
       } in
-      subst (λ (q : Progress). IsBefore b ps reads (opened q)) (sym n.same)
+      subst (λ (q : Progress). IsBefore b ps reads now (opened q)) (sym n.same)
       (record {
         read = read-next p (opened (record p {
           read = p.read + 1;
           at = get_or ps p.read 0;
           byte = byte_at b (get_or ps p.read 0);
         })) r.read more refl refl refl;
-        used = omega (arith, r.used);
+        few = omega (arith, r.few);
         deep = omega (arith, r.deep);
         len = omega (arith, r.len);
         text = kept _ _ r.text (omega arith);
@@ -200,13 +192,13 @@ module _ (b ps : List ℕ) (e : ps ≡ positions b) where
   -- what is after a string can be read from the next position on
   pub string-ahead : (p : Progress) (nodes nodes' : List Node) (reads : ℕ → Type 0) → IsKept reads → IsRead b ps p
       → Contains (tokens b) (token b p.at) → byte_at b p.at ≡ 34
-      → IsStringPut b p.at p.used nodes nodes' reads → p.read < length ps → reads (get_or ps p.read 0)
+      → IsStringPut b p.at nodes nodes' reads → p.read < length ps → reads (get_or ps p.read 0)
   string-ahead p nodes nodes' reads kept r t quote put more =
       kept _ _ put.text (ends-before p put.end r t (ap (form_end p.at) (quotes b p.at quote ∙ ap string_token put.read)) more)
 
   pub scalar-ahead : (p : Progress) (nodes nodes' : List Node) (reads : ℕ → Type 0) → IsKept reads → IsRead b ps p
       → Contains (tokens b) (token b p.at)
-      → IsScalarPut b p.at p.used nodes nodes' reads → p.read < length ps → reads (get_or ps p.read 0)
+      → IsScalarPut b p.at nodes nodes' reads → p.read < length ps → reads (get_or ps p.read 0)
   scalar-ahead p nodes nodes' reads kept r t put more =
       elim put.text [
         | inl early ↦ kept _ _ early (omega (arith, later p r more))
@@ -214,12 +206,12 @@ module _ (b ps : List ℕ) (e : ps ≡ positions b) where
       ]
 
   -- after a value of one node
-  pub after-value : (reads reads' : ℕ → Type 0) (p : Progress) → IsBefore b ps reads p → (p.read < length ps → reads' (get_or ps p.read 0))
-      → IsAfter b ps reads' (record p { used = p.used + 1; len = p.len + 1 })
-  after-value reads reads' p r ahead =
+  pub after-value : (reads reads' : ℕ → Type 0) (written now : ℕ) (p : Progress) → written + 1 ≡ now → IsBefore b ps reads written p
+      → (p.read < length ps → reads' (get_or ps p.read 0)) → IsAfter b ps reads' now (record p { len = p.len + 1 })
+  after-value reads reads' written now p more r ahead =
       record {
-        read = read-same p (record p { used = p.used + 1; len = p.len + 1 }) r.read refl refl refl;
-        used = omega (arith, r.used);
+        read = read-same p (record p { len = p.len + 1 }) r.read refl refl refl;
+        few = omega (arith, r.few);
         deep = omega (arith, r.deep);
         len = omega (arith, r.len);
         text = ahead;

@@ -1,8 +1,8 @@
 -- The steps of the machine that accept a token: each keeps what is built, and what the rest of the tokens make of it.
-use Rattle.std.proofs.Common.{◌≡◌, ◌≢◌, refl, sym, ◌∙◌, ap, subst, ℕ, zero, suc, ◌+◌, ◌-◌, ◌<◌, ◌≤◌, List, [], ◌∷◌, ◌++◌, true, append_assoc, length, get_or, set, map, take, drop, cond, add-one, arith}
+use Rattle.std.proofs.Common.{◌≡◌, ◌≢◌, refl, sym, ◌∙◌, ap, subst, ℕ, zero, suc, ◌+◌, ◌-◌, ◌<◌, ◌≤◌, List, [], ◌∷◌, ◌++◌, true, append_assoc, length, get_or, set, map, drop, cond, add-one, arith}
 use Rattle.std.specs.Prelude.{Result, Ok, Err}
-use Rattle.std.proofs.lemmas.List.{get_or-set_other, get_or-set_same, take_more, take_more_set, map-append, map-set, drop_more, length-map, length-take-le}
-use Rattle.std.proofs.Math.Seq.{take-set-lt, drop-length}
+use Rattle.std.proofs.lemmas.List.{get_or-set_other, get_or-set_same, map-append, map-set, drop_more, length-map}
+use Rattle.std.proofs.Math.Seq.{drop-length}
 use Rattle.simd_json_parts.specs.Bytes.{byte_at}
 use Rattle.simd_json_parts.specs.Document.{Document, string, array, object, no_elements, no_members}
 use Rattle.simd_json_parts.specs.Nodes.{Item, string_item, item_of}
@@ -16,8 +16,6 @@ use Rattle.simd_json_parts.specs.declared.error.Error.{Error}
 use Rattle.simd_json_parts.specs.declared.error.ErrorType.{ErrorType}
 use Rattle.simd_json_parts.specs.declared.error.ErrorType.TheVariants.{Syntax}
 use Rattle.simd_json_parts.specs.declared.node.Node.{Node}
-use Rattle.simd_json_parts.specs.declared.node.Node.TheVariants.{Static}
-use Rattle.simd_json_parts.specs.declared.node.StaticNode.TheVariants.{Null}
 use Rattle.simd_json_parts.proofs.Positions.TokensAtPositions.{tokens-positions}
 use Rattle.simd_json_stages.specs.Continued.{Open, in_array, in_object, at_value, at_array, at_object, at_name, after_value}
 use Rattle.simd_json_stages.specs.Building.{closer, header_of, frames, top, patch, Holds, HoldsValue, HoldsMembers, closed_with, missing, whole, AtValue, AtName, AfterValue, AtMemberOf, AtMember, IsBuilt, IsListed, Tells}
@@ -51,26 +49,16 @@ frames-top : (stack : List StackState) (depth : ℕ) → 0 < depth → frames st
 frames-top stack zero l = absurd (omega arith)
 frames-top stack (suc depth) l = let same : suc depth - 1 ≡ depth = omega arith in rw same refl
 
-items-put : (nodes : List Node) (used : ℕ) (x : Node) → used < length nodes
-    → map item_of (take (used + 1) (set nodes used x)) ≡ map item_of (take used nodes) ++ item_of x ∷ []
-items-put nodes used x l = ap (map item_of) (take_more_set nodes used x l) ∙ map-append item_of (take used nodes) (x ∷ [])
+-- the nodes are given by an equation, and so is the last one
+items-put : (nodes nodes' : List Node) (x : Node) → nodes' ≡ nodes ++ x ∷ [] → map item_of nodes' ≡ map item_of nodes ++ item_of x ∷ []
+items-put nodes nodes' x put = ap (map item_of) put ∙ map-append item_of nodes (x ∷ [])
 
--- the node is given by an equation, and so are the nodes
-items-grown : (nodes nodes' : List Node) (used : ℕ) (x : Node) (more : List Item) → used < length nodes
-    → nodes' ≡ set nodes used x → more ≡ item_of x ∷ [] → map item_of (take used nodes) ++ more ≡ map item_of (take (used + 1) nodes')
-items-grown nodes nodes' used x more l put is = ap (λ us. map item_of (take used nodes) ++ us) is ∙ sym (items-put nodes used x l)
-    ∙ ap (λ ns. map item_of (take (used + 1) ns)) (sym put)
+items-grown : (nodes nodes' : List Node) (x : Node) (more : List Item) → nodes' ≡ nodes ++ x ∷ [] → more ≡ item_of x ∷ []
+    → map item_of nodes ++ more ≡ map item_of nodes'
+items-grown nodes nodes' x more put is = ap (λ us. map item_of nodes ++ us) is ∙ sym (items-put nodes nodes' x put)
 
-items-more : (nodes : List Node) (used : ℕ) → used < length nodes
-    → map item_of (take (used + 1) nodes) ≡ map item_of (take used nodes) ++ item_of (get_or nodes used (Static Null)) ∷ []
-items-more nodes used l = ap (map item_of) (take_more nodes used (Static Null) l) ∙ map-append item_of (take used nodes) _
-
-items-patch : (nodes : List Node) (used i : ℕ) (x : Node) → i < used
-    → map item_of (take used (set nodes i x)) ≡ set (map item_of (take used nodes)) i (item_of x)
-items-patch nodes used i x l = ap (map item_of) (take-set-lt used nodes i x l) ∙ map-set item_of (take used nodes) i x
-
-pub items-length : (nodes : List Node) (used : ℕ) → used ≤ length nodes → length (map item_of (take used nodes)) ≡ used
-items-length nodes used l = length-map (take used nodes) item_of ∙ length-take-le used nodes l
+pub items-length : (nodes : List Node) → length (map item_of nodes) ≡ length nodes
+items-length nodes = length-map nodes item_of
 
 -- ---- either container
 
@@ -147,9 +135,9 @@ module _ (b ps : List ℕ) (limit : ℕ) where
 
   -- a scalar is read, and its node is put
   pub step-scalar : (stack : List StackState) (nodes nodes' : List Node) (reads : ℕ → Type 0) (p : Progress)
-      → AtValue b ps limit stack nodes p → p.used < length nodes → IsScalarPut b p.at p.used nodes nodes' reads
-      → AfterValue b ps limit stack nodes' (record p { used = p.used + 1; len = p.len + 1 })
-  step-scalar stack nodes nodes' reads p at l put =
+      → AtValue b ps limit stack nodes p → IsScalarPut b p.at nodes nodes' reads
+      → AfterValue b ps limit stack nodes' (record p { len = p.len + 1 })
+  step-scalar stack nodes nodes' reads p at put =
       let form : Form = scalar (Ok (put.document, put.end)) in
       record {
         opens = at.opens;
@@ -161,16 +149,16 @@ module _ (b ps : List ℕ) (limit : ℕ) where
         along = extended at.before p.at (drop p.read ps) form put.read refl at.along;
         reached = last_index-append at.before (token b p.at);
         holds = subst (HoldsValue at.opens put.document p.container (frames stack p.depth) (p.len + 1))
-            (items-grown nodes nodes' p.used put.node (listing put.document) l put.put put.listed)
-            (Holds-value at.opens p.container (frames stack p.depth) p.len (map item_of (take p.used nodes)) put.document at.holds);
+            (items-grown nodes nodes' put.node (listing put.document) put.put put.listed)
+            (Holds-value at.opens p.container (frames stack p.depth) p.len (map item_of nodes) put.document at.holds);
         deep = at.deep;
       }
 
   -- a string
   pub step-string : (stack : List StackState) (nodes nodes' : List Node) (reads : ℕ → Type 0) (p : Progress)
-      → AtValue b ps limit stack nodes p → p.used < length nodes → byte_at b p.at ≡ 34 → IsStringPut b p.at p.used nodes nodes' reads
-      → AfterValue b ps limit stack nodes' (record p { used = p.used + 1; len = p.len + 1 })
-  step-string stack nodes nodes' reads p at l q put =
+      → AtValue b ps limit stack nodes p → byte_at b p.at ≡ 34 → IsStringPut b p.at nodes nodes' reads
+      → AfterValue b ps limit stack nodes' (record p { len = p.len + 1 })
+  step-string stack nodes nodes' reads p at q put =
       let form : Form = string_token (Ok (put.string, put.end)) in
       let is : form_at b p.at ≡ form = quotes b p.at q ∙ ap string_token put.read in
       record {
@@ -182,8 +170,8 @@ module _ (b ps : List ℕ) (limit : ℕ) where
         along = extended at.before p.at (drop p.read ps) form is refl at.along;
         reached = last_index-append at.before (token b p.at);
         holds = subst (HoldsValue at.opens (string put.string) p.container (frames stack p.depth) (p.len + 1))
-            (items-grown nodes nodes' p.used put.node (string_item put.string ∷ []) l put.put (ap (λ i. i ∷ []) (sym put.item)))
-            (Holds-value at.opens p.container (frames stack p.depth) p.len (map item_of (take p.used nodes)) (string put.string) at.holds);
+            (items-grown nodes nodes' put.node (string_item put.string ∷ []) put.put (ap (λ i. i ∷ []) (sym put.item)))
+            (Holds-value at.opens p.container (frames stack p.depth) p.len (map item_of nodes) (string put.string) at.holds);
         deep = at.deep;
       }
 
@@ -206,18 +194,17 @@ module _ (b ps : List ℕ) (limit : ℕ) where
       (extended at.before p.at (drop p.read ps) (opening_form c) is (opening-goes_on c) at.along)
 
   -- an empty container
-  pub step-empty : (c : Container) (stack : List StackState) (nodes : List Node) (p : Progress) → AtValue b ps limit stack nodes p
-      → p.used < length nodes → p.depth < limit → byte_at b p.at + 2 ≡ closer c
+  pub step-empty : (c : Container) (stack : List StackState) (nodes nodes' : List Node) (p : Progress)
+      → AtValue b ps limit stack nodes p → nodes' ≡ nodes ++ header_of c 0 0 ∷ [] → p.depth < limit → byte_at b p.at + 2 ≡ closer c
       → p.read < length ps → byte_at b (get_or ps p.read 0) ≡ closer c
-      → AfterValue b ps limit stack (set nodes p.used (header_of c 0 0))
+      → AfterValue b ps limit stack nodes'
       (record p {
         read = p.read + 1;
         at = get_or ps p.read 0;
         byte = byte_at b (get_or ps p.read 0);
-        used = p.used + 1;
         len = p.len + 1;
       })
-  step-empty c stack nodes p at l capacity o k e =
+  step-empty c stack nodes nodes' p at put capacity o k e =
       let i : ℕ = get_or ps p.read 0 in
       let rest : List ℕ = drop (p.read + 1) ps in
       let is : form_at b p.at ≡ opening_form c = opening-form b c p.at o in
@@ -233,31 +220,30 @@ module _ (b ps : List ℕ) (limit : ℕ) where
             (opened-along c stack nodes p at is k);
         reached = last_index-append (at.before ++ token b p.at ∷ []) (token b i);
         holds = subst (HoldsValue at.opens (empty_of c) p.container (frames stack p.depth) (p.len + 1))
-            (items-grown nodes (set nodes p.used (header_of c 0 0)) p.used (header_of c 0 0) (listing (empty_of c)) l refl
-            (empty-listed c)) (Holds-value at.opens p.container (frames stack p.depth) p.len (map item_of (take p.used nodes))
+            (items-grown nodes nodes' (header_of c 0 0) (listing (empty_of c)) put
+            (empty-listed c)) (Holds-value at.opens p.container (frames stack p.depth) p.len (map item_of nodes)
             (empty_of c) at.holds);
         deep = at.deep;
       }
 
   -- a container with members
-  pub step-open : (c : Container) (stack : List StackState) (nodes : List Node) (p : Progress) → AtValue b ps limit stack nodes p
-      → p.used < length nodes → p.depth < length stack → p.depth < limit → byte_at b p.at + 2 ≡ closer c
-      → p.read < length ps → byte_at b (get_or ps p.read 0) ≢ closer c
+  pub step-open : (c : Container) (stack : List StackState) (nodes nodes' : List Node) (x : Node) (header : ℕ) (p : Progress)
+      → AtValue b ps limit stack nodes p → nodes' ≡ nodes ++ x ∷ [] → header ≡ length nodes → p.depth < length stack
+      → p.depth < limit → byte_at b p.at + 2 ≡ closer c → p.read < length ps → byte_at b (get_or ps p.read 0) ≢ closer c
       → AtMember b ps limit kinds.ExpectedObjectContent (set stack p.depth
-      (record { header = p.used; outer = p.container; len = p.len })) nodes
+      (record { header = header; outer = p.container; len = p.len })) nodes'
       (record {
         read = p.read + 1;
         at = get_or ps p.read 0;
         byte = byte_at b (get_or ps p.read 0);
-        used = p.used + 1;
         depth = p.depth + 1;
         container = c;
         len = 0;
       })
-  step-open Array stack nodes p at l s capacity o k e =
+  step-open Array stack nodes nodes' x header p at put first s capacity o k e =
       let i : ℕ = get_or ps p.read 0 in
       let rest : List ℕ = drop (p.read + 1) ps in
-      let f : StackState = record { header = p.used; outer = p.container; len = p.len } in
+      let f : StackState = record { header = header; outer = p.container; len = p.len } in
       let is : form_at b p.at ≡ begin_array = opening-form b Array p.at o in
       record {
         opens = in_array [] ∷ at.opens;
@@ -265,17 +251,16 @@ module _ (b ps : List ℕ) (limit : ℕ) where
             (cond (goes_on (form_at b i)) (tokens_along b rest) []) (form_at b i) refl (no_end b i e);
         before = at.before ++ token b p.at ∷ [];
         along = opened-along Array stack nodes p at is k;
-        holds = subst (λ fs. Holds (in_array [] ∷ at.opens) Array fs 0 (map item_of (take (p.used + 1) nodes)))
+        holds = subst (λ fs. Holds (in_array [] ∷ at.opens) Array fs 0 (map item_of nodes'))
             (sym (frames-push stack f p.depth s)) (subst (Holds (in_array [] ∷ at.opens) Array (f ∷ frames stack p.depth) 0)
-            (sym (items-more nodes p.used l)) (Holds-open at.opens p.container (frames stack p.depth) f p.len
-            (map item_of (take p.used nodes)) (item_of (get_or nodes p.used (Static Null))) at.holds
-            (sym (items-length nodes p.used (omega arith))) refl refl));
+            (sym (items-put nodes nodes' x put)) (Holds-open at.opens p.container (frames stack p.depth) f p.len
+            (map item_of nodes) (item_of x) at.holds (first ∙ sym (items-length nodes)) refl refl));
         deep = omega (arith, at.deep);
       }
-  step-open Object stack nodes p at l s capacity o k e =
+  step-open Object stack nodes nodes' x header p at put first s capacity o k e =
       let i : ℕ = get_or ps p.read 0 in
       let rest : List ℕ = drop (p.read + 1) ps in
-      let f : StackState = record { header = p.used; outer = p.container; len = p.len } in
+      let f : StackState = record { header = header; outer = p.container; len = p.len } in
       let is : form_at b p.at ≡ begin_object = opening-form b Object p.at o in
       record {
         members = [];
@@ -284,11 +269,10 @@ module _ (b ps : List ℕ) (limit : ℕ) where
             (cond (goes_on (form_at b i)) (tokens_along b rest) []) (form_at b i) refl (no_end_object b i e);
         before = at.before ++ token b p.at ∷ [];
         along = opened-along Object stack nodes p at is k;
-        holds = subst (λ fs. HoldsMembers [] at.opens Object fs 0 (map item_of (take (p.used + 1) nodes)))
+        holds = subst (λ fs. HoldsMembers [] at.opens Object fs 0 (map item_of nodes'))
             (sym (frames-push stack f p.depth s)) (subst (HoldsMembers [] at.opens Object (f ∷ frames stack p.depth) 0)
-            (sym (items-more nodes p.used l)) (Holds-open_object at.opens p.container (frames stack p.depth) f p.len
-            (map item_of (take p.used nodes)) (item_of (get_or nodes p.used (Static Null))) at.holds
-            (sym (items-length nodes p.used (omega arith))) refl refl));
+            (sym (items-put nodes nodes' x put)) (Holds-open_object at.opens p.container (frames stack p.depth) f p.len
+            (map item_of nodes) (item_of x) at.holds (first ∙ sym (items-length nodes)) refl refl));
         deep = omega (arith, at.deep);
       }
 
@@ -320,7 +304,7 @@ module _ (b ps : List ℕ) (limit : ℕ) where
       go : (opens' : List Open) (last : Document) → whole b ps limit ≡ after_value b (missing b ps) limit opens' last
           (tokens_along b (drop p.read ps))
           → (before : List Token) → tokens_along b ps ≡ before ++ tokens_along b (drop p.read ps)
-          → HoldsValue opens' last p.container (frames stack p.depth) p.len (map item_of (take p.used nodes)) → length opens' ≡ p.depth
+          → HoldsValue opens' last p.container (frames stack p.depth) p.len (map item_of nodes) → length opens' ≡ p.depth
           → AtMember b ps limit kinds.ExpectedObjectKey stack nodes q
       go [] last same before along' h deep = absurd (omega (arith, deep, some))
       go (in_array ds ∷ outer) last same before along' h deep =
@@ -334,7 +318,7 @@ module _ (b ps : List ℕ) (limit : ℕ) where
                 ∙ ap (at_value b (missing b ps) limit (in_array (ds ++ last ∷ []) ∷ outer)) (next-token p.read m);
             before = before ++ token b i ∷ [];
             along = next-along before p.read value_separator (commas b (get_or ps p.read 0) e) refl m along';
-            holds = Holds-comma ds outer last p.container (frames stack p.depth) p.len (map item_of (take p.used nodes)) h;
+            holds = Holds-comma ds outer last p.container (frames stack p.depth) p.len (map item_of nodes) h;
             deep = deep;
           })
       go (in_object ms name ∷ outer) last same before along' h deep =
@@ -351,59 +335,53 @@ module _ (b ps : List ℕ) (limit : ℕ) where
                 (next-token p.read m);
             before = before ++ token b i ∷ [];
             along = next-along before p.read value_separator (commas b (get_or ps p.read 0) e) refl m along';
-            holds = Holds-member_comma ms name outer last p.container (frames stack p.depth) p.len (map item_of (take p.used nodes)) h;
+            holds = Holds-member_comma ms name outer last p.container (frames stack p.depth) p.len (map item_of nodes) h;
             deep = deep;
           })
 
   -- what is held under the innermost frame
   held : (o : Open) (outer : List Open) (d : Document) (stack : List StackState) (nodes : List Node) (p : Progress) → 0 < p.depth
-      → HoldsValue (o ∷ outer) d p.container (frames stack p.depth) p.len (map item_of (take p.used nodes))
-      → HoldsValue (o ∷ outer) d p.container (top stack p.depth ∷ frames stack (p.depth - 1)) p.len (map item_of (take p.used nodes))
-  held o outer d stack nodes p l h = subst (λ fs. HoldsValue (o ∷ outer) d p.container fs p.len (map item_of (take p.used nodes)))
+      → HoldsValue (o ∷ outer) d p.container (frames stack p.depth) p.len (map item_of nodes)
+      → HoldsValue (o ∷ outer) d p.container (top stack p.depth ∷ frames stack (p.depth - 1)) p.len (map item_of nodes)
+  held o outer d stack nodes p l h = subst (λ fs. HoldsValue (o ∷ outer) d p.container fs p.len (map item_of nodes))
       (frames-top stack p.depth l) h
 
   -- the items with the header patched
   items-patched : (o : Open) (outer : List Open) (d : Document) (stack : List StackState) (nodes : List Node) (p : Progress)
-      → p.used ≤ length nodes → 0 < p.depth
-      → HoldsValue (o ∷ outer) d p.container (frames stack p.depth) p.len (map item_of (take p.used nodes))
-      → map item_of (take p.used (patch nodes (top stack p.depth) p))
-      ≡ set (map item_of (take p.used nodes)) (top stack p.depth).header
-      (item_of (header_of p.container p.len (length (map item_of (take p.used nodes)) - (top stack p.depth).header - 1)))
-  items-patched o outer d stack nodes p l k h =
+      → 0 < p.depth
+      → HoldsValue (o ∷ outer) d p.container (frames stack p.depth) p.len (map item_of nodes)
+      → map item_of (patch nodes (top stack p.depth) p)
+      ≡ set (map item_of nodes) (top stack p.depth).header
+      (item_of (header_of p.container p.len (length (map item_of nodes) - (top stack p.depth).header - 1)))
+  items-patched o outer d stack nodes p k h =
       let f : StackState = top stack p.depth in
-      let items : List Item = map item_of (take p.used nodes) in
-      let size : length items ≡ p.used = items-length nodes p.used l in
-      let below : f.header < length items = Holds-header o outer d p.container f (frames stack (p.depth - 1)) p.len items
-      (held o outer d stack nodes p k h) in
-      items-patch nodes p.used f.header (header_of p.container p.len (p.used - f.header - 1)) (omega arith)
-      ∙ ap (λ n. set items f.header (item_of (header_of p.container p.len (n - f.header - 1)))) (sym size)
+      map-set item_of nodes f.header (header_of p.container p.len (length nodes - f.header - 1))
+      ∙ ap (λ n. set (map item_of nodes) f.header (item_of (header_of p.container p.len (n - f.header - 1)))) (sym (items-length nodes))
 
   -- a closing bracket
   pub step-close : (stack : List StackState) (nodes : List Node) (p : Progress) → AfterValue b ps limit stack nodes p
-      → p.used ≤ length nodes → 0 < p.depth → p.read < length ps → byte_at b (get_or ps p.read 0) ≡ closer p.container
+      → 0 < p.depth → p.read < length ps → byte_at b (get_or ps p.read 0) ≡ closer p.container
       → AfterValue b ps limit stack (patch nodes (top stack p.depth) p)
       (record {
         read = p.read + 1;
         at = get_or ps p.read 0;
         byte = byte_at b (get_or ps p.read 0);
-        used = p.used;
         depth = p.depth - 1;
         container = (top stack p.depth).outer;
         len = (top stack p.depth).len + 1;
       })
-  step-close stack nodes p at l some k e = go at.opens at.last at.same at.holds at.deep
+  step-close stack nodes p at some k e = go at.opens at.last at.same at.holds at.deep
     where
       f : StackState
       f = top stack p.depth
 
       go : (opens' : List Open) (last : Document) → whole b ps limit ≡ after_value b (missing b ps) limit opens' last
           (tokens_along b (drop p.read ps))
-          → HoldsValue opens' last p.container (frames stack p.depth) p.len (map item_of (take p.used nodes)) → length opens' ≡ p.depth
+          → HoldsValue opens' last p.container (frames stack p.depth) p.len (map item_of nodes) → length opens' ≡ p.depth
           → AfterValue b ps limit stack (patch nodes f p) (record {
             read = p.read + 1;
             at = get_or ps p.read 0;
             byte = byte_at b (get_or ps p.read 0);
-            used = p.used;
             depth = p.depth - 1;
             container = f.outer;
             len = f.len + 1;
@@ -412,7 +390,7 @@ module _ (b ps : List ℕ) (limit : ℕ) where
       go (o ∷ outer) last same h deep =
           let i : ℕ = get_or ps p.read 0 in
           let rest : List ℕ = drop (p.read + 1) ps in
-          let items : List Item = map item_of (take p.used nodes) in
+          let items : List Item = map item_of nodes in
           let is : form_at b i ≡ closing_form o = closing-form b i o outer last p.container (frames stack p.depth) p.len items h e in
           record {
             opens = outer;
@@ -424,51 +402,50 @@ module _ (b ps : List ℕ) (limit : ℕ) where
             along = extended at.before i rest (closing_form o) is (closing-goes_on o) (reached_next at.before p.read k at.along);
             reached = last_index-append at.before (token b i);
             holds = subst (HoldsValue outer (closed_with o last) f.outer (frames stack (p.depth - 1)) (f.len + 1))
-                (sym (items-patched o outer last stack nodes p l some h))
+                (sym (items-patched o outer last stack nodes p some h))
                 (Holds-close o outer last p.container f (frames stack (p.depth - 1)) p.len items (held o outer last stack nodes p some h));
             deep = omega (arith, deep);
           }
 
   -- the header of the innermost container lies among the nodes, and the container round it has fewer members than there are nodes
   pub top-header : (stack : List StackState) (nodes : List Node) (p : Progress) → AfterValue b ps limit stack nodes p
-      → p.used ≤ length nodes → 0 < p.depth → (top stack p.depth).header < p.used
-  top-header stack nodes p at l some = go at.opens at.last at.holds at.deep
+      → 0 < p.depth → (top stack p.depth).header < length nodes
+  top-header stack nodes p at some = go at.opens at.last at.holds at.deep
     where
       go : (opens' : List Open) (last : Document) → HoldsValue opens' last p.container (frames stack p.depth) p.len
-          (map item_of (take p.used nodes)) → length opens' ≡ p.depth → (top stack p.depth).header < p.used
+          (map item_of nodes) → length opens' ≡ p.depth → (top stack p.depth).header < length nodes
       go [] last h deep = absurd (omega (arith, deep, some))
       go (o ∷ outer) last h deep = omega (
         arith,
-        items-length nodes p.used l,
+        items-length nodes,
         Holds-header o outer last p.container (top stack p.depth) (frames stack (p.depth - 1)) p.len _
             (held o outer last stack nodes p some h),
       )
 
   pub top-len : (stack : List StackState) (nodes : List Node) (p : Progress) → AfterValue b ps limit stack nodes p
-      → p.used ≤ length nodes → 0 < p.depth → (top stack p.depth).len < p.used
-  top-len stack nodes p at l some = go at.opens at.last at.holds at.deep
+      → 0 < p.depth → (top stack p.depth).len < length nodes
+  top-len stack nodes p at some = go at.opens at.last at.holds at.deep
     where
       go : (opens' : List Open) (last : Document) → HoldsValue opens' last p.container (frames stack p.depth) p.len
-          (map item_of (take p.used nodes)) → length opens' ≡ p.depth → (top stack p.depth).len < p.used
+          (map item_of nodes) → length opens' ≡ p.depth → (top stack p.depth).len < length nodes
       go [] last h deep = absurd (omega (arith, deep, some))
       go (o ∷ outer) last h deep = omega (
         arith,
-        items-length nodes p.used l,
+        items-length nodes,
         Holds-outer_len o outer last p.container (top stack p.depth) (frames stack (p.depth - 1)) p.len _
             (held o outer last stack nodes p some h),
       )
 
   -- a name and its colon, and the value after it
   pub step-name : (kind : ErrorType) (stack : List StackState) (nodes nodes' : List Node) (reads : ℕ → Type 0) (p : Progress)
-      → AtName b ps limit kind stack nodes p → p.used < length nodes → byte_at b p.at ≡ 34 → IsStringPut b p.at p.used nodes nodes' reads
+      → AtName b ps limit kind stack nodes p → byte_at b p.at ≡ 34 → IsStringPut b p.at nodes nodes' reads
       → p.read < length ps → byte_at b (get_or ps p.read 0) ≡ 58 → p.read + 1 < length ps
       → AtValue b ps limit stack nodes' (record p {
         read = p.read + 2;
         at = get_or ps (p.read + 1) 0;
         byte = byte_at b (get_or ps (p.read + 1) 0);
-        used = p.used + 1;
       })
-  step-name kind stack nodes nodes' reads p at l q put k e m =
+  step-name kind stack nodes nodes' reads p at q put k e m =
       let i : ℕ = get_or ps p.read 0 in
       let rest : List ℕ = drop (p.read + 1) ps in
       let form : Form = string_token (Ok (put.string, put.end)) in
@@ -487,19 +464,19 @@ module _ (b ps : List ℕ) (limit : ℕ) where
         along = next-along named p.read name_separator (colons b i e) refl m
             (extended at.before p.at (drop p.read ps) form is refl at.along);
         holds = subst (Holds (in_object at.members put.string ∷ at.outer) p.container (frames stack p.depth) p.len)
-            (items-grown nodes nodes' p.used put.node (string_item put.string ∷ []) l put.put (ap (λ i. i ∷ []) (sym put.item)))
-            (Holds-name at.members at.outer p.container (frames stack p.depth) p.len (map item_of (take p.used nodes)) put.string at.holds);
+            (items-grown nodes nodes' put.node (string_item put.string ∷ []) put.put (ap (λ i. i ∷ []) (sym put.item)))
+            (Holds-name at.members at.outer p.container (frames stack p.depth) p.len (map item_of nodes) put.string at.holds);
         deep = at.deep;
       }
 
   -- the root is whole, and no token is after it
   pub step-end : (stack : List StackState) (nodes : List Node) (p : Progress) → AfterValue b ps limit stack nodes p → p.depth ≡ 0
-      → p.read ≡ length ps → IsBuilt b ps limit nodes p.used
+      → p.read ≡ length ps → IsBuilt b ps limit nodes
   step-end stack nodes p at none all = go at.opens at.same at.holds at.deep
     where
       go : (opens' : List Open) → whole b ps limit ≡ after_value b (missing b ps) limit opens' at.last (tokens_along b (drop p.read ps))
-          → HoldsValue opens' at.last p.container (frames stack p.depth) p.len (map item_of (take p.used nodes))
-          → length opens' ≡ p.depth → IsBuilt b ps limit nodes p.used
+          → HoldsValue opens' at.last p.container (frames stack p.depth) p.len (map item_of nodes)
+          → length opens' ≡ p.depth → IsBuilt b ps limit nodes
       go [] same h deep =
           record {
             document = at.last;
@@ -510,23 +487,22 @@ module _ (b ps : List ℕ) (limit : ℕ) where
       go (o ∷ outer) same h deep = absurd (omega (arith, deep, none))
 
   -- at the first token nothing is read
-  pub root-value : (stack : List StackState) (nodes : List Node) (byte : ℕ) → 0 < length ps
+  pub root-value : (stack : List StackState) (nodes : List Node) (byte : ℕ) → nodes ≡ [] → 0 < length ps
       → AtValue b ps limit stack nodes (record {
         read = 1;
         at = get_or ps 0 0;
         byte = byte;
-        used = 0;
         depth = 0;
         container = Array;
         len = 0;
       })
-  root-value stack nodes byte l =
+  root-value stack nodes byte empty l =
       record {
         opens = [];
         same = ap (λ us. at_value b (missing b ps) limit [] (tokens_along b us)) (drop_more ps 0 0 l);
         before = [];
         along = ap (tokens_along b) (drop_more ps 0 0 l);
-        holds = (refl, refl, refl);
+        holds = (refl, refl, ap (map item_of) empty);
         deep = refl;
       }
 
@@ -541,9 +517,9 @@ whole-descent b limit =
     ∙ ap (λ us. value_from b (fault_at b Syntax (last_index us)) limit us >>= root_end b us) (sym (tokens-positions b))
 
 -- What is built is the descent's document.
-pub descent-built : (b : List ℕ) (limit : ℕ) (nodes : List Node) (used : ℕ) → IsBuilt b (positions b) limit nodes used
-    → IsListed b limit (take used nodes)
-descent-built b limit nodes used built =
+pub descent-built : (b : List ℕ) (limit : ℕ) (nodes : List Node) → IsBuilt b (positions b) limit nodes
+    → IsListed b limit nodes
+descent-built b limit nodes built =
     record {
       document = built.document;
       same = sym (whole-descent b limit)

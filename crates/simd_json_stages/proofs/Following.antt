@@ -1,5 +1,5 @@
 -- After a comma stands the next member.
-use Rattle.std.proofs.Common.{◌≡◌, refl, sym, ◌∙◌, ap, subst, ℕ, ◌+◌, ◌-◌, ◌<◌, ◌≤◌, List, [], ◌∷◌, length, get_or, map, take, arith}
+use Rattle.std.proofs.Common.{◌≡◌, refl, sym, ◌∙◌, ap, subst, ℕ, ◌+◌, ◌-◌, ◌<◌, ◌≤◌, List, [], ◌∷◌, length, get_or, map, arith}
 use Rattle.std.specs.Prelude.{Bool, Result, IfErr, IsErrAnd}
 use Rattle.simd_json_parts.specs.Bytes.{byte_at}
 use Rattle.simd_json_parts.specs.Positions.{positions}
@@ -69,15 +69,15 @@ module _ (b ps : List ℕ) (e : ps ≡ positions b) where
       (record { kind = kinds.Syntax; index = q.at; byte = byte_at b q.at })) (sym n.same) told)
 
   -- after a comma
-  pub comma-progress : (reads : ℕ → Type 0) → IsKept reads → (p q s : Progress) → IsAfter b ps reads p → IsNext b ps p q
-      → IsNext b ps q s → IsBefore b ps reads s
-  comma-progress reads kept p q s after n m =
+  pub comma-progress : (reads : ℕ → Type 0) → IsKept reads → (written : ℕ) (p q s : Progress) → IsAfter b ps reads written p
+      → IsNext b ps p q → IsNext b ps q s → IsBefore b ps reads written s
+  comma-progress reads kept written p q s after n m =
       let two : p.read + 1 < length ps = two-left p q s n m in
       let l : get_or ps p.read 0 < get_or ps (p.read + 1) 0 = rises p after.read two in
-      subst (IsBefore b ps reads) (sym (two-is p q s n m))
+      subst (IsBefore b ps reads written) (sym (two-is p q s n m))
       (record {
         read = subst (IsRead b ps) (two-is p q s n m) m.read;
-        used = omega (arith, after.used);
+        few = omega (arith, after.few);
         deep = omega (arith, after.deep);
         len = after.len;
         text = kept _ _ (after.text n.more) (omega arith);
@@ -91,12 +91,12 @@ module _ (b ps : List ℕ) (e : ps ≡ positions b) where
       (sym (fault ∙ ap (λ (q : Progress). record { kind = kind; index = q.at; byte = q.byte }) is)) told
 
   -- after a closing bracket, as `close` makes the progress
-  pub closed-after : (reads : ℕ → Type 0) → IsKept reads → (stack : List StackState) (p q q' : Progress) → IsAfter b ps reads p
-      → 0 < p.depth → p.read < length ps → (top stack p.depth).len < p.used → q ≡ one_more p
+  pub closed-after : (reads : ℕ → Type 0) → IsKept reads → (stack : List StackState) (written now : ℕ) (p q q' : Progress) → now ≡ written
+      → IsAfter b ps reads written p → 0 < p.depth → p.read < length ps → (top stack p.depth).len < written → q ≡ one_more p
       → q' ≡ record q { depth = q.depth - 1; container = (top stack q.depth).outer; len = (top stack q.depth).len + 1 }
-      → IsAfter b ps reads q'
-  closed-after reads kept stack p q q' r some more fewer is is' =
-      subst (IsAfter b ps reads) (sym (is' ∙ ap (λ (q : Progress). record q {
+      → IsAfter b ps reads now q'
+  closed-after reads kept stack written now p q q' same r some more fewer is is' =
+      subst (IsAfter b ps reads now) (sym (is' ∙ ap (λ (q : Progress). record q {
         depth = q.depth - 1;
         container = (top stack q.depth).outer;
         len = (top stack q.depth).len + 1;
@@ -109,18 +109,18 @@ module _ (b ps : List ℕ) (e : ps ≡ positions b) where
       let read : IsRead b ps s = read-next b ps e p s r.read more refl refl refl in
       record {
         read = read;
-        used = omega (arith, r.used);
+        few = omega (arith, r.few);
         deep = omega (arith, r.deep);
         len = omega arith;
         text = λ h. kept _ _ (r.text more) (omega (arith, later b ps e s read h));
       })
 
   pub closed-value : (limit : ℕ) (stack : List StackState) (nodes nodes' : List Node) (p q q' : Progress)
-      → AfterValue b ps limit stack nodes p → p.used ≤ length nodes → 0 < p.depth → p.read < length ps
+      → AfterValue b ps limit stack nodes p → 0 < p.depth → p.read < length ps
       → byte_at b (get_or ps p.read 0) ≡ closer p.container → q ≡ one_more p
       → q' ≡ record q { depth = q.depth - 1; container = (top stack q.depth).outer; len = (top stack q.depth).len + 1 }
       → nodes' ≡ patch nodes (top stack q.depth) q → AfterValue b ps limit stack nodes' q'
-  closed-value limit stack nodes nodes' p q q' at l some more byte is is' patched =
+  closed-value limit stack nodes nodes' p q q' at some more byte is is' patched =
       subst (AfterValue b ps limit stack nodes') (sym (is' ∙ ap
       (λ (q : Progress). record q {
         depth = q.depth - 1;
@@ -130,102 +130,105 @@ module _ (b ps : List ℕ) (e : ps ≡ positions b) where
       (subst (λ ns. AfterValue b ps limit stack ns (record (one_more p)
       { depth = p.depth - 1; container = (top stack p.depth).outer; len = (top stack p.depth).len + 1 }))
       (sym (patched ∙ ap (λ (q : Progress). patch nodes (top stack q.depth) q) is))
-      (step-close b ps limit stack nodes p at l some more byte))
+      (step-close b ps limit stack nodes p at some more byte))
 
   -- ---- after a name and its colon
 
-  pub named-progress : (reads reads' : ℕ → Type 0) → IsKept reads' → (p q s : Progress) → IsBefore b ps reads p
-      → reads' (get_or ps p.read 0) → IsNext b ps p q → IsNext b ps q s → IsBefore b ps reads' (record s { used = p.used + 1 })
-  named-progress reads reads' kept p q s r ahead n m =
+  pub named-progress : (reads reads' : ℕ → Type 0) → IsKept reads' → (written now : ℕ) (p q s : Progress) → written + 1 ≡ now
+      → IsBefore b ps reads written p → reads' (get_or ps p.read 0) → IsNext b ps p q → IsNext b ps q s → IsBefore b ps reads' now s
+  named-progress reads reads' kept written now p q s more r ahead n m =
       let two : p.read + 1 < length ps = two-left p q s n m in
       let l : get_or ps p.read 0 < get_or ps (p.read + 1) 0 = rises p r.read two in
-      subst (λ (s : Progress). IsBefore b ps reads' (record s { used = p.used + 1 })) (sym (two-is p q s n m))
+      subst (IsBefore b ps reads' now) (sym (two-is p q s n m))
       (record {
-        read = read-next b ps e q (record (two_more p) { used = p.used + 1 }) n.read m.more
+        read = read-next b ps e q (two_more p) n.read m.more
             (ap (λ (s : Progress). s.read) (sym (two-is p q s n m) ∙ m.same))
             (ap (λ (s : Progress). s.at) (sym (two-is p q s n m) ∙ m.same))
             (ap (λ (s : Progress). s.byte) (sym (two-is p q s n m) ∙ m.same));
-        used = omega (arith, r.used);
+        few = omega (arith, r.few);
         deep = omega (arith, r.deep);
         len = omega (arith, r.len);
         text = kept _ _ ahead (omega arith);
       })
 
   -- after the root
-  pub end-built : (limit : ℕ) (reads : ℕ → Type 0) (stack : List StackState) (nodes : List Node) (p : Progress) → IsAfter b ps reads p
-      → AfterValue b ps limit stack nodes p → p.depth ≡ 0 → p.read ≡ length ps → IsAtMember b ps limit reads stack nodes (End p.used)
-  end-built limit reads stack nodes p after at none all =
-      (omega (arith, after.used), step-end b ps limit stack nodes p at none all)
+  pub end-built : (limit : ℕ) (reads : ℕ → Type 0) (stack : List StackState) (capacity : ℕ) (nodes : List Node) (p : Progress)
+      → IsAfter b ps reads (length nodes) p → AfterValue b ps limit stack nodes p → p.depth ≡ 0 → p.read ≡ length ps
+      → IsAtMember b ps limit reads stack capacity nodes End
+  end-built limit reads stack capacity nodes p after at none all =
+      (omega (arith, after.few), step-end b ps limit stack nodes p at none all)
 
   pub end-tells : (limit : ℕ) (stack : List StackState) (nodes : List Node) (p : Progress) (first : Node) (fault : Fault)
-      → AfterValue b ps limit stack nodes p → IsRead b ps p → p.depth ≡ 0 → 0 < p.used → p.used ≤ length nodes
+      → AfterValue b ps limit stack nodes p → IsRead b ps p → p.depth ≡ 0 → 0 < length nodes
       → first ≡ get_or nodes 0 (Static Null) → p.read < length ps
       → fault ≡ record { kind = end_kind first; index = p.at; byte = p.byte } → Tells b ps limit fault
-  end-tells limit stack nodes p first fault at read none some l is more told =
+  end-tells limit stack nodes p first fault at read none some is more told =
       told-at b ps limit (end_kind first) p fault told read.first
-      (tells-trailing b ps limit stack nodes p first at none more some l is)
+      (tells-trailing b ps limit stack nodes p first at none more some is)
 
 -- ---- from a value to the next member
 
-module _ (b ps : List ℕ) (limit : ℕ) (reads : ℕ → Type 0) (stack : List StackState) (nodes : List Node) where
+module _ (b ps : List ℕ) (limit : ℕ) (reads : ℕ → Type 0) (stack : List StackState) (capacity : ℕ) (nodes : List Node) where
   -- past a value
-  pub come-read : (v : Value) (p : Progress) → HasCome b ps limit reads stack nodes v → v ≡ Read p
-      → AfterLast b ps limit reads stack nodes p
+  pub come-read : (v : Value) (p : Progress) → HasCome b ps limit reads stack capacity nodes v → v ≡ Read p
+      → AfterLast b ps limit reads stack capacity nodes p
   come-read v p come is =
-      let h : HasCome b ps limit reads stack nodes (Read p) = subst (HasCome b ps limit reads stack nodes) is come in
-      record { capacity = h.capacity; progress = h.within; depth = h.depth; after = h.step }
+      let h : HasCome b ps limit reads stack capacity nodes (Read p) = subst (HasCome b ps limit reads stack capacity nodes) is come in
+      record { capacities = h.capacities; progress = h.within; depth = h.depth; after = h.step }
 
   -- at the first token of a member
-  pub at-member : (p : Progress) (kind : FaultKind) → HasCapacity ps limit stack nodes → IsBefore b ps reads p → p.depth ≤ limit
+  pub at-member : (p : Progress) (kind : FaultKind) → HasCapacity ps limit stack capacity → IsBefore b ps reads (length nodes) p
+      → p.depth ≤ limit
       → 0 < p.depth → AtMember b ps limit kind stack nodes p
-      → IsAtMember b ps limit reads stack nodes (Next p kind)
-  at-member p kind capacity progress depth inside at = go p.container refl at
+      → IsAtMember b ps limit reads stack capacity nodes (Next p kind)
+  at-member p kind capacities progress depth inside at = go p.container refl at
     where
       go : (c : Container) → p.container ≡ c → AtMemberOf b ps limit c (error_type kind) stack nodes p
-          → IsAtMemberOf b ps limit reads stack nodes c p kind
+          → IsAtMemberOf b ps limit reads stack capacity nodes c p kind
       go Array is at = record {
-        first = record { capacity = capacity; progress = progress; depth = depth; value = at };
+        first = record { capacities = capacities; progress = progress; depth = depth; value = at };
         inside = inside;
         array = is;
       }
-      go Object is at = record { capacity = capacity; progress = progress; depth = depth; name = at }
+      go Object is at = record { capacities = capacities; progress = progress; depth = depth; name = at }
 
   -- in a new container
-  pub come-opened : (v : Value) (p : Progress) → HasCome b ps limit reads stack nodes v → v ≡ Opened p
-      → IsAtMember b ps limit reads stack nodes (Next p kinds.ExpectedObjectContent)
+  pub come-opened : (v : Value) (p : Progress) → HasCome b ps limit reads stack capacity nodes v → v ≡ Opened p
+      → IsAtMember b ps limit reads stack capacity nodes (Next p kinds.ExpectedObjectContent)
   come-opened v p come is =
-      let h : HasCome b ps limit reads stack nodes (Opened p) = subst (HasCome b ps limit reads stack nodes) is come in
-      at-member p kinds.ExpectedObjectContent h.capacity h.within h.depth h.inside h.step
+      let h : HasCome b ps limit reads stack capacity nodes (Opened p) = subst (HasCome b ps limit reads stack capacity nodes) is come in
+      at-member p kinds.ExpectedObjectContent h.capacities h.within h.depth h.inside h.step
 
 -- a root that is whole has a node
 pub some-node : (b ps : List ℕ) (limit : ℕ) (stack : List StackState) (nodes : List Node) (p : Progress)
-    → AfterValue b ps limit stack nodes p → p.depth ≡ 0 → p.used ≤ length nodes → 0 < p.used
-some-node b ps limit stack nodes p at none l = go at.opens at.deep at.holds
+    → AfterValue b ps limit stack nodes p → p.depth ≡ 0 → 0 < length nodes
+some-node b ps limit stack nodes p at none = go at.opens at.deep at.holds
   where
     go : (opens : List Open) → length opens ≡ p.depth → HoldsValue opens at.last p.container (frames stack p.depth) p.len
-        (map item_of (take p.used nodes)) → 0 < p.used
-    go [] deep (fs, items) = omega (arith, listing-some at.last, ap length items, items-length nodes p.used l)
+        (map item_of nodes) → 0 < length nodes
+    go [] deep (fs, items) = omega (arith, listing-some at.last, ap length items, items-length nodes)
     go (o ∷ outer) deep h = absurd (omega (arith, deep, none))
 
 -- ---- the first token
 
 abbrev pub first_token : List ℕ → ℕ → Progress
-first_token ps x = record { read = 1; at = get_or ps 0 0; byte = x; used = 0; depth = 0; container = Array; len = 0 }
+first_token ps x = record { read = 1; at = get_or ps 0 0; byte = x; depth = 0; container = Array; len = 0 }
 
--- All of the input can be read there.
-pub at-first : (closed : Bool) (b ps : List ℕ) (reads : ℕ → Type 0) → IsKept reads
-    → (stack : List StackState) (nodes : List Node) (limit x : ℕ) → IsOnRoute closed b ps → HasCapacity ps limit stack nodes
-    → 0 < length ps → reads 0 → x ≡ byte_at b (get_or ps 0 0) → AtFirst b ps limit reads stack nodes (first_token ps x)
-at-first closed b ps reads kept stack nodes limit x route capacity some text byte =
+-- All of the input can be read there, and no node is written.
+pub at-first : (closed : Bool) (b ps : List ℕ) (reads : ℕ → Type 0) → IsKept reads → (stack : List StackState) (capacity : ℕ)
+    (nodes : List Node) (limit x : ℕ) → nodes ≡ [] → IsOnRoute closed b ps → HasCapacity ps limit stack capacity → 0 < length ps
+    → reads 0 → x ≡ byte_at b (get_or ps 0 0) → AtFirst b ps limit reads stack capacity nodes (first_token ps x)
+at-first closed b ps reads kept stack capacity nodes limit x empty route capacities some text byte =
+    let none : length nodes ≡ 0 = ap length empty in
     record {
-      capacity = capacity;
+      capacities = capacities;
       progress = record {
         read = record { some = omega arith; within = omega arith; last = refl; first = byte };
-        used = omega arith;
+        few = omega arith;
         deep = omega arith;
         len = omega arith;
         text = kept _ _ text (omega arith);
       };
       depth = omega arith;
-      value = root-value b ps limit stack nodes x some;
+      value = root-value b ps limit stack nodes x empty some;
     }

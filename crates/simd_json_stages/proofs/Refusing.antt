@@ -1,5 +1,5 @@
 -- The steps of the machine that refuse a token: the fault is the whole descent's.
-use Rattle.std.proofs.Common.{inl, inr, ◌≡◌, ◌≢◌, refl, sym, ◌∙◌, ap, subst, ℕ, zero, suc, ◌+◌, ◌-◌, ◌<◌, ◌≤◌, List, [], ◌∷◌, ◌++◌, Bool, true, false, length-append, length, get_or, map, take, drop, cond, arith}
+use Rattle.std.proofs.Common.{inl, inr, ◌≡◌, ◌≢◌, refl, sym, ◌∙◌, ap, subst, ℕ, ◌+◌, ◌-◌, ◌<◌, ◌≤◌, List, [], ◌∷◌, ◌++◌, Bool, true, false, length-append, length, get_or, map, take, drop, cond, arith}
 use Rattle.std.specs.Prelude.{Ok, Err, if◌then◌else◌}
 use Rattle.std.proofs.lemmas.List.{append-nil}
 use Rattle.std.proofs.Math.Seq.{take-append_seam, drop-length}
@@ -54,14 +54,13 @@ end_kind-starts (nodes.Array len count) items = refl
 end_kind-starts (nodes.Object len count) items = refl
 end_kind-starts _ items = refl
 
-root-kind : (ns : List Node) (used : ℕ) (d : Document) (first : Node) → 0 < used → used ≤ length ns
-    → first ≡ get_or ns 0 (Static Null) → map item_of (take used ns) ≡ listing d
+root-kind : (ns : List Node) (d : Document) (first : Node) → 0 < length ns
+    → first ≡ get_or ns 0 (Static Null) → map item_of ns ≡ listing d
     → (if is_container d then InternalError else TrailingData) ≡ error_type (end_kind first)
-root-kind [] used d first l m is listed = absurd (omega arith)
-root-kind (n ∷ ns) zero d first l m is listed = absurd (omega arith)
-root-kind (n ∷ ns) (suc used) d first l m is listed =
+root-kind [] d first l is listed = absurd (omega arith)
+root-kind (n ∷ ns) d first l is listed =
     ap (λ t. if t then InternalError else TrailingData) (sym (listing-starts d) ∙ ap starts_container (sym listed))
-    ∙ end_kind-starts n (map item_of (take used ns)) ∙ ap (λ x. error_type (end_kind x)) (sym is)
+    ∙ end_kind-starts n (map item_of ns) ∙ ap (λ x. error_type (end_kind x)) (sym is)
 
 module _ (b ps : List ℕ) (limit : ℕ) where
   told : (f : Fault) → whole b ps limit ≡ Err (fault_with (error_type f.kind) f.index f.byte) → Tells b ps limit f
@@ -201,7 +200,7 @@ module _ (b ps : List ℕ) (limit : ℕ) where
       ∙ go at.opens at.deep p.container at.holds no_closer)
     where
       go : (os : List Open) → length os ≡ p.depth → (c : Container)
-          → HoldsValue os at.last c (frames stack p.depth) p.len (map item_of (take p.used nodes))
+          → HoldsValue os at.last c (frames stack p.depth) p.len (map item_of nodes)
           → byte_at b (get_or ps p.read 0) ≢ closer c
           → after_value b (missing b ps) limit os at.last (tokens_along b (get_or ps p.read 0 ∷ drop (p.read + 1) ps)) ≡ Err
           (fault_at b (error_type (content_kind c)) (get_or ps p.read 0))
@@ -234,17 +233,17 @@ module _ (b ps : List ℕ) (limit : ℕ) where
 
   -- something after the root
   pub tells-trailing : (stack : List StackState) (nodes : List Node) (p : Progress) (first : Node)
-      → AfterValue b ps limit stack nodes p → p.depth ≡ 0 → p.read < length ps → 0 < p.used → p.used ≤ length nodes
+      → AfterValue b ps limit stack nodes p → p.depth ≡ 0 → p.read < length ps → 0 < length nodes
       → first ≡ get_or nodes 0 (Static Null)
       → Tells b ps limit (record { kind = end_kind first; index = p.at; byte = byte_at b p.at })
-  tells-trailing stack nodes p first at root k l m is =
+  tells-trailing stack nodes p first at root k l is =
       let i : ℕ = get_or ps p.read 0 in
       let rest : List Token = tokens_along b (drop p.read ps) in
       ap (λ r. r >>= root_end b (tokens_along b ps)) (at.same ∙ alone at.opens at.deep)
       ∙ left_over at.before rest (token b i) (cond (goes_on (form_at b i)) (tokens_along b (drop (p.read + 1) ps)) [])
       at.last at.along (next b ps p.read k)
       ∙ ap (λ n. Err (fault_at b (if is_container at.last then InternalError else TrailingData) n)) at.reached
-      ∙ ap (λ kind. Err (fault_at b kind p.at)) (root-kind nodes p.used at.last first l m is (listed at.opens at.deep at.holds))
+      ∙ ap (λ kind. Err (fault_at b kind p.at)) (root-kind nodes at.last first l is (listed at.opens at.deep at.holds))
     where
       alone : (os : List Open) → length os ≡ p.depth → after_value b (missing b ps) limit os at.last
           (tokens_along b (drop p.read ps)) ≡ Ok (at.last, tokens_along b (drop p.read ps))
@@ -252,7 +251,7 @@ module _ (b ps : List ℕ) (limit : ℕ) where
       alone (o ∷ outer) deep = absurd (omega (arith, deep, root))
 
       listed : (os : List Open) → length os ≡ p.depth → HoldsValue os at.last p.container (frames stack p.depth) p.len
-          (map item_of (take p.used nodes)) → map item_of (take p.used nodes) ≡ listing at.last
+          (map item_of nodes) → map item_of nodes ≡ listing at.last
       listed [] deep holds = holds.1
       listed (o ∷ outer) deep holds = absurd (omega (arith, deep, root))
 

@@ -1,6 +1,6 @@
 -- A scalar that becomes a node, or is refused: a decimal's literal is UTF-8 and ends inside the input, and a fault is of no scalar.
-use Rattle.std.proofs.Common.{◌≡◌, ◌≢◌, refl, sym, ◌∙◌, ap, ap₂, subst, ℕ, ◌+◌, ◌<◌, ◌≤◌, inl, inr, List, [], ◌∷◌, length, get_or, take, drop, true, false, ◌||◌, ◌&&◌, ◌==◌, nat_eq, nat_le, nat_lt, arith}
-use Rattle.std.specs.Prelude.{Option, Some, None, Result, Ok, Err, IfOk, IsUtf8, codes, slice_set, if◌then◌else◌}
+use Rattle.std.proofs.Common.{◌≡◌, ◌≢◌, refl, sym, ◌∙◌, ap, ap₂, subst, ℕ, ◌+◌, ◌<◌, ◌≤◌, inl, inr, List, [], ◌∷◌, ◌++◌, length, get_or, take, drop, true, false, ◌||◌, ◌&&◌, ◌==◌, nat_eq, nat_le, nat_lt, arith}
+use Rattle.std.specs.Prelude.{Option, Some, None, Result, Ok, Err, IfOk, IsUtf8, codes, if◌then◌else◌}
 use Rattle.std.specs.List.{starts_with}
 use Rattle.std.specs.Str.{IsAscii}
 use Rattle.std.proofs.lemmas.Bool.{and_parts, cases_lt, cond_both, leb-false}
@@ -113,11 +113,11 @@ decimal-here b i literal end l is = subst (FormHere b) is (form-here b i l)
 -- ---- a node of fixed size
 
 -- nothing is split off before it
-pub static-put : (b : List ℕ) (i used end : ℕ) (nodes : List Node) (reads : ℕ → Type 0) (d : Document) (s : StaticNode) → reads i
-    → form_at b i ≡ scalar (Ok (d, end))
-    → listing d ≡ static_item s ∷ [] → IsScalarPut b i used nodes (slice_set nodes used (Static s)) reads
-static-put b i used end nodes reads d s text is listed =
-    record { document = d; end = end; node = Static s; read = is; listed = listed; put = refl; text = inl text }
+pub static-put : (b : List ℕ) (i end : ℕ) (nodes nodes' : List Node) (reads : ℕ → Type 0) (d : Document) (s : StaticNode) → reads i
+    → form_at b i ≡ scalar (Ok (d, end)) → listing d ≡ static_item s ∷ [] → nodes' ≡ nodes ++ Static s ∷ []
+    → IsScalarPut b i nodes nodes' reads
+static-put b i end nodes nodes' reads d s text is listed put =
+    record { document = d; end = end; node = Static s; read = is; listed = listed; put = put; text = inl text }
 
 -- ---- a refusal
 

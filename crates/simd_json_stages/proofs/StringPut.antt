@@ -7,7 +7,6 @@ use Rattle.simd_json_parts.specs.InputFaults.{input_fault}
 use Rattle.simd_json_parts.specs.Positions.{is_even, backslashes_before, is_real_quote, is_inside, is_fresh, is_position, positions}
 use Rattle.simd_json_parts.specs.StringAt.{closing_quote, escape_fault, read_pieces, string_read, string_at}
 use Rattle.simd_json_parts.specs.declared.error.Error.{Error}
-use Rattle.simd_json_parts.specs.declared.node.Node.{Node}
 use Rattle.simd_json_parts.proofs.Positions.Between.{string-ends}
 use Rattle.simd_json_parts.proofs.Positions.Boundaries.{Boundary, closing_quote-next, closed-inside}
 use Rattle.simd_json_parts.proofs.Positions.Order.{Contains-positions}
@@ -64,8 +63,8 @@ string_at-fault b i e h = string_read-fault (read_pieces 0 (slice_range b (suc i
 -- ---- the string at the last token
 
 -- as `put_string` is called, where `next` is the next position or the end of the input
-module _ (b ps : List ℕ) (positions' : ps ≡ positions b) (none : input_fault b ≡ None) (reads : ℕ → Type 0) (nodes : List Node)
-    (p : Progress) (at : AtString b ps reads nodes p) where
+module _ (b ps : List ℕ) (positions' : ps ≡ positions b) (none : input_fault b ≡ None) (reads : ℕ → Type 0)
+    (capacity written : ℕ) (p : Progress) (at : AtString b ps reads capacity written p) where
   read : IsRead b (positions b) p
   read = subst (λ ps. IsRead b ps p) positions' at.read
 

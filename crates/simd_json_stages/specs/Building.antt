@@ -1,5 +1,5 @@
 -- How the nodes so far and the stack stand for the containers that are open, the innermost first.
-use Rattle.std.specs.Prelude.{◌≡◌, ℕ, zero, suc, ◌+◌, ◌-◌, List, [], ◌∷◌, ◌++◌, length, get_or, slice_set, map, take, drop, Result, Ok, Err}
+use Rattle.std.specs.Prelude.{◌≡◌, ℕ, zero, suc, ◌+◌, ◌-◌, List, [], ◌∷◌, ◌++◌, length, get_or, slice_set, map, drop, Result, Ok, Err}
 use Rattle.simd_json_parts.specs.Document.{Document, array, object, no_elements, no_members}
 use Rattle.simd_json_parts.specs.Nodes.{Item, string_item, item_of}
 use Rattle.simd_json_parts.specs.Listing.{listing}
@@ -73,7 +73,7 @@ top stack depth = get_or stack (depth - 1) no_frame
 
 -- the nodes with its header patched
 abbrev pub patch : List Node → StackState → Progress → List Node
-patch nodes f p = slice_set nodes f.header (header_of p.container p.len (p.used - f.header - 1))
+patch nodes f p = slice_set nodes f.header (header_of p.container p.len (length nodes - f.header - 1))
 
 -- The items end with a header, yet to be patched, and what lies beneath it so far, of n members. The frame says where the
 -- header stands, and with the rest of the stack it holds what lies round.
@@ -131,7 +131,7 @@ module _ (b ps : List ℕ) (limit : ℕ) where
     pub same : whole ≡ at_value b (missing b ps) limit opens (tokens_along b (p.at ∷ drop p.read ps))
     pub before : List Token
     pub along : tokens_along b ps ≡ before ++ tokens_along b (p.at ∷ drop p.read ps)
-    pub holds : Holds opens p.container (frames stack p.depth) p.len (map item_of (take p.used nodes))
+    pub holds : Holds opens p.container (frames stack p.depth) p.len (map item_of nodes)
     pub deep : length opens ≡ p.depth
 
   -- It is the name of a member.
@@ -141,7 +141,7 @@ module _ (b ps : List ℕ) (limit : ℕ) where
     pub same : whole ≡ at_name b (missing b ps) limit kind members outer (tokens_along b (p.at ∷ drop p.read ps))
     pub before : List Token
     pub along : tokens_along b ps ≡ before ++ tokens_along b (p.at ∷ drop p.read ps)
-    pub holds : HoldsMembers members outer p.container (frames stack p.depth) p.len (map item_of (take p.used nodes))
+    pub holds : HoldsMembers members outer p.container (frames stack p.depth) p.len (map item_of nodes)
     pub deep : suc (length outer) ≡ p.depth
 
   -- The value has been read.
@@ -152,14 +152,14 @@ module _ (b ps : List ℕ) (limit : ℕ) where
     pub before : List Token
     pub along : tokens_along b ps ≡ before ++ tokens_along b (drop p.read ps)
     pub reached : last_index before ≡ p.at
-    pub holds : HoldsValue opens last p.container (frames stack p.depth) p.len (map item_of (take p.used nodes))
+    pub holds : HoldsValue opens last p.container (frames stack p.depth) p.len (map item_of nodes)
     pub deep : length opens ≡ p.depth
 
   -- The whole is this document, and its listing is written.
-  pub record IsBuilt (nodes : List Node) (used : ℕ) : Type 0 where
+  pub record IsBuilt (nodes : List Node) : Type 0 where
     pub document : Document
     pub same : whole ≡ Ok (document, [])
-    pub listed : map item_of (take used nodes) ≡ listing document
+    pub listed : map item_of nodes ≡ listing document
 
   -- at the first token of a member: a value, or a name in an object
   abbrev pub AtMemberOf : Container → ErrorType → List StackState → List Node → Progress → Type 0

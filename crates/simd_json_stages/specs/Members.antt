@@ -1,5 +1,5 @@
 -- The machine between the members of a container.
-use Rattle.std.specs.Prelude.{◌≡◌, ◌≤◌, ◌<◌, ◌+◌, ◌*◌, ℕ, List, length, min, Contains, Result, IfOk, IfErr}
+use Rattle.std.specs.Prelude.{◌≡◌, ◌≤◌, ◌<◌, ◌+◌, ◌*◌, ℕ, List, length, min, Contains, Result, OnOk, IfErr}
 use Rattle.simd_json_parts.specs.Bytes.{quote}
 use Rattle.simd_json_parts.specs.Tokens.{form_at, tokens}
 use Rattle.simd_json_parts.specs.declared.node.Node.{Node}
@@ -19,28 +19,28 @@ use Rattle.simd_json_stages.specs.declared.stage2.machine.Value.TheVariants.{Ope
 use Rattle.simd_json_stages.specs.declared.stage2.progress.Progress.{Progress}
 
 -- there is capacity for the nodes of the positions ps, and for a frame each
-pub record HasCapacity (ps : List ℕ) (limit : ℕ) (stack : List StackState) (nodes : List Node) : Type 0 where
-  pub node_capacity : nodes_enough (length ps) limit ≤ length nodes
+pub record HasCapacity (ps : List ℕ) (limit : ℕ) (stack : List StackState) (capacity : ℕ) : Type 0 where
+  pub node_capacity : nodes_enough (length ps) limit ≤ capacity
   pub frame_capacity : min (length ps) limit ≤ length stack
 
 -- at the opening quote of a string
-pub record AtString (b ps : List ℕ) (reads : ℕ → Type 0) (nodes : List Node) (p : Progress) : Type 0 where
+pub record AtString (b ps : List ℕ) (reads : ℕ → Type 0) (capacity written : ℕ) (p : Progress) : Type 0 where
   pub read : IsRead b ps p
   pub token : Contains (tokens b) (record { index = p.at; form = form_at b p.at })
   pub opening : p.byte ≡ quote
   pub text : reads p.at
-  pub capacity : p.used < length nodes
+  pub room : written < capacity
 
 -- no token before this one is looked at again
 abbrev pub IsFrom : ℕ → Member → Type 0
 IsFrom n (Next p kind) = n ≤ p.read
-IsFrom n (End used) = Unit {0}
+IsFrom n End = Unit {0}
 
-module _ (b ps : List ℕ) (limit : ℕ) (reads : ℕ → Type 0) (stack : List StackState) (nodes : List Node) where
+module _ (b ps : List ℕ) (limit : ℕ) (reads : ℕ → Type 0) (stack : List StackState) (capacity : ℕ) (nodes : List Node) where
   -- at the first token of a value
   pub record AtFirst (p : Progress) : Type 0 where
-    pub capacity : HasCapacity ps limit stack nodes
-    pub progress : IsBefore b ps reads p
+    pub capacities : HasCapacity ps limit stack capacity
+    pub progress : IsBefore b ps reads (length nodes) p
     pub depth : p.depth ≤ limit
     pub value : AtValue b ps limit stack nodes p
 
@@ -52,15 +52,15 @@ module _ (b ps : List ℕ) (limit : ℕ) (reads : ℕ → Type 0) (stack : List 
 
   -- at the first token of a member of an object, where a fault of this kind is reported if it is no key
   pub record AtPair (p : Progress) (kind : FaultKind) : Type 0 where
-    pub capacity : HasCapacity ps limit stack nodes
-    pub progress : IsBefore b ps reads p
+    pub capacities : HasCapacity ps limit stack capacity
+    pub progress : IsBefore b ps reads (length nodes) p
     pub depth : p.depth ≤ limit
     pub name : AtName b ps limit (error_type kind) stack nodes p
 
   -- after a value
   pub record AfterLast (p : Progress) : Type 0 where
-    pub capacity : HasCapacity ps limit stack nodes
-    pub progress : IsAfter b ps reads p
+    pub capacities : HasCapacity ps limit stack capacity
+    pub progress : IsAfter b ps reads (length nodes) p
     pub depth : p.depth ≤ limit
     pub after : AfterValue b ps limit stack nodes p
 
@@ -76,8 +76,8 @@ module _ (b ps : List ℕ) (limit : ℕ) (reads : ℕ → Type 0) (stack : List 
 
   -- in a new container, or past a value
   pub record HasCome (v : Value) : Type 0 where
-    pub capacity : HasCapacity ps limit stack nodes
-    pub within : IsWithin b ps reads v
+    pub capacities : HasCapacity ps limit stack capacity
+    pub within : IsWithin b ps reads (length nodes) v
     pub depth : (reached v).depth ≤ limit
     pub inside : IsInside v
     pub step : Opens b ps limit stack nodes v
@@ -90,11 +90,10 @@ module _ (b ps : List ℕ) (limit : ℕ) (reads : ℕ → Type 0) (stack : List 
   -- at a member, or at the end with the whole document
   abbrev pub IsAtMember : Member → Type 0
   IsAtMember (Next p kind) = IsAtMemberOf p.container p kind
-  IsAtMember (End used) = (2 * used ≤ length ps + 1) × IsBuilt b ps limit nodes used
+  IsAtMember End = (2 * length nodes ≤ length ps + 1) × IsBuilt b ps limit nodes
 
 -- The nodes of the whole document are written, or the fault is the descent's.
-pub record IsTape (b ps : List ℕ) (limit : ℕ) (nodes nodes' : List Node) (r : Result ℕ Fault) : Type 0 where
-  pub kept : length nodes' ≡ length nodes
-  pub used : IfOk r (λ used. 2 * used ≤ length ps + 1)
-  pub built : IfOk r (IsBuilt b ps limit nodes')
+pub record IsTape (b ps : List ℕ) (limit : ℕ) (nodes : List Node) (r : Result (Unit {0}) Fault) : Type 0 where
+  pub few : OnOk r (2 * length nodes ≤ length ps + 1)
+  pub built : OnOk r (IsBuilt b ps limit nodes)
   pub refused : IfErr r (Tells b ps limit)

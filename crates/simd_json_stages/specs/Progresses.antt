@@ -32,30 +32,30 @@ pub record IsOnRoute (closed : Bool) (b ps : List ℕ) : Type 0 where
   pub whole : input_fault b ≡ None
   pub closes : IsTrue closed → EndsClosed b ps
 
--- Before a value or a key, whose first token is read: it has no node yet. Nodes are counted twice, as in `nodes_enough`. Each open
--- container and each member has a node.
-pub record IsBefore (b ps : List ℕ) (reads : ℕ → Type 0) (p : Progress) : Type 0 where
+-- Before a value or a key, whose first token is read: it has no node yet. So many nodes are written; they are counted twice, as in
+-- `nodes_enough`. Each open container and each member has a node.
+pub record IsBefore (b ps : List ℕ) (reads : ℕ → Type 0) (written : ℕ) (p : Progress) : Type 0 where
   pub read : IsRead b ps p
-  pub used : 2 * p.used < p.read + p.depth
-  pub deep : p.depth ≤ p.used
-  pub len : p.len ≤ p.used
+  pub few : 2 * written < p.read + p.depth
+  pub deep : p.depth ≤ written
+  pub len : p.len ≤ written
   pub text : reads p.at
 
 -- After a value, which has a node beside the open containers': the text can be read from the next position on.
-pub record IsAfter (b ps : List ℕ) (reads : ℕ → Type 0) (p : Progress) : Type 0 where
+pub record IsAfter (b ps : List ℕ) (reads : ℕ → Type 0) (written : ℕ) (p : Progress) : Type 0 where
   pub read : IsRead b ps p
-  pub used : 2 * p.used ≤ p.read + p.depth + 1
-  pub deep : p.depth < p.used
-  pub len : p.len ≤ p.used
+  pub few : 2 * written ≤ p.read + p.depth + 1
+  pub deep : p.depth < written
+  pub len : p.len ≤ written
   pub text : p.read < length ps → reads (slice_index ps p.read)
 
-abbrev pub IsWithin : List ℕ → List ℕ → (ℕ → Type 0) → Value → Type 0
-IsWithin b ps reads (Opened p) = IsBefore b ps reads p
-IsWithin b ps reads (Read p) = IsAfter b ps reads p
+abbrev pub IsWithin : List ℕ → List ℕ → (ℕ → Type 0) → ℕ → Value → Type 0
+IsWithin b ps reads written (Opened p) = IsBefore b ps reads written p
+IsWithin b ps reads written (Read p) = IsAfter b ps reads written p
 
-abbrev pub IsTurned : List ℕ → List ℕ → (ℕ → Type 0) → Turn → Type 0
-IsTurned b ps reads (turns.Next p) = IsBefore b ps reads p
-IsTurned b ps reads (turns.Closed p) = IsAfter b ps reads p
+abbrev pub IsTurned : List ℕ → List ℕ → (ℕ → Type 0) → ℕ → Turn → Type 0
+IsTurned b ps reads written (turns.Next p) = IsBefore b ps reads written p
+IsTurned b ps reads written (turns.Closed p) = IsAfter b ps reads written p
 
 abbrev pub reached : Value → Progress
 reached (Opened p) = p

@@ -1,5 +1,5 @@
 -- What a reader of one value answers that is put as the next node.
-use Rattle.std.specs.Prelude.{◌≡◌, ◌⊎◌, ℕ, List, [], ◌∷◌, slice_set, Bool, true, false, Ok, Err}
+use Rattle.std.specs.Prelude.{◌≡◌, ◌⊎◌, ℕ, List, [], ◌∷◌, ◌++◌, Bool, true, false, Ok, Err}
 use Rattle.simd_json_parts.specs.Bytes.{byte_at}
 use Rattle.simd_json_parts.specs.Document.{Document}
 use Rattle.simd_json_parts.specs.Faults.{fault_with}
@@ -12,24 +12,24 @@ use Rattle.simd_json_stages.specs.Refusals.{error_type}
 use Rattle.simd_json_stages.specs.declared.stage2.fault.Fault.{Fault}
 use Rattle.simd_json_stages.specs.declared.stage2.fault.FaultKind.TheVariants as kinds
 
--- the string at index i is the node of this number, and what is after it can be read
-pub record IsStringPut (b : List ℕ) (i used : ℕ) (nodes nodes' : List Node) (reads : ℕ → Type 0) : Type 0 where
+-- the string at index i is the next node, and what is after it can be read
+pub record IsStringPut (b : List ℕ) (i : ℕ) (nodes nodes' : List Node) (reads : ℕ → Type 0) : Type 0 where
   pub string : List ℕ
   pub end : ℕ
   pub node : Node
   pub read : string_at b i ≡ Ok (string, end)
   pub item : item_of node ≡ string_item string
-  pub put : nodes' ≡ slice_set nodes used node
+  pub put : nodes' ≡ nodes ++ node ∷ []
   pub text : reads end
 
--- the scalar at index i is the node of this number, and what is after it can be read, or it too
-pub record IsScalarPut (b : List ℕ) (i used : ℕ) (nodes nodes' : List Node) (reads : ℕ → Type 0) : Type 0 where
+-- the scalar at index i is the next node, and what is after it can be read, or it too
+pub record IsScalarPut (b : List ℕ) (i : ℕ) (nodes nodes' : List Node) (reads : ℕ → Type 0) : Type 0 where
   pub document : Document
   pub end : ℕ
   pub node : Node
   pub read : form_at b i ≡ scalar (Ok (document, end))
   pub listed : listing document ≡ item_of node ∷ []
-  pub put : nodes' ≡ slice_set nodes used node
+  pub put : nodes' ≡ nodes ++ node ∷ []
   pub text : reads i ⊎ reads end
 
 -- the fault is the string's

@@ -13,7 +13,8 @@
 //!
 //! `machine` has the states, `progress` how far it is, `text` what it reads from, `scalar` the scalars and `fault`
 //! what it refuses.
-ghost use Rattle.std.specs.Prelude.{◌≡◌, ◌≤◌, ℕ, List, length, take, min, None, IfOk, IfErr, true, false};
+ghost use Rattle.std.specs.Prelude.{◌≡◌, ◌≤◌, ℕ, List, [], length, min, None, OnOk, IfErr, true, false};
+ghost use Rattle.std.specs.Prelude.{vec_capacity};
 ghost use Rattle.simd_json_parts.specs.Descent.{descent};
 ghost use Rattle.simd_json_parts.specs.InputFaults.{input_fault};
 ghost use Rattle.simd_json_parts.specs.Positions.{positions};
@@ -36,6 +37,7 @@ use machine::{Machine, Route};
 pub use scalar::{is_valid_false_atom, is_valid_null_atom, is_valid_true_atom};
 use simd_json_parts::error::Result;
 use simd_json_parts::node::Node;
+use std::alloc::Allocator;
 use text::Text;
 
 #[cfg(test)]
@@ -115,29 +117,29 @@ pub fn nodes_enough(positions: usize, max_depth: usize) -> usize
 }
 
 /// Builds the tape of an input from its structural positions and from the blocks of 64 bytes that hold a
-/// backslash: writes its nodes to the front of `nodes`, and returns how many there are; [`nodes_enough`]
-/// tells how long that must be. `stack` holds what is kept of open containers.
+/// backslash: appends its nodes to `nodes`, which is empty and has capacity for as many as [`nodes_enough`] says.
+/// `stack` holds what is kept of open containers.
 ///
 /// The nodes are the listing of the document that the descent reads. An error is the descent's own fault,
 /// with the index and the character that belong to it; none is for want of memory, and none is of the whole
-/// input.
-pub fn build_tape<'de>(
+/// input. What `nodes` holds after an error is of no meaning.
+pub fn build_tape<'de, A: Allocator>(
     input: &'de mut [u8],
     structural_indexes: &[u32],
     escape_blocks: &[u32],
     stack: &mut [StackState],
-    nodes: &mut [Node<'de>],
+    nodes: &mut Vec<Node<'de>, A>,
     max_depth: usize,
-) -> Result<usize>
+) -> Result<()>
     requires positions { structural_indexes.now ≡ positions input.old }
     requires escapes { escape_blocks.now ≡ backslash_blocks input.old }
     requires whole { input_fault input.old ≡ None }
-    requires nodes { nodes_enough (length structural_indexes.now) max_depth ≤ length nodes.old }
+    requires capacity { nodes_enough (length structural_indexes.now) max_depth ≤ vec_capacity nodes.old }
     requires stack { min (length structural_indexes.now) max_depth ≤ length stack.old }
-    ensures kept { length nodes.new ≡ length nodes.old }
-    ensures used { IfOk result (λ used. used ≤ length structural_indexes.now) }
-    ensures within { IfOk result (λ used. used ≤ length nodes.new) }
-    ensures built { IfOk result (λ used. IsListed input.old max_depth (take used nodes.new)) }
+    requires empty { nodes.old.items ≡ [] }
+    ensures capacity { vec_capacity nodes.new ≡ vec_capacity nodes.old }
+    ensures few { OnOk result (length nodes.new.items ≤ length structural_indexes.now) }
+    ensures built { OnOk result (IsListed input.old max_depth nodes.new.items) }
     ensures refused { IfErr result (λ e. IsTokenFault e × (descent input.old max_depth ≡ Err e)) }
 {
     match build_nodes(
@@ -148,25 +150,27 @@ pub fn build_tape<'de>(
         nodes,
         max_depth,
     ) {
-        Ok(used) => Ok(used),
+        Ok(()) => Ok(()),
         Err(fault) => Err(fault.into_error()),
     }
 }
 
 // The nodes of the tape, or the fault of the machine.
-fn build_nodes<'de>(
+fn build_nodes<'de, A: Allocator>(
     input: &'de mut [u8],
     indexes: &[u32],
     escape_blocks: &[u32],
     stack: &mut [StackState],
-    nodes: &mut [Node<'de>],
+    nodes: &mut Vec<Node<'de>, A>,
     max_depth: usize,
-) -> std::result::Result<usize, Fault>
+) -> std::result::Result<(), Fault>
     requires positions { indexes.now ≡ positions input.old }
     requires escapes { escape_blocks.now ≡ backslash_blocks input.old }
     requires whole { input_fault input.old ≡ None }
-    requires capacity { HasCapacity indexes.now max_depth stack.old nodes.old }
-    ensures { IsTape input.old indexes.now max_depth nodes.old nodes.new result }
+    requires capacities { HasCapacity indexes.now max_depth stack.old (vec_capacity nodes.old) }
+    requires empty { nodes.old.items ≡ [] }
+    ensures capacity { vec_capacity nodes.new ≡ vec_capacity nodes.old }
+    ensures tape { IsTape input.old indexes.now max_depth nodes.new.items result }
 {
     let last = input[indexes[indexes.len() - 1] as usize];
     if last != b']' && last != b'}' {
@@ -183,19 +187,21 @@ fn build_nodes<'de>(
 // stays in registers.
 
 #[inline(never)]
-fn shared_tape<'de>(
+fn shared_tape<'de, A: Allocator>(
     input: &'de [u8],
     indexes: &[u32],
     stack: &mut [StackState],
-    nodes: &mut [Node<'de>],
+    nodes: &mut Vec<Node<'de>, A>,
     max_depth: usize,
-) -> std::result::Result<usize, Fault>
+) -> std::result::Result<(), Fault>
     ghost b: { List ℕ }
     requires input { input.now ≡ b }
     requires plain { PlainFrom b 0 (length b) }
     requires route { IsOnRoute true b indexes.now }
-    requires capacity { HasCapacity indexes.now max_depth stack.old nodes.old }
-    ensures { IsTape b indexes.now max_depth nodes.old nodes.new result }
+    requires capacities { HasCapacity indexes.now max_depth stack.old (vec_capacity nodes.old) }
+    requires empty { nodes.old.items ≡ [] }
+    ensures capacity { vec_capacity nodes.new ≡ vec_capacity nodes.old }
+    ensures tape { IsTape b indexes.now max_depth nodes.new.items result }
 {
     let text = Text::shared(input);
     let mut machine = Machine { text, stack };
@@ -204,24 +210,26 @@ fn shared_tape<'de>(
         ends_closed: true,
         max_depth,
     };
-    machine.build::<0>(route, nodes)
+    machine.build::<A, 0>(route, nodes)
 }
 
 #[inline(never)]
-fn closed_tape<'de>(
+fn closed_tape<'de, A: Allocator>(
     input: &'de mut [u8],
     indexes: &[u32],
     escape_blocks: &[u32],
     stack: &mut [StackState],
-    nodes: &mut [Node<'de>],
+    nodes: &mut Vec<Node<'de>, A>,
     max_depth: usize,
-) -> std::result::Result<usize, Fault>
+) -> std::result::Result<(), Fault>
     ghost b: { List ℕ }
     requires input { input.old ≡ b }
     requires escapes { escape_blocks.now ≡ backslash_blocks b }
     requires route { IsOnRoute true b indexes.now }
-    requires capacity { HasCapacity indexes.now max_depth stack.old nodes.old }
-    ensures { IsTape b indexes.now max_depth nodes.old nodes.new result }
+    requires capacities { HasCapacity indexes.now max_depth stack.old (vec_capacity nodes.old) }
+    requires empty { nodes.old.items ≡ [] }
+    ensures capacity { vec_capacity nodes.new ≡ vec_capacity nodes.old }
+    ensures tape { IsTape b indexes.now max_depth nodes.new.items result }
 {
     let text = Text::lent(input, escape_blocks);
     let mut machine = Machine { text, stack };
@@ -230,24 +238,26 @@ fn closed_tape<'de>(
         ends_closed: true,
         max_depth,
     };
-    machine.build::<1>(route, nodes)
+    machine.build::<A, 1>(route, nodes)
 }
 
 #[inline(never)]
-fn open_tape<'de>(
+fn open_tape<'de, A: Allocator>(
     input: &'de mut [u8],
     indexes: &[u32],
     escape_blocks: &[u32],
     stack: &mut [StackState],
-    nodes: &mut [Node<'de>],
+    nodes: &mut Vec<Node<'de>, A>,
     max_depth: usize,
-) -> std::result::Result<usize, Fault>
+) -> std::result::Result<(), Fault>
     ghost b: { List ℕ }
     requires input { input.old ≡ b }
     requires escapes { escape_blocks.now ≡ backslash_blocks b }
     requires route { IsOnRoute false b indexes.now }
-    requires capacity { HasCapacity indexes.now max_depth stack.old nodes.old }
-    ensures { IsTape b indexes.now max_depth nodes.old nodes.new result }
+    requires capacities { HasCapacity indexes.now max_depth stack.old (vec_capacity nodes.old) }
+    requires empty { nodes.old.items ≡ [] }
+    ensures capacity { vec_capacity nodes.new ≡ vec_capacity nodes.old }
+    ensures tape { IsTape b indexes.now max_depth nodes.new.items result }
 {
     let text = Text::lent(input, escape_blocks);
     let mut machine = Machine { text, stack };
@@ -256,5 +266,5 @@ fn open_tape<'de>(
         ends_closed: false,
         max_depth,
     };
-    machine.build::<2>(route, nodes)
+    machine.build::<A, 2>(route, nodes)
 }

@@ -1,6 +1,6 @@
 //! The machine: a loop for the elements of an array, one for the members of an object, and one round both.
 ghost use Rattle.std.specs.Prelude.{◌≡◌, ◌⊎◌, ◌<◌, ◌≤◌, ◌+◌, ◌-◌, ◌*◌, ◌^◌, ℕ, List, length, get_or, slice_index};
-ghost use Rattle.std.specs.Prelude.{None, IfOk, IfErr, OnOk, IsTrue};
+ghost use Rattle.std.specs.Prelude.{None, IfOk, IfErr, OnOk, IsTrue, vec_capacity, []};
 ghost use Rattle.simd_json_parts.specs.Bytes.{quote, byte_at};
 ghost use Rattle.simd_json_parts.specs.Faults.{fault_with};
 ghost use Rattle.simd_json_parts.specs.InputFaults.{input_fault};
@@ -22,6 +22,7 @@ use super::text::Text;
 use super::{Container, StackState};
 use simd_json_parts::node::Node;
 use simd_json_parts::stringparse::BadEscape;
+use std::alloc::Allocator;
 use std::result::Result;
 
 // What stays as it is on the way through the tokens: their positions, whether the last of them holds a closing
@@ -63,11 +64,11 @@ enum Turn {
 }
 
 // What the machine goes on with: a member of the innermost container, where in an object a fault of this kind is
-// reported if it has no key. At the end of the root nothing, with as many nodes.
+// reported if it has no key, or nothing, at the end of the root.
 #[derive(Clone, Copy, Debug, Drop)]
 enum Member {
     Next(Progress, FaultKind),
-    End(usize),
+    End,
 }
 
 // What the machine changes: what is left of the text, and what is kept of open containers. The nodes are lent
@@ -107,29 +108,30 @@ impl<'de> Machine<'_, 'de> {
     // The string at the last token becomes the next node. Only whitespace stands between its closing quote and
     // the next position.
     #[inline(always)]
-    fn put_string(
+    fn put_string<A: Allocator>(
         &mut self,
         route: Route,
-        nodes: &mut [Node<'de>],
+        nodes: &mut Vec<Node<'de>, A>,
         p: Progress,
     ) -> Result<(), Fault>
         ghost b: { List ℕ }
         requires route { IsOnRoute route.ends_closed b route.indexes.now }
-        requires string { AtString b route.indexes.now (Reads b self.old.text) nodes.old p }
-        ensures kept { length nodes.new ≡ length nodes.old }
+        requires string { AtString b route.indexes.now (Reads b self.old.text) (vec_capacity nodes.old)
+            (length nodes.old.items) p }
+        ensures capacity { vec_capacity nodes.new ≡ vec_capacity nodes.old }
         ensures stack { self.new.stack ≡ self.old.stack }
         ensures put { OnOk result
-            (IsStringPut b p.at p.used nodes.old nodes.new (Reads b self.new.text)) }
+            (IsStringPut b p.at nodes.old.items nodes.new.items (Reads b self.new.text)) }
         ensures refused { IfErr result (IsBadString b p.at) }
     {
         let next = route.position_or_end(p.read, self.text.end());
         let may_have_escape = self.text.may_have_escape(p.at, next);
         if !may_have_escape {
-            nodes[p.used] = Node::String(self.text.share_string(p.at, next));
+            nodes.push_reserved(Node::String(self.text.share_string(p.at, next)));
             return Ok(());
         }
         match self.text.parse_string(p.at) {
-            Ok(string) => nodes[p.used] = Node::String(string),
+            Ok(string) => nodes.push_reserved(Node::String(string)),
             Err(bad) => return Err(bad_escape(p.at, bad)),
         }
         Ok(())
@@ -138,21 +140,21 @@ impl<'de> Machine<'_, 'de> {
     // The key at the last token, and its colon, and on to the first token of the member's value. Where no key
     // stands, the fault is of this kind.
     #[inline(always)]
-    fn read_key(
+    fn read_key<A: Allocator>(
         &mut self,
         route: Route,
-        nodes: &mut [Node<'de>],
+        nodes: &mut Vec<Node<'de>, A>,
         p: Progress,
         kind: FaultKind,
     ) -> Result<Progress, Fault>
         ghost b: { List ℕ }
         requires route { IsOnRoute route.ends_closed b route.indexes.now }
         requires pair { AtPair b route.indexes.now route.max_depth (Reads b self.old.text)
-            self.old.stack.now nodes.old p kind }
-        ensures kept { length nodes.new ≡ length nodes.old }
+            self.old.stack.now (vec_capacity nodes.old) nodes.old.items p kind }
+        ensures capacity { vec_capacity nodes.new ≡ vec_capacity nodes.old }
         ensures stack { self.new.stack ≡ self.old.stack }
         ensures value { IfOk result (AtFirst b route.entry.indexes.now route.entry.max_depth
-            (Reads b self.new.text) self.new.stack.now nodes.new) }
+            (Reads b self.new.text) self.new.stack.now (vec_capacity nodes.new) nodes.new.items) }
         ensures advances { IfOk result (λ q. (p.read < q.read) × (p.at ≤ q.at)
             × (q.depth ≡ p.depth) × (q.container ≡ p.container)) }
         ensures refused { IfErr result (Tells b route.entry.indexes.now route.entry.max_depth) }
@@ -166,34 +168,32 @@ impl<'de> Machine<'_, 'de> {
             return Err(colon.fault(FaultKind::ExpectedObjectColon));
         }
         let value = self.next_token(route, colon)?;
-        Ok(Progress {
-            used: p.used + 1,
-            ..value
-        })
+        Ok(value)
     }
 
     // The container that opens at the last token: the token after it tells whether it is empty.
     #[inline(always)]
     #[tactic(auto, unfolding(crate::specs::NodesEnough::nodes_enough))]
-    fn open(
+    fn open<A: Allocator>(
         &mut self,
         route: Route,
-        nodes: &mut [Node<'de>],
+        nodes: &mut Vec<Node<'de>, A>,
         p: Progress,
         container: Container,
     ) -> Result<Value, Fault>
         ghost b: { List ℕ }
         requires route { IsOnRoute route.ends_closed b route.indexes.now }
         requires value { AtFirst b route.indexes.now route.max_depth (Reads b self.old.text)
-            self.old.stack.now nodes.old p }
+            self.old.stack.now (vec_capacity nodes.old) nodes.old.items p }
         requires opener { p.byte + 2 ≡ closer container }
-        ensures kept { (length nodes.new ≡ length nodes.old)
+        ensures capacity { (vec_capacity nodes.new ≡ vec_capacity nodes.old)
             × (length self.new.stack.now ≡ length self.old.stack.now) }
         ensures text { self.new.text ≡ self.old.text }
-        ensures progress { IfOk result (IsWithin b route.entry.indexes.now (Reads b self.new.text)) }
+        ensures progress { IfOk result (IsWithin b route.entry.indexes.now (Reads b self.new.text)
+            (length nodes.new.items)) }
         ensures advances { IfOk result (Advances route.entry.max_depth p) }
         ensures step { IfOk result
-            (Opens b route.entry.indexes.now route.entry.max_depth self.new.stack.now nodes.new) }
+            (Opens b route.entry.indexes.now route.entry.max_depth self.new.stack.now nodes.new.items) }
         ensures refused { IfErr result (Tells b route.entry.indexes.now route.entry.max_depth) }
     {
         if p.depth == route.max_depth {
@@ -201,16 +201,16 @@ impl<'de> Machine<'_, 'de> {
         }
         let q = self.next_token(route, p)?;
         if q.byte == container.closer() {
-            nodes[p.used] = container.header(0, 0);
+            nodes.push_reserved(container.header(0, 0));
             return Ok(Value::Read(q.with_value()));
         }
         self.stack[p.depth] = StackState {
-            header: p.used,
+            header: nodes.len(),
             outer: p.container,
             len: p.len,
         };
+        nodes.push_reserved(container.header(0, 0));
         Ok(Value::Opened(Progress {
-            used: p.used + 1,
             depth: p.depth + 1,
             container,
             len: 0,
@@ -220,22 +220,23 @@ impl<'de> Machine<'_, 'de> {
 
     // The value whose first token is the last one.
     #[inline(always)]
-    fn read_value(
+    fn read_value<A: Allocator>(
         &mut self,
         route: Route,
-        nodes: &mut [Node<'de>],
+        nodes: &mut Vec<Node<'de>, A>,
         p: Progress,
     ) -> Result<Value, Fault>
         ghost b: { List ℕ }
         requires route { IsOnRoute route.ends_closed b route.indexes.now }
         requires value { AtFirst b route.indexes.now route.max_depth (Reads b self.old.text)
-            self.old.stack.now nodes.old p }
-        ensures kept { (length nodes.new ≡ length nodes.old)
+            self.old.stack.now (vec_capacity nodes.old) nodes.old.items p }
+        ensures capacity { (vec_capacity nodes.new ≡ vec_capacity nodes.old)
             × (length self.new.stack.now ≡ length self.old.stack.now) }
-        ensures progress { IfOk result (IsWithin b route.entry.indexes.now (Reads b self.new.text)) }
+        ensures progress { IfOk result (IsWithin b route.entry.indexes.now (Reads b self.new.text)
+            (length nodes.new.items)) }
         ensures advances { IfOk result (Advances route.entry.max_depth p) }
         ensures step { IfOk result
-            (Opens b route.entry.indexes.now route.entry.max_depth self.new.stack.now nodes.new) }
+            (Opens b route.entry.indexes.now route.entry.max_depth self.new.stack.now nodes.new.items) }
         ensures refused { IfErr result (Tells b route.entry.indexes.now route.entry.max_depth) }
     {
         if p.byte == b'{' {
@@ -256,22 +257,23 @@ impl<'de> Machine<'_, 'de> {
     // closing bracket.
     #[inline(always)]
     #[tactic(auto, unfolding(crate::specs::NodesEnough::nodes_enough))]
-    fn after_member(
+    fn after_member<A: Allocator>(
         &self,
         route: Route,
-        nodes: &mut [Node<'de>],
+        nodes: &mut Vec<Node<'de>, A>,
         p: Progress,
         container: Container,
     ) -> Result<Turn, Fault>
         ghost b: { List ℕ }
         requires route { IsOnRoute route.ends_closed b route.indexes.now }
         requires member { AfterMember b route.indexes.now route.max_depth (Reads b self.now.text)
-            self.now.stack.now nodes.old p container }
-        ensures kept { length nodes.new ≡ length nodes.old }
-        ensures progress { IfOk result (IsTurned b route.entry.indexes.now (Reads b self.now.text)) }
+            self.now.stack.now (vec_capacity nodes.old) nodes.old.items p container }
+        ensures capacity { vec_capacity nodes.new ≡ vec_capacity nodes.old }
+        ensures progress { IfOk result (IsTurned b route.entry.indexes.now (Reads b self.now.text)
+            (length nodes.new.items)) }
         ensures advances { IfOk result (Turns p) }
         ensures step { IfOk result
-            (Takes b route.entry.indexes.now route.entry.max_depth self.now.stack.now nodes.new) }
+            (Takes b route.entry.indexes.now route.entry.max_depth self.now.stack.now nodes.new.items) }
         ensures refused { IfErr result (Tells b route.entry.indexes.now route.entry.max_depth) }
     {
         let q = self.next_token(route, p)?;
@@ -287,19 +289,19 @@ impl<'de> Machine<'_, 'de> {
     // After a value closing brackets and a comma, or the end of the root; in a new container nothing.
     #[inline(always)]
     #[tactic(auto, unfolding(crate::specs::NodesEnough::nodes_enough))]
-    fn next_member(
+    fn next_member<A: Allocator>(
         &self,
         route: Route,
-        nodes: &mut [Node<'de>],
+        nodes: &mut Vec<Node<'de>, A>,
         value: Value,
     ) -> Result<Member, Fault>
         ghost b: { List ℕ }
         requires route { IsOnRoute route.ends_closed b route.indexes.now }
         requires value { HasCome b route.indexes.now route.max_depth (Reads b self.now.text)
-            self.now.stack.now nodes.old value }
-        ensures kept { length nodes.new ≡ length nodes.old }
+            self.now.stack.now (vec_capacity nodes.old) nodes.old.items value }
+        ensures capacity { vec_capacity nodes.new ≡ vec_capacity nodes.old }
         ensures member { IfOk result (IsAtMember b route.entry.indexes.now route.entry.max_depth
-            (Reads b self.now.text) self.now.stack.now nodes.new) }
+            (Reads b self.now.text) self.now.stack.now (vec_capacity nodes.new) nodes.new.items) }
         ensures further { IfOk result (IsFrom (reached value).read) }
         ensures refused { IfErr result (Tells b route.entry.indexes.now route.entry.max_depth) }
     {
@@ -318,7 +320,7 @@ impl<'de> Machine<'_, 'de> {
         if p.read < route.indexes.len() {
             return Err(after_root(nodes[0], p));
         }
-        Ok(Member::End(p.used))
+        Ok(Member::End)
     }
 
     // The loops have a copy for each caller of `build`, since what has one caller alone is inlined.
@@ -326,20 +328,20 @@ impl<'de> Machine<'_, 'de> {
     // The elements of an array, from the first token of one on, up to a container that opens in it or to its
     // end.
     #[inline(always)]
-    fn elements<const COPY: usize>(
+    fn elements<A: Allocator, const COPY: usize>(
         &mut self,
         route: Route,
-        nodes: &mut [Node<'de>],
+        nodes: &mut Vec<Node<'de>, A>,
         first: Progress,
     ) -> Result<Value, Fault>
         ghost b: { List ℕ }
         requires route { IsOnRoute route.ends_closed b route.indexes.now }
         requires element { AtElement b route.indexes.now route.max_depth (Reads b self.old.text)
-            self.old.stack.now nodes.old first }
-        ensures kept { (length nodes.new ≡ length nodes.old)
+            self.old.stack.now (vec_capacity nodes.old) nodes.old.items first }
+        ensures capacity { (vec_capacity nodes.new ≡ vec_capacity nodes.old)
             × (length self.new.stack.now ≡ length self.old.stack.now) }
         ensures came { IfOk result (HasCome b route.entry.indexes.now route.entry.max_depth
-            (Reads b self.new.text) self.new.stack.now nodes.new) }
+            (Reads b self.new.text) self.new.stack.now (vec_capacity nodes.new) nodes.new.items) }
         ensures further { IfOk result (λ value. first.read < (reached value).read) }
         ensures refused { IfErr result (Tells b route.entry.indexes.now route.entry.max_depth) }
     {
@@ -359,21 +361,21 @@ impl<'de> Machine<'_, 'de> {
 
     // The members of an object, likewise. Where the first has no key, the fault is of this kind.
     #[inline(always)]
-    fn members<const COPY: usize>(
+    fn members<A: Allocator, const COPY: usize>(
         &mut self,
         route: Route,
-        nodes: &mut [Node<'de>],
+        nodes: &mut Vec<Node<'de>, A>,
         first: Progress,
         kind: FaultKind,
     ) -> Result<Value, Fault>
         ghost b: { List ℕ }
         requires route { IsOnRoute route.ends_closed b route.indexes.now }
         requires pair { AtPair b route.indexes.now route.max_depth (Reads b self.old.text)
-            self.old.stack.now nodes.old first kind }
-        ensures kept { (length nodes.new ≡ length nodes.old)
+            self.old.stack.now (vec_capacity nodes.old) nodes.old.items first kind }
+        ensures capacity { (vec_capacity nodes.new ≡ vec_capacity nodes.old)
             × (length self.new.stack.now ≡ length self.old.stack.now) }
         ensures came { IfOk result (HasCome b route.entry.indexes.now route.entry.max_depth
-            (Reads b self.new.text) self.new.stack.now nodes.new) }
+            (Reads b self.new.text) self.new.stack.now (vec_capacity nodes.new) nodes.new.items) }
         ensures further { IfOk result (λ value. first.read < (reached value).read) }
         ensures refused { IfErr result (Tells b route.entry.indexes.now route.entry.max_depth) }
     {
@@ -396,18 +398,20 @@ impl<'de> Machine<'_, 'de> {
 
     // The tape of the tokens at the positions, from the first value on.
     #[inline(always)]
-    pub(super) fn build<const COPY: usize>(
+    pub(super) fn build<A: Allocator, const COPY: usize>(
         &mut self,
         route: Route,
-        nodes: &mut [Node<'de>],
-    ) -> Result<usize, Fault>
+        nodes: &mut Vec<Node<'de>, A>,
+    ) -> Result<(), Fault>
         ghost b: { List ℕ }
         requires route { IsOnRoute route.ends_closed b route.indexes.now }
-        requires capacity { HasCapacity route.indexes.now route.max_depth self.old.stack.now nodes.old }
+        requires capacities { HasCapacity route.indexes.now route.max_depth self.old.stack.now
+            (vec_capacity nodes.old) }
+        requires empty { nodes.old.items ≡ [] }
         requires text { Reads b self.old.text 0 }
-        ensures kept { length nodes.new ≡ length nodes.old }
-        ensures used { IfOk result (λ used. 2 * used ≤ length route.entry.indexes.now + 1) }
-        ensures built { IfOk result (IsBuilt b route.entry.indexes.now route.entry.max_depth nodes.new) }
+        ensures capacity { vec_capacity nodes.new ≡ vec_capacity nodes.old }
+        ensures few { OnOk result (2 * length nodes.new.items ≤ length route.entry.indexes.now + 1) }
+        ensures built { OnOk result (IsBuilt b route.entry.indexes.now route.entry.max_depth nodes.new.items) }
         ensures refused { IfErr result (Tells b route.entry.indexes.now route.entry.max_depth) }
     {
         let at = route.indexes[0] as usize;
@@ -416,7 +420,6 @@ impl<'de> Machine<'_, 'de> {
             byte: self.text.byte(at),
             container: Container::Array,
             read: 1,
-            used: 0,
             depth: 0,
             len: 0,
         };
@@ -424,10 +427,10 @@ impl<'de> Machine<'_, 'de> {
         'values: loop {
             value = match self.next_member(route, nodes, value)? {
                 Member::Next(p, kind) => match p.container {
-                    Container::Array => self.elements::<COPY>(route, nodes, p)?,
-                    Container::Object => self.members::<COPY>(route, nodes, p, kind)?,
+                    Container::Array => self.elements::<A, COPY>(route, nodes, p)?,
+                    Container::Object => self.members::<A, COPY>(route, nodes, p, kind)?,
                 },
-                Member::End(used) => return Ok(used),
+                Member::End => return Ok(()),
             };
         }
     }
@@ -455,26 +458,27 @@ fn bad_escape(at: usize, bad: BadEscape) -> Fault
 // The innermost container is closed at the last token: its header is patched, and it is one more member of
 // its parent.
 #[inline(always)]
-fn close<'de>(
+fn close<'de, A: Allocator>(
     stack: &[StackState],
-    nodes: &mut [Node<'de>],
+    nodes: &mut Vec<Node<'de>, A>,
     p: Progress,
     container: Container,
 ) -> Progress
     requires depth { (0 < p.depth) × (p.depth ≤ length stack.now) }
-    requires header { (top stack.now p.depth).header < p.used }
-    requires nodes { p.used ≤ length nodes.old }
-    requires len { (top stack.now p.depth).len < p.used }
+    requires header { (top stack.now p.depth).header < length nodes.old.items }
+    requires len { (top stack.now p.depth).len < length nodes.old.items }
     requires container { container ≡ p.container }
     ensures progress { result ≡ record p {
       depth = p.depth - 1;
       container = (top stack.now p.depth).outer;
       len = (top stack.now p.depth).len + 1;
     } }
-    ensures nodes { nodes.new ≡ patch nodes.old (top stack.now p.depth) p }
+    ensures nodes { nodes.new.items ≡ patch nodes.old.items (top stack.now p.depth) p }
+    ensures capacity { vec_capacity nodes.new ≡ vec_capacity nodes.old }
 {
     let frame = stack[p.depth - 1];
-    nodes[frame.header] = container.header(p.len, p.used - frame.header - 1);
+    let beneath = nodes.len() - frame.header - 1;
+    nodes[frame.header] = container.header(p.len, beneath);
     Progress {
         depth: p.depth - 1,
         container: frame.outer,

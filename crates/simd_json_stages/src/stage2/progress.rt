@@ -5,7 +5,7 @@ use super::Container;
 use super::fault::{Fault, FaultKind};
 
 // The index and the first byte of the last token, what the innermost open container is, how many positions are
-// read, how many nodes are in use, how many containers are open, and how many members the innermost has. It
+// read, how many containers are open, and how many members the innermost has. It
 // begins as a fault does, so that a result which holds either one keeps it in the same registers.
 #[derive(Clone, Copy, Debug, Drop)]
 pub(crate) struct Progress {
@@ -13,20 +13,18 @@ pub(crate) struct Progress {
     pub(crate) byte: u8,
     pub(crate) container: Container,
     pub(crate) read: usize,
-    pub(crate) used: usize,
     pub(crate) depth: usize,
     pub(crate) len: usize,
 }
 
 impl Progress {
-    // One more value is read, of one node.
+    // One more member of the innermost container is read.
     #[inline(always)]
     pub(super) fn with_value(self) -> Progress
-        requires { (self.used < 2 ^ 63) × (self.len < 2 ^ 63) }
-        ensures { result ≡ record self { used = self.used + 1; len = self.len + 1 } }
+        requires { self.len < 2 ^ 63 }
+        ensures { result ≡ record self { len = self.len + 1 } }
     {
         Progress {
-            used: self.used + 1,
             len: self.len + 1,
             ..self
         }

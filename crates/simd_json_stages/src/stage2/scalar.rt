@@ -1,6 +1,6 @@
 //! Scalars that are no strings become nodes.
 ghost use Rattle.std.specs.Prelude.{◌≡◌, ◌≢◌, ◌<◌, ◌≤◌, ◌+◌, ◌^◌, ◌==◌, ◌&&◌, ◌||◌, ℕ, List, length, drop};
-ghost use Rattle.std.specs.Prelude.{nat_eq, codes, MatchResult, IfErr, OnOk};
+ghost use Rattle.std.specs.Prelude.{nat_eq, codes, MatchResult, IfErr, OnOk, vec_capacity};
 ghost use Rattle.std.specs.Char.{is_ascii_digit};
 ghost use Rattle.std.specs.List.{starts_with};
 ghost use Rattle.simd_json_parts.specs.Bytes.{is_terminator, byte_at};
@@ -19,6 +19,7 @@ use super::text::Text;
 use simd_json_parts::charutils::{byte_or_space, is_structural_or_whitespace};
 use simd_json_parts::node::{Node, StaticNode};
 use simd_json_parts::numberparse::{Numeral, is_integer, parse_long, parse_numeral};
+use std::alloc::Allocator;
 
 #[cfg(test)]
 mod tests;
@@ -54,25 +55,29 @@ fn ends_at(bytes: &[u8], at: usize) -> bool
 // The scalar at the last token, which is no string, becomes the next node. Each kind has a branch that stores its
 // own node, a constant but for a number: one that is joined from branches is copied piece by piece.
 #[inline(always)]
-pub(super) fn put_scalar<'de>(
+pub(super) fn put_scalar<'de, A: Allocator>(
     text: &mut Text<'_, 'de>,
-    nodes: &mut [Node<'de>],
+    nodes: &mut Vec<Node<'de>, A>,
     p: Progress,
 ) -> std::result::Result<(), Fault>
     ghost b: { List ℕ }
     requires text { Reads b text.old p.at }
     requires at { (p.at < length b) × (p.byte ≡ byte_at b p.at) }
     requires other { (p.byte ≢ 34) × (p.byte ≢ 91) × (p.byte ≢ 123) }
-    requires capacity { p.used < length nodes.old }
-    ensures kept { length nodes.new ≡ length nodes.old }
-    ensures put { OnOk result (IsScalarPut b p.at p.used nodes.old nodes.new (Reads b text.new)) }
+    requires room { length nodes.old.items < vec_capacity nodes.old }
+    ensures capacity { vec_capacity nodes.new ≡ vec_capacity nodes.old }
+    ensures put { OnOk result (IsScalarPut b p.at nodes.old.items nodes.new.items (Reads b text.new)) }
     ensures refused { IfErr result (IsNoScalar b p.at) }
 {
     let rest = text.from(p.at);
     match p.byte {
-        b't' if is_valid_true_atom(rest) => nodes[p.used] = Node::Static(StaticNode::Bool(true)),
-        b'f' if is_valid_false_atom(rest) => nodes[p.used] = Node::Static(StaticNode::Bool(false)),
-        b'n' if is_valid_null_atom(rest) => nodes[p.used] = Node::Static(StaticNode::Null),
+        b't' if is_valid_true_atom(rest) => {
+            nodes.push_reserved(Node::Static(StaticNode::Bool(true)));
+        }
+        b'f' if is_valid_false_atom(rest) => {
+            nodes.push_reserved(Node::Static(StaticNode::Bool(false)));
+        }
+        b'n' if is_valid_null_atom(rest) => nodes.push_reserved(Node::Static(StaticNode::Null)),
         b't' | b'f' | b'n' => return Err(no_scalar(p.at, p.byte)),
         _ => {
             if p.byte == b'-' || is_integer(p.byte) {
@@ -104,31 +109,31 @@ fn no_scalar(at: usize, byte: u8) -> Fault
 
 // The number at the last token becomes the next node.
 #[inline(always)]
-fn put_number<'de>(
+fn put_number<'de, A: Allocator>(
     text: &mut Text<'_, 'de>,
-    nodes: &mut [Node<'de>],
+    nodes: &mut Vec<Node<'de>, A>,
     p: Progress,
 ) -> std::result::Result<(), Fault>
     ghost b: { List ℕ }
     requires text { Reads b text.old p.at }
     requires at { (p.at < length b) × (p.byte ≡ byte_at b p.at) }
     requires number { form_at b p.at ≡ scalar (number_at b p.at) }
-    requires capacity { p.used < length nodes.old }
-    ensures kept { length nodes.new ≡ length nodes.old }
-    ensures put { OnOk result (IsScalarPut b p.at p.used nodes.old nodes.new (Reads b text.new)) }
+    requires room { length nodes.old.items < vec_capacity nodes.old }
+    ensures capacity { vec_capacity nodes.new ≡ vec_capacity nodes.old }
+    ensures put { OnOk result (IsScalarPut b p.at nodes.old.items nodes.new.items (Reads b text.new)) }
     ensures refused { IfErr result (IsNoScalar b p.at) }
 {
     let rest = text.from(p.at);
     match parse_numeral(rest) {
         Numeral::Integer(magnitude) => {
             if p.byte == b'-' {
-                nodes[p.used] = Node::Static(StaticNode::integer(true, magnitude));
+                nodes.push_reserved(Node::Static(StaticNode::integer(true, magnitude)));
             } else {
-                nodes[p.used] = Node::Static(StaticNode::U64(magnitude));
+                nodes.push_reserved(Node::Static(StaticNode::U64(magnitude)));
             }
         }
-        Numeral::Decimal(len) => nodes[p.used] = Node::Decimal(text.share(p.at, len)),
-        Numeral::Long(len) => nodes[p.used] = Node::Static(read_long(rest, p.at, len)?),
+        Numeral::Decimal(len) => nodes.push_reserved(Node::Decimal(text.share(p.at, len))),
+        Numeral::Long(len) => nodes.push_reserved(Node::Static(read_long(rest, p.at, len)?)),
         Numeral::Invalid(offset) => return Err(invalid_number(rest, p.at, offset)),
     }
     Ok(())

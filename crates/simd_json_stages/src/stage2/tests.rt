@@ -7,7 +7,7 @@ use std::test::Fail;
 mod capacity;
 mod refused;
 
-// The tape of an input, by the first stage, in just as many nodes as are enough.
+// The tape of an input, by the first stage, in a list with capacity for just as many nodes as are enough.
 fn tape_of<'de>(alloc: Global, input: &'de mut [u8], max_depth: usize) -> Result<Vec<Node<'de>>> {
     let mut positions = Vec::new(alloc);
     let mut blocks = Vec::new(alloc);
@@ -15,19 +15,15 @@ fn tape_of<'de>(alloc: Global, input: &'de mut [u8], max_depth: usize) -> Result
     let mut stack = Vec::new(alloc);
     stack.resize(found.positions.min(max_depth), StackState::EMPTY)?;
     let mut nodes = Vec::new(alloc);
-    nodes.resize(
-        nodes_enough(found.positions, max_depth),
-        Node::Static(StaticNode::Null),
-    )?;
-    let used = build_tape(
+    nodes.reserve_exact(nodes_enough(found.positions, max_depth))?;
+    build_tape(
         input,
         &positions[..found.positions],
         &blocks[..found.escape_blocks],
         stack.as_mut_slice(),
-        nodes.as_mut_slice(),
+        &mut nodes,
         max_depth,
     )?;
-    nodes.truncate(used);
     Ok(nodes)
 }
 

@@ -1,32 +1,26 @@
-use Rattle.std.proofs.Common.{ap, subst, ◌∙◌, sym, length, arith}
+use Rattle.std.proofs.Common.{ap, subst, ◌∙◌, sym, arith}
 use Rattle.std.specs.Prelude.{Err}
 use Rattle.simd_json_stages.specs.Building.{IsBuilt, Tells}
-use Rattle.simd_json_stages.proofs.Bounds.{all-within}
 use Rattle.simd_json_stages.proofs.BuildingSteps.{descent-built, descent-told}
 use Rattle.simd_json_stages.proofs.WholeFaults.{some-listed}
 use Rattle.simd_json_stages.proofs.stage2.build_tape.Goals as goal
 
-pub returns-in-Ok-clause-used : goal.returns-in-Ok-clause-used
-returns-in-Ok-clause-used c = omega (
+pub returns-in-Ok-clause-few : goal.returns-in-Ok-clause-few
+returns-in-Ok-clause-few g c = omega (
   arith,
-  c.in-Ok.ensures.used,
+  c.in-Ok.ensures.tape.few,
   some-listed c.args.input.now c.args.structural_indexes.now c.requires.positions c.requires.whole,
 )
 
-pub returns-in-Ok-clause-within : goal.returns-in-Ok-clause-within
-returns-in-Ok-clause-within c =
-    all-within c.in-Ok.used (length c.args.structural_indexes.now) c.args.max_depth (length c.build_nodes.new.nodes)
-    c.in-Ok.ensures.used (omega (arith, c.in-Ok.ensures.kept, c.requires.nodes))
-
 pub returns-in-Ok-clause-built : goal.returns-in-Ok-clause-built
-returns-in-Ok-clause-built c =
+returns-in-Ok-clause-built g c =
     let b = c.args.input.now in
-    descent-built b c.args.max_depth c.build_nodes.new.nodes c.in-Ok.used
-    (subst (λ ps. IsBuilt b ps c.args.max_depth c.build_nodes.new.nodes c.in-Ok.used) c.requires.positions c.in-Ok.ensures.built)
+    descent-built b c.args.max_depth c.build_nodes.new.nodes.items
+    (subst (λ ps. IsBuilt b ps c.args.max_depth c.build_nodes.new.nodes.items) c.requires.positions c.in-Ok.ensures.tape.built)
 
 pub returns-in-Err-clause-refused : goal.returns-in-Err-clause-refused
-returns-in-Err-clause-refused c =
+returns-in-Err-clause-refused g c =
     let b = c.args.input.now in
     let told = descent-told b c.args.max_depth c.in-Err.fault
-    (subst (λ ps. Tells b ps c.args.max_depth c.in-Err.fault) c.requires.positions c.in-Err.ensures.refused) in
+    (subst (λ ps. Tells b ps c.args.max_depth c.in-Err.fault) c.requires.positions c.in-Err.ensures.tape.refused) in
     ((c.in-Err.fault.kind, c.in-Err.fault.index, c.in-Err.fault.byte, c.into_error.ensures), told ∙ ap Err (sym c.into_error.ensures))

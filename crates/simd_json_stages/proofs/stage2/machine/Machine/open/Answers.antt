@@ -1,10 +1,10 @@
-use Rattle.std.proofs.Common.{◌≡◌, ◌≢◌, ◌<◌, ◌≤◌, ◌+◌, ◌∙◌, ap, sym, subst, set, get_or, refl, arith}
+use Rattle.std.proofs.Common.{◌≡◌, ◌≢◌, ◌<◌, ◌≤◌, ◌+◌, ◌∙◌, ap, sym, subst, set, get_or, length, [], ◌∷◌, ◌++◌, refl, arith}
 use Rattle.simd_json_parts.specs.Bytes.{byte_at}
 use Rattle.simd_json_stages.specs.Building.{closer, AtMember, AfterValue}
 use Rattle.simd_json_stages.specs.declared.stage2.progress.Progress.{Progress}
 use Rattle.simd_json_stages.specs.declared.stage2.fault.FaultKind.TheVariants as kinds
 use Rattle.simd_json_stages.specs.Progresses.{IsAfter}
-use Rattle.simd_json_stages.proofs.Bounds.{node-left, told-at, told-none, later, next-byte, after-first, before-first}
+use Rattle.simd_json_stages.proofs.Bounds.{told-at, told-none, later, next-byte, one-more, after-first, before-first}
 use Rattle.simd_json_stages.proofs.BuildingSteps.{step-empty, step-open}
 use Rattle.simd_json_stages.specs.Texts.{Reads}
 use Rattle.simd_json_stages.proofs.TextLaws.{reads-kept}
@@ -14,16 +14,16 @@ use Rattle.simd_json_stages.proofs.stage2.machine.Machine.open.Goals as goal
 pub returns-then-p-route-clause-refused : goal.returns-then-p-route-clause-refused
 returns-then-p-route-clause-refused g c =
     let p = c.args.p in
-    let first = c.requires.1.0.progress.read.first in
+    let first = c.requires.1.1.0.progress.read.first in
     told-at g.b c.args.route.indexes.now c.args.route.max_depth kinds.DepthLimitExceeded p c.fault.result c.fault.ensures first
-    (tells-deep g.b c.args.route.indexes.now c.args.route.max_depth c.args.container c.args.self.now.stack.now c.args.nodes.now p
-    c.requires.1.0.value (omega arith) (omega (arith, first, c.requires.1.1)))
+    (tells-deep g.b c.args.route.indexes.now c.args.route.max_depth c.args.container c.args.self.now.stack.now c.args.nodes.now.items p
+    c.requires.1.1.0.value (omega arith) (omega (arith, first, c.requires.1.1.1)))
 
 pub next_token-requires : goal.next_token-requires
 next_token-requires g c =
-    let r = c.requires.1.0.progress in
-    let positions = c.requires.0.positions in (
-      c.requires.0,
+    let r = c.requires.1.1.0.progress in
+    let positions = c.requires.1.0.positions in (
+      c.requires.1.0,
       (
         r.read,
         λ more. reads-kept g.b c.args.self.now.text _ _ r.text
@@ -37,19 +37,20 @@ returns-in_err-q-clause-refused g c =
     let none = c.in_err-q.ensures.none in
     told-none g.b c.args.route.indexes.now c.args.route.max_depth p c.from_residual.result _ c.from_residual.ensures.1 none.1
     (tells-open_end g.b c.args.route.indexes.now c.args.route.max_depth c.args.container c.args.self.now.stack.now
-    c.args.nodes.now p c.requires.1.0.value (omega arith) (omega (arith, c.requires.1.0.progress.read.first, c.requires.1.1)) none.0)
+    c.args.nodes.now.items p c.requires.1.1.0.value (omega arith) (omega (arith, c.requires.1.1.0.progress.read.first, c.requires.1.1.1)) none.0)
 
 pub returns-then-q-closer-clause-progress : goal.returns-then-q-closer-clause-progress
 returns-then-q-closer-clause-progress g c =
-    subst (IsAfter g.b c.args.route.indexes.now (Reads g.b c.args.self.now.text)) (sym c.with_value.ensures)
-    (after-first g.b c.args.route.indexes.now c.requires.0.positions _ (reads-kept g.b c.args.self.now.text)
-    c.args.p c.in_ok-q.q c.requires.1.0.progress c.in_ok-q.ensures.next)
+    subst (IsAfter g.b c.args.route.indexes.now (Reads g.b c.args.self.now.text) _) (sym c.with_value.ensures)
+    (after-first g.b c.args.route.indexes.now c.requires.1.0.positions _ (reads-kept g.b c.args.self.now.text) _ _
+    c.args.p c.in_ok-q.q (one-more c.args.nodes.now.items _ _ c.push_reserved.ensures.items) c.requires.1.1.0.progress
+    c.in_ok-q.ensures.next)
 
 pub returns-then-q-closer-clause-advances : goal.returns-then-q-closer-clause-advances
 returns-then-q-closer-clause-advances g c =
     let next = c.in_ok-q.ensures.next in
     let l : c.args.p.at < get_or c.args.route.indexes.now c.args.p.read 0 = later g.b c.args.route.indexes.now
-    c.requires.0.positions c.args.p c.requires.1.0.progress.read next.more in
+    c.requires.1.0.positions c.args.p c.requires.1.1.0.progress.read next.more in
     subst (λ (q : Progress). (c.args.p.read ≤ q.read) × (c.args.p.at ≤ q.at) × (q.depth ≡ c.args.p.depth)
     × (q.container ≡ c.args.p.container)) (sym c.with_value.ensures)
     (subst (λ (q : Progress). (c.args.p.read ≤ q.read) × (c.args.p.at ≤ q.at) × (q.depth ≡ c.args.p.depth)
@@ -59,35 +60,27 @@ pub returns-then-q-closer-clause-step : goal.returns-then-q-closer-clause-step
 returns-then-q-closer-clause-step g c =
     let p = c.args.p in
     let ps = c.args.route.indexes.now in
-    let r = c.requires.1.0.progress in
+    let r = c.requires.1.1.0.progress in
     let next = c.in_ok-q.ensures.next in
     let byte : byte_at g.b (get_or ps p.read 0) ≡ closer c.args.container = next-byte g.b ps p c.in_ok-q.q next
     ∙ c.if-q-closer.true ∙ c.closer.ensures in
-    subst (λ (q : Progress). AfterValue g.b ps c.args.route.max_depth c.args.self.now.stack.now
-    (set c.args.nodes.now p.used c.header.result) q) (sym (c.with_value.ensures
-    ∙ ap (λ (q : Progress). record q { used = q.used + 1; len = q.len + 1 }) next.same))
-    (subst (λ x. AfterValue g.b ps c.args.route.max_depth c.args.self.now.stack.now (set c.args.nodes.now p.used x)
-    (record p {
-      read = p.read + 1;
-      at = get_or ps p.read 0;
-      byte = byte_at g.b (get_or ps p.read 0);
-      used = p.used + 1;
-      len = p.len + 1;
-    })) (sym c.header.ensures)
-    (step-empty g.b ps c.args.route.max_depth c.args.container c.args.self.now.stack.now c.args.nodes.now p c.requires.1.0.value
-    (node-left _ _ _ _ _ p r c.requires.1.0.depth c.requires.1.0.capacity.node_capacity) (omega arith)
-    (omega (arith, r.read.first, c.requires.1.1)) next.more byte))
+    let put = c.push_reserved.ensures.items ∙ ap (λ x. c.args.nodes.now.items ++ x ∷ []) c.header.ensures in
+    subst (AfterValue g.b ps c.args.route.max_depth c.args.self.now.stack.now _)
+    (sym (c.with_value.ensures ∙ ap (λ (q : Progress). record q { len = q.len + 1 }) next.same))
+    (step-empty g.b ps c.args.route.max_depth c.args.container c.args.self.now.stack.now c.args.nodes.now.items _ p
+    c.requires.1.1.0.value put (omega arith) (omega (arith, r.read.first, c.requires.1.1.1)) next.more byte)
 
 pub returns-clause-progress : goal.returns-clause-progress
 returns-clause-progress g c =
-    before-first g.b c.args.route.indexes.now c.requires.0.positions _ (reads-kept g.b c.args.self.now.text)
-    c.args.p c.in_ok-q.q c.args.container c.requires.1.0.progress c.in_ok-q.ensures.next
+    before-first g.b c.args.route.indexes.now c.requires.1.0.positions _ (reads-kept g.b c.args.self.now.text) _ _
+    c.args.p c.in_ok-q.q c.args.container (one-more c.args.nodes.now.items _ _ c.push_reserved-2.ensures.items)
+    c.requires.1.1.0.progress c.in_ok-q.ensures.next
 
 pub returns-clause-advances : goal.returns-clause-advances
 returns-clause-advances g c =
     let next = c.in_ok-q.ensures.next in
     let l : c.args.p.at < get_or c.args.route.indexes.now c.args.p.read 0 = later g.b c.args.route.indexes.now
-    c.requires.0.positions c.args.p c.requires.1.0.progress.read next.more in
+    c.requires.1.0.positions c.args.p c.requires.1.1.0.progress.read next.more in
     subst (λ (q : Progress). (c.args.p.read < q.read) × (c.args.p.at ≤ q.at) × (c.args.p.depth + 1 ≤ c.args.route.max_depth)
     × (0 < c.args.p.depth + 1)) (sym next.same) (omega arith, omega arith, omega arith, omega arith)
 
@@ -95,21 +88,22 @@ pub returns-clause-step : goal.returns-clause-step
 returns-clause-step g c =
     let p = c.args.p in
     let ps = c.args.route.indexes.now in
-    let r = c.requires.1.0.progress in
+    let r = c.requires.1.1.0.progress in
     let next = c.in_ok-q.ensures.next in
     let byte : byte_at g.b (get_or ps p.read 0) ≢ closer c.args.container = λ is. c.if-q-closer.false
     (sym (next-byte g.b ps p c.in_ok-q.q next) ∙ is ∙ sym c.closer.ensures) in
+    let few : c.len.result ≡ length c.args.nodes.now.items = omega arith in
     subst (λ (q : Progress). AtMember g.b ps c.args.route.max_depth kinds.ExpectedObjectContent
-    (set c.args.self.now.stack.now p.depth (record { header = p.used; outer = p.container; len = p.len })) c.args.nodes.now
+    (set c.args.self.now.stack.now p.depth (record { header = c.len.result; outer = p.container; len = p.len }))
+    c.push_reserved-2.new.self.items
     (record {
       read = q.read;
       at = q.at;
       byte = q.byte;
-      used = p.used + 1;
       depth = p.depth + 1;
       container = c.args.container;
       len = 0;
     })) (sym next.same)
-    (step-open g.b ps c.args.route.max_depth c.args.container c.args.self.now.stack.now c.args.nodes.now p c.requires.1.0.value
-    (node-left _ _ _ _ _ p r c.requires.1.0.depth c.requires.1.0.capacity.node_capacity) (omega (arith, r.used, r.deep))
-    (omega arith) (omega (arith, r.read.first, c.requires.1.1)) next.more byte)
+    (step-open g.b ps c.args.route.max_depth c.args.container c.args.self.now.stack.now c.args.nodes.now.items _ _ _ p
+    c.requires.1.1.0.value c.push_reserved-2.ensures.items few (omega (arith, r.few, r.deep)) (omega arith)
+    (omega (arith, r.read.first, c.requires.1.1.1)) next.more byte)
