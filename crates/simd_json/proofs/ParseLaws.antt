@@ -105,11 +105,14 @@ pub written-over : {A : Type 0} (xs ys : List A) (len : ℕ) → len ≡ length 
 written-over xs ys len whole same = ap (λ n. take n (ys ++ drop (length ys) xs)) (whole ∙ sym same) ∙ take-append_seam ys (drop (length ys) xs)
 
 -- a list of which no node was in use
-pub tape-unused : (xs ys : List Node) (used len : ℕ) → len ≡ length xs → length ys ≡ length xs → used ≤ length xs → map item_of (take used xs) ≡ []
-    → (used ≤ length (take len (ys ++ drop (length ys) xs))) × (map item_of (take used (take len (ys ++ drop (length ys) xs))) ≡ [])
-tape-unused xs ys used len whole same l none =
-    let zero_used : used ≡ 0 = omega (arith, ap length none, length-map (take used xs) item_of, length-take-le used xs l) in
-    (subst (λ n. n ≤ length (take len (ys ++ drop (length ys) xs))) (sym zero_used) (omega arith), ap (λ n. map item_of (take n (take len (ys ++ drop (length ys) xs)))) zero_used)
+pub none-used : (xs : List Node) (used : ℕ) → used ≤ length xs → map item_of (take used xs) ≡ [] → used ≡ 0
+none-used xs used l none = omega (arith, ap length none, length-map (take used xs) item_of, length-take-le used xs l)
+
+pub tape-unused : (xs : List Node) (used : ℕ) → used ≡ 0 → (used ≤ length xs) × (map item_of (take used xs) ≡ [])
+tape-unused xs used zero_used = (subst (λ n. n ≤ length xs) (sym zero_used) (omega arith), ap (λ n. map item_of (take n xs)) zero_used)
+
+pub tape-few : (xs : List Node) (used n : ℕ) → used ≡ 0 → length (map item_of (take used xs)) ≤ n
+tape-few xs used n zero_used = omega (arith, ap length (tape-unused xs used zero_used).1)
 
 -- a list of which the first nodes are those of one document
 pub tape-filled : (xs ys : List Node) (used len : ℕ) → len ≡ length xs → length ys ≡ length xs → used ≤ length ys → IsTape (map item_of (take used ys))

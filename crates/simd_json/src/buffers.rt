@@ -1,6 +1,7 @@
 //! Lists that parses use one after another.
 ghost use Rattle.std.specs.Prelude.{◌≡◌, ◌≤◌, ◌<◌, ◌⊎◌, [], length, min, max, take};
 ghost use Rattle.std.specs.Prelude.{OnOk, OnErr, IfOk, IfErr, Some, None};
+ghost use Rattle.std.specs.Vec.{vec_capacity};
 ghost use Rattle.simd_json.specs.Memory.{IsOutOfMemory, LacksMemory};
 ghost use Rattle.simd_json.specs.Capacities.{KeepsCapacities, ListsSame, capacity, capped, new_buffers};
 ghost use Rattle.simd_json_parts.specs.InputFaults.{input_fault};
@@ -179,10 +180,21 @@ pub(crate) fn lengthen<T: Copy, A: Allocator>(
     ensures kept { take (length list.old.items) list.new.items ≡ list.old.items }
     ensures longer { OnOk result (length list.new.items ≡ max (length list.old.items) len) }
     ensures refused { IfErr result (λ e. IsOutOfMemory e × (list.new.items ≡ list.old.items)
-        × (length list.old.items < len)) }
+        × (length list.old.items < len) × (vec_capacity list.old < len)) }
+    ensures capacity { vec_capacity list.old ≤ vec_capacity list.new }
 {
     if list.len() < len {
         list.resize(len, filler)?;
     }
     Ok(())
+}
+
+// Makes the list as long as `len` at least, within its capacity: it asks for no memory.
+pub(crate) fn fill_up<T: Copy, A: Allocator>(list: &mut Vec<T, A>, len: usize, filler: T)
+    requires { len ≤ vec_capacity list.old }
+    ensures kept { take (length list.old.items) list.new.items ≡ list.old.items }
+    ensures filled { length list.new.items ≡ max (length list.old.items) len }
+    ensures capacity { vec_capacity list.old ≤ vec_capacity list.new }
+{
+    let _ = lengthen(list, len, filler);
 }

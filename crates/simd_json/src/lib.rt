@@ -15,6 +15,7 @@ mod buffers;
 mod deserializer;
 pub mod laws;
 mod parse;
+mod recycle;
 pub mod value;
 
 pub use buffers::Buffers;

@@ -9,7 +9,7 @@ pub mod array;
 pub mod object;
 mod value;
 
-use crate::buffers::lengthen;
+use crate::recycle::recycled;
 pub use array::Array;
 pub use object::Object;
 use simd_json_parts::error::Result;
@@ -24,7 +24,7 @@ pub use value::Value;
 /// A scalar is one node. A container is a header with `len`, the number of its members, and `count`, the
 /// number of all nodes beneath it, and then its members' nodes; a pair of an object is its key's node and
 /// then its value's nodes.
-// The list is kept filled up to its capacity.
+// The list holds the nodes in use, and after them what earlier parses left there.
 #[derive(Debug, Drop)]
 pub struct Tape<'input, A: Allocator = Global> {
     pub(crate) list: Vec<Node<'input>, A>,
@@ -33,15 +33,17 @@ pub struct Tape<'input, A: Allocator = Global> {
 
 impl<'input, A: Allocator> Model for Tape<'input, A> {
     ghost use Rattle.std.specs.Prelude.{◌≤◌, length};
+    ghost use Rattle.std.specs.Vec.{vec_capacity};
     ghost use Rattle.simd_json.specs.Tapes.{Listed};
     ghost use Rattle.simd_json.specs.TapeView.{listed_of};
     ghost use Rattle.simd_json_parts.specs.Listing.{IsTape};
 
     ghost Value = { Listed };
 
-    ghost view = { λ t. listed_of t.list.items t.used };
+    ghost view = { λ t. listed_of t.list.items t.used (vec_capacity t.list) };
 
-    ghost invariant = { λ t. (t.used ≤ length t.list.items) × IsTape (listed_of t.list.items t.used).nodes };
+    ghost invariant = { λ t. (t.used ≤ length t.list.items)
+        × IsTape (listed_of t.list.items t.used (vec_capacity t.list)).nodes };
 }
 
 impl<'input, A: Allocator> Tape<'input, A> {
@@ -114,7 +116,11 @@ impl<'input, A: Allocator> Tape<'input, A> {
         ensures capacity { OnOk result (nodes ≤ self.new.capacity) }
         ensures fault { IfErr result (λ e. IsOutOfMemory e × (self.old.capacity < nodes)) }
     {
-        lengthen(&mut self.list, nodes, Node::Static(StaticNode::Null))
+        let len = self.list.len();
+        if len < nodes {
+            self.list.reserve(nodes - len)?;
+        }
+        Ok(())
     }
 
     // No node, and the capacity that was there.
@@ -123,14 +129,15 @@ impl<'input, A: Allocator> Tape<'input, A> {
     {
         self.used = 0;
     }
-}
 
-impl<'input, A: Allocator + Copy> Tape<'input, A> {
-    /// An empty tape for inputs of another lifetime. It takes no memory, and what capacity it has is not
-    /// promised.
+    /// An empty tape for inputs of another lifetime, with the capacity of this one.
     pub fn reset<'new>(self) -> Tape<'new, A>
-        ensures { result.nodes ≡ [] }
+        ensures { result ≡ record { nodes = []; capacity = self.entry.capacity } }
     {
-        Tape::empty(*self.list.allocator())
+        let Tape { list, used: _ } = self;
+        Tape {
+            list: recycled(list),
+            used: 0,
+        }
     }
 }

@@ -92,6 +92,30 @@ fn a_log_takes_no_memory(rt: HostRuntime) -> Tested {
     Ok(())
 }
 
+// After a reset a parse within the capacity takes no memory, and one beyond it finds none.
+#[test]
+fn capacity_outlives_a_reset(rt: HostRuntime) -> Tested {
+    let heap = LocalHeap::new(rt.alloc(), 1 << 16)?;
+    let mut buffers = Buffers::with_max_depth(&heap, 0, 1)?;
+    let mut tape: Tape<'static, &LocalHeap> = Tape::null(&heap)?;
+    buffers.reserve(64)?;
+    tape.reserve(8)?;
+    let _ballast = ballast(rt.alloc(), &heap, 0)?;
+    let mut small = *b"[1,2,3,4,5,6]";
+    let mut filled = tape.reset();
+    assert!(rt; filled.is_empty());
+    assert_eq!(rt; fill_tape(&mut small, &mut buffers, &mut filled), Ok(()));
+    assert_eq!(rt; filled.nodes().len(), 7);
+    let mut large = *b"[1,2,3,4,5,6,7,8,9,0]";
+    let mut more = filled.reset();
+    assert_eq!(rt;
+        fill_tape(&mut large, &mut buffers, &mut more),
+        Err(Error::generic(ErrorType::OutOfMemory))
+    );
+    assert!(rt; more.is_empty());
+    Ok(())
+}
+
 // A reservation that is refused changes nothing that is listed.
 #[test]
 fn reservations_are_refused(rt: HostRuntime) -> Tested {

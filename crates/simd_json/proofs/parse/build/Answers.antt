@@ -2,18 +2,26 @@ use Rattle.std.proofs.Common.{◌∙◌, ap, sym, subst, take, length, inl, map}
 use Rattle.simd_json_parts.proofs.Faults.Kinds.{token-fault}
 use Rattle.simd_json_parts.specs.Nodes.{item_of}
 use Rattle.simd_json.specs.Parsed.{IsParsed, IsRefused}
-use Rattle.simd_json.proofs.ParseEnds.{parsed-some}
-use Rattle.simd_json.proofs.ParseLaws.{written-over, tape-unused, tape-filled, parsed, tape-parsed, refused-token}
+use Rattle.simd_json.proofs.ParseEnds.{on-err, parsed-some}
+use Rattle.simd_json.proofs.ParseLaws.{written-over, none-used, tape-few, tape-unused, tape-filled, parsed, tape-parsed, refused-token}
 use Rattle.simd_json.proofs.parse.build.Goals as goal
 use Rattle.simd_json_stages.proofs.Exits.{passed-on}
 
 pub invariant_of-tape : goal.invariant_of-tape
 invariant_of-tape g c =
-    let list = c.tape.inside.list in
-    let unused =
-    tape-unused list.items c.build_tape.new.nodes c.tape.inside.used list.len list.ok.0 (c.in_err-tape-inside.ensures.kept ∙ ap length c.as_mut_slice-2.ensures.value) c.tape.invariant.0
-    (ap (λ t. t.nodes) c.tape.view_is ∙ c.requires.empty) in
+    let none = none-used c.tape.inside.list.items c.tape.inside.used c.tape.invariant.0 (ap (λ t. t.nodes) c.tape.view_is ∙ c.requires.empty) in
+    let unused = tape-unused _ c.tape.inside.used none in
     (unused.0, inl unused.1)
+
+pub returns-in_err-tape-inside-clause-few : goal.returns-in_err-tape-inside-clause-few
+returns-in_err-tape-inside-clause-few g c =
+    let none = none-used c.tape.inside.list.items c.tape.inside.used c.tape.invariant.0 (ap (λ t. t.nodes) c.tape.view_is ∙ c.requires.empty) in
+    tape-few _ c.tape.inside.used _ none
+
+pub returns-in_err-tape-inside-clause-empty : goal.returns-in_err-tape-inside-clause-empty
+returns-in_err-tape-inside-clause-empty g c =
+    let none = none-used c.tape.inside.list.items c.tape.inside.used c.tape.invariant.0 (ap (λ t. t.nodes) c.tape.view_is ∙ c.requires.empty) in
+    on-err c.from_residual.result _ (tape-unused _ c.tape.inside.used none).1
 
 pub returns-in_err-tape-inside-clause-fault : goal.returns-in_err-tape-inside-clause-fault
 returns-in_err-tape-inside-clause-fault g c =
@@ -25,14 +33,14 @@ returns-in_err-tape-inside-clause-fault g c =
 
 pub invariant_of-tape-2 : goal.invariant_of-tape-2
 invariant_of-tape-2 g c =
-    let list = c.tape.inside.list in
+    let list = c.fill_up.new.list in
     let same = c.in_ok-tape-inside.ensures.kept ∙ ap length c.as_mut_slice-2.ensures.value in
     tape-filled list.items c.build_tape.new.nodes c.in_ok-tape-inside.field-0 list.len list.ok.0 same c.in_ok-tape-inside.ensures.within
     (tape-parsed c.args.s.now c.buffers.inside.max_depth _ (parsed c.args.s.now c.buffers.inside.max_depth _ c.requires.positions.1 c.in_ok-tape-inside.ensures.built))
 
 pub returns-clause-tape : goal.returns-clause-tape
 returns-clause-tape g c =
-    let list = c.tape.inside.list in
+    let list = c.fill_up.new.list in
     let same = c.in_ok-tape-inside.ensures.kept ∙ ap length c.as_mut_slice-2.ensures.value in
     subst (λ nodes. IsParsed c.args.s.now c.args.buffers.now.limit (map item_of (take c.in_ok-tape-inside.field-0 nodes))) (sym (written-over list.items c.build_tape.new.nodes list.len list.ok.0 same))
     (subst (λ limit. IsParsed c.args.s.now limit (map item_of (take c.in_ok-tape-inside.field-0 c.build_tape.new.nodes))) (ap (λ r. r.limit) c.buffers.view_is)
@@ -40,7 +48,7 @@ returns-clause-tape g c =
 
 pub returns-clause-some : goal.returns-clause-some
 returns-clause-some g c none =
-    let list = c.tape.inside.list in
+    let list = c.fill_up.new.list in
     let same = c.in_ok-tape-inside.ensures.kept ∙ ap length c.as_mut_slice-2.ensures.value in
     parsed-some c.args.s.now c.buffers.inside.max_depth _ (parsed c.args.s.now c.buffers.inside.max_depth _ c.requires.positions.1 c.in_ok-tape-inside.ensures.built)
     (sym (ap (λ nodes. map item_of (take c.in_ok-tape-inside.field-0 nodes)) (written-over list.items c.build_tape.new.nodes list.len list.ok.0 same)) ∙ none)
