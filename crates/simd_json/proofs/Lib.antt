@@ -1,6 +1,7 @@
 mod ParseLaws
 mod ParseEnds
 mod ParseAnswers
+mod Reservations
 pub mod Listed
 mod Compared
 mod Split

@@ -7,6 +7,7 @@ use Rattle.simd_json_parts.specs.Answer.{answer}
 use Rattle.simd_json_parts.specs.FaultKinds.{IsOfInput, IsOfToken}
 use Rattle.simd_json_parts.specs.Faults.{whole_fault}
 use Rattle.simd_json_parts.specs.InputFaults.{input_fault, padding_fault}
+use Rattle.simd_json_parts.specs.Limits.{max_length}
 use Rattle.simd_json_parts.specs.Nodes.{Item}
 use Rattle.simd_json_parts.specs.declared.error.Error.{Error}
 use Rattle.simd_json_parts.specs.declared.error.ErrorType.TheVariants.{OutOfMemory}
@@ -51,12 +52,18 @@ refused-memory : (b : List ℕ) (e : Error) → IsOutOfMemory e → ((input_faul
 refused-memory b e lacks (inl (is, named)) = input-memory e named lacks
 refused-memory b e lacks (inr (none, named)) = token-memory e named lacks
 
-pub has-memory : (b : List ℕ) (limit capacity : ℕ) (fault : Option Error) (nodes : List Item) (listed : List ℕ) → IsParse b limit capacity fault nodes listed → length b ≤ capacity → HasMemory fault
-has-memory b limit capacity None nodes listed p enough is = none-some _ is
-has-memory b limit capacity (Some e) nodes listed p enough is = by_cause p.refused where
+-- where there is capacity for so many bytes if they are not too many
+pub has-capped-memory : (b : List ℕ) (limit capacity : ℕ) (fault : Option Error) (nodes : List Item) (listed : List ℕ)
+    → IsParse b limit capacity fault nodes listed → (length b ≤ max_length → length b ≤ capacity) → HasMemory fault
+has-capped-memory b limit capacity None nodes listed p enough is = none-some _ is
+has-capped-memory b limit capacity (Some e) nodes listed p enough is = by_cause p.refused where
   by_cause : IsRefused b limit e ⊎ (LacksMemory b e × (capacity < length b)) → ⊥
   by_cause (inl refused) = refused-memory b e (some-same e (whole_fault OutOfMemory) is) refused.kinds
-  by_cause (inr (lacks, short)) = omega (arith, short, enough)
+  by_cause (inr (lacks, short)) = omega (arith, short, enough lacks.1)
+
+pub has-memory : (b : List ℕ) (limit capacity : ℕ) (fault : Option Error) (nodes : List Item) (listed : List ℕ)
+    → IsParse b limit capacity fault nodes listed → length b ≤ capacity → HasMemory fault
+has-memory b limit capacity fault nodes listed p enough = has-capped-memory b limit capacity fault nodes listed p (λ _. enough)
 
 -- a character is a token's
 pub tokens-have-characters : (b : List ℕ) (e : Error) → ((input_fault b ≡ Some e) × IsOfInput e) ⊎ ((input_fault b ≡ None) × IsOfToken e) → IsSome e.character ↔ (input_fault b ≡ None)

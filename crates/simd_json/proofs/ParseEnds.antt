@@ -21,6 +21,8 @@ use Rattle.simd_json_parts.specs.declared.error.ErrorType.TheVariants.{OutOfMemo
 use Rattle.simd_json.specs.Memory.{IsOutOfMemory, LacksMemory}
 use Rattle.simd_json.specs.Parsed.{IsParse, IsParsed, IsRefused}
 use Rattle.simd_json.specs.Capacities.{KeepsCapacities, Capacities, capacity}
+use Rattle.simd_json.specs.Reserved.{bytes_listed}
+use Rattle.simd_json_stages.specs.NodesEnough.{nodes_enough}
 use Rattle.simd_json.proofs.ParseLaws.{few-positions, refused-whole}
 
 -- ---- what a fault carries
@@ -130,6 +132,18 @@ pub parse-built : {A : Type 0} (r : Result A Error) (b : List ℕ) (limit capaci
 parse-built (Ok x) b limit capacity nodes listed p few empty refused l = parse-at None None nodes nodes (positions b) listed refl refl l (parse-done b limit capacity nodes p few)
 parse-built (Err e) b limit capacity nodes listed p few empty refused l =
     parse-at (Some e) (Some e) [] nodes (positions b) listed refl empty l (parse-token b limit capacity e refused.0 refused.1)
+
+-- so many nodes are enough for as many bytes, and what is too few for so many positions is for fewer
+pub bytes-enough : (len limit nodes : ℕ) → nodes_enough len limit ≤ nodes → len ≤ bytes_listed limit nodes
+unfolding nodes_enough
+bytes-enough len limit nodes l = omega (arith, l)
+
+pub bytes-short : (count limit nodes : ℕ) → nodes < nodes_enough count limit → bytes_listed limit nodes < count
+unfolding nodes_enough
+bytes-short count limit nodes l = omega (arith, l)
+
+pub bytes-kept : (limit nodes more : ℕ) → nodes ≤ more → bytes_listed limit nodes ≤ bytes_listed limit more
+bytes-kept limit nodes more l = omega (arith, l)
 
 -- the tape has no capacity for a node at each position
 pub parse-short : {A : Type 0} (r : Result A Error) (b : List ℕ) (limit tape_capacity capacity count : ℕ) (e : Error) (nodes : List Item) (listed : List ℕ) → r ≡ Err e → input_fault b ≡ None → e ≡ whole_fault OutOfMemory → tape_capacity < count → count ≡ length (positions b) → nodes ≡ [] → listed ≡ []

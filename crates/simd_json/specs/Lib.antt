@@ -5,6 +5,7 @@ pub mod Steps
 pub mod Capacities
 pub mod Memory
 pub mod Parsed
+pub mod Reserved
 pub mod Documents
 pub mod Printable
 pub mod PrintedAgain

@@ -102,8 +102,8 @@ impl<A: Allocator> Buffers<A> {
     /// Reserves capacity for inputs of up to `input_len` bytes (more than 4,294,967,295 count as that
     /// number): for their positions, and for as many open containers as they can have within the depth limit.
     ///
-    /// With as much capacity on the tape no parse of such an input returns `OutOfMemory`, however many
-    /// follow, since no parse gives up capacity. The positions that are listed stay.
+    /// With as much capacity on the tape, which [`reserve`](crate::reserve) sees to, no parse of such an input
+    /// returns `OutOfMemory`, however many follow. The positions that are listed stay.
     ///
     /// Returns `OutOfMemory` where an allocation fails; what capacity has been reserved by then stays.
     pub fn reserve(&mut self, input_len: usize) -> Result<()>

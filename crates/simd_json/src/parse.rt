@@ -1,9 +1,11 @@
 //! The entry points.
-ghost use Rattle.std.specs.Prelude.{◌≡◌, ◌≢◌, ◌≤◌, [], ℕ, List, length, min};
+ghost use Rattle.std.specs.Prelude.{◌≡◌, ◌≢◌, ◌≤◌, ◌<◌, [], ℕ, List, length, min};
 ghost use Rattle.std.specs.Prelude.{IfErr, IfOk, OnOk, OnErr, None, Err};
 ghost use Rattle.std.specs.Result.{result_err};
 ghost use Rattle.simd_json.specs.Parsed.{IsParse, IsPaddedParse, IsParsed, IsRefused, nodes_of};
-ghost use Rattle.simd_json.specs.Capacities.{KeepsCapacities, capacity};
+ghost use Rattle.simd_json.specs.Capacities.{KeepsCapacities, ListsSame, capped};
+ghost use Rattle.simd_json.specs.Memory.{IsOutOfMemory};
+ghost use Rattle.simd_json.specs.Reserved.{IsReserved, parse_capacity};
 ghost use Rattle.simd_json_parts.specs.FaultKinds.{IsOfToken};
 ghost use Rattle.simd_json_parts.specs.InputFaults.{input_fault};
 ghost use Rattle.simd_json.specs.MaxDepth.{default_max_depth};
@@ -92,17 +94,16 @@ pub fn to_tape_with_buffers<'de, A: Allocator + Copy>(
 /// `structural_indexes` of the buffers is empty too; else it lists the positions of `s`. Buffers and tape can
 /// be used again after every answer.
 ///
-/// Where buffers and tape have capacity for as many bytes as `s` has, `OutOfMemory` is not returned. No parse
-/// gives up capacity.
+/// Where buffers and tape have capacity for as many bytes as `s` has, as after [`reserve`], `OutOfMemory` is
+/// not returned. No parse gives up capacity.
 ///
 /// ```
-/// use simd_json::{Buffers, Tape, fill_tape};
+/// use simd_json::{Buffers, Tape, fill_tape, reserve};
 ///
 /// fn count_nodes(rt: &impl AllocGlobal, log: &mut [u8]) -> simd_json::Result<usize> {
 ///     let mut buffers = Buffers::new(rt.alloc(), 0)?;
 ///     let mut tape = Tape::null(rt.alloc())?;
-///     buffers.reserve(log.len())?;
-///     tape.reserve(log.len())?;
+///     reserve(log.len(), &mut buffers, &mut tape)?;
 ///     let mut nodes = 0usize;
 ///     for line in log.split_mut(|byte| *byte == b'\n') {
 ///         fill_tape(line, &mut buffers, &mut tape)?;
@@ -116,7 +117,7 @@ pub fn fill_tape<'de, A: Allocator, B: Allocator>(
     buffers: &mut Buffers<A>,
     tape: &mut Tape<'de, B>,
 ) -> Result<()>
-    ensures parse { IsParse s.old buffers.old.limit (min tape.old.capacity (capacity buffers.old))
+    ensures parse { IsParse s.old buffers.old.limit (parse_capacity buffers.old tape.old)
         (result_err result) tape.new.nodes buffers.new.positions }
     ensures some { OnOk result (tape.new.nodes ≢ []) }
     ensures limit { buffers.new.limit ≡ buffers.old.limit }
@@ -155,7 +156,7 @@ pub fn fill_tape_padded<'de, A: Allocator, B: Allocator>(
     buffers: &mut Buffers<A>,
     tape: &mut Tape<'de, B>,
 ) -> Result<()>
-    ensures parse { IsPaddedParse s.old len buffers.old.limit (min tape.old.capacity (capacity buffers.old))
+    ensures parse { IsPaddedParse s.old len buffers.old.limit (parse_capacity buffers.old tape.old)
         (result_err result) tape.new.nodes buffers.new.positions }
     ensures some { OnOk result (tape.new.nodes ≢ []) }
     ensures limit { buffers.new.limit ≡ buffers.old.limit }
@@ -170,6 +171,42 @@ pub fn fill_tape_padded<'de, A: Allocator, B: Allocator>(
     }
     let (document, _) = s.split_at_mut(len);
     fill_tape(document, buffers, tape)
+}
+
+/// Reserves capacity in buffers and tape for inputs of up to `input_len` bytes (more than 4,294,967,295 count
+/// as that number): after it no parse of such an input with both of them returns `OutOfMemory`, however many
+/// follow, and whether or not the tape is reset between them. What is listed stays, and so does capacity.
+///
+/// It takes about 28 bytes for each byte of `input_len`, and 48 for each container that may be open. Returns
+/// `OutOfMemory` where an allocation fails; what has been reserved by then stays.
+///
+/// ```
+/// use simd_json::{Buffers, Tape, fill_tape, reserve};
+///
+/// fn read_twice(rt: &impl AllocGlobal) -> simd_json::Result<usize> {
+///     let (mut first, mut second) = (*b"[1,2]", *b"[[3]]");
+///     let mut buffers = Buffers::with_max_depth(rt.alloc(), 0, 2)?;
+///     let mut tape = Tape::null(rt.alloc())?;
+///     reserve(5, &mut buffers, &mut tape)?;
+///     fill_tape(&mut first, &mut buffers, &mut tape)?;
+///     fill_tape(&mut second, &mut buffers, &mut tape)?;
+///     Ok(tape.nodes().len())
+/// }
+/// ```
+pub fn reserve<A: Allocator, B: Allocator>(
+    input_len: usize,
+    buffers: &mut Buffers<A>,
+    tape: &mut Tape<'_, B>,
+) -> Result<()>
+    ensures reserved { OnOk result (IsReserved input_len buffers.new tape.new) }
+    ensures capacity { OnOk result (capped input_len ≤ parse_capacity buffers.new tape.new) }
+    ensures same { ListsSame buffers.old buffers.new × (tape.new.nodes ≡ tape.old.nodes) }
+    ensures kept { KeepsCapacities buffers.old buffers.new × (tape.old.capacity ≤ tape.new.capacity) }
+    ensures fault { IfErr result (λ e. IsOutOfMemory e × (parse_capacity buffers.old tape.old < capped input_len)) }
+{
+    buffers.reserve(input_len)?;
+    let positions = input_len.min(u32::MAX as usize);
+    tape.reserve(nodes_enough(positions, buffers.max_depth))
 }
 
 // What a refusal without a character leaves: no position is listed, and the tape is empty.

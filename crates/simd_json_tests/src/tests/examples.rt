@@ -38,7 +38,7 @@ mod service {
 
 mod entry_points {
     use simd_json::{
-        Buffers, INPUT_PADDING, Result, Tape, fill_tape, fill_tape_padded, to_tape,
+        Buffers, INPUT_PADDING, Result, Tape, fill_tape, fill_tape_padded, reserve, to_tape,
         to_tape_with_buffers,
     };
 
@@ -58,14 +58,23 @@ mod entry_points {
     pub(super) fn count_nodes(rt: &impl AllocGlobal, log: &mut [u8]) -> Result<usize> {
         let mut buffers = Buffers::new(rt.alloc(), 0)?;
         let mut tape = Tape::null(rt.alloc())?;
-        buffers.reserve(log.len())?;
-        tape.reserve(log.len())?;
+        reserve(log.len(), &mut buffers, &mut tape)?;
         let mut nodes = 0usize;
         for line in log.split_mut(|byte| *byte == b'\n') {
             fill_tape(line, &mut buffers, &mut tape)?;
             nodes = nodes.saturating_add(tape.nodes().len());
         }
         Ok(nodes)
+    }
+
+    pub(super) fn read_twice(rt: &impl AllocGlobal) -> Result<usize> {
+        let (mut first, mut second) = (*b"[1,2]", *b"[[3]]");
+        let mut buffers = Buffers::with_max_depth(rt.alloc(), 0, 2)?;
+        let mut tape = Tape::null(rt.alloc())?;
+        reserve(5, &mut buffers, &mut tape)?;
+        fill_tape(&mut first, &mut buffers, &mut tape)?;
+        fill_tape(&mut second, &mut buffers, &mut tape)?;
+        Ok(tape.nodes().len())
     }
 
     pub(super) fn read_padded(rt: &impl AllocGlobal) -> Result<usize> {
@@ -139,6 +148,7 @@ fn entry_points_are_used_as_shown(rt: HostRuntime) -> Tested {
     assert_eq!(rt; entry_points::first_len(&rt)?, 6);
     assert_eq!(rt; entry_points::count_positions(&rt)?, 11);
     assert_eq!(rt; entry_points::count_nodes(&rt, &mut log)?, 4);
+    assert_eq!(rt; entry_points::read_twice(&rt)?, 3);
     assert_eq!(rt; entry_points::read_padded(&rt)?, 1);
     Ok(())
 }

@@ -3,8 +3,8 @@ use crate::tests::Tested;
 use crate::tests::memory::ballast;
 use linked_list_allocator::LocalHeap;
 use simd_json::{
-    Buffers, Deserializer, Error, ErrorType, Result, Tape, fill_tape, fill_tape_padded, to_tape,
-    to_tape_with_buffers,
+    Buffers, Deserializer, Error, ErrorType, Result, Tape, fill_tape, fill_tape_padded, reserve,
+    to_tape, to_tape_with_buffers,
 };
 use std::alloc::Allocator;
 use std::process::Abort;
@@ -32,9 +32,15 @@ fn call(number: u32, heap: &LocalHeap, input: &mut [u8]) -> Result<usize> {
             let steps = Deserializer::from_slice_with_buffers(input, &mut buffers)?;
             Ok(steps.into_tape().nodes().len())
         }
-        _ => {
+        6 => {
             Buffers::with_max_depth(heap, 0, 1000)?.reserve(100)?;
             Ok(13)
+        }
+        _ => {
+            let mut buffers = Buffers::with_max_depth(heap, 0, 8)?;
+            let mut tape = Tape::null(heap)?;
+            reserve(40, &mut buffers, &mut tape)?;
+            Ok(tape.nodes().len().saturating_add(12))
         }
     }
 }
@@ -42,7 +48,7 @@ fn call(number: u32, heap: &LocalHeap, input: &mut [u8]) -> Result<usize> {
 // Each heap leaves more free memory than the one before it, so that another growth is refused, and then none.
 // Where one is, the answer is `OutOfMemory`; with memory the same call gives the usual answer.
 fn refuses_growths(rt: &(impl AllocGlobal + Abort), input: &[u8]) -> Tested {
-    for number in 0..7 {
+    for number in 0..8 {
         let (mut refused, mut filled) = (0u32, 0u32);
         for units in 0..200usize {
             let mut first = Vec::from_slice(rt.alloc(), input)?;

@@ -1,7 +1,7 @@
 // Reservations, and what is told without memory.
 use crate::tests::Tested;
 use linked_list_allocator::LocalHeap;
-use simd_json::{Buffers, Error, ErrorType, Tape, fill_tape};
+use simd_json::{Buffers, Error, ErrorType, Tape, fill_tape, reserve};
 use std::alloc::{AllocError, Global};
 
 pub(super) type Ballast<'h> = std::result::Result<Vec<Vec<u8, &'h LocalHeap>>, AllocError>;
@@ -73,8 +73,7 @@ fn a_log_takes_no_memory(rt: HostRuntime) -> Tested {
     let heap = LocalHeap::new(rt.alloc(), 1 << 16)?;
     let mut buffers = Buffers::with_max_depth(&heap, 0, 16)?;
     let mut tape = Tape::null(&heap)?;
-    buffers.reserve(64)?;
-    tape.reserve(64)?;
+    reserve(64, &mut buffers, &mut tape)?;
     let _ballast = ballast(rt.alloc(), &heap, 0)?;
     let used = heap.used();
     let (mut nodes, mut refused, mut bad) = (0u32, 0u32, 0u32);
@@ -129,6 +128,8 @@ fn reservations_are_refused(rt: HostRuntime) -> Tested {
     let full = ballast(rt.alloc(), &heap, 0)?;
     assert_eq!(rt; buffers.reserve(1000).err().as_ref(), Some(&wanted));
     assert_eq!(rt; tape.reserve(500).err().as_ref(), Some(&wanted));
+    let both = reserve(1000, &mut buffers, &mut tape);
+    assert_eq!(rt; both.err().as_ref(), Some(&wanted));
     assert_eq!(rt; buffers.structural_indexes(), [0, 1, 2, 3, 4].as_slice());
     assert_eq!(rt; tape.nodes().len(), 3);
     drop(full);
@@ -136,6 +137,24 @@ fn reservations_are_refused(rt: HostRuntime) -> Tested {
     assert_eq!(rt; tape.reserve(500), Ok(()));
     assert_eq!(rt; buffers.structural_indexes(), [0, 1, 2, 3, 4].as_slice());
     assert_eq!(rt; tape.nodes().len(), 3);
+    Ok(())
+}
+
+// Buffers know the depth limit, so a reservation of both takes fewer nodes than one of the tape for as many
+// bytes: half as many, and half as many as containers may be open.
+#[test]
+fn both_are_reserved_by_the_depth_limit(rt: HostRuntime) -> Tested {
+    let heap = LocalHeap::new(rt.alloc(), 1 << 16)?;
+    let mut buffers = Buffers::with_max_depth(&heap, 0, 16)?;
+    let mut tape = Tape::null(&heap)?;
+    assert_eq!(rt; reserve(1500, &mut buffers, &mut tape), Ok(()));
+    assert!(rt; heap.used() >= 1500 * 28 + 16 * 48 && heap.used() < 1500 * 30);
+    assert_eq!(rt; tape.nodes().len(), 1);
+    let used = heap.used();
+    assert_eq!(rt; reserve(1499, &mut buffers, &mut tape), Ok(()));
+    assert_eq!(rt; heap.used(), used);
+    let wanted = Error::generic(ErrorType::OutOfMemory);
+    assert_eq!(rt; tape.reserve(1500).err().as_ref(), Some(&wanted));
     Ok(())
 }
 

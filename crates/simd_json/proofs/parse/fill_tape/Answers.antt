@@ -1,21 +1,32 @@
-use Rattle.std.proofs.Common.{◌∙◌, ap, length, subst, arith}
+use Rattle.std.proofs.Common.{◌∙◌, ◌<◌, ap, length, subst}
 use Rattle.std.specs.Result.{IfErr, OnOk}
 use Rattle.simd_json_parts.specs.FaultKinds.{IsOfToken}
 use Rattle.simd_json.specs.Parsed.{IsParsed, IsRefused}
 use Rattle.simd_json.specs.Capacities.{capacity}
-use Rattle.simd_json.proofs.ParseEnds.{parse-built, parse-short, parse-unlisted}
+use Rattle.simd_json.specs.Reserved.{bytes_listed}
+use Rattle.simd_json_stages.specs.NodesEnough.{nodes_enough}
+use Rattle.simd_json.proofs.ParseEnds.{bytes-short, parse-built, parse-short, parse-unlisted}
 use Rattle.simd_json.proofs.parse.fill_tape.Goals as goal
 
 pub returns-in_err-find_positions-clause-parse : goal.returns-in_err-find_positions-clause-parse
 returns-in_err-find_positions-clause-parse g c =
-    parse-unlisted c.from_residual.result c.args.s.now c.args.buffers.now.limit c.args.tape.now.capacity (capacity c.args.buffers.now) _ _ _ c.from_residual.ensures.1 (ap (λ t. t.nodes) c.clear.ensures)
+    let limit = c.args.buffers.now.limit in
+    let nodes = bytes_listed limit c.args.tape.now.capacity in
+    parse-unlisted c.from_residual.result c.args.s.now limit nodes (capacity c.args.buffers.now) _ _ _ c.from_residual.ensures.1
+    (ap (λ t. t.nodes) c.clear.ensures)
     c.in_err-find_positions.ensures.empty.0 c.in_err-find_positions.ensures.fault
 
 pub returns-in-Err-clause-parse : goal.returns-in-Err-clause-parse
 returns-in-Err-clause-parse g c =
     let found = c.in_ok-find_positions.ensures.found in
-    parse-short c.refuse.result c.args.s.now c.args.buffers.now.limit c.args.tape.now.capacity (capacity c.args.buffers.now) (length c.structural_indexes-positions.result.now) _ _ _ c.refuse.ensures.refused found.1 c.in-Err.ensures.fault.0
-    (omega (arith, c.nodes_enough.ensures.few, c.in-Err.ensures.fault.1, ap (λ t. t.capacity) c.clear.ensures))
+    let limit = c.args.buffers.now.limit in
+    let held = c.args.tape.now.capacity in
+    let count = length c.structural_indexes-positions.result.now in
+    let same = ap (λ r. r.limit) c.buffers.view_is ∙ c.in_ok-find_positions.ensures.limit in
+    let asked = subst (λ n. c.clear.new.self.capacity < n) (c.nodes_enough.ensures.enough ∙ ap (nodes_enough count) same) c.in-Err.ensures.fault.1 in
+    let few = bytes-short count limit held (subst (λ n. n < nodes_enough count limit) (ap (λ t. t.capacity) c.clear.ensures) asked) in
+    parse-short c.refuse.result c.args.s.now limit (bytes_listed limit held) (capacity c.args.buffers.now) count _ _ _
+    c.refuse.ensures.refused found.1 c.in-Err.ensures.fault.0 few
     (ap length (c.structural_indexes-positions.ensures ∙ found.0))
     (ap (λ t. t.nodes) c.refuse.ensures.nodes)
     (ap (λ r. r.positions) c.refuse.ensures.positions)
