@@ -4,7 +4,7 @@ ghost use Rattle.std.specs.Prelude.{IfErr, IfOk, OnOk, OnErr, None, Err};
 ghost use Rattle.std.specs.Result.{result_err};
 ghost use Rattle.simd_json.specs.Parsed.{IsParse, IsPaddedParse, IsParsed, IsRefused, nodes_of};
 ghost use Rattle.simd_json.specs.Capacities.{KeepsCapacities, ListsSame, capped};
-ghost use Rattle.simd_json.specs.Memory.{IsOutOfMemory};
+ghost use Rattle.simd_json.specs.Memory.{HasMemory, IsOutOfMemory};
 ghost use Rattle.simd_json.specs.Reserved.{IsReserved, parse_capacity};
 ghost use Rattle.simd_json_parts.specs.FaultKinds.{IsOfToken};
 ghost use Rattle.simd_json_parts.specs.InputFaults.{input_fault};
@@ -171,6 +171,50 @@ pub fn fill_tape_padded<'de, A: Allocator, B: Allocator>(
     }
     let (document, _) = s.split_at_mut(len);
     fill_tape(document, buffers, tape)
+}
+
+/// Reads a document as [`fill_tape`] does, over the tape that an input of another lifetime left, and returns
+/// the result beside a tape of this one, which has all the capacity of the other. So a loop reads each of its
+/// inputs into one buffer: `fill_tape` would have them all live at a time.
+///
+/// The errors are those of [`to_tape`], and after one the tape is empty. It borrows from `s`, which can be
+/// written again once the tape is [`reset`](Tape::reset) or dropped. What was reserved stays so.
+///
+/// ```
+/// use simd_json::{Buffers, Tape, refill_tape, reserve};
+///
+/// fn count_in_place(rt: &impl AllocGlobal) -> simd_json::Result<usize> {
+///     let mut buffers = Buffers::new(rt.alloc(), 0)?;
+///     let mut kept = Tape::null(rt.alloc())?;
+///     reserve(5, &mut buffers, &mut kept)?;
+///     let mut nodes = 0usize;
+///     let mut input = [0u8; 5];
+///     for digit in b'0'..=b'9' {
+///         input.copy_from_slice(&[b'[', digit, b',', digit, b']']);
+///         let (answer, tape) = refill_tape(&mut input, &mut buffers, kept);
+///         answer?;
+///         nodes = nodes.saturating_add(tape.nodes().len());
+///         kept = tape.reset();
+///     }
+///     Ok(nodes)
+/// }
+/// ```
+pub fn refill_tape<'de, A: Allocator, B: Allocator>(
+    s: &'de mut [u8],
+    buffers: &mut Buffers<A>,
+    tape: Tape<'_, B>,
+) -> (Result<()>, Tape<'de, B>)
+    ensures parse { IsParse s.old buffers.old.limit (parse_capacity buffers.old tape.entry)
+        (result_err result.0) result.1.nodes buffers.new.positions }
+    ensures some { OnOk result.0 (result.1.nodes ≢ []) }
+    ensures limit { buffers.new.limit ≡ buffers.old.limit }
+    ensures capacities { KeepsCapacities buffers.old buffers.new × (tape.entry.capacity ≤ result.1.capacity) }
+    ensures reserved { (len : ℕ) → IsReserved len buffers.old tape.entry → IsReserved len buffers.new result.1
+        × (length s.old ≤ len → HasMemory (result_err result.0)) }
+{
+    let mut tape = tape.reset();
+    let answer = fill_tape(s, buffers, &mut tape);
+    (answer, tape)
 }
 
 /// Reserves capacity in buffers and tape for inputs of up to `input_len` bytes (more than 4,294,967,295 count

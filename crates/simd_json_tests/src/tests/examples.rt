@@ -14,23 +14,31 @@ mod first_call {
 }
 
 mod service {
-    use simd_json::{Buffers, Result, Tape, fill_tape};
+    use anyhow::Result;
+    use simd_json::{Buffers, Tape, refill_tape, reserve};
+    use std::io::BufRead;
 
     // Reads a log of one document a line, each of at most 4,096 bytes, and returns how many nodes they have
     // in all.
-    pub(super) fn read_log(rt: &HostRuntime, log: &mut [u8]) -> Result<usize> {
+    pub(super) fn read_log(rt: &HostRuntime, log: &mut impl BufRead) -> Result<usize> {
+        let mut line = Vec::with_capacity(rt.alloc(), 4096)?;
         let mut buffers = Buffers::new(rt.alloc(), 0)?;
-        let mut tape = Tape::null(rt.alloc())?;
-        buffers.reserve(4096)?;
-        tape.reserve(4096)?;
+        let mut kept = Tape::null(rt.alloc())?;
+        reserve(4096, &mut buffers, &mut kept)?;
         let mut nodes = 0usize;
-        for line in log.split_mut(|byte| *byte == b'\n') {
-            match fill_tape(line, &mut buffers, &mut tape) {
+        for _ in 0..u64::MAX {
+            line.clear();
+            if log.read_until(b'\n', &mut line)? == 0 {
+                break;
+            }
+            let (answer, tape) = refill_tape(&mut line, &mut buffers, kept);
+            match answer {
                 Ok(()) => nodes = nodes.saturating_add(tape.nodes().len()),
                 Err(fault) => {
                     let _ = eprintln!(rt; "refused: {fault}");
                 }
             }
+            kept = tape.reset();
         }
         Ok(nodes)
     }
@@ -38,8 +46,8 @@ mod service {
 
 mod entry_points {
     use simd_json::{
-        Buffers, INPUT_PADDING, Result, Tape, fill_tape, fill_tape_padded, reserve, to_tape,
-        to_tape_with_buffers,
+        Buffers, INPUT_PADDING, Result, Tape, fill_tape, fill_tape_padded, refill_tape, reserve,
+        to_tape, to_tape_with_buffers,
     };
 
     pub(super) fn first_len(rt: &impl AllocGlobal) -> Result<usize> {
@@ -63,6 +71,22 @@ mod entry_points {
         for line in log.split_mut(|byte| *byte == b'\n') {
             fill_tape(line, &mut buffers, &mut tape)?;
             nodes = nodes.saturating_add(tape.nodes().len());
+        }
+        Ok(nodes)
+    }
+
+    pub(super) fn count_in_place(rt: &impl AllocGlobal) -> Result<usize> {
+        let mut buffers = Buffers::new(rt.alloc(), 0)?;
+        let mut kept = Tape::null(rt.alloc())?;
+        reserve(5, &mut buffers, &mut kept)?;
+        let mut nodes = 0usize;
+        let mut input = [0u8; 5];
+        for digit in b'0'..=b'9' {
+            input.copy_from_slice(&[b'[', digit, b',', digit, b']']);
+            let (answer, tape) = refill_tape(&mut input, &mut buffers, kept);
+            answer?;
+            nodes = nodes.saturating_add(tape.nodes().len());
+            kept = tape.reset();
         }
         Ok(nodes)
     }
@@ -137,7 +161,7 @@ fn a_value_is_read(rt: HostRuntime) -> Tested {
 
 #[test]
 fn a_service_goes_on(rt: HostRuntime) -> std::result::Result<(), Fail> {
-    let mut log = *b"{\"a\":1}\n[1,]\n[true,\"\\u0041\"]";
+    let mut log = b"{\"a\":1}\n[1,]\n[true,\"\\u0041\"]".as_slice();
     assert_eq!(rt; service::read_log(&rt, &mut log)?, 6);
     Ok(())
 }
@@ -148,6 +172,7 @@ fn entry_points_are_used_as_shown(rt: HostRuntime) -> Tested {
     assert_eq!(rt; entry_points::first_len(&rt)?, 6);
     assert_eq!(rt; entry_points::count_positions(&rt)?, 11);
     assert_eq!(rt; entry_points::count_nodes(&rt, &mut log)?, 4);
+    assert_eq!(rt; entry_points::count_in_place(&rt)?, 30);
     assert_eq!(rt; entry_points::read_twice(&rt)?, 3);
     assert_eq!(rt; entry_points::read_padded(&rt)?, 1);
     Ok(())

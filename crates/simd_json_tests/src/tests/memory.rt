@@ -1,8 +1,11 @@
 // Reservations, and what is told without memory.
 use crate::tests::Tested;
 use linked_list_allocator::LocalHeap;
-use simd_json::{Buffers, Error, ErrorType, Tape, fill_tape, reserve};
-use std::alloc::{AllocError, Global};
+use simd_json::{
+    Buffers, Error, ErrorType, Node, StaticNode, Tape, fill_tape, refill_tape, reserve,
+};
+use std::alloc::{AllocError, Allocator, Global};
+use std::io::{self, BufRead};
 
 pub(super) type Ballast<'h> = std::result::Result<Vec<Vec<u8, &'h LocalHeap>>, AllocError>;
 
@@ -88,6 +91,95 @@ fn a_log_takes_no_memory(rt: HostRuntime) -> Tested {
     }
     assert_eq!(rt; (nodes, refused, bad), (2_500 * (10 + 9), 2_500, 2_500));
     assert_eq!(rt; heap.used(), used);
+    Ok(())
+}
+
+// Reads each line into one buffer, and parses it over one tape; how many nodes the lines have, and how many of
+// them are refused.
+fn count<R: BufRead, A: Allocator, B: Allocator, C: Allocator>(
+    reader: &mut R,
+    line: &mut Vec<u8, A>,
+    buffers: &mut Buffers<B>,
+    tape: Tape<'static, C>,
+) -> (io::Result<(usize, usize)>, Tape<'static, C>) {
+    let mut kept = tape;
+    let (mut nodes, mut refused) = (0usize, 0usize);
+    for _ in 0..u64::MAX {
+        line.clear();
+        match reader.read_until(b'\n', line) {
+            Ok(0) => break,
+            Ok(_) => {}
+            Err(e) => return (Err(e), kept),
+        }
+        let (answer, tape) = refill_tape(line.as_mut_slice(), buffers, kept);
+        match answer {
+            Ok(()) => nodes = nodes.saturating_add(tape.nodes().len()),
+            Err(_) => refused = refused.saturating_add(1),
+        }
+        kept = tape.reset();
+    }
+    (Ok((nodes, refused)), kept)
+}
+
+// A stream of 10,000 lines through one buffer, after one reservation: no allocation is made, since none could
+// be.
+#[test]
+fn a_stream_takes_no_memory(rt: HostRuntime) -> Tested {
+    let mut log = Vec::new(rt.alloc());
+    for _ in 0..2_500 {
+        log.extend_from_slice(b"{\"level\":\"info\",\"text\":\"\\u0041\\n\",\"n\":[1,-2,3.5]}\n")?;
+        log.extend_from_slice(b"[[[[[[[[[]]]]]]]]]\n[1,]\n\"\n")?;
+    }
+    let heap = LocalHeap::new(rt.alloc(), 1 << 16)?;
+    let mut line: Vec<u8, &LocalHeap> = Vec::with_capacity(&heap, 64)?;
+    let mut buffers = Buffers::with_max_depth(&heap, 0, 16)?;
+    let mut tape = Tape::null(&heap)?;
+    reserve(64, &mut buffers, &mut tape)?;
+    let _ballast = ballast(rt.alloc(), &heap, 0)?;
+    let used = heap.used();
+    let mut reader = log.as_slice();
+    let (counts, tape) = count(&mut reader, &mut line, &mut buffers, tape);
+    assert_eq!(rt; counts?, (2_500 * (10 + 9), 5_000));
+    assert!(rt; tape.is_empty());
+    assert_eq!(rt; (heap.used(), heap.free()), (used, 0));
+    Ok(())
+}
+
+// A tape is filled again for an input of another lifetime. What it listed is gone, after an error too, and a
+// growth that is refused leaves its capacity.
+#[test]
+fn a_tape_is_refilled(rt: HostRuntime) -> Tested {
+    let heap = LocalHeap::new(rt.alloc(), 1 << 16)?;
+    let mut buffers = Buffers::with_max_depth(&heap, 64, 1)?;
+    let mut small = *b"[\"\\u0041\",2]";
+    let (answer, tape) = refill_tape(&mut small, &mut buffers, Tape::null(&heap)?);
+    assert_eq!(rt; answer, Ok(()));
+    let wanted = [
+        Node::Array { len: 2, count: 2 },
+        Node::String("A"),
+        Node::Static(StaticNode::U64(2)),
+    ];
+    assert_eq!(rt; tape.nodes(), wanted.as_slice());
+    assert_eq!(rt; buffers.structural_indexes(), [0, 1, 9, 10, 11].as_slice());
+    let mut refused = *b"[1,]";
+    let (answer, tape) = refill_tape(&mut refused, &mut buffers, tape);
+    assert_eq!(rt;
+        answer,
+        Err(Error::new(3, Some(']'), ErrorType::InternalError))
+    );
+    assert!(rt; tape.is_empty());
+    let full = ballast(rt.alloc(), &heap, 0)?;
+    let mut large = *b"[1,2,3,4,5,6,7,8,9,0]";
+    let (answer, tape) = refill_tape(&mut large, &mut buffers, tape);
+    assert_eq!(rt; answer, Err(Error::generic(ErrorType::OutOfMemory)));
+    assert!(rt; tape.is_empty());
+    let mut again = *b"[1,2]";
+    let (answer, tape) = refill_tape(&mut again, &mut buffers, tape);
+    assert_eq!(rt; (answer, tape.nodes().len()), (Ok(()), 3));
+    drop(full);
+    let mut larger = *b"[1,2,3,4,5,6,7,8,9,0]";
+    let (answer, tape) = refill_tape(&mut larger, &mut buffers, tape);
+    assert_eq!(rt; (answer, tape.nodes().len()), (Ok(()), 11));
     Ok(())
 }
 
