@@ -104,15 +104,15 @@ tape-parsed b limit items p = inr (p.document, IsSpellable-denoted b p.document 
 pub written-over : {A : Type 0} (xs ys : List A) (len : ℕ) → len ≡ length xs → length ys ≡ length xs → take len (ys ++ drop (length ys) xs) ≡ ys
 written-over xs ys len whole same = ap (λ n. take n (ys ++ drop (length ys) xs)) (whole ∙ sym same) ∙ take-append_seam ys (drop (length ys) xs)
 
--- a list of which no node was in use
-pub none-used : (xs : List Node) (used : ℕ) → used ≤ length xs → map item_of (take used xs) ≡ [] → used ≡ 0
-none-used xs used l none = omega (arith, ap length none, length-map (take used xs) item_of, length-take-le used xs l)
+-- a tape of which no node was in use, whatever list it has
+pub tape-unused : (xs ys : List Node) (used : ℕ) → used ≤ length xs → map item_of (take used xs) ≡ []
+    → (used ≤ length ys) × (map item_of (take used ys) ≡ [])
+tape-unused xs ys used l none =
+    let is : used ≡ 0 = omega (arith, ap length none, length-map (take used xs) item_of, length-take-le used xs l) in
+    (subst (λ n. n ≤ length ys) (sym is) (omega arith), ap (λ n. map item_of (take n ys)) is)
 
-pub tape-unused : (xs : List Node) (used : ℕ) → used ≡ 0 → (used ≤ length xs) × (map item_of (take used xs) ≡ [])
-tape-unused xs used zero_used = (subst (λ n. n ≤ length xs) (sym zero_used) (omega arith), ap (λ n. map item_of (take n xs)) zero_used)
-
-pub tape-few : (xs : List Node) (used n : ℕ) → used ≡ 0 → length (map item_of (take used xs)) ≤ n
-tape-few xs used n zero_used = omega (arith, ap length (tape-unused xs used zero_used).1)
+pub none-few : {A : Type 0} (xs : List A) (n : ℕ) → xs ≡ [] → length xs ≤ n
+none-few xs n none = omega (arith, ap length none)
 
 -- a list of which the first nodes are those of one document
 pub tape-filled : (xs ys : List Node) (used len : ℕ) → len ≡ length xs → length ys ≡ length xs → used ≤ length ys → IsTape (map item_of (take used ys))

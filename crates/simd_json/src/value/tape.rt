@@ -130,7 +130,7 @@ impl<'input, A: Allocator> Tape<'input, A> {
         self.used = 0;
     }
 
-    /// An empty tape for inputs of another lifetime, with the capacity of this one.
+    /// An empty tape for inputs of another lifetime, with the capacity of this one. It takes no memory.
     pub fn reset<'new>(self) -> Tape<'new, A>
         ensures { result ≡ record { nodes = []; capacity = self.entry.capacity } }
     {

@@ -3,31 +3,34 @@ use Rattle.simd_json_parts.proofs.Faults.Kinds.{token-fault}
 use Rattle.simd_json_parts.specs.Nodes.{item_of}
 use Rattle.simd_json.specs.Parsed.{IsParsed, IsRefused}
 use Rattle.simd_json.proofs.ParseEnds.{on-err, parsed-some}
-use Rattle.simd_json.proofs.ParseLaws.{written-over, none-used, tape-few, tape-unused, tape-filled, parsed, tape-parsed, refused-token}
+use Rattle.simd_json.proofs.ParseLaws.{written-over, none-few, tape-unused, tape-filled, parsed, tape-parsed, refused-token}
 use Rattle.simd_json.proofs.parse.build.Goals as goal
 use Rattle.simd_json_stages.proofs.Exits.{passed-on}
 
 pub invariant_of-tape : goal.invariant_of-tape
 invariant_of-tape g c =
-    let none = none-used c.tape.inside.list.items c.tape.inside.used c.tape.invariant.0 (ap (λ t. t.nodes) c.tape.view_is ∙ c.requires.empty) in
-    let unused = tape-unused _ c.tape.inside.used none in
+    let tape = c.tape.inside in
+    let unused = tape-unused tape.list.items _ tape.used c.tape.invariant.0 (ap (λ t. t.nodes) c.tape.view_is ∙ c.requires.empty) in
     (unused.0, inl unused.1)
 
 pub returns-in_err-tape-inside-clause-few : goal.returns-in_err-tape-inside-clause-few
 returns-in_err-tape-inside-clause-few g c =
-    let none = none-used c.tape.inside.list.items c.tape.inside.used c.tape.invariant.0 (ap (λ t. t.nodes) c.tape.view_is ∙ c.requires.empty) in
-    tape-few _ c.tape.inside.used _ none
+    let tape = c.tape.inside in
+    let unused = tape-unused tape.list.items _ tape.used c.tape.invariant.0 (ap (λ t. t.nodes) c.tape.view_is ∙ c.requires.empty) in
+    none-few _ _ unused.1
 
 pub returns-in_err-tape-inside-clause-empty : goal.returns-in_err-tape-inside-clause-empty
 returns-in_err-tape-inside-clause-empty g c =
-    let none = none-used c.tape.inside.list.items c.tape.inside.used c.tape.invariant.0 (ap (λ t. t.nodes) c.tape.view_is ∙ c.requires.empty) in
-    on-err c.from_residual.result _ (tape-unused _ c.tape.inside.used none).1
+    let tape = c.tape.inside in
+    let unused = tape-unused tape.list.items _ tape.used c.tape.invariant.0 (ap (λ t. t.nodes) c.tape.view_is ∙ c.requires.empty) in
+    on-err c.from_residual.result _ unused.1
 
 pub returns-in_err-tape-inside-clause-fault : goal.returns-in_err-tape-inside-clause-fault
 returns-in_err-tape-inside-clause-fault g c =
     let refused = c.in_err-tape-inside.ensures.refused.1 in
     passed-on c.from_residual.result _ _ c.from_residual.ensures.1 (
-      subst (λ limit. IsRefused c.args.s.now limit c.in_err-tape-inside.field-0.0) (ap (λ r. r.limit) c.buffers.view_is) (refused-token c.args.s.now c.buffers.inside.max_depth _ c.requires.positions.1 refused),
+      subst (λ limit. IsRefused c.args.s.now limit c.in_err-tape-inside.field-0.0) (ap (λ r. r.limit) c.buffers.view_is)
+          (refused-token c.args.s.now c.buffers.inside.max_depth _ c.requires.positions.1 refused),
       token-fault c.args.s.now c.buffers.inside.max_depth _ refused,
     )
 

@@ -53,7 +53,8 @@ Good R v = T (has_ty (layout R) v) × WT v
 
 module _ {M : Type 1} {𝓤 : Ura M} {𝓛 : Logic 𝓤} {K : Type 0} {Γ : List (Item 𝓤)} {G : Goal 𝓤 𝓛.H} where
   -- what is owned is one machine value, of its type
-  tells : K → (R : RattleType) → Laws R → (x : R.Denot) (vs : List Val) → ((v : Val) → vs ≡ v ∷ [] → Good R v → Seq K 𝓛 (‵ (R.own_val x (v ∷ [])) ∷ Γ) G) → Seq K 𝓛 (‵ (R.own_val x vs) ∷ Γ) G
+  tells : K → (R : RattleType) → Laws R → (x : R.Denot) (vs : List Val)
+      → ((v : Val) → vs ≡ v ∷ [] → Good R v → Seq K 𝓛 (‵ (R.own_val x (v ∷ [])) ∷ Γ) G) → Seq K 𝓛 (‵ (R.own_val x vs) ∷ Γ) G
   tells t R L = handle_tells (record { row = R; laws = L; g = record { dealloc_token = λ a τ p. ftrue }; d = dict_at 0; drops = dict_at 0 }) t
 
 none_of : {X : Type 0} (xs : List X) → length xs ≡ 0 → xs ≡ []
@@ -64,6 +65,7 @@ module _ (P : RattleType) (g : Ghosts P.Denot) {M : Type 1} {𝓤 : Ura M} (𝓛
   abbrev row : NamedLft → RattleType
   row c = V.the_row (N.the_row c) P g
 
+  -- an empty list of one lifetime is one of the other
   other : (v : Vec Node P.Denot) (vs : List Val) → v.len ≡ 0 → ent 𝓤 (sem 𝓛 ((row a).own_val v vs)) (sem 𝓛 ((row b).own_val v vs))
   unfolding denote.Memory.part_of
   other v vs none =
@@ -81,7 +83,8 @@ module _ (P : RattleType) (g : Ghosts P.Denot) {M : Type 1} {𝓤 : Ura M} (𝓛
   abbrev kept : NamedLft → RattleType
   kept c = MD.the_row (row c)
 
-  other_kept : (m : ManuallyDrop (Vec Node P.Denot)) (vs : List Val) → m.value.len ≡ 0 → ent 𝓤 (sem 𝓛 ((kept a).own_val m vs)) (sem 𝓛 ((kept b).own_val m vs))
+  other_kept : (m : ManuallyDrop (Vec Node P.Denot)) (vs : List Val) → m.value.len ≡ 0
+      → ent 𝓤 (sem 𝓛 ((kept a).own_val m vs)) (sem 𝓛 ((kept b).own_val m vs))
   other_kept m vs none =
       qed 𝓛 (‵ ((kept a).own_val m vs) ∷ []) ∵ fpick ! (λ vss. fsplit ! $ move ! (1 ∷ []) $ fsplit ! $
       use1 𝓛 (‵ ((row b).own_val m.value vss.0)) (other m.value vss.0 none) $ fjoin ! $ move ! (1 ∷ 0 ∷ []) $ fjoin ! $
@@ -133,7 +136,8 @@ module _ (A : RattleType) (L : Laws A) (g : Ghosts A.Denot) (d dd : Dict) where
           let old = named_lft 3 0 tt z.0.0 in
           let new = named_lft 3 1 tt z.0.0 in
           let Asked = m.value.len ≡ 0 in
-          qed 𝓛 ((raw toks ⊛ ‵ (owns (types_at ended.signature.params z.0.0) a vss)) ∷ (raw (fact 𝓤 (z.0.0.1.1.0 ⊑ A.lives)) ⊛ raw (fact 𝓤 Asked)) ∷ []) ∵
+          let Longer = z.0.0.1.1.0 ⊑ A.lives in
+          qed 𝓛 ((raw toks ⊛ ‵ (owns (types_at ended.signature.params z.0.0) a vss)) ∷ (raw (fact 𝓤 Longer) ⊛ raw (fact 𝓤 Asked)) ∷ []) ∵
           move ! (1 ∷ []) $ split ! $ drop ! $ heard ! Asked (λ asked. split ! $ move ! (1 ∷ []) $
           fsplit ! $ tells ! (Held old) (held-laws old) m vss.0 (λ u is good. move ! (1 ∷ []) $ drop ! $
           use1 𝓛 (‵ ((Held new).own_val m (u ∷ []))) (other_kept P g 𝓛 old new m (u ∷ []) asked) $
@@ -143,7 +147,8 @@ module _ (A : RattleType) (L : Laws A) (g : Ghosts A.Denot) (d dd : Dict) where
           first ! $ blocks ! $
           sets ! (addr ! (from ! (stop !))) refl (tt, tt) $
           sets_last ! (of_opd ! (load ! (through ! refl (stop !)) (look_at ! 2 refl))) refl good $
-          exec ! C Λ (env function.locals l) (seq (assign (place 0 []) (rv_opd (copy (place 3 [])))) return) (at_ret (env function.locals l) Post) $
+          exec ! C Λ (env function.locals l) (seq (assign (place 0 []) (rv_opd (copy (place 3 [])))) return)
+          (at_ret (env function.locals l) Post) $
           sets ! (of_opd ! (get ! refl)) refl good $
           returns ! (look_at ! 0 refl) $ free_all ! refl $
           suffices ! _ (ends_at 𝓛 ended stayed held z u m (((tt, (tt, (tt, (tt, tt)))), tt), tt) (tt, tt)) $ says ! (asked, refl) $
@@ -158,5 +163,7 @@ pub transmuted_spec : {M : Type 1} → stated.statement M
 unfolding tables_of
 transmuted_spec 𝓤 𝓛 𝓜 𝓡 wired A L g d dd met md =
     let 𝓣 : Tables 𝓤 𝓛.H = tables_of 𝓤 𝓛.H 𝓜 (tables 𝓤 𝓛.H 𝓜 𝓡 𝓡.env) in
-    entered 𝓤 𝓛.H (triple_of 𝓛 (ended A L g d dd).signature (closing 𝓛 (ended A L g d dd) (held A L g d dd 𝓛 𝓜.mem 𝓡.returns))) 𝓣.C 𝓣.Λ (#self (args A L g d dd)) (function A L g d dd)
+    let E = ended A L g d dd in
+    entered 𝓤 𝓛.H (triple_of 𝓛 E.signature (closing 𝓛 E (held A L g d dd 𝓛 𝓜.mem 𝓡.returns))) 𝓣.C 𝓣.Λ
+    (#self (args A L g d dd)) (function A L g d dd)
     (code.unfolded 𝓤 𝓛.H 𝓜 𝓡 wired (A, tt) d dd) (meets A L g d dd 𝓛 𝓜.mem 𝓡.returns 𝓣)
