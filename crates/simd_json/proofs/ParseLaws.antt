@@ -1,8 +1,6 @@
 -- From what the steps of a parse find to what the definitions answer.
-use Rattle.std.proofs.Common.{◌≡◌, ◌∙◌, ap, sym, subst, ◌≤◌, ℕ, List, [], length, true, Some, None, Ok, Err, arith, take, drop, ◌++◌, Result, map, inl, inr, false, refl, is_some}
+use Rattle.std.proofs.Common.{◌≡◌, ◌∙◌, ap, sym, ◌≤◌, ℕ, List, length, true, Some, None, Ok, Err, arith, Result, map, inl, inr, false, refl, is_some}
 use Rattle.std.specs.Result.{is_err, MatchResult}
-use Rattle.std.proofs.lemmas.List.{length-map, length-take-le}
-use Rattle.std.proofs.Math.Seq.{take-append_seam}
 use Rattle.std.proofs.lemmas.Bool.{false≢true}
 use Rattle.std.proofs.lemmas.List.Sums.{length-filter, count_by-le-length}
 use Rattle.std.proofs.lemmas.List.FromFn.{length-range_with_len}
@@ -97,28 +95,6 @@ parsed b limit nodes none listed =
 
 pub tape-parsed : (b : List ℕ) (limit : ℕ) (items : List Item) → IsParsed b limit items → IsTape items
 tape-parsed b limit items p = inr (p.document, IsSpellable-denoted b p.document p.denoted, p.within.integers, p.listed)
-
--- ---- lists that are lent
-
--- all of a list is written anew
-pub written-over : {A : Type 0} (xs ys : List A) (len : ℕ) → len ≡ length xs → length ys ≡ length xs → take len (ys ++ drop (length ys) xs) ≡ ys
-written-over xs ys len whole same = ap (λ n. take n (ys ++ drop (length ys) xs)) (whole ∙ sym same) ∙ take-append_seam ys (drop (length ys) xs)
-
--- a tape of which no node was in use, whatever list it has
-pub tape-unused : (xs ys : List Node) (used : ℕ) → used ≤ length xs → map item_of (take used xs) ≡ []
-    → (used ≤ length ys) × (map item_of (take used ys) ≡ [])
-tape-unused xs ys used l none =
-    let is : used ≡ 0 = omega (arith, ap length none, length-map (take used xs) item_of, length-take-le used xs l) in
-    (subst (λ n. n ≤ length ys) (sym is) (omega arith), ap (λ n. map item_of (take n ys)) is)
-
-pub none-few : {A : Type 0} (xs : List A) (n : ℕ) → xs ≡ [] → length xs ≤ n
-none-few xs n none = omega (arith, ap length none)
-
--- a list of which the first nodes are those of one document
-pub tape-filled : (xs ys : List Node) (used len : ℕ) → len ≡ length xs → length ys ≡ length xs → used ≤ length ys → IsTape (map item_of (take used ys))
-    → (used ≤ length (take len (ys ++ drop (length ys) xs))) × IsTape (map item_of (take used (take len (ys ++ drop (length ys) xs))))
-tape-filled xs ys used len whole same l is_tape =
-    subst (λ zs. (used ≤ length zs) × IsTape (map item_of (take used zs))) (sym (written-over xs ys len whole same)) (l, is_tape)
 
 -- ---- what the exit of a `?` answers
 

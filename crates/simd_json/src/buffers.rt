@@ -188,13 +188,3 @@ pub(crate) fn lengthen<T: Copy, A: Allocator>(
     }
     Ok(())
 }
-
-// Makes the list as long as `len` at least, within its capacity: it asks for no memory.
-pub(crate) fn fill_up<T: Copy, A: Allocator>(list: &mut Vec<T, A>, len: usize, filler: T)
-    requires { len ≤ vec_capacity list.old }
-    ensures kept { take (length list.old.items) list.new.items ≡ list.old.items }
-    ensures filled { length list.new.items ≡ max (length list.old.items) len }
-    ensures capacity { vec_capacity list.old ≤ vec_capacity list.new }
-{
-    let _ = lengthen(list, len, filler);
-}

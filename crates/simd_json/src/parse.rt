@@ -13,11 +13,10 @@ ghost use Rattle.simd_json_parts.specs.Positions.{positions};
 ghost use Rattle.simd_json_stages.specs.EscapeBlocks.{backslash_blocks};
 ghost use Rattle.simd_json_stages.specs.NodesEnough.{nodes_enough};
 
-use crate::buffers::{Buffers, fill_up};
+use crate::buffers::Buffers;
 use crate::tape::Tape;
 use crate::{DEFAULT_MAX_DEPTH, INPUT_PADDING};
 use simd_json_parts::error::{Error, ErrorType, Result};
-use simd_json_parts::node::{Node, StaticNode};
 use simd_json_stages::stage2::{build_tape, nodes_enough};
 use std::alloc::Allocator;
 
@@ -268,8 +267,7 @@ fn refuse<A: Allocator, B: Allocator>(
     Err(e)
 }
 
-// The second stage, where all capacity is reserved: the list is filled up within it, and no memory is asked
-// for.
+// The second stage, where all capacity is reserved.
 fn build<'de, A: Allocator, B: Allocator>(
     s: &'de mut [u8],
     buffers: &mut Buffers<A>,
@@ -285,18 +283,21 @@ fn build<'de, A: Allocator, B: Allocator>(
     ensures few { length tape.new.nodes ≤ length (positions s.old) }
     ensures empty { OnErr result (tape.new.nodes ≡ []) }
     ensures kept { buffers.new ≡ buffers.old }
-    ensures capacity { tape.old.capacity ≤ tape.new.capacity }
+    ensures capacity { tape.new.capacity ≡ tape.old.capacity }
     ensures fault { IfErr result (λ e. IsRefused s.old buffers.old.limit e × IsOfToken e) }
 {
-    let enough = nodes_enough(buffers.used, buffers.max_depth);
-    fill_up(&mut tape.list, enough, Node::Static(StaticNode::Null));
-    tape.used = build_tape(
+    match build_tape(
         s,
         &buffers.structural_indexes[..buffers.used],
         &buffers.escape_blocks[..buffers.used_blocks],
         buffers.stack.as_mut_slice(),
-        tape.list.as_mut_slice(),
+        &mut tape.list,
         buffers.max_depth,
-    )?;
-    Ok(())
+    ) {
+        Ok(()) => Ok(()),
+        Err(e) => {
+            tape.list.clear();
+            Err(e)
+        }
+    }
 }

@@ -24,15 +24,12 @@ pub use value::Value;
 /// A scalar is one node. A container is a header with `len`, the number of its members, and `count`, the
 /// number of all nodes beneath it, and then its members' nodes; a pair of an object is its key's node and
 /// then its value's nodes.
-// The list holds the nodes in use, and after them what earlier parses left there.
 #[derive(Debug, Drop)]
 pub struct Tape<'input, A: Allocator = Global> {
     pub(crate) list: Vec<Node<'input>, A>,
-    pub(crate) used: usize,
 }
 
 impl<'input, A: Allocator> Model for Tape<'input, A> {
-    ghost use Rattle.std.specs.Prelude.{◌≤◌, length};
     ghost use Rattle.std.specs.Vec.{vec_capacity};
     ghost use Rattle.simd_json.specs.Tapes.{Listed};
     ghost use Rattle.simd_json.specs.TapeView.{listed_of};
@@ -40,10 +37,9 @@ impl<'input, A: Allocator> Model for Tape<'input, A> {
 
     ghost Value = { Listed };
 
-    ghost view = { λ t. listed_of t.list.items t.used (vec_capacity t.list) };
+    ghost view = { λ t. listed_of t.list.items (vec_capacity t.list) };
 
-    ghost invariant = { λ t. (t.used ≤ length t.list.items)
-        × IsTape (listed_of t.list.items t.used (vec_capacity t.list)).nodes };
+    ghost invariant = { λ t. IsTape (listed_of t.list.items (vec_capacity t.list)).nodes };
 }
 
 impl<'input, A: Allocator> Tape<'input, A> {
@@ -58,31 +54,28 @@ impl<'input, A: Allocator> Tape<'input, A> {
     {
         let mut list = Vec::new(a);
         list.push(Node::Static(StaticNode::Null))?;
-        Ok(Tape { list, used: 1 })
+        Ok(Tape { list })
     }
 
     // No node and no capacity: it takes no memory.
     pub(crate) fn empty(a: A) -> Tape<'input, A>
         ensures { result ≡ record { nodes = []; capacity = 0 } }
     {
-        Tape {
-            list: Vec::new(a),
-            used: 0,
-        }
+        Tape { list: Vec::new(a) }
     }
 
     /// Whether the tape has no node.
     pub fn is_empty(&self) -> bool
         ensures { IsTrue result ↔ (self.now.nodes ≡ []) }
     {
-        self.used == 0
+        self.list.is_empty()
     }
 
     /// The nodes, in preorder.
     pub fn nodes(&self) -> &[Node<'input>]
         ensures { map item_of result.now ≡ self.now.nodes }
     {
-        &self.list[..self.used]
+        self.list.as_slice()
     }
 
     /// The document of the tape, which has one: it is not empty.
@@ -103,7 +96,7 @@ impl<'input, A: Allocator> Tape<'input, A> {
         requires { self.now.nodes ≢ [] }
         ensures { listing (doc result) ≡ self.now.nodes }
     {
-        Value::new(&self.list.as_slice()[..self.used])
+        Value::new(self.list.as_slice())
     }
 
     /// Reserves capacity for as many nodes in all, so for inputs of as many bytes, since no node takes less
@@ -127,17 +120,16 @@ impl<'input, A: Allocator> Tape<'input, A> {
     pub(crate) fn clear(&mut self)
         ensures { self.new ≡ record { nodes = []; capacity = self.old.capacity } }
     {
-        self.used = 0;
+        self.list.clear();
     }
 
     /// An empty tape for inputs of another lifetime, with the capacity of this one. It takes no memory.
     pub fn reset<'new>(self) -> Tape<'new, A>
         ensures { result ≡ record { nodes = []; capacity = self.entry.capacity } }
     {
-        let Tape { list, used: _ } = self;
+        let Tape { list } = self;
         Tape {
             list: recycled(list),
-            used: 0,
         }
     }
 }
