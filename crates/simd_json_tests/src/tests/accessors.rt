@@ -1,71 +1,160 @@
-// What the typed accessors answer: the ends of each width, and each kind beside the others.
+// What accessors and comparisons answer: the ends of each width, and each kind beside the others.
 use crate::tests::Tested;
-use simd_json::tape::Value;
-use simd_json::{TryTypeError, ValueType, to_tape};
+use simd_json::tape::{Array, Object, Value};
+use simd_json::{Node, StaticNode, TryTypeError, ValueType, to_tape};
+use std::process::Abort;
 
-// The error of a value that was expected to be of one kind and is of another.
-fn refused<T>(expected: ValueType, got: ValueType) -> std::result::Result<T, TryTypeError> {
-    Err(TryTypeError { expected, got })
+// What is answered for each integer type: from i8 to i128, from u8 to u128, and usize.
+type Each = [Option<i128>; 11];
+
+type TriedEach<T> = [std::result::Result<T, TryTypeError>; 11];
+
+// The kind that is expected for each.
+const EXPECTED: [ValueType; 11] = [
+    ValueType::I64,
+    ValueType::I64,
+    ValueType::I64,
+    ValueType::I64,
+    ValueType::I128,
+    ValueType::U64,
+    ValueType::U64,
+    ValueType::U64,
+    ValueType::U64,
+    ValueType::U128,
+    ValueType::U64,
+];
+
+const NONE: Each = [None; 11];
+
+fn of_usize(number: usize) -> i128 {
+    i128::from(number as u64)
 }
 
-#[test]
-fn other_kinds_are_told_apart(rt: HostRuntime) -> Tested {
-    let mut input = *b"[null,true,\"a\\n\",1.50,7,[],{}]";
-    let tape = to_tape(rt.alloc(), &mut input)?;
-    assert!(rt; !tape.is_empty());
-    let value = tape.as_value();
-    let null = value.get_idx(0).expect(&rt, "it is there");
-    let truth = value.get_idx(1).expect(&rt, "it is there");
-    let string = value.get_idx(2).expect(&rt, "it is there");
-    let decimal = value.get_idx(3).expect(&rt, "it is there");
-    let integer = value.get_idx(4).expect(&rt, "it is there");
-    assert!(rt; null.eq_null() && !truth.eq_null());
-    assert_eq!(rt;
-        null.try_as_bool(),
-        refused(ValueType::Bool, ValueType::Null)
-    );
-    assert_eq!(rt; truth.as_bool(), Some(true));
-    assert!(rt; truth.eq_bool(true) && !truth.eq_bool(false));
-    assert_eq!(rt;
-        truth.try_as_null(),
-        refused(ValueType::Null, ValueType::Bool)
-    );
-    assert_eq!(rt; string.into_string(), Some("a\n"));
-    assert_eq!(rt; string.try_into_string(), Ok("a\n"));
-    assert!(rt; string.eq_str("a\n") && !string.eq_str("b\n"));
-    assert_eq!(rt; decimal.as_decimal(), Some("1.50"));
-    assert_eq!(rt; decimal.as_i64(), None);
-    assert_eq!(rt;
-        decimal.try_as_str(),
-        refused(ValueType::String, ValueType::Decimal)
-    );
-    assert_eq!(rt; integer.as_decimal(), None);
-    assert_eq!(rt;
-        integer.try_as_decimal(),
-        refused(ValueType::Decimal, ValueType::U64)
-    );
-    assert!(rt; integer.eq_i8(7) && integer.eq_u128(7) && !integer.eq_u64(8));
-    Ok(())
+// The number, or -1 for one that is past `i128`.
+fn of_u128(number: u128) -> i128 {
+    i128::try_from(number).unwrap_or(-1)
 }
 
-// What the signed accessors of 8, 16, 32 and 64 bits answer.
-fn signed(value: Value<'_, '_>) -> [Option<i128>; 4] {
+fn as_each(value: &Value<'_, '_>) -> Each {
     [
         value.as_i8().map(i128::from),
         value.as_i16().map(i128::from),
         value.as_i32().map(i128::from),
         value.as_i64().map(i128::from),
-    ]
-}
-
-// What the unsigned ones answer.
-fn unsigned(value: Value<'_, '_>) -> [Option<i128>; 4] {
-    [
+        value.as_i128(),
         value.as_u8().map(i128::from),
         value.as_u16().map(i128::from),
         value.as_u32().map(i128::from),
         value.as_u64().map(i128::from),
+        value.as_u128().map(of_u128),
+        value.as_usize().map(of_usize),
     ]
+}
+
+fn get_each(value: &Value<'_, '_>, k: &str) -> Each {
+    [
+        value.get_i8(k).map(i128::from),
+        value.get_i16(k).map(i128::from),
+        value.get_i32(k).map(i128::from),
+        value.get_i64(k).map(i128::from),
+        value.get_i128(k),
+        value.get_u8(k).map(i128::from),
+        value.get_u16(k).map(i128::from),
+        value.get_u32(k).map(i128::from),
+        value.get_u64(k).map(i128::from),
+        value.get_u128(k).map(of_u128),
+        value.get_usize(k).map(of_usize),
+    ]
+}
+
+fn try_as_each(value: &Value<'_, '_>) -> TriedEach<i128> {
+    [
+        value.try_as_i8().map(i128::from),
+        value.try_as_i16().map(i128::from),
+        value.try_as_i32().map(i128::from),
+        value.try_as_i64().map(i128::from),
+        value.try_as_i128(),
+        value.try_as_u8().map(i128::from),
+        value.try_as_u16().map(i128::from),
+        value.try_as_u32().map(i128::from),
+        value.try_as_u64().map(i128::from),
+        value.try_as_u128().map(of_u128),
+        value.try_as_usize().map(of_usize),
+    ]
+}
+
+fn try_get_each(value: &Value<'_, '_>, k: &str) -> TriedEach<Option<i128>> {
+    [
+        value.try_get_i8(k).map(|n| n.map(i128::from)),
+        value.try_get_i16(k).map(|n| n.map(i128::from)),
+        value.try_get_i32(k).map(|n| n.map(i128::from)),
+        value.try_get_i64(k).map(|n| n.map(i128::from)),
+        value.try_get_i128(k),
+        value.try_get_u8(k).map(|n| n.map(i128::from)),
+        value.try_get_u16(k).map(|n| n.map(i128::from)),
+        value.try_get_u32(k).map(|n| n.map(i128::from)),
+        value.try_get_u64(k).map(|n| n.map(i128::from)),
+        value.try_get_u128(k).map(|n| n.map(of_u128)),
+        value.try_get_usize(k).map(|n| n.map(of_usize)),
+    ]
+}
+
+// Whether the value is equal to the number as one of each type that it fits.
+fn eq_each(value: &Value<'_, '_>, number: i128) -> [bool; 11] {
+    [
+        i8::try_from(number).ok().is_some_and(|n| value.eq_i8(n)),
+        i16::try_from(number).ok().is_some_and(|n| value.eq_i16(n)),
+        i32::try_from(number).ok().is_some_and(|n| value.eq_i32(n)),
+        i64::try_from(number).ok().is_some_and(|n| value.eq_i64(n)),
+        value.eq_i128(number),
+        u8::try_from(number).ok().is_some_and(|n| value.eq_u8(n)),
+        u16::try_from(number).ok().is_some_and(|n| value.eq_u16(n)),
+        u32::try_from(number).ok().is_some_and(|n| value.eq_u32(n)),
+        u64::try_from(number).ok().is_some_and(|n| value.eq_u64(n)),
+        u128::try_from(number)
+            .ok()
+            .is_some_and(|n| value.eq_u128(n)),
+        usize::try_from(number)
+            .ok()
+            .is_some_and(|n| value.eq_usize(n)),
+    ]
+}
+
+// What each integer accessor answers of the value with the key `k` of a document, which is of the kind `got`.
+fn assert_each(
+    rt: &(impl AllocGlobal + Abort),
+    document: &Value<'_, '_>,
+    k: &str,
+    got: ValueType,
+    wanted: &Each,
+) {
+    let value = document.get(k).expect(rt, "it is there");
+    assert_eq!(rt; value.value_type(), got, "{k}");
+    assert_eq!(rt; as_each(&value), *wanted, "{k}");
+    assert_eq!(rt; get_each(document, k), *wanted, "{k}");
+    let tried = try_as_each(&value);
+    let tried_keyed = try_get_each(document, k);
+    for (i, expected) in EXPECTED.iter().enumerate() {
+        let refusal = TryTypeError {
+            expected: *expected,
+            got,
+        };
+        let answer = wanted[i].ok_or(refusal);
+        assert_eq!(rt; tried[i], answer, "{k}");
+        assert_eq!(rt; tried_keyed[i], answer.map(Some), "{k}");
+    }
+}
+
+// Where the key is missing, and where there is no object.
+fn assert_missing(rt: &impl Abort, document: &Value<'_, '_>, member: &Value<'_, '_>) {
+    assert_eq!(rt; get_each(document, "missing"), NONE);
+    assert_eq!(rt; try_get_each(document, "missing"), [Ok(None); 11]);
+    let refusal = TryTypeError {
+        expected: ValueType::Object,
+        got: member.value_type(),
+    };
+    assert_eq!(rt; get_each(member, "k"), NONE);
+    assert_eq!(rt; try_get_each(member, "k"), [Err(refusal); 11]);
 }
 
 // The number, where there are at least as many bits as it takes.
@@ -73,192 +162,335 @@ fn within(bits: u32, narrowest: u32, number: i128) -> Option<i128> {
     if bits < narrowest { None } else { Some(number) }
 }
 
-// The number for each width from the narrowest on.
-fn from_bits(narrowest: u32, number: i128) -> [Option<i128>; 4] {
+// The number for each type that is as wide as it takes, with a sign and without.
+fn from_bits(with_sign: u32, without: u32, number: i128) -> Each {
     [
-        within(8, narrowest, number),
-        within(16, narrowest, number),
-        within(32, narrowest, number),
-        within(64, narrowest, number),
+        within(8, with_sign, number),
+        within(16, with_sign, number),
+        within(32, with_sign, number),
+        within(64, with_sign, number),
+        within(128, with_sign, number),
+        within(8, without, number),
+        within(16, without, number),
+        within(32, without, number),
+        within(64, without, number),
+        within(128, without, number),
+        within(64, without, number),
     ]
 }
 
 #[test]
 fn integers_fit_from_a_width_on(rt: HostRuntime) -> Tested {
-    // a literal, its number, and the bits that it takes with a sign and without; 128 where 64 do not suffice
-    let rows: [(&[u8], i128, u32, u32); 20] = [
-        (b"0", 0, 8, 8),
-        (b"-1", -1, 8, 128),
-        (b"-128", -128, 8, 128),
-        (b"-129", -129, 16, 128),
-        (b"127", 127, 8, 8),
-        (b"128", 128, 16, 8),
-        (b"255", 255, 16, 8),
-        (b"300", 300, 16, 16),
-        (b"-32768", -32_768, 16, 128),
-        (b"-32769", -32_769, 32, 128),
-        (b"32768", 32_768, 32, 16),
-        (b"65535", 65_535, 32, 16),
-        (b"65536", 65_536, 32, 32),
-        (b"-2147483649", -2_147_483_649, 64, 128),
-        (b"2147483648", 2_147_483_648, 64, 32),
-        (b"4294967296", 4_294_967_296, 64, 64),
-        (b"-9223372036854775808", -9_223_372_036_854_775_808, 64, 128),
-        (b"9223372036854775807", 9_223_372_036_854_775_807, 64, 64),
-        (b"9223372036854775808", 9_223_372_036_854_775_808, 128, 64),
-        (b"18446744073709551615", 18_446_744_073_709_551_615, 128, 64),
+    // a document, its number, and the bits that it takes with a sign and without; 256 where none suffice
+    let rows: [(&[u8], i128, u32, u32); 21] = [
+        (b"{\"k\":0}", 0, 8, 8),
+        (b"{\"k\":-0}", 0, 8, 8),
+        (b"{\"k\":-1}", -1, 8, 256),
+        (b"{\"k\":-128}", -128, 8, 256),
+        (b"{\"k\":-129}", -129, 16, 256),
+        (b"{\"k\":127}", 127, 8, 8),
+        (b"{\"k\":128}", 128, 16, 8),
+        (b"{\"k\":255}", 255, 16, 8),
+        (b"{\"k\":300}", 300, 16, 16),
+        (b"{\"k\":-32768}", -32_768, 16, 256),
+        (b"{\"k\":-32769}", -32_769, 32, 256),
+        (b"{\"k\":32768}", 32_768, 32, 16),
+        (b"{\"k\":65535}", 65_535, 32, 16),
+        (b"{\"k\":65536}", 65_536, 32, 32),
+        (b"{\"k\":-2147483649}", -2_147_483_649, 64, 256),
+        (b"{\"k\":2147483648}", 2_147_483_648, 64, 32),
+        (b"{\"k\":4294967296}", 4_294_967_296, 64, 64),
+        (
+            b"{\"k\":-9223372036854775808}",
+            -9_223_372_036_854_775_808,
+            64,
+            256,
+        ),
+        (
+            b"{\"k\":9223372036854775807}",
+            9_223_372_036_854_775_807,
+            64,
+            64,
+        ),
+        (
+            b"{\"k\":9223372036854775808}",
+            9_223_372_036_854_775_808,
+            128,
+            64,
+        ),
+        (
+            b"{\"k\":18446744073709551615}",
+            18_446_744_073_709_551_615,
+            128,
+            64,
+        ),
     ];
-    for (literal, number, with_sign, without) in rows {
-        let mut literal = Vec::from_slice(rt.alloc(), literal)?;
-        let tape = to_tape(rt.alloc(), literal.as_mut_slice())?;
-        assert!(rt; !tape.is_empty());
-        let value = tape.as_value();
-        assert_eq!(rt; value.as_i128(), Some(number));
-        assert_eq!(rt; signed(value), from_bits(with_sign, number));
-        assert_eq!(rt; unsigned(value), from_bits(without, number));
+    for (input, number, with_sign, without) in rows {
+        let mut read = Vec::from_slice(rt.alloc(), input)?;
+        let tape = to_tape(rt.alloc(), read.as_mut_slice())?;
+        let document = tape.as_value();
+        let has_minus = input.contains(&b'-');
+        let got = if has_minus {
+            ValueType::I64
+        } else {
+            ValueType::U64
+        };
+        let wanted = from_bits(with_sign, without, number);
+        assert_each(&rt, &document, "k", got, &wanted);
+        let value = document.get("k").expect(&rt, "it is there");
+        assert_missing(&rt, &document, &value);
+        for other in [number, number.wrapping_sub(1), number & 0xff] {
+            let is_equal = wanted.map(|fits| fits == Some(other));
+            assert_eq!(rt; eq_each(&value, other), is_equal, "{number} {other}");
+        }
     }
     Ok(())
 }
 
 #[test]
 fn integers_past_64_bits_have_kinds_of_their_own(rt: HostRuntime) -> Tested {
-    // a literal, what it is with a sign and without, and its kind
+    // a document, its number with a sign and without, and its kind
     let rows: [(&[u8], Option<i128>, Option<u128>, ValueType); 6] = [
         (
-            b"18446744073709551616",
+            b"{\"k\":18446744073709551616}",
             Some(1 << 64),
             Some(1 << 64),
             ValueType::U128,
         ),
         (
-            b"-9223372036854775809",
+            b"{\"k\":-9223372036854775809}",
             Some(-9_223_372_036_854_775_809),
             None,
             ValueType::I128,
         ),
         (
-            b"170141183460469231731687303715884105727",
+            b"{\"k\":170141183460469231731687303715884105727}",
             Some(i128::MAX),
             Some((1 << 127) - 1),
             ValueType::U128,
         ),
         (
-            b"170141183460469231731687303715884105728",
+            b"{\"k\":170141183460469231731687303715884105728}",
             None,
             Some(1 << 127),
             ValueType::U128,
         ),
         (
-            b"-170141183460469231731687303715884105728",
+            b"{\"k\":-170141183460469231731687303715884105728}",
             Some(i128::MIN),
             None,
             ValueType::I128,
         ),
         (
-            b"340282366920938463463374607431768211455",
+            b"{\"k\":340282366920938463463374607431768211455}",
             None,
             Some(u128::MAX),
             ValueType::U128,
         ),
     ];
-    for (literal, signed, unsigned, kind) in rows {
-        let mut input = Vec::from_slice(rt.alloc(), literal)?;
-        let tape = to_tape(rt.alloc(), input.as_mut_slice())?;
-        assert!(rt; !tape.is_empty());
-        let value = tape.as_value();
-        assert_eq!(rt; value.value_type(), kind);
-        assert_eq!(rt; value.as_i128(), signed);
-        assert_eq!(rt; value.as_u128(), unsigned);
-        assert_eq!(rt; value.try_as_i64(), refused(ValueType::I64, kind));
-        assert_eq!(rt; value.try_as_u64(), refused(ValueType::U64, kind));
-        assert_eq!(rt; value.try_as_i128().is_ok(), signed.is_some());
-        assert_eq!(rt; value.eq_u128(u128::MAX), unsigned == Some(u128::MAX));
-        let text = value.encode(rt.alloc())?;
-        assert_eq!(rt; text.as_bytes(), literal);
+    for (input, signed, unsigned, kind) in rows {
+        let mut read = Vec::from_slice(rt.alloc(), input)?;
+        let tape = to_tape(rt.alloc(), read.as_mut_slice())?;
+        let document = tape.as_value();
+        let mut wanted = NONE;
+        wanted[4] = signed;
+        wanted[9] = unsigned.map(of_u128);
+        assert_each(&rt, &document, "k", kind, &wanted);
+        assert_eq!(rt; document.get_u128("k"), unsigned);
+        assert_eq!(rt; document.try_get_u128("k").ok(), unsigned.map(Some));
+        let value = document.get("k").expect(&rt, "it is there");
+        assert_eq!(rt;
+            (value.as_u128(), value.try_as_u128().ok()),
+            (unsigned, unsigned)
+        );
+        for other in [i128::MIN, 1 << 64, i128::MAX] {
+            assert_eq!(rt; value.eq_i128(other), signed == Some(other));
+        }
+        for other in [1 << 64, 1 << 127, u128::MAX] {
+            assert_eq!(rt; value.eq_u128(other), unsigned == Some(other));
+        }
+    }
+    Ok(())
+}
+
+// What is answered of a value of the kind `got` where one of the kind `expected` answers.
+fn own<T: Drop>(
+    expected: ValueType,
+    got: ValueType,
+    answer: T,
+) -> std::result::Result<T, TryTypeError> {
+    if expected == got {
+        Ok(answer)
+    } else {
+        Err(TryTypeError { expected, got })
+    }
+}
+
+// What the accessors of null, truth values, strings and decimals answer of the value with the key `k`.
+fn assert_scalars(rt: &impl Abort, document: &Value<'_, '_>, k: &str, got: ValueType) {
+    let value = document.get(k).expect(rt, "it is there");
+    let null = own(ValueType::Null, got, ());
+    assert_eq!(rt; (value.as_null(), value.try_as_null()), (null.ok(), null));
+    assert_eq!(rt; value.eq_null(), null.is_ok());
+    let truth = own(ValueType::Bool, got, true);
+    assert_eq!(rt; (value.as_bool(), value.try_as_bool()), (truth.ok(), truth));
+    assert_eq!(rt; document.get_bool(k), truth.ok());
+    assert_eq!(rt; document.try_get_bool(k), truth.map(Some));
+    assert_eq!(rt;
+        (value.eq_bool(true), value.eq_bool(false)),
+        (truth.is_ok(), false)
+    );
+    let string = own(ValueType::String, got, "a\n");
+    assert_eq!(rt; (value.as_str(), value.try_as_str()), (string.ok(), string));
+    assert_eq!(rt; value.into_string(), string.ok());
+    assert_eq!(rt; value.try_into_string(), string);
+    assert_eq!(rt; document.get_str(k), string.ok());
+    assert_eq!(rt; document.try_get_str(k), string.map(Some));
+    assert_eq!(rt;
+        (value.eq_str("a\n"), value.eq_str("a")),
+        (string.is_ok(), false)
+    );
+    let decimal = own(ValueType::Decimal, got, "1.50");
+    assert_eq!(rt;
+        (value.as_decimal(), value.try_as_decimal()),
+        (decimal.ok(), decimal)
+    );
+    assert_eq!(rt; document.get_decimal(k), decimal.ok());
+    assert_eq!(rt; document.try_get_decimal(k), decimal.map(Some));
+}
+
+fn array_len(array: Array<'_, '_>) -> usize {
+    array.len()
+}
+
+fn object_len(object: Object<'_, '_>) -> usize {
+    object.len()
+}
+
+fn is_there(member: Option<Value<'_, '_>>) -> bool {
+    member.is_some()
+}
+
+// What those of arrays and objects answer: how many members there are.
+fn assert_containers(rt: &impl Abort, document: &Value<'_, '_>, k: &str, got: ValueType) {
+    let value = document.get(k).expect(rt, "it is there");
+    let array = own(ValueType::Array, got, 1usize);
+    assert_eq!(rt; value.is_array(), array.is_ok());
+    assert_eq!(rt; value.as_array().map(array_len), array.ok());
+    assert_eq!(rt; value.into_array().map(array_len), array.ok());
+    assert_eq!(rt; value.try_as_array().map(array_len), array);
+    assert_eq!(rt; document.get_array(k).map(array_len), array.ok());
+    assert_eq!(rt;
+        document.try_get_array(k).map(|array| array.map(array_len)),
+        array.map(Some)
+    );
+    let object = own(ValueType::Object, got, 2usize);
+    assert_eq!(rt; value.is_object(), object.is_ok());
+    assert_eq!(rt; value.as_object().map(object_len), object.ok());
+    assert_eq!(rt; value.into_object().map(object_len), object.ok());
+    assert_eq!(rt; value.try_as_object().map(object_len), object);
+    assert_eq!(rt; document.get_object(k).map(object_len), object.ok());
+    assert_eq!(rt;
+        document
+            .try_get_object(k)
+            .map(|object| object.map(object_len)),
+        object.map(Some)
+    );
+}
+
+#[test]
+fn kinds_answer_for_themselves_alone(rt: HostRuntime) -> Tested {
+    let mut input = *b"{\"null\":null,\"truth\":true,\"string\":\"a\\n\",\"decimal\":1.50,\
+        \"minus\":-7,\"plus\":7,\"array\":[[1,2]],\"object\":{\"a\":1,\"b\":{}}}";
+    let tape = to_tape(rt.alloc(), &mut input)?;
+    let document = tape.as_value();
+    let rows = [
+        ("null", ValueType::Null, NONE),
+        ("truth", ValueType::Bool, NONE),
+        ("string", ValueType::String, NONE),
+        ("decimal", ValueType::Decimal, NONE),
+        ("minus", ValueType::I64, from_bits(8, 256, -7)),
+        ("plus", ValueType::U64, from_bits(8, 8, 7)),
+        ("array", ValueType::Array, NONE),
+        ("object", ValueType::Object, NONE),
+    ];
+    for (k, got, numbers) in &rows {
+        assert_each(&rt, &document, k, *got, numbers);
+        assert_scalars(&rt, &document, k, *got);
+        assert_containers(&rt, &document, k, *got);
+    }
+    Ok(())
+}
+
+// The kind of each node, and its name.
+#[test]
+fn kinds_are_named(rt: HostRuntime) -> Tested {
+    let rows = [
+        (StaticNode::Null, ValueType::Null, "Null"),
+        (StaticNode::Bool(false), ValueType::Bool, "Bool"),
+        (StaticNode::I64(0), ValueType::I64, "I64"),
+        (StaticNode::U64(0), ValueType::U64, "U64"),
+        (StaticNode::I128(0), ValueType::I128, "I128"),
+        (StaticNode::U128(0), ValueType::U128, "U128"),
+    ];
+    for (scalar, kind, name) in &rows {
+        assert_eq!(rt;
+            (scalar.value_type(), Node::Static(*scalar).value_type()),
+            (*kind, *kind)
+        );
+        assert_eq!(rt; kind.to_string(rt.alloc())?.as_str(), *name);
     }
     Ok(())
 }
 
 #[test]
-fn refusals_name_both_kinds(rt: HostRuntime) -> Tested {
-    let mut input = *b"[-1,255,300,-0,[]]";
-    let tape = to_tape(rt.alloc(), &mut input)?;
-    assert!(rt; !tape.is_empty());
-    let value = tape.as_value();
-    let minus_one = value.get_idx(0).expect(&rt, "it is there");
-    let byte = value.get_idx(1).expect(&rt, "it is there");
-    let wider = value.get_idx(2).expect(&rt, "it is there");
-    let zero = value.get_idx(3).expect(&rt, "it is there");
-    let list = value.get_idx(4).expect(&rt, "it is there");
-    assert_eq!(rt;
-        minus_one.try_as_u64(),
-        refused(ValueType::U64, ValueType::I64)
-    );
-    assert_eq!(rt;
-        minus_one.try_as_u128(),
-        refused(ValueType::U128, ValueType::I64)
-    );
-    assert_eq!(rt; byte.try_as_i8(), refused(ValueType::I64, ValueType::U64));
-    assert_eq!(rt; wider.try_as_u8(), refused(ValueType::U64, ValueType::U64));
-    assert_eq!(rt;
-        list.try_as_i128(),
-        refused(ValueType::I128, ValueType::Array)
-    );
-    assert_eq!(rt; zero.value_type(), ValueType::I64);
-    assert!(rt; zero.eq_u64(0));
-    assert_eq!(rt;
-        list.try_get_bool("a"),
-        refused(ValueType::Object, ValueType::Array)
-    );
-    assert_eq!(rt;
-        list.try_as_object().err(),
-        Some(TryTypeError {
-            expected: ValueType::Object,
-            got: ValueType::Array
-        })
-    );
+fn the_first_value_with_a_key_is_asked(rt: HostRuntime) -> Tested {
+    let rows: [(&[u8], usize); 2] = [
+        (b"{\"a\":1,\"a\":2}", 2),
+        (b"{\"a\":1,\"a\":[2],\"b\":[]}", 3),
+    ];
+    for (input, len) in rows {
+        let mut read = Vec::from_slice(rt.alloc(), input)?;
+        let tape = to_tape(rt.alloc(), read.as_mut_slice())?;
+        let value = tape.as_value();
+        assert_eq!(rt; value.as_object().map(object_len), Some(len));
+        assert!(rt; value.get("a").is_some_and(|first| first.eq_u64(1)));
+        assert_eq!(rt; value.get_u8("a"), Some(1));
+        assert!(rt; value.get_array("a").is_none());
+        assert_eq!(rt;
+            value.try_get_array("a").map(|array| array.map(array_len)),
+            own(ValueType::Array, ValueType::U64, None)
+        );
+    }
     Ok(())
 }
 
+// Of a missing key or index nothing is answered; of a value that has none the kind is.
 #[test]
-fn the_first_value_with_a_key_is_asked(rt: HostRuntime) -> Tested {
-    let mut input = *b"{\"a\":1,\"a\":[2],\"b\":null,\"c\":[\"x\",\"y\"],\"d\":{\"e\":-4}}";
+fn missing_members_are_told_from_other_kinds(rt: HostRuntime) -> Tested {
+    let mut input = *b"{\"a\":null,\"b\":[7]}";
     let tape = to_tape(rt.alloc(), &mut input)?;
-    assert!(rt; !tape.is_empty());
-    let value = tape.as_value();
-    assert_eq!(rt; value.get_u8("a"), Some(1));
-    assert!(rt; value.get_array("a").is_none());
+    let object = tape.as_value();
     assert_eq!(rt;
-        value.try_get_array("a").err(),
-        Some(TryTypeError {
-            expected: ValueType::Array,
-            got: ValueType::U64
-        })
+        (object.get_str("c"), object.try_get_str("c")),
+        (None, Ok(None))
     );
-    assert_eq!(rt; value.get_str("b"), None);
+    assert_eq!(rt; object.try_get("c").map(is_there), Ok(false));
+    assert_eq!(rt; object.try_get("a").map(is_there), Ok(true));
     assert_eq!(rt;
-        value.try_get_str("b"),
-        refused(ValueType::String, ValueType::Null)
+        object.try_get_idx(0).map(is_there),
+        own(ValueType::Array, ValueType::Object, false)
     );
-    assert_eq!(rt; value.try_get_str("missing"), Ok(None));
-    assert_eq!(rt; value.get_array("c").map(|array| array.len()), Some(2));
-    let inner = value.get_object("d").expect(&rt, "it is there");
+    let array = object.get("b").expect(&rt, "it is there");
+    assert_eq!(rt; array.try_get_idx(1).map(is_there), Ok(false));
+    assert_eq!(rt; array.try_get_idx(0).map(is_there), Ok(true));
     assert_eq!(rt;
-        inner.get("e").expect(&rt, "it is there").as_i32(),
-        Some(-4)
-    );
-    assert!(rt;
-        value
-            .try_get("missing")
-            .expect(&rt, "it is an object")
-            .is_none()
+        array.try_get("a").map(is_there),
+        own(ValueType::Object, ValueType::Array, false)
     );
     assert_eq!(rt;
-        value.try_get_idx(0).err(),
-        Some(TryTypeError {
-            expected: ValueType::Array,
-            got: ValueType::Object
-        })
+        array.try_get_bool("a"),
+        own(ValueType::Object, ValueType::Array, None)
     );
     Ok(())
 }
