@@ -10,6 +10,7 @@ mod maps;
 mod memory;
 mod printing;
 mod reading;
+mod refusals;
 mod reuse;
 mod shapes;
 mod values;

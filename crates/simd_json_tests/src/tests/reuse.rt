@@ -197,6 +197,7 @@ fn a_padded_document_is_listed(rt: HostRuntime) -> Tested {
 fn a_tape_is_null_and_then_reset(rt: HostRuntime) -> Tested {
     let null = Tape::null(rt.alloc())?;
     assert_eq!(rt; null.nodes(), [Node::Static(StaticNode::Null)].as_slice());
+    assert!(rt; format!(in rt.alloc(); "{null:?}")?.starts_with("Tape"));
     let mut input = *b"[1]";
     let mut tape = null.reset();
     assert!(rt; tape.is_empty());

@@ -2,7 +2,7 @@
 use crate::tests::Tested;
 use simd_json::tape::Value;
 use simd_json::{
-    Buffers, INPUT_PADDING, Node, StaticNode, Tape, ValueType, fill_tape_padded, to_tape,
+    Buffers, INPUT_PADDING, Node, Tape, TryTypeError, ValueType, fill_tape_padded, to_tape,
 };
 
 // An integer that is written without `-`.
@@ -150,7 +150,18 @@ fn look_up_answers_its_own_kind_alone(rt: HostRuntime) -> Tested {
     let value = tape.as_value();
     assert_eq!(rt; value.get("the_answer").and_then(number), Some(42));
     assert!(rt; value.get("does_not_exist").is_none());
+    let found = value.try_get("the_answer").expect(&rt, "it is an object");
+    assert!(rt; found.expect(&rt, "it is there").eq_u64(42));
+    let missing = value.try_get("does_not_exist");
+    assert!(rt; missing.expect(&rt, "it is an object").is_none());
     assert!(rt; value.get_idx(0).is_none());
+    assert_eq!(rt;
+        value.try_get_idx(0).err(),
+        Some(TryTypeError {
+            expected: ValueType::Array,
+            got: ValueType::Object
+        })
+    );
     assert!(rt; value.as_array().is_none());
     assert!(rt; !value.is_array());
     assert!(rt; value.is_object());

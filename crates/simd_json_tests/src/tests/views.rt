@@ -1,26 +1,6 @@
 // What the views answer of documents with members.
 use crate::tests::Tested;
-use simd_json::{TryTypeError, ValueType, to_tape};
-
-#[test]
-fn look_up_tells_what_is_missing_and_what_is_no_container(rt: HostRuntime) -> Tested {
-    let mut input = *b"{\"the_answer\": 42}";
-    let tape = to_tape(rt.alloc(), &mut input)?;
-    assert!(rt; !tape.is_empty());
-    let value = tape.as_value();
-    let found = value.try_get("the_answer").expect(&rt, "it is an object");
-    assert!(rt; found.expect(&rt, "it is there").eq_u64(42));
-    let missing = value.try_get("does_not_exist");
-    assert!(rt; missing.expect(&rt, "it is an object").is_none());
-    assert_eq!(rt;
-        value.try_get_idx(0).err(),
-        Some(TryTypeError {
-            expected: ValueType::Array,
-            got: ValueType::Object
-        })
-    );
-    Ok(())
-}
+use simd_json::to_tape;
 
 #[test]
 fn members_are_read_by_their_types(rt: HostRuntime) -> Tested {
