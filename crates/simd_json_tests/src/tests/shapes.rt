@@ -1,13 +1,11 @@
 // Long runs of one thing, whose answers are known.
 use crate::tests::Tested;
+use crate::tests::reuse::{Text, at, whole};
 use simd_json::{
     Buffers, DEFAULT_MAX_DEPTH, Error, ErrorType, Node, Tape, fill_tape, to_tape,
     to_tape_with_buffers,
 };
 use std::alloc::Global;
-use std::test::Fail;
-
-type Text = std::result::Result<Vec<u8>, Fail>;
 
 // A piece so many times, between two strings.
 fn text(alloc: Global, before: &[u8], piece: &[u8], count: usize, after: &[u8]) -> Text {
@@ -17,14 +15,6 @@ fn text(alloc: Global, before: &[u8], piece: &[u8], count: usize, after: &[u8]) 
     }
     text.extend_from_slice(after)?;
     Ok(text)
-}
-
-fn at(index: usize, character: char, kind: ErrorType) -> Option<Error> {
-    Some(Error::new(index, Some(character), kind))
-}
-
-fn whole(kind: ErrorType) -> Option<Error> {
-    Some(Error::generic(kind))
 }
 
 fn is_backslashes(node: Option<&Node<'_>>, len: usize) -> bool {
