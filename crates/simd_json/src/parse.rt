@@ -172,12 +172,12 @@ pub fn fill_tape_padded<'de, A: Allocator, B: Allocator>(
     fill_tape(document, buffers, tape)
 }
 
-/// Reads a document as [`fill_tape`] does, over the tape that an input of another lifetime left, and returns
-/// the result beside a tape of this one, which has all the capacity of the other. So a loop reads each of its
-/// inputs into one buffer: `fill_tape` would have them all live at a time.
+/// Reads a document as [`fill_tape`] does, over the tape of an input of another lifetime, and returns the
+/// result beside a tape of this one, with the capacity of the other and of what the parse reserved. So a loop
+/// reads each of its inputs into one buffer; with `fill_tape` they would all have to live at a time.
 ///
-/// The errors are those of [`to_tape`], and after one the tape is empty. It borrows from `s`, which can be
-/// written again once the tape is [`reset`](Tape::reset) or dropped. What was reserved stays so.
+/// The errors are those of [`to_tape`]; after one the tape is empty. The tape borrows from `s`, which can be
+/// written again once it is [`reset`](Tape::reset) or dropped. A reservation outlives all of this.
 ///
 /// ```
 /// use simd_json::{Buffers, Tape, refill_tape, reserve};
@@ -245,7 +245,8 @@ pub fn reserve<A: Allocator, B: Allocator>(
     ensures capacity { OnOk result (capped input_len ≤ parse_capacity buffers.new tape.new) }
     ensures same { ListsSame buffers.old buffers.new × (tape.new.nodes ≡ tape.old.nodes) }
     ensures kept { KeepsCapacities buffers.old buffers.new × (tape.old.capacity ≤ tape.new.capacity) }
-    ensures fault { IfErr result (λ e. IsOutOfMemory e × (parse_capacity buffers.old tape.old < capped input_len)) }
+    ensures fault { IfErr result (λ e. IsOutOfMemory e
+        × (parse_capacity buffers.old tape.old < capped input_len)) }
 {
     buffers.reserve(input_len)?;
     let positions = input_len.min(u32::MAX as usize);

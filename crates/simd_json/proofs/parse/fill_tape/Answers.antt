@@ -23,7 +23,8 @@ returns-in-Err-clause-parse g c =
     let held = c.args.tape.now.capacity in
     let count = length c.structural_indexes-positions.result.now in
     let same = ap (λ r. r.limit) c.buffers.view_is ∙ c.in_ok-find_positions.ensures.limit in
-    let asked = subst (λ n. c.clear.new.self.capacity < n) (c.nodes_enough.ensures.enough ∙ ap (nodes_enough count) same) c.in-Err.ensures.fault.1 in
+    let enough = c.nodes_enough.ensures.enough ∙ ap (nodes_enough count) same in
+    let asked = subst (λ n. c.clear.new.self.capacity < n) enough c.in-Err.ensures.fault.1 in
     let few = bytes-short count limit held (subst (λ n. n < nodes_enough count limit) (ap (λ t. t.capacity) c.clear.ensures) asked) in
     parse-short c.refuse.result c.args.s.now limit (bytes_listed limit held) (capacity c.args.buffers.now) count _ _ _
     c.refuse.ensures.refused found.1 c.in-Err.ensures.fault.0 few
