@@ -1,7 +1,7 @@
 # Two commands: `make` proves and builds what there is and shows the first run, `make test` passes the gate.
 # Both need the toolchain's command `rt` on the PATH, and nothing else. Besides, `make CPU=x86-64-v3` builds for processors of
 # that level, and `make bench` measures: bench/run.sh says what it takes.
-.PHONY: all library test bench install uninstall clean has-rt
+.PHONY: all library test bench vendor install uninstall clean has-rt
 
 # The level that programs are built for. Empty: the toolchain's default.
 CPU =
@@ -29,6 +29,10 @@ test: has-rt
 # Beside the parsers that are installed, over generated texts and FILES. SAVE=1 puts the results into docs/.
 bench: has-rt
 	SAVE=$(SAVE) sh bench/run.sh $(FILES)
+
+# The crates of the library, into the repository in the folder DIR.
+vendor:
+	@sh scripts/vendor.sh "$(DIR)"
 
 # The program and its manual page, under PREFIX.
 PREFIX = /usr/local

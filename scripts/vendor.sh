@@ -1,0 +1,61 @@
+#!/bin/sh
+# Copies the crate simd_json and those of this repository that it stands on, by crates.txt, into another repository's crates/, with
+# what proving them needs (src, specs, proofs) and the licenses, and adds their lines to its crates.txt. What is there already stays
+# as it is. If a crate or a line with such a name is there and differs, says so, copies nothing, and ends with status 1.
+#
+# usage: sh scripts/vendor.sh DIR        as `make vendor DIR=DIR` does; DIR is the folder that holds crates.txt, or is to
+set -eu
+ours=$(cd "$(dirname "$0")/.." && pwd)
+if [ $# -ne 1 ] || ! [ -d "$1" ]; then
+    echo "usage: make vendor DIR=FOLDER, the folder of another repository" >&2
+    exit 2
+fi
+theirs=$(cd "$1" && pwd)
+
+# line CRATE FOLDER: the crate's line in the folder's crates.txt, without its comment.
+line() { [ ! -e "$2/crates.txt" ] || sed -n "s/[[:space:]]*#.*//; /^[[:space:]]*$1[[:space:]:]/p" "$2/crates.txt"; }
+words() { echo "$1" | sed 's/:/ : /' | xargs; }
+
+# What has a line in crates.txt is this repository's, and else the toolchain's.
+crates=
+collect() {
+    case " $crates " in *" $1 "*) return ;; esac
+    found=$(line "$1" "$ours")
+    [ -n "$found" ] || return 0
+    crates="$crates $1"
+    for below in ${found#*:}; do collect "$below"; done
+}
+collect simd_json
+
+differs=
+[ ! -s "$theirs/crates.txt" ] || [ -d "$theirs/crates" ] || differs="$theirs has crates.txt and no folder crates"
+for name in $crates; do
+    there=$(line "$name" "$theirs")
+    [ -z "$there" ] || [ "$(words "$there")" = "$(words "$(line "$name" "$ours")")" ] || differs="$theirs/crates.txt has another $name"
+    [ -e "$theirs/crates/$name" ] || continue
+    for part in src specs proofs; do
+        [ -e "$ours/crates/$name/$part" ] || [ -e "$theirs/crates/$name/$part" ] || continue
+        diff -rq "$ours/crates/$name/$part" "$theirs/crates/$name/$part" > /dev/null 2>&1 ||
+            differs="$theirs/crates/$name is another crate or version"
+    done
+done
+if [ -n "$differs" ]; then
+    echo "vendor: $differs: nothing was copied" >&2
+    exit 1
+fi
+
+for name in $crates; do
+    if ! [ -e "$theirs/crates/$name" ]; then
+        mkdir -p "$theirs/crates/$name"
+        for part in src specs proofs; do
+            [ ! -e "$ours/crates/$name/$part" ] || cp -R "$ours/crates/$name/$part" "$theirs/crates/$name/"
+        done
+        cp "$ours"/LICENSE-* "$theirs/crates/$name/"
+    fi
+    if [ -z "$(line "$name" "$theirs")" ]; then
+        # The last line may lack its line feed.
+        [ ! -s "$theirs/crates.txt" ] || [ -z "$(tail -c 1 "$theirs/crates.txt")" ] || echo >> "$theirs/crates.txt"
+        line "$name" "$ours" >> "$theirs/crates.txt"
+    fi
+done
+echo "vendor: $theirs/crates has$crates"
