@@ -1,4 +1,5 @@
-//! Tests of the parser as its callers see it, through public calls alone. Other crates need nothing of it.
+//! Tests of parses as callers see them, through public calls alone, and the examples of the documents. Other
+//! crates need nothing of it.
 #![tactic(auto)]
 
 #[cfg(test)]

@@ -1,6 +1,7 @@
 // The deserializer's steps over the nodes.
 use crate::tests::Tested;
 use simd_json::{Buffers, Deserializer, Error, ErrorType, Node, StaticNode, Tape, to_tape};
+use std::process::Abort;
 
 const NODES: [Node<'static>; 3] = [
     Node::Array { len: 2, count: 2 },
@@ -14,9 +15,9 @@ fn nodes_are_given_in_order(rt: HostRuntime) -> Tested {
     let mut input = *b"[1,2]";
     let mut steps = Deserializer::from_slice(rt.alloc(), &mut input)?;
     for _ in 0..2 {
-        for node in NODES {
+        for node in &NODES {
             assert!(rt; !steps.is_at_end());
-            assert_eq!(rt; steps.next_(), node);
+            assert_eq!(rt; steps.next_(), *node);
         }
         assert!(rt; steps.is_at_end());
         steps.restart();
@@ -57,48 +58,57 @@ fn tapes_are_handed_on(rt: HostRuntime) -> Tested {
     Ok(())
 }
 
-// What is printed of a refusal, and its class: io, eof, syntax or data.
+// An input, what is printed of its refusal, and the class of that: io, eof, syntax or data.
+type Refused = (&'static [u8], &'static str, [bool; 4]);
+
+const REFUSED: [Refused; 6] = [
+    (b"", "Eof at character 0", [false, true, false, false]),
+    (
+        b" \t\r\n",
+        "Eof at character 0",
+        [false, true, false, false],
+    ),
+    (
+        b"-170141183460469231731687303715884105729",
+        "InvalidNumber at character 40 (' ')",
+        [false, false, true, false],
+    ),
+    (
+        b"time",
+        "ExpectedTrue at character 0 ('t')",
+        [false, false, false, true],
+    ),
+    (
+        b"[1 2]",
+        "ExpectedArrayContent at character 3 ('2')",
+        [false, false, true, false],
+    ),
+    (
+        b"[\xff]",
+        "InvalidUtf8 at character 0",
+        [false, false, true, false],
+    ),
+];
+
+fn assert_refused(rt: &(impl AllocGlobal + Abort), row: &Refused) -> Tested {
+    let (input, text, classes) = *row;
+    let mut read = Vec::from_slice(rt.alloc(), input)?;
+    let Err(e) = Deserializer::from_slice(rt.alloc(), read.as_mut_slice()) else {
+        panic!(rt; "{text}");
+    };
+    assert_eq!(rt; e.to_string(rt.alloc())?.as_str(), text);
+    assert_eq!(rt;
+        [e.is_io(), e.is_eof(), e.is_syntax(), e.is_data()],
+        classes,
+        "{text}"
+    );
+    Ok(())
+}
+
 #[test]
 fn refusals_are_printed_and_classed(rt: HostRuntime) -> Tested {
-    let rows: [(&[u8], &str, [bool; 4]); 6] = [
-        (b"", "Eof at character 0", [false, true, false, false]),
-        (
-            b" \t\r\n",
-            "Eof at character 0",
-            [false, true, false, false],
-        ),
-        (
-            b"-170141183460469231731687303715884105729",
-            "InvalidNumber at character 40 (' ')",
-            [false, false, true, false],
-        ),
-        (
-            b"time",
-            "ExpectedTrue at character 0 ('t')",
-            [false, false, false, true],
-        ),
-        (
-            b"[1 2]",
-            "ExpectedArrayContent at character 3 ('2')",
-            [false, false, true, false],
-        ),
-        (
-            b"[\xff]",
-            "InvalidUtf8 at character 0",
-            [false, false, true, false],
-        ),
-    ];
-    for (input, text, classes) in rows.iter() {
-        let mut read = Vec::from_slice(rt.alloc(), input)?;
-        let Err(e) = Deserializer::from_slice(rt.alloc(), read.as_mut_slice()) else {
-            panic!(rt; "{text}");
-        };
-        assert_eq!(rt; e.to_string(rt.alloc())?.as_str(), *text);
-        assert_eq!(rt;
-            [e.is_io(), e.is_eof(), e.is_syntax(), e.is_data()],
-            *classes,
-            "{text}"
-        );
+    for row in &REFUSED {
+        assert_refused(&rt, row)?;
     }
     Ok(())
 }

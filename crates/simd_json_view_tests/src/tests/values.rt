@@ -1,9 +1,10 @@
 // Values: kinds, look-up and iterators.
 use crate::tests::Tested;
-use simd_json::tape::Value;
+use simd_json::tape::{Array, Object, Value};
 use simd_json::{
     Buffers, INPUT_PADDING, Node, Tape, TryTypeError, ValueType, fill_tape_padded, to_tape,
 };
+use std::process::Abort;
 
 // An integer that is written without `-`.
 fn number(value: Value<'_, '_>) -> Option<u64> {
@@ -24,39 +25,37 @@ fn first_of_equal_keys_is_found(rt: HostRuntime) -> Tested {
     );
     assert!(rt; !tape.is_empty());
     let value = tape.as_value();
-    let object = value.as_object().expect(&rt, "it is there");
+    assert!(rt; !value.contains_key("b"));
+    assert!(rt; value.contains_key("a"));
+    assert_equal_keys(&rt, &value.as_object().expect(&rt, "it is there"));
+    assert_first(&rt, &value.get("a").expect(&rt, "it is there"));
+    Ok(())
+}
+
+// Iterators give both pairs.
+fn assert_equal_keys(rt: &impl Abort, object: &Object<'_, '_>) {
     assert_eq!(rt; object.len(), 2);
     let mut keys = object.keys();
     assert_eq!(rt; keys.next(), Some("a"));
     assert_eq!(rt; keys.next(), Some("a"));
     assert_eq!(rt; keys.next(), None);
-    let inner = value.get("a").expect(&rt, "it is there");
-    assert_eq!(rt; inner.into_object().map(|o| o.len()), Some(1));
-    let list = inner.get("b").expect(&rt, "it is there");
-    assert_eq!(rt; list.into_array().map(|a| a.len()), Some(2));
-    assert!(rt;
-        list.get_idx(0)
-            .expect(&rt, "it is there")
-            .as_array()
-            .expect(&rt, "it is there")
-            .is_empty()
-    );
-    assert!(rt;
-        list.get_idx(1)
-            .expect(&rt, "it is there")
-            .as_object()
-            .expect(&rt, "it is there")
-            .is_empty()
-    );
-    assert!(rt; list.get_idx(2).is_none());
     let mut values = object.values();
-    assert!(rt; values.next().expect(&rt, "it is there").is_object());
+    assert!(rt; values.next().expect(rt, "it is there").is_object());
     assert_eq!(rt; values.next().and_then(number), Some(2));
     assert!(rt; values.next().is_none());
     assert!(rt; values.next().is_none());
-    assert!(rt; !value.contains_key("b"));
-    assert!(rt; value.contains_key("a"));
-    Ok(())
+}
+
+// The value of the first.
+fn assert_first(rt: &impl Abort, inner: &Value<'_, '_>) {
+    assert_eq!(rt; inner.into_object().map(|o| o.len()), Some(1));
+    let list = inner.get("b").expect(rt, "it is there");
+    assert_eq!(rt; list.into_array().map(|a| a.len()), Some(2));
+    let first = list.get_idx(0).expect(rt, "it is there");
+    assert!(rt; first.as_array().expect(rt, "it is there").is_empty());
+    let second = list.get_idx(1).expect(rt, "it is there");
+    assert!(rt; second.as_object().expect(rt, "it is there").is_empty());
+    assert!(rt; list.get_idx(2).is_none());
 }
 
 #[test]
@@ -66,13 +65,24 @@ fn arrays_are_indexed_by_value(rt: HostRuntime) -> Tested {
     assert!(rt; !tape.is_empty());
     let value = tape.as_value();
     let array = value.as_array().expect(&rt, "it is there");
+    assert_indexed(&rt, &array);
+    assert_iterated(&rt, &array);
+    assert!(rt; value.get("a").is_none());
+    assert!(rt; value.as_object().is_none());
+    Ok(())
+}
+
+fn assert_indexed(rt: &impl Abort, array: &Array<'_, '_>) {
     assert_eq!(rt; (array.len(), array.iter().len()), (3, 3));
-    let inner = array.get(1).expect(&rt, "it is there");
+    let inner = array.get(1).expect(rt, "it is there");
     assert_eq!(rt; inner.get_idx(0).and_then(number), Some(2));
     assert_eq!(rt; inner.get_idx(1).and_then(number), Some(3));
     assert!(rt; inner.get_idx(2).is_none());
     assert_eq!(rt; array.get(2).and_then(number), Some(4));
     assert!(rt; array.get(3).is_none());
+}
+
+fn assert_iterated(rt: &impl Abort, array: &Array<'_, '_>) {
     let mut values = array.iter();
     assert_eq!(rt; values.size_hint(), (3, Some(3)));
     assert_eq!(rt; values.next().map(number), Some(Some(1)));
@@ -81,9 +91,6 @@ fn arrays_are_indexed_by_value(rt: HostRuntime) -> Tested {
     assert_eq!(rt; values.next().map(number), Some(Some(4)));
     assert!(rt; values.next().is_none());
     assert!(rt; values.next().is_none());
-    assert!(rt; value.get("a").is_none());
-    assert!(rt; value.as_object().is_none());
-    Ok(())
 }
 
 #[test]
@@ -112,6 +119,16 @@ fn pairs_come_in_order(rt: HostRuntime) -> Tested {
     let object = tape.as_value().as_object().expect(&rt, "it is there");
     assert_eq!(rt; (object.len(), object.iter().len()), (4, 4));
     assert_eq!(rt; (object.keys().len(), object.values().len()), (4, 4));
+    assert_pairs(&rt, &object);
+    assert_keys(&rt, &object);
+    assert_values(&rt, &object);
+    assert_eq!(rt; object.get("cake").and_then(number), Some(3));
+    assert!(rt; object.get("monster").is_none());
+    assert!(rt; object.get("cakes").is_none());
+    Ok(())
+}
+
+fn assert_pairs(rt: &impl Abort, object: &Object<'_, '_>) {
     let mut pairs = object.iter();
     assert_eq!(rt; pairs.size_hint(), (4, Some(4)));
     assert!(rt; is_pair(pairs.next(), "snot", 1));
@@ -119,6 +136,10 @@ fn pairs_come_in_order(rt: HostRuntime) -> Tested {
     assert!(rt; is_pair(pairs.next(), "badger", 2));
     assert!(rt; is_pair(pairs.next(), "cake", 3));
     assert!(rt; is_pair(pairs.next(), "cookie", 4));
+    assert!(rt; pairs.next().is_none());
+}
+
+fn assert_keys(rt: &impl Abort, object: &Object<'_, '_>) {
     let mut keys = object.keys();
     assert_eq!(rt; keys.size_hint(), (4, Some(4)));
     assert_eq!(rt; keys.next(), Some("snot"));
@@ -126,6 +147,10 @@ fn pairs_come_in_order(rt: HostRuntime) -> Tested {
     assert_eq!(rt; keys.next(), Some("badger"));
     assert_eq!(rt; keys.next(), Some("cake"));
     assert_eq!(rt; keys.next(), Some("cookie"));
+    assert!(rt; keys.next().is_none());
+}
+
+fn assert_values(rt: &impl Abort, object: &Object<'_, '_>) {
     let mut values = object.values();
     assert_eq!(rt; values.size_hint(), (4, Some(4)));
     assert_eq!(rt; values.next().and_then(number), Some(1));
@@ -133,13 +158,7 @@ fn pairs_come_in_order(rt: HostRuntime) -> Tested {
     assert_eq!(rt; values.next().and_then(number), Some(2));
     assert_eq!(rt; values.next().and_then(number), Some(3));
     assert_eq!(rt; values.next().and_then(number), Some(4));
-    assert!(rt; pairs.next().is_none());
-    assert!(rt; keys.next().is_none());
     assert!(rt; values.next().is_none());
-    assert_eq!(rt; object.get("cake").and_then(number), Some(3));
-    assert!(rt; object.get("monster").is_none());
-    assert!(rt; object.get("cakes").is_none());
-    Ok(())
 }
 
 #[test]

@@ -2,10 +2,12 @@
 use crate::tests::Tested;
 use linked_list_allocator::LocalHeap;
 use simd_json::{
-    Buffers, Error, ErrorType, Node, StaticNode, Tape, fill_tape, refill_tape, reserve,
+    Buffers, Error, ErrorType, Node, Result, StaticNode, Tape, fill_tape, refill_tape, reserve,
 };
 use std::alloc::{AllocError, Allocator, Global};
 use std::io::{self, BufRead};
+use std::process::Abort;
+use std::test::Fail;
 
 pub(super) type Ballast<'h> = std::result::Result<Vec<Vec<u8, &'h LocalHeap>>, AllocError>;
 
@@ -30,14 +32,31 @@ const DOCUMENT: &[u8] = b"{\"the_answer\": 42}";
 
 const REFUSED: &[u8] = b"[[[[[[[[[[[[[[[[[[";
 
-// With capacity for their bytes, documents and refusals alternate while every growth is refused.
-#[test]
-fn reserved_parses_take_no_memory(rt: HostRuntime) -> Tested {
-    let mut pieces = Vec::new(rt.alloc());
+fn alternating(alloc: Global) -> std::result::Result<Vec<u8>, Fail> {
+    let mut pieces = Vec::new(alloc);
     for _ in 0..50 {
         pieces.extend_from_slice(DOCUMENT)?;
         pieces.extend_from_slice(REFUSED)?;
     }
+    Ok(pieces)
+}
+
+fn assert_document(rt: &impl Abort, answer: &Result<()>, nodes: usize, positions: &[u32]) {
+    assert_eq!(rt; *answer, Ok(()));
+    assert_eq!(rt; nodes, 3);
+    assert_eq!(rt; positions, [0, 1, 13, 15, 17].as_slice());
+}
+
+fn assert_refused(rt: &impl Abort, answer: &Result<()>, nodes: usize, positions: &[u32]) {
+    assert_eq!(rt; *answer, Err(Error::new(17, Some('['), ErrorType::Syntax)));
+    assert_eq!(rt; nodes, 0);
+    assert_eq!(rt; positions.len(), 18);
+}
+
+// With capacity for their bytes, documents and refusals alternate while every growth is refused.
+#[test]
+fn reserved_parses_take_no_memory(rt: HostRuntime) -> Tested {
+    let mut pieces = alternating(rt.alloc())?;
     let heap = LocalHeap::new(rt.alloc(), 1 << 16)?;
     let mut buffers = Buffers::new(&heap, 0)?;
     let mut tape = Tape::null(&heap)?;
@@ -49,30 +68,35 @@ fn reserved_parses_take_no_memory(rt: HostRuntime) -> Tested {
     for piece in pieces.chunks_exact_mut(18) {
         let is_document = piece[0] == b'{';
         let answer = fill_tape(piece, &mut buffers, &mut tape);
+        let (nodes, positions) = (tape.nodes().len(), buffers.structural_indexes());
         if is_document {
-            assert_eq!(rt; answer, Ok(()));
-            assert_eq!(rt; tape.nodes().len(), 3);
-            assert_eq!(rt; buffers.structural_indexes(), [0, 1, 13, 15, 17].as_slice());
+            assert_document(&rt, &answer, nodes, positions);
             documents = documents.saturating_add(1);
         } else {
-            let wanted = Error::new(17, Some('['), ErrorType::Syntax);
-            assert_eq!(rt; answer, Err(wanted));
-            assert!(rt; tape.is_empty());
-            assert_eq!(rt; buffers.structural_indexes().len(), 18);
+            assert_refused(&rt, &answer, nodes, positions);
         }
     }
     assert_eq!(rt; documents, 50);
     Ok(())
 }
 
-// A log of 10,000 lines over one pair that was reserved once: no allocation is made, since none could be.
+// Of 10 nodes, of 9, and two that are refused.
+const LINES: &[u8] = b"{\"level\":\"info\",\"text\":\"\\u0041\\n\",\"n\":[1,-2,3.5]}\n\
+    [[[[[[[[[]]]]]]]]]\n[1,]\n\"\n";
+
+// A log of 10,000 lines.
+fn log(alloc: Global) -> std::result::Result<Vec<u8>, Fail> {
+    let mut log = Vec::new(alloc);
+    for _ in 0..2_500 {
+        log.extend_from_slice(LINES)?;
+    }
+    Ok(log)
+}
+
+// A log over one pair that was reserved once: no allocation is made, since none could be.
 #[test]
 fn a_log_takes_no_memory(rt: HostRuntime) -> Tested {
-    let mut log = Vec::new(rt.alloc());
-    for _ in 0..2_500 {
-        log.extend_from_slice(b"{\"level\":\"info\",\"text\":\"\\u0041\\n\",\"n\":[1,-2,3.5]}\n")?;
-        log.extend_from_slice(b"[[[[[[[[[]]]]]]]]]\n[1,]\n\"\n")?;
-    }
+    let mut log = log(rt.alloc())?;
     let heap = LocalHeap::new(rt.alloc(), 1 << 16)?;
     let mut buffers = Buffers::with_max_depth(&heap, 0, 16)?;
     let mut tape = Tape::null(&heap)?;
@@ -121,15 +145,10 @@ fn count<R: BufRead, A: Allocator, B: Allocator, C: Allocator>(
     (Ok((nodes, refused)), kept)
 }
 
-// A stream of 10,000 lines through one buffer, after one reservation: no allocation is made, since none could
-// be.
+// The same as a stream through one buffer, after one reservation.
 #[test]
 fn a_stream_takes_no_memory(rt: HostRuntime) -> Tested {
-    let mut log = Vec::new(rt.alloc());
-    for _ in 0..2_500 {
-        log.extend_from_slice(b"{\"level\":\"info\",\"text\":\"\\u0041\\n\",\"n\":[1,-2,3.5]}\n")?;
-        log.extend_from_slice(b"[[[[[[[[[]]]]]]]]]\n[1,]\n\"\n")?;
-    }
+    let log = log(rt.alloc())?;
     let heap = LocalHeap::new(rt.alloc(), 1 << 16)?;
     let mut line: Vec<u8, &LocalHeap> = Vec::with_capacity(&heap, 64)?;
     let mut buffers = Buffers::with_max_depth(&heap, 0, 16)?;
@@ -168,17 +187,27 @@ fn a_tape_is_refilled(rt: HostRuntime) -> Tested {
         Err(Error::new(3, Some(']'), ErrorType::InternalError))
     );
     assert!(rt; tape.is_empty());
-    let full = ballast(rt.alloc(), &heap, 0)?;
+    assert_capacity_stays(&rt, &heap, &mut buffers, tape)
+}
+
+// A growth that is refused leaves the capacity of three nodes.
+fn assert_capacity_stays(
+    rt: &(impl AllocGlobal + Abort),
+    heap: &LocalHeap,
+    buffers: &mut Buffers<&LocalHeap>,
+    tape: Tape<'_, &LocalHeap>,
+) -> Tested {
+    let full = ballast(rt.alloc(), heap, 0)?;
     let mut large = *b"[1,2,3,4,5,6,7,8,9,0]";
-    let (answer, tape) = refill_tape(&mut large, &mut buffers, tape);
+    let (answer, tape) = refill_tape(&mut large, buffers, tape);
     assert_eq!(rt; answer, Err(Error::generic(ErrorType::OutOfMemory)));
     assert!(rt; tape.is_empty());
     let mut again = *b"[1,2]";
-    let (answer, tape) = refill_tape(&mut again, &mut buffers, tape);
+    let (answer, tape) = refill_tape(&mut again, buffers, tape);
     assert_eq!(rt; (answer, tape.nodes().len()), (Ok(()), 3));
     drop(full);
     let mut larger = *b"[1,2,3,4,5,6,7,8,9,0]";
-    let (answer, tape) = refill_tape(&mut larger, &mut buffers, tape);
+    let (answer, tape) = refill_tape(&mut larger, buffers, tape);
     assert_eq!(rt; (answer, tape.nodes().len()), (Ok(()), 11));
     Ok(())
 }
@@ -207,6 +236,10 @@ fn capacity_outlives_a_reset(rt: HostRuntime) -> Tested {
     Ok(())
 }
 
+fn assert_no_memory(rt: &impl Abort, answer: Result<()>) {
+    assert_eq!(rt; answer, Err(Error::generic(ErrorType::OutOfMemory)));
+}
+
 // A reservation that is refused changes nothing that is listed.
 #[test]
 fn reservations_are_refused(rt: HostRuntime) -> Tested {
@@ -215,13 +248,11 @@ fn reservations_are_refused(rt: HostRuntime) -> Tested {
     let mut buffers = Buffers::new(&heap, 0)?;
     let mut tape = Tape::null(&heap)?;
     fill_tape(&mut input, &mut buffers, &mut tape)?;
-    let wanted = Error::generic(ErrorType::OutOfMemory);
-    assert_eq!(rt; tape.reserve(usize::MAX).err().as_ref(), Some(&wanted));
+    assert_no_memory(&rt, tape.reserve(usize::MAX));
     let full = ballast(rt.alloc(), &heap, 0)?;
-    assert_eq!(rt; buffers.reserve(1000).err().as_ref(), Some(&wanted));
-    assert_eq!(rt; tape.reserve(500).err().as_ref(), Some(&wanted));
-    let both = reserve(1000, &mut buffers, &mut tape);
-    assert_eq!(rt; both.err().as_ref(), Some(&wanted));
+    assert_no_memory(&rt, buffers.reserve(1000));
+    assert_no_memory(&rt, tape.reserve(500));
+    assert_no_memory(&rt, reserve(1000, &mut buffers, &mut tape));
     assert_eq!(rt; buffers.structural_indexes(), [0, 1, 2, 3, 4].as_slice());
     assert_eq!(rt; tape.nodes().len(), 3);
     drop(full);
@@ -245,8 +276,7 @@ fn both_are_reserved_by_the_depth_limit(rt: HostRuntime) -> Tested {
     let used = heap.used();
     assert_eq!(rt; reserve(1499, &mut buffers, &mut tape), Ok(()));
     assert_eq!(rt; heap.used(), used);
-    let wanted = Error::generic(ErrorType::OutOfMemory);
-    assert_eq!(rt; tape.reserve(1500).err().as_ref(), Some(&wanted));
+    assert_no_memory(&rt, tape.reserve(1500));
     Ok(())
 }
 

@@ -102,21 +102,17 @@ fn try_get_each(value: &Value<'_, '_>, k: &str) -> TriedEach<Option<i128>> {
 // Whether the value is equal to the number as one of each type that it fits.
 fn eq_each(value: &Value<'_, '_>, number: i128) -> [bool; 11] {
     [
-        i8::try_from(number).ok().is_some_and(|n| value.eq_i8(n)),
-        i16::try_from(number).ok().is_some_and(|n| value.eq_i16(n)),
-        i32::try_from(number).ok().is_some_and(|n| value.eq_i32(n)),
-        i64::try_from(number).ok().is_some_and(|n| value.eq_i64(n)),
+        matches!(i8::try_from(number), Ok(n) if value.eq_i8(n)),
+        matches!(i16::try_from(number), Ok(n) if value.eq_i16(n)),
+        matches!(i32::try_from(number), Ok(n) if value.eq_i32(n)),
+        matches!(i64::try_from(number), Ok(n) if value.eq_i64(n)),
         value.eq_i128(number),
-        u8::try_from(number).ok().is_some_and(|n| value.eq_u8(n)),
-        u16::try_from(number).ok().is_some_and(|n| value.eq_u16(n)),
-        u32::try_from(number).ok().is_some_and(|n| value.eq_u32(n)),
-        u64::try_from(number).ok().is_some_and(|n| value.eq_u64(n)),
-        u128::try_from(number)
-            .ok()
-            .is_some_and(|n| value.eq_u128(n)),
-        usize::try_from(number)
-            .ok()
-            .is_some_and(|n| value.eq_usize(n)),
+        matches!(u8::try_from(number), Ok(n) if value.eq_u8(n)),
+        matches!(u16::try_from(number), Ok(n) if value.eq_u16(n)),
+        matches!(u32::try_from(number), Ok(n) if value.eq_u32(n)),
+        matches!(u64::try_from(number), Ok(n) if value.eq_u64(n)),
+        matches!(u128::try_from(number), Ok(n) if value.eq_u128(n)),
+        matches!(usize::try_from(number), Ok(n) if value.eq_usize(n)),
     ]
 }
 
@@ -179,136 +175,170 @@ fn from_bits(with_sign: u32, without: u32, number: i128) -> Each {
     ]
 }
 
+// A document, its number, and the bits that it takes with a sign and without; 256 where none suffice.
+type Integer = (&'static [u8], i128, u32, u32);
+
+const INTEGERS: [Integer; 21] = [
+    (b"{\"k\":0}", 0, 8, 8),
+    (b"{\"k\":-0}", 0, 8, 8),
+    (b"{\"k\":-1}", -1, 8, 256),
+    (b"{\"k\":-128}", -128, 8, 256),
+    (b"{\"k\":-129}", -129, 16, 256),
+    (b"{\"k\":127}", 127, 8, 8),
+    (b"{\"k\":128}", 128, 16, 8),
+    (b"{\"k\":255}", 255, 16, 8),
+    (b"{\"k\":300}", 300, 16, 16),
+    (b"{\"k\":-32768}", -32_768, 16, 256),
+    (b"{\"k\":-32769}", -32_769, 32, 256),
+    (b"{\"k\":32768}", 32_768, 32, 16),
+    (b"{\"k\":65535}", 65_535, 32, 16),
+    (b"{\"k\":65536}", 65_536, 32, 32),
+    (b"{\"k\":-2147483649}", -2_147_483_649, 64, 256),
+    (b"{\"k\":2147483648}", 2_147_483_648, 64, 32),
+    (b"{\"k\":4294967296}", 4_294_967_296, 64, 64),
+    (
+        b"{\"k\":-9223372036854775808}",
+        -9_223_372_036_854_775_808,
+        64,
+        256,
+    ),
+    (
+        b"{\"k\":9223372036854775807}",
+        9_223_372_036_854_775_807,
+        64,
+        64,
+    ),
+    (
+        b"{\"k\":9223372036854775808}",
+        9_223_372_036_854_775_808,
+        128,
+        64,
+    ),
+    (
+        b"{\"k\":18446744073709551615}",
+        18_446_744_073_709_551_615,
+        128,
+        64,
+    ),
+];
+
+fn assert_integer(rt: &(impl AllocGlobal + Abort), row: &Integer) -> Tested {
+    let (input, number, with_sign, without) = *row;
+    let mut read = Vec::from_slice(rt.alloc(), input)?;
+    let tape = to_tape(rt.alloc(), read.as_mut_slice())?;
+    let document = tape.as_value();
+    let got = if input.contains(&b'-') {
+        ValueType::I64
+    } else {
+        ValueType::U64
+    };
+    let wanted = from_bits(with_sign, without, number);
+    assert_each(rt, &document, "k", got, &wanted);
+    let value = document.get("k").expect(rt, "it is there");
+    assert_missing(rt, &document, &value);
+    assert_equal_to(rt, &value, number, &wanted);
+    Ok(())
+}
+
+// It is equal to its number and no other, as one of each type that the number fits.
+fn assert_equal_to(rt: &impl Abort, value: &Value<'_, '_>, number: i128, wanted: &Each) {
+    for other in [number, number.wrapping_sub(1), number & 0xff] {
+        let is_equal = wanted.map(|fits| fits == Some(other));
+        assert_eq!(rt; eq_each(value, other), is_equal, "{number} {other}");
+    }
+}
+
 #[test]
 fn integers_fit_from_a_width_on(rt: HostRuntime) -> Tested {
-    // a document, its number, and the bits that it takes with a sign and without; 256 where none suffice
-    let rows: [(&[u8], i128, u32, u32); 21] = [
-        (b"{\"k\":0}", 0, 8, 8),
-        (b"{\"k\":-0}", 0, 8, 8),
-        (b"{\"k\":-1}", -1, 8, 256),
-        (b"{\"k\":-128}", -128, 8, 256),
-        (b"{\"k\":-129}", -129, 16, 256),
-        (b"{\"k\":127}", 127, 8, 8),
-        (b"{\"k\":128}", 128, 16, 8),
-        (b"{\"k\":255}", 255, 16, 8),
-        (b"{\"k\":300}", 300, 16, 16),
-        (b"{\"k\":-32768}", -32_768, 16, 256),
-        (b"{\"k\":-32769}", -32_769, 32, 256),
-        (b"{\"k\":32768}", 32_768, 32, 16),
-        (b"{\"k\":65535}", 65_535, 32, 16),
-        (b"{\"k\":65536}", 65_536, 32, 32),
-        (b"{\"k\":-2147483649}", -2_147_483_649, 64, 256),
-        (b"{\"k\":2147483648}", 2_147_483_648, 64, 32),
-        (b"{\"k\":4294967296}", 4_294_967_296, 64, 64),
-        (
-            b"{\"k\":-9223372036854775808}",
-            -9_223_372_036_854_775_808,
-            64,
-            256,
-        ),
-        (
-            b"{\"k\":9223372036854775807}",
-            9_223_372_036_854_775_807,
-            64,
-            64,
-        ),
-        (
-            b"{\"k\":9223372036854775808}",
-            9_223_372_036_854_775_808,
-            128,
-            64,
-        ),
-        (
-            b"{\"k\":18446744073709551615}",
-            18_446_744_073_709_551_615,
-            128,
-            64,
-        ),
-    ];
-    for (input, number, with_sign, without) in rows {
-        let mut read = Vec::from_slice(rt.alloc(), input)?;
-        let tape = to_tape(rt.alloc(), read.as_mut_slice())?;
-        let document = tape.as_value();
-        let has_minus = input.contains(&b'-');
-        let got = if has_minus {
-            ValueType::I64
-        } else {
-            ValueType::U64
-        };
-        let wanted = from_bits(with_sign, without, number);
-        assert_each(&rt, &document, "k", got, &wanted);
-        let value = document.get("k").expect(&rt, "it is there");
-        assert_missing(&rt, &document, &value);
-        for other in [number, number.wrapping_sub(1), number & 0xff] {
-            let is_equal = wanted.map(|fits| fits == Some(other));
-            assert_eq!(rt; eq_each(&value, other), is_equal, "{number} {other}");
-        }
+    for row in &INTEGERS {
+        assert_integer(&rt, row)?;
     }
     Ok(())
 }
 
+// A document, its number with a sign and without, and its kind.
+type LongInteger = (&'static [u8], Option<i128>, Option<u128>, ValueType);
+
+const LONG_INTEGERS: [LongInteger; 6] = [
+    (
+        b"{\"k\":18446744073709551616}",
+        Some(1 << 64),
+        Some(1 << 64),
+        ValueType::U128,
+    ),
+    (
+        b"{\"k\":-9223372036854775809}",
+        Some(-9_223_372_036_854_775_809),
+        None,
+        ValueType::I128,
+    ),
+    (
+        b"{\"k\":170141183460469231731687303715884105727}",
+        Some(i128::MAX),
+        Some((1 << 127) - 1),
+        ValueType::U128,
+    ),
+    (
+        b"{\"k\":170141183460469231731687303715884105728}",
+        None,
+        Some(1 << 127),
+        ValueType::U128,
+    ),
+    (
+        b"{\"k\":-170141183460469231731687303715884105728}",
+        Some(i128::MIN),
+        None,
+        ValueType::I128,
+    ),
+    (
+        b"{\"k\":340282366920938463463374607431768211455}",
+        None,
+        Some(u128::MAX),
+        ValueType::U128,
+    ),
+];
+
+fn assert_long_integer(rt: &(impl AllocGlobal + Abort), row: &LongInteger) -> Tested {
+    let (input, signed, unsigned, kind) = *row;
+    let mut read = Vec::from_slice(rt.alloc(), input)?;
+    let tape = to_tape(rt.alloc(), read.as_mut_slice())?;
+    let document = tape.as_value();
+    let mut wanted = NONE;
+    wanted[4] = signed;
+    wanted[9] = unsigned.map(of_u128);
+    assert_each(rt, &document, "k", kind, &wanted);
+    assert_eq!(rt; document.get_u128("k"), unsigned);
+    assert_eq!(rt; document.try_get_u128("k").ok(), unsigned.map(Some));
+    let value = document.get("k").expect(rt, "it is there");
+    assert_eq!(rt;
+        (value.as_u128(), value.try_as_u128().ok()),
+        (unsigned, unsigned)
+    );
+    assert_equal_to_signed(rt, &value, signed);
+    assert_equal_to_unsigned(rt, &value, unsigned);
+    Ok(())
+}
+
+const SIGNED: [i128; 3] = [i128::MIN, 1 << 64, i128::MAX];
+
+const UNSIGNED: [u128; 3] = [1 << 64, 1 << 127, u128::MAX];
+
+fn assert_equal_to_signed(rt: &impl Abort, value: &Value<'_, '_>, number: Option<i128>) {
+    for other in &SIGNED {
+        assert_eq!(rt; value.eq_i128(*other), number == Some(*other));
+    }
+}
+
+fn assert_equal_to_unsigned(rt: &impl Abort, value: &Value<'_, '_>, number: Option<u128>) {
+    for other in &UNSIGNED {
+        assert_eq!(rt; value.eq_u128(*other), number == Some(*other));
+    }
+}
+
 #[test]
 fn integers_past_64_bits_have_kinds_of_their_own(rt: HostRuntime) -> Tested {
-    // a document, its number with a sign and without, and its kind
-    let rows: [(&[u8], Option<i128>, Option<u128>, ValueType); 6] = [
-        (
-            b"{\"k\":18446744073709551616}",
-            Some(1 << 64),
-            Some(1 << 64),
-            ValueType::U128,
-        ),
-        (
-            b"{\"k\":-9223372036854775809}",
-            Some(-9_223_372_036_854_775_809),
-            None,
-            ValueType::I128,
-        ),
-        (
-            b"{\"k\":170141183460469231731687303715884105727}",
-            Some(i128::MAX),
-            Some((1 << 127) - 1),
-            ValueType::U128,
-        ),
-        (
-            b"{\"k\":170141183460469231731687303715884105728}",
-            None,
-            Some(1 << 127),
-            ValueType::U128,
-        ),
-        (
-            b"{\"k\":-170141183460469231731687303715884105728}",
-            Some(i128::MIN),
-            None,
-            ValueType::I128,
-        ),
-        (
-            b"{\"k\":340282366920938463463374607431768211455}",
-            None,
-            Some(u128::MAX),
-            ValueType::U128,
-        ),
-    ];
-    for (input, signed, unsigned, kind) in rows {
-        let mut read = Vec::from_slice(rt.alloc(), input)?;
-        let tape = to_tape(rt.alloc(), read.as_mut_slice())?;
-        let document = tape.as_value();
-        let mut wanted = NONE;
-        wanted[4] = signed;
-        wanted[9] = unsigned.map(of_u128);
-        assert_each(&rt, &document, "k", kind, &wanted);
-        assert_eq!(rt; document.get_u128("k"), unsigned);
-        assert_eq!(rt; document.try_get_u128("k").ok(), unsigned.map(Some));
-        let value = document.get("k").expect(&rt, "it is there");
-        assert_eq!(rt;
-            (value.as_u128(), value.try_as_u128().ok()),
-            (unsigned, unsigned)
-        );
-        for other in [i128::MIN, 1 << 64, i128::MAX] {
-            assert_eq!(rt; value.eq_i128(other), signed == Some(other));
-        }
-        for other in [1 << 64, 1 << 127, u128::MAX] {
-            assert_eq!(rt; value.eq_u128(other), unsigned == Some(other));
-        }
+    for row in &LONG_INTEGERS {
+        assert_long_integer(&rt, row)?;
     }
     Ok(())
 }
@@ -326,8 +356,8 @@ fn own<T: Drop>(
     }
 }
 
-// What the accessors of null, truth values, strings and decimals answer of the value with the key `k`.
-fn assert_scalars(rt: &impl Abort, document: &Value<'_, '_>, k: &str, got: ValueType) {
+// What the accessors of null and truth values answer of the value with the key `k`.
+fn assert_words(rt: &impl Abort, document: &Value<'_, '_>, k: &str, got: ValueType) {
     let value = document.get(k).expect(rt, "it is there");
     let null = own(ValueType::Null, got, ());
     assert_eq!(rt; (value.as_null(), value.try_as_null()), (null.ok(), null));
@@ -340,6 +370,11 @@ fn assert_scalars(rt: &impl Abort, document: &Value<'_, '_>, k: &str, got: Value
         (value.eq_bool(true), value.eq_bool(false)),
         (truth.is_ok(), false)
     );
+}
+
+// What those of strings answer.
+fn assert_strings(rt: &impl Abort, document: &Value<'_, '_>, k: &str, got: ValueType) {
+    let value = document.get(k).expect(rt, "it is there");
     let string = own(ValueType::String, got, "a\n");
     assert_eq!(rt; (value.as_str(), value.try_as_str()), (string.ok(), string));
     assert_eq!(rt; value.into_string(), string.ok());
@@ -350,6 +385,11 @@ fn assert_scalars(rt: &impl Abort, document: &Value<'_, '_>, k: &str, got: Value
         (value.eq_str("a\n"), value.eq_str("a")),
         (string.is_ok(), false)
     );
+}
+
+// What those of decimals answer.
+fn assert_decimals(rt: &impl Abort, document: &Value<'_, '_>, k: &str, got: ValueType) {
+    let value = document.get(k).expect(rt, "it is there");
     let decimal = own(ValueType::Decimal, got, "1.50");
     assert_eq!(rt;
         (value.as_decimal(), value.try_as_decimal()),
@@ -371,8 +411,8 @@ fn is_there(member: Option<Value<'_, '_>>) -> bool {
     member.is_some()
 }
 
-// What those of arrays and objects answer: how many members there are.
-fn assert_containers(rt: &impl Abort, document: &Value<'_, '_>, k: &str, got: ValueType) {
+// What those of arrays answer: how many members there are.
+fn assert_arrays(rt: &impl Abort, document: &Value<'_, '_>, k: &str, got: ValueType) {
     let value = document.get(k).expect(rt, "it is there");
     let array = own(ValueType::Array, got, 1usize);
     assert_eq!(rt; value.is_array(), array.is_ok());
@@ -384,6 +424,11 @@ fn assert_containers(rt: &impl Abort, document: &Value<'_, '_>, k: &str, got: Va
         document.try_get_array(k).map(|array| array.map(array_len)),
         array.map(Some)
     );
+}
+
+// What those of objects answer.
+fn assert_objects(rt: &impl Abort, document: &Value<'_, '_>, k: &str, got: ValueType) {
+    let value = document.get(k).expect(rt, "it is there");
     let object = own(ValueType::Object, got, 2usize);
     assert_eq!(rt; value.is_object(), object.is_ok());
     assert_eq!(rt; value.as_object().map(object_len), object.ok());
@@ -416,8 +461,11 @@ fn kinds_answer_for_themselves_alone(rt: HostRuntime) -> Tested {
     ];
     for (k, got, numbers) in &rows {
         assert_each(&rt, &document, k, *got, numbers);
-        assert_scalars(&rt, &document, k, *got);
-        assert_containers(&rt, &document, k, *got);
+        assert_words(&rt, &document, k, *got);
+        assert_strings(&rt, &document, k, *got);
+        assert_decimals(&rt, &document, k, *got);
+        assert_arrays(&rt, &document, k, *got);
+        assert_objects(&rt, &document, k, *got);
     }
     Ok(())
 }
@@ -495,24 +543,34 @@ fn missing_members_are_told_from_other_kinds(rt: HostRuntime) -> Tested {
     Ok(())
 }
 
+// Two documents, and whether they are equal.
+type Compared = (&'static [u8], &'static [u8], bool);
+
+const COMPARED: [Compared; 7] = [
+    (b"[1]", b"[ 1 ]", true),
+    (b"[-0]", b"[0]", true),
+    (b"[1.0]", b"[1]", false),
+    (b"[1.0]", b"[1.00]", false),
+    (b"{\"a\":1,\"b\":2}", b"{\"b\":2,\"a\":1}", false),
+    (b"\"\\u0061\"", b"\"a\"", true),
+    (b"[-1]", b"[1]", false),
+];
+
+fn assert_compared(rt: &(impl AllocGlobal + Abort), row: &Compared) -> Tested {
+    let (left, right, same) = *row;
+    let mut left = Vec::from_slice(rt.alloc(), left)?;
+    let mut right = Vec::from_slice(rt.alloc(), right)?;
+    let left = to_tape(rt.alloc(), left.as_mut_slice())?;
+    let right = to_tape(rt.alloc(), right.as_mut_slice())?;
+    assert!(rt; !left.is_empty() && !right.is_empty());
+    assert_eq!(rt; left.as_value() == right.as_value(), same);
+    Ok(())
+}
+
 #[test]
 fn values_are_compared_by_what_they_say(rt: HostRuntime) -> Tested {
-    let rows: [(&[u8], &[u8], bool); 7] = [
-        (b"[1]", b"[ 1 ]", true),
-        (b"[-0]", b"[0]", true),
-        (b"[1.0]", b"[1]", false),
-        (b"[1.0]", b"[1.00]", false),
-        (b"{\"a\":1,\"b\":2}", b"{\"b\":2,\"a\":1}", false),
-        (b"\"\\u0061\"", b"\"a\"", true),
-        (b"[-1]", b"[1]", false),
-    ];
-    for (left, right, same) in rows {
-        let mut left = Vec::from_slice(rt.alloc(), left)?;
-        let mut right = Vec::from_slice(rt.alloc(), right)?;
-        let left = to_tape(rt.alloc(), left.as_mut_slice())?;
-        let right = to_tape(rt.alloc(), right.as_mut_slice())?;
-        assert!(rt; !left.is_empty() && !right.is_empty());
-        assert_eq!(rt; left.as_value() == right.as_value(), same);
+    for row in &COMPARED {
+        assert_compared(&rt, row)?;
     }
     Ok(())
 }

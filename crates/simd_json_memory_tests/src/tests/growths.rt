@@ -6,73 +6,98 @@ use simd_json::{
     Buffers, Deserializer, Error, ErrorType, Result, Tape, fill_tape, fill_tape_padded, reserve,
     to_tape, to_tape_with_buffers,
 };
-use std::alloc::Allocator;
+use std::alloc::{Allocator, Global};
 use std::process::Abort;
 use std::test::Fail;
 
-// A call that takes memory of the heap, by its number; how many nodes it leaves.
+fn parse_fresh(heap: &LocalHeap, input: &mut [u8]) -> Result<usize> {
+    Ok(to_tape(heap, input)?.nodes().len())
+}
+
+fn step_fresh(heap: &LocalHeap, input: &mut [u8]) -> Result<usize> {
+    let steps = Deserializer::from_slice(heap, input)?;
+    Ok(steps.into_tape().nodes().len())
+}
+
+fn step_over_buffers(heap: &LocalHeap, input: &mut [u8]) -> Result<usize> {
+    let mut buffers = Buffers::with_max_depth(heap, 0, 8)?;
+    let steps = Deserializer::from_slice_with_buffers(input, &mut buffers)?;
+    Ok(steps.into_tape().nodes().len())
+}
+
+fn make_buffers(heap: &LocalHeap) -> Result<usize> {
+    let _buffers = Buffers::new(heap, 100)?;
+    Ok(13)
+}
+
+fn make_shallow_buffers(heap: &LocalHeap) -> Result<usize> {
+    let _buffers = Buffers::with_max_depth(heap, 100, 4)?;
+    Ok(13)
+}
+
+fn reserve_buffers(heap: &LocalHeap) -> Result<usize> {
+    Buffers::with_max_depth(heap, 0, 1000)?.reserve(100)?;
+    Ok(13)
+}
+
+fn reserve_both(heap: &LocalHeap) -> Result<usize> {
+    let mut buffers = Buffers::with_max_depth(heap, 0, 8)?;
+    let mut tape = Tape::null(heap)?;
+    reserve(40, &mut buffers, &mut tape)?;
+    Ok(tape.nodes().len().saturating_add(12))
+}
+
+// A call that takes memory of the heap, by its number; how many nodes it leaves, 13 where it leaves none.
 fn call(number: u32, heap: &LocalHeap, input: &mut [u8]) -> Result<usize> {
     match number {
-        0 => Ok(to_tape(heap, input)?.nodes().len()),
-        1 => {
-            let _buffers = Buffers::new(heap, 100)?;
-            Ok(13)
-        }
-        2 => {
-            let _buffers = Buffers::with_max_depth(heap, 100, 4)?;
-            Ok(13)
-        }
+        0 => parse_fresh(heap, input),
+        1 => make_buffers(heap),
+        2 => make_shallow_buffers(heap),
         3 => Ok(Tape::null(heap)?.nodes().len().saturating_add(12)),
-        4 => {
-            let steps = Deserializer::from_slice(heap, input)?;
-            Ok(steps.into_tape().nodes().len())
-        }
-        5 => {
-            let mut buffers = Buffers::with_max_depth(heap, 0, 8)?;
-            let steps = Deserializer::from_slice_with_buffers(input, &mut buffers)?;
-            Ok(steps.into_tape().nodes().len())
-        }
-        6 => {
-            Buffers::with_max_depth(heap, 0, 1000)?.reserve(100)?;
-            Ok(13)
-        }
-        _ => {
-            let mut buffers = Buffers::with_max_depth(heap, 0, 8)?;
-            let mut tape = Tape::null(heap)?;
-            reserve(40, &mut buffers, &mut tape)?;
-            Ok(tape.nodes().len().saturating_add(12))
-        }
+        4 => step_fresh(heap, input),
+        5 => step_over_buffers(heap, input),
+        6 => reserve_buffers(heap),
+        _ => reserve_both(heap),
     }
 }
 
+// Whether the call is refused a growth with so many bytes left. If so, it returns `OutOfMemory`; with memory
+// the same call returns what it usually does.
+fn is_call_refused(
+    rt: &(impl AllocGlobal + Abort),
+    number: u32,
+    input: &[u8],
+    left: usize,
+) -> std::result::Result<bool, Fail> {
+    let mut first = Vec::from_slice(rt.alloc(), input)?;
+    let mut again = Vec::from_slice(rt.alloc(), input)?;
+    let heap = LocalHeap::new(rt.alloc(), 1 << 13)?;
+    let full = ballast(rt.alloc(), &heap, left)?;
+    let answer = call(number, &heap, first.as_mut_slice());
+    drop(full);
+    assert_eq!(rt; heap.used(), 0);
+    assert_eq!(rt; call(number, &heap, again.as_mut_slice()), Ok(13));
+    if answer == Ok(13) {
+        return Ok(false);
+    }
+    assert_eq!(rt;
+        answer,
+        Err(Error::generic(ErrorType::OutOfMemory)),
+        "call {number}"
+    );
+    Ok(true)
+}
+
 // Each heap leaves more free memory than the one before it, so that another growth is refused, and then none.
-// Where one is, the answer is `OutOfMemory`; with memory the same call gives the usual answer.
 fn refuses_growths(rt: &(impl AllocGlobal + Abort), input: &[u8]) -> Tested {
     for number in 0..8 {
-        let (mut refused, mut filled) = (0u32, 0u32);
-        for units in 0..200usize {
-            let mut first = Vec::from_slice(rt.alloc(), input)?;
-            let mut again = Vec::from_slice(rt.alloc(), input)?;
-            let heap = LocalHeap::new(rt.alloc(), 1 << 13)?;
-            let full = ballast(rt.alloc(), &heap, units * 16)?;
-            match call(number, &heap, first.as_mut_slice()) {
-                Ok(nodes) => {
-                    assert_eq!(rt; nodes, 13, "call {number}");
-                    filled = filled.saturating_add(1);
-                }
-                Err(e) => {
-                    assert_eq!(rt; e, Error::generic(ErrorType::OutOfMemory));
-                    refused = refused.saturating_add(1);
-                }
+        let mut refused = 0u32;
+        for units in 0..200 {
+            if is_call_refused(rt, number, input, units * 16)? {
+                refused = refused.saturating_add(1);
             }
-            drop(full);
-            assert_eq!(rt; heap.used(), 0);
-            assert_eq!(rt; call(number, &heap, again.as_mut_slice()), Ok(13));
         }
-        assert!(rt;
-            refused > 0 && filled > 0,
-            "call {number}: {refused}, {filled}"
-        );
+        assert!(rt; refused > 0 && refused < 200, "call {number}: {refused}");
     }
     Ok(())
 }
@@ -113,6 +138,19 @@ fn parse<'de, A: Allocator + Copy, B: Allocator>(
     Ok(tape.nodes().len())
 }
 
+const LARGER: &[u8] = b"[[1,2],{\"\\u0061\":[4]},5,6,7,8,9,10,11]";
+
+// Three inputs of 128 bytes: a small one, and a larger one twice.
+fn pieces(alloc: Global) -> std::result::Result<Vec<u8>, Fail> {
+    let mut text = Vec::from_slice(alloc, b"[\"\\n\"]")?;
+    for end in [128, 256] {
+        text.resize(end, b' ')?;
+        text.extend_from_slice(LARGER)?;
+    }
+    text.resize(384, b' ')?;
+    Ok(text)
+}
+
 // A parse after another one, with so many bytes left in the heap; whether a growth was refused. Where one
 // was, nothing is listed, and the tape is empty. The same buffers and tape serve once there is memory.
 fn is_refused(
@@ -120,12 +158,7 @@ fn is_refused(
     form: u32,
     left: usize,
 ) -> std::result::Result<bool, Fail> {
-    let mut text = Vec::from_slice(rt.alloc(), b"[\"\\n\"]")?;
-    for end in [128, 256] {
-        text.resize(end, b' ')?;
-        text.extend_from_slice(b"[[1,2],{\"\\u0061\":[4]},5,6,7,8,9,10,11]")?;
-    }
-    text.resize(384, b' ')?;
+    let mut text = pieces(rt.alloc())?;
     let heap = LocalHeap::new(rt.alloc(), 1 << 13)?;
     let mut buffers = Buffers::new(&heap, 0)?;
     let mut tape = Tape::null(&heap)?;

@@ -1,9 +1,11 @@
 // Printed values.
 use crate::tests::Tested;
 use linked_list_allocator::LocalHeap;
+use simd_json::tape::Value;
 use simd_json::{Error, ErrorType, to_tape};
-use std::io;
-use std::io::{ErrorKind, Write};
+use std::io::{self, ErrorKind, Write};
+use std::process::Abort;
+use std::test::Fail;
 
 // Each row is an input, its compact text, and its pretty text.
 #[test]
@@ -52,45 +54,52 @@ fn values_are_printed(rt: HostRuntime) -> Tested {
     Ok(())
 }
 
-// Each row is a layout and the text in it. Each heap is larger than the one before, so that another growth of
-// the text is refused, and then none.
+const LARGE_COMPACT: &str = "[\"0123456789012345678901234567890123456789\",[[[1,2,3,4,5,6,7,8]]]]";
+
+const LARGE_PRETTY: &str =
+    "[\n  \"0123456789012345678901234567890123456789\",\n  [\n    [\n      [\n        1,\n        2,\n\
+    \x20       3,\n        4,\n        5,\n        6,\n        7,\n        8\n      ]\n    ]\n  ]\n]";
+
+// Whether a growth of the text is refused in a heap of so many bytes.
+fn is_refused(
+    rt: &(impl AllocGlobal + Abort),
+    value: &Value<'_, '_>,
+    is_pretty: bool,
+    bytes: usize,
+) -> std::result::Result<bool, Fail> {
+    let heap = LocalHeap::new(rt.alloc(), bytes)?;
+    let (text, whole) = if is_pretty {
+        (value.encode_pp(&heap), LARGE_PRETTY)
+    } else {
+        (value.encode(&heap), LARGE_COMPACT)
+    };
+    let is_refused = match text {
+        Ok(text) => {
+            assert_eq!(rt; text.as_str(), whole);
+            false
+        }
+        Err(e) => {
+            assert_eq!(rt; e, Error::generic(ErrorType::OutOfMemory));
+            true
+        }
+    };
+    assert_eq!(rt; heap.used(), 0);
+    Ok(is_refused)
+}
+
+// Each heap is larger than the one before, so that another growth is refused, and then none.
 #[test]
 fn each_growth_is_refused(rt: HostRuntime) -> Tested {
     let mut input = *b"[\"0123456789012345678901234567890123456789\",[[[1,2,3,4,5,6,7,8]]]]";
-    let rows = [
-        (
-            false,
-            "[\"0123456789012345678901234567890123456789\",[[[1,2,3,4,5,6,7,8]]]]",
-        ),
-        (
-            true,
-            "[\n  \"0123456789012345678901234567890123456789\",\n  [\n    [\n      [\n        1,\n        2,\n\
-            \x20       3,\n        4,\n        5,\n        6,\n        7,\n        8\n      ]\n    ]\n  ]\n]",
-        ),
-    ];
     let tape = to_tape(rt.alloc(), &mut input)?;
-    for (is_pretty, whole) in rows {
-        let (mut refused, mut printed) = (0u32, 0u32);
-        for units in 0..48usize {
-            let heap = LocalHeap::new(rt.alloc(), 64 + units * 16)?;
-            let text = if is_pretty {
-                tape.as_value().encode_pp(&heap)
-            } else {
-                tape.as_value().encode(&heap)
-            };
-            match text {
-                Ok(text) => {
-                    assert_eq!(rt; text.as_str(), whole);
-                    printed = printed.saturating_add(1);
-                }
-                Err(e) => {
-                    assert_eq!(rt; e, Error::generic(ErrorType::OutOfMemory));
-                    refused = refused.saturating_add(1);
-                }
+    for is_pretty in [false, true] {
+        let mut refused = 0u32;
+        for units in 0..48 {
+            if is_refused(&rt, &tape.as_value(), is_pretty, 64 + units * 16)? {
+                refused = refused.saturating_add(1);
             }
-            assert_eq!(rt; heap.used(), 0);
         }
-        assert!(rt; refused > 0 && printed > 0, "{whole}: {refused}, {printed}");
+        assert!(rt; refused > 0 && refused < 48, "{is_pretty}: {refused}");
     }
     Ok(())
 }
@@ -119,38 +128,47 @@ impl Write for Full {
     }
 }
 
-// Each row is a layout and the text in it. A writer that takes fewer bytes in all ends the text with an
-// error, and took a prefix.
+// A writer that takes `capacity` bytes in all ends a longer text with an error, and took a prefix.
+fn assert_ended(
+    rt: &(impl AllocGlobal + Abort),
+    value: &Value<'_, '_>,
+    is_pretty: bool,
+    capacity: usize,
+    fails: bool,
+) {
+    let mut writer = Full {
+        taken: Vec::new(rt.alloc()),
+        capacity,
+        fails,
+    };
+    let (written, text) = if is_pretty {
+        (value.write_pp(&mut writer), PRETTY)
+    } else {
+        (value.write(&mut writer), COMPACT)
+    };
+    let wanted = if capacity >= text.len() {
+        None
+    } else if fails {
+        Some(ErrorKind::Interrupted)
+    } else {
+        Some(ErrorKind::WriteZero)
+    };
+    assert_eq!(rt; written.err().map(|e| e.kind()), wanted, "{capacity}");
+    assert_eq!(rt; writer.taken.as_slice(), &text[..capacity.min(text.len())]);
+}
+
+const COMPACT: &[u8] = b"{\"a\":[1,\"x\"]}";
+
+const PRETTY: &[u8] = b"{\n  \"a\": [\n    1,\n    \"x\"\n  ]\n}";
+
 #[test]
 fn failing_writers_end_a_text(rt: HostRuntime) -> Tested {
     let mut input = *b"{\"a\":[1,\"x\"]}";
     let tape = to_tape(rt.alloc(), &mut input)?;
-    let rows: [(bool, &[u8]); 2] = [
-        (false, b"{\"a\":[1,\"x\"]}"),
-        (true, b"{\n  \"a\": [\n    1,\n    \"x\"\n  ]\n}"),
-    ];
-    for (is_pretty, text) in rows {
-        for calls in 0..80usize {
-            let (capacity, fails) = (calls / 2, calls % 2 == 0);
-            let mut writer = Full {
-                taken: Vec::new(rt.alloc()),
-                capacity,
-                fails,
-            };
-            let written = if is_pretty {
-                tape.as_value().write_pp(&mut writer)
-            } else {
-                tape.as_value().write(&mut writer)
-            };
-            let wanted = if capacity >= text.len() {
-                None
-            } else if fails {
-                Some(ErrorKind::Interrupted)
-            } else {
-                Some(ErrorKind::WriteZero)
-            };
-            assert_eq!(rt; written.err().map(|e| e.kind()), wanted, "{capacity}");
-            assert_eq!(rt; writer.taken.as_slice(), &text[..capacity.min(text.len())]);
+    for is_pretty in [false, true] {
+        for capacity in 0..40 {
+            assert_ended(&rt, &tape.as_value(), is_pretty, capacity, false);
+            assert_ended(&rt, &tape.as_value(), is_pretty, capacity, true);
         }
     }
     Ok(())

@@ -1,0 +1,10 @@
+use std::test::Fail;
+
+mod accessors;
+mod deserializer;
+mod maps;
+mod printing;
+mod values;
+mod views;
+
+type Tested = std::result::Result<(), Fail>;
