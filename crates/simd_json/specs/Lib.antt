@@ -14,3 +14,5 @@ pub mod Answered
 pub mod Paired
 pub mod Iterated
 pub mod MapCompared
+pub mod Pointed
+pub mod Followed
