@@ -15,4 +15,5 @@ pub mod Paired
 pub mod Iterated
 pub mod MapCompared
 pub mod Pointed
+pub mod PointedText
 pub mod Followed

@@ -8,6 +8,8 @@ ghost use Rattle.simd_json_parts.specs.Bytes.{slash};
 ghost use Rattle.std.specs.Char.{is_ascii_digit, digit_value};
 ghost use Rattle.std.specs.List.{list_all};
 
+mod display;
+
 use crate::value::tape::{Array, Object, Value};
 use simd_json_parts::node::ValueType;
 
@@ -29,6 +31,8 @@ pub enum PointerExpected {
 }
 
 /// Where a JSON Pointer stops, and what it lacks there.
+///
+/// It prints in words, as `expected an array index, found an array at byte 2`.
 #[derive(Clone, Copy, Debug, Drop, PartialEq, Eq)]
 pub struct PointerError {
     /// How many bytes of the pointer were followed: they are a pointer to a value, and the reference token
