@@ -8,6 +8,7 @@ mod examples;
 mod growths;
 mod maps;
 mod memory;
+mod pointer;
 mod printing;
 mod reading;
 mod refusals;
