@@ -8,3 +8,4 @@ mod Split
 mod MapCompared
 mod Printable
 mod Encoded
+mod Pointed

@@ -3,4 +3,5 @@
 mod accessors;
 mod cmp;
 mod encode;
+pub mod pointer;
 pub mod tape;

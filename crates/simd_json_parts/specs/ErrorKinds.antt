@@ -5,6 +5,7 @@ use Rattle.std.specs.Fmt.{decimal}
 use Rattle.simd_json_parts.specs.declared.error.Error.{Error}
 use Rattle.simd_json_parts.specs.declared.error.ErrorType.{ErrorType}
 use Rattle.simd_json_parts.specs.declared.error.ErrorType.TheVariants as errors
+use Rattle.simd_json_parts.specs.declared.node.TryTypeError.{TryTypeError}
 use Rattle.simd_json_parts.specs.declared.node.ValueType.{ValueType}
 use Rattle.simd_json_parts.specs.declared.node.ValueType.TheVariants as kinds
 
@@ -82,6 +83,31 @@ type_name kinds.Object = codes "Object"
 abbrev pub optional_name : Option ValueType → List ℕ
 optional_name None = codes "None"
 optional_name (Some kind) = codes "Some(" ++ type_name kind ++ codes ")"
+
+-- the kind of a value, in words
+abbrev pub type_words : ValueType → List ℕ
+type_words kinds.Null = codes "null"
+type_words kinds.Bool = codes "a boolean"
+type_words kinds.String = codes "a string"
+type_words kinds.I64 = codes "a signed integer"
+type_words kinds.U64 = codes "an unsigned integer"
+type_words kinds.I128 = codes "a signed integer of 128 bits"
+type_words kinds.U128 = codes "an unsigned integer of 128 bits"
+type_words kinds.Decimal = codes "a decimal"
+type_words kinds.Array = codes "an array"
+type_words kinds.Object = codes "an object"
+
+-- the kind that was asked for: an integer has to fit its type
+abbrev pub expected_words : ValueType → List ℕ
+expected_words kinds.I64 = codes "an integer that fits"
+expected_words kinds.U64 = codes "an unsigned integer that fits"
+expected_words kinds.I128 = codes "an integer that fits"
+expected_words kinds.U128 = codes "an unsigned integer"
+expected_words kind = type_words kind
+
+-- what is printed of a value of another kind
+abbrev pub mismatch_text : TryTypeError → List ℕ
+mismatch_text e = codes "expected " ++ expected_words e.expected ++ codes ", found " ++ type_words e.got
 
 -- what is printed of a kind
 abbrev pub kind_text : ErrorType → List ℕ

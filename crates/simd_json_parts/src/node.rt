@@ -27,6 +27,29 @@ pub enum ValueType {
     Object,
 }
 
+impl ValueType {
+    ghost use Rattle.std.specs.Prelude.{◌≡◌};
+    ghost use Rattle.simd_json_parts.specs.ErrorKinds.{type_words};
+
+    /// The kind in words, as `an array`.
+    pub fn words(&self) -> &'static str
+        ensures { result.now ≡ type_words self.now }
+    {
+        match self {
+            ValueType::Null => "null",
+            ValueType::Bool => "a boolean",
+            ValueType::String => "a string",
+            ValueType::I64 => "a signed integer",
+            ValueType::U64 => "an unsigned integer",
+            ValueType::I128 => "a signed integer of 128 bits",
+            ValueType::U128 => "an unsigned integer of 128 bits",
+            ValueType::Decimal => "a decimal",
+            ValueType::Array => "an array",
+            ValueType::Object => "an object",
+        }
+    }
+}
+
 /// A value of fixed size: no string, no decimal, no container.
 ///
 /// Two are equal if both are null, the same truth value, or integers of the same number, of whatever kinds.
@@ -194,6 +217,8 @@ impl Node<'_> {
 }
 
 /// A value of another kind than the one asked for.
+///
+/// It prints in words, as `expected a string, found an array`.
 #[derive(Clone, Copy, Debug, Drop, PartialEq, Eq)]
 pub struct TryTypeError {
     /// The kind that was asked for.

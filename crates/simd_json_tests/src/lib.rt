@@ -1,5 +1,4 @@
-//! Tests of parses as callers see them, through public calls alone, and the examples of the documents. Other
-//! crates need nothing of it.
+//! Tests of parses as callers see them, through public calls alone. Other crates need nothing of it.
 #![tactic(auto)]
 
 #[cfg(test)]

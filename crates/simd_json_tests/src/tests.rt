@@ -4,8 +4,6 @@ use std::test::Fail;
 
 mod blocks;
 mod documents;
-mod examples;
-mod reading;
 mod refusals;
 mod reuse;
 mod shapes;

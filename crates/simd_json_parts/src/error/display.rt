@@ -1,6 +1,9 @@
 //! What is printed of an error, of its kind, and of the kind of a value.
+ghost use Rattle.std.specs.Prelude.{◌≡◌};
+ghost use Rattle.simd_json_parts.specs.ErrorKinds.{expected_words};
+
 use crate::error::{Error, ErrorType};
-use crate::node::ValueType;
+use crate::node::{TryTypeError, ValueType};
 use std::fmt;
 
 impl fmt::Display for ValueType {
@@ -115,5 +118,30 @@ impl fmt::Display for Error {
             None => write!(f, "{kind} at character {index}"),
             Some(character) => write!(f, "{kind} at character {index} ('{character}')"),
         }
+    }
+}
+
+impl fmt::Display for TryTypeError {
+    ghost use Rattle.std.specs.Prelude.{Some};
+    ghost use Rattle.simd_json_parts.specs.ErrorKinds.{mismatch_text};
+
+    ghost output = { λ e. Some (mismatch_text e) };
+
+    fn fmt<W: fmt::Write>(&self, f: &mut fmt::Formatter<W>) -> fmt::Result {
+        let expected = expected_words(self.expected);
+        let got = self.got.words();
+        write!(f, "expected {expected}, found {got}")
+    }
+}
+
+// The kind that was asked for: an integer has to fit its type.
+fn expected_words(kind: ValueType) -> &'static str
+    ensures { result.now ≡ expected_words kind }
+{
+    match kind {
+        ValueType::I64 | ValueType::I128 => "an integer that fits",
+        ValueType::U64 => "an unsigned integer that fits",
+        ValueType::U128 => "an unsigned integer",
+        _ => kind.words(),
     }
 }

@@ -1,0 +1,31 @@
+-- A JSON Pointer a token at a time. Only private clauses cite it.
+use Rattle.std.specs.Prelude.{◌≡◌, ◌<◌, ◌≤◌, ℕ, ◌^◌, List, [], ◌∷◌, length, drop, nat_lt, ◌==◌, if◌then◌else◌, Option, Some, None, option_map, Result, Ok, Err}
+use Rattle.simd_json_parts.specs.Bytes.{slash}
+use Rattle.simd_json_parts.specs.Document.{Document}
+use Rattle.simd_json.specs.Pointed.{tokens, unescaped, named}
+use Rattle.simd_json.specs.declared.value.pointer.Written.{Written}
+use Rattle.simd_json.specs.declared.value.pointer.PointerExpected.{PointerExpected}
+use Rattle.simd_json.specs.declared.value.pointer.PointerExpected.TheVariants as lacking
+
+-- the tokens of what is left of a pointer after one of them
+abbrev pub tokens_after : List ℕ → List (List ℕ)
+tokens_after [] = []
+tokens_after (c ∷ p) = tokens p
+
+abbrev pub first_of : List (List ℕ) → List ℕ
+first_of [] = []
+first_of (t ∷ ts) = t
+
+-- where the first token of what is left leads
+abbrev pub first_step : List ℕ → Document → Result Document PointerExpected
+first_step [] d = Ok d
+first_step (c ∷ p) d = if c == slash then named (first_of (tokens p)) d else Err lacking.Slash
+
+abbrev pub fits_64 : ℕ → Option ℕ
+fits_64 n = if nat_lt n (2 ^ 64) then Some n else None
+
+-- at an index of the token this byte is written, which ends there
+pub record IsWritten (t : List ℕ) (i : ℕ) (w : Written) : Type 0 where
+  pub decoded : unescaped (drop i t) ≡ option_map (λ k. w.byte ∷ k) (unescaped (drop w.end t))
+  pub later : i < w.end
+  pub within : w.end ≤ length t

@@ -1,0 +1,6 @@
+//! The examples of the documents, as they stand there, and those of the standard for JSON Pointers. Other crates
+//! need nothing of it.
+#![tactic(auto)]
+
+#[cfg(test)]
+mod tests;

@@ -1,0 +1,247 @@
+// JSON Pointers (RFC 6901).
+use crate::tests::Tested;
+use simd_json::tape::Value;
+use simd_json::{PointerError, PointerExpected, ValueType, to_tape};
+
+// The document of RFC 6901, section 5, on one line.
+const EXAMPLE: [u8; 90] =
+    *b"{\"foo\":[\"bar\",\"baz\"],\"\":0,\"a/b\":1,\"c%d\":2,\"e^f\":3,\"g|h\":4,\"i\\\\j\":5,\"k\\\"l\":6,\" \":7,\"m~n\":8}";
+
+#[test]
+fn the_examples_of_the_standard_are_evaluated(rt: HostRuntime) -> Tested {
+    let mut input = EXAMPLE;
+    let tape = to_tape(rt.alloc(), &mut input)?;
+    assert!(rt; !tape.is_empty());
+    let value = tape.as_value();
+    let whole = value.pointer("").expect(&rt, "it is the whole document");
+    assert!(rt; whole == value);
+    let foo = value.pointer("/foo").expect(&rt, "it is there");
+    assert_eq!(rt; foo.encode(rt.alloc())?.as_str(), "[\"bar\",\"baz\"]");
+    let bar = value.pointer("/foo/0").expect(&rt, "it is there");
+    assert!(rt; bar.eq_str("bar"));
+    let rows = [
+        ("/", 0),
+        ("/a~1b", 1),
+        ("/c%d", 2),
+        ("/e^f", 3),
+        ("/g|h", 4),
+        ("/i\\j", 5),
+        ("/k\"l", 6),
+        ("/ ", 7),
+        ("/m~0n", 8),
+    ];
+    for (pointer, number) in &rows {
+        assert_eq!(rt; number_at(value, pointer), Some(*number));
+    }
+    Ok(())
+}
+
+fn number_at(value: Value<'_, '_>, pointer: &str) -> Option<u64> {
+    value.pointer(pointer)?.as_u64()
+}
+
+#[test]
+fn pointers_lead_to_the_first_of_equal_keys(rt: HostRuntime) -> Tested {
+    let mut input =
+        *b"{\"a\":[10,{\"~1\":11,\"/\":12}],\"b\":20,\"b\":21,\"01\":22,\"-\":23,\"b/c\":24}";
+    let tape = to_tape(rt.alloc(), &mut input)?;
+    assert!(rt; !tape.is_empty());
+    let value = tape.as_value();
+    let rows = [
+        ("/a/0", Some(10)),
+        ("/a/1/~01", Some(11)),
+        ("/a/1/~1", Some(12)),
+        ("/b", Some(20)),
+        ("/01", Some(22)),
+        ("/-", Some(23)),
+        ("/b~1c", Some(24)),
+        ("/b/c", None),
+        ("b", None),
+        ("a/0", None),
+        ("/a/00", None),
+        ("/a/01", None),
+        ("/a/-", None),
+        ("/a/2", None),
+        ("/a/", None),
+        ("/a/+1", None),
+        ("/a/18446744073709551616", None),
+        ("/a/1/~2", None),
+        ("/a/1/~", None),
+        ("/c", None),
+        ("/b/0", None),
+        ("/a/0/", None),
+        ("//", None),
+    ];
+    for (pointer, number) in &rows {
+        assert_eq!(rt; number_at(value, pointer), *number);
+    }
+    Ok(())
+}
+
+// Where a pointer stops in a value.
+fn stop(value: Value<'_, '_>, pointer: &str) -> Option<PointerError> {
+    value.try_pointer(pointer).err()
+}
+
+#[test]
+fn pointers_stop_where_they_lead_nowhere(rt: HostRuntime) -> Tested {
+    let mut input = *b"{\"a\":[10,{\"b\":11}],\"~\":null}";
+    let tape = to_tape(rt.alloc(), &mut input)?;
+    assert!(rt; !tape.is_empty());
+    let value = tape.as_value();
+    let reached = value.try_pointer("/a/1/b").map(|found| found.as_u64());
+    assert!(rt; reached == Ok(Some(11)));
+    assert!(rt; stop(value, "/~0").is_none());
+    let rows = [
+        ("a", 0, PointerExpected::Slash, ValueType::Object),
+        ("/b", 0, PointerExpected::Key, ValueType::Object),
+        ("/~", 0, PointerExpected::Escape, ValueType::Object),
+        ("/a/2", 2, PointerExpected::Element, ValueType::Array),
+        ("/a/01/b", 2, PointerExpected::Index, ValueType::Array),
+        ("/a/-", 2, PointerExpected::Index, ValueType::Array),
+        ("/a/1/c", 4, PointerExpected::Key, ValueType::Object),
+        ("/a/1/b/0", 6, PointerExpected::Container, ValueType::U64),
+        ("/~0/x", 3, PointerExpected::Container, ValueType::Null),
+    ];
+    for (pointer, index, expected, got) in &rows {
+        let error = PointerError {
+            index: *index,
+            expected: *expected,
+            got: *got,
+        };
+        assert!(rt; stop(value, pointer) == Some(error));
+    }
+    Ok(())
+}
+
+#[test]
+fn errors_are_printed_in_words(rt: HostRuntime) -> Tested {
+    let mut input = *b"{\"a\":[1]}";
+    let tape = to_tape(rt.alloc(), &mut input)?;
+    assert!(rt; !tape.is_empty());
+    let value = tape.as_value();
+    let stopped = stop(value, "/a/x").expect(&rt, "it leads nowhere");
+    assert_eq!(rt;
+        stopped.to_string(rt.alloc())?.as_str(),
+        "expected an array index, found an array at byte 2"
+    );
+    let refused = value.try_as_u64().err().expect(&rt, "it is an object");
+    assert_eq!(rt;
+        refused.to_string(rt.alloc())?.as_str(),
+        "expected an unsigned integer that fits, found an object"
+    );
+    Ok(())
+}
+
+// The recipes of docs/READING.md, as they stand there.
+mod places {
+    use simd_json::PointerError;
+    use simd_json::tape::Value;
+
+    // The port of the first server, or where it is missing.
+    pub(super) fn port(config: &Value<'_, '_>) -> Result<Option<u16>, PointerError> {
+        Ok(config.try_pointer("/servers/0/port")?.as_u16())
+    }
+}
+
+mod walks {
+    use simd_json::tape::Value;
+
+    // How deep arrays and objects are nested in the value, at most `limit`.
+    pub(super) fn depth(value: Value<'_, '_>, limit: usize) -> usize {
+        if limit == 0 {
+            return 0;
+        }
+        let mut deepest = 0;
+        if let Some(array) = value.as_array() {
+            for element in &array {
+                deepest = depth(element, limit - 1).max(deepest);
+            }
+        } else if let Some(object) = value.as_object() {
+            for (_, member) in &object {
+                deepest = depth(member, limit - 1).max(deepest);
+            }
+        } else {
+            return 0;
+        }
+        deepest.saturating_add(1)
+    }
+}
+
+mod floats {
+    use simd_json::tape::Value;
+    use std::num::{nearest_i64_to_f64, nearest_u64_to_f64};
+
+    // A number of any form, as the nearest float.
+    pub(super) fn float(value: &Value<'_, '_>) -> Option<f64> {
+        if let Some(literal) = value.as_decimal() {
+            return literal.parse::<f64>().ok();
+        }
+        if let Some(number) = value.as_i64() {
+            return Some(nearest_i64_to_f64(number));
+        }
+        Some(nearest_u64_to_f64(value.as_u64()?))
+    }
+}
+
+mod selections {
+    use simd_json::tape::Object;
+    use simd_json::write_quoted;
+    use std::io;
+    use std::io::Write;
+
+    // The members of an object but those with a key, as an object.
+    pub(super) fn write_without<W: Write>(
+        object: &Object<'_, '_>,
+        left_out: &str,
+        w: &mut W,
+    ) -> io::Result<()> {
+        w.write_all(b"{")?;
+        let mut is_first = true;
+        for (key, value) in object {
+            if key == left_out {
+                continue;
+            }
+            if !is_first {
+                w.write_all(b",")?;
+            }
+            is_first = false;
+            write_quoted(w, key)?;
+            w.write_all(b":")?;
+            value.write(w)?;
+        }
+        w.write_all(b"}")
+    }
+}
+
+#[test]
+fn recipes_do_as_they_say(rt: HostRuntime) -> Tested {
+    let mut input = *b"{\"servers\":[{\"port\":8080}],\"q\\\"x\":1.50,\"n\":-3}";
+    let tape = to_tape(rt.alloc(), &mut input)?;
+    assert!(rt; !tape.is_empty());
+    let value = tape.as_value();
+    assert!(rt; places::port(&value) == Ok(Some(8080)));
+    let decimal = value.pointer("/q\"x").expect(&rt, "it is there");
+    assert!(rt; floats::float(&decimal).is_some_and(|x| x == 1.5));
+    let integer = value.pointer("/n").expect(&rt, "it is there");
+    assert!(rt; floats::float(&integer).is_some_and(|x| x == -3.0));
+    assert!(rt; floats::float(&value).is_none());
+    assert_eq!(rt; walks::depth(value, 1024), 3);
+    assert_eq!(rt; walks::depth(value, 2), 2);
+    Ok(())
+}
+
+#[test]
+fn selections_are_quoted(rt: HostRuntime) -> Tested {
+    let mut input = *b"{\"a\":[1, 2],\"b\":3,\"q\\\"x\":1.50}";
+    let tape = to_tape(rt.alloc(), &mut input)?;
+    assert!(rt; !tape.is_empty());
+    let object = tape.as_value().as_object().expect(&rt, "it is one");
+    let mut text = Vec::new(rt.alloc());
+    selections::write_without(&object, "b", &mut text)?;
+    assert_eq!(rt;
+        text.as_slice(),
+        b"{\"a\":[1,2],\"q\\\"x\":1.50}".as_slice()
+    );
+    Ok(())
+}
