@@ -32,9 +32,9 @@ static const struct {
     {"[nul]", 9, SIMD_JSON_EXPECTED_NULL, 1, 'n', "ExpectedNull"},
     {"[tru]", 9, SIMD_JSON_EXPECTED_TRUE, 1, 't', "ExpectedTrue"},
     {"[falsy]", 9, SIMD_JSON_EXPECTED_FALSE, 1, 'f', "ExpectedFalse"},
-    {"01", 9, SIMD_JSON_INVALID_NUMBER, 0, '0', "InvalidNumber"},
-    {"[340282366920938463463374607431768211456]", 9, SIMD_JSON_INVALID_NUMBER, 1, '3', "InvalidNumber"},
-    {"[-170141183460469231731687303715884105729]", 9, SIMD_JSON_INVALID_NUMBER, 1, '-', "InvalidNumber"},
+    {"01", 9, SIMD_JSON_INVALID_NUMBER, 1, '1', "InvalidNumber"},
+    {"[340282366920938463463374607431768211456]", 9, SIMD_JSON_INVALID_NUMBER, 39, '6', "InvalidNumber"},
+    {"[-170141183460469231731687303715884105729]", 9, SIMD_JSON_INVALID_NUMBER, 41, ']', "InvalidNumber"},
     {"\"\\q\"", 9, SIMD_JSON_INVALID_ESCAPE, 1, 'q', "InvalidEscape"},
     {"\"\\ud83d\"", 9, SIMD_JSON_INVALID_UNICODE_CODEPOINT, 1, 'u', "InvalidUnicodeCodepoint"},
     {"\"a", 9, SIMD_JSON_SYNTAX, 0, SIMD_JSON_NO_CHARACTER, "Syntax"},
@@ -75,7 +75,7 @@ static void refused_alike(void) {
 
 static const char document[] = " { \"a\\n\" : [ null , true , false , -1 , 1 , 1.50 , \"\\u00e9\" ] , \"a\\n\" : {} } ";
 static const simd_json_node listed[] = {
-    {SIMD_JSON_OBJECT, 2, 10, 0}, {SIMD_JSON_STRING, 2, 0, 0},  {SIMD_JSON_ARRAY, 7, 7, 0},  {SIMD_JSON_NULL, 0, 0, 0},
+    {SIMD_JSON_OBJECT, 2, 11, 0}, {SIMD_JSON_STRING, 2, 0, 0},  {SIMD_JSON_ARRAY, 7, 7, 0},  {SIMD_JSON_NULL, 0, 0, 0},
     {SIMD_JSON_BOOL, 0, 1, 0},    {SIMD_JSON_BOOL, 0, 0, 0},    {SIMD_JSON_I64, 0, -1, -1},  {SIMD_JSON_U64, 0, 1, 0},
     {SIMD_JSON_DECIMAL, 4, 2, 0}, {SIMD_JSON_STRING, 2, 6, 0},  {SIMD_JSON_STRING, 2, 8, 0}, {SIMD_JSON_OBJECT, 0, 0, 0},
 };
