@@ -23,9 +23,9 @@ cc $flags tests/c/memory.c build/libsimd_json.a -Wl,--wrap=malloc,--wrap=realloc
 for program in rows lent memory; do "$room/$program"; done
 
 if command -v python3 > /dev/null; then
-    python3 tests/c/mutants.py write "$room/answers"
+    python3 -B tests/c/mutants.py write "$room/answers"
     "$room/mutants" "$room/answers"
-    python3 tests/c/mutants.py compare "$room/answers" build/libsimd_json.so
+    python3 -B tests/c/mutants.py compare "$room/answers" build/libsimd_json.so
 else
     left_out="$left_out the mutants and the calls from Python (no python3);"
 fi

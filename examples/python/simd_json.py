@@ -56,7 +56,8 @@ class Library:
     @staticmethod
     def _name(call, number):
         out = ctypes.create_string_buffer(32)
-        return out.raw[:call(number, out, len(out))].decode()
+        length = call(number, out, len(out))
+        return out.raw[:length].decode()
 
     def status_name(self, status):
         return self._name(self._status_name, status)

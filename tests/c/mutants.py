@@ -84,6 +84,14 @@ def compare(path, library):
     import simd_json
 
     ours = simd_json.Library(library)
+    try:
+        ours.check(b"[1,]")
+        sys.exit("[1,] is taken")
+    except simd_json.Refused as refused:
+        if (str(refused), refused.character) != ("InternalError at character 3", ord("]")):
+            sys.exit(f"[1,]: {refused}")
+    if ours.kind_name(simd_json.DECIMAL) != "Decimal":
+        sys.exit(f"a decimal is called {ours.kind_name(simd_json.DECIMAL)}")
     for line in pathlib.Path(path).read_text().splitlines():
         data, answer = (None if word == "-" else bytes.fromhex(word) for word in line.split())
         try:

@@ -1,10 +1,11 @@
 //! What a program in C calls: `include/simd_json.h` declares and documents each export.
 //!
-//! A slice is a pointer and a length, and a [`Global`](std::alloc::Global) takes no bytes, so C passes nothing
-//! for it. No export requires anything of its arguments.
+//! A slice is a pointer and a length. A [`Global`](std::alloc::Global) takes no bytes, so C passes nothing for
+//! it. No export requires anything of its arguments.
 #![tactic(auto)]
 
 mod check;
+mod copies;
 mod names;
 mod nodes;
 mod print;

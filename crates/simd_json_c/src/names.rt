@@ -3,7 +3,7 @@ ghost use Rattle.std.specs.Prelude.{◌≡◌};
 ghost use Rattle.simd_json_c.specs.Calls.{IsNamed};
 ghost use Rattle.simd_json_c.specs.Names.{kind_name, status_name};
 
-use crate::nodes::append;
+use crate::copies::append;
 
 fn name_of_status(status: i32) -> &'static [u8]
     ensures { result.now ≡ status_name status }

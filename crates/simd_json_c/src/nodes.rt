@@ -2,8 +2,10 @@
 ghost use Rattle.std.specs.Prelude.{◌≡◌, ◌≤◌, ◌<◌, ◌+◌, ◌^◌, ◌++◌, ◌∷◌, [], take, drop, length, map};
 ghost use Rattle.simd_json_parts.specs.Nodes.{item_of};
 ghost use Rattle.simd_json_c.specs.Calls.{ArePut, IsPut};
-ghost use Rattle.simd_json_c.specs.Nodes.{node_of, nodes_from, room_for, span, static_node, text_of, texts, words};
+ghost use Rattle.simd_json_c.specs.Nodes.{node_of, nodes_from, span, static_node, words};
+ghost use Rattle.simd_json_c.specs.Nodes.{room_for, text_of, texts};
 
+use crate::copies::append;
 use crate::status::TOO_LITTLE_ROOM;
 use simd_json::{StaticNode, tape};
 
@@ -11,20 +13,28 @@ use simd_json::{StaticNode, tape};
 #[repr(C)]
 #[derive(Clone, Copy, Drop)]
 pub struct Node {
+    /// What it is, by the header's numbers.
     pub kind: u32,
+    /// How many bytes its text has, or how many members follow it.
     pub len: usize,
+    /// Where its text begins, how many nodes are beneath it, or the lower 64 bits of its number.
     pub value: u64,
+    /// The upper 64 bits of its number.
     pub high: u64,
 }
 
-/// How many nodes, and how many bytes of text.
+/// How much a tape takes.
 #[repr(C)]
 #[derive(Clone, Copy, Drop)]
 pub struct Room {
+    /// How many nodes.
     pub nodes: usize,
+    /// How many bytes of text.
     pub text: usize,
 }
 
+// A number of 128 bits, as two words.
+#[inline(always)]
 fn words_of(kind: u32, bits: u128) -> Node
     ensures { result ≡ words kind bits }
 {
@@ -36,6 +46,7 @@ fn words_of(kind: u32, bits: u128) -> Node
     }
 }
 
+#[inline(always)]
 fn span_of(kind: u32, len: usize, value: usize) -> Node
     ensures { result ≡ span kind len value }
 {
@@ -47,6 +58,7 @@ fn span_of(kind: u32, len: usize, value: usize) -> Node
     }
 }
 
+#[inline(always)]
 fn fixed(value: StaticNode) -> Node
     ensures { result ≡ static_node value }
 {
@@ -62,6 +74,7 @@ fn fixed(value: StaticNode) -> Node
 }
 
 // The node, where its text begins at `start`.
+#[inline(always)]
 fn exported(node: &tape::Node<'_>, start: usize) -> Node
     ensures { result ≡ node_of start (item_of node.now) }
 {
@@ -74,6 +87,7 @@ fn exported(node: &tape::Node<'_>, start: usize) -> Node
     }
 }
 
+#[inline(always)]
 fn text_at<'a>(node: &tape::Node<'a>) -> &'a [u8]
     ensures { result.now ≡ text_of (item_of node.now) }
 {
@@ -96,24 +110,13 @@ fn text_len(nodes: &[tape::Node<'_>]) -> usize
     text
 }
 
+#[inline(always)]
 fn store(out: &mut [Node], at: usize, node: Node)
     requires { at < length out.old }
     ensures front { take (at + 1) out.new ≡ take at out.old ++ node ∷ [] }
     ensures behind { drop (at + 1) out.new ≡ drop (at + 1) out.old }
 {
     out[at] = node;
-}
-
-// Puts the bytes at an index, and returns the index after them.
-pub(crate) fn append(text: &mut [u8], at: usize, bytes: &[u8]) -> usize
-    requires { at + length bytes.now ≤ length text.old }
-    ensures end { result ≡ at + length bytes.now }
-    ensures front { take (at + length bytes.now) text.new ≡ take at text.old ++ bytes.now }
-    ensures behind { drop (at + length bytes.now) text.new ≡ drop (at + length bytes.now) text.old }
-{
-    let end = at + bytes.len();
-    text[at..end].copy_from_slice(bytes);
-    end
 }
 
 // Puts nodes and texts, and returns how many bytes the texts have together.

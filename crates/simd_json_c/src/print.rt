@@ -5,7 +5,7 @@ ghost use Rattle.simd_json.specs.Parsed.{IsRefused};
 ghost use Rattle.simd_json_c.specs.Calls.{IsCompact, IsPretty, IsPrinted, IsTextOf, IsTextPut};
 ghost use Rattle.simd_json_parts.specs.Printed.{compact, pretty};
 
-use crate::nodes::append;
+use crate::copies::append;
 use crate::status::{Place, TOO_LITTLE_ROOM, reported};
 use simd_json::{Buffers, Result, to_tape_with_buffers};
 use std::alloc::Global;

@@ -5,18 +5,20 @@ ghost use Rattle.simd_json_c.specs.Statuses.{number_of, place_of, status_of};
 
 use simd_json::{Error, ErrorType, Result};
 
-/// Where an input is refused: a byte offset, and the byte there. Where there is no place, index 0 and the
-/// greatest number.
+/// Where an input is refused.
 #[repr(C)]
 #[derive(Clone, Copy, Drop)]
 pub struct Place {
+    /// A byte offset, 0 where there is no place.
     pub index: usize,
+    /// The byte there, `u32::MAX` where there is none.
     pub character: u32,
 }
 
 /// The memory that was lent is too small.
 pub(crate) const TOO_LITTLE_ROOM: i32 = 19;
 
+// Each kind that a parse reports has a number of its own.
 fn number(kind: &ErrorType) -> i32
     ensures { result ≡ pos (number_of kind.now) }
 {

@@ -19,7 +19,8 @@ fn tape(
 ) -> Result<i32>
     ensures lent { IfOk result (λ status. (ns : List Item) × IsRead input.old max_depth None ns
         × (room.new ≡ room_for ns) × ArePut ns status nodes.old nodes.new text.old text.new) }
-    ensures few { IfOk result (λ _. (room.new.nodes ≤ length input.old) × (room.new.text ≤ length input.old)) }
+    ensures few { IfOk result (λ _.
+        (room.new.nodes ≤ length input.old) × (room.new.text ≤ length input.old)) }
     ensures refused { IfErr result (λ e. (ns : List Item) × IsRead input.old max_depth (Some e) ns
         × (room.new ≡ room.old) × (nodes.new ≡ nodes.old) × (text.new ≡ text.old)) }
 {

@@ -4,12 +4,19 @@ use Rattle.simd_json_c.proofs.nodes.put_all.Goals as goal
 
 pub loop-i-preserved : goal.loop-i-preserved
 loop-i-preserved c =
-    let here = left c.args.nodes.now c.loop-i.i _ c.loop-i-test.true in
-    let before = c.loop-i.invariant in
+    let l = c.loop-i in
+    let before = l.invariant in
+    let here = left c.args.nodes.now l.i _ c.loop-i-test.true in
+    let put = c.append-at in
+    let bytes = c.text_at in
+    let end = put.ensures.end in
     record {
-      nodes = nodes_step _ _ _ _ _ _ _ _ _ _ c.store.ensures.front c.exported.ensures c.text_at.ensures c.append-at.ensures.end here before.nodes;
-      others = behind_step c.store.new.out c.loop-i.out c.args.out.now c.loop-i.i (c.loop-i.i + 1) 1 c.store.ensures.behind refl before.others;
-      text = texts_step _ _ _ _ _ _ _ (ap (λ e. take e c.append-at.new.text) c.append-at.ensures.end ∙ c.append-at.ensures.front) c.text_at.ensures here before.text;
-      behind = behind_step c.append-at.new.text c.loop-i.text c.args.text.now c.loop-i.at c.append-at.result (length c.text_at.result.now) c.append-at.ensures.behind c.append-at.ensures.end before.behind;
-      counted = count_step _ _ _ _ _ _ _ c.text_at.ensures c.append-at.ensures.end here before.counted;
+      nodes = nodes_step _ _ _ _ _ _ _ _ _ _ c.store.ensures.front c.exported.ensures bytes.ensures end here before.nodes;
+      others = behind_step c.store.new.out l.out c.args.out.now l.i (l.i + 1) 1 c.store.ensures.behind refl before.others;
+      text =
+          texts_step _ _ _ _ _ _ _ (ap (λ e. take e put.new.text) end ∙ put.ensures.front) bytes.ensures here before.text;
+      behind =
+          behind_step put.new.text l.text c.args.text.now l.at put.result (length bytes.result.now)
+          put.ensures.behind end before.behind;
+      counted = count_step _ _ _ _ _ _ _ bytes.ensures end here before.counted;
     }
