@@ -17,7 +17,8 @@ all: has-rt $(if $(CPU),library)
 # The library for programs in C, static and shared. Each needs nothing beside it but malloc, realloc, free, memcpy and memset:
 # the toolchain's heap is in it, and the exports alone are visible.
 kit = $(dir $(shell readlink -f "$$(command -v rt)"))..
-parts = build/parts
+into = build
+parts = $(into)/parts
 library: has-rt
 	cd crates/simd_json_c && rt lib $(cpu)
 	mkdir -p $(parts)
@@ -25,9 +26,9 @@ library: has-rt
 	ld -r -o $(parts)/all.o --whole-archive crates/simd_json_c/out/libsimd_json_c.a --no-whole-archive $(parts)/heap.pic.o
 	nm --defined-only -g $(parts)/all.o | sed -n 's/.* T \(simd_json_.*\)/\1/p' > $(parts)/exports
 	objcopy --keep-global-symbols=$(parts)/exports --strip-unneeded $(parts)/all.o $(parts)/simd_json.o
-	rm -f build/libsimd_json.a
-	ar rcs build/libsimd_json.a $(parts)/simd_json.o
-	cc -shared -o build/libsimd_json.so $(parts)/simd_json.o -Wl,-soname,libsimd_json.so -Wl,-z,relro,-z,now,-s
+	rm -f $(into)/libsimd_json.a
+	ar rcs $(into)/libsimd_json.a $(parts)/simd_json.o
+	cc -shared -o $(into)/libsimd_json.so $(parts)/simd_json.o -Wl,-soname,libsimd_json.so -Wl,-z,relro,-z,now,-s
 
 # Every proof from nothing, the must-fail edits, the tests and the programs. Its last line is 'N passed, M failed'. After it the
 # program that it built is run on inputs of which the lines and the status are known, the counts of lines in DESIGN.md are
