@@ -5,7 +5,7 @@ use Rattle.simd_json_parts.specs.Listing.{listing}
 use Rattle.simd_json_parts.specs.Nodes.{Item}
 use Rattle.simd_json_parts.specs.Printed.{compact, pretty}
 use Rattle.simd_json_parts.specs.declared.error.Error.{Error}
-use Rattle.simd_json.specs.Memory.{IsOutOfMemory}
+use Rattle.simd_json.specs.Memory.{IsOutOfMemory, LacksMemory}
 use Rattle.simd_json.specs.Parsed.{IsParse, IsParsed, IsRefused}
 use Rattle.simd_json_c.specs.Nodes.{nodes_from, room_for, texts}
 use Rattle.simd_json_c.specs.Statuses.{place_of, status_of, too_little_room}
@@ -58,12 +58,17 @@ IsCompact b limit text = IsTextOf compact b limit text × (length text ≤ lengt
 abbrev pub IsPretty : List ℕ → ℕ → List ℕ → Type 0
 IsPretty b limit text = IsTextOf pretty b limit text
 
+-- b is refused, or the parse lacks memory, or b is a document and its text lacks memory
+abbrev pub IsUnprinted : List ℕ → ℕ → Error → Type 0
+IsUnprinted b limit e =
+    IsRefused b limit e ⊎ LacksMemory b e ⊎ (IsOutOfMemory e × ((ns : List Item) × IsParsed b limit ns))
+
 abbrev pub IsPrinted : (List ℕ → Type 0) → List ℕ → ℕ → ℤ → Place → ℕ → ℕ → List ℕ → List ℕ → Type 0
 IsPrinted IsText b limit status place old_needed needed old new =
     (fault : Option Error) × (place ≡ place_of fault)
     × MatchOption fault
     ((text : List ℕ) × IsText text × IsTextPut text status needed old new)
-    (λ e. (status ≡ status_of fault) × (needed ≡ old_needed) × (new ≡ old) × (IsRefused b limit e ⊎ IsOutOfMemory e))
+    (λ e. (status ≡ status_of fault) × (needed ≡ old_needed) × (new ≡ old) × IsUnprinted b limit e)
 
 -- a name is put where there is room for it
 abbrev pub IsNamed : List ℕ → ℕ → List ℕ → List ℕ → Type 0

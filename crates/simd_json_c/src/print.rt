@@ -1,8 +1,6 @@
 //! The printed text of a document.
-ghost use Rattle.std.specs.Prelude.{◌≤◌, ◌⊎◌, IfOk, IfErr, length, string_bytes};
-ghost use Rattle.simd_json.specs.Memory.{IsOutOfMemory};
-ghost use Rattle.simd_json.specs.Parsed.{IsRefused};
-ghost use Rattle.simd_json_c.specs.Calls.{IsCompact, IsPretty, IsPrinted, IsTextOf, IsTextPut};
+ghost use Rattle.std.specs.Prelude.{◌≤◌, IfOk, IfErr, length, string_bytes};
+ghost use Rattle.simd_json_c.specs.Calls.{IsCompact, IsPretty, IsPrinted, IsTextOf, IsTextPut, IsUnprinted};
 ghost use Rattle.simd_json_parts.specs.Printed.{compact, pretty};
 
 use crate::copies::append;
@@ -13,7 +11,7 @@ use std::alloc::Global;
 fn compact_text(alloc: Global, input: &mut [u8], max_depth: usize) -> Result<String>
     ensures text { IfOk result (λ text. IsTextOf compact input.old max_depth (string_bytes text)) }
     ensures short { IfOk result (λ text. length (string_bytes text) ≤ length input.old) }
-    ensures refused { IfErr result (λ e. IsRefused input.old max_depth e ⊎ IsOutOfMemory e) }
+    ensures refused { IfErr result (IsUnprinted input.old max_depth) }
 {
     let mut buffers = Buffers::with_max_depth(alloc, 0, max_depth)?;
     let tape = to_tape_with_buffers(input, &mut buffers)?;
@@ -22,7 +20,7 @@ fn compact_text(alloc: Global, input: &mut [u8], max_depth: usize) -> Result<Str
 
 fn pretty_text(alloc: Global, input: &mut [u8], max_depth: usize) -> Result<String>
     ensures text { IfOk result (λ text. IsTextOf pretty input.old max_depth (string_bytes text)) }
-    ensures refused { IfErr result (λ e. IsRefused input.old max_depth e ⊎ IsOutOfMemory e) }
+    ensures refused { IfErr result (IsUnprinted input.old max_depth) }
 {
     let mut buffers = Buffers::with_max_depth(alloc, 0, max_depth)?;
     let tape = to_tape_with_buffers(input, &mut buffers)?;
