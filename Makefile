@@ -1,7 +1,7 @@
 # Two commands: `make` proves and builds what there is and shows the first run, `make test` passes the gate.
 # Both need the toolchain's command `rt` on the PATH, and nothing else. Besides, `make CPU=x86-64-v3` builds for processors of
 # that level, and `make bench` measures: bench/run.sh says what it takes.
-.PHONY: all library test bench vendor install uninstall clean has-rt
+.PHONY: all library test bench vendor install install-library uninstall clean has-rt
 
 # The level that programs are built for. Empty: the toolchain's default.
 CPU =
@@ -14,17 +14,27 @@ all: has-rt $(if $(CPU),library)
 	cp crates/jtape_main/out/jtape_main build/jtape
 	build/jtape tape < examples/nested-list.json
 
-# The static library that programs in C call.
+# The library for programs in C, static and shared. Each needs nothing beside it but malloc, realloc, free, memcpy and memset:
+# the toolchain's heap is in it, and the exports alone are visible.
+kit = $(dir $(shell readlink -f "$$(command -v rt)"))..
+into = build
+parts = $(into)/parts
 library: has-rt
-	cd crates/simd_json_bench && rt lib $(cpu)
-	mkdir -p build
-	cp crates/simd_json_bench/out/libsimd_json_bench.a build/
+	cd crates/simd_json_c && rt lib $(cpu)
+	mkdir -p $(parts)
+	cd $(parts) && ar x $(kit)/c/liblibc_c.a heap.pic.o
+	ld -r -o $(parts)/all.o --whole-archive crates/simd_json_c/out/libsimd_json_c.a --no-whole-archive $(parts)/heap.pic.o
+	nm --defined-only -g $(parts)/all.o | sed -n 's/.* T \(simd_json_.*\)/\1/p' > $(parts)/exports
+	objcopy --keep-global-symbols=$(parts)/exports --strip-unneeded $(parts)/all.o $(parts)/simd_json.o
+	rm -f $(into)/libsimd_json.a
+	ar rcs $(into)/libsimd_json.a $(parts)/simd_json.o
+	cc -shared -o $(into)/libsimd_json.so $(parts)/simd_json.o -Wl,-soname,libsimd_json.so -Wl,-z,relro,-z,now,-s
 
 # Every proof from nothing, the must-fail edits, the tests and the programs. Its last line is 'N passed, M failed'. After it the
-# program that it built is run on inputs of which the lines and the status are known, and the counts of lines in DESIGN.md are
-# compared with the files; both are silent where all is well.
+# program that it built is run on inputs of which the lines and the status are known, the counts of lines in DESIGN.md are
+# compared with the files, and the library is called from C and Python; all are silent where all is well.
 test: has-rt
-	rt ci && sh tests/statuses.sh && sh tests/counts.sh
+	rt ci && sh tests/statuses.sh && sh tests/counts.sh && sh tests/c.sh
 
 # Beside the parsers that are installed, over generated texts and FILES. SAVE=1 puts the results into docs/.
 bench: has-rt
@@ -34,16 +44,27 @@ bench: has-rt
 vendor:
 	@sh scripts/vendor.sh "$(DIR)"
 
-# The program and its manual page, under PREFIX.
+# The program, the library for programs in C, and their manual pages, under PREFIX.
 PREFIX = /usr/local
-install:
+under = $(DESTDIR)$(abspath $(PREFIX))
+install: install-library
 	test -x build/jtape || $(MAKE) all
-	install -d $(DESTDIR)$(PREFIX)/bin $(DESTDIR)$(PREFIX)/share/man/man1
-	install -m 755 build/jtape $(DESTDIR)$(PREFIX)/bin/jtape
-	install -m 644 man/jtape.1 $(DESTDIR)$(PREFIX)/share/man/man1/jtape.1
+	install -d $(under)/bin $(under)/share/man/man1
+	install -m 755 build/jtape $(under)/bin/jtape
+	install -m 644 man/jtape.1 $(under)/share/man/man1/jtape.1
+
+install-library:
+	test -e build/libsimd_json.so || $(MAKE) library
+	install -d $(under)/include $(under)/lib/pkgconfig $(under)/share/man/man3
+	install -m 644 include/simd_json.h $(under)/include/simd_json.h
+	install -m 644 build/libsimd_json.a $(under)/lib/libsimd_json.a
+	install -m 755 build/libsimd_json.so $(under)/lib/libsimd_json.so
+	sed 's|@PREFIX@|$(abspath $(PREFIX))|' simd_json.pc.in > $(under)/lib/pkgconfig/simd_json.pc
+	install -m 644 man/simd_json.3 $(under)/share/man/man3/simd_json.3
 
 uninstall:
-	rm -f $(DESTDIR)$(PREFIX)/bin/jtape $(DESTDIR)$(PREFIX)/share/man/man1/jtape.1
+	rm -f $(under)/bin/jtape $(under)/share/man/man1/jtape.1 $(under)/include/simd_json.h $(under)/lib/libsimd_json.a \
+		$(under)/lib/libsimd_json.so $(under)/lib/pkgconfig/simd_json.pc $(under)/share/man/man3/simd_json.3
 
 has-rt:
 	@command -v rt >/dev/null || { echo "rt is not on the PATH: put the folder bin of a Rattle kit there, as in PATH=KIT/bin:\$$PATH, and run make again" >&2; exit 1; }

@@ -2,13 +2,14 @@
 //   harness ROUNDS TEXT.. -- CONTENDER..
 // A sample reads copies of one text, of 1 MiB together or of SAMPLE bytes, where that is in the environment.
 // A contender is simdjson, stage1 (simdjson's), rapidjson, yajl, serde_json=LIBRARY.so, or ours: parse-LEVEL=LIBRARY.so,
-// scan-LEVEL=LIBRARY.so, or refuse-LEVEL=LIBRARY.so, which is timed at texts that it refuses, and at no other.
+// scan-LEVEL=LIBRARY.so, c-LEVEL=LIBRARY.so (the library for C), or refuse-LEVEL=LIBRARY.so, which is timed at texts that it refuses, and at no other.
 // Writes a line for each text and contender: its path, its bytes, what is timed, the contender, and the nanoseconds of a
 // byte at the fastest round, or `-` where the text was refused. Libraries of one LEVEL that differ in where the code lies are
 // contenders of one name, with a line each. A contender that is not installed is named on standard error. Those who count,
 // count the same, or nothing is told: that is the test that each did the work.
 #include <dlfcn.h>
 #include <malloc.h>
+#include <simd_json.h>
 
 #include <algorithm>
 #include <chrono>
@@ -185,6 +186,28 @@ static void add_refuse(std::vector<Contender> &all, const std::string &level, co
                    })});
 }
 
+// The library for C makes its buffers at each call. There is room for as many nodes and bytes of text as the text has bytes.
+static void add_c(std::vector<Contender> &all, const std::string &level, const std::string &path) {
+    auto *check = symbol<decltype(simd_json_check)>(path, "simd_json_check");
+    all.push_back({Contender::Parse, "simd_json C check, " + level, each([check](uint8_t *text, size_t len) -> int64_t {
+                       simd_json_place place;
+                       return check(text, len, 1024, &place) == SIMD_JSON_OK ? 0 : -1;
+                   })});
+    struct Lent {
+        std::vector<simd_json_node> nodes;
+        std::vector<uint8_t> text;
+    };
+    auto lent = std::make_shared<Lent>();
+    auto *tape = symbol<decltype(simd_json_tape)>(path, "simd_json_tape");
+    all.push_back({Contender::Parse, "simd_json C tape, " + level, each([tape, lent](uint8_t *text, size_t len) -> int64_t {
+                       if (lent->text.size() < len) lent->nodes.resize(len), lent->text.resize(len);
+                       simd_json_room room;
+                       simd_json_place place;
+                       int status = tape(text, len, 1024, lent->nodes.data(), len, lent->text.data(), len, &room, &place);
+                       return status == SIMD_JSON_OK ? int64_t(room.nodes) : -1;
+                   })});
+}
+
 static void add_scan(std::vector<Contender> &all, const std::string &level, const std::string &path) {
     all.push_back({Contender::Scan, "simd_json scan, " + level, all_by(path, "simd_json_bench_scan_all"), true});
 }
@@ -199,6 +222,7 @@ static void add(std::vector<Contender> &all, const std::string &word) {
     else if (name == "serde_json") add_serde_json(all, path);
     else if (name.rfind("parse-", 0) == 0) add_parse(all, name.substr(6), path);
     else if (name.rfind("refuse-", 0) == 0) add_refuse(all, name.substr(7), path);
+    else if (name.rfind("c-", 0) == 0) add_c(all, name.substr(2), path);
     else if (name.rfind("scan-", 0) == 0) add_scan(all, name.substr(5), path);
     else stop("no contender " + word);
 }

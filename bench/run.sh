@@ -25,19 +25,24 @@ fi
 # code, 16 bytes up or down, can change what a text costs by half, and is chance. So the code is linked behind 0, 16, 32 bytes
 # of padding and so on, each of these is timed, and the tables have the median. The others are timed where they lie.
 parses=
+calls=
 scans=
 refusals=
 for level in $levels; do
     say "proving and building the library at $level"
     (cd crates/simd_json_bench && rt lib --cpu "$level") > "$OUT/$level.log" || { tail -n 20 "$OUT/$level.log" >&2; exit 1; }
     cp crates/simd_json_bench/out/libsimd_json_bench.a "$OUT/$level.a"
+    make -s library CPU="$level" into="$OUT/c-$level" > "$OUT/c-$level.log" 2>&1 || { tail -n 20 "$OUT/c-$level.log" >&2; exit 1; }
     placement=0
     while [ "$placement" -lt "$PLACEMENTS" ]; do
         library=$OUT/$level-$placement.so
         echo "__asm__(\".text; .fill 16 * $placement, 1, 0x90\");" | cc -c -x c - -o "$OUT/padding.o"
         cc -shared -o "$library" "$OUT/padding.o" -Wl,--whole-archive "$OUT/$level.a" -Wl,--no-whole-archive \
             "$KIT/c/liblibc_c.a" "$KIT/c/libos_c.a" -Wl,-Bsymbolic
+        cc -shared -o "$OUT/c-$level-$placement.so" "$OUT/padding.o" \
+            -Wl,--whole-archive "$OUT/c-$level/libsimd_json.a" -Wl,--no-whole-archive -Wl,-Bsymbolic
         parses="$parses parse-${level#x86-64-}=$library"
+        calls="$calls c-${level#x86-64-}=$OUT/c-$level-$placement.so"
         scans="$scans scan-${level#x86-64-}=$library"
         refusals="$refusals refuse-${level#x86-64-}=$library"
         placement=$((placement + 1))
@@ -50,7 +55,7 @@ for library in simdjson yajl; do
     if echo 'int main() {}' | c++ -x c++ - -o "$OUT/probe" -l$library 2> /dev/null; then libraries="$libraries -l$library"; fi
 done
 # shellcheck disable=SC2086
-c++ -std=c++20 -O3 -march=native -DNDEBUG -DRAPIDJSON_SSE42 bench/harness.cpp -o "$OUT/harness" $libraries -ldl
+c++ -std=c++20 -O3 -march=native -DNDEBUG -DRAPIDJSON_SSE42 -Iinclude bench/harness.cpp -o "$OUT/harness" $libraries -ldl
 
 REGISTRY=/usr/share/cargo/registry
 serde=
@@ -67,7 +72,7 @@ fi
 python3 bench/texts.py "$OUT/texts"
 say "timing"
 # shellcheck disable=SC2086
-"$OUT/harness" "$ROUNDS" "$OUT"/texts/kinds/*.json "$@" -- simdjson stage1 rapidjson yajl $serde $parses $scans > "$OUT/kinds.tsv"
+"$OUT/harness" "$ROUNDS" "$OUT"/texts/kinds/*.json "$@" -- simdjson stage1 rapidjson yajl $serde $parses $calls $scans > "$OUT/kinds.tsv"
 # shellcheck disable=SC2086
 "$OUT/harness" "$ROUNDS" "$OUT"/texts/sizes/*.json -- simdjson $parses > "$OUT/sizes.tsv"
 # shellcheck disable=SC2086

@@ -94,6 +94,7 @@ def means(*parts):
     return "; ".join(
         f"{contender.removeprefix('simd_json ')} {shown(mean([of.ratio(t, contender) for of in parts for t in of.sizes]))}"
         for contender in parts[0].contenders("parse", ours=True)
+        if all(contender in of.parts for of in parts)
     )
 
 

@@ -1,0 +1,135 @@
+-- The texts of a document are together no longer than its bytes, and nor is its compact text.
+use Rattle.std.proofs.Common.{◌≡◌, ◌≤◌, ◌+◌, ◌/◌, ◌%◌, ◌==◌, ℕ, List, [], ◌∷◌, ◌++◌, length, length-append, Bool, true, false, cond, None, Result, Ok, Err, IfOk, String, string_bytes, flat_map, codes, arith, subst, sym, ◌∙◌}
+use Rattle.std.specs.Char.{digit_char}
+use Rattle.simd_json_parts.specs.Bytes.{backspace, tab, line_feed, form_feed, carriage_return, quote, colon, backslash, right_bracket, right_brace, is_control}
+use Rattle.simd_json_parts.specs.Document.{Document, null, boolean, integer, decimal, string, array, object, Elements, no_elements, element, Members, no_members, member}
+use Rattle.simd_json_parts.specs.Listing.{listing, elements_listing, members_listing}
+use Rattle.simd_json_parts.specs.Nodes.{Item}
+use Rattle.simd_json_parts.specs.Printed.{escaped_byte, quoted, compact, compact_elements, more_compact_elements, compact_members, more_compact_members}
+use Rattle.simd_json_parts.proofs.Printing.Shortest.{compact-shortest}
+use Rattle.simd_json.specs.Parsed.{IsParse, IsParsed}
+use Rattle.simd_json.proofs.Listed.{known}
+use Rattle.simd_json_c.specs.Nodes.{room_for, text_of, texts}
+use Rattle.simd_json_c.specs.declared.nodes.Room.{Room}
+
+texts-append : (xs ys : List Item) → length (texts (xs ++ ys)) ≡ length (texts xs) + length (texts ys)
+texts-append [] ys = omega arith
+texts-append (x ∷ xs) ys =
+    omega (arith, length-append (text_of x) (texts (xs ++ ys)), length-append (text_of x) (texts xs), texts-append xs ys)
+
+-- ---- strings: each byte is printed as one at least
+
+either-some : (b : Bool) (xs ys : List ℕ) → 1 ≤ length xs → 1 ≤ length ys → 1 ≤ length (cond b xs ys)
+either-some true xs ys some more = some
+either-some false xs ys some more = more
+
+escaped-some : (x : ℕ) → 1 ≤ length (escaped_byte x)
+escaped-some x =
+    either-some (x == quote) (codes "\\\"") _ (omega arith) (either-some (x == backslash) (codes "\\\\") _ (omega arith)
+    (either-some (x == backspace) (codes "\\b") _ (omega arith) (either-some (x == tab) (codes "\\t") _ (omega arith)
+    (either-some (x == line_feed) (codes "\\n") _ (omega arith) (either-some (x == form_feed) (codes "\\f") _ (omega arith)
+    (either-some (x == carriage_return) (codes "\\r") _ (omega arith)
+    (either-some (is_control x) (codes "\\u00" ++ digit_char (x / 16) ∷ digit_char (x % 16) ∷ []) (x ∷ []) (omega arith)
+    (omega arith))))))))
+
+escaped-all : (t : List ℕ) → length t ≤ length (flat_map escaped_byte t)
+escaped-all [] = omega arith
+escaped-all (x ∷ t) =
+    omega (arith, length-append (escaped_byte x) (flat_map escaped_byte t), escaped-some x, escaped-all t)
+
+quoted-longer : (t : List ℕ) → length t ≤ length (quoted t)
+unfolding quoted
+quoted-longer t = omega (arith, length-append (flat_map escaped_byte t) (quote ∷ []), escaped-all t)
+
+-- ---- documents
+
+mutual
+  value-texts : (d : Document) → length (texts (listing d)) ≤ length (compact d)
+  value-texts null = omega arith
+  value-texts (boolean b) = omega arith
+  value-texts (integer minus n) = omega arith
+  value-texts (decimal literal) = omega (arith, length-append literal [])
+  value-texts (string t) = omega (arith, length-append t [], quoted-longer t)
+  value-texts (array ds) = omega (arith, length-append (compact_elements ds) (right_bracket ∷ []), elements-texts ds)
+  value-texts (object ms) = omega (arith, length-append (compact_members ms) (right_brace ∷ []), members-texts ms)
+
+  elements-texts : (ds : Elements) → length (texts (elements_listing ds)) ≤ length (compact_elements ds)
+  elements-texts no_elements = omega arith
+  elements-texts (element d ds) =
+      omega (
+        arith,
+        texts-append (listing d) (elements_listing ds),
+        length-append (compact d) (more_compact_elements ds),
+        value-texts d,
+        more_elements-texts ds,
+      )
+
+  more_elements-texts : (ds : Elements) → length (texts (elements_listing ds)) ≤ length (more_compact_elements ds)
+  more_elements-texts no_elements = omega arith
+  more_elements-texts (element d ds) =
+      omega (
+        arith,
+        texts-append (listing d) (elements_listing ds),
+        length-append (compact d) (more_compact_elements ds),
+        value-texts d,
+        more_elements-texts ds,
+      )
+
+  members-texts : (ms : Members) → length (texts (members_listing ms)) ≤ length (compact_members ms)
+  members-texts no_members = omega arith
+  members-texts (member k d ms) =
+      omega (
+        arith,
+        length-append k (texts (listing d ++ members_listing ms)),
+        texts-append (listing d) (members_listing ms),
+        length-append (quoted k) (colon ∷ (compact d ++ more_compact_members ms)),
+        length-append (compact d) (more_compact_members ms),
+        quoted-longer k,
+        value-texts d,
+        more_members-texts ms,
+      )
+
+  more_members-texts : (ms : Members) → length (texts (members_listing ms)) ≤ length (more_compact_members ms)
+  more_members-texts no_members = omega arith
+  more_members-texts (member k d ms) =
+      omega (
+        arith,
+        length-append k (texts (listing d ++ members_listing ms)),
+        texts-append (listing d) (members_listing ms),
+        length-append (quoted k) (colon ∷ (compact d ++ more_compact_members ms)),
+        length-append (compact d) (more_compact_members ms),
+        quoted-longer k,
+        value-texts d,
+        more_members-texts ms,
+      )
+
+-- ---- of what is parsed
+
+texts-within : (b : List ℕ) (limit : ℕ) (ns : List Item) → IsParsed b limit ns → length (texts ns) ≤ length b
+texts-within b limit ns p =
+    let own : length (texts (listing p.document)) ≤ length b =
+    omega (arith, compact-shortest b p.document p.denoted p.within.integers, value-texts p.document) in
+    subst (λ ms. length (texts ms) ≤ length b) (sym p.listed) own
+
+-- of the nodes that are handed on
+pub same-texts-within : (b : List ℕ) (limit : ℕ) (ms ns : List Item) → ms ≡ ns → IsParsed b limit ns
+    → length (texts ms) ≤ length b
+same-texts-within b limit ms ns same p =
+    subst (λ ls. length (texts ls) ≤ length b) (sym same) (texts-within b limit ns p)
+
+pub room-within : (b : List ℕ) (limit capacity : ℕ) (ns : List Item) (listed : List ℕ) (room : Room)
+    → IsParse b limit capacity None ns listed → room ≡ room_for ns
+    → (room.nodes ≤ length b) × (room.text ≤ length b)
+room-within b limit capacity ns listed room p is =
+    let few : length ns ≤ length b = omega (arith, p.few.0, p.few.1) in
+    subst (λ r. (r.nodes ≤ length b) × (r.text ≤ length b)) (sym is) (few, texts-within b limit ns p.parsed)
+
+pub compact-within : {A E : Type 0} (r : Result (String A) E) (b : List ℕ) (limit : ℕ) (ns : List Item) (d : Document)
+    → IsParsed b limit ns → listing d ≡ ns → IfOk r (λ text. string_bytes text ≡ compact d)
+    → IfOk r (λ text. length (string_bytes text) ≤ length b)
+compact-within (Ok text) b limit ns d p is same =
+    let shortest : length (compact d) ≤ length b =
+    subst (λ e. length (compact e) ≤ length b) (sym (known d p.document (is ∙ p.listed)))
+    (compact-shortest b p.document p.denoted p.within.integers) in
+    subst (λ t. length t ≤ length b) (sym same) shortest
+compact-within (Err e) b limit ns d p is same = tt

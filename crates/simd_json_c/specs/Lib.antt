@@ -1,0 +1,4 @@
+pub mod Statuses
+pub mod Nodes
+pub mod Calls
+pub mod Names

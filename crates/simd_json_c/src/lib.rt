@@ -1,0 +1,22 @@
+//! What a program in C calls: `include/simd_json.h` declares and documents each export.
+//!
+//! A slice is a pointer and a length. A [`Global`](std::alloc::Global) takes no bytes, so C passes nothing for
+//! it. No export requires anything of its arguments.
+#![tactic(auto)]
+
+mod check;
+mod copies;
+mod names;
+mod nodes;
+mod print;
+mod status;
+mod tape;
+#[cfg(test)]
+mod tests;
+
+pub use check::simd_json_check;
+pub use names::{simd_json_kind_name, simd_json_status_name};
+pub use nodes::{Node, Room};
+pub use print::{simd_json_compact, simd_json_pretty};
+pub use status::Place;
+pub use tape::simd_json_tape;

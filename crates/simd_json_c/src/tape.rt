@@ -1,0 +1,48 @@
+//! The nodes of a document.
+ghost use Rattle.std.specs.Prelude.{◌≡◌, ◌≤◌, List, length, IfOk, IfErr, Some, None};
+ghost use Rattle.simd_json_c.specs.Calls.{ArePut, IsRead, IsTape};
+ghost use Rattle.simd_json_c.specs.Nodes.{room_for};
+ghost use Rattle.simd_json_parts.specs.Nodes.{Item};
+
+use crate::nodes::{Node, Room, lend};
+use crate::status::{Place, reported};
+use simd_json::{Buffers, Result, to_tape_with_buffers};
+use std::alloc::Global;
+
+fn tape(
+    alloc: Global,
+    input: &mut [u8],
+    max_depth: usize,
+    nodes: &mut [Node],
+    text: &mut [u8],
+    room: &mut Room,
+) -> Result<i32>
+    ensures lent { IfOk result (λ status. (ns : List Item) × IsRead input.old max_depth None ns
+        × (room.new ≡ room_for ns) × ArePut ns status nodes.old nodes.new text.old text.new) }
+    ensures few { IfOk result (λ _.
+        (room.new.nodes ≤ length input.old) × (room.new.text ≤ length input.old)) }
+    ensures refused { IfErr result (λ e. (ns : List Item) × IsRead input.old max_depth (Some e) ns
+        × (room.new ≡ room.old) × (nodes.new ≡ nodes.old) × (text.new ≡ text.old)) }
+{
+    let most = input.len();
+    let mut buffers = Buffers::with_max_depth(alloc, 0, max_depth)?;
+    let tape = to_tape_with_buffers(input, &mut buffers)?;
+    Ok(lend(tape.nodes(), most, nodes, text, room))
+}
+
+/// The nodes of a document, and the texts of its strings and decimals, in memory that is lent.
+#[unsafe(no_mangle)]
+pub extern "C" fn simd_json_tape(
+    alloc: Global,
+    input: &mut [u8],
+    max_depth: usize,
+    nodes: &mut [Node],
+    text: &mut [u8],
+    room: &mut Room,
+    place: &mut Place,
+) -> i32
+    ensures { IsTape input.old max_depth result place.new room.old room.new
+        nodes.old nodes.new text.old text.new }
+{
+    reported(tape(alloc, input, max_depth, nodes, text, room), place)
+}

@@ -1,0 +1,142 @@
+"""JSON by libsimd_json.so, through ctypes.
+
+    import simd_json
+    json = simd_json.Library("build/libsimd_json.so")
+    json.loads(b'{"the_answer": 42}')["the_answer"]
+
+As a program, `python3 simd_json.py LIBRARY < TEXT` prints the text without whitespace.
+"""
+import ctypes
+import sys
+from ctypes import POINTER, byref, c_int32, c_size_t, c_uint32, c_uint64, c_void_p
+
+NULL, BOOL, I64, U64, I128, U128, DECIMAL, STRING, ARRAY, OBJECT = range(10)
+TOO_LITTLE_ROOM = 19
+
+
+class Place(ctypes.Structure):
+    _fields_ = [("index", c_size_t), ("character", c_uint32)]
+
+
+class Node(ctypes.Structure):
+    _fields_ = [("kind", c_uint32), ("len", c_size_t), ("value", c_uint64), ("high", c_uint64)]
+
+
+class Room(ctypes.Structure):
+    _fields_ = [("nodes", c_size_t), ("text", c_size_t)]
+
+
+class Refused(ValueError):
+    """The input is no document within the limits."""
+
+    def __init__(self, name, status, place):
+        super().__init__(f"{name} at character {place.index}")
+        self.status, self.index, self.character = status, place.index, place.character
+
+
+class Library:
+    def __init__(self, path):
+        library = ctypes.CDLL(path)
+        given = [c_void_p, c_size_t, c_size_t]
+        self._check = self._export(library, "check", c_int32, given + [POINTER(Place)])
+        self._tape = self._export(library, "tape", c_int32, given + [
+            POINTER(Node), c_size_t, c_void_p, c_size_t, POINTER(Room), POINTER(Place)])
+        printed = given + [c_void_p, c_size_t, POINTER(c_size_t), POINTER(Place)]
+        self._compact = self._export(library, "compact", c_int32, printed)
+        self._pretty = self._export(library, "pretty", c_int32, printed)
+        self._status_name = self._export(library, "status_name", c_size_t, [c_int32, c_void_p, c_size_t])
+        self._kind_name = self._export(library, "kind_name", c_size_t, [c_uint32, c_void_p, c_size_t])
+
+    @staticmethod
+    def _export(library, name, result, arguments):
+        export = getattr(library, "simd_json_" + name)
+        export.restype, export.argtypes = result, arguments
+        return export
+
+    @staticmethod
+    def _name(call, number):
+        out = ctypes.create_string_buffer(32)
+        length = call(number, out, len(out))
+        return out.raw[:length].decode()
+
+    def status_name(self, status):
+        return self._name(self._status_name, status)
+
+    def kind_name(self, kind):
+        return self._name(self._kind_name, kind)
+
+    def _refuse(self, status, place):
+        raise Refused(self.status_name(status), status, place)
+
+    def check(self, data, max_depth=1024):
+        """Raises Refused where the bytes are no document."""
+        place = Place()
+        status = self._check(ctypes.create_string_buffer(data, len(data)), len(data), max_depth, byref(place))
+        if status:
+            self._refuse(status, place)
+
+    def tape(self, data, max_depth=1024):
+        """The nodes, and the bytes of their texts."""
+        nodes, text, room, place = (Node * len(data))(), ctypes.create_string_buffer(len(data)), Room(), Place()
+        while True:
+            status = self._tape(ctypes.create_string_buffer(data, len(data)), len(data), max_depth, nodes, len(nodes),
+                                text, len(text), byref(room), byref(place))
+            if status != TOO_LITTLE_ROOM:
+                break
+            nodes, text = (Node * room.nodes)(), ctypes.create_string_buffer(room.text)
+        if status:
+            self._refuse(status, place)
+        return nodes[:room.nodes], text.raw[:room.text]
+
+    def loads(self, data, max_depth=1024, decimal=float):
+        """The value, as json.loads has it. `decimal` is called with the literal of a fraction or exponent."""
+        nodes, text = self.tape(data, max_depth)
+
+        def string(node):
+            return text[node.value:node.value + node.len].decode()
+
+        def read(at):
+            node = nodes[at]
+            if node.kind in (I64, I128):
+                number = node.high << 64 | node.value
+                return (number - (1 << 128) if node.high >> 63 else number), at + 1
+            if node.kind in (U64, U128):
+                return node.high << 64 | node.value, at + 1
+            if node.kind == ARRAY:
+                items, at = [], at + 1
+                for _ in range(node.len):
+                    item, at = read(at)
+                    items.append(item)
+                return items, at
+            if node.kind == OBJECT:
+                pairs, at = {}, at + 1
+                for _ in range(node.len):
+                    pairs[string(nodes[at])], at = read(at + 1)
+                return pairs, at
+            scalar = {NULL: lambda: None, BOOL: lambda: bool(node.value), DECIMAL: lambda: decimal(string(node)),
+                      STRING: lambda: string(node)}
+            return scalar[node.kind](), at + 1
+
+        return read(0)[0]
+
+    def _printed(self, call, data, max_depth):
+        out, needed, place = ctypes.create_string_buffer(len(data)), c_size_t(), Place()
+        while True:
+            status = call(ctypes.create_string_buffer(data, len(data)), len(data), max_depth, out, len(out),
+                          byref(needed), byref(place))
+            if status != TOO_LITTLE_ROOM:
+                break
+            out = ctypes.create_string_buffer(needed.value)
+        if status:
+            self._refuse(status, place)
+        return out.raw[:needed.value]
+
+    def compact(self, data, max_depth=1024):
+        return self._printed(self._compact, data, max_depth)
+
+    def pretty(self, data, max_depth=1024):
+        return self._printed(self._pretty, data, max_depth)
+
+
+if __name__ == "__main__":
+    print(Library(sys.argv[1]).compact(sys.stdin.buffer.read()).decode())

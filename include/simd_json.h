@@ -1,0 +1,165 @@
+/* simd_json.h: a JSON parser (RFC 8259) whose results are proved. See also simd_json(3).
+ *
+ *     #include <simd_json.h>
+ *     #include <stdio.h>
+ *     #include <string.h>
+ *
+ *     int main(void) {
+ *         char input[] = "{\"the_answer\": 42}";
+ *         simd_json_node nodes[16];
+ *         char text[32];
+ *         simd_json_room room;
+ *         simd_json_place place;
+ *         int status = simd_json_tape(input, strlen(input), 1024, nodes, 16, text, 32, &room, &place);
+ *         if (status != SIMD_JSON_OK) {
+ *             fprintf(stderr, "refused: status %d at byte %zu\n", status, place.index);
+ *             return 1;
+ *         }
+ *         for (size_t i = 0; i + 1 < room.nodes; i++)
+ *             if (nodes[i].kind == SIMD_JSON_STRING && nodes[i].len == 10
+ *                 && memcmp(text + nodes[i].value, "the_answer", 10) == 0)
+ *                 printf("%llu\n", (unsigned long long)nodes[i + 1].value);
+ *     }
+ *
+ * Lengths and indexes are in bytes, of `nodes` in nodes.
+ *
+ * Every call works alone: nothing is kept between calls, nothing is locked, and threads may call at the same time. All
+ * memory that a call allocates is freed before it returns, by malloc, realloc and free of the C library; in a signal
+ * handler, or in the forked child of a process with threads, these can't be called, and so neither can this library.
+ *
+ * Pointers are to memory of the caller, which a call uses until it returns. The pieces may not overlap. A pointer may be
+ * null where its length is 0. Nothing past a length is read or written.
+ *
+ * INPUT IS OVERWRITTEN: escapes are decoded in place, and afterwards its contents are unspecified. Pass a copy of what is
+ * needed again. It needs no terminator and no padding.
+ *
+ * `max_depth` is how many arrays and objects may be open at a time: 1024 is usual, 0 allows scalars only.
+ */
+#ifndef SIMD_JSON_H
+#define SIMD_JSON_H
+
+#include <stddef.h>
+#include <stdint.h>
+
+#ifdef __cplusplus
+extern "C" {
+#endif
+
+/* What a call returns: SIMD_JSON_OK, or why there is no result. The first error of the input is reported: one of the
+ * whole input, in the order below, and else the first at a token. */
+enum {
+    SIMD_JSON_OK = 0,
+
+    /* An allocation failed. Size and encoding are right. No call aborts the process. */
+    SIMD_JSON_OUT_OF_MEMORY = 1,
+
+    /* Of the whole input: index 0, no character. */
+    SIMD_JSON_INPUT_TOO_LARGE = 2, /* more than 4,294,967,295 bytes */
+    SIMD_JSON_INVALID_UTF8 = 3,    /* not UTF-8 (RFC 3629) */
+    SIMD_JSON_SYNTAX = 4,          /* a string is left open, or holds a byte below 0x20 (section 7); with a character: the
+                                      input ends early, reported at the last token */
+    SIMD_JSON_EOF = 5,             /* nothing but whitespace */
+
+    /* At a token: its index, and the byte there. */
+    SIMD_JSON_INTERNAL_ERROR = 6,           /* no value where one is expected; or more text after the root container,
+                                               reported at its closing bracket */
+    SIMD_JSON_EXPECTED_ARRAY_CONTENT = 7,   /* no `,` or `]` after an element */
+    SIMD_JSON_EXPECTED_OBJECT_CONTENT = 8,  /* no key or `}` after `{`, no `,` or `}` after a member */
+    SIMD_JSON_EXPECTED_OBJECT_KEY = 9,      /* no key after `,` */
+    SIMD_JSON_EXPECTED_OBJECT_COLON = 10,   /* no `:` after a key */
+    SIMD_JSON_TRAILING_DATA = 11,           /* more text after a root scalar, reported at the scalar */
+    SIMD_JSON_DEPTH_LIMIT_EXCEEDED = 12,    /* more than max_depth containers are opened */
+    SIMD_JSON_EXPECTED_TRUE = 13,           /* another word that begins with `t` */
+    SIMD_JSON_EXPECTED_FALSE = 14,          /* with `f` */
+    SIMD_JSON_EXPECTED_NULL = 15,           /* with `n` */
+    SIMD_JSON_INVALID_NUMBER = 16,          /* malformed, or an integer out of range (section 6) */
+    SIMD_JSON_INVALID_ESCAPE = 17,          /* a backslash before a byte that no escape has (section 7) */
+    SIMD_JSON_INVALID_UNICODE_CODEPOINT = 18, /* a malformed `\u` escape, or a lone surrogate (section 7) */
+
+    /* The input is a document, and the memory for its result is too small. */
+    SIMD_JSON_TOO_LITTLE_ROOM = 19
+};
+
+/* Where an input is refused: a byte offset into it, and the byte there. Index 0 and SIMD_JSON_NO_CHARACTER where the
+ * error is of the whole input, and where there is none. */
+typedef struct {
+    size_t index;
+    uint32_t character;
+} simd_json_place;
+
+#define SIMD_JSON_NO_CHARACTER UINT32_MAX
+
+/* What a node is. */
+enum {
+    SIMD_JSON_NULL = 0,
+    SIMD_JSON_BOOL = 1,    /* value is 0 or 1 */
+    SIMD_JSON_I64 = 2,     /* written with `-`, at least -2^63: (int64_t)value */
+    SIMD_JSON_U64 = 3,     /* written without `-`, at most 2^64 - 1: value */
+    SIMD_JSON_I128 = 4,    /* written with `-`, at least -2^127 */
+    SIMD_JSON_U128 = 5,    /* written without `-`, at most 2^128 - 1 */
+    SIMD_JSON_DECIMAL = 6, /* a number with a fraction or an exponent: its literal, len bytes of text from value on */
+    SIMD_JSON_STRING = 7,  /* a string or a key: its UTF-8 without escapes, len bytes of text from value on */
+    SIMD_JSON_ARRAY = 8,   /* len elements, and value nodes beneath */
+    SIMD_JSON_OBJECT = 9   /* len pairs, and value nodes beneath */
+};
+
+/* A node of a tape: a scalar, a key, or the header of a container, whose members' nodes follow it; a member of an object
+ * is its key's node, then its value's. The next sibling of a container is at its own index + 1 + value.
+ *
+ * An integer of each kind is the number high * 2^64 + value, in two's complement where it is signed, so
+ * (__int128)((unsigned __int128)high << 64 | value) is any integer but the greater half of U128. Fields of which nothing is
+ * said are 0. */
+typedef struct {
+    uint32_t kind;
+    size_t len;
+    uint64_t value;
+    uint64_t high;
+} simd_json_node;
+
+/* How many nodes, and how many bytes of text. */
+typedef struct {
+    size_t nodes;
+    size_t text;
+} simd_json_room;
+
+/* Whether the input is a document. Writes *place. */
+int32_t simd_json_check(void *input, size_t len, size_t max_depth, simd_json_place *place);
+
+/* The nodes of a document, in preorder, and the texts of its strings and decimals, one after another. Writes *place.
+ *
+ * OK: *room is how many of each there are; nothing behind them is written.
+ * TOO_LITTLE_ROOM: *room is what is needed (pass a fresh copy of the input with it), and nodes and text are unchanged.
+ * Any other status: *room, nodes and text are unchanged.
+ *
+ * A document has no more nodes than bytes, and its texts together no more bytes than it: with room for `len` of both,
+ * TOO_LITTLE_ROOM is never returned, and the texts are gone through once. */
+int32_t simd_json_tape(void *input, size_t len, size_t max_depth, simd_json_node *nodes, size_t nodes_len, void *text,
+                       size_t text_len, simd_json_room *room, simd_json_place *place);
+
+/* The document as text, without whitespace. A decimal is its literal, an integer its digits; in strings a quote, a
+ * backslash and bytes below 0x20 are escaped. Writes *place.
+ *
+ * OK: *needed is the length of the text, which is at the front of out; nothing behind it is written. There is no
+ * terminator.
+ * TOO_LITTLE_ROOM: *needed is the length that is needed, and out is unchanged. `len` bytes of out are always enough.
+ * Any other status: *needed and out are unchanged. */
+int32_t simd_json_compact(void *input, size_t len, size_t max_depth, void *out, size_t out_len, size_t *needed,
+                          simd_json_place *place);
+
+/* The same with a line for each member, after two spaces for each container that is open there. It can be much longer than
+ * the input. */
+int32_t simd_json_pretty(void *input, size_t len, size_t max_depth, void *out, size_t out_len, size_t *needed,
+                         simd_json_place *place);
+
+/* The name of a status, as "InvalidNumber", or of a kind of node, as "Decimal". Returns its length, at most
+ * SIMD_JSON_NAME_MAX, and writes it to the front of out where it fits, without a terminator: printf("%.*s", (int)n, out).
+ * 0: there is no such status or kind. */
+#define SIMD_JSON_NAME_MAX 23
+size_t simd_json_status_name(int32_t status, void *out, size_t out_len);
+size_t simd_json_kind_name(uint32_t kind, void *out, size_t out_len);
+
+#ifdef __cplusplus
+}
+#endif
+
+#endif

@@ -1,0 +1,62 @@
+#!/bin/sh
+# Calls the library from C and from Python: worked rows, 1,000 mutants against Python's json, memory of each size, each
+# allocation refused, all under valgrind too, and the header's example after an install. Silent where all is well but for a
+# line of what was left out; else it says what differs, and ends with status 1.
+set -eu
+cd "$(dirname "$0")/.."
+if ! command -v cc > /dev/null || ! command -v objcopy > /dev/null; then
+    echo "tests/c.sh: left out: all of it, for want of a C compiler and binutils"
+    exit 0
+fi
+room=$(mktemp -d)
+trap 'rm -rf "$room"' EXIT
+left_out=
+
+make -s library > "$room/log" 2>&1 || { tail -n 20 "$room/log"; exit 1; }
+flags='-std=gnu11 -O1 -Wall -Wextra -Werror -Iinclude'
+for program in rows lent mutants; do
+    # shellcheck disable=SC2086
+    cc $flags tests/c/$program.c build/libsimd_json.a -o "$room/$program"
+done
+# shellcheck disable=SC2086
+cc $flags tests/c/memory.c build/libsimd_json.a -Wl,--wrap=malloc,--wrap=realloc,--wrap=free -o "$room/memory"
+for program in rows lent memory; do "$room/$program"; done
+
+if command -v python3 > /dev/null; then
+    python3 -B tests/c/mutants.py write "$room/answers"
+    "$room/mutants" "$room/answers"
+    python3 -B tests/c/mutants.py compare "$room/answers" build/libsimd_json.so
+else
+    left_out="$left_out the mutants and the calls from Python (no python3);"
+fi
+
+if command -v valgrind > /dev/null; then
+    for program in rows lent "mutants $room/answers"; do
+        [ -e "$room/answers" ] || [ "$program" != "mutants $room/answers" ] || continue
+        # shellcheck disable=SC2086
+        valgrind -q --leak-check=full --error-exitcode=1 "$room"/$program
+    done
+else
+    left_out="$left_out valgrind (not installed);"
+fi
+
+# The header's example, as it stands there, against what `make install` puts into a folder.
+make -s install-library PREFIX="$room/installed"
+sed -n 's/^ \*     //p; /^ \*     }$/q' include/simd_json.h > "$room/example.c"
+grep -v -e '^/\*' -e '^$' examples/c/answer.c | cmp - "$room/example.c" || { echo "examples/c/answer.c is not the header's"; exit 1; }
+example="$room/example.c -o $room/example"
+if command -v pkg-config > /dev/null; then
+    found=$(PKG_CONFIG_PATH="$room/installed/lib/pkgconfig" pkg-config --cflags --libs simd_json)
+else
+    left_out="$left_out pkg-config (not installed);"
+    found="-I$room/installed/include -L$room/installed/lib -lsimd_json"
+fi
+# shellcheck disable=SC2086
+cc $example $found
+printed=$(LD_LIBRARY_PATH="$room/installed/lib" "$room/example")
+[ "$printed" = 42 ] || { echo "the header's example prints '$printed', not 42"; exit 1; }
+if command -v c++ > /dev/null; then
+    echo '#include <simd_json.h>' | c++ -x c++ -Wall -Wextra -Werror -fsyntax-only -Iinclude -
+fi
+
+[ -z "$left_out" ] || echo "tests/c.sh: left out:${left_out%;}"

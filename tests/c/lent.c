@@ -1,0 +1,116 @@
+// Memory of each size from none up to one more than is needed, with a page behind it that may not be touched. Silent where
+// all is well.
+#define _GNU_SOURCE
+#include <simd_json.h>
+#include <stdio.h>
+#include <stdlib.h>
+#include <string.h>
+#include <sys/mman.h>
+
+#define WANT(condition)                                                \
+    do {                                                               \
+        if (!(condition)) printf("lent.c:%d: %s\n", __LINE__, #condition), exit(1); \
+    } while (0)
+
+enum { PAGE = 4096 };
+
+// So many bytes at the end of a page, with a page behind it that may not be touched. They are filled with 0xAA.
+typedef struct {
+    void *page, *at;
+    size_t len;
+} lent;
+
+static lent lend(size_t len) {
+    WANT(len <= PAGE);
+    char *page = mmap(0, 2 * PAGE, PROT_READ | PROT_WRITE, MAP_PRIVATE | MAP_ANONYMOUS, -1, 0);
+    WANT(page != MAP_FAILED && mprotect(page + PAGE, PAGE, PROT_NONE) == 0);
+    memset(page, 0xAA, PAGE);
+    return (lent){page, len ? page + PAGE - len : 0, len};
+}
+
+static lent lend_copy(const char *text, size_t len) {
+    lent copy = lend(len);
+    if (len) memcpy(copy.at, text, len);
+    return copy;
+}
+
+// Nothing before the bytes has been written, and none of them from `from` on.
+static void give_back(lent l, size_t from) {
+    unsigned char *page = l.page;
+    for (size_t i = 0; i < PAGE; i++)
+        if (i < PAGE - l.len || i >= PAGE - l.len + from) WANT(page[i] == 0xAA);
+    munmap(l.page, 2 * PAGE);
+}
+
+static const char document[] = "{\"a\":[1,-2,2.5,\"\\n\\u00e9\",18446744073709551616],\"b\":{\"c\":null,\"d\":true}}";
+static const size_t len = sizeof document - 1;
+// Worked by hand: 14 nodes, with the texts a 2.5 \n\303\251 b c d.
+static const simd_json_room need = {14, 10};
+static const char text[] = "a2.5\n\303\251bcd";
+
+static void tapes(void) {
+    for (size_t a = 0; a <= need.nodes + 1; a++)
+        for (size_t b = 0; b <= need.text + 1; b++) {
+            lent input = lend_copy(document, len), nodes = lend(a * sizeof(simd_json_node)), texts = lend(b);
+            simd_json_room room = {0, 0};
+            simd_json_place place;
+            int status = simd_json_tape(input.at, len, 2, nodes.at, a, texts.at, b, &room, &place);
+            int fits = a >= need.nodes && b >= need.text;
+            WANT(status == (fits ? SIMD_JSON_OK : SIMD_JSON_TOO_LITTLE_ROOM));
+            WANT(room.nodes == need.nodes && room.text == need.text);
+            WANT(!fits || memcmp(texts.at, text, need.text) == 0);
+            give_back(input, len);
+            give_back(nodes, fits ? need.nodes * sizeof(simd_json_node) : 0);
+            give_back(texts, fits ? need.text : 0);
+        }
+}
+
+typedef int32_t print(void *, size_t, size_t, void *, size_t, size_t *, simd_json_place *);
+
+static void prints(print *call, const char *wanted) {
+    for (size_t room = 0; room <= strlen(wanted) + 1; room++) {
+        lent input = lend_copy(document, len), out = lend(room);
+        size_t needed = 0;
+        simd_json_place place;
+        int status = call(input.at, len, 2, out.at, room, &needed, &place);
+        int fits = room >= strlen(wanted);
+        WANT(status == (fits ? SIMD_JSON_OK : SIMD_JSON_TOO_LITTLE_ROOM) && needed == strlen(wanted));
+        WANT(!fits || memcmp(out.at, wanted, needed) == 0);
+        give_back(input, len);
+        give_back(out, fits ? needed : 0);
+    }
+}
+
+static void names(void) {
+    for (size_t room = 0; room <= 9; room++) {
+        lent out = lend(room);
+        WANT(simd_json_kind_name(SIMD_JSON_DECIMAL, out.at, room) == 7);
+        WANT(room < 7 || memcmp(out.at, "Decimal", 7) == 0);
+        give_back(out, room < 7 ? 0 : 7);
+    }
+    for (size_t room = 0; room <= 9; room++) {
+        lent out = lend(room);
+        WANT(simd_json_status_name(SIMD_JSON_SYNTAX, out.at, room) == 6);
+        WANT(room < 6 || memcmp(out.at, "Syntax", 6) == 0);
+        give_back(out, room < 6 ? 0 : 6);
+    }
+}
+
+// No prefix of the document but the whole is one.
+static void prefixes(void) {
+    for (size_t cut = 0; cut <= len; cut++) {
+        lent input = lend_copy(document, cut);
+        simd_json_place place;
+        WANT((simd_json_check(input.at, cut, 2, &place) == SIMD_JSON_OK) == (cut == len));
+        give_back(input, cut);
+    }
+}
+
+int main(void) {
+    tapes();
+    prints(simd_json_compact, "{\"a\":[1,-2,2.5,\"\\n\303\251\",18446744073709551616],\"b\":{\"c\":null,\"d\":true}}");
+    prints(simd_json_pretty, "{\n  \"a\": [\n    1,\n    -2,\n    2.5,\n    \"\\n\303\251\",\n    18446744073709551616\n  ],\n"
+                             "  \"b\": {\n    \"c\": null,\n    \"d\": true\n  }\n}");
+    names();
+    prefixes();
+}

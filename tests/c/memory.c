@@ -1,0 +1,81 @@
+// Each allocation of each call fails in turn: the status says so, nothing that was lent is written, and what was allocated
+// is freed. Built with -Wl,--wrap=malloc,--wrap=realloc,--wrap=free. Silent where all is well.
+#include <simd_json.h>
+#include <stdio.h>
+#include <stdlib.h>
+#include <string.h>
+
+#define WANT(condition)                                                  \
+    do {                                                                 \
+        if (!(condition)) printf("memory.c:%d: %s\n", __LINE__, #condition), exit(1); \
+    } while (0)
+
+void *__real_malloc(size_t);
+void *__real_realloc(void *, size_t);
+void __real_free(void *);
+
+static int allowed = -1; // how many more allocations succeed; -1: all
+static int held;         // blocks that are allocated
+
+static int granted(void) {
+    if (allowed > 0) allowed--;
+    else if (allowed == 0) return 0;
+    return 1;
+}
+
+void *__wrap_malloc(size_t size) {
+    void *block = granted() ? __real_malloc(size) : 0;
+    held += block != 0;
+    return block;
+}
+
+void *__wrap_realloc(void *block, size_t size) {
+    void *moved = granted() ? __real_realloc(block, size) : 0;
+    held += !block && moved;
+    return moved;
+}
+
+void __wrap_free(void *block) {
+    held -= block != 0;
+    __real_free(block);
+}
+
+static const char document[] = "[1,[2,{\"a\":\"\\n\"}],3]";
+static char input[sizeof document], out[64];
+static simd_json_node nodes[16];
+static simd_json_room room;
+static simd_json_place place;
+static size_t needed;
+
+static int check(void) { return simd_json_check(input, sizeof document - 1, 3, &place); }
+static int tape(void) { return simd_json_tape(input, sizeof document - 1, 3, nodes, 16, out, 64, &room, &place); }
+static int compact(void) { return simd_json_compact(input, sizeof document - 1, 3, out, 64, &needed, &place); }
+static int pretty(void) { return simd_json_pretty(input, sizeof document - 1, 3, out, 64, &needed, &place); }
+
+static void each_fails(int call(void)) {
+    int failures = 0, status;
+    do {
+        strcpy(input, document);
+        memset(out, 0, sizeof out);
+        memset(nodes, 0, sizeof nodes);
+        room.nodes = needed = 77;
+        int before = held;
+        allowed = failures++;
+        status = call();
+        allowed = -1;
+        WANT(held == before);
+        if (status != SIMD_JSON_OK) {
+            WANT(status == SIMD_JSON_OUT_OF_MEMORY);
+            WANT(place.index == 0 && place.character == SIMD_JSON_NO_CHARACTER);
+            WANT(room.nodes == 77 && needed == 77 && nodes[0].kind == 0 && out[0] == 0);
+        }
+    } while (status != SIMD_JSON_OK);
+    WANT(failures > 3);
+}
+
+int main(void) {
+    each_fails(check);
+    each_fails(tape);
+    each_fails(compact);
+    each_fails(pretty);
+}
