@@ -37,6 +37,7 @@ use machine::{Machine, Route};
 pub use scalar::{is_valid_false_atom, is_valid_null_atom, is_valid_true_atom};
 use simd_json_parts::error::Result;
 use simd_json_parts::node::Node;
+use core::mem::replace_with;
 use std::alloc::Allocator;
 use text::Text;
 
@@ -142,35 +143,38 @@ pub fn build_tape<'de, A: Allocator>(
     ensures built { OnOk result (IsListed input.old max_depth nodes.new.items) }
     ensures refused { IfErr result (λ e. IsTokenFault e × (descent input.old max_depth ≡ Err e)) }
 {
-    match build_nodes(
-        input,
-        structural_indexes,
-        escape_blocks,
-        stack,
-        nodes,
-        max_depth,
-    ) {
+    let built = replace_with(nodes, input, |nodes, input| {
+        build_nodes(
+            input,
+            structural_indexes,
+            escape_blocks,
+            stack,
+            nodes,
+            max_depth,
+        )
+    });
+    match built {
         Ok(()) => Ok(()),
         Err(fault) => Err(fault.into_error()),
     }
 }
 
-// The nodes of the tape, or the fault of the machine.
+// The list with the nodes of the tape, or the fault of the machine.
 fn build_nodes<'de, A: Allocator>(
     input: &'de mut [u8],
     indexes: &[u32],
     escape_blocks: &[u32],
     stack: &mut [StackState],
-    nodes: &mut Vec<Node<'de>, A>,
+    nodes: Vec<Node<'de>, A>,
     max_depth: usize,
-) -> std::result::Result<(), Fault>
+) -> (Vec<Node<'de>, A>, std::result::Result<(), Fault>)
     requires positions { indexes.now ≡ positions input.old }
     requires escapes { escape_blocks.now ≡ backslash_blocks input.old }
     requires whole { input_fault input.old ≡ None }
-    requires capacities { HasCapacity indexes.now max_depth stack.old (vec_capacity nodes.old) }
-    requires empty { nodes.old.items ≡ [] }
-    ensures capacity { vec_capacity nodes.new ≡ vec_capacity nodes.old }
-    ensures tape { IsTape input.old indexes.now max_depth nodes.new.items result }
+    requires capacities { HasCapacity indexes.now max_depth stack.old (vec_capacity nodes) }
+    requires empty { nodes.items ≡ [] }
+    ensures capacity { vec_capacity result.0 ≡ vec_capacity nodes.entry }
+    ensures tape { IsTape input.old indexes.now max_depth result.0.items result.1 }
 {
     let last = input[indexes[indexes.len() - 1] as usize];
     if last != b']' && last != b'}' {
@@ -183,25 +187,25 @@ fn build_nodes<'de, A: Allocator>(
 }
 
 // There is a copy of the machine for each answer to whether the text has a backslash, and to whether its last
-// position closes a container, so that the loops do not ask. Each is a function of its own, so that its state
-// stays in registers.
+// position closes a container, so that the loops do not ask. Each is a function of its own that has the list of
+// nodes by value, so that its state and the length of the list stay in registers.
 
 #[inline(never)]
 fn shared_tape<'de, A: Allocator>(
     input: &'de [u8],
     indexes: &[u32],
     stack: &mut [StackState],
-    nodes: &mut Vec<Node<'de>, A>,
+    nodes: Vec<Node<'de>, A>,
     max_depth: usize,
-) -> std::result::Result<(), Fault>
+) -> (Vec<Node<'de>, A>, std::result::Result<(), Fault>)
     ghost b: { List ℕ }
     requires input { input.now ≡ b }
     requires plain { PlainFrom b 0 (length b) }
     requires route { IsOnRoute true b indexes.now }
-    requires capacities { HasCapacity indexes.now max_depth stack.old (vec_capacity nodes.old) }
-    requires empty { nodes.old.items ≡ [] }
-    ensures capacity { vec_capacity nodes.new ≡ vec_capacity nodes.old }
-    ensures tape { IsTape b indexes.now max_depth nodes.new.items result }
+    requires capacities { HasCapacity indexes.now max_depth stack.old (vec_capacity nodes) }
+    requires empty { nodes.items ≡ [] }
+    ensures capacity { vec_capacity result.0 ≡ vec_capacity nodes.entry }
+    ensures tape { IsTape b indexes.now max_depth result.0.items result.1 }
 {
     let text = Text::shared(input);
     let mut machine = Machine { text, stack };
@@ -210,7 +214,9 @@ fn shared_tape<'de, A: Allocator>(
         ends_closed: true,
         max_depth,
     };
-    machine.build::<A, 0>(route, nodes)
+    let mut nodes = nodes;
+    let built = machine.build::<A, 0>(route, &mut nodes);
+    (nodes, built)
 }
 
 #[inline(never)]
@@ -219,17 +225,17 @@ fn closed_tape<'de, A: Allocator>(
     indexes: &[u32],
     escape_blocks: &[u32],
     stack: &mut [StackState],
-    nodes: &mut Vec<Node<'de>, A>,
+    nodes: Vec<Node<'de>, A>,
     max_depth: usize,
-) -> std::result::Result<(), Fault>
+) -> (Vec<Node<'de>, A>, std::result::Result<(), Fault>)
     ghost b: { List ℕ }
     requires input { input.old ≡ b }
     requires escapes { escape_blocks.now ≡ backslash_blocks b }
     requires route { IsOnRoute true b indexes.now }
-    requires capacities { HasCapacity indexes.now max_depth stack.old (vec_capacity nodes.old) }
-    requires empty { nodes.old.items ≡ [] }
-    ensures capacity { vec_capacity nodes.new ≡ vec_capacity nodes.old }
-    ensures tape { IsTape b indexes.now max_depth nodes.new.items result }
+    requires capacities { HasCapacity indexes.now max_depth stack.old (vec_capacity nodes) }
+    requires empty { nodes.items ≡ [] }
+    ensures capacity { vec_capacity result.0 ≡ vec_capacity nodes.entry }
+    ensures tape { IsTape b indexes.now max_depth result.0.items result.1 }
 {
     let text = Text::lent(input, escape_blocks);
     let mut machine = Machine { text, stack };
@@ -238,7 +244,9 @@ fn closed_tape<'de, A: Allocator>(
         ends_closed: true,
         max_depth,
     };
-    machine.build::<A, 1>(route, nodes)
+    let mut nodes = nodes;
+    let built = machine.build::<A, 1>(route, &mut nodes);
+    (nodes, built)
 }
 
 #[inline(never)]
@@ -247,17 +255,17 @@ fn open_tape<'de, A: Allocator>(
     indexes: &[u32],
     escape_blocks: &[u32],
     stack: &mut [StackState],
-    nodes: &mut Vec<Node<'de>, A>,
+    nodes: Vec<Node<'de>, A>,
     max_depth: usize,
-) -> std::result::Result<(), Fault>
+) -> (Vec<Node<'de>, A>, std::result::Result<(), Fault>)
     ghost b: { List ℕ }
     requires input { input.old ≡ b }
     requires escapes { escape_blocks.now ≡ backslash_blocks b }
     requires route { IsOnRoute false b indexes.now }
-    requires capacities { HasCapacity indexes.now max_depth stack.old (vec_capacity nodes.old) }
-    requires empty { nodes.old.items ≡ [] }
-    ensures capacity { vec_capacity nodes.new ≡ vec_capacity nodes.old }
-    ensures tape { IsTape b indexes.now max_depth nodes.new.items result }
+    requires capacities { HasCapacity indexes.now max_depth stack.old (vec_capacity nodes) }
+    requires empty { nodes.items ≡ [] }
+    ensures capacity { vec_capacity result.0 ≡ vec_capacity nodes.entry }
+    ensures tape { IsTape b indexes.now max_depth result.0.items result.1 }
 {
     let text = Text::lent(input, escape_blocks);
     let mut machine = Machine { text, stack };
@@ -266,5 +274,7 @@ fn open_tape<'de, A: Allocator>(
         ends_closed: false,
         max_depth,
     };
-    machine.build::<A, 2>(route, nodes)
+    let mut nodes = nodes;
+    let built = machine.build::<A, 2>(route, &mut nodes);
+    (nodes, built)
 }
