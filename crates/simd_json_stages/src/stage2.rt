@@ -32,12 +32,12 @@ mod progress;
 mod scalar;
 mod text;
 
+use core::mem::replace_with;
 use fault::{Fault, FaultKind};
 use machine::{Machine, Route};
 pub use scalar::{is_valid_false_atom, is_valid_null_atom, is_valid_true_atom};
 use simd_json_parts::error::Result;
 use simd_json_parts::node::Node;
-use core::mem::replace_with;
 use std::alloc::Allocator;
 use text::Text;
 
