@@ -1,8 +1,10 @@
 // Times parsers over the same texts, in one process and in turn. run.sh builds and runs it:
 //   harness ROUNDS TEXT.. -- CONTENDER..
 // A sample reads copies of one text, of 1 MiB together or of SAMPLE bytes, where that is in the environment.
+// A text whose name ends with .jsonl is lines of one length: each is read by itself, or all by a parser of streams.
 // A contender is simdjson, stage1 (simdjson's), rapidjson, yajl, serde_json=LIBRARY.so, or ours: parse-LEVEL=LIBRARY.so,
-// scan-LEVEL=LIBRARY.so, c-LEVEL=LIBRARY.so (the library for C), or refuse-LEVEL=LIBRARY.so, which is timed at texts that it refuses, and at no other.
+// scan-LEVEL=LIBRARY.so, c-LEVEL=LIBRARY.so (the library for C), for lines many (simdjson's stream) and stream=LIBRARY.so
+// (serde_json's), or refuse-LEVEL=LIBRARY.so, which is timed at texts that it refuses, and at no other.
 // Writes a line for each text and contender: its path, its bytes, what is timed, the contender, and the nanoseconds of a
 // byte at the fastest round, or `-` where the text was refused. Libraries of one LEVEL that differ in where the code lies are
 // contenders of one name, with a line each. A contender that is not installed is named on standard error. Those who count,
@@ -44,28 +46,39 @@ static size_t sample_bytes() {
     return asked ? strtoull(asked, nullptr, 10) : 1 << 20;
 }
 
-// As many copies of a text as one sample reads, each with 64 zero bytes behind it. Parsers may write to them.
+// As many copies of a text as one sample reads, each with 64 zero bytes behind it, or the lines of a text, one after the other.
+// Parsers may write to them.
 class Copies {
   public:
     explicit Copies(const std::string &text)
         : text(text), stride((text.size() + 64 + 63) / 64 * 64),
-          count(std::clamp<size_t>(sample_bytes() / text.size(), 3, 4096)), room(stride * count + 64) {
-        size_t past = reinterpret_cast<uintptr_t>(room.data()) % 64;
-        first = room.data() + (64 - past) % 64;
+          count(std::clamp<size_t>(sample_bytes() / text.size(), 3, 4096)), one(text.size()), room(stride * count + 128) {
+        align();
+    }
+    Copies(const std::string &lines, size_t line)
+        : text(lines), stride(line), count(lines.size() / line), one(line - 1), room(lines.size() + 128) {
+        for (size_t end = one; end < lines.size(); end += line)
+            if (lines.size() % line || lines[end] != '\n') stop("the lines are not of one length");
+        align();
     }
     void renew() {
-        for (size_t i = 0; i < count; i++) {
-            memcpy(at(i), text.data(), text.size());
-            memset(at(i) + text.size(), 0, 64);
+        for (size_t i = 0; i < count * stride; i += std::max(stride, text.size())) {
+            memcpy(first + i, text.data(), text.size());
+            memset(first + i + text.size(), 0, 64);
         }
     }
     uint8_t *at(size_t i) const { return first + i * stride; }
-    size_t len() const { return text.size(); }
+    size_t len() const { return one; }
 
     const std::string &text;
     const size_t stride, count;
 
   private:
+    void align() {
+        size_t past = reinterpret_cast<uintptr_t>(room.data()) % 64;
+        first = room.data() + (64 - past) % 64;
+    }
+    const size_t one;
     std::vector<uint8_t> room;
     uint8_t *first;
 };
@@ -125,6 +138,31 @@ static void add_simdjson([[maybe_unused]] std::vector<Contender> &all, [[maybe_u
 #endif
 }
 
+// Without a second thread.
+static void add_many([[maybe_unused]] std::vector<Contender> &all) {
+#ifdef SIMDJSON_VERSION
+    for (auto [kernel, level] : {std::pair("westmere", "v2"), std::pair("haswell", "v3")}) {
+        auto *found = simdjson::get_available_implementations()[kernel];
+        if (!found || !found->supported_by_runtime_system()) continue;
+        simdjson::get_active_implementation() = found;
+        auto parser = std::make_shared<simdjson::dom::parser>();
+#ifdef SIMDJSON_THREADS_ENABLED
+        parser->threaded = false;
+#endif
+        all.push_back({Contender::Parse, std::string("simdjson parse_many, ") + level, [parser](const Copies &c, size_t count) -> int64_t {
+                           simdjson::dom::document_stream documents;
+                           if (parser->parse_many(c.at(0), c.stride * count).get(documents)) return -1;
+                           size_t read = 0;
+                           for (auto document : documents) {
+                               if (document.error()) return -1;
+                               read++;
+                           }
+                           return read == count ? 0 : -1;
+                       }});
+    }
+#endif
+}
+
 static void add_rapidjson([[maybe_unused]] std::vector<Contender> &all) {
 #ifdef RAPIDJSON_VERSION_STRING
     all.push_back({Contender::Parse, "rapidjson in place", each([](uint8_t *text, size_t) -> int64_t {
@@ -165,6 +203,11 @@ template <class Function> static Function *symbol(const std::string &path, const
 
 static void add_serde_json(std::vector<Contender> &all, const std::string &path) {
     all.push_back({Contender::Parse, "serde_json Value", each(symbol<int64_t(const uint8_t *, size_t)>(path, "serde_json_value"))});
+}
+
+static void add_stream(std::vector<Contender> &all, const std::string &path) {
+    auto *read = symbol<int64_t(const uint8_t *, size_t)>(path, "serde_json_stream");
+    all.push_back({Contender::Parse, "serde_json stream", [read](const Copies &c, size_t count) { return read(c.at(0), c.stride * count); }});
 }
 
 // Ours over many texts: at the first it makes buffers, which it keeps.
@@ -217,6 +260,8 @@ static void add(std::vector<Contender> &all, const std::string &word) {
     std::string name = word.substr(0, equals), path = word.substr(std::min(equals + 1, word.size()));
     if (name == "simdjson") add_simdjson(all, Contender::Parse);
     else if (name == "stage1") add_simdjson(all, Contender::Scan);
+    else if (name == "many") add_many(all);
+    else if (name == "stream") add_stream(all, path);
     else if (name == "rapidjson") add_rapidjson(all);
     else if (name == "yajl") add_yajl(all);
     else if (name == "serde_json") add_serde_json(all, path);
@@ -264,11 +309,12 @@ static void race(const std::string &path, size_t rounds, const std::vector<std::
     std::ifstream in(path, std::ios::binary);
     std::string text((std::istreambuf_iterator<char>(in)), {});
     if (text.empty()) stop("no text in " + path);
-    Copies copies(text);
+    bool are_lines = path.ends_with(".jsonl");
+    Copies copies = are_lines ? Copies(text, text.find('\n') + 1) : Copies(text);
     auto all = contenders(words);
     int64_t counts[2] = {0, 0};
     // Fewer rounds over the largest texts. The first warms up: its times are the slowest, and the fastest counts.
-    rounds = std::clamp<size_t>((192 << 20) / (copies.count * text.size()), std::min<size_t>(rounds, 2), rounds);
+    rounds = std::clamp<size_t>((192 << 20) / (copies.count * copies.len()), std::min<size_t>(rounds, 2), rounds);
     for (size_t round = 0; round <= rounds; round++)
         for (size_t i = 0; i < all.size(); i++) {
             Contender &next = all[(i + round) % all.size()];

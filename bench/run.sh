@@ -1,7 +1,7 @@
 #!/bin/sh
 # The benchmark: `make bench` calls it. From the top of the repository: sh bench/run.sh [FILE..]
-# Times the texts that bench/texts.py makes, each FILE, and the shapes of bench/shapes.py, which are made to be slow, and prints
-# three tables. ROUNDS says how often, PLACEMENTS at how many places our code is timed. With SAVE=1 the
+# Times the texts that bench/texts.py makes, each FILE, the shapes of bench/shapes.py, which are made to be slow, and a log of
+# 1,000,000 lines, and prints four tables. ROUNDS says how often, PLACEMENTS at how many places our code is timed. With SAVE=1 the
 # tables are put into docs/SPEED.md, between its marks, and docs/speed.svg is drawn; without, build/bench has the chart.
 # It installs nothing: a parser whose package is absent is left out, and named.
 set -eu
@@ -59,12 +59,14 @@ c++ -std=c++20 -O3 -march=native -DNDEBUG -DRAPIDJSON_SSE42 -Iinclude bench/harn
 
 REGISTRY=/usr/share/cargo/registry
 serde=
+stream=
 if command -v cargo > /dev/null && ls -d $REGISTRY/serde_json-* > /dev/null 2>&1; then
     mkdir -p "$OUT/serde_json"
     cp bench/serde_json/Cargo.toml bench/serde_json/lib.rs "$OUT/serde_json/"
     (cd "$OUT/serde_json" && RUSTFLAGS='-C target-cpu=native' cargo build --release --offline -q \
         --config 'source.crates-io.replace-with="system"' --config "source.system.directory=\"$REGISTRY\"")
     serde=serde_json=$OUT/serde_json/target/release/libserde_json_entry.so
+    stream=stream=${serde#serde_json=}
 else
     say "left out: serde_json, which is not installed"
 fi
@@ -76,13 +78,15 @@ say "timing"
 # shellcheck disable=SC2086
 "$OUT/harness" "$ROUNDS" "$OUT"/texts/sizes/*.json -- simdjson $parses > "$OUT/sizes.tsv"
 # shellcheck disable=SC2086
+"$OUT/harness" "$ROUNDS" "$OUT/texts/lines/log.jsonl" -- simdjson many $stream $parses > "$OUT/lines.tsv"
+# shellcheck disable=SC2086
 sh bench/shapes.sh "$OUT" "$ROUNDS" "$OUT/x86-64-v2-0.so" $parses $refusals
 
-python3 bench/tables.py "$OUT/kinds.tsv" "$OUT/sizes.tsv" "$OUT/shapes.tsv" "$OUT/memory.tsv" > "$OUT/tables.md"
+python3 bench/tables.py "$OUT/kinds.tsv" "$OUT/sizes.tsv" "$OUT/shapes.tsv" "$OUT/memory.tsv" "$OUT/lines.tsv" > "$OUT/tables.md"
 python3 bench/chart.py "$OUT/sizes.tsv" > "$OUT/speed.svg"
 cat "$OUT/tables.md"
 if [ "${SAVE:-}" = 1 ]; then
-    python3 bench/tables.py "$OUT/kinds.tsv" "$OUT/sizes.tsv" "$OUT/shapes.tsv" "$OUT/memory.tsv" docs/SPEED.md
+    python3 bench/tables.py "$OUT/kinds.tsv" "$OUT/sizes.tsv" "$OUT/shapes.tsv" "$OUT/memory.tsv" "$OUT/lines.tsv" docs/SPEED.md
     cp "$OUT/speed.svg" docs/speed.svg
     say "docs/SPEED.md and docs/speed.svg have these results"
 else

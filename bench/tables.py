@@ -1,4 +1,4 @@
-"""tables.py KINDS.tsv SIZES.tsv SHAPES.tsv MEMORY.tsv [DOCUMENT]: what the harness measured, as three tables in Markdown.
+"""tables.py KINDS.tsv SIZES.tsv SHAPES.tsv MEMORY.tsv LINES.tsv [DOCUMENT]: what the harness measured, as tables in Markdown.
 
 With a document, they stand there between the marks `<!-- results -->` and `<!-- end of results -->`; else they are printed."""
 import math
@@ -122,8 +122,20 @@ def table_of_shapes(shapes, memory):
     return rows(head, lines)
 
 
+def table_of_lines(lines):
+    """How many lines a second, and how much faster than the fastest of simdjson's."""
+    ((text, size),) = lines.sizes.items()
+    found = lines.contenders("parse", ours=False) + lines.contenders("parse", ours=True)
+    per_line = {c: lines.ns[text, c] and 199 * lines.ns[text, c] for c in found}
+    return rows(
+        ["", "ns a line", "million lines a second", "speed"],
+        [[c, shown(ns), shown(ns and 1000 / ns), shown(lines.ratio(text, c))] for c, ns in per_line.items()],
+    )
+
+
 def main():
     kinds, sizes, shapes, memory = *map(Results, sys.argv[1:4]), sys.argv[4]
+    log = Results(sys.argv[5])
     whole, scan = ("simdjson's best DOM parse", "its best stage 1") if kinds.has_simdjson() else ("the fastest", "the fastest")
     text = (
         f"Speed at the fastest round, ours as the median over the places of its code, as a multiple: of a whole parse over {whole}, "
@@ -134,12 +146,15 @@ def main():
         f"Geometric mean of our speed over {whole}, over all {len(kinds.sizes) + len(sizes.sizes)} texts of both tables: "
         f"{means(kinds, sizes)}.\n\n"
         f"Shapes that are made to be slow: nanoseconds of a byte at 1 MB, at 64 MB (and how many times as much that is).\n\n"
-        f"{table_of_shapes(shapes, memory)}\n"
+        f"{table_of_shapes(shapes, memory)}\n\n"
+        f"A log of {sum(log.sizes.values()) // 200:,} lines of 200 bytes, each line parsed by itself or all as one stream; the speed is "
+        f"over the fastest of {'simdjson' if log.has_simdjson() else 'all'}.\n\n"
+        f"{table_of_lines(log)}\n"
     )
-    if len(sys.argv) == 5:
+    if len(sys.argv) == 6:
         print(text, end="")
         return
-    document = Path(sys.argv[5])
+    document = Path(sys.argv[6])
     marked = re.compile(r"(<!-- results -->\n).*(<!-- end of results -->)", re.DOTALL)
     if not marked.search(document.read_text()):
         sys.exit(f"{document} has no marks for the results")

@@ -1,8 +1,10 @@
 """texts.py FOLDER: writes the texts of the benchmark, the same on every machine.
 
-FOLDER/kinds has one text of each kind, FOLDER/sizes tweets of about 1 kB, 4 kB and so on to 64 MB."""
+FOLDER/kinds has one text of each kind, FOLDER/sizes tweets of about 1 kB, 4 kB and so on to 64 MB, FOLDER/lines a log of
+LINES lines (1,000,000) of 200 bytes."""
 import itertools
 import json
+import os
 import random
 import sys
 from pathlib import Path
@@ -159,14 +161,43 @@ def tweets_of(size):
     return front + compact(last) + "]"
 
 
+def line_of(s, number):
+    """Of exactly 200 bytes with its line feed: the text is as long as it takes."""
+    record = {
+        "time": 1409443200000 + number * 37,
+        "level": s.one_of(["debug", "info", "info", "info", "warn", "error"]),
+        "host": f"node{s.below(64):02}",
+        "path": "/" + "/".join(s.words(3).split()),
+        "status": s.one_of([200, 200, 200, 304, 404, 500]),
+        "ms": s.below(10**5) / 100,
+        "user": s.below(10**6) if s.below(3) else None,
+        "retry": s.below(9) == 0,
+        "text": "",
+    }
+    record["text"] = s.words(30)[: 199 - len(compact(record))]
+    return compact(record) + "\n"
+
+
+def write_lines(path):
+    """10,000 lines that come again."""
+    s = Source(15)
+    lines = "".join(line_of(s, n) for n in range(10_000)).encode()
+    whole, left = divmod(int(os.environ.get("LINES", 1_000_000)), 10_000)
+    with path.open("wb") as log:
+        for _ in range(whole):
+            log.write(lines)
+        log.write(lines[: 200 * left])
+
+
 def main():
     folder = Path(sys.argv[1])
-    for name in ("kinds", "sizes"):
+    for name in ("kinds", "sizes", "lines"):
         (folder / name).mkdir(parents=True, exist_ok=True)
     for name, text in kinds():
         (folder / "kinds" / f"{name}.json").write_bytes(text.encode())
     for i, size in enumerate(SIZES):
         (folder / "sizes" / f"{i}.json").write_bytes(tweets_of(size).encode())
+    write_lines(folder / "lines" / "log.jsonl")
 
 
 main()
