@@ -8,3 +8,5 @@ mod Split
 mod MapCompared
 mod Printable
 mod Encoded
+mod StringScan
+mod ByteBefore

@@ -14,3 +14,6 @@ pub mod Answered
 pub mod Paired
 pub mod Iterated
 pub mod MapCompared
+pub mod Locations
+pub mod Reasons
+pub mod Messages

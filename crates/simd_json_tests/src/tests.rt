@@ -6,6 +6,7 @@ mod deserializer;
 mod documents;
 mod examples;
 mod growths;
+mod locations;
 mod maps;
 mod memory;
 mod printing;
