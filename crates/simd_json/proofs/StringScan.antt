@@ -68,7 +68,9 @@ module _ (b : List ℕ) (i : ℕ) (escaped inside : Bool) (l : i < length b) (s 
       (n ∙ ap (λ c. if (c == 34) && not escaped then not inside else inside) (read b i l)))
 
 pub after-inside : (b : List ℕ) (i : ℕ) (escaped inside : Bool) → IsScan b (i + 1) escaped inside → inside ≡ is_inside b i
-after-inside b i escaped inside s = let next : i + 1 ≡ suc i = omega arith in scan-inside b i escaped inside (subst (λ k. IsScan b k escaped inside) next s)
+after-inside b i escaped inside s =
+    let next : i + 1 ≡ suc i = omega arith in
+    scan-inside b i escaped inside (subst (λ k. IsScan b k escaped inside) next s)
 
 -- ---- control bytes
 
@@ -194,14 +196,15 @@ open-quote b i opening inside real is e = record {
     here h = e ∙ ap (λ t. if t then i else length b) (is ∙ ap not h)
 
 -- Past a byte that was read.
-module _ (b : List ℕ) (i : ℕ) (escaped inside : Bool) (l : i < length b) (s : IsScan b i escaped inside) (quoted : Bool) (is : quoted ≡ ((get_or b i 0 == 34) && not escaped)) where
+module _ (b : List ℕ) (i : ℕ) (escaped inside : Bool) (l : i < length b) (s : IsScan b i escaped inside)
+    (quoted : Bool) (is : quoted ≡ ((get_or b i 0 == 34) && not escaped)) where
   pub open-past : (opening : ℕ) → quoted ≡ false → IsOpen b i opening → IsOpen b (i + 1) opening
   open-past opening e at =
       let next : suc i ≡ i + 1 = omega arith in
       subst (λ k. IsOpen b k opening) next (open-same b i opening (sym (read-quote b i escaped inside l s) ∙ sym is ∙ e) at)
 
-  pub open-at : (opening : ℕ) (escaped' inside' : Bool) → quoted ≡ true → IsScan b (i + 1) escaped' inside' → opening ≡ (if inside' then i else length b)
-      → IsOpen b (i + 1) opening
+  pub open-at : (opening : ℕ) (escaped' inside' : Bool) → quoted ≡ true → IsScan b (i + 1) escaped' inside'
+      → opening ≡ (if inside' then i else length b) → IsOpen b (i + 1) opening
   open-at opening escaped' inside' e after o =
       let next : suc i ≡ i + 1 = omega arith in
       subst (λ k. IsOpen b k opening) next
@@ -241,7 +244,8 @@ open-is b opening at =
           (λ k h. and-false (is_real_quote b k) (is_inside b k) (real_quotes b (suc k) == real_quotes b (length b))
           (ne_eqb (real_quotes b (suc k)) (real_quotes b (length b))
           (λ same. omega (arith, quotes-below b (suc k) opening h, quotes-suc b opening (at.quote odd)))))
-          (λ _. all-true (at.quote odd) (ap not (ap is_even last ∙ odd)) (eq-eqb (real_quotes b (suc opening)) (real_quotes b (length b)) last))
+          (λ _. all-true (at.quote odd) (ap not (ap is_even last ∙ odd))
+          (eq-eqb (real_quotes b (suc opening)) (real_quotes b (length b)) last))
     ]
   where
     all-true : {x y z : Bool} → x ≡ true → y ≡ true → z ≡ true → (x && y && z) ≡ true
@@ -255,12 +259,14 @@ unfolding bad_string is_real_quote
 bad-control b l =
     elim (cases_lt (bad_string b) (length b)) [
       | inl h ↦
-          elim (or_cases (is_control_inside b (bad_string b)) (is_left_open b (bad_string b)) (first_index-at (λ k. is_control_inside b k || is_left_open b k) b h)) [
+          elim (or_cases (is_control_inside b (bad_string b)) (is_left_open b (bad_string b))
+          (first_index-at (λ k. is_control_inside b k || is_left_open b k) b h)) [
             | inl control ↦ control
             | inr opening ↦
                 let quoted = and_parts (byte_at b (bad_string b) == 34) (is_even (backslashes_before b (bad_string b)))
                 (and_parts (is_real_quote b (bad_string b)) (is_inside b (bad_string b))
-                (and_parts (is_real_quote b (bad_string b) && is_inside b (bad_string b)) (real_quotes b (suc (bad_string b)) == real_quotes b (length b)) opening).0).0 in
+                (and_parts (is_real_quote b (bad_string b) && is_inside b (bad_string b))
+                (real_quotes b (suc (bad_string b)) == real_quotes b (length b)) opening).0).0 in
                 let quote : byte_at b (bad_string b) ≡ 34 = eqb-true (byte_at b (bad_string b)) 34 quoted.0 in
                 absurd (omega arith)
           ]

@@ -29,11 +29,14 @@ byte_before b (suc i) = if is_whitespace (byte_at b i) then byte_before b i else
 -- a value is expected after this byte, where c is found: at the root, after a comma or a colon, and first in an array
 abbrev pub expects_value : Option ℕ → ℕ → Bool
 expects_value None c = true
-expects_value (Some before) c = (before == comma) || (before == colon) || ((before == left_bracket) && not (c == right_bracket))
+expects_value (Some before) c =
+    (before == comma) || (before == colon) || ((before == left_bracket) && not (c == right_bracket))
 
 -- a bracket that closes the root
 abbrev pub closes_root : List ℕ → ℕ → Bool
-closes_root b i = ((byte_at b i == right_bracket) || (byte_at b i == right_brace)) && not (expects_value (byte_before b i) (byte_at b i))
+closes_root b i =
+    ((byte_at b i == right_bracket) || (byte_at b i == right_brace))
+    && not (expects_value (byte_before b i) (byte_at b i))
 
 -- Two digits, and then a digit or the end of the number. A number is refused after two digits where it is an integer
 -- that is too great: a malformed one is refused at a byte that no number has there, or after a single 0.
@@ -44,7 +47,9 @@ ends_range b i =
 
 -- the `\u` that a text begins with has its four hexadecimal digits
 abbrev pub has_hex_digits : List ℕ → Bool
-has_hex_digits text = is_digit (byte_at text 2) 16 && is_digit (byte_at text 3) 16 && is_digit (byte_at text 4) 16 && is_digit (byte_at text 5) 16
+has_hex_digits text =
+    is_digit (byte_at text 2) 16 && is_digit (byte_at text 3) 16
+    && is_digit (byte_at text 4) 16 && is_digit (byte_at text 5) 16
 
 -- ---- reasons
 
@@ -54,18 +59,24 @@ whole_reason b errors.InputTooLarge = reasons.TooLarge
 whole_reason b errors.InsufficientPadding = reasons.TooLittlePadding
 whole_reason b errors.OutOfMemory = reasons.OutOfMemory
 whole_reason b errors.InvalidUtf8 = reasons.NotUtf8 (byte_at b (utf8_valid_len b))
-whole_reason b errors.Syntax = if is_control_inside b (bad_string b) then reasons.ControlCharacter (byte_at b (bad_string b)) else reasons.OpenString
+whole_reason b errors.Syntax =
+    if is_control_inside b (bad_string b) then reasons.ControlCharacter (byte_at b (bad_string b))
+    else reasons.OpenString
 whole_reason b errors.Eof = reasons.Blank
 whole_reason b _ = reasons.Other
 
 -- where a value is expected, or more text follows the root
 abbrev pub value_reason : List ℕ → ℕ → Reason
-value_reason b i = if is_byte_order_mark b i then reasons.ByteOrderMark else if closes_root b i then reasons.MoreText else reasons.ExpectedValue (byte_at b i)
+value_reason b i =
+    if is_byte_order_mark b i then reasons.ByteOrderMark
+    else if closes_root b i then reasons.MoreText
+    else reasons.ExpectedValue (byte_at b i)
 
 -- in an object: after its brace, or after a member
 abbrev pub object_reason : Option ℕ → ℕ → Reason
 object_reason None c = reasons.ExpectedMemberEnd c
-object_reason (Some before) c = if before == left_brace then reasons.ExpectedFirstKey c else reasons.ExpectedMemberEnd c
+object_reason (Some before) c =
+    if before == left_brace then reasons.ExpectedFirstKey c else reasons.ExpectedMemberEnd c
 
 -- of an error with a character
 abbrev pub token_reason : List ℕ → ℕ → ErrorType → Reason
@@ -82,7 +93,8 @@ token_reason b i errors.ExpectedFalse = reasons.ExpectedFalse
 token_reason b i errors.ExpectedNull = reasons.ExpectedNull
 token_reason b i errors.InvalidNumber = if ends_range b i then reasons.IntegerOutOfRange else reasons.MalformedNumber
 token_reason b i errors.InvalidEscape = reasons.UnknownEscape (byte_at (drop i b) 1)
-token_reason b i errors.InvalidUnicodeCodepoint = if has_hex_digits (drop i b) then reasons.LoneSurrogate else reasons.MalformedUnicodeEscape
+token_reason b i errors.InvalidUnicodeCodepoint =
+    if has_hex_digits (drop i b) then reasons.LoneSurrogate else reasons.MalformedUnicodeEscape
 token_reason b i _ = reasons.Other
 
 abbrev pub reason_with : List ℕ → ℕ → Option ℕ → ErrorType → Reason

@@ -1,5 +1,7 @@
 // Where errors are and why, in words: each kind in its contexts.
 use crate::tests::Tested;
+use crate::tests::memory::ballast;
+use linked_list_allocator::LocalHeap;
 use simd_json::{ErrorType, Location, Reason, locate, to_tape};
 use std::process::Abort;
 
@@ -278,5 +280,26 @@ fn other_kinds_have_reasons(rt: HostRuntime) -> Tested {
         assert_eq!(rt; location.reason(), reason, "{text}");
         assert_eq!(rt; reason.to_string(rt.alloc())?.as_str(), text);
     }
+    Ok(())
+}
+
+// With more and more room, an allocation is refused or the error is found.
+#[test]
+fn allocations_for_a_copy_are_refused(rt: HostRuntime) -> Tested {
+    let (mut refused, mut found) = (0u32, 0u32);
+    for left in 0..64usize {
+        let heap = LocalHeap::new(rt.alloc(), 1 << 14)?;
+        let _ballast = ballast(rt.alloc(), &heap, left * 16)?;
+        match locate(&heap, b"[\"\\n\",\n1,]", 1024) {
+            Err(_) => refused = refused.saturating_add(1),
+            Ok(location) => {
+                found = found.saturating_add(1);
+                let place = location.map(|location| (location.line(), location.column()));
+                assert_eq!(rt; place, Some((2, 3)), "{left}");
+            }
+        }
+    }
+    assert!(rt; refused > 2, "{refused}");
+    assert!(rt; found > 2, "{found}");
     Ok(())
 }

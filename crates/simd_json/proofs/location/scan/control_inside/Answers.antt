@@ -38,4 +38,5 @@ loop-i-preserved c =
 pub returns : goal.returns
 returns c =
     let b = c.args.input.now in
-    sym (first_index-is (is_control_inside b) b (length b) (omega arith) (λ k h. c.loop-i.invariant.1 k (omega arith)) (λ h. absurd (omega arith)))
+    sym (first_index-is (is_control_inside b) b (length b) (omega arith)
+    (λ k h. c.loop-i.invariant.1 k (omega arith)) (λ h. absurd (omega arith)))
