@@ -7,11 +7,13 @@
 CPU =
 cpu = $(if $(CPU),--cpu $(CPU))
 
-# The program stands on all other crates but the benchmark's, so that proving it proves them.
+# The programs stand on all other crates but those of tests and the benchmark's, so that proving them proves these.
 all: has-rt $(if $(CPU),library)
 	cd crates/jtape_main && rt run $(cpu) -- tape < ../../examples/nested-list.json > /dev/null
 	mkdir -p build
 	cp crates/jtape_main/out/jtape_main build/jtape
+	cd crates/jcheck && rt run $(cpu) -- ../../examples/nested-list.json
+	cp crates/jcheck/out/jcheck build/jcheck
 	build/jtape tape < examples/nested-list.json
 
 # The static library that programs in C call.
@@ -21,25 +23,27 @@ library: has-rt
 	cp crates/simd_json_bench/out/libsimd_json_bench.a build/
 
 # Every proof from nothing, the must-fail edits, the tests and the programs. Its last line is 'N passed, M failed'. After it the
-# program that it built is run on inputs of which the lines and the status are known, and the counts of lines in DESIGN.md are
-# compared with the files; both are silent where all is well.
+# programs that it built are run on inputs of which the lines and the status are known, and the counts of lines in DESIGN.md are
+# compared with the files; all are silent where all is well.
 test: has-rt
-	rt ci && sh tests/statuses.sh && sh tests/counts.sh
+	rt ci && sh tests/statuses.sh && sh tests/places.sh && sh tests/counts.sh
 
 # Beside the parsers that are installed, over generated texts and FILES. SAVE=1 puts the results into docs/.
 bench: has-rt
 	SAVE=$(SAVE) sh bench/run.sh $(FILES)
 
-# The program and its manual page, under PREFIX.
+# The programs and their manual pages, under PREFIX.
 PREFIX = /usr/local
 install:
-	test -x build/jtape || $(MAKE) all
+	test -x build/jtape -a -x build/jcheck || $(MAKE) all
 	install -d $(DESTDIR)$(PREFIX)/bin $(DESTDIR)$(PREFIX)/share/man/man1
 	install -m 755 build/jtape $(DESTDIR)$(PREFIX)/bin/jtape
-	install -m 644 man/jtape.1 $(DESTDIR)$(PREFIX)/share/man/man1/jtape.1
+	install -m 755 build/jcheck $(DESTDIR)$(PREFIX)/bin/jcheck
+	install -m 644 man/jtape.1 man/jcheck.1 $(DESTDIR)$(PREFIX)/share/man/man1/
 
 uninstall:
-	rm -f $(DESTDIR)$(PREFIX)/bin/jtape $(DESTDIR)$(PREFIX)/share/man/man1/jtape.1
+	rm -f $(DESTDIR)$(PREFIX)/bin/jtape $(DESTDIR)$(PREFIX)/bin/jcheck
+	rm -f $(DESTDIR)$(PREFIX)/share/man/man1/jtape.1 $(DESTDIR)$(PREFIX)/share/man/man1/jcheck.1
 
 has-rt:
 	@command -v rt >/dev/null || { echo "rt is not on the PATH: put the folder bin of a Rattle kit there, as in PATH=KIT/bin:\$$PATH, and run make again" >&2; exit 1; }
