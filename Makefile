@@ -7,11 +7,13 @@
 CPU =
 cpu = $(if $(CPU),--cpu $(CPU))
 
-# The program stands on all other crates but the benchmark's, so that proving it proves them.
+# The programs stand on all other crates but those of tests and the benchmark's, so that proving them proves these.
 all: has-rt $(if $(CPU),library)
 	cd crates/jtape_main && rt run $(cpu) -- tape < ../../examples/nested-list.json > /dev/null
 	mkdir -p build
 	cp crates/jtape_main/out/jtape_main build/jtape
+	cd crates/jcheck && rt run $(cpu) -- ../../examples/nested-list.json
+	cp crates/jcheck/out/jcheck build/jcheck
 	build/jtape tape < examples/nested-list.json
 
 # The library for programs in C, static and shared. Each needs nothing beside it but malloc, realloc, free, memcpy and memset:
@@ -31,10 +33,11 @@ library: has-rt
 	cc -shared -o $(into)/libsimd_json.so $(parts)/simd_json.o -Wl,-soname,libsimd_json.so -Wl,-z,relro,-z,now,-s
 
 # Every proof from nothing, the must-fail edits, the tests and the programs. Its last line is 'N passed, M failed'. After it the
-# program that it built is run on inputs of which the lines and the status are known, the counts of lines in DESIGN.md are
+# Every proof from nothing, the must-fail edits, the tests and the programs. Its last line is 'N passed, M failed'. After it the
+# programs that it built are run on inputs of which the lines and the status are known, the counts of lines in DESIGN.md are
 # compared with the files, and the library is called from C and Python; all are silent where all is well.
 test: has-rt
-	rt ci && sh tests/statuses.sh && sh tests/counts.sh && sh tests/c.sh
+	rt ci && sh tests/statuses.sh && sh tests/places.sh && sh tests/counts.sh && sh tests/c.sh
 
 # Beside the parsers that are installed, over generated texts and FILES. SAVE=1 puts the results into docs/.
 bench: has-rt
@@ -44,14 +47,14 @@ bench: has-rt
 vendor:
 	@sh scripts/vendor.sh "$(DIR)"
 
-# The program, the library for programs in C, and their manual pages, under PREFIX.
+# The programs, the library for programs in C, and their manual pages, under PREFIX.
 PREFIX = /usr/local
 under = $(DESTDIR)$(abspath $(PREFIX))
 install: install-library
-	test -x build/jtape || $(MAKE) all
+	test -x build/jtape -a -x build/jcheck || $(MAKE) all
 	install -d $(under)/bin $(under)/share/man/man1
-	install -m 755 build/jtape $(under)/bin/jtape
-	install -m 644 man/jtape.1 $(under)/share/man/man1/jtape.1
+	install -m 755 build/jtape build/jcheck $(under)/bin/
+	install -m 644 man/jtape.1 man/jcheck.1 $(under)/share/man/man1/
 
 install-library:
 	test -e build/libsimd_json.so || $(MAKE) library
@@ -63,7 +66,7 @@ install-library:
 	install -m 644 man/simd_json.3 $(under)/share/man/man3/simd_json.3
 
 uninstall:
-	rm -f $(under)/bin/jtape $(under)/share/man/man1/jtape.1 $(under)/include/simd_json.h $(under)/lib/libsimd_json.a \
+	rm -f $(under)/bin/jtape $(under)/bin/jcheck $(under)/share/man/man1/jtape.1 $(under)/share/man/man1/jcheck.1 $(under)/include/simd_json.h $(under)/lib/libsimd_json.a \
 		$(under)/lib/libsimd_json.so $(under)/lib/pkgconfig/simd_json.pc $(under)/share/man/man3/simd_json.3
 
 has-rt:

@@ -9,3 +9,5 @@ mod MapCompared
 mod Printable
 mod Encoded
 mod Pointed
+mod StringScan
+mod ByteBefore

@@ -17,3 +17,6 @@ pub mod MapCompared
 pub mod Pointed
 pub mod PointedText
 pub mod Followed
+pub mod Locations
+pub mod Reasons
+pub mod Messages

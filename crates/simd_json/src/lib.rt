@@ -14,12 +14,14 @@
 mod buffers;
 mod deserializer;
 pub mod laws;
+mod location;
 mod parse;
 mod recycle;
 pub mod value;
 
 pub use buffers::Buffers;
 pub use deserializer::Deserializer;
+pub use location::{Location, Reason, locate};
 pub use parse::{fill_tape, fill_tape_padded, refill_tape, reserve, to_tape, to_tape_with_buffers};
 pub use simd_json_parts::error::{Error, ErrorType, Result};
 pub use simd_json_parts::node::{Node, StaticNode, TryTypeError, ValueType};

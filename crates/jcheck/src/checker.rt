@@ -1,0 +1,53 @@
+//! Checks of documents one after another, over the memory of earlier ones.
+ghost use Rattle.std.specs.Prelude.{◌≡◌, IfOk};
+ghost use Rattle.simd_json.specs.Reasons.{found_in};
+
+use simd_json::{Buffers, ErrorType, Location, Tape, refill_tape};
+use std::alloc::{AllocError, Global};
+
+/// The memory that checks use one after another, and how many containers may be open at a time.
+#[derive(Drop)]
+pub struct Checker<'t> {
+    alloc: Global,
+    buffers: Buffers,
+    tape: Option<Tape<'t, Global>>,
+    // what is parsed in place of the input, since a parse decodes strings where they stand
+    copy: Vec<u8>,
+}
+
+impl<'t> Checker<'t> {
+    /// A checker of documents of up to so many open containers.
+    pub fn new(alloc: Global, depth: usize) -> Result<Checker<'t>, AllocError>
+        ensures { IfOk result (λ checker. checker.buffers.limit ≡ depth) }
+    {
+        match Buffers::with_max_depth(alloc, 0, depth) {
+            Ok(buffers) => Ok(Checker {
+                alloc,
+                buffers,
+                tape: None,
+                copy: Vec::new(alloc),
+            }),
+            Err(_) => Err(AllocError),
+        }
+    }
+
+    /// Where the bytes are no document, and why; none where they are one.
+    pub fn check(&mut self, input: &[u8]) -> Result<Option<Location>, AllocError>
+        ensures found { IfOk result (λ found. found ≡ found_in input.now self.old.buffers.limit) }
+        ensures limit { self.new.buffers.limit ≡ self.old.buffers.limit }
+    {
+        self.copy.clear();
+        self.copy.extend_from_slice(input)?;
+        let tape = match self.tape.take() {
+            Some(tape) => tape.reset(),
+            None => Tape::null(self.alloc).map_err(|_| AllocError)?,
+        };
+        let (answer, tape) = refill_tape(self.copy.as_mut_slice(), &mut self.buffers, tape);
+        self.tape = Some(tape.reset());
+        match answer {
+            Ok(()) => Ok(None),
+            Err(e) if *e.error() == ErrorType::OutOfMemory => Err(AllocError),
+            Err(e) => Ok(Some(Location::new(input, e))),
+        }
+    }
+}

@@ -1,0 +1,73 @@
+//! The text of a line around a place, and a caret under it.
+ghost use Rattle.std.specs.Prelude.{◌≤◌, length};
+
+use std::io::{self, Write};
+
+// How many characters are shown of a line, and at most how many of them before the place.
+const WIDTH: usize = 78;
+
+const BEFORE: usize = 39;
+
+/// Writes a line with the characters around a byte of the input that are in its line, and a line with a caret
+/// under that byte. What is no printable character is a space, and what is no UTF-8 is U+FFFD.
+pub fn write_excerpt<W: Write>(out: &mut W, input: &[u8], byte: usize) -> io::Result<()> {
+    let place = byte.min(input.len());
+    let start = step_back(input, place);
+    let end = step_on(input, start);
+    for chunk in input[start..end].utf8_chunks() {
+        for c in chunk.valid().chars() {
+            let shown = if c.is_control() { ' ' } else { c };
+            write!(out, "{shown}")?;
+        }
+        if !chunk.invalid().is_empty() {
+            write!(out, "\u{fffd}")?;
+        }
+    }
+    writeln!(out)?;
+    for byte in &input[start..place] {
+        if begins_character(*byte) {
+            write!(out, " ")?;
+        }
+    }
+    writeln!(out, "^")
+}
+
+// The index at most `BEFORE` characters before a place, in its line.
+fn step_back(input: &[u8], place: usize) -> usize
+    requires { place ≤ length input.now }
+    ensures { result ≤ place }
+{
+    let mut start = place;
+    let mut count = 0usize;
+    while start > 0 && count < BEFORE && input[start - 1] != b'\n' {
+        start -= 1;
+        if begins_character(input[start]) {
+            count += 1;
+        }
+    }
+    start
+}
+
+// The index after at most `WIDTH` characters, in the line of `start`.
+fn step_on(input: &[u8], start: usize) -> usize
+    requires { start ≤ length input.now }
+    ensures { (start ≤ result) × (result ≤ length input.now) }
+{
+    let mut end = start;
+    let mut count = 0usize;
+    while end < input.len() && input[end] != b'\n' {
+        if begins_character(input[end]) {
+            if count == WIDTH {
+                break;
+            }
+            count += 1;
+        }
+        end += 1;
+    }
+    end
+}
+
+// Whether the byte is no later one of its character (RFC 3629, section 3).
+fn begins_character(byte: u8) -> bool {
+    !matches!(byte, 0x80..=0xbf)
+}

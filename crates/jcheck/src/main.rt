@@ -1,0 +1,88 @@
+//! `jcheck [--depth N] [--lines] [FILE..]` says of each file whether it is a JSON document, and of one that is
+//! not where and why.
+#![tactic(auto)]
+
+mod checker;
+mod excerpt;
+mod options;
+mod report;
+
+use checker::Checker;
+use options::{Options, asked};
+use report::{Ended, check_input};
+use std::io::{BufWriter, Read, Write};
+use std::process::ExitCode;
+use std::{env, fs, io};
+
+fn main(rt: HostRuntime) -> ExitCode {
+    let code = match arguments(&rt) {
+        Ok(words) => program(&rt, words.as_slice()),
+        Err(e) => {
+            let _ = eprintln!(rt; "jcheck: {e}");
+            2
+        }
+    };
+    ExitCode::from(code)
+}
+
+fn arguments(rt: &HostRuntime) -> io::Result<Vec<String>> {
+    Ok(env::args(rt)?.collect(rt.alloc())?)
+}
+
+fn program(rt: &HostRuntime, words: &[String]) -> u8 {
+    match asked(rt.alloc(), words) {
+        Ok(options) => check_files(rt, &options).status(),
+        Err(e) => {
+            let _ = e.print(rt);
+            if e.use_stderr() { 2 } else { 0 }
+        }
+    }
+}
+
+// Checks each file, and goes on after one that can't be read.
+fn check_files(rt: &HostRuntime, options: &Options<'_>) -> Ended {
+    let mut checker = match Checker::new(rt.alloc(), options.depth()) {
+        Ok(checker) => checker,
+        Err(e) => {
+            let _ = eprintln!(rt; "jcheck: {e}");
+            return Ended::Failed;
+        }
+    };
+    let mut ended = Ended::Clean;
+    for file in options.files() {
+        let checked = check_file(rt, &mut checker, file, options.has_lines());
+        match checked {
+            Ok(clean) => ended = ended.and(if clean { Ended::Clean } else { Ended::Refused }),
+            // Who reads the output has had enough of it.
+            Err(e) if e.kind() == io::ErrorKind::BrokenPipe => return ended.and(Ended::Refused),
+            Err(e) => {
+                let _ = eprintln!(rt; "jcheck: {file}: {e}");
+                ended = Ended::Failed;
+            }
+        }
+    }
+    ended
+}
+
+fn check_file(
+    rt: &HostRuntime,
+    checker: &mut Checker<'_>,
+    file: &str,
+    has_lines: bool,
+) -> io::Result<bool> {
+    let input = read_input(rt, file)?;
+    let mut out = BufWriter::new(rt.alloc(), io::writer(rt))?;
+    let clean = check_input(checker, &mut out, file, input.as_slice(), has_lines)?;
+    out.flush()?;
+    Ok(clean)
+}
+
+// The bytes of a file, or of standard input for `-`.
+fn read_input(rt: &HostRuntime, file: &str) -> io::Result<Vec<u8>> {
+    if file != "-" {
+        return fs::read(rt, file);
+    }
+    let mut input = Vec::new(rt.alloc());
+    rt.reader().read_to_end(&mut input)?;
+    Ok(input)
+}

@@ -1,0 +1,100 @@
+//! Where an input is wrong and why, for people.
+ghost use Rattle.std.specs.Prelude.{◌≡◌};
+ghost use Rattle.simd_json.specs.Reasons.{location_of};
+
+mod context;
+mod display;
+mod find;
+mod place;
+mod reason;
+mod scan;
+
+use context::reason_for;
+pub use find::locate;
+use place::{byte_of, column, line};
+pub use reason::Reason;
+use simd_json_parts::error::Error;
+
+/// An error, and for people where it is in the input and why: a line and a column for an editor, and a
+/// [`Reason`] in words.
+#[derive(Debug, Drop, PartialEq, Eq)]
+pub struct Location {
+    error: Error,
+    byte: usize,
+    line: usize,
+    column: usize,
+    reason: Reason,
+}
+
+impl Location {
+    /// Finds where in the input an error of its parse is, and why it was refused. `input` holds the bytes as
+    /// they were before the parse, which may have decoded strings in place. No memory is taken.
+    ///
+    /// An error with a character is at its index. Of one of the whole input the place is looked for:
+    ///
+    /// - `InvalidUtf8`: the first byte that begins no UTF-8 character (RFC 3629)
+    /// - `Syntax`: the first control byte inside a string, or the opening quote of the string that is left
+    ///   open (RFC 8259, section 7), whichever comes first
+    /// - `Eof`: the end of the input
+    /// - `InputTooLarge`: the first byte too many
+    ///
+    /// ```
+    /// use simd_json::{Location, to_tape};
+    ///
+    /// fn line_of_error(rt: &impl AllocGlobal) -> Option<usize> {
+    ///     let input = *b"[1,\n2,]";
+    ///     let mut parsed = input;
+    ///     let error = to_tape(rt.alloc(), &mut parsed).err()?;
+    ///     Some(Location::new(&input, error).line())
+    /// }
+    /// ```
+    #[tactic(auto, unfolding(crate::specs::Reasons::location_of))]
+    pub fn new(input: &[u8], error: Error) -> Location
+        ensures { result ≡ location_of input.now error }
+    {
+        let byte = byte_of(input, &error);
+        let reason = reason_for(input, &error);
+        Location {
+            error,
+            byte,
+            line: line(input, byte),
+            column: column(input, byte),
+            reason,
+        }
+    }
+
+    /// The error as the parse returned it.
+    pub fn error(&self) -> &Error
+        ensures { result.now ≡ self.now.error }
+    {
+        &self.error
+    }
+
+    /// The byte offset of the place.
+    pub fn byte(&self) -> usize
+        ensures { result ≡ self.now.byte }
+    {
+        self.byte
+    }
+
+    /// The line of the place: from 1, by line feeds.
+    pub fn line(&self) -> usize
+        ensures { result ≡ self.now.line }
+    {
+        self.line
+    }
+
+    /// The column of the place: from 1, in characters.
+    pub fn column(&self) -> usize
+        ensures { result ≡ self.now.column }
+    {
+        self.column
+    }
+
+    /// Why the input is refused.
+    pub fn reason(&self) -> Reason
+        ensures { result ≡ self.now.reason }
+    {
+        self.reason
+    }
+}

@@ -1,0 +1,81 @@
+#!/bin/sh
+# Runs jcheck, as the gate has built it, on a text of 64 MB with its error at the end, and compares line, column and byte with
+# what head, tail and wc count. Then statuses, and a closed pipe. Silent where all is as it must be, else with status 1.
+#
+# usage: sh tests/places.sh [PROGRAM]
+set -u
+program=${1:-$(dirname "$0")/../crates/jcheck/out/jcheck}
+[ -x "$program" ] || { echo "$program is not there: run make test" >&2; exit 1; }
+room=$(mktemp -d) || exit 1
+trap 'rm -rf "$room"' EXIT
+different=0
+
+# wanted NAME STATUS OUT: what the last run must have left; OUT is what standard output begins with.
+wanted() {
+    begins=$(head -c "${#3}" "$room/out")
+    [ "$status" = "$2" ] && [ "$begins" = "$3" ] && return
+    different=1
+    echo "$1: status $status, wanted $2; standard output begins: $(head -c 200 "$room/out")"
+}
+
+# A row with characters of one to four bytes, and 64 MB of such rows in an array.
+row='{"name":"éèà€😀","text":"0123456789\u00e9 \"quoted\"","numbers":[1,-2,3.5e10],"more":null}'
+{
+    echo '['
+    yes "$row," | head -c 67108864 | sed '$d'
+    printf '%s\n' "$row"
+} > "$room/rows"
+lines=$(wc -l < "$room/rows")
+bytes=$(wc -c < "$room/rows")
+
+# check TEXT COLUMN OFFSET MESSAGE: the text after the rows, and where in it the error is.
+check() {
+    { cat "$room/rows"; printf "$1"; } > "$room/in"
+    "$program" - < "$room/in" > "$room/out" 2> "$room/err"
+    status=$?
+    wanted "after 64 MB: $1" 1 "-:$((lines + 1)):$2: $4 at byte $((bytes + $3))]"
+}
+
+check ', "é€" 1]' 8 10 'expected `,` or `]` after an element, found `1` [ExpectedArrayContent'
+check ',"€", nul]' 7 8 'expected `null` [ExpectedNull'
+check ', "é' 3 2 'the string that begins here has no end [Syntax'
+check ', "é\t"]' 5 5 'control character 9 in a string [Syntax'
+check ', "é\377"]' 5 5 'byte 255 begins no UTF-8 character [InvalidUtf8'
+
+{ cat "$room/rows"; printf ']'; } > "$room/in"
+"$program" "$room/in" > "$room/out" 2> "$room/err"
+status=$?
+wanted 'a document of 64 MB' 0 ''
+
+# A file that can't be read does not keep the others from being checked.
+printf '[1,]' > "$room/refused"
+"$program" "$room/none" "$room" "$room/refused" > "$room/out" 2> "$room/err"
+status=$?
+wanted 'files that can not be read' 3 "$room/refused:1:4: expected a value"
+grep -q "^jcheck: $room/none: No such file" "$room/err" && grep -q "^jcheck: $room: Is a directory" "$room/err" || {
+    different=1
+    echo "standard error lacks the reasons:"
+    cat "$room/err"
+}
+
+for words in '--depth' '--depth x' '--depth -1' '--tree'; do
+    "$program" $words > "$room/out" 2> "$room/err" < /dev/null
+    status=$?
+    wanted "the arguments $words" 2 ''
+    [ -s "$room/err" ] || { different=1; echo "no reason for the arguments $words"; }
+done
+for words in --help --version; do
+    "$program" $words > "$room/out" 2> "$room/err"
+    status=$?
+    wanted "$words" 0 ''
+    [ -s "$room/out" ] || { different=1; echo "nothing printed for $words"; }
+done
+
+# A closed pipe ends it quietly.
+yes '[1,]' | head -n 100000 > "$room/in"
+{ "$program" --lines "$room/in" 2> "$room/err"; echo $? > "$room/status"; } | head -n 1 > "$room/out"
+status=$(cat "$room/status")
+wanted 'a closed pipe' 1 "$room/in:1:4: expected a value"
+[ -s "$room/err" ] && { different=1; echo 'a closed pipe is not quiet'; cat "$room/err"; }
+
+exit $different
