@@ -1,10 +1,11 @@
 //! `pick POINTER` reads JSON Lines from standard input and prints, of each line, the value that a JSON Pointer
 //! (RFC 6901) names there, as compact text on a line of its own. Of another line it prints nothing, or with
-//! `pick -m POINTER` its number and what is missing.
+//! `pick -m POINTER` its number and what is missing. It stops, with status 3, where reading, writing or an
+//! allocation fails.
 #![tactic(auto)]
 
 use anyhow::Result;
-use simd_json::{Buffers, Tape, refill_tape};
+use simd_json::{Buffers, ErrorType, Tape, refill_tape};
 use std::io::{BufRead, BufReader, Write};
 use std::process::ExitCode;
 use std::{env, io};
@@ -56,6 +57,7 @@ fn pick(
         let (parsed, tape) = refill_tape(&mut line, &mut buffers, kept);
         match parsed {
             Ok(()) => write_value(rt, output, &tape, pointer, number, tells_missing)?,
+            Err(fault) if *fault.error() == ErrorType::OutOfMemory => return Err(fault.into()),
             Err(fault) => {
                 if tells_missing {
                     write_text(output, format!(in rt.alloc(); "line {number}: {fault}\n")?)?;
