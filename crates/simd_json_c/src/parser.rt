@@ -1,10 +1,11 @@
 //! A parser that C keeps: its lists serve one parse after another.
 ghost use Rattle.std.specs.Prelude.{◌≡◌, Some, None, is_some, MatchOption, IfSome};
-ghost use Rattle.simd_json_c.specs.Kept.{IsCheckedWith, IsOpened, new_lists};
+ghost use Rattle.simd_json_c.specs.Kept.{IsCheckedWith, IsOpened, IsTapeWith, new_lists};
 
 use crate::held::Held;
 use crate::lists::Lists;
 use crate::loose::Loose;
+use crate::nodes::{Node, Room};
 use crate::status::{OUT_OF_MEMORY, PARSER_CLOSED, Place, reported};
 use std::alloc::Global;
 use std::mem::replace;
@@ -83,6 +84,30 @@ pub extern "C" fn simd_json_parser_check(
     match replace(parser, Parser::closed(alloc)).into_lists() {
         Some(mut lists) => {
             let outcome = lists.check(alloc, input);
+            *parser = Parser::open(lists);
+            reported(outcome, place)
+        }
+        None => reported(Ok(PARSER_CLOSED), place),
+    }
+}
+
+/// The nodes of a document, and the texts of its strings and decimals, in memory that is lent.
+#[unsafe(no_mangle)]
+pub extern "C" fn simd_json_parser_tape(
+    alloc: Global,
+    parser: &mut Parser,
+    input: &mut [u8],
+    nodes: &mut [Node],
+    text: &mut [u8],
+    room: &mut Room,
+    place: &mut Place,
+) -> i32
+    ensures { IsTapeWith parser.old.held.value parser.new.held.value input.old result place.new
+        room.old room.new nodes.old nodes.new text.old text.new }
+{
+    match replace(parser, Parser::closed(alloc)).into_lists() {
+        Some(mut lists) => {
+            let outcome = lists.tape(alloc, input, nodes, text, room);
             *parser = Parser::open(lists);
             reported(outcome, place)
         }
