@@ -20,7 +20,7 @@ pub struct Parser {
 }
 
 impl Parser {
-    fn closed(alloc: Global) -> Parser
+    pub(crate) fn closed(alloc: Global) -> Parser
         ensures { result.held.value ≡ None }
     {
         Parser {

@@ -11,7 +11,8 @@ lend-requires c =
 
 pub returns-clause-few : goal.returns-clause-few
 returns-clause-few c = elim c.match-outcome.branch [
-      in-Ok w ↦ rw w.status-is (rw w.room-is (room-within _ _ _ _ _ _
-        (parse-of-ok _ _ _ _ _ _ _ w.in-Ok.is c.refill_tape-outcome.ensures.parse)
-        (w.lend.ensures.room ∙ ap room_for w.nodes.ensures)))
-    | in-Err w ↦ rw w.status-is tt ]
+  | in-Ok w ↦ rw w.status-is (rw w.room-is (room-within _ _ _ _ _ _
+      (parse-of-ok _ _ _ _ _ _ _ w.in-Ok.is c.refill_tape-outcome.ensures.parse)
+      (w.lend.ensures.room ∙ ap room_for w.nodes.ensures)))
+  | in-Err w ↦ rw w.status-is tt
+]
