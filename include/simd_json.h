@@ -23,9 +23,10 @@
  *
  * Lengths and indexes are in bytes, of `nodes` in nodes.
  *
- * Every call works alone: nothing is kept between calls, nothing is locked, and threads may call at the same time. All
- * memory that a call allocates is freed before it returns, by malloc, realloc and free of the C library; in a signal
- * handler, or in the forked child of a process with threads, these can't be called, and so neither can this library.
+ * Nothing is kept between calls but in a simd_json_parser, nothing is locked, and threads may call at the same time, each
+ * with a parser of its own. Memory is allocated by malloc, realloc and free of the C library, and freed before a call
+ * returns, but for what a parser keeps; in a signal handler, or in the forked child of a process with threads, these can't
+ * be called, and so neither can this library.
  *
  * Pointers are to memory of the caller, which a call uses until it returns. The pieces may not overlap. A pointer may be
  * null where its length is 0. Nothing past a length is read or written.
@@ -77,7 +78,10 @@ enum {
     SIMD_JSON_INVALID_UNICODE_CODEPOINT = 18, /* a malformed `\u` escape, or a lone surrogate (section 7) */
 
     /* The input is a document, and the memory for its result is too small. */
-    SIMD_JSON_TOO_LITTLE_ROOM = 19
+    SIMD_JSON_TOO_LITTLE_ROOM = 19,
+
+    /* The parser is not open. The input is not read. */
+    SIMD_JSON_PARSER_CLOSED = 20
 };
 
 /* Where an input is refused: a byte offset into it, and the byte there. Index 0 and SIMD_JSON_NO_CHARACTER where the
@@ -150,6 +154,34 @@ int32_t simd_json_compact(void *input, size_t len, size_t max_depth, void *out, 
  * the input. */
 int32_t simd_json_pretty(void *input, size_t len, size_t max_depth, void *out, size_t out_len, size_t *needed,
                          simd_json_place *place);
+
+/* A parser that keeps its memory from one input to the next, which is faster for many small inputs:
+ *
+ *     simd_json_parser parser = {0};
+ *     int status = simd_json_open(&parser, 1024);
+ *     while (status == SIMD_JSON_OK && (input = next(&len)))
+ *         status = simd_json_parser_check(&parser, input, len, &place);
+ *     simd_json_close(&parser);
+ *
+ * One of zeros is closed. The fields are the library's: a parser that is open must not be copied, and one that is no longer
+ * needed is closed. It may be moved, and used by one thread after another, by one at a time. */
+typedef struct {
+    void *at;
+    uint8_t is_open;
+} simd_json_parser;
+
+/* Opens a parser for inputs with at most max_depth open containers. One that is open is closed first. OUT_OF_MEMORY leaves
+ * it closed; there is no other error. */
+int32_t simd_json_open(simd_json_parser *parser, size_t max_depth);
+
+/* As simd_json_check and simd_json_tape, with what the parser keeps. It stays open after each status, and keeps what it has
+ * allocated. PARSER_CLOSED: nothing but *place is written. */
+int32_t simd_json_parser_check(simd_json_parser *parser, void *input, size_t len, simd_json_place *place);
+int32_t simd_json_parser_tape(simd_json_parser *parser, void *input, size_t len, simd_json_node *nodes, size_t nodes_len,
+                              void *text, size_t text_len, simd_json_room *room, simd_json_place *place);
+
+/* Frees what the parser keeps. It is closed then, and may be opened again; closing a closed one does nothing. */
+void simd_json_close(simd_json_parser *parser);
 
 /* The name of a status, as "InvalidNumber", or of a kind of node, as "Decimal". Returns its length, at most
  * SIMD_JSON_NAME_MAX, and writes it to the front of out where it fits, without a terminator: printf("%.*s", (int)n, out).

@@ -42,7 +42,7 @@ fi
 
 # The header's example, as it stands there, against what `make install` puts into a folder.
 make -s install-library PREFIX="$room/installed"
-sed -n 's/^ \*     //p; /^ \*     }$/q' include/simd_json.h > "$room/example.c"
+sed -n '/^ \*     }$/{s/^ \*     //p;q;};s/^ \*     //p' include/simd_json.h > "$room/example.c"
 grep -v -e '^/\*' -e '^$' examples/c/answer.c | cmp - "$room/example.c" || { echo "examples/c/answer.c is not the header's"; exit 1; }
 example="$room/example.c -o $room/example"
 if command -v pkg-config > /dev/null; then

@@ -52,6 +52,47 @@ static int tape(void) { return simd_json_tape(input, sizeof document - 1, 3, nod
 static int compact(void) { return simd_json_compact(input, sizeof document - 1, 3, out, 64, &needed, &place); }
 static int pretty(void) { return simd_json_pretty(input, sizeof document - 1, 3, out, 64, &needed, &place); }
 
+// A parser that is opened and closed again.
+static int kept(void) {
+    simd_json_parser parser = {0};
+    int status = simd_json_open(&parser, 3);
+    WANT(status == SIMD_JSON_OK ? parser.is_open == 1 : parser.is_open == 0);
+    if (status == SIMD_JSON_OK) {
+        status = simd_json_parser_check(&parser, input, sizeof document - 1, &place);
+        WANT(parser.is_open == 1);
+    }
+    simd_json_close(&parser);
+    return status;
+}
+
+// A parse that lacks memory leaves the parser as good as it was; once it has read an input, it allocates no more for such.
+static void memory_is_kept(void) {
+    simd_json_parser parser = {0};
+    int before = held;
+    WANT(simd_json_open(&parser, 3) == SIMD_JSON_OK);
+    WANT(held == before + 1);
+    for (int status = SIMD_JSON_OUT_OF_MEMORY, failures = 0; status != SIMD_JSON_OK;) {
+        strcpy(input, document);
+        allowed = failures++;
+        status = simd_json_parser_check(&parser, input, sizeof document - 1, &place);
+        allowed = -1;
+        WANT(status == SIMD_JSON_OUT_OF_MEMORY || status == SIMD_JSON_OK);
+    }
+    allowed = 0;
+    for (int round = 0; round < 3; round++) {
+        strcpy(input, document);
+        WANT(simd_json_parser_check(&parser, input, sizeof document - 1, &place) == SIMD_JSON_OK);
+        strcpy(input, document);
+        WANT(simd_json_parser_tape(&parser, input, sizeof document - 1, nodes, 16, out, 64, &room, &place) == SIMD_JSON_OK);
+        WANT(room.nodes == 8 && nodes[0].kind == SIMD_JSON_ARRAY && nodes[0].len == 3 && memcmp(out, "a\n", 2) == 0);
+    }
+    WANT(simd_json_open(&parser, 3) == SIMD_JSON_OUT_OF_MEMORY);
+    allowed = -1;
+    WANT(parser.is_open == 0 && held == before);
+    simd_json_close(&parser);
+    WANT(held == before);
+}
+
 static void each_fails(int call(void)) {
     int failures = 0, status;
     do {
@@ -78,4 +119,6 @@ int main(void) {
     each_fails(tape);
     each_fails(compact);
     each_fails(pretty);
+    each_fails(kept);
+    memory_is_kept();
 }

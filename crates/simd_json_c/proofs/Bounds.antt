@@ -1,10 +1,12 @@
 -- The texts of a document are together no longer than its bytes, and nor is its compact text.
 use Rattle.std.proofs.Common.{◌≡◌, ◌≤◌, ◌+◌, ◌/◌, ◌%◌, ◌==◌, ℕ, List, [], ◌∷◌, ◌++◌, length, length-append, Bool, true, false, cond, None, Result, Ok, Err, IfOk, String, string_bytes, flat_map, codes, arith, subst, sym, ◌∙◌}
 use Rattle.std.specs.Char.{digit_char}
+use Rattle.std.specs.Result.{result_err}
 use Rattle.simd_json_parts.specs.Bytes.{backspace, tab, line_feed, form_feed, carriage_return, quote, colon, backslash, right_bracket, right_brace, is_control}
 use Rattle.simd_json_parts.specs.Document.{Document, null, boolean, integer, decimal, string, array, object, Elements, no_elements, element, Members, no_members, member}
 use Rattle.simd_json_parts.specs.Listing.{listing, elements_listing, members_listing}
 use Rattle.simd_json_parts.specs.Nodes.{Item}
+use Rattle.simd_json_parts.specs.declared.error.Error.{Error}
 use Rattle.simd_json_parts.specs.Printed.{escaped_byte, quoted, compact, compact_elements, more_compact_elements, compact_members, more_compact_members}
 use Rattle.simd_json_parts.proofs.Printing.Shortest.{compact-shortest}
 use Rattle.simd_json.specs.Parsed.{IsParse, IsParsed}
@@ -133,3 +135,7 @@ compact-within (Ok text) b limit ns d p is same =
     (compact-shortest b p.document p.denoted p.within.integers) in
     subst (λ t. length t ≤ length b) (sym same) shortest
 compact-within (Err e) b limit ns d p is same = tt
+
+pub parse-of-ok : {A : Type 0} (r : Result A Error) (x : A) (b : List ℕ) (limit capacity : ℕ) (ns : List Item) (listed : List ℕ)
+    → r ≡ Ok x → IsParse b limit capacity (result_err r) ns listed → IsParse b limit capacity None ns listed
+parse-of-ok r x b limit capacity ns listed is = subst (λ s. IsParse b limit capacity (result_err s) ns listed) is

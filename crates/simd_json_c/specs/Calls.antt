@@ -17,10 +17,13 @@ use Rattle.simd_json_c.specs.declared.status.Place.{Place}
 abbrev pub IsRead : List ℕ → ℕ → Option Error → List Item → Type 0
 IsRead b limit fault ns = (listed : List ℕ) × IsParse b limit 0 fault ns listed
 
+-- what is told of a read that is such
+abbrev pub IsTold : (Option Error → List Item → Type 0) → ℤ → Place → Type 0
+IsTold Is status place =
+    (fault : Option Error) × (ns : List Item) × Is fault ns × (status ≡ status_of fault) × (place ≡ place_of fault)
+
 abbrev pub IsChecked : List ℕ → ℕ → ℤ → Place → Type 0
-IsChecked b limit status place =
-    (fault : Option Error) × (ns : List Item) × IsRead b limit fault ns
-    × (status ≡ status_of fault) × (place ≡ place_of fault)
+IsChecked b limit status place = IsTold (IsRead b limit) status place
 
 -- these are at the front, and what was behind them is there still
 abbrev pub IsPut : {A : Type 0} → List A → List A → List A → Type 0
@@ -33,13 +36,18 @@ ArePut ns status old new old_text new_text =
     ⊎ ((status ≡ too_little_room) × (new ≡ old) × (new_text ≡ old_text)
     × ((length old < length ns) ⊎ (length old_text < length (texts ns))))
 
--- neither nodes nor bytes of text are more than the bytes of b
-abbrev pub IsTape : List ℕ → ℕ → ℤ → Place → Room → Room → List Node → List Node → List ℕ → List ℕ → Type 0
-IsTape b limit status place old_room room old new old_text new_text =
-    (fault : Option Error) × (ns : List Item) × IsRead b limit fault ns × (place ≡ place_of fault)
+-- of a read that is such, neither nodes nor bytes of text are more than the bytes of b
+abbrev pub IsLent : (Option Error → List Item → Type 0) → List ℕ → ℤ → Place → Room → Room
+    → List Node → List Node → List ℕ → List ℕ → Type 0
+IsLent Is b status place old_room room old new old_text new_text =
+    (fault : Option Error) × (ns : List Item) × Is fault ns × (place ≡ place_of fault)
     × MatchOption fault
     ((room ≡ room_for ns) × (room.nodes ≤ length b) × (room.text ≤ length b) × ArePut ns status old new old_text new_text)
     (λ e. (status ≡ status_of fault) × (room ≡ old_room) × (new ≡ old) × (new_text ≡ old_text))
+
+abbrev pub IsTape : List ℕ → ℕ → ℤ → Place → Room → Room → List Node → List Node → List ℕ → List ℕ → Type 0
+IsTape b limit status place old_room room old new old_text new_text =
+    IsLent (IsRead b limit) b status place old_room room old new old_text new_text
 
 -- a text is put, or has too little room and all stays as it is
 abbrev pub IsTextPut : List ℕ → ℤ → ℕ → List ℕ → List ℕ → Type 0

@@ -2,3 +2,5 @@ pub mod Statuses
 pub mod Nodes
 pub mod Calls
 pub mod Names
+pub mod Holding
+pub mod Kept

@@ -44,3 +44,11 @@ place_of (Some e) = record { index = e.index; character = character_of e.charact
 -- the memory that was lent is too small
 abbrev pub too_little_room : ℤ
 too_little_room = pos 19
+
+-- of a parser that can't be opened
+abbrev pub out_of_memory : ℤ
+out_of_memory = pos 1
+
+-- no parser is open
+abbrev pub parser_closed : ℤ
+parser_closed = pos 20

@@ -6,8 +6,12 @@
 
 mod check;
 mod copies;
+mod held;
+mod lists;
+mod loose;
 mod names;
 mod nodes;
+mod parser;
 mod print;
 mod status;
 mod tape;
@@ -17,6 +21,9 @@ mod tests;
 pub use check::simd_json_check;
 pub use names::{simd_json_kind_name, simd_json_status_name};
 pub use nodes::{Node, Room};
+pub use parser::{
+    Parser, simd_json_close, simd_json_open, simd_json_parser_check, simd_json_parser_tape,
+};
 pub use print::{simd_json_compact, simd_json_pretty};
 pub use status::Place;
 pub use tape::simd_json_tape;

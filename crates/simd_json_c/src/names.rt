@@ -29,6 +29,7 @@ fn name_of_status(status: i32) -> &'static [u8]
         17 => b"InvalidEscape",
         18 => b"InvalidUnicodeCodepoint",
         19 => b"TooLittleRoom",
+        20 => b"ParserClosed",
         _ => b"",
     }
 }

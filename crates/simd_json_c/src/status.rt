@@ -15,8 +15,14 @@ pub struct Place {
     pub character: u32,
 }
 
+// An allocation failed.
+pub(crate) const OUT_OF_MEMORY: i32 = 1;
+
 /// The memory that was lent is too small.
 pub(crate) const TOO_LITTLE_ROOM: i32 = 19;
+
+// The parser is closed.
+pub(crate) const PARSER_CLOSED: i32 = 20;
 
 // Each kind that a parse reports has a number of its own.
 fn number(kind: &ErrorType) -> i32

@@ -71,3 +71,22 @@ fn texts_are_lent(rt: HostRuntime) -> Tested {
     assert_eq!(rt; out.as_slice(), b"Array\n]\0\0".as_slice());
     Ok(())
 }
+
+#[test]
+fn a_parser_is_kept(rt: HostRuntime) -> Tested {
+    let mut place = NOWHERE;
+    let mut parser = Parser::closed(rt.alloc());
+    let mut input = *b"[1,[2]]";
+    let status = simd_json_parser_check(rt.alloc(), &mut parser, &mut input, &mut place);
+    assert_eq!(rt; (status, place.index, place.character), (20, 0, u32::MAX));
+    assert_eq!(rt; simd_json_open(rt.alloc(), &mut parser, 1), 0);
+    let status = simd_json_parser_check(rt.alloc(), &mut parser, &mut input, &mut place);
+    assert_eq!(rt; (status, place.index, place.character), (12, 3, 91));
+    let mut input = *b"[7]";
+    let status = simd_json_parser_check(rt.alloc(), &mut parser, &mut input, &mut place);
+    assert_eq!(rt; status, 0);
+    simd_json_close(rt.alloc(), &mut parser);
+    let status = simd_json_parser_check(rt.alloc(), &mut parser, &mut input, &mut place);
+    assert_eq!(rt; status, 20);
+    Ok(())
+}

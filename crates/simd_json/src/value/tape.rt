@@ -57,8 +57,8 @@ impl<'input, A: Allocator> Tape<'input, A> {
         Ok(Tape { list })
     }
 
-    // No node and no capacity: it takes no memory.
-    pub(crate) fn empty(a: A) -> Tape<'input, A>
+    /// A tape with no node and no capacity, to be filled. It takes no memory.
+    pub fn empty(a: A) -> Tape<'input, A>
         ensures { result ≡ record { nodes = []; capacity = 0 } }
     {
         Tape { list: Vec::new(a) }

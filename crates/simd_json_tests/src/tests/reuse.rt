@@ -207,6 +207,7 @@ fn a_tape_is_null_and_then_reset(rt: HostRuntime) -> Tested {
     let mut input = *b"[1]";
     let mut tape = null.reset();
     assert!(rt; tape.is_empty());
+    assert!(rt; Tape::empty(rt.alloc()).is_empty());
     let mut buffers = Buffers::new(rt.alloc(), 3)?;
     fill_tape(&mut input, &mut buffers, &mut tape)?;
     assert_eq!(rt; tape.nodes().len(), 2);

@@ -1,0 +1,47 @@
+-- What a parser keeps from one call to the next. A closed one keeps no lists.
+use Rattle.std.specs.Prelude.{◌≡◌, ◌≤◌, ◌⊎◌, ℕ, ℤ, pos, [], List, Option, Some, None, MatchOption, ⊤}
+use Rattle.simd_json.specs.Capacities.{KeepsCapacities, new_buffers}
+use Rattle.simd_json.specs.Parsed.{IsParse}
+use Rattle.simd_json.specs.Reserved.{parse_capacity}
+use Rattle.simd_json_parts.specs.Nodes.{Item}
+use Rattle.simd_json_parts.specs.declared.error.Error.{Error}
+use Rattle.simd_json_c.specs.Statuses.{out_of_memory, parser_closed, place_of}
+use Rattle.simd_json_c.specs.Calls.{IsLent, IsTold}
+use Rattle.simd_json_c.specs.declared.nodes.Node.{Node}
+use Rattle.simd_json_c.specs.declared.nodes.Room.{Room}
+use Rattle.simd_json_c.specs.declared.lists.Lists.{Lists}
+use Rattle.simd_json_c.specs.declared.status.Place.{Place}
+
+-- within the same limit, and no capacity is given up
+abbrev pub KeepsLists : Lists → Lists → Type 0
+KeepsLists old new =
+    (new.buffers.limit ≡ old.buffers.limit) × KeepsCapacities old.buffers new.buffers × (old.tape.capacity ≤ new.tape.capacity)
+
+-- a parse of b with the lists, and the lists afterwards
+abbrev pub IsReadWith : Lists → List ℕ → Option Error → List Item → Lists → Type 0
+IsReadWith old b fault ns new = IsParse b old.buffers.limit (parse_capacity old.buffers old.tape) fault ns new.buffers.positions
+
+-- lists with no capacity yet
+abbrev pub new_lists : ℕ → Lists
+new_lists limit = record { buffers = new_buffers 0 limit; tape = record { nodes = []; capacity = 0 } }
+
+abbrev pub IsOpened : ℕ → ℤ → Option Lists → Type 0
+IsOpened limit status parser =
+    ((status ≡ pos 0) × (parser ≡ Some (new_lists limit))) ⊎ ((status ≡ out_of_memory) × (parser ≡ None))
+
+-- a closed parser stays closed, and an open one open
+abbrev pub IsCallWith : Option Lists → Option Lists → ℤ → Place → Type 0 → (Lists → Lists → Type 0) → Type 0
+IsCallWith old new status place Same Is =
+    MatchOption old
+    ((new ≡ None) × (status ≡ parser_closed) × (place ≡ place_of None) × Same)
+    (λ was. (lists : Lists) × (new ≡ Some lists) × KeepsLists was lists × Is was lists)
+
+abbrev pub IsCheckedWith : Option Lists → Option Lists → List ℕ → ℤ → Place → Type 0
+IsCheckedWith old new b status place =
+    IsCallWith old new status place ⊤ (λ was lists. IsTold (λ fault ns. IsReadWith was b fault ns lists) status place)
+
+abbrev pub IsTapeWith : Option Lists → Option Lists → List ℕ → ℤ → Place → Room → Room
+    → List Node → List Node → List ℕ → List ℕ → Type 0
+IsTapeWith old new b status place old_room room old_nodes nodes old_text text =
+    IsCallWith old new status place ((room ≡ old_room) × (nodes ≡ old_nodes) × (text ≡ old_text))
+    (λ was lists. IsLent (λ fault ns. IsReadWith was b fault ns lists) b status place old_room room old_nodes nodes old_text text)

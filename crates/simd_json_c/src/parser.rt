@@ -1,0 +1,124 @@
+//! A parser that C keeps: its lists serve one parse after another.
+ghost use Rattle.std.specs.Prelude.{◌≡◌, Some, None, is_some, MatchOption, IfSome};
+ghost use Rattle.simd_json_c.specs.Kept.{IsCheckedWith, IsOpened, IsTapeWith, new_lists};
+
+use crate::held::Held;
+use crate::lists::Lists;
+use crate::loose::Loose;
+use crate::nodes::{Node, Room};
+use crate::status::{OUT_OF_MEMORY, PARSER_CLOSED, Place, reported};
+use std::alloc::Global;
+use std::mem::replace;
+
+/// An open parser, or a closed one, as one of zeros is.
+#[repr(C)]
+#[derive(Drop)]
+pub struct Parser {
+    held: Held,
+    is_open: bool,
+    ghost agrees: { is_open ≡ is_some held.value },
+}
+
+impl Parser {
+    pub(crate) fn closed(alloc: Global) -> Parser
+        ensures { result.held.value ≡ None }
+    {
+        Parser {
+            held: Held::empty(alloc),
+            is_open: false,
+        }
+    }
+
+    fn open(lists: Box<Lists>) -> Parser
+        ensures { result.held.value ≡ Some lists.value }
+    {
+        Parser {
+            held: Held::full(Loose::of(lists)),
+            is_open: true,
+        }
+    }
+
+    fn into_lists(self) -> Option<Box<Lists>>
+        ensures { MatchOption result (self.held.value ≡ None) (λ lists. self.held.value ≡ Some lists.value) }
+    {
+        let Parser { held, is_open } = self;
+        if is_open {
+            return Some(held.into_loose().into_box());
+        }
+        None
+    }
+}
+
+fn opened(alloc: Global, max_depth: usize) -> Option<Parser>
+    ensures { IfSome result (λ parser. parser.held.value ≡ Some (new_lists max_depth)) }
+{
+    let lists = Lists::new(alloc, max_depth).ok()?;
+    Some(Parser::open(Box::new(alloc, lists).ok()?))
+}
+
+/// Opens a parser. One that is open is closed first.
+#[unsafe(no_mangle)]
+pub extern "C" fn simd_json_open(alloc: Global, parser: &mut Parser, max_depth: usize) -> i32
+    ensures { IsOpened max_depth result parser.new.held.value }
+{
+    simd_json_close(alloc, parser);
+    match opened(alloc, max_depth) {
+        Some(open) => {
+            *parser = open;
+            0
+        }
+        None => OUT_OF_MEMORY,
+    }
+}
+
+/// Whether the input is a document of at most as many open containers as the parser was opened for.
+#[unsafe(no_mangle)]
+pub extern "C" fn simd_json_parser_check(
+    alloc: Global,
+    parser: &mut Parser,
+    input: &mut [u8],
+    place: &mut Place,
+) -> i32
+    ensures { IsCheckedWith parser.old.held.value parser.new.held.value input.old result place.new }
+{
+    match replace(parser, Parser::closed(alloc)).into_lists() {
+        Some(mut lists) => {
+            let outcome = lists.check(alloc, input);
+            *parser = Parser::open(lists);
+            reported(outcome, place)
+        }
+        None => reported(Ok(PARSER_CLOSED), place),
+    }
+}
+
+/// The nodes of a document, and the texts of its strings and decimals, in memory that is lent.
+#[unsafe(no_mangle)]
+pub extern "C" fn simd_json_parser_tape(
+    alloc: Global,
+    parser: &mut Parser,
+    input: &mut [u8],
+    nodes: &mut [Node],
+    text: &mut [u8],
+    room: &mut Room,
+    place: &mut Place,
+) -> i32
+    ensures { IsTapeWith parser.old.held.value parser.new.held.value input.old result place.new
+        room.old room.new nodes.old nodes.new text.old text.new }
+{
+    match replace(parser, Parser::closed(alloc)).into_lists() {
+        Some(mut lists) => {
+            let outcome = lists.tape(alloc, input, nodes, text, room);
+            *parser = Parser::open(lists);
+            reported(outcome, place)
+        }
+        None => reported(Ok(PARSER_CLOSED), place),
+    }
+}
+
+/// Frees what the parser keeps, and closes it.
+#[unsafe(no_mangle)]
+pub extern "C" fn simd_json_close(alloc: Global, parser: &mut Parser)
+    ensures { parser.new.held.value ≡ None }
+{
+    let _lists = replace(parser, Parser::closed(alloc)).into_lists();
+}
