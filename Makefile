@@ -1,7 +1,8 @@
 # Two commands: `make` proves and builds what there is and shows the first run, `make test` passes the gate.
+# `make build/log_report` builds the program that counts the lines of a log.
 # Both need the toolchain's command `rt` on the PATH, and nothing else. Besides, `make CPU=x86-64-v3` builds for processors of
 # that level, and `make bench` measures: bench/run.sh says what it takes.
-.PHONY: all library test bench vendor install install-library uninstall clean has-rt
+.PHONY: all library test bench vendor install install-library uninstall clean has-rt build/log_report
 
 # The level that programs are built for. Empty: the toolchain's default.
 CPU =
@@ -15,6 +16,12 @@ all: has-rt $(if $(CPU),library)
 	cd crates/jcheck && rt run $(cpu) -- ../../examples/nested-list.json
 	cp crates/jcheck/out/jcheck build/jcheck
 	build/jtape tape < examples/nested-list.json
+
+# It counts a document that is no object.
+build/log_report: has-rt
+	cd crates/log_report && rt run $(cpu) -- level < ../../examples/nested-list.json > /dev/null
+	mkdir -p build
+	cp crates/log_report/out/log_report build/log_report
 
 # The library for programs in C, static and shared. Each needs nothing beside it but malloc, realloc, free, memcpy and memset:
 # the toolchain's heap is in it, and the exports alone are visible.

@@ -1,6 +1,6 @@
 mod DepthWords
-mod Given
+pub mod Given
 mod Modes
 mod Outputs
-mod Pieces
+pub mod Pieces
 mod Streams

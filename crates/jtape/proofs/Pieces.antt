@@ -53,7 +53,7 @@ and-both : (p q : Bool) → (p ≡ true → ⊥) → q ≡ true → (not p && q)
 and-both true q never _ = absurd (never refl)
 and-both false q _ is = is
 
-none-before : (hay : List ℕ) (k : ℕ) → ((j : ℕ) → 0 ≤ j → j < k → is_byte line_feed (slice_index hay j) ≡ true → ⊥) → has_none (take k hay) ≡ true
+pub none-before : (hay : List ℕ) (k : ℕ) → ((j : ℕ) → 0 ≤ j → j < k → is_byte line_feed (slice_index hay j) ≡ true → ⊥) → has_none (take k hay) ≡ true
 none-before hay zero _ = refl
 none-before [] (suc k) _ = refl
 none-before (x ∷ hay) (suc k) none =
@@ -64,7 +64,7 @@ split-at [] k l = absurd (omega (arith, l))
 split-at (x ∷ hay) zero l = refl
 split-at (x ∷ hay) (suc k) l = ap (λ ys. x ∷ ys) (split-at hay k (omega (arith, l)))
 
-is-equal : (x : ℕ) → is_byte line_feed x ≡ true → x ≡ line_feed
+pub is-equal : (x : ℕ) → is_byte line_feed x ≡ true → x ≡ line_feed
 is-equal x is = grind (arith, is)
 
 pub found-cut : (hay piece after more : List ℕ) (k : ℕ) → IsFirstByte (is_byte line_feed) hay (Some k) → piece ≡ take k hay → after ≡ drop k hay → more ≡ drop 1 after

@@ -54,8 +54,10 @@ impl<T> Port<T> {
 }
 
 impl<R: Read> Port<R> {
-    // Reads some bytes into the front of a buffer.
-    pub(crate) fn read(&mut self, buf: &mut [u8]) -> io::Result<usize>
+    /// Reads some bytes into the front of a buffer, as `Read::read` does.
+    ///
+    /// Fails where the reader does. The port has failed then.
+    pub fn read(&mut self, buf: &mut [u8]) -> io::Result<usize>
         ensures bound { ReadsAtMost result buf.new }
         ensures bytes { ReadConsumes (R.remaining self.old.inner) (R.remaining self.new.inner)
             result buf.new }

@@ -1,0 +1,9 @@
+mod Blocks
+mod Feeds
+mod Labels
+mod LengthWords
+mod Orders
+mod Pendings
+mod Places
+mod Shown
+mod Writes
