@@ -1,88 +1,100 @@
 use super::*;
+use std::process::Abort;
 use std::test::Fail;
 
 // What is written of an input, and whether it is clean.
-fn written(rt: &HostRuntime, input: &[u8], has_lines: bool) -> Result<(bool, String), Fail> {
+fn written(rt: &impl AllocGlobal, input: &[u8], has_lines: bool) -> Result<(bool, String), Fail> {
     let mut checker = Checker::new(rt.alloc(), 4)?;
     let mut out = Vec::new(rt.alloc());
     let clean = check_input(&mut checker, &mut out, "f", input, has_lines)?;
     Ok((clean, String::from_utf8(out)?))
 }
 
+// Of an input, what is written; it is clean where nothing is.
+fn assert_written(
+    rt: &(impl AllocGlobal + Abort),
+    input: &[u8],
+    text: &str,
+    has_lines: bool,
+) -> Result<(), Fail> {
+    let (clean, out) = written(rt, input, has_lines)?;
+    assert_eq!(rt; out.as_str(), text);
+    assert_eq!(rt; clean, text.is_empty(), "{text}");
+    Ok(())
+}
+
+const REFUSED: [(&[u8], &str); 10] = [
+    (b"[1,[2]]\n", ""),
+    (
+        b"[1,\n  2 3]\n",
+        "f:2:5: expected `,` or `]` after an element, found `3` [ExpectedArrayContent at byte 8]\n  2 3]\n    ^\n",
+    ),
+    // at the end of the input, and after the last line feed
+    (
+        b"",
+        "f:1:1: expected a value, found only whitespace [Eof at byte 0]\n\n^\n",
+    ),
+    (
+        b" \n ",
+        "f:2:2: expected a value, found only whitespace [Eof at byte 3]\n \n ^\n",
+    ),
+    // a tab and a carriage return are shown as spaces
+    (
+        b"{\t\"a\":\tx}\r\n",
+        "f:1:8: expected a value, found `x` [InternalError at byte 7]\n{ \"a\": x} \n       ^\n",
+    ),
+    // characters of two to four bytes before the place
+    (
+        b"[\"\xc3\xa9\xe2\x82\xac\xf0\x9f\x98\x80\", nul]",
+        "f:1:9: expected `null` [ExpectedNull at byte 14]\n[\"\u{e9}\u{20ac}\u{1f600}\", nul]\n        ^\n",
+    ),
+    (
+        b"[\"\xff\"]",
+        "f:1:3: byte 255 begins no UTF-8 character [InvalidUtf8 at byte 2]\n[\"\u{fffd}\"]\n  ^\n",
+    ),
+    (
+        b"[\"a\", \"b]",
+        "f:1:7: the string that begins here has no end [Syntax at byte 6]\n[\"a\", \"b]\n      ^\n",
+    ),
+    // a line is cut: 39 characters before the place, 78 in all
+    (
+        b"[000000000000000000000000000000000000000000]",
+        "f:1:3: malformed number [InvalidNumber at byte 2]\n[000000000000000000000000000000000000000000]\n  ^\n",
+    ),
+    (
+        b"[\"0123456789012345678901234567890123456789\",x,\"0123456789012345678901234567890123456789\"]",
+        "f:1:45: expected a value, found `x` [InternalError at byte 44]\n3456789012345678901234567890123456789\",x,\"012345678901234567890123456789012345\n                                       ^\n",
+    ),
+];
+
 #[test]
 fn refusals_are_shown(rt: HostRuntime) -> Result<(), Fail> {
-    let rows: [(&[u8], &str); 10] = [
-        (b"[1,[2]]\n", ""),
-        (
-            b"[1,\n  2 3]\n",
-            "f:2:5: expected `,` or `]` after an element, found `3` [ExpectedArrayContent at byte 8]\n  2 3]\n    ^\n",
-        ),
-        // at the end of the input, and after the last line feed
-        (
-            b"",
-            "f:1:1: expected a value, found only whitespace [Eof at byte 0]\n\n^\n",
-        ),
-        (
-            b" \n ",
-            "f:2:2: expected a value, found only whitespace [Eof at byte 3]\n \n ^\n",
-        ),
-        // a tab and a carriage return are shown as spaces
-        (
-            b"{\t\"a\":\tx}\r\n",
-            "f:1:8: expected a value, found `x` [InternalError at byte 7]\n{ \"a\": x} \n       ^\n",
-        ),
-        // characters of two to four bytes before the place
-        (
-            b"[\"\xc3\xa9\xe2\x82\xac\xf0\x9f\x98\x80\", nul]",
-            "f:1:9: expected `null` [ExpectedNull at byte 14]\n[\"\u{e9}\u{20ac}\u{1f600}\", nul]\n        ^\n",
-        ),
-        (
-            b"[\"\xff\"]",
-            "f:1:3: byte 255 begins no UTF-8 character [InvalidUtf8 at byte 2]\n[\"\u{fffd}\"]\n  ^\n",
-        ),
-        (
-            b"[\"a\", \"b]",
-            "f:1:7: the string that begins here has no end [Syntax at byte 6]\n[\"a\", \"b]\n      ^\n",
-        ),
-        // a line is cut: 39 characters before the place, 78 in all
-        (
-            b"[000000000000000000000000000000000000000000]",
-            "f:1:3: malformed number [InvalidNumber at byte 2]\n[000000000000000000000000000000000000000000]\n  ^\n",
-        ),
-        (
-            b"[\"0123456789012345678901234567890123456789\",x,\"0123456789012345678901234567890123456789\"]",
-            "f:1:45: expected a value, found `x` [InternalError at byte 44]\n3456789012345678901234567890123456789\",x,\"012345678901234567890123456789012345\n                                       ^\n",
-        ),
-    ];
-    for (input, text) in rows {
-        let (clean, out) = written(&rt, input, false)?;
-        assert_eq!(rt; out.as_str(), text);
-        assert_eq!(rt; clean, text.is_empty(), "{text}");
+    for (input, text) in &REFUSED {
+        assert_written(&rt, input, text, false)?;
     }
     Ok(())
 }
 
+const LINES: [(&[u8], &str); 4] = [
+    (b"1\n\n {} \r\n\"a\"\n", ""),
+    (
+        b"1\n\n[1,]\n2",
+        "f:3:4: expected a value, found `]` [InternalError at byte 6]\n[1,]\n   ^\n",
+    ),
+    (
+        b"x\r\n\"a",
+        "f:1:1: expected a value, found `x` [InternalError at byte 0]\nx \n^\nf:2:1: the string that begins here has no end [Syntax at byte 3]\n\"a\n^\n",
+    ),
+    (
+        b"[[[[[1]]]]]",
+        "f:1:5: one container more than the depth limit [DepthLimitExceeded at byte 4]\n[[[[[1]]]]]\n    ^\n",
+    ),
+];
+
 #[test]
 fn lines_have_their_numbers(rt: HostRuntime) -> Result<(), Fail> {
-    let rows: [(&[u8], &str); 4] = [
-        (b"1\n\n {} \r\n\"a\"\n", ""),
-        (
-            b"1\n\n[1,]\n2",
-            "f:3:4: expected a value, found `]` [InternalError at byte 6]\n[1,]\n   ^\n",
-        ),
-        (
-            b"x\r\n\"a",
-            "f:1:1: expected a value, found `x` [InternalError at byte 0]\nx \n^\nf:2:1: the string that begins here has no end [Syntax at byte 3]\n\"a\n^\n",
-        ),
-        (
-            b"[[[[[1]]]]]",
-            "f:1:5: one container more than the depth limit [DepthLimitExceeded at byte 4]\n[[[[[1]]]]]\n    ^\n",
-        ),
-    ];
-    for (input, text) in rows {
-        let (clean, out) = written(&rt, input, true)?;
-        assert_eq!(rt; out.as_str(), text);
-        assert_eq!(rt; clean, text.is_empty(), "{text}");
+    for (input, text) in &LINES {
+        assert_written(&rt, input, text, true)?;
     }
     Ok(())
 }
