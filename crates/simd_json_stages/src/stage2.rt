@@ -32,7 +32,6 @@ mod progress;
 mod scalar;
 mod text;
 
-use core::mem::replace_with;
 use fault::{Fault, FaultKind};
 use machine::{Machine, Route};
 pub use scalar::{is_valid_false_atom, is_valid_null_atom, is_valid_true_atom};
@@ -143,38 +142,35 @@ pub fn build_tape<'de, A: Allocator>(
     ensures built { OnOk result (IsListed input.old max_depth nodes.new.items) }
     ensures refused { IfErr result (λ e. IsTokenFault e × (descent input.old max_depth ≡ Err e)) }
 {
-    let built = replace_with(nodes, input, |nodes, input| {
-        build_nodes(
-            input,
-            structural_indexes,
-            escape_blocks,
-            stack,
-            nodes,
-            max_depth,
-        )
-    });
-    match built {
+    match build_nodes(
+        input,
+        structural_indexes,
+        escape_blocks,
+        stack,
+        nodes,
+        max_depth,
+    ) {
         Ok(()) => Ok(()),
         Err(fault) => Err(fault.into_error()),
     }
 }
 
-// The list with the nodes of the tape, or the fault of the machine.
+// The nodes of the tape, or the fault of the machine.
 fn build_nodes<'de, A: Allocator>(
     input: &'de mut [u8],
     indexes: &[u32],
     escape_blocks: &[u32],
     stack: &mut [StackState],
-    nodes: Vec<Node<'de>, A>,
+    nodes: &mut Vec<Node<'de>, A>,
     max_depth: usize,
-) -> (Vec<Node<'de>, A>, std::result::Result<(), Fault>)
+) -> std::result::Result<(), Fault>
     requires positions { indexes.now ≡ positions input.old }
     requires escapes { escape_blocks.now ≡ backslash_blocks input.old }
     requires whole { input_fault input.old ≡ None }
-    requires capacities { HasCapacity indexes.now max_depth stack.old (vec_capacity nodes) }
-    requires empty { nodes.items ≡ [] }
-    ensures capacity { vec_capacity result.0 ≡ vec_capacity nodes.entry }
-    ensures tape { IsTape input.old indexes.now max_depth result.0.items result.1 }
+    requires capacities { HasCapacity indexes.now max_depth stack.old (vec_capacity nodes.old) }
+    requires empty { nodes.old.items ≡ [] }
+    ensures capacity { vec_capacity nodes.new ≡ vec_capacity nodes.old }
+    ensures tape { IsTape input.old indexes.now max_depth nodes.new.items result }
 {
     let last = input[indexes[indexes.len() - 1] as usize];
     if last != b']' && last != b'}' {
@@ -187,25 +183,25 @@ fn build_nodes<'de, A: Allocator>(
 }
 
 // There is a copy of the machine for each answer to whether the text has a backslash, and to whether its last
-// position closes a container, so that the loops do not ask. Each is a function of its own that has the list of
-// nodes by value, so that its state and the length of the list stay in registers.
+// position closes a container, so that the loops do not ask. Each is a function of its own, so that its state
+// stays in registers.
 
 #[inline(never)]
 fn shared_tape<'de, A: Allocator>(
     input: &'de [u8],
     indexes: &[u32],
     stack: &mut [StackState],
-    nodes: Vec<Node<'de>, A>,
+    nodes: &mut Vec<Node<'de>, A>,
     max_depth: usize,
-) -> (Vec<Node<'de>, A>, std::result::Result<(), Fault>)
+) -> std::result::Result<(), Fault>
     ghost b: { List ℕ }
     requires input { input.now ≡ b }
     requires plain { PlainFrom b 0 (length b) }
     requires route { IsOnRoute true b indexes.now }
-    requires capacities { HasCapacity indexes.now max_depth stack.old (vec_capacity nodes) }
-    requires empty { nodes.items ≡ [] }
-    ensures capacity { vec_capacity result.0 ≡ vec_capacity nodes.entry }
-    ensures tape { IsTape b indexes.now max_depth result.0.items result.1 }
+    requires capacities { HasCapacity indexes.now max_depth stack.old (vec_capacity nodes.old) }
+    requires empty { nodes.old.items ≡ [] }
+    ensures capacity { vec_capacity nodes.new ≡ vec_capacity nodes.old }
+    ensures tape { IsTape b indexes.now max_depth nodes.new.items result }
 {
     let text = Text::shared(input);
     let mut machine = Machine { text, stack };
@@ -214,9 +210,7 @@ fn shared_tape<'de, A: Allocator>(
         ends_closed: true,
         max_depth,
     };
-    let mut nodes = nodes;
-    let built = machine.build::<A, 0>(route, &mut nodes);
-    (nodes, built)
+    machine.build::<A, 0>(route, nodes)
 }
 
 #[inline(never)]
@@ -225,17 +219,17 @@ fn closed_tape<'de, A: Allocator>(
     indexes: &[u32],
     escape_blocks: &[u32],
     stack: &mut [StackState],
-    nodes: Vec<Node<'de>, A>,
+    nodes: &mut Vec<Node<'de>, A>,
     max_depth: usize,
-) -> (Vec<Node<'de>, A>, std::result::Result<(), Fault>)
+) -> std::result::Result<(), Fault>
     ghost b: { List ℕ }
     requires input { input.old ≡ b }
     requires escapes { escape_blocks.now ≡ backslash_blocks b }
     requires route { IsOnRoute true b indexes.now }
-    requires capacities { HasCapacity indexes.now max_depth stack.old (vec_capacity nodes) }
-    requires empty { nodes.items ≡ [] }
-    ensures capacity { vec_capacity result.0 ≡ vec_capacity nodes.entry }
-    ensures tape { IsTape b indexes.now max_depth result.0.items result.1 }
+    requires capacities { HasCapacity indexes.now max_depth stack.old (vec_capacity nodes.old) }
+    requires empty { nodes.old.items ≡ [] }
+    ensures capacity { vec_capacity nodes.new ≡ vec_capacity nodes.old }
+    ensures tape { IsTape b indexes.now max_depth nodes.new.items result }
 {
     let text = Text::lent(input, escape_blocks);
     let mut machine = Machine { text, stack };
@@ -244,9 +238,7 @@ fn closed_tape<'de, A: Allocator>(
         ends_closed: true,
         max_depth,
     };
-    let mut nodes = nodes;
-    let built = machine.build::<A, 1>(route, &mut nodes);
-    (nodes, built)
+    machine.build::<A, 1>(route, nodes)
 }
 
 #[inline(never)]
@@ -255,17 +247,17 @@ fn open_tape<'de, A: Allocator>(
     indexes: &[u32],
     escape_blocks: &[u32],
     stack: &mut [StackState],
-    nodes: Vec<Node<'de>, A>,
+    nodes: &mut Vec<Node<'de>, A>,
     max_depth: usize,
-) -> (Vec<Node<'de>, A>, std::result::Result<(), Fault>)
+) -> std::result::Result<(), Fault>
     ghost b: { List ℕ }
     requires input { input.old ≡ b }
     requires escapes { escape_blocks.now ≡ backslash_blocks b }
     requires route { IsOnRoute false b indexes.now }
-    requires capacities { HasCapacity indexes.now max_depth stack.old (vec_capacity nodes) }
-    requires empty { nodes.items ≡ [] }
-    ensures capacity { vec_capacity result.0 ≡ vec_capacity nodes.entry }
-    ensures tape { IsTape b indexes.now max_depth result.0.items result.1 }
+    requires capacities { HasCapacity indexes.now max_depth stack.old (vec_capacity nodes.old) }
+    requires empty { nodes.old.items ≡ [] }
+    ensures capacity { vec_capacity nodes.new ≡ vec_capacity nodes.old }
+    ensures tape { IsTape b indexes.now max_depth nodes.new.items result }
 {
     let text = Text::lent(input, escape_blocks);
     let mut machine = Machine { text, stack };
@@ -274,7 +266,5 @@ fn open_tape<'de, A: Allocator>(
         ends_closed: false,
         max_depth,
     };
-    let mut nodes = nodes;
-    let built = machine.build::<A, 2>(route, &mut nodes);
-    (nodes, built)
+    machine.build::<A, 2>(route, nodes)
 }
