@@ -4,11 +4,10 @@ ghost use Rattle.std.specs.Char.{is_ascii_digit};
 ghost use Rattle.simd_json_parts.specs.NumberRead.{IsNumberAt};
 ghost use Rattle.simd_json_parts.specs.NumeralRead.{IsNumeralAt};
 
-use crate::charutils::{byte_or_space, is_structural_or_whitespace};
+use crate::charutils::byte_or_space;
 use crate::node::StaticNode;
-use crate::numberparse::look::parse_by_look;
 use crate::numberparse::plain::{int_end, parse_plainly};
-use crate::numberparse::short::{digit_word, digits_len, parse_longer, value_of_digits};
+use crate::numberparse::short::parse_longer;
 
 mod integers;
 mod look;
@@ -18,6 +17,7 @@ mod short;
 mod tests;
 
 pub use integers::parse_long;
+pub use short::parse_short;
 
 /// What stands at the front of some bytes, read as a number.
 #[derive(Clone, Copy, Debug, Drop, PartialEq, Eq)]
@@ -73,26 +73,14 @@ pub fn parse_number(bytes: &[u8]) -> Number
 }
 
 /// Reads the same number, without the node and the length of an integer. A caller that goes on at the next
-/// token needs neither. Integers of one to eight digits and decimals, which are most, are read here, in the
-/// caller's code.
-#[inline(always)]
+/// token needs neither.
+#[cold]
+#[inline(never)]
 pub fn parse_numeral(bytes: &[u8]) -> Numeral
     ensures { (b : List ℕ) (i : ℕ) → drop i b ≡ bytes.now → IsNumeralAt b i result }
 {
     if bytes.len() < 32 {
         return parse_plainly(bytes);
-    }
-    let start = (bytes[0] == b'-') as usize;
-    let word = digit_word(bytes, start);
-    let len = digits_len(word);
-    if bytes[start + len] == b'.' {
-        return parse_by_look(bytes);
-    }
-    if len != 0
-        && (len == 1 || word % 256 != 0)
-        && is_structural_or_whitespace(bytes[start + len])
-    {
-        return Numeral::Integer(value_of_digits(word, len));
     }
     parse_longer(bytes)
 }

@@ -3,6 +3,7 @@ mod CarryLaws
 mod Steps
 mod Holding
 mod ScalarLaws
+mod Booleans
 mod Places
 mod TokenForms
 mod Bounds

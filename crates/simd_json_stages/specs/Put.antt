@@ -1,6 +1,7 @@
 -- What a reader of one value answers that is put as the next node.
-use Rattle.std.specs.Prelude.{◌≡◌, ◌⊎◌, ℕ, List, [], ◌∷◌, ◌++◌, Bool, true, false, Ok, Err}
-use Rattle.simd_json_parts.specs.Bytes.{byte_at}
+use Rattle.std.specs.Prelude.{◌≡◌, ◌⊎◌, ℕ, List, [], ◌∷◌, ◌++◌, Bool, true, false, ◌&&◌, nat_eq, codes, Ok, Err}
+use Rattle.std.specs.List.{starts_with}
+use Rattle.simd_json_parts.specs.Bytes.{byte_at, is_terminator}
 use Rattle.simd_json_parts.specs.Document.{Document}
 use Rattle.simd_json_parts.specs.Faults.{fault_with}
 use Rattle.simd_json_parts.specs.Listing.{listing}
@@ -35,6 +36,11 @@ pub record IsScalarPut (b : List ℕ) (i : ℕ) (nodes nodes' : List Node) (read
 -- the fault is the string's
 abbrev pub IsBadString : List ℕ → ℕ → Fault → Type 0
 IsBadString b i f = string_at b i ≡ Err (fault_with (error_type f.kind) f.index f.byte)
+
+-- the letters of a boolean and a terminator are at the front
+abbrev pub is_boolean : Bool → List ℕ → Bool
+is_boolean true bs = starts_with nat_eq bs (codes "true") && is_terminator (byte_at bs 4)
+is_boolean false bs = starts_with nat_eq bs (codes "false") && is_terminator (byte_at bs 5)
 
 abbrev pub begins_value : Form → Bool
 begins_value begin_array = true

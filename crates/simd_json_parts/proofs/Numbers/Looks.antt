@@ -79,7 +79,7 @@ module _ (b : List ℕ) (whole end : ℕ) (w : IsWhole b whole) (f : IsFraction 
     pub seen-exponent : IsNumeralAt bs i (ended (matches (optional exp) (take far (drop end b))) (is_terminator (byte_at b (end + far))))
     seen-exponent = at-tests _ _ refl refl
 
--- ---- an integer whose digits were seen, and a terminator after them
+-- ---- a number whose digits were seen
 
 -- where the digits begin, at the second byte at most
 pub sign-le : (l : List ℕ) (start : ℕ) → SignEnd l start → start ≤ 1
@@ -104,13 +104,24 @@ sign-start l start whole sign some =
     by (inr (other, at)) = ap bool_byte (ne_eqb (byte_at l 0) 45 other) ∙ sym at
 
 module _ (b : List ℕ) (i : ℕ) (l : List ℕ) (e : drop i b ≡ l) (start len : ℕ) (sign : SignEnd l start)
-    (run : len ≡ prefix_len is_ascii_digit (drop start l)) (some : 0 < len) (zero : byte_at l start ≡ 48 → len ≡ 1)
-    (inside : start + len < length l) (after : is_terminator (byte_at l (start + len)) ≡ true) where
-  pub seen-integer : (value : ℕ) → start + len ≤ 19 → value ≡ digits_value 10 (take len (drop start l)) → IsNumeralAt b i (Integer value)
-  seen-integer value short v =
+    (run : len ≡ prefix_len is_ascii_digit (drop start l)) (some : 0 < len) (zero : byte_at l start ≡ 48 → len ≡ 1) where
+  whole : IsWhole l (start + len)
+  whole = run-whole l start (start + len) sign (ap (λ n. start + n) run) (omega arith) (λ z. ap (λ n. start + n) (zero z))
+
+  -- a point, digits and a terminator after them
+  pub seen-decimal : byte_at l (start + len) ≡ 46 → (end : ℕ)
+      → end ≡ start + len + 1 + prefix_len is_ascii_digit (drop (start + len + 1) l) → start + len + 1 < end → end < length l
+      → is_terminator (byte_at l end) ≡ true → IsNumeralAt b i (Decimal end)
+  seen-decimal point end digits more inside after =
+      number_at-longer b i l e end (seen-end l (start + len) end whole (inr (point, digits, more)) inside after) (start + len) whole
+      (λ same. omega arith) after
+
+  -- a terminator after them
+  pub seen-integer : start + len < length l → is_terminator (byte_at l (start + len)) ≡ true
+      → (value : ℕ) → start + len ≤ 19 → value ≡ digits_value 10 (take len (drop start l)) → IsNumeralAt b i (Integer value)
+  seen-integer inside after value short v =
       let end : ℕ = start + len in
       let literal : List ℕ = take end l in
-      let whole : IsWhole l end = run-whole l start end sign (ap (λ n. start + n) run) (omega arith) (λ z. ap (λ n. start + n) (zero z)) in
       let no_point : byte_at l end ≢ 46 = λ p. both_ways (is_terminator 46) refl (ap is_terminator (sym p) ∙ after) in
       let reads : Reads number_literal l 0 (Ok end) = seen-end l end end whole (inl (no_point, refl)) inside after in
       let matched : Matches integer_literal literal = integer-literal l end whole in

@@ -1,6 +1,6 @@
 //! Reads a number at one look at 32 bytes.
 ghost use Rattle.std.specs.Prelude.{◌≡◌, ◌+◌, ◌≤◌, ◌<◌, ◌&&◌, ℕ, List, length, take, drop, map};
-ghost use Rattle.std.specs.Prelude.{if◌then◌else◌};
+ghost use Rattle.std.specs.Prelude.{if◌then◌else◌, IfSome, true};
 ghost use Rattle.std.specs.Char.{is_ascii_digit};
 ghost use Rattle.std.specs.List.{prefix_len};
 ghost use Rattle.std.specs.Simd.Lanes.{mask_l};
@@ -46,6 +46,21 @@ pub(super) fn parse_by_look(bytes: &[u8]) -> Numeral
         };
     }
     parse_exponent(bytes, end)
+}
+
+// The end of the decimal whose point has this index, where the first 32 bytes show it: digits, and a terminator.
+#[inline(always)]
+pub(super) fn fraction_end(bytes: &[u8], point: usize) -> Option<usize>
+    requires { (32 ≤ length bytes.now) × (point < 32) }
+    ensures { IfSome result (λ end. (end ≡ point + 1 + prefix_len is_ascii_digit (drop (point + 1) bytes.now))
+        × (point + 1 < end) × (end < length bytes.now) × (is_terminator (byte_at bytes.now end) ≡ true)) }
+{
+    let stops = non_digits(u8x32::from_slice(bytes));
+    let end = run_end(stops, point + 1);
+    if end >= 32 || end == point + 1 || !is_structural_or_whitespace(bytes[end]) {
+        return None;
+    }
+    Some(end)
 }
 
 // A number whose integer part, with a fraction or without, ends at `from` and not before a terminator: it has

@@ -1,5 +1,5 @@
 //! Reads integers of one to sixteen digits by words of eight bytes, with no loop.
-ghost use Rattle.std.specs.Prelude.{◌≡◌, ◌+◌, ◌^◌, ◌≤◌, ◌<◌, ℕ, List, length, take, drop};
+ghost use Rattle.std.specs.Prelude.{◌≡◌, ◌+◌, ◌^◌, ◌≤◌, ◌<◌, ℕ, List, length, take, drop, IfSome};
 ghost use Rattle.std.specs.Char.{is_ascii_digit};
 ghost use Rattle.std.specs.List.{prefix_len};
 ghost use Rattle.std.specs.Str.Parse.{digits_value};
@@ -7,14 +7,44 @@ ghost use Rattle.simd_json_parts.specs.DigitRuns.{AreEightBytes, word_of};
 ghost use Rattle.simd_json_parts.specs.NumeralRead.{IsNumeralAt};
 
 use super::Numeral;
-use super::look::parse_by_look;
+use super::look::{fraction_end, parse_by_look};
 use crate::charutils::is_structural_or_whitespace;
 
+/// Reads the number at the front where it is short: an integer of one to eight digits, or a decimal with as many
+/// before its point that ends within 32 bytes. Returns `None` for any other, which [`parse_numeral`] reads, and
+/// where fewer than 32 bytes are left.
+///
+/// It is read in the caller's code, without a loop. [`parse_numeral`] is a function apart, marked as rare, so that
+/// LLVM keeps what the caller's loop holds in registers, and saves it at that call alone.
+///
+/// [`parse_numeral`]: super::parse_numeral
+#[inline(always)]
+pub fn parse_short(bytes: &[u8]) -> Option<Numeral>
+    ensures { (b : List ℕ) (i : ℕ) → drop i b ≡ bytes.now → IfSome result (IsNumeralAt b i) }
+{
+    if bytes.len() < 32 {
+        return None;
+    }
+    let start = (bytes[0] == b'-') as usize;
+    let word = digit_word(bytes, start);
+    let len = digits_len(word);
+    if len == 0 || (len != 1 && word % 256 == 0) {
+        return None;
+    }
+    let end = start + len;
+    if bytes[end] == b'.' {
+        let end = fraction_end(bytes, end)?;
+        return Some(Numeral::Decimal(end));
+    }
+    if !is_structural_or_whitespace(bytes[end]) {
+        return None;
+    }
+    Some(Numeral::Integer(value_of_digits(word, len)))
+}
+
 // The number at the front, where a look at eight bytes does not show the whole. Two words show an integer of
-// nine to sixteen digits: the second is read again from where its last eight digits begin. It is marked as rare
-// for its callers' sake: LLVM then keeps what their loops hold in registers, and saves it at this call alone.
-#[cold]
-#[inline(never)]
+// nine to sixteen digits: the second is read again from where its last eight digits begin.
+#[inline]
 pub(super) fn parse_longer(bytes: &[u8]) -> Numeral
     requires { 32 ≤ length bytes.now }
     ensures { (b : List ℕ) (i : ℕ) → drop i b ≡ bytes.now → IsNumeralAt b i result }

@@ -1,6 +1,6 @@
 //! Scalars that are no strings become nodes.
 ghost use Rattle.std.specs.Prelude.{◌≡◌, ◌≢◌, ◌<◌, ◌≤◌, ◌+◌, ◌^◌, ◌==◌, ◌&&◌, ◌||◌, ℕ, List, length, drop};
-ghost use Rattle.std.specs.Prelude.{nat_eq, codes, MatchResult, IfErr, OnOk, vec_capacity};
+ghost use Rattle.std.specs.Prelude.{nat_eq, codes, true, false, MatchOption, MatchResult, IfErr, OnOk, vec_capacity};
 ghost use Rattle.std.specs.Char.{is_ascii_digit};
 ghost use Rattle.std.specs.List.{starts_with};
 ghost use Rattle.simd_json_parts.specs.Bytes.{is_terminator, byte_at};
@@ -9,7 +9,7 @@ ghost use Rattle.simd_json_parts.specs.NumberRead.{IsNumberAt};
 ghost use Rattle.simd_json_parts.specs.NumeralRead.{IsIntegerLiteral};
 ghost use Rattle.simd_json_parts.specs.Tokens.{form_at, scalar};
 ghost use Rattle.simd_json_parts.specs.declared.numberparse.Number.TheVariants.{Integer, Invalid};
-ghost use Rattle.simd_json_stages.specs.Put.{IsScalarPut, IsNoScalar};
+ghost use Rattle.simd_json_stages.specs.Put.{is_boolean, IsScalarPut, IsNoScalar};
 ghost use Rattle.simd_json_stages.specs.Refusals.{error_type, refused_kind, number_refusal};
 ghost use Rattle.simd_json_stages.specs.Texts.{Reads};
 
@@ -18,7 +18,7 @@ use super::progress::Progress;
 use super::text::Text;
 use simd_json_parts::charutils::{byte_or_space, is_structural_or_whitespace};
 use simd_json_parts::node::{Node, StaticNode};
-use simd_json_parts::numberparse::{Numeral, is_integer, parse_long, parse_numeral};
+use simd_json_parts::numberparse::{Numeral, is_integer, parse_long, parse_numeral, parse_short};
 use std::alloc::Allocator;
 
 #[cfg(test)]
@@ -69,24 +69,64 @@ pub(super) fn put_scalar<'de, A: Allocator>(
     ensures put { OnOk result (IsScalarPut b p.at nodes.old.items nodes.new.items (Reads b text.new)) }
     ensures refused { IfErr result (IsNoScalar b p.at) }
 {
+    if p.byte == b'-' || is_integer(p.byte) {
+        return put_number(text, nodes, p);
+    }
     let rest = text.from(p.at);
-    match p.byte {
-        b't' if is_valid_true_atom(rest) => {
-            nodes.push_reserved(Node::Static(StaticNode::Bool(true)));
-        }
-        b'f' if is_valid_false_atom(rest) => {
-            nodes.push_reserved(Node::Static(StaticNode::Bool(false)));
-        }
-        b'n' if is_valid_null_atom(rest) => nodes.push_reserved(Node::Static(StaticNode::Null)),
-        b't' | b'f' | b'n' => return Err(no_scalar(p.at, p.byte)),
-        _ => {
-            if p.byte == b'-' || is_integer(p.byte) {
-                return put_number(text, nodes, p);
-            }
+    if p.byte == b'n' {
+        if !is_valid_null_atom(rest) {
             return Err(no_scalar(p.at, p.byte));
         }
+        nodes.push_reserved(Node::Static(StaticNode::Null));
+        return Ok(());
+    }
+    match parse_boolean(rest) {
+        Some(value) => nodes.push_reserved(Node::Static(StaticNode::Bool(value))),
+        None => return Err(no_scalar(p.at, p.byte)),
     }
     Ok(())
+}
+
+// The boolean at the front, before a structural character, whitespace or the end. Which of the two it may be is
+// computed from the first letter: a branch on it would be guessed wrong in every other one of mixed booleans.
+#[inline(always)]
+fn parse_boolean(bytes: &[u8]) -> Option<bool>
+    ensures { MatchOption result ((is_boolean true bytes.now ≡ false) × (is_boolean false bytes.now ≡ false))
+        (λ value. is_boolean value bytes.now ≡ true) }
+{
+    if bytes.len() < 6 {
+        return parse_last_boolean(bytes);
+    }
+    let letters = u32::from_le_bytes([bytes[0], bytes[1], bytes[2], bytes[3]]);
+    let is_true = (letters >> 4) & 1;
+    if letters != FALS - is_true * (FALS - TRUE) {
+        return None;
+    }
+    let end = 5 - is_true as usize;
+    if bytes[end - 1] != b'e' || !is_structural_or_whitespace(bytes[end]) {
+        return None;
+    }
+    Some(is_true == 1)
+}
+
+// Four letters as a word, the first lowest. A `t` has bit 4, and an `f` has not.
+const TRUE: u32 = 0x6575_7274;
+
+const FALS: u32 = 0x736c_6166;
+
+// The same near the end of the input.
+#[cold]
+fn parse_last_boolean(bytes: &[u8]) -> Option<bool>
+    ensures { MatchOption result ((is_boolean true bytes.now ≡ false) × (is_boolean false bytes.now ≡ false))
+        (λ value. is_boolean value bytes.now ≡ true) }
+{
+    if is_valid_true_atom(bytes) {
+        return Some(true);
+    }
+    if is_valid_false_atom(bytes) {
+        return Some(false);
+    }
+    None
 }
 
 // The fault at a token where no scalar stands that begins with its byte.
@@ -123,14 +163,41 @@ fn put_number<'de, A: Allocator>(
     ensures put { OnOk result (IsScalarPut b p.at nodes.old.items nodes.new.items (Reads b text.new)) }
     ensures refused { IfErr result (IsNoScalar b p.at) }
 {
-    let rest = text.from(p.at);
-    match parse_numeral(rest) {
-        Numeral::Integer(magnitude) => {
+    match parse_short(text.from(p.at)) {
+        Some(Numeral::Integer(magnitude)) => {
             if p.byte == b'-' {
                 nodes.push_reserved(Node::Static(StaticNode::integer(true, magnitude)));
             } else {
                 nodes.push_reserved(Node::Static(StaticNode::U64(magnitude)));
             }
+        }
+        Some(Numeral::Decimal(len)) => nodes.push_reserved(Node::Decimal(text.share(p.at, len))),
+        _ => return put_longer_number(text, nodes, p),
+    }
+    Ok(())
+}
+
+// The number at the last token, of any length, becomes the next node.
+#[inline(always)]
+fn put_longer_number<'de, A: Allocator>(
+    text: &mut Text<'_, 'de>,
+    nodes: &mut Vec<Node<'de>, A>,
+    p: Progress,
+) -> std::result::Result<(), Fault>
+    ghost b: { List ℕ }
+    requires text { Reads b text.old p.at }
+    requires at { (p.at < length b) × (p.byte ≡ byte_at b p.at) }
+    requires number { form_at b p.at ≡ scalar (number_at b p.at) }
+    requires room { length nodes.old.items < vec_capacity nodes.old }
+    ensures capacity { vec_capacity nodes.new ≡ vec_capacity nodes.old }
+    ensures put { OnOk result (IsScalarPut b p.at nodes.old.items nodes.new.items (Reads b text.new)) }
+    ensures refused { IfErr result (IsNoScalar b p.at) }
+{
+    let rest = text.from(p.at);
+    match parse_numeral(rest) {
+        Numeral::Integer(magnitude) => {
+            let node = StaticNode::integer(p.byte == b'-', magnitude);
+            nodes.push_reserved(Node::Static(node));
         }
         Numeral::Decimal(len) => nodes.push_reserved(Node::Decimal(text.share(p.at, len))),
         Numeral::Long(len) => nodes.push_reserved(Node::Static(read_long(rest, p.at, len)?)),
