@@ -31,7 +31,7 @@ impl<'t> Checker<'t> {
         }
     }
 
-    /// Where the bytes are no document, and why; none where they are one.
+    /// The place and the reason of the first error, or `None` of a document.
     pub fn check(&mut self, input: &[u8]) -> Result<Option<Location>, AllocError>
         ensures found { IfOk result (λ found. found ≡ found_in input.now self.old.buffers.limit) }
         ensures limit { self.new.buffers.limit ≡ self.old.buffers.limit }

@@ -9,7 +9,7 @@ const WIDTH: usize = 78;
 const BEFORE: usize = 39;
 
 /// Writes a line with the characters around a byte of the input that are in its line, and a line with a caret
-/// under that byte. What is no printable character is a space, and what is no UTF-8 is U+FFFD.
+/// under that byte. Control characters are shown as spaces, and what is not UTF-8 as U+FFFD.
 pub fn write_excerpt<W: Write>(out: &mut W, input: &[u8], byte: usize) -> io::Result<()> {
     let place = byte.min(input.len());
     let start = step_back(input, place);

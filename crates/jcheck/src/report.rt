@@ -44,10 +44,10 @@ impl Ended {
     }
 }
 
-/// Checks an input as one document, or each of its lines as one, and writes where and why what is none is
-/// refused. Returns whether nothing is.
+/// Checks an input as one document, or each of its lines as one, and writes the place and the reason of each
+/// error. Returns whether there is none.
 ///
-/// Fails where the writer does, or an allocation.
+/// Returns an error where the writer or an allocation fails.
 pub fn check_input<W: Write>(
     checker: &mut Checker<'_>,
     out: &mut W,

@@ -18,6 +18,8 @@
 //! Of ` [ 1, 2 ] ` it returns `Ok(true)` and the bytes `[1,2]` and a line feed. Of `[1,]`, which is refused, it
 //! returns `Err(RunFault::Refused(e))` and no byte, and `e` is displayed as
 //! `InternalError at character 3 (']')`.
+//!
+//! The program is a crate of its own, `jtape_main`, since a crate is either a library or a program.
 #![tactic(auto)]
 
 mod lines;

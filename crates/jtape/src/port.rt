@@ -9,8 +9,7 @@ use std::io;
 use std::io::{Read, Write};
 
 /// A reader or a writer that remembers whether a call on it failed, and whether it came to its end. The port's
-/// own calls alone set what it remembers, so that [`failed`](Port::failed) and [`ended`](Port::ended) tell what
-/// has happened.
+/// own calls alone set these flags, [`failed`](Port::failed) and [`ended`](Port::ended).
 #[derive(Drop)]
 pub struct Port<T> {
     inner: T,
@@ -30,15 +29,15 @@ impl<T> Port<T> {
         }
     }
 
-    /// Whether a read, a write or a flush through the port returned an error, or a write took nothing of a
-    /// piece that is not empty.
+    /// Whether a read, a write or a flush through the port returned an error, or a write wrote 0 bytes of a
+    /// non-empty buffer.
     pub fn failed(&self) -> bool
         ensures { result ≡ self.now.failed }
     {
         self.failed
     }
 
-    /// Whether a read into a buffer that is not empty gave no byte.
+    /// Whether a read into a non-empty buffer returned 0.
     pub fn ended(&self) -> bool
         ensures { result ≡ self.now.ended }
     {
@@ -75,7 +74,7 @@ impl<R: Read> Port<R> {
 }
 
 impl<W: Write> Port<W> {
-    /// Sees to it that what was written through the port reaches its destination, as `Write::flush` does.
+    /// Flushes the writer, as `Write::flush` does.
     ///
     /// Fails where the writer does. The port has failed then.
     pub fn flush(&mut self) -> io::Result<()>

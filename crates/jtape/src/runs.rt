@@ -26,7 +26,7 @@ pub type Answer = Result<bool>;
 /// Why a run wrote less than all of its output.
 #[derive(Debug, Drop, PartialEq)]
 pub enum RunFault {
-    /// The input was refused, or a growth was.
+    /// The input was refused, or an allocation failed.
     Refused(Error),
     /// The reader failed.
     Read,
@@ -85,18 +85,17 @@ pub fn status(answer: &Answer) -> u8
     }
 }
 
-/// Reads all that the reader gives, and writes what the mode asks for of the document that it read, in which
-/// at most `depth` containers may be open at a time. So what is written and returned is a function of the
-/// mode, the depth limit and what the reader gave; but an allocation may fail (`OutOfMemory`), the reader
-/// (`Read`) or the writer (`Write`).
+/// Reads to the reader's end, and writes the document in the form of the mode. At most `depth` containers may
+/// be open at a time. What is written and returned is a function of mode, depth limit and input, unless an
+/// allocation fails (`OutOfMemory`), the reader (`Read`) or the writer (`Write`).
 ///
 /// Nothing is written before the reader's port has ended, nor where the input is refused, nor after
-/// `OutOfMemory` or `Read`; after `Write` a beginning of the output was. Returns `Read` exactly where the
+/// `OutOfMemory` or `Read`; after `Write` a prefix of the output was written. Returns `Read` exactly where the
 /// reader's port has failed, and `Write` exactly where the writer's has.
 ///
-/// In mode `Lines` each piece between line feeds is a document of its own, or blank. One that is refused has
-/// a line that says why, and the run goes on and returns `Ok(false)`. After `OutOfMemory` the text of all
-/// pieces before the one that lacked memory was written there, and nothing else.
+/// In mode `Lines` each piece between line feeds is a document of its own, or blank. A refused one becomes a
+/// line with its error; reading continues, and `Ok(false)` is returned. Where an allocation fails at a piece,
+/// the text of all pieces before it was written, and nothing else.
 ///
 /// ```
 /// use jtape::{Mode, Port, run, status};

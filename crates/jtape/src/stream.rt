@@ -1,5 +1,8 @@
 //! Mode `lines`: what is written of each piece between line feeds. One set of lists serves all pieces, and one
-//! text goes to the writer.
+//! text is written.
+//!
+//! A piece's parse and its error's line allocate before any byte of the piece is put. At which piece an allocation
+//! failed no contract can say, since the allocator is not seen from outside; tests do.
 ghost use Rattle.std.specs.Prelude.{◌≡◌, ◌≢◌, ◌++◌, ◌∷◌, [], false, is_some, string_bytes, IfOk, IfErr, OnOk, OnErr, Err};
 ghost use Rattle.std.specs.Io.KnownBytes.{Appends};
 ghost use Rattle.jtape.specs.Output.{stream_output};

@@ -1,4 +1,5 @@
-//! A box of lists, or none, as C holds it.
+//! A box of lists, or none, as C holds it. Small functions turn the pointer into the box and back, each proved by
+//! hand; the rest is safe code.
 ghost use Rattle.std.specs.Prelude.{◌≡◌, ◌≢◌, Option, Some, None};
 ghost use Rattle.simd_json_c.specs.Holding.{held};
 ghost use Rattle.simd_json_c.specs.declared.lists.Lists.{Lists};

@@ -40,7 +40,7 @@ impl Lists {
         Ok(0)
     }
 
-    // The nodes of a document, and their texts, in memory that is lent.
+    // The nodes of a document, and their texts, in the caller's memory.
     pub(crate) fn tape(
         &mut self,
         alloc: Global,

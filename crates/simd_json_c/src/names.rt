@@ -62,7 +62,7 @@ fn lend_name(name: &[u8], out: &mut [u8]) -> usize
     name.len()
 }
 
-/// The name of a status, in memory that is lent.
+/// Writes the name of a status to the caller's memory.
 #[unsafe(no_mangle)]
 pub extern "C" fn simd_json_status_name(status: i32, out: &mut [u8]) -> usize
     ensures { IsNamed (status_name status) result out.old out.new }
@@ -70,7 +70,7 @@ pub extern "C" fn simd_json_status_name(status: i32, out: &mut [u8]) -> usize
     lend_name(name_of_status(status), out)
 }
 
-/// The name of a kind of node, in memory that is lent.
+/// Writes the name of a kind of node to the caller's memory.
 #[unsafe(no_mangle)]
 pub extern "C" fn simd_json_kind_name(kind: u32, out: &mut [u8]) -> usize
     ensures { IsNamed (kind_name kind) result out.old out.new }

@@ -1,4 +1,5 @@
-//! Nodes and texts in the memory that a program in C lends.
+//! Nodes and texts in the memory of a program in C. Texts are copied: no contract says what the input holds after
+//! a parse, so a node's text can't be an index into it. Integers are two words, since 128 bits don't cross to C.
 ghost use Rattle.std.specs.Prelude.{◌≡◌, ◌≤◌, ◌<◌, ◌+◌, ◌^◌, ◌++◌, ◌∷◌, [], take, drop, length, map};
 ghost use Rattle.simd_json_parts.specs.Nodes.{item_of};
 ghost use Rattle.simd_json_c.specs.Calls.{ArePut, IsPut};

@@ -1,4 +1,7 @@
 //! A parser that C keeps: its lists serve one parse after another.
+//!
+//! It is a box, held as a pointer and a flag. A struct of zeros is closed, so there is no null to test, and `open`
+//! has no pointer to return.
 ghost use Rattle.std.specs.Prelude.{◌≡◌, Some, None, is_some, MatchOption, IfSome};
 ghost use Rattle.simd_json_c.specs.Kept.{IsCheckedWith, IsOpened, IsTapeWith, new_lists};
 
@@ -91,7 +94,7 @@ pub extern "C" fn simd_json_parser_check(
     }
 }
 
-/// The nodes of a document, and the texts of its strings and decimals, in memory that is lent.
+/// Writes the nodes of a document, and the texts of its strings and decimals, to the caller's memory.
 #[unsafe(no_mangle)]
 pub extern "C" fn simd_json_parser_tape(
     alloc: Global,

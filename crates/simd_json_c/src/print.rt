@@ -1,4 +1,5 @@
-//! The printed text of a document.
+//! The printed text of a document. With too little room nothing is written but how much is needed, so a text is
+//! made first and then copied.
 ghost use Rattle.std.specs.Prelude.{◌≤◌, IfOk, IfErr, length, string_bytes};
 ghost use Rattle.simd_json_c.specs.Calls.{IsCompact, IsPretty, IsPrinted, IsTextOf, IsTextPut, IsUnprinted};
 ghost use Rattle.simd_json_parts.specs.Printed.{compact, pretty};
@@ -40,7 +41,7 @@ fn lend_text(text: &[u8], out: &mut [u8], needed: &mut usize) -> i32
     }
 }
 
-/// The compact text of a document, in memory that is lent.
+/// Writes the compact text of a document to the caller's memory.
 #[unsafe(no_mangle)]
 pub extern "C" fn simd_json_compact(
     alloc: Global,
@@ -59,7 +60,7 @@ pub extern "C" fn simd_json_compact(
     }
 }
 
-/// The pretty text of a document, in memory that is lent.
+/// Writes the pretty text of a document to the caller's memory.
 #[unsafe(no_mangle)]
 pub extern "C" fn simd_json_pretty(
     alloc: Global,

@@ -1,4 +1,4 @@
-//! What a program in C is told of an error.
+//! The errors that a program in C gets.
 ghost use Rattle.std.specs.Prelude.{◌≡◌, pos, Some, MatchResult};
 ghost use Rattle.std.specs.Result.{result_err};
 ghost use Rattle.simd_json_c.specs.Statuses.{number_of, place_of, status_of};
@@ -18,7 +18,7 @@ pub struct Place {
 // An allocation failed.
 pub(crate) const OUT_OF_MEMORY: i32 = 1;
 
-/// The memory that was lent is too small.
+/// The caller's memory is too small.
 pub(crate) const TOO_LITTLE_ROOM: i32 = 19;
 
 // The parser is closed.

@@ -30,7 +30,7 @@ fn tape(
     Ok(lend(tape.nodes(), most, nodes, text, room))
 }
 
-/// The nodes of a document, and the texts of its strings and decimals, in memory that is lent.
+/// Writes the nodes of a document, and the texts of its strings and decimals, to the caller's memory.
 #[unsafe(no_mangle)]
 pub extern "C" fn simd_json_tape(
     alloc: Global,

@@ -1,5 +1,5 @@
-//! The printed text of a document, from its nodes: compact, or pretty with a line for each member. 64 containers
-//! that are open while it prints take 672 bytes of the machine's stack at most.
+//! The printed text of a document, from its nodes: compact, or pretty with a line for each member. 64 nested
+//! containers take at most 672 bytes of stack. That there is enough of it is not proved.
 ghost use Rattle.std.specs.Prelude.{◌≡◌, ◌++◌, ℕ, map, take, OnOk, OnErr};
 ghost use Rattle.std.specs.Io.KnownBytes.{Appends};
 ghost use Rattle.simd_json_parts.specs.Document.{Document};
@@ -21,8 +21,8 @@ use std::alloc::{AllocError, Allocator};
 use std::io;
 use std::io::Write;
 
-// How many bytes are collected for a writer. They are on the stack and filled with zeros first, which a small
-// document pays for.
+// How many bytes are collected for a writer, or for a list, whose growth is then asked for once for so many.
+// They are on the stack and filled with zeros first, which a small document pays for.
 const PIECE: usize = 4096;
 
 /// Puts the compact text of the document that the nodes list.
@@ -45,8 +45,8 @@ pub fn put_pretty<T: Target, const SIZE: usize>(out: &mut Text<'_, T, SIZE>, nod
 
 /// Appends the compact text of the document that the nodes list.
 ///
-/// Fails where an allocation fails. What `out` held is then still in front, and a part of the text may stand
-/// after it.
+/// Returns an error where an allocation fails. `out` then begins with what it held, and a part of the text may
+/// follow.
 pub fn append_compact<A: Allocator>(
     out: &mut Vec<u8, A>,
     nodes: &[Node<'_>],
@@ -60,8 +60,8 @@ pub fn append_compact<A: Allocator>(
 
 /// Appends the pretty text of the document that the nodes list.
 ///
-/// Fails where an allocation fails. What `out` held is then still in front, and a part of the text may stand
-/// after it.
+/// Returns an error where an allocation fails. `out` then begins with what it held, and a part of the text may
+/// follow.
 pub fn append_pretty<A: Allocator>(
     out: &mut Vec<u8, A>,
     nodes: &[Node<'_>],
@@ -75,9 +75,8 @@ pub fn append_pretty<A: Allocator>(
 
 /// Writes the compact text of the document that the nodes list.
 ///
-/// Where the writer fails, or takes no byte of a piece that is not empty, that ends it at once: with the
-/// writer's own error, or one of kind `WriteZero`. What was written by then is a prefix of the text, after
-/// what the writer held before. It takes no memory.
+/// Where the writer fails, or writes 0 bytes of a non-empty buffer, printing ends at once with the writer's error,
+/// or one of kind `WriteZero`. What was written by then is a prefix of the text. It allocates no memory.
 pub fn write_compact<W: Write>(writer: &mut W, nodes: &[Node<'_>]) -> io::Result<()>
     ensures written { (d : Document) → map item_of nodes.now ≡ listing d
         → OnOk result (Appends (W.contents writer.old) (W.contents writer.new) (compact d)) }
@@ -93,9 +92,8 @@ pub fn write_compact<W: Write>(writer: &mut W, nodes: &[Node<'_>]) -> io::Result
 
 /// Writes the pretty text of the document that the nodes list.
 ///
-/// Where the writer fails, or takes no byte of a piece that is not empty, that ends it at once: with the
-/// writer's own error, or one of kind `WriteZero`. What was written by then is a prefix of the text, after
-/// what the writer held before. It takes no memory.
+/// Where the writer fails, or writes 0 bytes of a non-empty buffer, printing ends at once with the writer's error,
+/// or one of kind `WriteZero`. What was written by then is a prefix of the text. It allocates no memory.
 pub fn write_pretty<W: Write>(writer: &mut W, nodes: &[Node<'_>]) -> io::Result<()>
     ensures written { (d : Document) → map item_of nodes.now ≡ listing d
         → OnOk result (Appends (W.contents writer.old) (W.contents writer.new) (pretty d)) }
@@ -112,8 +110,8 @@ pub fn write_pretty<W: Write>(writer: &mut W, nodes: &[Node<'_>]) -> io::Result<
 /// Appends a string as it is printed (RFC 8259, section 7): between quotes, with a quote, a backslash and what is
 /// below 0x20 escaped.
 ///
-/// Fails where an allocation fails. What `out` held is then still in front, and a part of the string may
-/// stand after it.
+/// Returns an error where an allocation fails. `out` then begins with what it held, and a part of the string may
+/// follow.
 pub fn append_quoted<A: Allocator>(
     out: &mut Vec<u8, A>,
     string: &str,

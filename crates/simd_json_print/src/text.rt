@@ -1,4 +1,4 @@
-//! Text on its way to a target: it is collected, and goes there in pieces.
+//! Buffered text output: text is collected, and written to its target in pieces.
 ghost use Rattle.std.specs.Prelude.{◌≡◌, ◌≢◌, ◌++◌, ℕ, ℤ, unsigned_abs};
 ghost use Rattle.std.specs.Fmt.{decimal, signed_decimal};
 ghost use Rattle.simd_json_parts.specs.declared.node.StaticNode.TheVariants as fixed;
@@ -17,6 +17,7 @@ use std::io;
 use std::io::{ErrorKind, Write};
 
 /// What text is written to: any writer, or a type that remembers whether a write failed.
+// A function over any `Write` can't state that a failure came from the writer.
 pub trait Target {
     ghost use Rattle.simd_json_print.specs.Texts.{Place, Takes};
 
@@ -42,8 +43,9 @@ impl<W: Write> Target for W {
 /// Buffered text output: at most `SIZE` bytes are collected, and written as soon as no more fit, and by
 /// [`finish`](Text::finish).
 ///
-/// Where the target fails, or takes no byte of a piece that is not empty, it is called no more, and what is put
-/// from then on is dropped. It allocates no memory.
+/// Where the target fails, or writes 0 bytes of a non-empty buffer, it is not called again, and all further text
+/// is dropped. It allocates no memory.
+// So the walk over a document need not test a result after each token.
 #[derive(Drop)]
 pub struct Text<'w, T: Target, const SIZE: usize> {
     target: &'w mut T,
@@ -183,7 +185,8 @@ impl<'w, T: Target, const SIZE: usize> Text<'w, T, SIZE> {
         self.put_parts(front, buffer.format(number).as_bytes(), back);
     }
 
-    /// Whether the target has failed, so that what is put is dropped. It need not be known at once.
+    /// Whether the target has failed, so that further text is dropped. A failure shows when collected text is
+    /// written.
     #[inline(always)]
     pub fn has_failed(&self) -> bool
         ensures { result ≡ is_some self.now.fault }
@@ -193,8 +196,8 @@ impl<'w, T: Target, const SIZE: usize> Text<'w, T, SIZE> {
 
     /// Writes what is left.
     ///
-    /// Fails where the target failed, now or before: with its own error, or one of kind `WriteZero`. What was
-    /// written by then is a prefix of all that was put.
+    /// Returns an error where the target failed, now or before: its own error, or one of kind `WriteZero`. What
+    /// was written by then is a prefix of all that was put.
     pub fn finish(self) -> io::Result<()>
         ensures { (start : Place) (bytes : List ℕ) → HasGiven T.place start self.entry bytes
             → HasEnded result start (T.place self.exit.0.now) bytes }

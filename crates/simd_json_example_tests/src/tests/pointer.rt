@@ -172,10 +172,11 @@ mod floats {
     use simd_json::tape::Value;
     use std::num::{nearest_i64_to_f64, nearest_u64_to_f64};
 
-    // A number of any form, as the nearest float.
+    // A decimal, or an integer of at most 64 bits, as the nearest float. None past the greatest float, as for `1e309`.
     pub(super) fn float(value: &Value<'_, '_>) -> Option<f64> {
         if let Some(literal) = value.as_decimal() {
-            return literal.parse::<f64>().ok();
+            let number: f64 = fast_float::parse(literal).ok()?;
+            return number.is_finite().then_some(number);
         }
         if let Some(number) = value.as_i64() {
             return Some(nearest_i64_to_f64(number));
@@ -216,7 +217,7 @@ mod selections {
 
 #[test]
 fn recipes_do_as_they_say(rt: HostRuntime) -> Tested {
-    let mut input = *b"{\"servers\":[{\"port\":8080}],\"q\\\"x\":1.50,\"n\":-3}";
+    let mut input = *b"{\"servers\":[{\"port\":8080}],\"q\\\"x\":1.50,\"n\":-3,\"big\":1e309}";
     let tape = to_tape(rt.alloc(), &mut input)?;
     assert!(rt; !tape.is_empty());
     let value = tape.as_value();
@@ -225,6 +226,8 @@ fn recipes_do_as_they_say(rt: HostRuntime) -> Tested {
     assert!(rt; floats::float(&decimal).is_some_and(|x| x == 1.5));
     let integer = value.pointer("/n").expect(&rt, "it is there");
     assert!(rt; floats::float(&integer).is_some_and(|x| x == -3.0));
+    let big = value.pointer("/big").expect(&rt, "it is there");
+    assert!(rt; floats::float(&big).is_none());
     assert!(rt; floats::float(&value).is_none());
     assert_eq!(rt; walks::depth(value, 1024), 3);
     assert_eq!(rt; walks::depth(value, 2), 2);

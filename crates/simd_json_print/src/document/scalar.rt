@@ -1,4 +1,4 @@
-//! What stands between the brackets: scalars, names, and where a line begins.
+//! What is between the brackets: scalars, keys, and where a line begins.
 ghost use Rattle.simd_json_parts.specs.Bytes.{comma, left_brace, left_bracket, quote, space};
 ghost use Rattle.simd_json_parts.specs.Nodes.{item_of, string_item};
 ghost use Rattle.simd_json_parts.specs.Printed.{quoted, new_line};
@@ -30,8 +30,8 @@ pub(crate) fn put_leaf<T: Target, const SIZE: usize>(out: &mut Text<'_, T, SIZE>
     }
 }
 
-/// The name of a member, from its node: what stands before it, its line in pretty text, and the colon after
-/// it; in compact text as one piece.
+/// The key of a member, from its node: what is before it, its line in pretty text, and the colon after it; in
+/// compact text as one piece.
 #[inline(never)]
 pub(crate) fn put_name<T: Target, const SIZE: usize, const PRETTY: bool>(
     out: &mut Text<'_, T, SIZE>,
@@ -56,7 +56,7 @@ pub(crate) fn put_name<T: Target, const SIZE: usize, const PRETTY: bool>(
     }
 }
 
-/// A leaf of an array, and what stands before it; in compact text as one piece.
+/// A leaf of an array, and what is before it; in compact text as one piece.
 #[inline(never)]
 pub(crate) fn put_element<T: Target, const SIZE: usize, const PRETTY: bool>(
     out: &mut Text<'_, T, SIZE>,
@@ -86,7 +86,7 @@ pub(crate) fn put_element<T: Target, const SIZE: usize, const PRETTY: bool>(
     }
 }
 
-/// What stands before a member or an element, and then a quote: the bracket before the first one, and a comma
+/// What is before a member or an element, and then a quote: the bracket before the first one, and a comma
 /// before each other.
 #[inline(always)]
 pub(crate) fn front_of(is_first: bool, is_object: bool) -> &'static [u8]
