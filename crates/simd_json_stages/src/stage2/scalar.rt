@@ -1,9 +1,10 @@
 //! Scalars that are no strings become nodes.
 ghost use Rattle.std.specs.Prelude.{◌≡◌, ◌≢◌, ◌<◌, ◌≤◌, ◌+◌, ◌^◌, ◌==◌, ◌&&◌, ◌||◌, ℕ, List, length, drop};
-ghost use Rattle.std.specs.Prelude.{nat_eq, codes, true, false, MatchOption, MatchResult, IfErr, OnOk, vec_capacity};
+ghost use Rattle.std.specs.Prelude.{[], ◌∷◌, ◌++◌, nat_eq, codes, true, false, MatchOption, MatchResult, IfErr, OnOk, vec_capacity};
 ghost use Rattle.std.specs.Char.{is_ascii_digit};
 ghost use Rattle.std.specs.List.{starts_with};
-ghost use Rattle.simd_json_parts.specs.Bytes.{is_terminator, byte_at};
+ghost use Rattle.simd_json_parts.specs.Bytes.{is_terminator, byte_at, minus_sign};
+ghost use Rattle.simd_json_parts.specs.Integers.{integer_node, max_magnitude_64};
 ghost use Rattle.simd_json_parts.specs.NumberAt.{number_at};
 ghost use Rattle.simd_json_parts.specs.NumberRead.{IsNumberAt};
 ghost use Rattle.simd_json_parts.specs.NumeralRead.{IsIntegerLiteral};
@@ -69,7 +70,7 @@ pub(super) fn put_scalar<'de, A: Allocator>(
     ensures put { OnOk result (IsScalarPut b p.at nodes.old.items nodes.new.items (Reads b text.new)) }
     ensures refused { IfErr result (IsNoScalar b p.at) }
 {
-    if p.byte == b'-' || is_integer(p.byte) {
+    if is_integer(p.byte) || p.byte == b'-' {
         return put_number(text, nodes, p);
     }
     let rest = text.from(p.at);
@@ -164,13 +165,7 @@ fn put_number<'de, A: Allocator>(
     ensures refused { IfErr result (IsNoScalar b p.at) }
 {
     match parse_short(text.from(p.at)) {
-        Some(Numeral::Integer(magnitude)) => {
-            if p.byte == b'-' {
-                nodes.push_reserved(Node::Static(StaticNode::integer(true, magnitude)));
-            } else {
-                nodes.push_reserved(Node::Static(StaticNode::U64(magnitude)));
-            }
-        }
+        Some(Numeral::Integer(magnitude)) => put_integer(nodes, p.byte, magnitude),
         Some(Numeral::Decimal(len)) => nodes.push_reserved(Node::Decimal(text.share(p.at, len))),
         _ => return put_longer_number(text, nodes, p),
     }
@@ -195,15 +190,29 @@ fn put_longer_number<'de, A: Allocator>(
 {
     let rest = text.from(p.at);
     match parse_numeral(rest) {
-        Numeral::Integer(magnitude) => {
-            let node = StaticNode::integer(p.byte == b'-', magnitude);
-            nodes.push_reserved(Node::Static(node));
-        }
+        Numeral::Integer(magnitude) => put_integer(nodes, p.byte, magnitude),
         Numeral::Decimal(len) => nodes.push_reserved(Node::Decimal(text.share(p.at, len))),
         Numeral::Long(len) => nodes.push_reserved(Node::Static(read_long(rest, p.at, len)?)),
         Numeral::Invalid(offset) => return Err(invalid_number(rest, p.at, offset)),
     }
     Ok(())
+}
+
+// The integer of this magnitude whose literal begins with this byte becomes the next node. Each kind is stored by
+// itself, as in `put_scalar`.
+#[inline(always)]
+fn put_integer<'de, A: Allocator>(nodes: &mut Vec<Node<'de>, A>, first: u8, magnitude: u64)
+    requires fits { magnitude ≤ max_magnitude_64 (first == minus_sign) }
+    requires room { length nodes.old.items < vec_capacity nodes.old }
+    ensures capacity { vec_capacity nodes.new ≡ vec_capacity nodes.old }
+    ensures put { nodes.new.items
+        ≡ nodes.old.items ++ Node.Static (integer_node (first == minus_sign) magnitude) ∷ [] }
+{
+    if first == b'-' {
+        nodes.push_reserved(Node::Static(StaticNode::integer(true, magnitude)));
+    } else {
+        nodes.push_reserved(Node::Static(StaticNode::U64(magnitude)));
+    }
 }
 
 // The integer at the front whose literal has so many bytes, or its fault. What is left of the input begins

@@ -59,6 +59,6 @@ returns-in-Decimal-clause-put g c =
       node = nodes.Decimal c.share.result;
       read = is;
       listed = ap (λ bs. decimal_item bs ∷ []) (sym (c.share.ensures.string g.b c.requires.1.0));
-      put = c.push_reserved-in-Decimal.ensures.items;
+      put = c.push_reserved.ensures.items;
       text = inr (c.share.ensures.rest g.b c.requires.1.0);
     }

@@ -35,6 +35,6 @@ returns-in-Some-Decimal-clause-put g c =
       node = nodes.Decimal c.share.result;
       read = is;
       listed = ap (λ bs. decimal_item bs ∷ []) (sym (c.share.ensures.string g.b c.requires.1.0));
-      put = c.push_reserved-in-Some-Decimal.ensures.items;
+      put = c.push_reserved.ensures.items;
       text = inr (c.share.ensures.rest g.b c.requires.1.0);
     }

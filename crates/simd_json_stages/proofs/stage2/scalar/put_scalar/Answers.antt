@@ -1,5 +1,5 @@
 use Rattle.std.proofs.Common.{◌≡◌, refl, sym, ◌∙◌, ℕ, ◌+◌, drop, true, false, cond, nat_eq, arith}
-use Rattle.std.proofs.lemmas.Bool.{ne_eqb, or_from}
+use Rattle.std.proofs.lemmas.Bool.{ne_eqb, or_from, or_right}
 use Rattle.simd_json_parts.specs.Bytes.{byte_at}
 use Rattle.simd_json_parts.specs.Document.{null, boolean}
 use Rattle.simd_json_parts.specs.declared.node.StaticNode.TheVariants as fixed
@@ -8,7 +8,7 @@ use Rattle.simd_json_stages.proofs.Booleans.{form_at-boolean, no_boolean}
 use Rattle.simd_json_stages.proofs.ScalarLaws.{form_at-null, form_at-no_null, form_at-number}
 use Rattle.simd_json_stages.proofs.ScalarPut.{static-put, atom-refused}
 use Rattle.simd_json_stages.proofs.stage2.scalar.put_scalar.Goals as goal
-use Rattle.simd_json_stages.proofs.stage2.scalar.put_scalar.Goals.{then-p-eq45-via-then-p-eq45, then-p-eq45-via-else-p-eq45+then-is_integer}
+use Rattle.simd_json_stages.proofs.stage2.scalar.put_scalar.Goals.{then-is_integer-via-then-is_integer, then-is_integer-via-else-is_integer+then-p-eq45}
 
 pub put_number-requires : goal.put_number-requires
 put_number-requires g c = λ κs lives. (
@@ -19,10 +19,9 @@ put_number-requires g c = λ κs lives. (
       c.requires.1.1.0,
       (
         form_at-number g.b c.args.p.at c.args.p.byte (sym c.requires.1.1.0.1)
-            (elim c.then-p-eq45.branch [
-              | then-p-eq45-via-then-p-eq45 w ↦ rw w.if-p-eq45.true refl
-              | then-p-eq45-via-else-p-eq45+then-is_integer w ↦ simp (ne_eqb c.args.p.byte 45 w.if-p-eq45.false)
-                  (sym w.is_integer.ensures ∙ w.if-is_integer.true)
+            (elim c.then-is_integer.branch [
+              | then-is_integer-via-then-is_integer w ↦ or_right _ _ (sym c.is_integer.ensures ∙ w.if-is_integer.true)
+              | then-is_integer-via-else-is_integer+then-p-eq45 w ↦ rw w.if-p-eq45.true refl
             ]),
         c.requires.1.1.1.1,
       ),
