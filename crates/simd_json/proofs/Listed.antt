@@ -1,9 +1,9 @@
 -- A listing read backwards is its document.
 use Rattle.std.proofs.Common.{◌≡◌, ◌≢◌, ◌∙◌, ap, sym, refl, ℕ, zero, suc, pos, neg_ℤ, Bool, true, List, [], ◌∷◌, ◌++◌, length, get_or, map, drop, append_assoc, arith, inl, inr}
 use Rattle.std.proofs.lemmas.List.{append-nil}
-use Rattle.simd_json_parts.proofs.Documents.Listing.{IsHeaded-document}
-use Rattle.simd_json_parts.proofs.Documents.Fronts.{sized}
-use Rattle.simd_json_parts.proofs.Documents.Integers.{of-integer_node}
+use Rattle.simd_json_scalars.proofs.Documents.Listing.{IsHeaded-document}
+use Rattle.simd_json_scalars.proofs.Documents.Fronts.{sized}
+use Rattle.simd_json_scalars.proofs.Documents.Integers.{of-integer_node}
 use Rattle.simd_json_parts.specs.Document.{Document, null, boolean, integer, decimal, string, array, object, Elements, no_elements, element, elements, Members, no_members, member, members}
 use Rattle.simd_json_parts.specs.Integers.{integer_node}
 use Rattle.simd_json_parts.specs.Listing.{listing, elements_listing, members_listing, IsTape, member_count}

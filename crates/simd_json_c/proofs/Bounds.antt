@@ -8,7 +8,7 @@ use Rattle.simd_json_parts.specs.Listing.{listing, elements_listing, members_lis
 use Rattle.simd_json_parts.specs.Nodes.{Item}
 use Rattle.simd_json_parts.specs.declared.error.Error.{Error}
 use Rattle.simd_json_parts.specs.Printed.{escaped_byte, quoted, compact, compact_elements, more_compact_elements, compact_members, more_compact_members}
-use Rattle.simd_json_parts.proofs.Printing.Shortest.{compact-shortest}
+use Rattle.simd_json_theorems.proofs.Printing.Shortest.{compact-shortest}
 use Rattle.simd_json.specs.Parsed.{IsParse, IsParsed}
 use Rattle.simd_json.proofs.Listed.{known}
 use Rattle.simd_json_c.specs.Nodes.{room_for, text_of, texts}

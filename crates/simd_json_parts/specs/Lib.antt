@@ -32,14 +32,3 @@ pub mod MapEquality
 pub mod NodeEquality
 pub mod Accessors
 pub mod Printed
--- What serves proofs: where tokens end, the headers of a listing, and what the readers of one scalar answer. The
--- contracts of laws and of those readers cite it.
-pub mod TokensAlong
-pub mod Headers
-pub mod NumberRead
-pub mod NumeralRead
-pub mod StringRead
--- What serves proofs alone: only the crate's private clauses cite it.
-pub mod DigitRuns
-pub mod StringContent
-pub mod StringDecoded

@@ -1,8 +1,8 @@
 -- What the walk over nodes meets, step by step.
 use Rattle.std.proofs.Common.{◌≡◌, ◌∙◌, ap, ap₂, sym, refl, ◌<◌, ◌≤◌, ℕ, zero, suc, Bool, true, false, List, [], ◌∷◌, ◌++◌, length, length-append, map, take, drop, get_or, arith}
 use Rattle.std.specs.Fmt.{signed_decimal}
-use Rattle.simd_json_parts.proofs.Documents.Fronts.{positive}
-use Rattle.simd_json_parts.proofs.Documents.Integers.{of-integer_node}
+use Rattle.simd_json_scalars.proofs.Documents.Fronts.{positive}
+use Rattle.simd_json_scalars.proofs.Documents.Integers.{of-integer_node}
 use Rattle.simd_json_parts.specs.Document.{Document, null, boolean, integer, decimal, string, array, object, no_elements, element, no_members, member}
 use Rattle.simd_json_parts.specs.Listing.{listing, elements_listing}
 use Rattle.simd_json_parts.specs.Nodes.{Item, static_item, object_item, item_of, count_of}
