@@ -1,6 +1,6 @@
 //! Laws of the definitions. Each function has an empty body: its contract is the law, which is proved.
 ghost use Rattle.std.specs.Prelude.{◌≡◌, ◌↔◌, ◌<◌, ◌+◌, ◌++◌, ◌⊎◌, ℕ, suc, List, take, IsUtf8, Some, None};
-ghost use Rattle.std.specs.Prelude.{Ok, Err, true};
+ghost use Rattle.std.specs.Prelude.{Ok, Err, true, ◌≢◌};
 ghost use Rattle.std.specs.Cmp.{IsEquivalence};
 ghost use Rattle.simd_json_parts.specs.Answer.{answer, padded_answer};
 ghost use Rattle.simd_json_parts.specs.Accessors.{Accessor, as_t, try_as_t, get_t, try_get_t};
@@ -8,7 +8,7 @@ ghost use Rattle.simd_json_parts.specs.Descent.{descent, value_from, element_and
 ghost use Rattle.simd_json_parts.specs.Descent.{members_by};
 ghost use Rattle.simd_json_parts.specs.Document.{Document};
 ghost use Rattle.simd_json_parts.specs.Equality.{equal, normalized};
-ghost use Rattle.simd_json_parts.specs.ErrorKinds.{is_unexpected_token};
+ghost use Rattle.simd_json_parts.specs.ErrorKinds.{Class, class_of, io, eof, syntax, shape, is_unexpected_token};
 ghost use Rattle.simd_json_parts.specs.FaultKinds.{IsOfInput, IsOfToken, IsNamedFault};
 ghost use Rattle.simd_json_parts.specs.Faults.{whole_fault};
 ghost use Rattle.simd_json_parts.specs.Grammar.{Denotes, IsBeginning};
@@ -26,7 +26,6 @@ ghost use Rattle.simd_json_parts.specs.declared.error.ErrorType.{ErrorType};
 ghost use Rattle.simd_json_parts.specs.declared.error.ErrorType.TheVariants.{ExpectedObjectKey};
 ghost use Rattle.simd_json_parts.specs.declared.error.ErrorType.TheVariants.{InsufficientPadding};
 
-pub mod errors;
 mod numbers;
 pub mod printing;
 mod strings;
@@ -96,6 +95,14 @@ pub fn refusals_are_of_named_kinds()
         → IsNamedFault e }
     ensures padded { (s : List ℕ) (len limit : ℕ) (e : Error) → padded_answer s len limit ≡ Err e
         → IsNamedFault e ⊎ (e ≡ whole_fault InsufficientPadding) }
+{}
+
+/// Each kind of error has exactly one of four classes, which differ.
+pub fn kinds_have_one_class()
+    ensures some { (kind : ErrorType) → (class_of kind ≡ io) ⊎ (class_of kind ≡ eof)
+        ⊎ (class_of kind ≡ syntax) ⊎ (class_of kind ≡ shape) }
+    ensures differ { (io ≢ eof) × (io ≢ syntax) × (io ≢ shape) × (eof ≢ syntax) × (eof ≢ shape)
+        × (syntax ≢ shape) }
 {}
 
 /// An answer is a document: the whole input denotes it, and its length, its nesting and its integers are
