@@ -9,10 +9,11 @@ use Rattle.simd_json_scalars.proofs.Patterns.Sets.{Matches-matches, matches-Matc
 use Rattle.simd_json_parts.specs.Document.{Document, null, boolean, integer, decimal, string, array, object, Elements, no_elements, element, Members, no_members, member}
 use Rattle.simd_json_parts.specs.Integers.{max_magnitude, integer_node}
 use Rattle.simd_json_parts.specs.Limits.{IntegersFit, ElementsFit, MembersFit}
-use Rattle.simd_json_parts.specs.Listing.{listing, elements_listing, members_listing, IsTape}
+use Rattle.simd_json_parts.specs.Listing.{listing, elements_listing, members_listing}
+use Rattle.simd_json.specs.Tapes.{IsTape}
 use Rattle.simd_json_parts.specs.Nodes.{Item, static_item, item_of}
 use Rattle.simd_json_parts.specs.Numbers.{decimal_literal}
-use Rattle.simd_json_parts.specs.Spellable.{IsSpellable, ElementsSpellable, MembersSpellable}
+use Rattle.simd_json_theorems.specs.Spellable.{IsSpellable, ElementsSpellable, MembersSpellable}
 use Rattle.simd_json_parts.specs.declared.node.Node.{Node}
 use Rattle.simd_json.specs.Documents.{document_of, IsListing}
 use Rattle.simd_json.specs.Printable.{is_printable, ArePrintable}

@@ -7,7 +7,6 @@ pub mod Numbers
 pub mod Integers
 pub mod Strings
 pub mod Grammar
-pub mod Spellable
 pub mod Limits
 pub mod Nodes
 pub mod Listing
@@ -25,10 +24,10 @@ pub mod Answer
 -- What is said besides of errors, and of the values and the printed text of a document.
 pub mod ErrorKinds
 pub mod FaultKinds
+pub mod NodeTypes
 pub mod StaticNodes
 pub mod Views
 pub mod Equality
 pub mod MapEquality
-pub mod NodeEquality
 pub mod Accessors
 pub mod Printed

@@ -7,7 +7,8 @@ use Rattle.simd_json_scalars.proofs.Documents.Fronts.{positive}
 use Rattle.simd_json_parts.specs.Bytes.{comma, left_bracket, right_bracket, left_brace, right_brace}
 use Rattle.simd_json_parts.specs.Document.{Document, Elements, no_elements, element, Members, no_members, member}
 use Rattle.simd_json_parts.specs.Listing.{listing, elements_listing, members_listing}
-use Rattle.simd_json_parts.specs.Nodes.{Item, string_item, item_of, count_of}
+use Rattle.simd_json_parts.specs.Nodes.{Item, string_item, item_of}
+use Rattle.simd_json_scalars.specs.Headers.{count_of}
 use Rattle.simd_json_parts.specs.Printed.{quoted}
 use Rattle.simd_json_parts.specs.declared.node.Node.{Node}
 use Rattle.simd_json_parts.specs.declared.node.Node.TheVariants as nodes

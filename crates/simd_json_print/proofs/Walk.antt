@@ -5,7 +5,8 @@ use Rattle.simd_json_scalars.proofs.Documents.Fronts.{positive}
 use Rattle.simd_json_scalars.proofs.Documents.Integers.{of-integer_node}
 use Rattle.simd_json_parts.specs.Document.{Document, null, boolean, integer, decimal, string, array, object, no_elements, element, no_members, member}
 use Rattle.simd_json_parts.specs.Listing.{listing, elements_listing}
-use Rattle.simd_json_parts.specs.Nodes.{Item, static_item, object_item, item_of, count_of}
+use Rattle.simd_json_parts.specs.Nodes.{Item, static_item, object_item, item_of}
+use Rattle.simd_json_scalars.specs.Headers.{count_of}
 use Rattle.simd_json_parts.specs.Integers.{number_of, integer_node}
 use Rattle.simd_json_parts.specs.declared.node.Node.{Node}
 use Rattle.simd_json_parts.specs.declared.node.StaticNode.TheVariants as fixed

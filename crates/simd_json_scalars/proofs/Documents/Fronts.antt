@@ -5,7 +5,8 @@ use Rattle.std.proofs.lemmas.List.{length-map, take-map, drop-map}
 use Rattle.simd_json_scalars.proofs.Documents.Listing.{IsHeaded-document}
 use Rattle.simd_json_parts.specs.Document.{Document}
 use Rattle.simd_json_parts.specs.Listing.{listing}
-use Rattle.simd_json_parts.specs.Nodes.{Item, item_of, count_of}
+use Rattle.simd_json_parts.specs.Nodes.{Item, item_of}
+use Rattle.simd_json_scalars.specs.Headers.{count_of}
 use Rattle.simd_json_parts.specs.declared.node.Node.{Node}
 
 -- it has a node

@@ -4,7 +4,8 @@ use Rattle.std.specs.Cmp.{IsEquivalence, booleans_Decides}
 use Rattle.std.proofs.lemmas.Bool.Decides.{Decides-and, Decides-like, same_from_decides}
 use Rattle.std.proofs.lemmas.Slice.Eq.{bytes_eq-Decides}
 use Rattle.simd_json_parts.specs.Document.{Document, null, boolean, integer, decimal, string, array, object, Elements, no_elements, element, Members, no_members, member}
-use Rattle.simd_json_parts.specs.Equality.{same_number, equal, equal_elements, equal_members, normalized, normalized_elements, normalized_members}
+use Rattle.simd_json_parts.specs.Equality.{same_number, equal, equal_elements, equal_members}
+use Rattle.simd_json_theorems.specs.Normalized.{normalized, normalized_elements, normalized_members}
 
 -- Two integers are the same number exactly if they are the same but for the sign of a zero.
 Decides-same_number : (minus minus' : Bool) (m n : ℕ) → Decides (same_number minus m minus' n) (normalized (integer minus m) ≡ normalized (integer minus' n))

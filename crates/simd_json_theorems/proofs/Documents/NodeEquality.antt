@@ -7,10 +7,11 @@ use Rattle.std.proofs.lemmas.Bool.Decides.{Decides-and, Decides-int_eq, Decides-
 use Rattle.std.proofs.lemmas.List.{length-map, map-append}
 use Rattle.std.proofs.lemmas.Slice.Eq.{bytes_eq-Decides}
 use Rattle.simd_json_parts.specs.Document.{Document, null, boolean, integer, decimal, string, array, object, Elements, no_elements, element, elements, Members, no_members, member, members}
-use Rattle.simd_json_parts.specs.Equality.{equal, normalized, normalized_elements, normalized_members}
+use Rattle.simd_json_parts.specs.Equality.{equal}
+use Rattle.simd_json_theorems.specs.Normalized.{normalized, normalized_elements, normalized_members}
 use Rattle.simd_json_parts.specs.Integers.{number_of, integer_node}
 use Rattle.simd_json_parts.specs.Listing.{listing, elements_listing, members_listing}
-use Rattle.simd_json_parts.specs.NodeEquality.{same_item, same_items}
+use Rattle.simd_json_theorems.specs.NodeEquality.{same_item, same_items}
 use Rattle.simd_json_parts.specs.Nodes.{Item, static_item, decimal_item, string_item, array_item, object_item}
 use Rattle.simd_json_parts.specs.StaticNodes.{truth_of, number_in, same_static}
 use Rattle.simd_json_parts.specs.declared.node.StaticNode.{StaticNode}

@@ -6,7 +6,7 @@ use Rattle.std.proofs.lemmas.Bool.Decides.{nat_tests}
 use Rattle.std.proofs.Math.Utf8.{scalars}
 use Rattle.simd_json_parts.specs.Document.{Document, null, boolean, integer, decimal, string, array, object, Elements, no_elements, element, Members, no_members, member}
 use Rattle.simd_json_parts.specs.Strings.{is_high_surrogate, is_low_surrogate, paired, IsPiece, ArePieces, IsStringLiteral}
-use Rattle.simd_json_parts.specs.Spellable.{IsSpellable, ElementsSpellable, MembersSpellable}
+use Rattle.simd_json_theorems.specs.Spellable.{IsSpellable, ElementsSpellable, MembersSpellable}
 use Rattle.simd_json_parts.specs.Grammar.{Denotes, IsValue, AreElements, AreMoreElements, AreMembers, AreMoreMembers}
 use Rattle.simd_json_parts.specs.Patterns.{Matches}
 use Rattle.simd_json_parts.specs.Numbers.{decimal_literal}

@@ -2,7 +2,7 @@
 use Rattle.std.proofs.Common.{◌≡◌, ◌≢◌, refl, ℕ, zero, suc, ◌≤◌, inl, inr, List, [], ◌∷◌, length, arith}
 use Rattle.simd_json_parts.specs.Bytes.{comma, right_bracket, byte_at}
 use Rattle.simd_json_parts.specs.Document.{Document, Elements}
-use Rattle.simd_json_parts.specs.Grammar.{IsBeginning}
+use Rattle.simd_json_parts.specs.FaultKinds.{IsBeginning}
 use Rattle.simd_json_parts.specs.Tokens.{Token, Form, form_at, end_array, value_separator}
 use Rattle.simd_json_parts.specs.Descent.{Reads, after_element, element_end, elements_from, elements_by, first_element, array_from}
 use Rattle.simd_json_parts.specs.declared.error.Error.{Error}

@@ -9,7 +9,8 @@ use Rattle.simd_json_parts.specs.Bytes.{is_whitespace, byte_at}
 use Rattle.simd_json_parts.specs.Descent.{◌>>=◌}
 use Rattle.simd_json_parts.specs.ErrorKinds.{is_unexpected_token}
 use Rattle.simd_json_parts.specs.Faults.{fault_at}
-use Rattle.simd_json_parts.specs.Grammar.{IsWhitespace, IsBeginning}
+use Rattle.simd_json_parts.specs.Grammar.{IsWhitespace}
+use Rattle.simd_json_parts.specs.FaultKinds.{IsBeginning}
 use Rattle.simd_json_parts.specs.Tokens.{Token, Form, form_of, form_at}
 use Rattle.simd_json_parts.specs.declared.error.Error.{Error}
 use Rattle.simd_json_parts.specs.declared.error.ErrorType.{ErrorType}

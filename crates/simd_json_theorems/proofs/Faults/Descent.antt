@@ -4,7 +4,8 @@ use Rattle.std.specs.Prelude.{Ok, Err}
 use Rattle.simd_json_parts.specs.Bytes.{quote, left_bracket, left_brace, is_terminator, byte_at}
 use Rattle.simd_json_parts.specs.Document.{Document, string, Elements, Members}
 use Rattle.simd_json_parts.specs.Faults.{fault_at}
-use Rattle.simd_json_parts.specs.Grammar.{IsValue, IsBeginning}
+use Rattle.simd_json_parts.specs.Grammar.{IsValue}
+use Rattle.simd_json_parts.specs.FaultKinds.{IsBeginning}
 use Rattle.simd_json_parts.specs.Strings.{IsStringLiteral}
 use Rattle.simd_json_parts.specs.Tokens.{Token, Form, begin_array, begin_object, string_token, scalar}
 use Rattle.simd_json_parts.specs.Descent.{Reads, value_of, value_with, too_deep, value_from}

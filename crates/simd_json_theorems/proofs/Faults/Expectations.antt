@@ -4,7 +4,8 @@ use Rattle.std.proofs.lemmas.List.{append_cancel_right, take-append-drop}
 use Rattle.std.proofs.Math.Seq.{drop-cons}
 use Rattle.simd_json_parts.specs.Bytes.{is_whitespace, byte_at}
 use Rattle.simd_json_parts.specs.Document.{Document}
-use Rattle.simd_json_parts.specs.Grammar.{IsWhitespace, Denotes, IsBeginning}
+use Rattle.simd_json_parts.specs.Grammar.{IsWhitespace, Denotes}
+use Rattle.simd_json_parts.specs.FaultKinds.{IsBeginning}
 use Rattle.simd_json_scalars.proofs.Lists.Drops.{drop-head}
 use Rattle.simd_json_theorems.proofs.Unique.LeadingBytes.{NoSpace}
 use Rattle.simd_json_theorems.proofs.Unique.SpacedPrefixes.{space-one}

@@ -3,7 +3,7 @@ use Rattle.std.proofs.Common.{◌≡◌, ◌≢◌, refl, subst, ℕ, zero, suc,
 use Rattle.std.specs.Prelude.{Ok, Err}
 use Rattle.simd_json_parts.specs.Bytes.{quote, comma, colon, right_brace, byte_at}
 use Rattle.simd_json_parts.specs.Document.{Document, Members}
-use Rattle.simd_json_parts.specs.Grammar.{IsBeginning}
+use Rattle.simd_json_parts.specs.FaultKinds.{IsBeginning}
 use Rattle.simd_json_parts.specs.Strings.{IsStringLiteral}
 use Rattle.simd_json_parts.specs.StringAt.{string_at}
 use Rattle.simd_json_parts.specs.Tokens.{Token, Form, form_at, end_object, name_separator, value_separator, string_token}

@@ -8,7 +8,8 @@ use Rattle.simd_json_parts.specs.Descent.{value_from, is_container, last_index, 
 use Rattle.simd_json_parts.specs.Document.{Document}
 use Rattle.simd_json_parts.specs.ErrorKinds.{is_unexpected_token}
 use Rattle.simd_json_parts.specs.Faults.{fault_at}
-use Rattle.simd_json_parts.specs.Grammar.{IsWhitespace, IsBeginning}
+use Rattle.simd_json_parts.specs.Grammar.{IsWhitespace}
+use Rattle.simd_json_parts.specs.FaultKinds.{IsBeginning}
 use Rattle.simd_json_parts.specs.InputFaults.{input_fault}
 use Rattle.simd_json_parts.specs.Tokens.{Token, tokens}
 use Rattle.simd_json_parts.specs.declared.error.Error.{Error}

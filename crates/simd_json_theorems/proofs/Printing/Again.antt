@@ -3,10 +3,11 @@ use Rattle.std.proofs.Common.{◌≡◌, sym, subst, ℕ, ◌≤◌, List, lengt
 use Rattle.std.specs.Prelude.{Ok}
 use Rattle.simd_json_parts.specs.Answer.{answer}
 use Rattle.simd_json_parts.specs.Document.{Document}
-use Rattle.simd_json_parts.specs.Equality.{equal, normalized}
+use Rattle.simd_json_parts.specs.Equality.{equal}
+use Rattle.simd_json_theorems.specs.Normalized.{normalized}
 use Rattle.simd_json_parts.specs.Grammar.{Denotes}
 use Rattle.simd_json_parts.specs.Limits.{depth, max_length, IntegersFit, WithinLimits}
-use Rattle.simd_json_parts.specs.Spellable.{IsSpellable}
+use Rattle.simd_json_theorems.specs.Spellable.{IsSpellable}
 use Rattle.simd_json_parts.specs.Printed.{compact}
 use Rattle.simd_json_theorems.proofs.Complete.Answer.{answer-Denotes}
 use Rattle.simd_json_theorems.proofs.Complete.Utf8Documents.{IsUtf8-Denotes}

@@ -4,7 +4,8 @@ use Rattle.std.specs.Fmt.{signed_decimal}
 use Rattle.std.proofs.lemmas.Bool.{ne_eqb}
 use Rattle.simd_json_parts.specs.Bytes.{comma, colon, left_bracket, right_bracket, left_brace, right_brace}
 use Rattle.simd_json_parts.specs.Document.{Document, integer, array, object, Elements, no_elements, element, Members, no_members, member}
-use Rattle.simd_json_parts.specs.Equality.{equal, normalized, normalized_elements, normalized_members}
+use Rattle.simd_json_parts.specs.Equality.{equal}
+use Rattle.simd_json_theorems.specs.Normalized.{normalized, normalized_elements, normalized_members}
 use Rattle.simd_json_parts.specs.Integers.{number_of}
 use Rattle.simd_json_parts.specs.Printed.{quoted, compact, compact_elements, more_compact_elements, compact_members, more_compact_members, new_line, pretty_in, pretty_array, more_pretty_elements, pretty_object, more_pretty_members, pretty}
 use Rattle.simd_json_theorems.proofs.Documents.Equality.{Decides-equal}

@@ -2,10 +2,10 @@
 use Rattle.std.proofs.Common.{refl, ℕ, List, ◌∷◌, ◌++◌, Bool, true, false, IsUtf8}
 use Rattle.simd_json_parts.specs.Bytes.{colon}
 use Rattle.simd_json_parts.specs.Document.{Document, null, boolean, integer, decimal, string, array, object, Elements, no_elements, element, Members, no_members, member}
-use Rattle.simd_json_parts.specs.Equality.{normalized, normalized_elements, normalized_members}
+use Rattle.simd_json_theorems.specs.Normalized.{normalized, normalized_elements, normalized_members}
 use Rattle.simd_json_parts.specs.Grammar.{Spaced, Joined, After, IsValue, AreElements, AreMoreElements, AreMembers, AreMoreMembers, Denotes}
 use Rattle.simd_json_parts.specs.Limits.{IntegersFit, ElementsFit, MembersFit}
-use Rattle.simd_json_parts.specs.Spellable.{IsSpellable, ElementsSpellable, MembersSpellable}
+use Rattle.simd_json_theorems.specs.Spellable.{IsSpellable, ElementsSpellable, MembersSpellable}
 use Rattle.simd_json_parts.specs.Printed.{quoted, truth_text, compact, compact_elements, more_compact_elements, compact_members, more_compact_members}
 use Rattle.simd_json_parts.specs.Strings.{IsStringLiteral}
 use Rattle.simd_json_theorems.proofs.Printing.Integers.{value-integer}

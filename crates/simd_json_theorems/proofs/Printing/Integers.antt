@@ -9,7 +9,7 @@ use Rattle.std.proofs.lemmas.Fmt.{decimal_is_IsNumeral_wide, decimal_by_steps_wi
 use Rattle.std.proofs.lemmas.Int.Digits.{digits_value_is}
 use Rattle.std.proofs.lemmas.Str.Parse.{digit_at}
 use Rattle.simd_json_parts.specs.Document.{integer}
-use Rattle.simd_json_parts.specs.Equality.{normalized}
+use Rattle.simd_json_theorems.specs.Normalized.{normalized}
 use Rattle.simd_json_parts.specs.Grammar.{IsValue}
 use Rattle.simd_json_parts.specs.Integers.{number_of, max_magnitude}
 use Rattle.simd_json_parts.specs.Numbers.{digit, int, magnitude}

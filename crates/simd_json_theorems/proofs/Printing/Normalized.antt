@@ -2,7 +2,8 @@
 use Rattle.std.proofs.Common.{◌≡◌, refl, ap, ap₂, ℕ, suc, ◌≤◌, max, Bool, true, false, not, ◌&&◌, ◌==◌, arith}
 use Rattle.std.proofs.lemmas.Bool.{eqb-true}
 use Rattle.simd_json_parts.specs.Document.{Document, integer, array, object, Elements, no_elements, element, Members, no_members, member}
-use Rattle.simd_json_parts.specs.Equality.{equal, normalized, normalized_elements, normalized_members}
+use Rattle.simd_json_parts.specs.Equality.{equal}
+use Rattle.simd_json_theorems.specs.Normalized.{normalized, normalized_elements, normalized_members}
 use Rattle.simd_json_parts.specs.Integers.{max_magnitude}
 use Rattle.simd_json_parts.specs.Limits.{depth, elements_depth, members_depth, IntegersFit, ElementsFit, MembersFit}
 use Rattle.simd_json_theorems.proofs.Documents.Equality.{Decides-equal}

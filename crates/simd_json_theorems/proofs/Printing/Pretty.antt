@@ -2,10 +2,10 @@
 use Rattle.std.proofs.Common.{◌≡◌, refl, ◌∙◌, ap, ℕ, suc, ◌*◌, ◌⊎◌, inl, inr, List, [], ◌++◌, append_assoc, codes, IsUtf8}
 use Rattle.simd_json_parts.specs.Bytes.{colon}
 use Rattle.simd_json_parts.specs.Document.{Document, null, boolean, integer, decimal, string, array, object, Elements, no_elements, element, Members, no_members, member}
-use Rattle.simd_json_parts.specs.Equality.{normalized, normalized_elements, normalized_members}
+use Rattle.simd_json_theorems.specs.Normalized.{normalized, normalized_elements, normalized_members}
 use Rattle.simd_json_parts.specs.Grammar.{IsWhitespace, Spaced, Joined, After, IsValue, AreElements, AreMoreElements, AreMembers, AreMoreMembers, Denotes}
 use Rattle.simd_json_parts.specs.Limits.{IntegersFit, ElementsFit, MembersFit}
-use Rattle.simd_json_parts.specs.Spellable.{IsSpellable, ElementsSpellable, MembersSpellable}
+use Rattle.simd_json_theorems.specs.Spellable.{IsSpellable, ElementsSpellable, MembersSpellable}
 use Rattle.simd_json_parts.specs.Printed.{quoted, new_line, pretty_in, pretty_array, more_pretty_elements, pretty_object, more_pretty_members, pretty}
 use Rattle.simd_json_parts.specs.Strings.{IsStringLiteral}
 use Rattle.simd_json_theorems.proofs.Printing.Compact.{value-truth}

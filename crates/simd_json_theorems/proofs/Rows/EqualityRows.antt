@@ -1,11 +1,11 @@
 -- Worked rows: two inputs, and whether their documents are equal; and maps beside objects.
 use Rattle.std.proofs.Common.{◌≡◌, refl, ℕ, List, [], ◌∷◌, map, Bool, true, false, cond, nat_eq}
 use Rattle.std.specs.Prelude.{codes, Option, Some, None, bytes_eq, pos, negsuc}
+use Rattle.simd_json_parts.specs.Accessors.{u64, eq_t}
 use Rattle.simd_json_parts.specs.Document.{Document}
 use Rattle.simd_json_parts.specs.Equality.{equal}
 use Rattle.simd_json_parts.specs.MapEquality.{equals_map}
 use Rattle.simd_json_parts.specs.StaticNodes.{same_static}
-use Rattle.simd_json_parts.specs.Views.{as_unsigned, eq_as}
 use Rattle.simd_json_parts.specs.declared.node.StaticNode.TheVariants as fixed
 use Rattle.simd_json_scalars.proofs.Computes.{computes}
 use Rattle.simd_json_theorems.proofs.Rows.Samples.{parsed}
@@ -38,7 +38,7 @@ look_up [] key = None
 look_up (m ∷ ms) key = cond (bytes_eq m.0 key) (Some m.1) (look_up ms key)
 
 abbrev same_u64 : ℕ → Document → Bool
-same_u64 = eq_as nat_eq (as_unsigned 64)
+same_u64 = eq_t nat_eq u64
 
 abbrev a_one : Pairs
 a_one = (codes "a", 1) ∷ []

@@ -2,11 +2,12 @@
 ghost use Rattle.std.specs.Prelude.{◌≡◌, ◌≤◌, ℕ, List, length, IsUtf8, Ok, true};
 ghost use Rattle.simd_json_parts.specs.Answer.{answer};
 ghost use Rattle.simd_json_parts.specs.Document.{Document};
-ghost use Rattle.simd_json_parts.specs.Equality.{equal, normalized};
+ghost use Rattle.simd_json_parts.specs.Equality.{equal};
+ghost use Rattle.simd_json_theorems.specs.Normalized.{normalized};
 ghost use Rattle.simd_json_parts.specs.Grammar.{Denotes};
 ghost use Rattle.simd_json_parts.specs.Limits.{depth, max_length, IntegersFit};
 ghost use Rattle.simd_json_parts.specs.Printed.{compact, pretty};
-ghost use Rattle.simd_json_parts.specs.Spellable.{IsSpellable};
+ghost use Rattle.simd_json_theorems.specs.Spellable.{IsSpellable};
 
 /// A printed text denotes the document that is printed, with no sign on a zero: a document that is equal to
 /// it, and nests as deep. So it is for each document whose decimals are literals, whose strings and names are

@@ -1,5 +1,5 @@
 -- When two nodes are equal, as the code compares them: integers by number, headers by `len` and `count`, strings
--- and decimals by their bytes. Neither acceptance nor faults rest on it.
+-- and decimals by their bytes. The contract of a law cites it.
 use Rattle.std.specs.Prelude.{List, Bool, false, ◌&&◌, ◌==◌, bytes_eq}
 use Rattle.std.specs.Cmp.Lexicographic.{pointwise}
 use Rattle.simd_json_parts.specs.Nodes.{Item, static_item, decimal_item, string_item, array_item, object_item}

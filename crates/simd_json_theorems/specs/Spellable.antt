@@ -1,6 +1,6 @@
 -- Documents that some bytes spell. A tree may hold any bytes as a decimal or a string; what bytes denote is
 -- spellable, and it is asked of a tape, since only such a document can be printed and read again (RFC 8259,
--- sections 6 and 7). Acceptance rests on it.
+-- sections 6 and 7). The contracts of laws cite it.
 use Rattle.std.specs.Prelude.{⊤, IsUtf8}
 use Rattle.simd_json_parts.specs.Document.{Document, null, boolean, integer, decimal, string, array, object, Elements, no_elements, element, Members, no_members, member}
 use Rattle.simd_json_parts.specs.Numbers.{decimal_literal}
