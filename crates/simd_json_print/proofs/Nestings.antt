@@ -13,7 +13,8 @@ use Rattle.simd_json_parts.specs.Printed.{quoted}
 use Rattle.simd_json_parts.specs.declared.node.Node.{Node}
 use Rattle.simd_json_parts.specs.declared.node.Node.TheVariants as nodes
 use Rattle.simd_json_print.specs.Frames.{Frame, elements_left, members_left, has_members, frame_listing, frame_text, frames_listing, frames_text, AreNested, IsBetween, IsAtValue}
-use Rattle.simd_json_print.specs.Layout.{line, after_name, leaf_text, text, elements_text, members_text}
+use Rattle.simd_json_print.specs.Layout.{leaf_text}
+use Rattle.simd_json_parts.specs.Printed.{line, after_name, text, elements_text, members_text}
 use Rattle.simd_json_print.specs.declared.document.walk.Nesting.{Nesting}
 use Rattle.simd_json_print.proofs.Walk.{IsOpened, is_object_item, is-leaf, is-opened, beneath-within, same-first, same-rest, split-first}
 

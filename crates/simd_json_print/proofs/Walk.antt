@@ -11,7 +11,8 @@ use Rattle.simd_json_parts.specs.Integers.{number_of, integer_node}
 use Rattle.simd_json_parts.specs.declared.node.Node.{Node}
 use Rattle.simd_json_parts.specs.declared.node.StaticNode.TheVariants as fixed
 use Rattle.simd_json_print.specs.Frames.{Frame, elements_left, members_left, has_members, frame_listing, frame_text}
-use Rattle.simd_json_print.specs.Layout.{static_text, leaf_text, text}
+use Rattle.simd_json_print.specs.Layout.{static_text, leaf_text}
+use Rattle.simd_json_parts.specs.Printed.{text}
 
 -- ---- the node in front of a value
 

@@ -4,8 +4,7 @@ mod Strings
 mod Parts
 pub mod Normalized
 pub mod Alike
-pub mod Compact
-pub mod Pretty
+pub mod Texts
 mod Lengths
 pub mod Shortest
 pub mod Again

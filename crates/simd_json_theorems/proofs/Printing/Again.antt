@@ -14,7 +14,7 @@ use Rattle.simd_json_theorems.proofs.Complete.Utf8Documents.{IsUtf8-Denotes}
 use Rattle.simd_json_theorems.proofs.Documents.Equality.{Decides-equal}
 use Rattle.simd_json_theorems.proofs.Documents.Spelling.{IsSpellable-denoted}
 use Rattle.simd_json_theorems.proofs.Printing.Normalized.{depth-normalized, IntegersFit-normalized}
-use Rattle.simd_json_theorems.proofs.Printing.Compact.{Denotes-compact}
+use Rattle.simd_json_theorems.proofs.Printing.Texts.{Denotes-compact}
 use Rattle.simd_json_theorems.proofs.Printing.Shortest.{compact-shortest}
 use Rattle.simd_json_theorems.proofs.Sound.Answer.{answer-sound}
 use Rattle.simd_json_theorems.proofs.Unique.OneDocument.{document-one}

@@ -1,6 +1,5 @@
-use Rattle.simd_json_theorems.proofs.Printing.Compact.{Denotes-compact}
+use Rattle.simd_json_theorems.proofs.Printing.Texts.{Denotes-compact, Denotes-pretty}
 use Rattle.simd_json_theorems.proofs.Printing.Normalized.{equal-normalized, depth-normalized}
-use Rattle.simd_json_theorems.proofs.Printing.Pretty.{Denotes-pretty}
 use Rattle.simd_json_theorems.proofs.laws.printing.printed_texts_denote_their_documents.Goals as goal
 
 pub returns-clause-compact : goal.returns-clause-compact
