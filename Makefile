@@ -40,7 +40,6 @@ library: has-rt
 	cc -shared -o $(into)/libsimd_json.so $(parts)/simd_json.o -Wl,-soname,libsimd_json.so -Wl,-z,relro,-z,now,-s
 
 # Every proof from nothing, the must-fail edits, the tests and the programs. Its last line is 'N passed, M failed'. After it the
-# Every proof from nothing, the must-fail edits, the tests and the programs. Its last line is 'N passed, M failed'. After it the
 # programs that it built are run on inputs of which the lines and the status are known, the counts of lines in DESIGN.md are
 # compared with the files, and the library is called from C and Python; all are silent where all is well.
 test: has-rt

@@ -1,6 +1,6 @@
 #!/bin/sh
-# The lines of definitions that docs/DESIGN.md counts are those of the files, and the sums are right: silent where all is
-# well, and else a line for each count that is wrong, and status 1.
+# The lines of definitions that docs/DESIGN.md counts are those of the files, no file of simd_json_parts is left out, and the
+# sums are right: silent where all is well, and else a line for each count that is wrong, and status 1.
 set -eu
 cd "$(dirname "$0")/.."
 
@@ -11,6 +11,11 @@ wrong=$(
             [ -e "$file" ] && [ "$(wc -l < "$file")" -eq "$lines" ] && continue 2
         done
         echo "DESIGN.md: $name has not $lines lines"
+    done
+    # Each file of the crate of definitions is counted.
+    for file in crates/simd_json_parts/specs/*.antt; do
+        name=$(basename "$file" .antt)
+        [ "$name" = Lib ] || grep -q "\`$name\` [0-9]" docs/DESIGN.md || echo "DESIGN.md: $name of simd_json_parts is not counted"
     done
     # A row of such counts ends with their sum.
     awk -F'|' '/^\|.*` [0-9]+.*\| [0-9]+ \|$/ {

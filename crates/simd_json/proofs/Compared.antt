@@ -1,10 +1,10 @@
 -- Values are equal exactly if their nodes are, one by one.
 use Rattle.std.proofs.Common.{◌≡◌, ◌∙◌, refl, ap, sym, List, [], ◌∷◌, map}
 use Rattle.std.specs.Cmp.Lexicographic.{pointwise}
-use Rattle.simd_json_parts.proofs.Documents.NodeEquality.{same_items-listing}
+use Rattle.simd_json_theorems.proofs.Documents.NodeEquality.{same_items-listing}
 use Rattle.simd_json_parts.specs.Equality.{equal}
 use Rattle.simd_json_parts.specs.Listing.{listing}
-use Rattle.simd_json_parts.specs.NodeEquality.{same_item, same_items}
+use Rattle.simd_json_theorems.specs.NodeEquality.{same_item, same_items}
 use Rattle.simd_json_parts.specs.Nodes.{item_of}
 use Rattle.simd_json_parts.specs.contracts.node.NodePartialEq.TheImpl as node_eq
 use Rattle.simd_json_parts.specs.declared.node.Node.{Node}

@@ -1,14 +1,14 @@
 -- What is said of the printed text of a value, of either form.
 use Rattle.std.proofs.Common.{◌≡◌, ◌∙◌, ap, sym, subst, ℕ, ◌≤◌, List, length, Option, IsUtf8}
 use Rattle.std.specs.Result.{result_err}
-use Rattle.simd_json_parts.proofs.Printing.Again.{utf8-printed, answer-printed}
-use Rattle.simd_json_parts.proofs.Printing.Normalized.{equal-normalized, depth-normalized}
+use Rattle.simd_json_theorems.proofs.Printing.Again.{utf8-printed, answer-printed}
+use Rattle.simd_json_theorems.proofs.Printing.Normalized.{equal-normalized, depth-normalized}
 use Rattle.simd_json_parts.specs.Document.{Document}
-use Rattle.simd_json_parts.specs.Equality.{normalized}
+use Rattle.simd_json_theorems.specs.Normalized.{normalized}
 use Rattle.simd_json_parts.specs.Grammar.{Denotes}
 use Rattle.simd_json_parts.specs.Limits.{depth, max_length, IntegersFit}
 use Rattle.simd_json_parts.specs.Nodes.{Item}
-use Rattle.simd_json_parts.specs.Spellable.{IsSpellable}
+use Rattle.simd_json_theorems.specs.Spellable.{IsSpellable}
 use Rattle.simd_json_parts.specs.declared.error.Error.{Error}
 use Rattle.simd_json.specs.Memory.{HasMemory}
 use Rattle.simd_json.specs.Parsed.{IsParse, answered_nodes}

@@ -4,11 +4,11 @@ use Rattle.std.specs.Result.{is_err, MatchResult}
 use Rattle.std.proofs.lemmas.Bool.{false≢true}
 use Rattle.std.proofs.lemmas.List.Sums.{length-filter, count_by-le-length}
 use Rattle.std.proofs.lemmas.List.FromFn.{length-range_with_len}
-use Rattle.simd_json_parts.proofs.Complete.Answer.{answer-Denotes}
-use Rattle.simd_json_parts.proofs.Faults.Kinds.{input-fault, token-fault}
-use Rattle.simd_json_parts.proofs.Faults.Root.{fault-reported}
-use Rattle.simd_json_parts.proofs.Sound.Answer.{answer-sound}
-use Rattle.simd_json_parts.proofs.Documents.Spelling.{IsSpellable-denoted}
+use Rattle.simd_json_theorems.proofs.Complete.Answer.{answer-Denotes}
+use Rattle.simd_json_theorems.proofs.Faults.Kinds.{input-fault, token-fault}
+use Rattle.simd_json_theorems.proofs.Faults.Root.{fault-reported}
+use Rattle.simd_json_theorems.proofs.Sound.Answer.{answer-sound}
+use Rattle.simd_json_theorems.proofs.Documents.Spelling.{IsSpellable-denoted}
 use Rattle.simd_json_parts.specs.Answer.{answer, fault_or}
 use Rattle.simd_json_parts.specs.Bytes.{indices}
 use Rattle.simd_json_parts.specs.Descent.{descent}
@@ -21,7 +21,7 @@ use Rattle.simd_json_parts.specs.Nodes.{Item, item_of}
 use Rattle.simd_json_parts.specs.declared.node.Node.{Node}
 use Rattle.simd_json_stages.specs.Building.{IsListed}
 use Rattle.simd_json.specs.Parsed.{IsParsed, IsRefused}
-use Rattle.simd_json_parts.specs.Listing.{IsTape}
+use Rattle.simd_json.specs.Tapes.{IsTape}
 use Rattle.simd_json_parts.specs.InputFaults.{input_fault}
 use Rattle.simd_json_parts.specs.Positions.{positions, is_position}
 use Rattle.simd_json_parts.specs.declared.error.Error.{Error}

@@ -3,8 +3,8 @@ use Rattle.std.specs.Prelude.{◌≡◌, ◌≤◌, ◌<◌, ◌⊎◌, ℕ, suc
 use Rattle.simd_json_parts.specs.Answer.{answer}
 use Rattle.simd_json_parts.specs.Document.{Document}
 use Rattle.simd_json_parts.specs.ErrorKinds.{is_unexpected_token}
-use Rattle.simd_json_parts.specs.FaultKinds.{IsOfInput, IsOfToken}
-use Rattle.simd_json_parts.specs.Grammar.{Denotes, IsBeginning}
+use Rattle.simd_json_parts.specs.FaultKinds.{IsOfInput, IsOfToken, IsBeginning}
+use Rattle.simd_json_parts.specs.Grammar.{Denotes}
 use Rattle.simd_json_parts.specs.InputFaults.{input_fault, padding_fault}
 use Rattle.simd_json_parts.specs.Limits.{WithinLimits}
 use Rattle.simd_json_parts.specs.Listing.{listing}

@@ -1,7 +1,8 @@
 -- What a printed text says, and what it is parsed as.
 use Rattle.std.specs.Prelude.{◌≡◌, ℕ, List, true, Option, None}
 use Rattle.simd_json_parts.specs.Document.{Document}
-use Rattle.simd_json_parts.specs.Equality.{equal, normalized}
+use Rattle.simd_json_parts.specs.Equality.{equal}
+use Rattle.simd_json_theorems.specs.Normalized.{normalized}
 use Rattle.simd_json_parts.specs.Grammar.{Denotes}
 use Rattle.simd_json_parts.specs.Limits.{depth}
 use Rattle.simd_json_parts.specs.Listing.{listing}

@@ -1,14 +1,14 @@
 -- The texts of a document are together no longer than its bytes, and nor is its compact text.
-use Rattle.std.proofs.Common.{◌≡◌, ◌≤◌, ◌+◌, ◌/◌, ◌%◌, ◌==◌, ℕ, List, [], ◌∷◌, ◌++◌, length, length-append, Bool, true, false, cond, None, Result, Ok, Err, IfOk, String, string_bytes, flat_map, codes, arith, subst, sym, ◌∙◌}
+use Rattle.std.proofs.Common.{◌≡◌, ◌≤◌, ◌+◌, ◌/◌, ◌%◌, ◌==◌, ℕ, suc, List, [], ◌∷◌, ◌++◌, length, length-append, Bool, true, false, cond, None, Result, Ok, Err, IfOk, String, string_bytes, flat_map, codes, arith, subst, sym, ◌∙◌}
 use Rattle.std.specs.Char.{digit_char}
 use Rattle.std.specs.Result.{result_err}
-use Rattle.simd_json_parts.specs.Bytes.{backspace, tab, line_feed, form_feed, carriage_return, quote, colon, backslash, right_bracket, right_brace, is_control}
+use Rattle.simd_json_parts.specs.Bytes.{backspace, tab, line_feed, form_feed, carriage_return, quote, comma, backslash, left_bracket, right_bracket, left_brace, right_brace, is_control}
 use Rattle.simd_json_parts.specs.Document.{Document, null, boolean, integer, decimal, string, array, object, Elements, no_elements, element, Members, no_members, member}
 use Rattle.simd_json_parts.specs.Listing.{listing, elements_listing, members_listing}
 use Rattle.simd_json_parts.specs.Nodes.{Item}
 use Rattle.simd_json_parts.specs.declared.error.Error.{Error}
-use Rattle.simd_json_parts.specs.Printed.{escaped_byte, quoted, compact, compact_elements, more_compact_elements, compact_members, more_compact_members}
-use Rattle.simd_json_parts.proofs.Printing.Shortest.{compact-shortest}
+use Rattle.simd_json_parts.specs.Printed.{escaped_byte, quoted, text, elements_text, members_text, compact}
+use Rattle.simd_json_theorems.proofs.Printing.Shortest.{compact-shortest}
 use Rattle.simd_json.specs.Parsed.{IsParse, IsParsed}
 use Rattle.simd_json.proofs.Listed.{known}
 use Rattle.simd_json_c.specs.Nodes.{room_for, text_of, texts}
@@ -46,63 +46,53 @@ quoted-longer t = omega (arith, length-append (flat_map escaped_byte t) (quote �
 -- ---- documents
 
 mutual
-  value-texts : (d : Document) → length (texts (listing d)) ≤ length (compact d)
-  value-texts null = omega arith
-  value-texts (boolean b) = omega arith
-  value-texts (integer minus n) = omega arith
-  value-texts (decimal literal) = omega (arith, length-append literal [])
-  value-texts (string t) = omega (arith, length-append t [], quoted-longer t)
-  value-texts (array ds) = omega (arith, length-append (compact_elements ds) (right_bracket ∷ []), elements-texts ds)
-  value-texts (object ms) = omega (arith, length-append (compact_members ms) (right_brace ∷ []), members-texts ms)
+  value-texts : (d : Document) (n : ℕ) → length (texts (listing d)) ≤ length (text false d n)
+  value-texts null n = omega arith
+  value-texts (boolean b) n = omega arith
+  value-texts (integer minus m) n = omega arith
+  value-texts (decimal literal) n = omega (arith, length-append literal [])
+  value-texts (string t) n = omega (arith, length-append t [], quoted-longer t)
+  value-texts (array no_elements) n = omega arith
+  value-texts (array (element d ds)) n =
+      omega (
+        arith,
+        length-append (elements_text false left_bracket (element d ds) (suc n)) (right_bracket ∷ []),
+        elements-texts left_bracket (element d ds) (suc n),
+      )
+  value-texts (object no_members) n = omega arith
+  value-texts (object (member k d ms)) n =
+      omega (
+        arith,
+        length-append (members_text false left_brace (member k d ms) (suc n)) (right_brace ∷ []),
+        members-texts left_brace (member k d ms) (suc n),
+      )
 
-  elements-texts : (ds : Elements) → length (texts (elements_listing ds)) ≤ length (compact_elements ds)
-  elements-texts no_elements = omega arith
-  elements-texts (element d ds) =
+  elements-texts : (before : ℕ) (ds : Elements) (n : ℕ)
+      → length (texts (elements_listing ds)) ≤ length (elements_text false before ds n)
+  elements-texts before no_elements n = omega arith
+  elements-texts before (element d ds) n =
       omega (
         arith,
         texts-append (listing d) (elements_listing ds),
-        length-append (compact d) (more_compact_elements ds),
-        value-texts d,
-        more_elements-texts ds,
+        length-append (text false d n) (elements_text false comma ds n),
+        value-texts d n,
+        elements-texts comma ds n,
       )
 
-  more_elements-texts : (ds : Elements) → length (texts (elements_listing ds)) ≤ length (more_compact_elements ds)
-  more_elements-texts no_elements = omega arith
-  more_elements-texts (element d ds) =
-      omega (
-        arith,
-        texts-append (listing d) (elements_listing ds),
-        length-append (compact d) (more_compact_elements ds),
-        value-texts d,
-        more_elements-texts ds,
-      )
-
-  members-texts : (ms : Members) → length (texts (members_listing ms)) ≤ length (compact_members ms)
-  members-texts no_members = omega arith
-  members-texts (member k d ms) =
+  members-texts : (before : ℕ) (ms : Members) (n : ℕ)
+      → length (texts (members_listing ms)) ≤ length (members_text false before ms n)
+  members-texts before no_members n = omega arith
+  members-texts before (member k d ms) n =
       omega (
         arith,
         length-append k (texts (listing d ++ members_listing ms)),
         texts-append (listing d) (members_listing ms),
-        length-append (quoted k) (colon ∷ (compact d ++ more_compact_members ms)),
-        length-append (compact d) (more_compact_members ms),
+        length-append (quoted k ++ codes ":") (text false d n ++ members_text false comma ms n),
+        length-append (quoted k) (codes ":"),
+        length-append (text false d n) (members_text false comma ms n),
         quoted-longer k,
-        value-texts d,
-        more_members-texts ms,
-      )
-
-  more_members-texts : (ms : Members) → length (texts (members_listing ms)) ≤ length (more_compact_members ms)
-  more_members-texts no_members = omega arith
-  more_members-texts (member k d ms) =
-      omega (
-        arith,
-        length-append k (texts (listing d ++ members_listing ms)),
-        texts-append (listing d) (members_listing ms),
-        length-append (quoted k) (colon ∷ (compact d ++ more_compact_members ms)),
-        length-append (compact d) (more_compact_members ms),
-        quoted-longer k,
-        value-texts d,
-        more_members-texts ms,
+        value-texts d n,
+        members-texts comma ms n,
       )
 
 -- ---- of what is parsed
@@ -110,7 +100,7 @@ mutual
 texts-within : (b : List ℕ) (limit : ℕ) (ns : List Item) → IsParsed b limit ns → length (texts ns) ≤ length b
 texts-within b limit ns p =
     let own : length (texts (listing p.document)) ≤ length b =
-    omega (arith, compact-shortest b p.document p.denoted p.within.integers, value-texts p.document) in
+    omega (arith, compact-shortest b p.document p.denoted p.within.integers, value-texts p.document 0) in
     subst (λ ms. length (texts ms) ≤ length b) (sym p.listed) own
 
 -- of the nodes that are handed on

@@ -1,8 +1,9 @@
 -- The typed accessors as one table: what each answers of a document, and which kind its refusals name as expected.
 -- Neither acceptance nor faults rest on it.
-use Rattle.std.specs.Prelude.{ℕ, ℤ, List, Bool, Option, Result}
+use Rattle.std.specs.Prelude.{ℕ, ℤ, List, Bool, false, Option, option_and_then, Result, ok_or}
+use Rattle.std.specs.Option.{option_map_or}
 use Rattle.simd_json_parts.specs.Document.{Document}
-use Rattle.simd_json_parts.specs.Views.{as_null, as_bool, as_signed, as_unsigned, as_str, as_decimal, as_array, as_object, try_as, get_as, try_get_as, eq_as}
+use Rattle.simd_json_parts.specs.Views.{as_null, as_bool, as_signed, as_unsigned, as_str, as_decimal, as_array, as_object, get, mismatch, try_get_as}
 use Rattle.simd_json_parts.specs.declared.node.TryTypeError.{TryTypeError}
 use Rattle.simd_json_parts.specs.declared.node.ValueType.{ValueType}
 use Rattle.simd_json_parts.specs.declared.node.ValueType.TheVariants as kinds
@@ -69,19 +70,21 @@ array = row as_array kinds.Array
 abbrev pub object : Accessor (List (List ℕ × Document))
 object = row as_object kinds.Object
 
--- ---- the calls of a row, each named after its functions: `as_T`, `try_as_T`, `get_T`, `try_get_T`, `eq_T`
+-- ---- the calls of a row, each named after its functions
 
 abbrev pub as_t : {A : Type 0} → Accessor A → Document → Option A
-as_t t d = t.answer d
+as_t t = t.answer
 
 abbrev pub try_as_t : {A : Type 0} → Accessor A → Document → Result A TryTypeError
-try_as_t t d = try_as t.expected t.answer d
+try_as_t t d = ok_or (t.answer d) (mismatch t.expected d)
 
+-- at the first value with the key
 abbrev pub get_t : {A : Type 0} → Accessor A → List ℕ → Document → Option A
-get_t t key d = get_as t.answer key d
+get_t t key d = option_and_then t.answer (get key d)
 
 abbrev pub try_get_t : {A : Type 0} → Accessor A → List ℕ → Document → Result (Option A) TryTypeError
-try_get_t t key d = try_get_as (try_as_t t) key d
+try_get_t t = try_get_as (try_as_t t)
 
+-- whether there is such a value, the same as x
 abbrev pub eq_t : {A : Type 0} → (A → A → Bool) → Accessor A → A → Document → Bool
-eq_t same t x d = eq_as same t.answer x d
+eq_t same t x d = option_map_or (λ y. same y x) (t.answer d) false

@@ -1,6 +1,6 @@
 -- When two documents are the same value: the same shape and order, integers by their numbers, decimals and strings
 -- by their bytes. Neither acceptance nor faults rest on it.
-use Rattle.std.specs.Prelude.{ℕ, Bool, true, false, not, ◌&&◌, ◌||◌, ◌==◌, bytes_eq}
+use Rattle.std.specs.Prelude.{ℕ, Bool, true, false, ◌&&◌, ◌||◌, ◌==◌, bytes_eq}
 use Rattle.std.specs.Bool.{beq}
 use Rattle.simd_json_parts.specs.Document.{Document, null, boolean, integer, decimal, string, array, object, Elements, no_elements, element, Members, no_members, member}
 
@@ -28,22 +28,3 @@ abbrev mutual
   equal_members no_members no_members = true
   equal_members (member k d ms) (member l e ns) = bytes_eq k l && equal d e && equal_members ms ns
   equal_members _ _ = false
-
--- the document with no sign on a zero: equal documents are those that are then the same
-abbrev mutual
-  pub normalized : Document → Document
-  normalized null = null
-  normalized (boolean b) = boolean b
-  normalized (integer minus n) = integer (minus && not (n == 0)) n
-  normalized (decimal literal) = decimal literal
-  normalized (string t) = string t
-  normalized (array ds) = array (normalized_elements ds)
-  normalized (object ms) = object (normalized_members ms)
-
-  pub normalized_elements : Elements → Elements
-  normalized_elements no_elements = no_elements
-  normalized_elements (element d ds) = element (normalized d) (normalized_elements ds)
-
-  pub normalized_members : Members → Members
-  normalized_members no_members = no_members
-  normalized_members (member k d ms) = member k (normalized d) (normalized_members ms)

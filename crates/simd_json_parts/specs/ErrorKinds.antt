@@ -13,52 +13,6 @@ use Rattle.simd_json_parts.specs.declared.node.ValueType.TheVariants as kinds
 pub data Class : Type 0 where
   io eof syntax shape : Class
 
-abbrev pub class_of : ErrorType → Class
-class_of errors.InputTooLarge = io
-class_of errors.InsufficientPadding = io
-class_of errors.OutOfMemory = io
-class_of errors.Eof = eof
-class_of errors.InternalError = syntax
-class_of errors.BadKeyType = syntax
-class_of errors.ExpectedArrayComma = syntax
-class_of errors.ExpectedObjectColon = syntax
-class_of errors.ExpectedMapComma = syntax
-class_of errors.ExpectedMapEnd = syntax
-class_of errors.InvalidEscape = syntax
-class_of errors.InvalidExponent = syntax
-class_of errors.InvalidNumber = syntax
-class_of errors.InvalidUtf8 = syntax
-class_of errors.InvalidUnicodeEscape = syntax
-class_of errors.InvalidUnicodeCodepoint = syntax
-class_of errors.KeyMustBeAString = syntax
-class_of errors.NoStructure = syntax
-class_of errors.Parser = syntax
-class_of errors.Syntax = syntax
-class_of errors.TrailingData = syntax
-class_of errors.UnexpectedCharacter = syntax
-class_of errors.UnterminatedString = syntax
-class_of errors.ExpectedArrayContent = syntax
-class_of errors.ExpectedObjectContent = syntax
-class_of errors.ExpectedObjectKey = syntax
-class_of errors.Overflow = syntax
-class_of errors.SimdUnsupported = syntax
-class_of errors.ExpectedArray = shape
-class_of errors.ExpectedBoolean = shape
-class_of errors.ExpectedEnum = shape
-class_of errors.ExpectedFloat = shape
-class_of errors.ExpectedInteger = shape
-class_of errors.ExpectedMap = shape
-class_of errors.ExpectedNull = shape
-class_of errors.ExpectedTrue = shape
-class_of errors.ExpectedFalse = shape
-class_of errors.ExpectedNumber = shape
-class_of errors.ExpectedSigned = shape
-class_of errors.ExpectedString = shape
-class_of errors.ExpectedUnsigned = shape
-class_of errors.DepthLimitExceeded = shape
-class_of (errors.Unexpected expected got) = shape
-class_of (errors.Serde message) = shape
-
 -- The kinds of a fault at a token that an array or an object does not expect: after an element, at a name, after a
 -- name, after a member. No document goes on with that token's first byte.
 abbrev pub is_unexpected_token : ErrorType → Bool
@@ -109,53 +63,60 @@ expected_words kind = type_words kind
 abbrev pub mismatch_text : TryTypeError → List ℕ
 mismatch_text e = codes "expected " ++ expected_words e.expected ++ codes ", found " ++ type_words e.got
 
--- what is printed of a kind
+-- ---- the table: of each kind its class, and what is printed of it
+
+abbrev pub row : ErrorType → Class × List ℕ
+row errors.InputTooLarge = (io, codes "InputTooLarge")
+row errors.InsufficientPadding = (io, codes "InsufficientPadding")
+row errors.OutOfMemory = (io, codes "OutOfMemory")
+row errors.Eof = (eof, codes "Eof")
+row errors.InternalError = (syntax, codes "InternalError")
+row errors.BadKeyType = (syntax, codes "BadKeyType")
+row errors.ExpectedArrayComma = (syntax, codes "ExpectedArrayComma")
+row errors.ExpectedObjectColon = (syntax, codes "ExpectedObjectColon")
+row errors.ExpectedMapComma = (syntax, codes "ExpectedMapComma")
+row errors.ExpectedMapEnd = (syntax, codes "ExpectedMapEnd")
+row errors.InvalidEscape = (syntax, codes "InvalidEscape")
+row errors.InvalidExponent = (syntax, codes "InvalidExponent")
+row errors.InvalidNumber = (syntax, codes "InvalidNumber")
+row errors.InvalidUtf8 = (syntax, codes "InvalidUtf8")
+row errors.InvalidUnicodeEscape = (syntax, codes "InvalidUnicodeEscape")
+row errors.InvalidUnicodeCodepoint = (syntax, codes "InvalidUnicodeCodepoint")
+row errors.KeyMustBeAString = (syntax, codes "KeyMustBeAString")
+row errors.NoStructure = (syntax, codes "NoStructure")
+row errors.Parser = (syntax, codes "Parser")
+row errors.Syntax = (syntax, codes "Syntax")
+row errors.TrailingData = (syntax, codes "TrailingData")
+row errors.UnexpectedCharacter = (syntax, codes "UnexpectedCharacter")
+row errors.UnterminatedString = (syntax, codes "UnterminatedString")
+row errors.ExpectedArrayContent = (syntax, codes "ExpectedArrayContent")
+row errors.ExpectedObjectContent = (syntax, codes "ExpectedObjectContent")
+row errors.ExpectedObjectKey = (syntax, codes "ExpectedObjectKey")
+row errors.Overflow = (syntax, codes "Overflow")
+row errors.SimdUnsupported = (syntax, codes "SimdUnsupported")
+row errors.ExpectedArray = (shape, codes "ExpectedArray")
+row errors.ExpectedBoolean = (shape, codes "ExpectedBoolean")
+row errors.ExpectedEnum = (shape, codes "ExpectedEnum")
+row errors.ExpectedFloat = (shape, codes "ExpectedFloat")
+row errors.ExpectedInteger = (shape, codes "ExpectedInteger")
+row errors.ExpectedMap = (shape, codes "ExpectedMap")
+row errors.ExpectedNull = (shape, codes "ExpectedNull")
+row errors.ExpectedTrue = (shape, codes "ExpectedTrue")
+row errors.ExpectedFalse = (shape, codes "ExpectedFalse")
+row errors.ExpectedNumber = (shape, codes "ExpectedNumber")
+row errors.ExpectedSigned = (shape, codes "ExpectedSigned")
+row errors.ExpectedString = (shape, codes "ExpectedString")
+row errors.ExpectedUnsigned = (shape, codes "ExpectedUnsigned")
+row errors.DepthLimitExceeded = (shape, codes "DepthLimitExceeded")
+row (errors.Unexpected expected got) =
+    (shape, codes "Unexpected(" ++ optional_name expected ++ codes ", " ++ optional_name got ++ codes ")")
+row (errors.Serde message) = (shape, codes "Serde(" ++ string_bytes message ++ codes ")")
+
+abbrev pub class_of : ErrorType → Class
+class_of kind = (row kind).0
+
 abbrev pub kind_text : ErrorType → List ℕ
-kind_text errors.InputTooLarge = codes "InputTooLarge"
-kind_text errors.InsufficientPadding = codes "InsufficientPadding"
-kind_text errors.OutOfMemory = codes "OutOfMemory"
-kind_text errors.Eof = codes "Eof"
-kind_text errors.InternalError = codes "InternalError"
-kind_text errors.BadKeyType = codes "BadKeyType"
-kind_text errors.ExpectedArrayComma = codes "ExpectedArrayComma"
-kind_text errors.ExpectedObjectColon = codes "ExpectedObjectColon"
-kind_text errors.ExpectedMapComma = codes "ExpectedMapComma"
-kind_text errors.ExpectedMapEnd = codes "ExpectedMapEnd"
-kind_text errors.InvalidEscape = codes "InvalidEscape"
-kind_text errors.InvalidExponent = codes "InvalidExponent"
-kind_text errors.InvalidNumber = codes "InvalidNumber"
-kind_text errors.InvalidUtf8 = codes "InvalidUtf8"
-kind_text errors.InvalidUnicodeEscape = codes "InvalidUnicodeEscape"
-kind_text errors.InvalidUnicodeCodepoint = codes "InvalidUnicodeCodepoint"
-kind_text errors.KeyMustBeAString = codes "KeyMustBeAString"
-kind_text errors.NoStructure = codes "NoStructure"
-kind_text errors.Parser = codes "Parser"
-kind_text errors.Syntax = codes "Syntax"
-kind_text errors.TrailingData = codes "TrailingData"
-kind_text errors.UnexpectedCharacter = codes "UnexpectedCharacter"
-kind_text errors.UnterminatedString = codes "UnterminatedString"
-kind_text errors.ExpectedArrayContent = codes "ExpectedArrayContent"
-kind_text errors.ExpectedObjectContent = codes "ExpectedObjectContent"
-kind_text errors.ExpectedObjectKey = codes "ExpectedObjectKey"
-kind_text errors.Overflow = codes "Overflow"
-kind_text errors.SimdUnsupported = codes "SimdUnsupported"
-kind_text errors.ExpectedArray = codes "ExpectedArray"
-kind_text errors.ExpectedBoolean = codes "ExpectedBoolean"
-kind_text errors.ExpectedEnum = codes "ExpectedEnum"
-kind_text errors.ExpectedFloat = codes "ExpectedFloat"
-kind_text errors.ExpectedInteger = codes "ExpectedInteger"
-kind_text errors.ExpectedMap = codes "ExpectedMap"
-kind_text errors.ExpectedNull = codes "ExpectedNull"
-kind_text errors.ExpectedTrue = codes "ExpectedTrue"
-kind_text errors.ExpectedFalse = codes "ExpectedFalse"
-kind_text errors.ExpectedNumber = codes "ExpectedNumber"
-kind_text errors.ExpectedSigned = codes "ExpectedSigned"
-kind_text errors.ExpectedString = codes "ExpectedString"
-kind_text errors.ExpectedUnsigned = codes "ExpectedUnsigned"
-kind_text errors.DepthLimitExceeded = codes "DepthLimitExceeded"
-kind_text (errors.Unexpected expected got) =
-    codes "Unexpected(" ++ optional_name expected ++ codes ", " ++ optional_name got ++ codes ")"
-kind_text (errors.Serde message) = codes "Serde(" ++ string_bytes message ++ codes ")"
+kind_text kind = (row kind).1
 
 abbrev pub with_character : List ℕ → Option ℕ → List ℕ
 with_character place None = place

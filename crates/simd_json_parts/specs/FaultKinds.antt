@@ -1,6 +1,8 @@
--- Of which kinds the faults of a parse are, and what each carries. Neither acceptance nor faults rest on it.
-use Rattle.std.specs.Prelude.{◌≡◌, ◌⊎◌, Bool, true, false, IsTrue, IsSome}
+-- Of which kinds the faults of a parse are, what each carries, and where it may be. Neither acceptance nor faults rest on it.
+use Rattle.std.specs.Prelude.{◌≡◌, ◌⊎◌, ℕ, List, ◌++◌, Bool, true, false, IsTrue, IsSome}
+use Rattle.simd_json_parts.specs.Document.{Document}
 use Rattle.simd_json_parts.specs.Faults.{whole_fault}
+use Rattle.simd_json_parts.specs.Grammar.{Denotes}
 use Rattle.simd_json_parts.specs.declared.error.Error.{Error}
 use Rattle.simd_json_parts.specs.declared.error.ErrorType.{ErrorType}
 use Rattle.simd_json_parts.specs.declared.error.ErrorType.TheVariants as errors
@@ -44,3 +46,7 @@ IsOfToken e = IsTrue (is_token_kind e.error) × IsSome e.character
 -- is lacking.
 abbrev pub IsNamedFault : Error → Type 0
 IsNamedFault e = IsOfInput e ⊎ IsOfToken e
+
+-- The bytes go on to a document. Those before the index of a fault at a token do.
+abbrev pub IsBeginning : List ℕ → Type 0
+IsBeginning bs = (rest : List ℕ) × (d : Document) × Denotes (bs ++ rest) d

@@ -74,7 +74,3 @@ abbrev mutual
 -- the bytes are this document
 abbrev pub Denotes : List ℕ → Document → Type 0
 Denotes bs d = Spaced (IsValue d) bs
-
--- the bytes go on to a document
-abbrev pub IsBeginning : List ℕ → Type 0
-IsBeginning bs = (rest : List ℕ) × (d : Document) × Denotes (bs ++ rest) d

@@ -7,7 +7,6 @@ pub mod Numbers
 pub mod Integers
 pub mod Strings
 pub mod Grammar
-pub mod Spellable
 pub mod Limits
 pub mod Nodes
 pub mod Listing
@@ -25,21 +24,10 @@ pub mod Answer
 -- What is said besides of errors, and of the values and the printed text of a document.
 pub mod ErrorKinds
 pub mod FaultKinds
+pub mod NodeTypes
 pub mod StaticNodes
 pub mod Views
 pub mod Equality
 pub mod MapEquality
-pub mod NodeEquality
 pub mod Accessors
 pub mod Printed
--- What serves proofs: where tokens end, the headers of a listing, and what the readers of one scalar answer. The
--- contracts of laws and of those readers cite it.
-pub mod TokensAlong
-pub mod Headers
-pub mod NumberRead
-pub mod NumeralRead
-pub mod StringRead
--- What serves proofs alone: only the crate's private clauses cite it.
-pub mod DigitRuns
-pub mod StringContent
-pub mod StringDecoded

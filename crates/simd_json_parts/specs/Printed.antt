@@ -4,7 +4,7 @@ use Rattle.std.specs.Prelude.{ℕ, suc, ◌*◌, ◌/◌, ◌%◌, List, [], ◌
 use Rattle.std.specs.Fmt.{signed_decimal}
 use Rattle.std.specs.Char.{digit_char}
 use Rattle.simd_json_parts.specs.Document.{Document, null, boolean, integer, decimal, string, array, object, Elements, no_elements, element, Members, no_members, member}
-use Rattle.simd_json_parts.specs.Bytes.{backspace, tab, line_feed, form_feed, carriage_return, space, quote, comma, colon, left_bracket, backslash, right_bracket, left_brace, right_brace, is_control}
+use Rattle.simd_json_parts.specs.Bytes.{backspace, tab, line_feed, form_feed, carriage_return, space, quote, comma, left_bracket, backslash, right_bracket, left_brace, right_brace, is_control}
 use Rattle.simd_json_parts.specs.Integers.{number_of}
 
 -- a byte of a string as it is printed: a quote, a backslash and what is below 0x20 are escaped
@@ -27,68 +27,43 @@ abbrev pub truth_text : Bool → List ℕ
 truth_text true = codes "true"
 truth_text false = codes "false"
 
-abbrev mutual
-  pub compact : Document → List ℕ
-  compact null = codes "null"
-  compact (boolean b) = truth_text b
-  compact (integer minus n) = signed_decimal (number_of minus n)
-  compact (decimal literal) = literal
-  compact (string t) = quoted t
-  compact (array ds) = left_bracket ∷ (compact_elements ds ++ right_bracket ∷ [])
-  compact (object ms) = left_brace ∷ (compact_members ms ++ right_brace ∷ [])
-
-  pub compact_elements : Elements → List ℕ
-  compact_elements no_elements = []
-  compact_elements (element d ds) = compact d ++ more_compact_elements ds
-
-  -- each after a comma
-  pub more_compact_elements : Elements → List ℕ
-  more_compact_elements no_elements = []
-  more_compact_elements (element d ds) = comma ∷ (compact d ++ more_compact_elements ds)
-
-  pub compact_members : Members → List ℕ
-  compact_members no_members = []
-  compact_members (member k d ms) = quoted k ++ colon ∷ (compact d ++ more_compact_members ms)
-
-  pub more_compact_members : Members → List ℕ
-  more_compact_members no_members = []
-  more_compact_members (member k d ms) = comma ∷ (quoted k ++ colon ∷ (compact d ++ more_compact_members ms))
-
 -- a line feed, and two spaces for each open container
 abbrev pub new_line : ℕ → List ℕ
 new_line open_containers = line_feed ∷ replicate (2 * open_containers) space
 
--- with n containers open around it
+-- what is before each member and each closing bracket, and after a name: in a pretty text, or in a compact one
+abbrev pub line : Bool → ℕ → List ℕ
+line true n = new_line n
+line false n = []
+
+abbrev pub after_name : Bool → List ℕ
+after_name true = codes ": "
+after_name false = codes ":"
+
+-- pretty or compact, with n containers open around it
 abbrev mutual
-  pub pretty_in : Document → ℕ → List ℕ
-  pretty_in null n = codes "null"
-  pretty_in (boolean b) n = truth_text b
-  pretty_in (integer minus m) n = signed_decimal (number_of minus m)
-  pretty_in (decimal literal) n = literal
-  pretty_in (string t) n = quoted t
-  pretty_in (array ds) n = pretty_array ds n
-  pretty_in (object ms) n = pretty_object ms n
+  pub text : Bool → Document → ℕ → List ℕ
+  text p null n = codes "null"
+  text p (boolean b) n = truth_text b
+  text p (integer minus m) n = signed_decimal (number_of minus m)
+  text p (decimal literal) n = literal
+  text p (string t) n = quoted t
+  text p (array no_elements) n = codes "[]"
+  text p (array (element d ds)) n = elements_text p left_bracket (element d ds) (suc n) ++ (line p n ++ right_bracket ∷ [])
+  text p (object no_members) n = codes "{}"
+  text p (object (member k d ms)) n = members_text p left_brace (member k d ms) (suc n) ++ (line p n ++ right_brace ∷ [])
 
-  pub pretty_array : Elements → ℕ → List ℕ
-  pretty_array no_elements n = codes "[]"
-  pretty_array (element d ds) n =
-      left_bracket ∷ (new_line (suc n) ++ pretty_in d (suc n) ++ more_pretty_elements ds (suc n)
-      ++ new_line n ++ right_bracket ∷ [])
+  -- the first element after the byte, and each other one after a comma
+  pub elements_text : Bool → ℕ → Elements → ℕ → List ℕ
+  elements_text p before no_elements n = []
+  elements_text p before (element d ds) n = before ∷ (line p n ++ (text p d n ++ elements_text p comma ds n))
 
-  pub more_pretty_elements : Elements → ℕ → List ℕ
-  more_pretty_elements no_elements n = []
-  more_pretty_elements (element d ds) n = comma ∷ (new_line n ++ pretty_in d n ++ more_pretty_elements ds n)
+  pub members_text : Bool → ℕ → Members → ℕ → List ℕ
+  members_text p before no_members n = []
+  members_text p before (member k d ms) n = before ∷ (line p n ++ ((quoted k ++ after_name p) ++ (text p d n ++ members_text p comma ms n)))
 
-  pub pretty_object : Members → ℕ → List ℕ
-  pretty_object no_members n = codes "{}"
-  pretty_object (member k d ms) n =
-      left_brace ∷ (new_line (suc n) ++ quoted k ++ codes ": " ++ pretty_in d (suc n) ++ more_pretty_members ms (suc n)
-      ++ new_line n ++ right_brace ∷ [])
-
-  pub more_pretty_members : Members → ℕ → List ℕ
-  more_pretty_members no_members n = []
-  more_pretty_members (member k d ms) n =
-      comma ∷ (new_line n ++ quoted k ++ codes ": " ++ pretty_in d n ++ more_pretty_members ms n)
+abbrev pub compact : Document → List ℕ
+compact d = text false d 0
 
 abbrev pub pretty : Document → List ℕ
-pretty d = pretty_in d 0
+pretty d = text true d 0

@@ -1,8 +1,8 @@
 -- What a view of a document answers. Neither acceptance nor faults rest on it.
-use Rattle.std.specs.Prelude.{ℕ, ◌-◌, ◌^◌, ℤ, pos, neg_ℤ, int_le, int_lt, List, map, slice_get, Bool, false, cond, ◌&&◌, Option, Some, None, is_some, option_and_then, Result, Ok, Err, ok_or, bytes_eq}
+use Rattle.std.specs.Prelude.{ℕ, ◌-◌, ◌^◌, ℤ, pos, neg_ℤ, int_le, int_lt, List, length, map, slice_get, Bool, cond, ◌&&◌, Option, Some, None, is_some, option_and_then, Result, Ok, Err, bytes_eq}
 use Rattle.simd_json_parts.specs.Document.{Document, null, boolean, integer, decimal, string, array, object, elements, Members, no_members, member, members}
 use Rattle.simd_json_parts.specs.Integers.{number_of, integer_node}
-use Rattle.simd_json_parts.specs.Nodes.{static_type}
+use Rattle.simd_json_parts.specs.NodeTypes.{static_type}
 use Rattle.simd_json_parts.specs.declared.node.ValueType.{ValueType}
 use Rattle.simd_json_parts.specs.declared.node.ValueType.TheVariants as kinds
 use Rattle.simd_json_parts.specs.declared.node.TryTypeError.{TryTypeError}
@@ -15,6 +15,12 @@ value_type (decimal literal) = kinds.Decimal
 value_type (string t) = kinds.String
 value_type (array ds) = kinds.Array
 value_type (object ms) = kinds.Object
+
+-- how many elements or members the document has
+abbrev pub member_count : Document → ℕ
+member_count (array ds) = length (elements ds)
+member_count (object ms) = length (members ms)
+member_count _ = 0
 
 -- ---- a value of one kind
 
@@ -92,10 +98,6 @@ get_idx i _ = None
 abbrev pub contains_key : List ℕ → Document → Bool
 contains_key key d = is_some (get key d)
 
--- `get_T`: what `as_T` answers at the first value with the key
-abbrev pub get_as : {A : Type 0} → (Document → Option A) → List ℕ → Document → Option A
-get_as as_t key d = option_and_then as_t (get key d)
-
 -- ---- what the iterators give, in order
 
 abbrev pub keys : Members → List (List ℕ)
@@ -104,13 +106,10 @@ keys ms = map (λ (m : List ℕ × Document). m.0) (members ms)
 abbrev pub values : Members → List Document
 values ms = map (λ (m : List ℕ × Document). m.1) (members ms)
 
--- ---- the `try_` forms: the kind that was expected, and what `as_T` answers
+-- ---- the `try_` forms: a refusal names the kind that was expected, and the value's
 
 abbrev pub mismatch : ValueType → Document → TryTypeError
 mismatch expected d = record { expected = expected; got = value_type d }
-
-abbrev pub try_as : {A : Type 0} → ValueType → (Document → Option A) → Document → Result A TryTypeError
-try_as expected as_t d = ok_or (as_t d) (mismatch expected d)
 
 abbrev pub some_ok : {A : Type 0} → Result A TryTypeError → Result (Option A) TryTypeError
 some_ok (Ok x) = Ok (Some x)
@@ -130,13 +129,3 @@ try_get = try_get_as Ok
 abbrev pub try_get_idx : ℕ → Document → Result (Option Document) TryTypeError
 try_get_idx i (array ds) = Ok (slice_get (elements ds) i)
 try_get_idx i d = Err (mismatch kinds.Array d)
-
--- ---- comparisons with values that are no documents
-
-abbrev pub is_some_same : {A : Type 0} → (A → A → Bool) → Option A → A → Bool
-is_some_same same None x = false
-is_some_same same (Some y) x = same y x
-
--- `eq_T`: whether `as_T` answers a value that is the same
-abbrev pub eq_as : {A : Type 0} → (A → A → Bool) → (Document → Option A) → A → Document → Bool
-eq_as same as_t x d = is_some_same same (as_t d) x

@@ -1,6 +1,7 @@
 //! The nodes of a tape.
 ghost use Rattle.std.specs.Prelude.{◌≡◌, ◌≤◌};
-ghost use Rattle.simd_json_parts.specs.Nodes.{static_type, item_of, item_type};
+ghost use Rattle.simd_json_parts.specs.Nodes.{item_of};
+ghost use Rattle.simd_json_parts.specs.NodeTypes.{static_type, item_type};
 
 /// The kind of a value.
 #[derive(Clone, Copy, Debug, Drop, PartialEq, Eq)]

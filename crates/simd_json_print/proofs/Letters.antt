@@ -3,7 +3,7 @@ use Rattle.std.proofs.Common.{◌≡◌, ◌∙◌, ap₂, ℕ, ◌<◌, ◌/◌
 use Rattle.std.proofs.lemmas.Bool.Decides.{nat_tests}
 use Rattle.std.specs.Char.{digit_char}
 use Rattle.std.specs.Prelude.{if◌then◌else◌}
-use Rattle.simd_json_parts.proofs.Lists.Tables.{lists_values, table-value}
+use Rattle.simd_json_parts.proofs.Tables.{lists_values, table-value}
 use Rattle.simd_json_parts.specs.Bytes.{backspace, tab, line_feed, form_feed, carriage_return, quote, backslash, is_control}
 use Rattle.simd_json_parts.specs.Printed.{escaped_byte}
 use Rattle.simd_json_print.specs.Texts.{Place, Adds}

@@ -2,7 +2,6 @@ pub mod FlatMaps
 pub mod Texts
 pub mod Walk
 pub mod Nestings
-pub mod Layouts
 pub mod Lines
 pub mod Runs
 pub mod Unescaped

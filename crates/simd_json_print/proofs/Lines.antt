@@ -8,7 +8,7 @@ use Rattle.simd_json_parts.specs.Nodes.{item_of, string_item}
 use Rattle.simd_json_parts.specs.Printed.{escaped_byte, quoted, new_line}
 use Rattle.simd_json_parts.specs.declared.node.Node.{Node}
 use Rattle.simd_json_parts.specs.declared.node.Node.TheVariants as nodes
-use Rattle.simd_json_print.specs.Layout.{line, after_name}
+use Rattle.simd_json_parts.specs.Printed.{line, after_name}
 use Rattle.simd_json_print.specs.Texts.{Place, Adds}
 use Rattle.simd_json_print.specs.declared.text.Text.{Text}
 use Rattle.simd_json_print.proofs.Texts.{adds-none, adds-is}

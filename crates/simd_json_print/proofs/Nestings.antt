@@ -3,16 +3,18 @@ use Rattle.std.proofs.Common.{◌≡◌, ◌∙◌, ap, ap₂, sym, refl, subst,
 use Rattle.std.proofs.lemmas.List.{get_or-set_other, get_or-set_same, length-map, take-map, drop-map}
 use Rattle.std.proofs.lemmas.Grind.{common_steps}
 use Rattle.std.proofs.Math.Seq.{take-append_seam, drop-append_seam}
-use Rattle.simd_json_parts.proofs.Documents.Fronts.{positive}
+use Rattle.simd_json_scalars.proofs.Documents.Fronts.{positive}
 use Rattle.simd_json_parts.specs.Bytes.{comma, left_bracket, right_bracket, left_brace, right_brace}
 use Rattle.simd_json_parts.specs.Document.{Document, Elements, no_elements, element, Members, no_members, member}
 use Rattle.simd_json_parts.specs.Listing.{listing, elements_listing, members_listing}
-use Rattle.simd_json_parts.specs.Nodes.{Item, string_item, item_of, count_of}
+use Rattle.simd_json_parts.specs.Nodes.{Item, string_item, item_of}
+use Rattle.simd_json_scalars.specs.Headers.{count_of}
 use Rattle.simd_json_parts.specs.Printed.{quoted}
 use Rattle.simd_json_parts.specs.declared.node.Node.{Node}
 use Rattle.simd_json_parts.specs.declared.node.Node.TheVariants as nodes
 use Rattle.simd_json_print.specs.Frames.{Frame, elements_left, members_left, has_members, frame_listing, frame_text, frames_listing, frames_text, AreNested, IsBetween, IsAtValue}
-use Rattle.simd_json_print.specs.Layout.{line, after_name, leaf_text, text, elements_text, members_text}
+use Rattle.simd_json_print.specs.Layout.{leaf_text}
+use Rattle.simd_json_parts.specs.Printed.{line, after_name, text, elements_text, members_text}
 use Rattle.simd_json_print.specs.declared.document.walk.Nesting.{Nesting}
 use Rattle.simd_json_print.proofs.Walk.{IsOpened, is_object_item, is-leaf, is-opened, beneath-within, same-first, same-rest, split-first}
 

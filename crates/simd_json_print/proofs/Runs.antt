@@ -2,7 +2,7 @@
 use Rattle.std.proofs.Common.{◌≡◌, ◌∙◌, ap, sym, ◌<◌, ℕ, List, [], ◌∷◌, ◌++◌, length, take, drop, get_or, flat_map, append_assoc, append-nil, take-append-drop, false, arith}
 use Rattle.std.proofs.lemmas.Bool.Decides.{nat_tests}
 use Rattle.simd_json_parts.specs.Bytes.{is_control}
-use Rattle.simd_json_parts.specs.StringContent.{is_stop}
+use Rattle.simd_json_scalars.specs.StringContent.{is_stop}
 use Rattle.std.proofs.lemmas.List.Concat.{flat_map-append}
 use Rattle.simd_json_parts.specs.Printed.{escaped_byte}
 use Rattle.simd_json_print.specs.Texts.{Place, Adds}

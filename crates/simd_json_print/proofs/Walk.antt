@@ -1,16 +1,18 @@
 -- What the walk over nodes meets, step by step.
 use Rattle.std.proofs.Common.{◌≡◌, ◌∙◌, ap, ap₂, sym, refl, ◌<◌, ◌≤◌, ℕ, zero, suc, Bool, true, false, List, [], ◌∷◌, ◌++◌, length, length-append, map, take, drop, get_or, arith}
 use Rattle.std.specs.Fmt.{signed_decimal}
-use Rattle.simd_json_parts.proofs.Documents.Fronts.{positive}
-use Rattle.simd_json_parts.proofs.Documents.Integers.{of-integer_node}
+use Rattle.simd_json_scalars.proofs.Documents.Fronts.{positive}
+use Rattle.simd_json_scalars.proofs.Documents.Integers.{of-integer_node}
 use Rattle.simd_json_parts.specs.Document.{Document, null, boolean, integer, decimal, string, array, object, no_elements, element, no_members, member}
 use Rattle.simd_json_parts.specs.Listing.{listing, elements_listing}
-use Rattle.simd_json_parts.specs.Nodes.{Item, static_item, object_item, item_of, count_of}
+use Rattle.simd_json_parts.specs.Nodes.{Item, static_item, object_item, item_of}
+use Rattle.simd_json_scalars.specs.Headers.{count_of}
 use Rattle.simd_json_parts.specs.Integers.{number_of, integer_node}
 use Rattle.simd_json_parts.specs.declared.node.Node.{Node}
 use Rattle.simd_json_parts.specs.declared.node.StaticNode.TheVariants as fixed
 use Rattle.simd_json_print.specs.Frames.{Frame, elements_left, members_left, has_members, frame_listing, frame_text}
-use Rattle.simd_json_print.specs.Layout.{static_text, leaf_text, text}
+use Rattle.simd_json_print.specs.Layout.{static_text, leaf_text}
+use Rattle.simd_json_parts.specs.Printed.{text}
 
 -- ---- the node in front of a value
 

@@ -4,7 +4,7 @@ use Rattle.simd_json_parts.specs.Bytes.{comma, left_bracket, right_bracket, left
 use Rattle.simd_json_parts.specs.Document.{Document, Elements, Members}
 use Rattle.simd_json_parts.specs.Listing.{listing, elements_listing, members_listing}
 use Rattle.simd_json_parts.specs.Nodes.{Item}
-use Rattle.simd_json_print.specs.Layout.{line, text, elements_text, members_text}
+use Rattle.simd_json_parts.specs.Printed.{line, text, elements_text, members_text}
 use Rattle.simd_json_print.specs.declared.document.walk.Nesting.{Nesting}
 
 -- the elements or the members of a container that are left

@@ -1,7 +1,7 @@
 -- Bytes that are printed as they stand. Only private clauses cite it.
 use Rattle.std.specs.Prelude.{ℕ, ◌≤◌, ◌<◌, List, get_or, Bool, ◌||◌, IsFalse}
 use Rattle.simd_json_parts.specs.Bytes.{is_control}
-use Rattle.simd_json_parts.specs.StringContent.{is_stop}
+use Rattle.simd_json_scalars.specs.StringContent.{is_stop}
 
 -- a quote, a backslash, or below 0x20
 abbrev pub needs_escape : ℕ → Bool

@@ -8,7 +8,7 @@ use Rattle.std.proofs.lemmas.List.Elements.{filter-append}
 use Rattle.std.proofs.lemmas.List.Folds.{list_any-append}
 use Rattle.simd_json_parts.specs.Bytes.{quote, backslash, is_whitespace, is_structural, is_control, byte_at}
 use Rattle.simd_json_parts.specs.Positions.{is_even, backslashes_before, is_real_quote, real_quotes, is_inside, is_position}
-use Rattle.simd_json_parts.proofs.Lists.Parity.{is_even-suc}
+use Rattle.simd_json_scalars.proofs.Lists.Parity.{is_even-suc}
 use Rattle.simd_json_stages.specs.Carries.{is_escaped_at, is_open_at, has_control_before, IsKept}
 
 not-not : (t : Bool) → not (not t) ≡ t

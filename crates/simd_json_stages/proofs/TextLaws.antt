@@ -4,9 +4,9 @@ use Rattle.std.specs.Prelude.{Ok, IsUtf8, IsFalse, slice_range}
 use Rattle.std.proofs.lemmas.List.{get_or-drop, get_or_past, drop-drop, length-drop}
 use Rattle.simd_json_parts.specs.Bytes.{quote, backslash, byte_at}
 use Rattle.simd_json_parts.specs.StringAt.{closing_quote, string_at}
-use Rattle.simd_json_parts.proofs.Strings.Plain.{plain-decoded}
-use Rattle.simd_json_parts.proofs.Strings.Reader.{decoded-string, string_at-shared}
-use Rattle.simd_json_parts.proofs.Strings.Standalone.{closing_quote-further}
+use Rattle.simd_json_scalars.proofs.Strings.Plain.{plain-decoded}
+use Rattle.simd_json_scalars.proofs.Strings.Reader.{decoded-string, string_at-shared}
+use Rattle.simd_json_scalars.proofs.Strings.Standalone.{closing_quote-further}
 use Rattle.simd_json_stages.specs.EscapeBlocks.{blocks_in, backslash_blocks}
 use Rattle.simd_json_stages.specs.EscapesAhead.{AreAhead, PlainFrom}
 use Rattle.simd_json_stages.specs.Texts.{IsLent, IsStringBefore, Reads}

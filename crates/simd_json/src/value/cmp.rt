@@ -9,7 +9,7 @@ impl PartialEq for Value<'_, '_> {
     ghost use Rattle.std.specs.Cmp.{on_per, partial_equiv_from_equiv};
     ghost use Rattle.std.specs.Ordering.{on};
     ghost use Rattle.simd_json.specs.Viewed.{doc};
-    ghost use Rattle.simd_json_parts.proofs.Documents.Equality.{IsEquivalence-equal};
+    ghost use Rattle.simd_json_theorems.proofs.Documents.Equality.{IsEquivalence-equal};
     ghost use Rattle.simd_json_parts.specs.Equality.{equal};
 
     ghost eq = { on doc equal };
@@ -25,7 +25,7 @@ impl PartialEq for Value<'_, '_> {
 impl Eq for Value<'_, '_> {
     ghost use Rattle.std.specs.Cmp.{on_equiv};
     ghost use Rattle.simd_json.specs.Viewed.{doc};
-    ghost use Rattle.simd_json_parts.proofs.Documents.Equality.{IsEquivalence-equal};
+    ghost use Rattle.simd_json_theorems.proofs.Documents.Equality.{IsEquivalence-equal};
 
     ghost laws = { on_equiv doc IsEquivalence-equal };
 }

@@ -33,7 +33,7 @@ impl<'input, A: Allocator> Model for Tape<'input, A> {
     ghost use Rattle.std.specs.Vec.{vec_capacity};
     ghost use Rattle.simd_json.specs.Tapes.{Listed};
     ghost use Rattle.simd_json.specs.TapeView.{listed_of};
-    ghost use Rattle.simd_json_parts.specs.Listing.{IsTape};
+    ghost use Rattle.simd_json.specs.Tapes.{IsTape};
 
     ghost Value = { Listed };
 

@@ -3,7 +3,8 @@ ghost use Rattle.simd_json_parts.specs.Bytes.{comma, left_brace, left_bracket, q
 ghost use Rattle.simd_json_parts.specs.Nodes.{item_of, string_item};
 ghost use Rattle.simd_json_parts.specs.Printed.{quoted, new_line};
 ghost use Rattle.std.specs.Prelude.{◌≡◌, ◌++◌, ◌∷◌, ◌*◌, ℕ, List, [], cond, replicate};
-ghost use Rattle.simd_json_print.specs.Layout.{line, after_name, leaf_text};
+ghost use Rattle.simd_json_print.specs.Layout.{leaf_text};
+ghost use Rattle.simd_json_parts.specs.Printed.{line, after_name};
 ghost use Rattle.simd_json_print.specs.Texts.{Adds, AddsSome};
 
 use crate::text::{Target, Text};

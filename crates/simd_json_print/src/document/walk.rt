@@ -3,10 +3,11 @@ ghost use Rattle.std.specs.Prelude.{◌≡◌, ◌+◌, ◌-◌, ◌<◌, ◌≤
 ghost use Rattle.std.specs.Prelude.{true, get_or, length, map};
 ghost use Rattle.simd_json_parts.specs.Document.{Document};
 ghost use Rattle.simd_json_parts.specs.Listing.{listing};
-ghost use Rattle.simd_json_parts.specs.Nodes.{count_of, item_of};
+ghost use Rattle.simd_json_parts.specs.Nodes.{item_of};
+ghost use Rattle.simd_json_scalars.specs.Headers.{count_of};
 ghost use Rattle.simd_json_print.specs.Frames.{Frame, IsAtValue, IsBetween};
 ghost use Rattle.simd_json_print.specs.Frames.{frame_listing, frame_text, has_members};
-ghost use Rattle.simd_json_print.specs.Layout.{text};
+ghost use Rattle.simd_json_parts.specs.Printed.{text};
 ghost use Rattle.simd_json_print.specs.Texts.{Adds, AddsSome};
 
 use crate::document::scalar::{front_of, put_element, put_leaf, put_name, put_new_line};

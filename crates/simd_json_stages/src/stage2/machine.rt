@@ -21,7 +21,7 @@ use super::scalar::put_scalar;
 use super::text::Text;
 use super::{Container, StackState};
 use simd_json_parts::node::Node;
-use simd_json_parts::stringparse::BadEscape;
+use simd_json_scalars::stringparse::BadEscape;
 use std::alloc::Allocator;
 use std::result::Result;
 

@@ -6,10 +6,10 @@ ghost use Rattle.std.specs.List.{starts_with};
 ghost use Rattle.simd_json_parts.specs.Bytes.{is_terminator, byte_at, minus_sign};
 ghost use Rattle.simd_json_parts.specs.Integers.{integer_node, max_magnitude_64};
 ghost use Rattle.simd_json_parts.specs.NumberAt.{number_at};
-ghost use Rattle.simd_json_parts.specs.NumberRead.{IsNumberAt};
-ghost use Rattle.simd_json_parts.specs.NumeralRead.{IsIntegerLiteral};
+ghost use Rattle.simd_json_scalars.specs.NumberRead.{IsNumberAt};
+ghost use Rattle.simd_json_scalars.specs.NumeralRead.{IsIntegerLiteral};
 ghost use Rattle.simd_json_parts.specs.Tokens.{form_at, scalar};
-ghost use Rattle.simd_json_parts.specs.declared.numberparse.Number.TheVariants.{Integer, Invalid};
+ghost use Rattle.simd_json_scalars.specs.declared.numberparse.Number.TheVariants.{Integer, Invalid};
 ghost use Rattle.simd_json_stages.specs.Put.{is_boolean, IsScalarPut, IsNoScalar};
 ghost use Rattle.simd_json_stages.specs.Refusals.{error_type, refused_kind, number_refusal};
 ghost use Rattle.simd_json_stages.specs.Texts.{Reads};
@@ -19,7 +19,7 @@ use super::progress::Progress;
 use super::text::Text;
 use simd_json_parts::charutils::{byte_or_space, is_structural_or_whitespace};
 use simd_json_parts::node::{Node, StaticNode};
-use simd_json_parts::numberparse::{Numeral, is_integer, parse_long, parse_numeral, parse_short};
+use simd_json_scalars::numberparse::{Numeral, is_integer, parse_long, parse_numeral, parse_short};
 use std::alloc::Allocator;
 
 #[cfg(test)]

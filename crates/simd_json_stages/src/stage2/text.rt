@@ -4,13 +4,13 @@ ghost use Rattle.std.specs.Prelude.{ℕ, List, suc, length, slice_index, take, d
 ghost use Rattle.std.specs.Prelude.{IsTrue, IsFalse, true, false};
 ghost use Rattle.simd_json_parts.specs.Bytes.{quote, byte_at};
 ghost use Rattle.simd_json_parts.specs.StringAt.{closing_quote, string_at, escape_fault};
-ghost use Rattle.simd_json_parts.specs.StringRead.{IsStringAt};
+ghost use Rattle.simd_json_scalars.specs.StringRead.{IsStringAt};
 ghost use Rattle.simd_json_stages.specs.EscapeBlocks.{backslash_blocks};
 ghost use Rattle.simd_json_stages.specs.EscapesAhead.{AreAhead, ArePassed, PlainFrom};
 ghost use Rattle.simd_json_stages.specs.Texts.{Reads, IsStringBefore};
 
 use crate::stage1::BLOCK_LEN;
-use simd_json_parts::stringparse::{BadEscape, parse_str, share_str};
+use simd_json_scalars::stringparse::{BadEscape, parse_str, share_str};
 
 // An input without a backslash is shared as a whole. Another one is lent for writing, since its strings are
 // decoded in the bytes they were written in: what is shared is split off from the front, for good.

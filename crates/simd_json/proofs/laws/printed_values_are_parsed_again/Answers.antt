@@ -1,5 +1,4 @@
-use Rattle.simd_json_parts.proofs.Printing.Compact.{Denotes-compact}
-use Rattle.simd_json_parts.proofs.Printing.Pretty.{Denotes-pretty}
+use Rattle.simd_json_theorems.proofs.Printing.Texts.{Denotes-compact, Denotes-pretty}
 use Rattle.simd_json_parts.specs.Printed.{compact, pretty}
 use Rattle.simd_json.proofs.Encoded.{parsed-again}
 use Rattle.simd_json.proofs.laws.printed_values_are_parsed_again.Goals as goal

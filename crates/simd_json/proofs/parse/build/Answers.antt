@@ -1,5 +1,5 @@
 use Rattle.std.proofs.Common.{ap, subst, map}
-use Rattle.simd_json_parts.proofs.Faults.Kinds.{token-fault}
+use Rattle.simd_json_theorems.proofs.Faults.Kinds.{token-fault}
 use Rattle.simd_json_parts.specs.Nodes.{item_of}
 use Rattle.simd_json.specs.Parsed.{IsParsed, IsRefused}
 use Rattle.simd_json.proofs.ParseEnds.{parsed-some}

@@ -3,7 +3,8 @@ ghost use Rattle.std.specs.Prelude.{◌≡◌, ◌++◌, List, length, map};
 ghost use Rattle.simd_json.specs.Documents.{IsListing};
 ghost use Rattle.simd_json.specs.Printable.{ArePrintable};
 ghost use Rattle.simd_json_parts.specs.Document.{Document};
-ghost use Rattle.simd_json_parts.specs.Listing.{StandsFor, listing};
+ghost use Rattle.simd_json_parts.specs.Listing.{listing};
+ghost use Rattle.simd_json.specs.Tapes.{StandsFor};
 ghost use Rattle.simd_json_parts.specs.Nodes.{Item, item_of};
 
 use crate::value::tape::array::Array;
@@ -51,7 +52,8 @@ impl<'tape, 'input> Value<'tape, 'input> {
     ghost use Rattle.simd_json.specs.Printable.{ArePrintable};
     ghost use Rattle.simd_json.specs.Viewed.{doc, docs, pairs};
     ghost use Rattle.simd_json_parts.specs.Document.{Document, null, array, object};
-    ghost use Rattle.simd_json_parts.specs.Listing.{StandsFor, listing};
+    ghost use Rattle.simd_json_parts.specs.Listing.{listing};
+    ghost use Rattle.simd_json.specs.Tapes.{StandsFor};
     ghost use Rattle.simd_json_parts.specs.Nodes.{Item, item_of};
     ghost use Rattle.simd_json_parts.specs.Views.{value_type, is_array, is_object};
     ghost use Rattle.simd_json_parts.specs.Views.{get, get_idx, contains_key};

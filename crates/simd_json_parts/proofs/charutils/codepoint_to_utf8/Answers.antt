@@ -1,6 +1,6 @@
 use Rattle.std.proofs.Common.{arith}
 use Rattle.std.proofs.lemmas.Bool.Decides.{nat_tests}
-use Rattle.simd_json_parts.proofs.Strings.Utf8Writes.{two-written, three-written, four-written}
+use Rattle.simd_json_parts.proofs.Utf8Writes.{two-written, three-written, four-written}
 use Rattle.simd_json_parts.proofs.charutils.codepoint_to_utf8.Goals as goal
 
 pub returns-then-code-lt2048-clause-written : goal.returns-then-code-lt2048-clause-written

@@ -1,5 +1,5 @@
 use Rattle.std.proofs.Common.{rules}
-use Rattle.simd_json_parts.proofs.Strings.HexDigits.{counted-table, counted-table-bound}
+use Rattle.simd_json_parts.proofs.HexDigits.{counted-table, counted-table-bound}
 use Rattle.simd_json_parts.proofs.charutils.digit_or_none.Goals as goal
 
 pub returns-clause-value : goal.returns-clause-value

@@ -1,5 +1,5 @@
 use Rattle.std.specs.Prelude.{slice_index}
-use Rattle.simd_json_parts.proofs.Strings.HexDigits.{hex_value-sum, hex_value-excess}
+use Rattle.simd_json_parts.proofs.HexDigits.{hex_value-sum, hex_value-excess}
 use Rattle.simd_json_parts.proofs.charutils.hex_to_u32_nocheck.Goals as goal
 
 pub returns-then-value-lt-NONE : goal.returns-then-value-lt-NONE

@@ -1,5 +1,5 @@
 use Rattle.std.proofs.Common.{rules}
-use Rattle.simd_json_parts.proofs.Lists.Tables.{terminators-table}
+use Rattle.simd_json_parts.proofs.Tables.{terminators-table}
 use Rattle.simd_json_parts.proofs.charutils.is_structural_or_whitespace.Goals as goal
 
 pub returns : goal.returns

@@ -3,7 +3,7 @@ use Rattle.std.proofs.lemmas.List.{length-map}
 use Rattle.simd_json_parts.specs.Bytes.{right_brace, right_bracket}
 use Rattle.simd_json_parts.specs.Nodes.{item_of}
 use Rattle.simd_json_print.specs.Frames.{frame_text}
-use Rattle.simd_json_print.specs.Layout.{line}
+use Rattle.simd_json_parts.specs.Printed.{line}
 use Rattle.simd_json_print.specs.Texts.{Adds}
 use Rattle.simd_json_print.proofs.Lines.{adds-a-line, adds-no-line}
 use Rattle.simd_json_print.proofs.Nestings.{begins, no-object, after-end, no-value, leaf-step, open-step, deep-step, no-document, value-leaf, value-opened}

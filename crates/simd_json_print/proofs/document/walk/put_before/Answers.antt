@@ -2,7 +2,7 @@ use Rattle.std.proofs.Common.{refl, ◌≡◌, ◌+◌, ◌-◌, ◌<◌, suc, g
 use Rattle.std.proofs.lemmas.List.{length-map}
 use Rattle.simd_json_parts.specs.Nodes.{item_of}
 use Rattle.simd_json_print.specs.Frames.{IsBetween}
-use Rattle.simd_json_print.specs.Layout.{line}
+use Rattle.simd_json_parts.specs.Printed.{line}
 use Rattle.simd_json_print.proofs.Lines.{adds-a-line, adds-no-line, adds-front}
 use Rattle.simd_json_print.proofs.Nestings.{element-before, member-before}
 use Rattle.simd_json_print.proofs.Texts.{adds-some, adds-then, some-then}

@@ -1,7 +1,7 @@
 use Rattle.std.proofs.Common.{◌≡◌, sym, subst, ◌∙◌, ap, ℕ, ◌+◌, ◌≤◌, inr, [], ◌∷◌, length, take, drop, arith}
 use Rattle.std.specs.Prelude.{Ok}
 use Rattle.simd_json_parts.specs.Document.{integer, decimal}
-use Rattle.simd_json_parts.specs.NumeralRead.{IsNumeralAt}
+use Rattle.simd_json_scalars.specs.NumeralRead.{IsNumeralAt}
 use Rattle.simd_json_parts.specs.Tokens.{form_at, scalar}
 use Rattle.simd_json_parts.specs.Nodes.{static_item, decimal_item}
 use Rattle.simd_json_parts.specs.declared.node.Node.TheVariants as nodes

@@ -1,6 +1,6 @@
 use Rattle.std.proofs.Common.{◌∙◌, ap, subst, sym, refl, inr, [], ◌∷◌, ◌++◌, map}
 use Rattle.simd_json_parts.specs.Document.{null}
-use Rattle.simd_json_parts.specs.Listing.{IsTape}
+use Rattle.simd_json.specs.Tapes.{IsTape}
 use Rattle.simd_json_parts.specs.Nodes.{item_of}
 use Rattle.simd_json_parts.specs.declared.node.Node.TheVariants.{Static}
 use Rattle.simd_json_parts.specs.declared.node.StaticNode.TheVariants.{Null}

@@ -1,6 +1,6 @@
 use Rattle.std.proofs.Common.{◌≡◌, ◌+◌, length, arith}
 use Rattle.simd_json_parts.specs.Listing.{listing}
-use Rattle.simd_json_parts.proofs.Documents.Fronts.{positive, sized, within}
+use Rattle.simd_json_scalars.proofs.Documents.Fronts.{positive, sized, within}
 use Rattle.simd_json.proofs.Listed.{sized-scalar}
 use Rattle.simd_json.proofs.value.tape.value.size.Goals as goal
 

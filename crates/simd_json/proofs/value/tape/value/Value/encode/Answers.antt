@@ -1,5 +1,5 @@
 use Rattle.std.proofs.Common.{◌∙◌, ap, sym, map, ◌++◌}
-use Rattle.simd_json_parts.proofs.Printing.Compact.{Denotes-compact}
+use Rattle.simd_json_theorems.proofs.Printing.Texts.{Denotes-compact}
 use Rattle.simd_json_parts.specs.Nodes.{item_of}
 use Rattle.simd_json_parts.specs.Printed.{compact}
 use Rattle.simd_json.specs.Viewed.{doc}

@@ -1,5 +1,5 @@
 use Rattle.std.proofs.Common.{◌∙◌, ap, sym, map, ◌++◌}
-use Rattle.simd_json_parts.proofs.Printing.Pretty.{Denotes-pretty}
+use Rattle.simd_json_theorems.proofs.Printing.Texts.{Denotes-pretty}
 use Rattle.simd_json_parts.specs.Nodes.{item_of}
 use Rattle.simd_json_parts.specs.Printed.{pretty}
 use Rattle.simd_json.specs.Viewed.{doc}

@@ -1,7 +1,0 @@
--- Structural positions, and the tokens at them.
-pub mod Scan
-pub mod Order
-pub mod Boundaries
-pub mod TokensAtPositions
-pub mod Between
-pub mod ScannedInputs

@@ -1,5 +1,0 @@
-use Rattle.simd_json_parts.proofs.Sound.Answer.{answer-sound}
-use Rattle.simd_json_parts.proofs.laws.answers_are_documents.Goals as goal
-
-pub returns : goal.returns
-returns c = answer-sound

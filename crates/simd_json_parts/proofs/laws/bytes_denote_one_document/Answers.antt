@@ -1,5 +1,0 @@
-use Rattle.simd_json_parts.proofs.Unique.OneDocument.{document-one}
-use Rattle.simd_json_parts.proofs.laws.bytes_denote_one_document.Goals as goal
-
-pub returns : goal.returns
-returns c = document-one

@@ -1,5 +1,0 @@
-use Rattle.simd_json_parts.proofs.Complete.Utf8Documents.{IsUtf8-Denotes}
-use Rattle.simd_json_parts.proofs.laws.documents_are_utf8.Goals as goal
-
-pub returns : goal.returns
-returns c = IsUtf8-Denotes

@@ -1,5 +1,0 @@
-use Rattle.simd_json_parts.proofs.Documents.Spelling.{IsSpellable-denoted}
-use Rattle.simd_json_parts.proofs.laws.documents_can_be_spelled.Goals as goal
-
-pub returns : goal.returns
-returns c = IsSpellable-denoted

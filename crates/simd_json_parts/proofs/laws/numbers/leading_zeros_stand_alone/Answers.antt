@@ -1,8 +1,0 @@
-use Rattle.simd_json_parts.proofs.Numbers.LeadingZeros.{zero-alone, zero-alone-signed}
-use Rattle.simd_json_parts.proofs.laws.numbers.leading_zeros_stand_alone.Goals as goal
-
-pub returns-clause-unsigned : goal.returns-clause-unsigned
-returns-clause-unsigned c = zero-alone
-
-pub returns-clause-signed : goal.returns-clause-signed
-returns-clause-signed c = zero-alone-signed

@@ -1,5 +1,0 @@
-use Rattle.simd_json_parts.proofs.Printing.Shortest.{compact-shortest}
-use Rattle.simd_json_parts.proofs.laws.printing.compact_texts_are_shortest.Goals as goal
-
-pub returns : goal.returns
-returns c = compact-shortest

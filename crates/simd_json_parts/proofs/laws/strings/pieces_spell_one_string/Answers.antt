@@ -1,5 +1,0 @@
-use Rattle.simd_json_parts.proofs.Strings.Pieces.{encode_utf8_all-pieces}
-use Rattle.simd_json_parts.proofs.laws.strings.pieces_spell_one_string.Goals as goal
-
-pub returns : goal.returns
-returns c = encode_utf8_all-pieces

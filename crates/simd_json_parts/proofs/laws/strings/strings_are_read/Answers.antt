@@ -1,5 +1,0 @@
-use Rattle.simd_json_parts.proofs.Strings.Quotes.{string_at-literal}
-use Rattle.simd_json_parts.proofs.laws.strings.strings_are_read.Goals as goal
-
-pub returns : goal.returns
-returns c b i content rest cs = string_at-literal b i content rest cs

@@ -1,5 +1,0 @@
-use Rattle.simd_json_parts.proofs.Faults.Root.{fault-reported}
-use Rattle.simd_json_parts.proofs.laws.unexpected_tokens_are_not_reported_early.Goals as goal
-
-pub returns : goal.returns
-returns c b limit e none is = (fault-reported b limit e none is).not_early

@@ -1,6 +1,0 @@
-use Rattle.std.proofs.Common.{arith}
-use Rattle.simd_json_parts.proofs.Lists.LaneRuns.{mask-either}
-use Rattle.simd_json_parts.proofs.stringparse.runs.stops.Goals as goal
-
-pub returns : goal.returns
-returns c = mask-either 34 92 32 c.args.bytes c.fits-bytes.0 (omega arith)

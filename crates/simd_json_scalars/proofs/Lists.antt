@@ -1,0 +1,5 @@
+-- Lists.
+pub mod Drops
+pub mod Moves
+pub mod LaneRuns
+pub mod Parity

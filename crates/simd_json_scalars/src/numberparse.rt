@@ -1,0 +1,86 @@
+//! Reads one number (RFC 8259, section 6).
+ghost use Rattle.std.specs.Prelude.{◌≡◌, ℕ, List, drop};
+ghost use Rattle.std.specs.Char.{is_ascii_digit};
+ghost use Rattle.simd_json_scalars.specs.NumberRead.{IsNumberAt};
+ghost use Rattle.simd_json_scalars.specs.NumeralRead.{IsNumeralAt};
+
+use crate::numberparse::plain::{int_end, parse_plainly};
+use crate::numberparse::short::parse_longer;
+use simd_json_parts::charutils::byte_or_space;
+use simd_json_parts::node::StaticNode;
+
+mod integers;
+mod look;
+mod plain;
+mod short;
+#[cfg(test)]
+mod tests;
+
+pub use integers::parse_long;
+pub use short::parse_short;
+
+/// What stands at the front of some bytes, read as a number.
+#[derive(Clone, Copy, Debug, Drop, PartialEq, Eq)]
+pub enum Number {
+    /// An integer, as a node, whose literal has so many bytes.
+    Integer(StaticNode, usize),
+    /// A number with a fraction or an exponent, whose literal has so many bytes.
+    Decimal(usize),
+    /// No number, or an integer out of range: the fault is reported so many bytes after the first.
+    Invalid(usize),
+}
+
+/// The same in two words, for a reader that knows the first byte: it tells the sign of an integer. An integer
+/// of more than nineteen bytes is left to [`parse_long`], so that readers of shorter ones know no 128 bits.
+#[derive(Clone, Copy, Debug, Drop, PartialEq, Eq)]
+pub enum Numeral {
+    /// An integer of this magnitude, which 64 bits hold; [`StaticNode::integer`] makes its node.
+    Integer(u64),
+    /// An integer whose literal has so many bytes, in range or not; [`parse_long`] reads it.
+    Long(usize),
+    /// A number with a fraction or an exponent, whose literal has so many bytes.
+    Decimal(usize),
+    /// No number, or an integer out of range: the fault is reported so many bytes after the first.
+    Invalid(usize),
+}
+
+/// Whether the byte is a decimal digit.
+pub fn is_integer(c: u8) -> bool
+    ensures { result ≡ is_ascii_digit c }
+{
+    c.is_ascii_digit()
+}
+
+/// Reads the number at the front of `bytes`, which are the rest of an input from some index on: an integer in
+/// range, a decimal, or where it is refused. A number ends before a structural character, whitespace or the
+/// end.
+pub fn parse_number(bytes: &[u8]) -> Number
+    ensures { (b : List ℕ) (i : ℕ) → drop i b ≡ bytes.now → IsNumberAt b i result }
+{
+    match parse_numeral(bytes) {
+        Numeral::Integer(magnitude) => {
+            let minus = byte_or_space(bytes, 0) == b'-';
+            let len = int_end(bytes, minus as usize);
+            Number::Integer(StaticNode::integer(minus, magnitude), len)
+        }
+        Numeral::Long(len) => match parse_long(bytes, len) {
+            Ok(node) => Number::Integer(node, len),
+            Err(offset) => Number::Invalid(offset),
+        },
+        Numeral::Decimal(len) => Number::Decimal(len),
+        Numeral::Invalid(offset) => Number::Invalid(offset),
+    }
+}
+
+/// Reads the same number, without the node and the length of an integer. A caller that goes on at the next
+/// token needs neither.
+#[cold]
+#[inline(never)]
+pub fn parse_numeral(bytes: &[u8]) -> Numeral
+    ensures { (b : List ℕ) (i : ℕ) → drop i b ≡ bytes.now → IsNumeralAt b i result }
+{
+    if bytes.len() < 32 {
+        return parse_plainly(bytes);
+    }
+    parse_longer(bytes)
+}

@@ -1,0 +1,112 @@
+//! Integers: the magnitude of one of nineteen bytes or fewer, and longer ones, or what puts them out of range.
+ghost use Rattle.std.specs.Prelude.{◌≡◌, ◌+◌, ◌++◌, ◌≤◌, ◌<◌, ℕ, List, length, take, drop, false, nat_le};
+ghost use Rattle.std.specs.Prelude.{MatchResult, IsTrue};
+ghost use Rattle.std.specs.Str.Parse.{AllDigits, digits_value};
+ghost use Rattle.simd_json_parts.specs.Bytes.{byte_at, is_terminator};
+ghost use Rattle.simd_json_parts.specs.Integers.{max_magnitude};
+ghost use Rattle.simd_json_scalars.specs.NumberRead.{IsNumberAt};
+ghost use Rattle.simd_json_scalars.specs.NumeralRead.{IsIntegerLiteral, IsNumeralAt};
+ghost use Rattle.simd_json_parts.specs.Numbers.{integer_literal};
+ghost use Rattle.simd_json_parts.specs.Patterns.{Matches};
+ghost use Rattle.simd_json_scalars.specs.declared.numberparse.Number.TheVariants.{Integer, Invalid};
+
+use super::Numeral;
+use simd_json_parts::charutils::byte_or_space;
+use simd_json_parts::node::StaticNode;
+
+// A literal in front of a terminator or the end. Nineteen bytes fit 64 bits, whatever their sign.
+#[inline(always)]
+pub(super) fn integer(literal: &[u8]) -> Numeral
+    requires { Matches integer_literal literal.now }
+    ensures { (b : List ℕ) (i : ℕ) (rest : List ℕ) → drop i b ≡ literal.now ++ rest
+        → IsTrue (is_terminator (byte_at rest 0)) → IsNumeralAt b i result }
+{
+    if literal.len() > 19 {
+        return Numeral::Long(literal.len());
+    }
+    let minus = byte_or_space(literal, 0) == b'-';
+    Numeral::Integer(short_magnitude(&literal[minus as usize..]))
+}
+
+/// Reads the integer at the front of `bytes` whose literal is `len` bytes long: its node, or, where it is out of
+/// range, how many bytes after the first the fault is reported.
+#[cold]
+#[inline(never)]
+pub fn parse_long(bytes: &[u8], len: usize) -> Result<StaticNode, usize>
+    requires { IsIntegerLiteral bytes.now len }
+    ensures { (b : List ℕ) (i : ℕ) → drop i b ≡ bytes.now → MatchResult result
+        (λ node. IsNumberAt b i (Integer node len)) (λ offset. IsNumberAt b i (Invalid offset)) }
+{
+    long_integer(&bytes[..len])
+}
+
+// A literal in front of a terminator or the end, of any length.
+fn long_integer(literal: &[u8]) -> Result<StaticNode, usize>
+    requires { Matches integer_literal literal.now }
+    ensures { (b : List ℕ) (i : ℕ) (rest : List ℕ) → drop i b ≡ literal.now ++ rest
+        → IsTrue (is_terminator (byte_at rest 0)) → MatchResult result
+        (λ node. IsNumberAt b i (Integer node (length literal.now)))
+        (λ offset. IsNumberAt b i (Invalid offset)) }
+{
+    let minus = byte_or_space(literal, 0) == b'-';
+    let start = minus as usize;
+    match long_magnitude(&literal[start..]) {
+        Ok(value) if is_in_range(minus, value) => Ok(StaticNode::wide(minus, value)),
+        Ok(_) => Err(literal.len()),
+        Err(offset) => Err(start + offset),
+    }
+}
+
+// The least integer has no positive counterpart.
+fn is_in_range(minus: bool, magnitude: u128) -> bool
+    ensures { result ≡ nat_le magnitude (max_magnitude minus) }
+{
+    const LEAST: u128 = 1 << 127;
+    !minus || magnitude <= LEAST
+}
+
+// Nineteen digits stay below 2^64.
+#[inline(always)]
+fn short_magnitude(digits: &[u8]) -> u64
+    requires digits { AllDigits 10 digits.now }
+    requires short { length digits.now ≤ 19 }
+    ensures { result ≡ digits_value 10 digits.now }
+{
+    let mut value = 0;
+    for digit in digits {
+        value = value * 10 + (*digit - b'0') as u64;
+    }
+    value
+}
+
+// Thirty-eight stay below 2^128: two runs of nineteen, joined by one multiplication.
+fn wide_magnitude(digits: &[u8]) -> u128
+    requires digits { AllDigits 10 digits.now }
+    requires short { length digits.now ≤ 38 }
+    ensures { result ≡ digits_value 10 digits.now }
+{
+    let first = digits.len().min(19);
+    let high = short_magnitude(&digits[..first]);
+    let power = 10u64.pow((digits.len() - first) as u32);
+    let low = short_magnitude(&digits[first..]);
+    high as u128 * power as u128 + low as u128
+}
+
+// The value, or the index of the first digit with which it passes 2^128 - 1.
+fn long_magnitude(digits: &[u8]) -> Result<u128, usize>
+    requires { AllDigits 10 digits.now }
+    ensures { MatchResult result (λ value. value ≡ digits_value 10 digits.now)
+        (λ at. (at < length digits.now) × (digits_value 10 (take at digits.now) ≤ max_magnitude false)
+        × (max_magnitude false < digits_value 10 (take (at + 1) digits.now))) }
+{
+    let first = digits.len().min(38);
+    let mut value = wide_magnitude(&digits[..first]);
+    for at in first..digits.len() {
+        let digit = (digits[at] - b'0') as u128;
+        if value > (u128::MAX - digit) / 10 {
+            return Err(at);
+        }
+        value = value * 10 + digit;
+    }
+    Ok(value)
+}

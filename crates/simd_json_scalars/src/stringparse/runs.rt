@@ -1,0 +1,103 @@
+//! Runs of bytes between escapes: where they end, and how they are moved down.
+ghost use Rattle.std.specs.Prelude.{◌≡◌, ◌≤◌, ◌<◌, ◌+◌, ◌-◌, ◌++◌, length, take, drop, map};
+ghost use Rattle.std.specs.List.{prefix_len, copy_within};
+ghost use Rattle.std.specs.Simd.Lanes.{mask_l};
+ghost use Rattle.simd_json_scalars.specs.StringContent.{content, is_plain, is_stop};
+
+use super::Ends;
+use std::simd::prelude::*;
+
+// The bytes up to the next quote or backslash, moved down while it is looked for, 32 bytes at a time.
+#[inline]
+pub(super) fn move_plain(bytes: &mut [u8], from: usize, to: usize) -> Ends
+    requires inside { from + length (content (drop from bytes.old)) < length bytes.old }
+    requires order { to ≤ from }
+    ensures read { result.read ≡ from + prefix_len is_plain (drop from bytes.old) }
+    ensures end { result.written ≡ to + (result.read - from) }
+    ensures written { take result.written bytes.new
+        ≡ take to bytes.old ++ take (result.read - from) (drop from bytes.old) }
+    ensures unread { drop result.read bytes.new ≡ drop result.read bytes.old }
+    ensures same_length { length bytes.new ≡ length bytes.old }
+{
+    let mut done = 0;
+    while bytes.len() - (from + done) >= 32 {
+        let lanes = u8x32::from_slice(&bytes[from + done..]);
+        let stops = stops(lanes);
+        if stops != 0 {
+            let end = from + done + stops.trailing_zeros() as usize;
+            move_few(bytes, from + done, end, to + done);
+            return Ends {
+                read: end,
+                written: to + (end - from),
+            };
+        }
+        lanes.copy_to_slice(&mut bytes[to + done..]);
+        done += 32;
+    }
+    let end = plain_end_slowly(bytes, from + done);
+    move_few(bytes, from + done, end, to + done);
+    Ends {
+        read: end,
+        written: to + (end - from),
+    }
+}
+
+// Moves at most 32 bytes, from `from` to `end`, down to an index: from 8 on as the first 8 and the last 8,
+// from 16 on as the first 16 and the last 16.
+#[inline]
+fn move_few(bytes: &mut [u8], from: usize, end: usize, to: usize)
+    requires { (to ≤ from) × (from ≤ end) × (end ≤ length bytes.old) × (end ≤ from + 32) }
+    ensures { bytes.new ≡ copy_within bytes.old from end to }
+{
+    let len = end - from;
+    if len < 8 {
+        bytes.copy_within(from..end, to);
+    } else if len < 16 {
+        let first = u8x8::from_slice(&bytes[from..]);
+        let last = u8x8::from_slice(&bytes[end - 8..]);
+        first.copy_to_slice(&mut bytes[to..]);
+        last.copy_to_slice(&mut bytes[to + (len - 8)..]);
+    } else {
+        let first = u8x16::from_slice(&bytes[from..]);
+        let last = u8x16::from_slice(&bytes[end - 16..]);
+        first.copy_to_slice(&mut bytes[to..]);
+        last.copy_to_slice(&mut bytes[to + (len - 16)..]);
+    }
+}
+
+// The next quote or backslash, 32 bytes at a time.
+#[inline]
+pub(super) fn plain_end(bytes: &[u8], from: usize) -> usize
+    requires { from + length (content (drop from bytes.now)) < length bytes.now }
+    ensures value { result ≡ from + prefix_len is_plain (drop from bytes.now) }
+    ensures bound { result < length bytes.now }
+{
+    let mut end = from;
+    while bytes.len() - end >= 32 {
+        let stops = stops(u8x32::from_slice(&bytes[end..]));
+        if stops != 0 {
+            return end + stops.trailing_zeros() as usize;
+        }
+        end += 32;
+    }
+    plain_end_slowly(bytes, end)
+}
+
+// A bit for each of the bytes, whether it is a quote or a backslash.
+#[inline]
+fn stops(bytes: u8x32) -> u64
+    ensures { result ≡ mask_l (map is_stop bytes) }
+{
+    (bytes.simd_eq(u8x32::splat(b'"')) | bytes.simd_eq(u8x32::splat(b'\\'))).to_bitmask()
+}
+
+fn plain_end_slowly(bytes: &[u8], from: usize) -> usize
+    requires { from + prefix_len is_plain (drop from bytes.now) < length bytes.now }
+    ensures { result ≡ from + prefix_len is_plain (drop from bytes.now) }
+{
+    let mut end = from;
+    while bytes[end] != b'"' && bytes[end] != b'\\' {
+        end += 1;
+    }
+    end
+}

@@ -1,0 +1,8 @@
+mod Literals
+pub mod Sound
+pub mod Complete
+mod Unique
+pub mod Faults
+pub mod Documents
+pub mod Printing
+mod Rows

@@ -1,0 +1,5 @@
+use Rattle.simd_json_scalars.proofs.Documents.Listing.{IsHeaded-document}
+use Rattle.simd_json_theorems.proofs.laws.listings_are_headed.Goals as goal
+
+pub returns : goal.returns
+returns c = IsHeaded-document
