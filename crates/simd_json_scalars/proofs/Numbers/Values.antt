@@ -1,12 +1,11 @@
 -- What the digits of an integer are worth, and what number stands where its literal was found.
-use Rattle.std.proofs.Common.{◌≡◌, refl, sym, ◌∙◌, ap, ap₂, subst, ℕ, zero, suc, ◌+◌, ◌-◌, ◌*◌, ◌^◌, ◌≤◌, ◌<◌, lit≤, lit<, inl, inr, List, [], ◌∷◌, ◌++◌, length, length-append, length-drop, zero-add, take, drop, get_or, map, Bool, true, false, cond, ◌==◌, nat_lt, IsTrue, find, Some, None, Ok, Err, add_assoc, arith}
+use Rattle.std.proofs.Common.{◌≡◌, refl, sym, ◌∙◌, ap, ap₂, subst, ℕ, zero, suc, ◌+◌, ◌-◌, ◌*◌, ◌^◌, ◌≤◌, ◌<◌, lit≤, lit<, inl, inr, List, [], ◌∷◌, ◌++◌, length, length-drop, zero-add, take, drop, get_or, map, Bool, true, false, cond, ◌==◌, nat_lt, IsTrue, find, Some, None, Ok, Err, add_assoc, arith}
 use mir.Val.{bool_byte}
 use Rattle.std.specs.Char.{digit_value}
 use Rattle.std.specs.List.{concat, AllByRecursion}
 use Rattle.std.specs.Int.Digits.{number_from_digits}
 use Rattle.std.specs.Str.Parse.{AllDigits, digits_value, digits_value_after}
 use Rattle.std.proofs.Math.Nat.{pow-le-pow_right, pow-succ'}
-use Rattle.std.proofs.Math.Seq.{take-append_seam}
 use Rattle.std.proofs.lemmas.Bool.{both_ways, ne_eqb, le-ltb, lt-ltb, cond-true}
 use Rattle.std.proofs.lemmas.Int.Digits.{digits_value_is, digits_value_more, digits_value-lt}
 use Rattle.std.proofs.lemmas.List.{take-append-drop, take_rest, take-take, drop-take, get_or-take, get_or_append_left}
@@ -21,11 +20,10 @@ use Rattle.simd_json_parts.specs.Patterns.{Matches}
 use Rattle.simd_json_parts.specs.Numbers.{integer_literal, int, digit, has_minus, magnitude}
 use Rattle.simd_json_parts.specs.Integers.{max_magnitude, max_magnitude_64}
 use Rattle.simd_json_parts.specs.NumberAt.{number_at, integer_or, first_excess}
-use Rattle.simd_json_scalars.specs.NumeralRead.{IsIntegerLiteral, IsNumeralAt}
+use Rattle.simd_json_scalars.specs.NumeralRead.{IsNumeralAt}
 use Rattle.simd_json_parts.specs.Faults.{fault_at}
 use Rattle.simd_json_parts.specs.declared.error.ErrorType.TheVariants.{InvalidNumber}
-use Rattle.simd_json_scalars.specs.declared.numberparse.Numeral.TheVariants.{Integer, Long}
-use Rattle.simd_json_scalars.proofs.Patterns.Bytes.{byte_at-append}
+use Rattle.simd_json_scalars.specs.declared.numberparse.Numeral.TheVariants.{Integer}
 use Rattle.simd_json_scalars.proofs.Patterns.Sets.{Matches-matches}
 use Rattle.simd_json_scalars.proofs.Numbers.Literals.{byte_at-front, integer-number, number_at-integer, number_at-literal, magnitude-take, first_excess-none}
 
@@ -215,12 +213,6 @@ module _ (b : List ℕ) (i : ℕ) (xs rest : List ℕ) (e : drop i b ≡ xs ++ r
         number_at-value value v (omega arith) ∙ ap (λ minus. Ok (integer minus value, i + length xs)) (sym sign-at),
         subst (λ minus. value ≤ max_magnitude_64 minus) (sym sign-at) fits,
       )
-
-  pub number_at-long : IsNumeralAt b i (Long (length xs))
-  number_at-long =
-      let within : length xs ≤ length (xs ++ rest) = omega (arith, length-append xs rest) in
-      let after : byte_at (xs ++ rest) (length xs) ≡ byte_at rest 0 = byte_at-append xs rest in
-      subst (λ bs. IsIntegerLiteral bs (length xs)) (sym e) (within, subst (Matches integer_literal) (sym (take-append_seam xs rest)) m, ap is_terminator after ∙ t)
 
   pub number_at-below : (value : ℕ) → value ≡ digits_value 10 (after_start xs) → value ≤ max_magnitude false → max_magnitude (has_minus xs) < value
       → number_at b i ≡ Err (fault_at b InvalidNumber (i + length xs))

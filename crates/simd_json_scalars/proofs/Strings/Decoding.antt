@@ -1,5 +1,5 @@
 -- A string is decoded in place, step by step: an escape, a run of plain bytes that is moved down, and one step after another.
-use Rattle.std.proofs.Common.{◌≡◌, ◌≢◌, refl, sym, ◌∙◌, ap, subst, ℕ, suc, ◌+◌, ◌-◌, ◌<◌, ◌≤◌, List, [], ◌∷◌, ◌++◌, length, take, drop, get_or, false, append_assoc, append-nil, arith}
+use Rattle.std.proofs.Common.{◌≡◌, sym, ◌∙◌, ap, subst, ℕ, suc, ◌+◌, ◌-◌, ◌<◌, ◌≤◌, List, [], ◌∷◌, ◌++◌, length, take, drop, get_or, false, append_assoc, append-nil, arith}
 use Rattle.std.specs.Prelude.{Some, None, IsUtf8}
 use Rattle.std.specs.Char.{encode_utf8, len_utf8}
 use Rattle.std.specs.List.{prefix_len}
@@ -7,8 +7,8 @@ use Rattle.std.specs.Str.{IsCharBoundary}
 use Rattle.std.proofs.lemmas.Bool.Decides.{nat_tests}
 use Rattle.std.proofs.lemmas.List.{length-drop, drop-drop, get_or-drop, get_or_default}
 use Rattle.std.proofs.lemmas.List.Sums.{prefix_len_stops}
-use Rattle.std.proofs.lemmas.Str.{IsUtf8-append, IsUtf8-take, IsUtf8-drop, IsCharBoundary-before_ascii, IsCharBoundary-after_ascii, IsUtf8-nil}
-use Rattle.simd_json_parts.specs.Bytes.{quote, backslash, byte_at}
+use Rattle.std.proofs.lemmas.Str.{IsUtf8-append, IsUtf8-take, IsUtf8-drop, IsCharBoundary-before_ascii, IsCharBoundary-after_ascii}
+use Rattle.simd_json_parts.specs.Bytes.{backslash, byte_at}
 use Rattle.simd_json_parts.specs.StringAt.{escape_at, read_pieces}
 use Rattle.simd_json_scalars.specs.StringContent.{content, is_plain, with_prefix}
 use Rattle.simd_json_scalars.specs.StringDecoded.{IsOpen, IsDecoded, IsLeft}
@@ -134,11 +134,6 @@ decoded-escape old new r w v c more goes_on here after utf8 e shorter f written 
 pub decoded-open : (old new : List ℕ) (r w s v : ℕ) → IsDecoded old r w new s v → IsOpen new s
 decoded-open old new r w s v d = record { closed = omega (arith, d.goes_on.closed, ap (λ us. length (content us)) d.unread); utf8 = subst IsUtf8 (sym d.unread) d.goes_on.utf8 }
 
--- No step is one.
-pub decoded-none : (old : List ℕ) (r w : ℕ) → IsOpen old r → w ≤ r → IsDecoded old r w old r w
-decoded-none old r w goes_on after =
-    record { string = []; reads = refl; size = refl; written = sym (append-nil (take w old)); unread = refl; same_length = refl; forward = omega arith; grows = omega arith; order = after; is_string = IsUtf8-nil; goes_on = goes_on }
-
 -- two strings as one prefix
 with_prefix-with_prefix : (xs ys : List ℕ) (read : List ℕ × List ℕ) → with_prefix xs (with_prefix ys read) ≡ with_prefix (xs ++ ys) read
 with_prefix-with_prefix xs ys read = ap (λ us. (us, read.1)) (sym (append_assoc xs ys read.0))
@@ -175,10 +170,6 @@ decoded-byte old new r w s v d = drop-byte new old s d.unread
 -- also after two steps.
 pub decoded-stops : (old mid new : List ℕ) (r w q u s v : ℕ) → IsDecoded old r w new s v → IsDecoded mid q u new s v → is_plain (byte_at mid s) ≡ false → is_plain (byte_at old s) ≡ false
 decoded-stops old mid new r w q u s v d e stops = ap is_plain (drop-byte old mid s (sym d.unread ∙ e.unread)) ∙ stops
-
--- A byte that is neither plain nor a backslash is a quote.
-pub stop-quote : (c : ℕ) → is_plain c ≡ false → c ≢ backslash → c ≡ quote
-stop-quote c stops other = grind (arith, nat_tests)
 
 -- At a bad escape nothing more is read.
 pub decoded-left : (old new : List ℕ) (from s v : ℕ) (bad : BadEscape) → IsDecoded old from from new s v → byte_at old s ≡ backslash → escape_at (drop s old) ≡ None
