@@ -5,6 +5,8 @@ mod Reservations
 pub mod Listed
 mod Compared
 mod Split
+mod Descending
+mod Beneath
 mod MapCompared
 mod Printable
 mod Encoded

@@ -7,6 +7,7 @@ ghost use Rattle.simd_json_parts.specs.Listing.{StandsFor, listing};
 ghost use Rattle.simd_json_parts.specs.Nodes.{Item, item_of};
 
 use crate::value::tape::array::Array;
+use crate::value::tape::descendants::Descendants;
 use crate::value::tape::object::Object;
 use simd_json_parts::node::{Node, StaticNode, ValueType};
 
@@ -47,6 +48,8 @@ pub struct Value<'tape, 'input> {
 
 impl<'tape, 'input> Value<'tape, 'input> {
     ghost use Rattle.std.specs.Prelude.{◌≡◌, ◌++◌, ◌∷◌, map, drop, is_some, IfSome, option_map};
+    ghost use Rattle.simd_json.specs.Beneath.{beneath};
+    ghost use Rattle.simd_json.specs.Descending.{descendants_left};
     ghost use Rattle.simd_json.specs.Documents.{IsListing, IsFirst, document_of};
     ghost use Rattle.simd_json.specs.Printable.{ArePrintable};
     ghost use Rattle.simd_json.specs.Viewed.{doc, docs, pairs};
@@ -195,6 +198,30 @@ impl<'tape, 'input> Value<'tape, 'input> {
         ensures { result ≡ contains_key k.now (doc self.now) }
     {
         self.get(k).is_some()
+    }
+
+    /// An iterator over the value and the values beneath it, at most `DEPTH` levels down, in the document's
+    /// order: each container before its members. A container on the lowest level is returned, but not its
+    /// members. Keys are no values.
+    ///
+    /// With a `DEPTH` of no less than the depth limit of the parse these are all values. The iterator allocates
+    /// nothing and has 16 bytes for each level.
+    ///
+    /// ```
+    /// use simd_json::tape::Value;
+    ///
+    /// // How many strings there are in the value, at most 32 levels down.
+    /// fn strings(value: &Value<'_, '_>) -> usize {
+    ///     value
+    ///         .descendants::<32>()
+    ///         .filter(|beneath| beneath.as_str().is_some())
+    ///         .count()
+    /// }
+    /// ```
+    pub fn descendants<const DEPTH: usize>(&self) -> Descendants<'tape, 'input, DEPTH>
+        ensures { descendants_left result ≡ beneath DEPTH (doc self.now) }
+    {
+        Descendants::new(*self)
     }
 }
 
