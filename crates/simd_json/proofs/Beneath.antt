@@ -1,8 +1,9 @@
 -- What is at most so many levels beneath a document is all, where the document is no deeper.
-use Rattle.std.proofs.Common.{◌≡◌, ◌∙◌, ap, refl, ◌≤◌, ◌∷◌, ◌++◌, ℕ, zero, suc, arith}
+use Rattle.std.proofs.Common.{◌≡◌, ◌∙◌, ap, refl, ◌≤◌, ◌∷◌, ◌++◌, ℕ, zero, suc, length, length-append, arith}
 use Rattle.std.specs.Prelude.{flat_map}
 use Rattle.simd_json_parts.specs.Document.{Document, null, boolean, integer, decimal, string, array, object, Elements, no_elements, element, elements, Members, no_members, member}
 use Rattle.simd_json_parts.specs.Limits.{depth, elements_depth, members_depth}
+use Rattle.simd_json_parts.specs.Listing.{listing, elements_listing, members_listing}
 use Rattle.simd_json_parts.specs.Views.{values}
 use Rattle.simd_json.specs.Beneath.{beneath, descendants, among_elements, among_members}
 
@@ -34,3 +35,32 @@ mutual
   members-within (member k d ms) n within =
       ap (λ es. es ++ flat_map (beneath n) (values ms)) (within-depth d n (omega arith))
       ∙ ap (λ es. descendants d ++ es) (members-within ms n (omega arith))
+
+-- ---- each value takes a node
+
+mutual
+  pub beneath-few : (n : ℕ) (d : Document) → length (beneath n d) ≤ length (listing d)
+  beneath-few zero null = omega arith
+  beneath-few (suc n) null = omega arith
+  beneath-few zero (boolean b) = omega arith
+  beneath-few (suc n) (boolean b) = omega arith
+  beneath-few zero (integer minus m) = omega arith
+  beneath-few (suc n) (integer minus m) = omega arith
+  beneath-few zero (decimal literal) = omega arith
+  beneath-few (suc n) (decimal literal) = omega arith
+  beneath-few zero (string t) = omega arith
+  beneath-few (suc n) (string t) = omega arith
+  beneath-few zero (array ds) = omega arith
+  beneath-few (suc n) (array ds) = omega (arith, elements-few n ds)
+  beneath-few zero (object ms) = omega arith
+  beneath-few (suc n) (object ms) = omega (arith, members-few n ms)
+
+  elements-few : (n : ℕ) (ds : Elements) → length (flat_map (beneath n) (elements ds)) ≤ length (elements_listing ds)
+  elements-few n no_elements = omega arith
+  elements-few n (element d ds) =
+      omega (arith, beneath-few n d, elements-few n ds, length-append (beneath n d) (flat_map (beneath n) (elements ds)), length-append (listing d) (elements_listing ds))
+
+  members-few : (n : ℕ) (ms : Members) → length (flat_map (beneath n) (values ms)) ≤ length (members_listing ms)
+  members-few n no_members = omega arith
+  members-few n (member k d ms) =
+      omega (arith, beneath-few n d, members-few n ms, length-append (beneath n d) (flat_map (beneath n) (values ms)), length-append (listing d) (members_listing ms))

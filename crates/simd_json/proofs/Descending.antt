@@ -1,5 +1,5 @@
 -- What is left to an iterator over a value and the values beneath it, a step at a time.
-use Rattle.std.proofs.Common.{◌≡◌, ◌≢◌, ◌∙◌, ap, sym, refl, subst, ◌<◌, ◌≤◌, ◌+◌, ◌-◌, ℕ, zero, suc, Bool, true, false, cond, List, [], ◌∷◌, ◌++◌, length, map, drop, get_or, append_assoc, add-one, arith}
+use Rattle.std.proofs.Common.{◌≡◌, ◌≢◌, ◌∙◌, ap, sym, refl, subst, ◌<◌, ◌≤◌, ◌+◌, ◌-◌, ◌^◌, ℕ, zero, suc, Bool, true, false, cond, List, [], ◌∷◌, ◌++◌, length, map, drop, get_or, append_assoc, add-one, arith}
 use Rattle.std.proofs.lemmas.List.{drop_more, drop_all, drop-set, get_or-set_same, append-nil}
 use Rattle.std.proofs.Math.ListN.{set}
 use Rattle.std.specs.Prelude.{◌==◌, flat_map, slice_get, IfSome}
@@ -13,6 +13,7 @@ use Rattle.simd_json.specs.Beneath.{beneath, children}
 use Rattle.simd_json.specs.Descending.{joined, flat, entered, inside, outside, left_in, left_with}
 use Rattle.simd_json.specs.Documents.{elements_of, front, others, front_pairs, other_pairs, AreElements, IsListing, document_of}
 use Rattle.simd_json.specs.declared.value.tape.descendants.Level.{Level}
+use Rattle.simd_json.proofs.Beneath.{beneath-few}
 use Rattle.simd_json.proofs.Listed.{elements_of-all, elements_of-listing, front-joined, others-joined, front-flat, others-flat}
 
 -- ---- rows
@@ -161,6 +162,17 @@ container-opened ls n m d l next within opens ds =
     ∙ ap (λ i. d ∷ (flat_map (beneath m) (children d) ++ left_in (suc m) (drop i ls) ds)) (sym (add-one m))
     ∙ ap (λ xs. d ∷ xs) (sym (opens m (drop (m + 1) ls) ds))
     ∙ ap (λ xs. d ∷ left_in m xs (entered (element d ds))) (sym (drop-set ls m l within))
+
+-- ---- at first
+
+pub first-left : (n : ℕ) (ls : List Level) (d : Document) (ds : Elements) → length ls ≡ n → ds ≡ element d no_elements
+    → left_in n (drop n ls) ds ≡ beneath n d
+first-left n ls d ds counted is =
+    ap (λ xs. left_in n xs ds) (drop_all n ls (omega arith)) ∙ ap (left_in n []) is ∙ append-nil (beneath n d)
+
+pub first-few : (n : ℕ) (ls : List Level) (d : Document) (ds : Elements) → length ls ≡ n → ds ≡ element d no_elements
+    → length (listing d) < 2 ^ 64 → length (left_in n (drop n ls) ds) < 2 ^ 64
+first-few n ls d ds counted is few = omega (arith, ap length (first-left n ls d ds counted is), beneath-few n d)
 
 -- ---- a step
 

@@ -17,15 +17,17 @@ struct Row<'tape, 'input> {
 }
 
 impl<'tape, 'input> Row<'tape, 'input> {
-    ghost use Rattle.std.specs.Prelude.{◌≡◌, ◌≢◌, MatchOption};
+    ghost use Rattle.std.specs.Prelude.{◌≡◌, ◌≢◌, ◌<◌, ◌^◌, length, MatchOption};
     ghost use Rattle.simd_json.specs.Descending.{in_row, entered};
     ghost use Rattle.simd_json.specs.Documents.{others};
     ghost use Rattle.simd_json.specs.Viewed.{doc};
     ghost use Rattle.simd_json_parts.specs.Document.{no_elements, element};
+    ghost use Rattle.simd_json_parts.specs.Listing.{listing};
 
     // The document of a value alone.
     fn new(value: Value<'tape, 'input>) -> Row<'tape, 'input>
-        ensures { in_row result ≡ element (doc value.entry) no_elements }
+        ensures row { in_row result ≡ element (doc value.entry) no_elements }
+        ensures few { length (listing (doc value.entry)) < 2 ^ 64 }
     {
         Row {
             nodes: value.nodes(),
@@ -171,13 +173,14 @@ pub struct Descendants<'tape, 'input, const DEPTH: usize> {
 }
 
 impl<'tape, 'input, const DEPTH: usize> Descendants<'tape, 'input, DEPTH> {
-    ghost use Rattle.std.specs.Prelude.{◌≡◌};
+    ghost use Rattle.std.specs.Prelude.{◌≡◌, ◌<◌, ◌^◌, length};
     ghost use Rattle.simd_json.specs.Beneath.{beneath};
     ghost use Rattle.simd_json.specs.Descending.{descendants_left};
     ghost use Rattle.simd_json.specs.Viewed.{doc};
 
     pub(super) fn new(value: Value<'tape, 'input>) -> Descendants<'tape, 'input, DEPTH>
-        ensures { descendants_left result ≡ beneath DEPTH (doc value.entry) }
+        ensures values { descendants_left result ≡ beneath DEPTH (doc value.entry) }
+        ensures few { length (descendants_left result) < 2 ^ 64 }
     {
         let closed = Level {
             is_object: false,

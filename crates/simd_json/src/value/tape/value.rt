@@ -47,7 +47,7 @@ pub struct Value<'tape, 'input> {
 }
 
 impl<'tape, 'input> Value<'tape, 'input> {
-    ghost use Rattle.std.specs.Prelude.{◌≡◌, ◌++◌, ◌∷◌, map, drop, is_some, IfSome, option_map};
+    ghost use Rattle.std.specs.Prelude.{◌≡◌, ◌<◌, ◌^◌, ◌++◌, ◌∷◌, map, drop, length, is_some, IfSome, option_map};
     ghost use Rattle.simd_json.specs.Beneath.{beneath};
     ghost use Rattle.simd_json.specs.Descending.{descendants_left};
     ghost use Rattle.simd_json.specs.Documents.{IsListing, IsFirst, document_of};
@@ -101,7 +101,8 @@ impl<'tape, 'input> Value<'tape, 'input> {
 
     // All of them.
     pub(crate) fn nodes(&self) -> &'tape [Node<'input>]
-        ensures { result.now ≡ self.now.nodes.now }
+        ensures nodes { result.now ≡ self.now.nodes.now }
+        ensures few { length result.now < 2 ^ 64 }
     {
         self.nodes
     }
@@ -212,14 +213,18 @@ impl<'tape, 'input> Value<'tape, 'input> {
     ///
     /// // How many strings there are in the value, at most 32 levels down.
     /// fn strings(value: &Value<'_, '_>) -> usize {
-    ///     value
-    ///         .descendants::<32>()
-    ///         .filter(|beneath| beneath.as_str().is_some())
-    ///         .count()
+    ///     let mut count = 0usize;
+    ///     for beneath in value.descendants::<32>() {
+    ///         if beneath.as_str().is_some() {
+    ///             count = count.saturating_add(1);
+    ///         }
+    ///     }
+    ///     count
     /// }
     /// ```
     pub fn descendants<const DEPTH: usize>(&self) -> Descendants<'tape, 'input, DEPTH>
-        ensures { descendants_left result ≡ beneath DEPTH (doc self.now) }
+        ensures values { descendants_left result ≡ beneath DEPTH (doc self.now) }
+        ensures few { length (descendants_left result) < 2 ^ 64 }
     {
         Descendants::new(*self)
     }

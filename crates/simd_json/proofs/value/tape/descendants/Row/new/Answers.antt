@@ -1,4 +1,5 @@
-use Rattle.std.proofs.Common.{◌∙◌, ap, map, subst, sym}
+use Rattle.std.proofs.lemmas.List.{length-map}
+use Rattle.std.proofs.Common.{arith, length, ◌∙◌, ap, map, subst, sym}
 use Rattle.simd_json.specs.Documents.{AreElements, elements_of}
 use Rattle.simd_json.specs.Printable.{ArePrintable}
 use Rattle.simd_json_parts.specs.Nodes.{item_of}
@@ -7,9 +8,12 @@ use Rattle.simd_json.proofs.value.tape.descendants.Row.new.Goals as goal
 
 pub invariant_of-result : goal.invariant_of-result
 invariant_of-result c = record {
-  listed = subst (λ xs. AreElements (map item_of xs)) (sym c.nodes.ensures) (row-of _ c.args.value.listed).listed;
-  printable = subst ArePrintable (sym c.nodes.ensures) c.args.value.printable;
+  listed = subst (λ xs. AreElements (map item_of xs)) (sym c.nodes.ensures.nodes) (row-of _ c.args.value.listed).listed;
+  printable = subst ArePrintable (sym c.nodes.ensures.nodes) c.args.value.printable;
 }
 
-pub returns : goal.returns
-returns c = ap (λ xs. elements_of (map item_of xs)) c.nodes.ensures ∙ (row-of _ c.args.value.listed).whole
+pub returns-clause-row : goal.returns-clause-row
+returns-clause-row c = ap (λ xs. elements_of (map item_of xs)) c.nodes.ensures.nodes ∙ (row-of _ c.args.value.listed).whole
+
+pub returns-clause-few : goal.returns-clause-few
+returns-clause-few c = omega (arith, c.nodes.ensures.few, ap length c.nodes.ensures.nodes, length-map c.args.value.nodes.now item_of, ap length c.args.value.listed)
