@@ -58,9 +58,13 @@ mutual
   elements-few : (n : ℕ) (ds : Elements) → length (flat_map (beneath n) (elements ds)) ≤ length (elements_listing ds)
   elements-few n no_elements = omega arith
   elements-few n (element d ds) =
-      omega (arith, beneath-few n d, elements-few n ds, length-append (beneath n d) (flat_map (beneath n) (elements ds)), length-append (listing d) (elements_listing ds))
+      let parts = length-append (beneath n d) (flat_map (beneath n) (elements ds)) in
+      let nodes = length-append (listing d) (elements_listing ds) in
+      omega (arith, beneath-few n d, elements-few n ds)
 
   members-few : (n : ℕ) (ms : Members) → length (flat_map (beneath n) (values ms)) ≤ length (members_listing ms)
   members-few n no_members = omega arith
   members-few n (member k d ms) =
-      omega (arith, beneath-few n d, members-few n ms, length-append (beneath n d) (flat_map (beneath n) (values ms)), length-append (listing d) (members_listing ms))
+      let parts = length-append (beneath n d) (flat_map (beneath n) (values ms)) in
+      let nodes = length-append (listing d) (members_listing ms) in
+      omega (arith, beneath-few n d, members-few n ms)

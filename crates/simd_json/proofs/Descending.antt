@@ -18,7 +18,8 @@ use Rattle.simd_json.proofs.Listed.{elements_of-all, elements_of-listing, front-
 
 -- ---- rows
 
-begins-with : (ns : List Node) (ds : Elements) → elements_listing ds ≡ map item_of ns → (length ns == 0) ≡ false → (d : Document) × StandsFor ns d
+begins-with : (ns : List Node) (ds : Elements) → elements_listing ds ≡ map item_of ns → (length ns == 0) ≡ false
+    → (d : Document) × StandsFor ns d
 begins-with [] ds is some = cc
 begins-with (n ∷ ns) no_elements is some = cc
 begins-with (n ∷ ns) (element d ds) is some = (d, (elements_listing ds, sym is))
@@ -46,7 +47,9 @@ row-of xs is =
 
 listing-joined : (ds es : Elements) → elements_listing (joined ds es) ≡ elements_listing ds ++ elements_listing es
 listing-joined no_elements es = refl
-listing-joined (element d ds) es = ap (λ ns. listing d ++ ns) (listing-joined ds es) ∙ sym (append_assoc (listing d) (elements_listing ds) (elements_listing es))
+listing-joined (element d ds) es =
+    ap (λ ns. listing d ++ ns) (listing-joined ds es)
+    ∙ sym (append_assoc (listing d) (elements_listing ds) (elements_listing es))
 
 listing-flat : (ms : Members) (es : Elements) → elements_listing (flat ms es) ≡ members_listing ms ++ elements_listing es
 listing-flat no_members es = refl
@@ -74,24 +77,39 @@ entered-of xs x ys listed is =
     let whole : elements_of ys ≡ entered (elements_of xs) = ap elements_of (sym below) ∙ elements_of-all (entered (elements_of xs)) in
     record { listed = ap elements_listing whole ∙ below; whole = whole }
 
-pub row-entered : (ns others : List Node) → AreElements (map item_of ns) → 0 < length ns → others ≡ drop 1 ns → IsEntered (map item_of ns) (map item_of others)
+pub row-entered : (ns others : List Node) → AreElements (map item_of ns) → 0 < length ns → others ≡ drop 1 ns
+    → IsEntered (map item_of ns) (map item_of others)
 row-entered [] others listed some is = absurd (omega arith)
 row-entered (n ∷ ns) others listed some is = rw is (entered-of (item_of n ∷ map item_of ns) (item_of n) (map item_of ns) listed refl)
 
 -- ---- levels
 
+inside-none : (b : Bool) (n : ℕ) → inside b n no_elements ≡ []
+inside-none true zero = refl
+inside-none true (suc n) = refl
+inside-none false zero = refl
+inside-none false (suc n) = refl
+
+outside-none : (b : Bool) (n : ℕ) → outside b n no_elements ≡ no_elements
+outside-none true zero = refl
+outside-none true (suc n) = refl
+outside-none false zero = refl
+outside-none false (suc n) = refl
+
 pub left-none : (n : ℕ) (ls : List Level) → left_in n ls no_elements ≡ []
 left-none n [] = refl
-left-none n (l ∷ ls) = elim l.is_object as (λ b. flat_map (beneath n) (inside b l.left no_elements) ++ left_in (suc n) ls (outside b l.left no_elements) ≡ []) [
-  | true ↦ elim l.left as (λ m. flat_map (beneath n) (inside true m no_elements) ++ left_in (suc n) ls (outside true m no_elements) ≡ []) [ zero ↦ left-none (suc n) ls | suc m ↦ left-none (suc n) ls ]
-  | false ↦ elim l.left as (λ m. flat_map (beneath n) (inside false m no_elements) ++ left_in (suc n) ls (outside false m no_elements) ≡ []) [ zero ↦ left-none (suc n) ls | suc m ↦ left-none (suc n) ls ]
-]
+left-none n (l ∷ ls) =
+    ap (λ xs. flat_map (beneath n) xs ++ left_in (suc n) ls (outside l.is_object l.left no_elements)) (inside-none l.is_object l.left)
+    ∙ ap (left_in (suc n) ls) (outside-none l.is_object l.left)
+    ∙ left-none (suc n) ls
 
-finished : (b : Bool) (n : ℕ) (ls : List Level) (ds : Elements) → flat_map (beneath n) (inside b 0 ds) ++ left_in (suc n) ls (outside b 0 ds) ≡ left_in (suc n) ls ds
+finished : (b : Bool) (n : ℕ) (ls : List Level) (ds : Elements)
+    → flat_map (beneath n) (inside b 0 ds) ++ left_in (suc n) ls (outside b 0 ds) ≡ left_in (suc n) ls ds
 finished true n ls ds = refl
 finished false n ls ds = refl
 
-pub past-finished : (ls : List Level) (n : ℕ) (default : Level) → n < length ls → (get_or ls n default).left ≡ 0 → (ds : Elements) → left_in n (drop n ls) ds ≡ left_in (n + 1) (drop (n + 1) ls) ds
+pub past-finished : (ls : List Level) (n : ℕ) (default : Level) → n < length ls → (get_or ls n default).left ≡ 0
+    → (ds : Elements) → left_in n (drop n ls) ds ≡ left_in (n + 1) (drop (n + 1) ls) ds
 past-finished ls n default within none ds =
     let l = get_or ls n default in
     ap (λ xs. left_in n xs ds) (drop_more ls n default within)
@@ -99,15 +117,21 @@ past-finished ls n default within none ds =
     ∙ finished l.is_object n (drop (n + 1) ls) ds
     ∙ ap (λ m. left_in m (drop (n + 1) ls) ds) (sym (add-one n))
 
-begun : (b : Bool) (m n : ℕ) (ls : List Level) (ds : Elements) → flat_map (beneath n) (inside b (suc m) ds) ++ left_in (suc n) ls (outside b (suc m) ds) ≡ left_with n (record { is_object = b; left = m } ∷ ls) (cond b (others 1 ds) ds)
+begun : (b : Bool) (m n : ℕ) (ls : List Level) (ds : Elements)
+    → flat_map (beneath n) (inside b (suc m) ds) ++ left_in (suc n) ls (outside b (suc m) ds)
+    ≡ left_with n (record { is_object = b; left = m } ∷ ls) (cond b (others 1 ds) ds)
 begun false m n ls no_elements = left-none (suc n) ls
-begun false m n ls (element d ds) = append_assoc (beneath n d) (flat_map (beneath n) (elements (front m ds))) (left_in (suc n) ls (others m ds))
+begun false m n ls (element d ds) =
+    append_assoc (beneath n d) (flat_map (beneath n) (elements (front m ds))) (left_in (suc n) ls (others m ds))
 begun true m n ls no_elements = left-none (suc n) ls
 begun true m n ls (element k no_elements) = left-none (suc n) ls
-begun true m n ls (element k (element d ds)) = append_assoc (beneath n d) (flat_map (beneath n) (values (front_pairs m ds))) (left_in (suc n) ls (other_pairs m ds))
+begun true m n ls (element k (element d ds)) =
+    append_assoc (beneath n d) (flat_map (beneath n) (values (front_pairs m ds))) (left_in (suc n) ls (other_pairs m ds))
 
-pub member-begun : (ls : List Level) (n : ℕ) (default l : Level) → n < length ls → IfSome (slice_get ls n) (λ x. 0 < x.left) → l ≡ record { is_object = (get_or ls n default).is_object; left = (get_or ls n default).left - 1 }
-    → (ds : Elements) → left_in n (drop n ls) ds ≡ left_with n (drop n (set ls n l)) (cond (get_or (set ls n l) n default).is_object (others 1 ds) ds)
+pub member-begun : (ls : List Level) (n : ℕ) (default l : Level) → n < length ls → IfSome (slice_get ls n) (λ x. 0 < x.left)
+    → l ≡ record { is_object = (get_or ls n default).is_object; left = (get_or ls n default).left - 1 }
+    → (ds : Elements)
+    → left_in n (drop n ls) ds ≡ left_with n (drop n (set ls n l)) (cond (get_or (set ls n l) n default).is_object (others 1 ds) ds)
 member-begun ls n default l within left is ds =
     let old = get_or ls n default in
     let some : 0 < old.left = subst (λ o. IfSome o (λ x. 0 < x.left)) (slice_get-get_or ls n default within) left in
@@ -118,24 +142,32 @@ member-begun ls n default l within left is ds =
     ∙ begun old.is_object (old.left - 1) n (drop (n + 1) ls) ds
     ∙ ap (λ (x : Level). left_with n (x ∷ drop (n + 1) ls) (cond x.is_object (others 1 ds) ds)) (sym is)
     ∙ ap (λ xs. left_with n xs (cond l.is_object (others 1 ds) ds)) (sym (drop-set ls n l within))
-    ∙ ap (λ (x : Level). left_with n (drop n (set ls n l)) (cond x.is_object (others 1 ds) ds)) (sym (get_or-set_same ls n l default within))
+    ∙ ap (λ (x : Level). left_with n (drop n (set ls n l)) (cond x.is_object (others 1 ds) ds))
+    (sym (get_or-set_same ls n l default within))
 
 last : (n : ℕ) (ds : Elements) → left_in n [] ds ≡ left_with n [] ds
 last n no_elements = refl
 last n (element d ds) = refl
 
 pub last-begun : (ls : List Level) (n : ℕ) → length ls ≤ n → (ds : Elements) → left_in n (drop n ls) ds ≡ left_with n (drop n ls) ds
-last-begun ls n past ds = ap (λ xs. left_in n xs ds) (drop_all n ls past) ∙ last n ds ∙ ap (λ xs. left_with n xs ds) (sym (drop_all n ls past))
+last-begun ls n past ds =
+    ap (λ xs. left_in n xs ds) (drop_all n ls past)
+    ∙ last n ds
+    ∙ ap (λ xs. left_with n xs ds) (sym (drop_all n ls past))
 
 -- ---- containers that are opened
 
 pub array-opened : (d : Document) (es : Elements) (len : ℕ) → d ≡ array es → len ≡ length (elements es)
-    → (n : ℕ) (ls : List Level) (ds : Elements) → left_in n (record { is_object = false; left = len } ∷ ls) (entered (element d ds)) ≡ flat_map (beneath n) (children d) ++ left_in (suc n) ls ds
+    → (n : ℕ) (ls : List Level) (ds : Elements)
+    → left_in n (record { is_object = false; left = len } ∷ ls) (entered (element d ds))
+    ≡ flat_map (beneath n) (children d) ++ left_in (suc n) ls ds
 array-opened d es len is counted n ls ds =
     rw (is, counted) (rw (front-joined es ds, others-joined es ds) refl)
 
 pub object-opened : (d : Document) (ms : Members) (len : ℕ) → d ≡ object ms → len ≡ length (members ms)
-    → (n : ℕ) (ls : List Level) (ds : Elements) → left_in n (record { is_object = true; left = len } ∷ ls) (entered (element d ds)) ≡ flat_map (beneath n) (children d) ++ left_in (suc n) ls ds
+    → (n : ℕ) (ls : List Level) (ds : Elements)
+    → left_in n (record { is_object = true; left = len } ∷ ls) (entered (element d ds))
+    ≡ flat_map (beneath n) (children d) ++ left_in (suc n) ls ds
 object-opened d ms len is counted n ls ds =
     rw (is, counted) (rw (front-flat ms ds, others-flat ms ds) refl)
 
@@ -155,7 +187,8 @@ pub lowest-passed : (n : ℕ) (d : Document) (left : List Document) → n ≡ 0 
 lowest-passed n d left lowest = ap (λ m. beneath m d ++ left) lowest
 
 pub container-opened : (ls : List Level) (n m : ℕ) (d : Document) (l : Level) → n ≡ suc m → m < length ls
-    → ((i : ℕ) (xs : List Level) (ds : Elements) → left_in i (l ∷ xs) (entered (element d ds)) ≡ flat_map (beneath i) (children d) ++ left_in (suc i) xs ds)
+    → ((i : ℕ) (xs : List Level) (ds : Elements) → left_in i (l ∷ xs) (entered (element d ds))
+    ≡ flat_map (beneath i) (children d) ++ left_in (suc i) xs ds)
     → (ds : Elements) → beneath n d ++ left_in n (drop n ls) ds ≡ d ∷ left_in m (drop m (set ls m l)) (entered (element d ds))
 container-opened ls n m d l next within opens ds =
     ap (λ i. beneath i d ++ left_in i (drop i ls) ds) next
@@ -181,8 +214,6 @@ pub record IsStep (left : Elements → List Document) (n : ℕ) (ls : List Level
   pub levels : (ds : Elements) → left ds ≡ left_with n ls (cond is_pair (others 1 ds) ds)
   pub row : begun ≡ cond is_pair (others 1 all) all
 
-pub none-left : (left : Elements → List Document) (n : ℕ) (ls : List Level) (is_pair : Bool) (all begun : Elements) → IsStep left n ls is_pair all begun → begun ≡ no_elements → left all ≡ []
+pub none-left : (left : Elements → List Document) (n : ℕ) (ls : List Level) (is_pair : Bool) (all begun : Elements)
+    → IsStep left n ls is_pair all begun → begun ≡ no_elements → left all ≡ []
 none-left left n ls is_pair all begun step none = step.levels all ∙ ap (left_with n ls) (sym step.row ∙ none)
-
-pub some-left : (left : Elements → List Document) (n : ℕ) (ls : List Level) (is_pair : Bool) (all begun : Elements) (d : Document) (ds : Elements) → IsStep left n ls is_pair all begun → begun ≡ element d ds → left all ≡ beneath n d ++ left_in n ls ds
-some-left left n ls is_pair all begun d ds step is = step.levels all ∙ ap (left_with n ls) (sym step.row ∙ is)

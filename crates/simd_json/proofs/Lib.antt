@@ -7,6 +7,7 @@ mod Compared
 mod Split
 mod Descending
 mod Beneath
+pub mod Walks
 mod MapCompared
 mod Printable
 mod Encoded

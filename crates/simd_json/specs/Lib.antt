@@ -14,6 +14,7 @@ pub mod Answered
 pub mod Paired
 pub mod Iterated
 pub mod Beneath
+pub mod Sizes
 pub mod Descending
 pub mod MapCompared
 pub mod Pointed

@@ -2,19 +2,37 @@
 use crate::tests::Tested;
 use simd_json::tape::Value;
 use simd_json::to_tape;
-use std::test::Fail;
+use std::process::Abort;
 
-// The texts of a value and of those at most `DEPTH` levels beneath it, with a space after each.
-fn texts<const DEPTH: usize>(
-    rt: &HostRuntime,
-    value: &Value<'_, '_>,
-) -> std::result::Result<String, Fail> {
-    let mut texts = String::new(rt.alloc());
-    for beneath in value.descendants::<DEPTH>() {
-        texts.push_str(beneath.encode(rt.alloc())?.as_str())?;
-        texts.push_str(" ")?;
-    }
-    Ok(texts)
+// What is at most so many levels beneath a value.
+const AT_MOST_1: [&str; 3] = [
+    "{\"a\":[1,{\"b\":[]},\"x\"],\"c\":null}",
+    "[1,{\"b\":[]},\"x\"]",
+    "null",
+];
+
+const AT_MOST_2: [&str; 6] = [
+    "{\"a\":[1,{\"b\":[]},\"x\"],\"c\":null}",
+    "[1,{\"b\":[]},\"x\"]",
+    "1",
+    "{\"b\":[]}",
+    "\"x\"",
+    "null",
+];
+
+const AT_MOST_8: [&str; 7] = [
+    "{\"a\":[1,{\"b\":[]},\"x\"],\"c\":null}",
+    "[1,{\"b\":[]},\"x\"]",
+    "1",
+    "{\"b\":[]}",
+    "[]",
+    "\"x\"",
+    "null",
+];
+
+fn assert_text(rt: &(impl AllocGlobal + Abort), value: &Value<'_, '_>, text: &str) -> Tested {
+    assert_eq!(rt; value.encode(rt.alloc())?.as_str(), text);
+    Ok(())
 }
 
 #[test]
@@ -23,24 +41,32 @@ fn values_are_in_the_order_of_the_document(rt: HostRuntime) -> Tested {
     let tape = to_tape(rt.alloc(), &mut input)?;
     assert!(rt; !tape.is_empty());
     let value = tape.as_value();
-    assert_eq!(rt;
-        texts::<0>(&rt, &value)?.as_str(),
-        "{\"a\":[1,{\"b\":[]},\"x\"],\"c\":null} "
-    );
-    assert_eq!(rt;
-        texts::<1>(&rt, &value)?.as_str(),
-        "{\"a\":[1,{\"b\":[]},\"x\"],\"c\":null} [1,{\"b\":[]},\"x\"] null "
-    );
-    assert_eq!(rt;
-        texts::<2>(&rt, &value)?.as_str(),
-        "{\"a\":[1,{\"b\":[]},\"x\"],\"c\":null} [1,{\"b\":[]},\"x\"] 1 {\"b\":[]} \"x\" null "
-    );
-    assert_eq!(rt;
-        texts::<8>(&rt, &value)?.as_str(),
-        "{\"a\":[1,{\"b\":[]},\"x\"],\"c\":null} [1,{\"b\":[]},\"x\"] 1 {\"b\":[]} [] \"x\" null "
-    );
+    assert_eq!(rt; value.descendants::<0>().count(), 1);
+    assert_eq!(rt; value.descendants::<1>().count(), 3);
+    assert_eq!(rt; value.descendants::<2>().count(), 6);
+    assert_eq!(rt; value.descendants::<8>().count(), 7);
+    for (beneath, text) in value.descendants::<1>().zip(&AT_MOST_1) {
+        assert_text(&rt, &beneath, text)?;
+    }
+    for (beneath, text) in value.descendants::<2>().zip(&AT_MOST_2) {
+        assert_text(&rt, &beneath, text)?;
+    }
+    for (beneath, text) in value.descendants::<8>().zip(&AT_MOST_8) {
+        assert_text(&rt, &beneath, text)?;
+    }
     Ok(())
 }
+
+const AFTER_CONTAINERS: [&str; 8] = [
+    "[{\"k\":{\"l\":1},\"m\":\"v\"},[2],\"w\"]",
+    "{\"k\":{\"l\":1},\"m\":\"v\"}",
+    "{\"l\":1}",
+    "1",
+    "\"v\"",
+    "[2]",
+    "2",
+    "\"w\"",
+];
 
 #[test]
 fn strings_after_containers_are_values(rt: HostRuntime) -> Tested {
@@ -48,10 +74,10 @@ fn strings_after_containers_are_values(rt: HostRuntime) -> Tested {
     let tape = to_tape(rt.alloc(), &mut input)?;
     assert!(rt; !tape.is_empty());
     let value = tape.as_value();
-    assert_eq!(rt;
-        texts::<8>(&rt, &value)?.as_str(),
-        "[{\"k\":{\"l\":1},\"m\":\"v\"},[2],\"w\"] {\"k\":{\"l\":1},\"m\":\"v\"} {\"l\":1} 1 \"v\" [2] 2 \"w\" "
-    );
+    assert_eq!(rt; value.descendants::<8>().count(), 8);
+    for (beneath, text) in value.descendants::<8>().zip(&AFTER_CONTAINERS) {
+        assert_text(&rt, &beneath, text)?;
+    }
     Ok(())
 }
 

@@ -1,7 +1,8 @@
-use Rattle.std.proofs.Common.{◌≡◌, ◌∙◌, ap, sym, cond, drop}
+use Rattle.std.proofs.Common.{◌≡◌, ◌∙◌, ap, sym, Bool, cond, drop}
 use Rattle.simd_json.specs.Descending.{in_row, left_open, left_in}
 use Rattle.simd_json.specs.Documents.{others}
-use Rattle.simd_json.proofs.Descending.{IsStep, none-left, some-left, left-none}
+use Rattle.simd_json_parts.specs.Document.{Elements}
+use Rattle.simd_json.proofs.Descending.{IsStep, none-left, left-none}
 use Rattle.simd_json.proofs.value.tape.descendants.DescendantsIterator.next.Goals as goal
 use Rattle.simd_json.proofs.value.tape.descendants.DescendantsIterator.next.Goals.{then-begin_member, else-begin_member}
 
@@ -10,13 +11,15 @@ returns-in_default-clause-steps g c =
     let old = c.args.self.now in
     let levels = c.begin_member.new.self in
     let all = in_row old.row in
+    let pick : Bool → Elements = λ b. cond b (others 1 all) all in
     let row : in_row c.if-begin_member.self ≡ cond c.begin_member.result (others 1 all) all =
     elim c.if-begin_member.branch [
-      | then-begin_member w ↦ ap in_row w.self-is ∙ w.without_first-self.ensures ∙ ap (λ b. cond b (others 1 all) all) (sym w.if-begin_member.true)
-      | else-begin_member w ↦ ap in_row w.self-is ∙ ap (λ b. cond b (others 1 all) all) (sym w.if-begin_member.false)
+      | then-begin_member w ↦ ap in_row w.self-is ∙ w.without_first-self.ensures ∙ ap pick (sym w.if-begin_member.true)
+      | else-begin_member w ↦ ap in_row w.self-is ∙ ap pick (sym w.if-begin_member.false)
     ] in
-    let step : IsStep (left_open old.levels) levels.innermost (drop levels.innermost levels.all) c.begin_member.result all (in_row c.if-begin_member.self) =
+    let ls = drop levels.innermost levels.all in
+    let step : IsStep (left_open old.levels) levels.innermost ls c.begin_member.result all (in_row c.if-begin_member.self) =
     record { levels = c.begin_member.ensures; row = row } in (
       none-left _ _ _ _ all _ step c.in_default.ensures,
-      ap (left_in levels.innermost (drop levels.innermost levels.all)) c.in_default.ensures ∙ left-none levels.innermost (drop levels.innermost levels.all),
+      ap (left_in levels.innermost ls) c.in_default.ensures ∙ left-none levels.innermost ls,
     )

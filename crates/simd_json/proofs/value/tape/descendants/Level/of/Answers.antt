@@ -1,7 +1,5 @@
 use Rattle.simd_json.specs.Viewed.{doc, docs, pairs}
-use Rattle.std.proofs.Common.{◌∙◌, ap, sym, refl}
-use Rattle.simd_json_parts.specs.Views.{is_array, is_object}
-use Rattle.simd_json.proofs.Descending.{array-opened, object-opened, no-children}
+use Rattle.simd_json.proofs.Descending.{array-opened, object-opened}
 use Rattle.simd_json.proofs.value.tape.descendants.Level.of.Goals as goal
 
 pub returns-in-Some : goal.returns-in-Some

@@ -16,4 +16,6 @@ pub returns-clause-row : goal.returns-clause-row
 returns-clause-row c = ap (λ xs. elements_of (map item_of xs)) c.nodes.ensures.nodes ∙ (row-of _ c.args.value.listed).whole
 
 pub returns-clause-few : goal.returns-clause-few
-returns-clause-few c = omega (arith, c.nodes.ensures.few, ap length c.nodes.ensures.nodes, length-map c.args.value.nodes.now item_of, ap length c.args.value.listed)
+returns-clause-few c =
+    let value = c.args.value in
+    omega (arith, ap length c.nodes.ensures.nodes, length-map value.nodes.now item_of, ap length value.listed)

@@ -10,7 +10,8 @@ split-requires-clause-listed c = row-begins c.args.self.nodes.now c.args.self.li
 pub invariant_of-result : goal.invariant_of-result
 invariant_of-result c =
     let self = c.args.self in
-    record { listed = (without-first _ _ _ (doc c.split.result.0) self.listed refl c.split.ensures.whole).listed; printable = c.split.ensures.printable }
+    let others = without-first _ _ _ (doc c.split.result.0) self.listed refl c.split.ensures.whole in
+    record { listed = others.listed; printable = c.split.ensures.printable }
 
 pub returns : goal.returns
 returns c =
