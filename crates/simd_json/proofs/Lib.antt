@@ -5,6 +5,9 @@ mod Reservations
 pub mod Listed
 mod Compared
 mod Split
+mod Descending
+mod Beneath
+pub mod Walks
 mod MapCompared
 mod Printable
 mod Encoded

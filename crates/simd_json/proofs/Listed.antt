@@ -13,6 +13,7 @@ use Rattle.simd_json_parts.specs.Nodes.{Item, array_item, object_item, item_of}
 use Rattle.simd_json_scalars.specs.Headers.{count_of, len_of}
 use Rattle.simd_json_parts.specs.declared.node.Node.{Node}
 use Rattle.simd_json_parts.specs.declared.node.Node.TheVariants as nodes
+use Rattle.simd_json.specs.Descending.{joined, flat}
 use Rattle.simd_json.specs.Documents.{magnitude_below, static_document, first, front, others, in_pairs, front_pairs, other_pairs, elements_of, document_of, members_of, IsListing, AreElements, AreMembers}
 
 pub magnitude-below : (n : ℕ) → magnitude_below (neg_ℤ (pos n)) ≡ n
@@ -26,32 +27,23 @@ document-integer =
 
 -- ---- documents in a row
 
-abbrev joined : Elements → Elements → Elements
-joined no_elements es = es
-joined (element d ds) es = element d (joined ds es)
-
--- pairs as the documents that their nodes list
-abbrev flat : Members → Elements → Elements
-flat no_members es = es
-flat (member k d ms) es = element (string k) (element d (flat ms es))
-
 joined-none : (ds : Elements) → joined ds no_elements ≡ ds
 joined-none no_elements = refl
 joined-none (element d ds) = ap (element d) (joined-none ds)
 
-front-joined : (ds es : Elements) → front (length (elements ds)) (joined ds es) ≡ ds
+pub front-joined : (ds es : Elements) → front (length (elements ds)) (joined ds es) ≡ ds
 front-joined no_elements es = refl
 front-joined (element d ds) es = ap (element d) (front-joined ds es)
 
-others-joined : (ds es : Elements) → others (length (elements ds)) (joined ds es) ≡ es
+pub others-joined : (ds es : Elements) → others (length (elements ds)) (joined ds es) ≡ es
 others-joined no_elements es = refl
 others-joined (element d ds) es = others-joined ds es
 
-front-flat : (ms : Members) (es : Elements) → front_pairs (length (members ms)) (flat ms es) ≡ ms
+pub front-flat : (ms : Members) (es : Elements) → front_pairs (length (members ms)) (flat ms es) ≡ ms
 front-flat no_members es = refl
 front-flat (member k d ms) es = ap (member k d) (front-flat ms es)
 
-others-flat : (ms : Members) (es : Elements) → other_pairs (length (members ms)) (flat ms es) ≡ es
+pub others-flat : (ms : Members) (es : Elements) → other_pairs (length (members ms)) (flat ms es) ≡ es
 others-flat no_members es = refl
 others-flat (member k d ms) es = others-flat ms es
 

@@ -13,6 +13,9 @@ pub mod Viewed
 pub mod Answered
 pub mod Paired
 pub mod Iterated
+pub mod Beneath
+pub mod Sizes
+pub mod Descending
 pub mod MapCompared
 pub mod Pointed
 pub mod PointedText

@@ -3,6 +3,7 @@
 ghost use Rattle.std.specs.Prelude.{◌≡◌, ◌≤◌, ◌↔◌, ◌∷◌, ℕ, List, length, take};
 ghost use Rattle.std.specs.Prelude.{Option, Some, None, Ok, IsSome};
 ghost use Rattle.std.specs.Result.{result_err};
+ghost use Rattle.simd_json.specs.Beneath.{beneath, descendants};
 ghost use Rattle.simd_json.specs.Memory.{HasMemory};
 ghost use Rattle.simd_json.specs.Parsed.{IsPaddedParse, IsParse, IsRefused, answered_nodes, positions_after};
 ghost use Rattle.simd_json.specs.Capacities.{KeepsCapacities, Capacities, capacity};
@@ -82,6 +83,11 @@ pub fn values_stand_for_parsed_documents()
     ensures { (b : List ℕ) (limit capacity : ℕ) (nodes : List Item) (listed : List ℕ) (d : Document)
         → IsParse b limit capacity None nodes listed → listing d ≡ nodes
         → Denotes b d × WithinLimits b d limit × (answer b limit ≡ Ok d) }
+{}
+
+/// The values that are at most so many levels beneath a value are all, where the value is no deeper.
+pub fn descendants_within_the_depth_are_all()
+    ensures { (d : Document) (n : ℕ) → depth d ≤ n → beneath n d ≡ descendants d }
 {}
 
 /// The first node of a listing says how many nodes lie beneath it, and how many members the document has.

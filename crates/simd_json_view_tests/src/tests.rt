@@ -1,6 +1,7 @@
 use std::test::Fail;
 
 mod accessors;
+mod descendants;
 mod deserializer;
 mod maps;
 mod printing;

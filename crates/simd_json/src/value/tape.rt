@@ -6,11 +6,13 @@ ghost use Rattle.simd_json_parts.specs.Listing.{listing};
 ghost use Rattle.simd_json_parts.specs.Nodes.{item_of};
 
 pub mod array;
+pub mod descendants;
 pub mod object;
 mod value;
 
 use crate::recycle::recycled;
 pub use array::Array;
+pub use descendants::Descendants;
 pub use object::Object;
 use simd_json_parts::error::Result;
 pub use simd_json_parts::node::Node;

@@ -147,24 +147,50 @@ mod places {
 mod walks {
     use simd_json::tape::Value;
 
-    // How deep arrays and objects are nested in the value, at most `limit`.
-    pub(super) fn depth(value: Value<'_, '_>, limit: usize) -> usize {
-        if limit == 0 {
-            return 0;
-        }
+    // How deep arrays and objects are nested in the value.
+    #[tactic(auto, using(simd_json::proofs::Walks::walks))]
+    pub(super) fn depth(value: Value<'_, '_>) -> usize {
         let mut deepest = 0;
         if let Some(array) = value.as_array() {
             for element in &array {
-                deepest = depth(element, limit - 1).max(deepest);
+                deepest = depth(element).max(deepest);
             }
         } else if let Some(object) = value.as_object() {
             for (_, member) in &object {
-                deepest = depth(member, limit - 1).max(deepest);
+                deepest = depth(member).max(deepest);
             }
         } else {
             return 0;
         }
         deepest.saturating_add(1)
+    }
+
+    // How many values there are in the value, itself among them.
+    #[tactic(auto, using(simd_json::proofs::Walks::walks))]
+    pub(super) fn count(value: Value<'_, '_>) -> usize {
+        let mut all = 1usize;
+        if let Some(array) = value.as_array() {
+            for element in &array {
+                all = all.saturating_add(count(element));
+            }
+        }
+        if let Some(object) = value.as_object() {
+            for member in object.values() {
+                all = all.saturating_add(count(member));
+            }
+        }
+        all
+    }
+
+    // How many strings there are in the value, at most 32 levels down.
+    pub(super) fn strings(value: &Value<'_, '_>) -> usize {
+        let mut count = 0usize;
+        for beneath in value.descendants::<32>() {
+            if beneath.as_str().is_some() {
+                count = count.saturating_add(1);
+            }
+        }
+        count
     }
 }
 
@@ -229,8 +255,18 @@ fn recipes_do_as_they_say(rt: HostRuntime) -> Tested {
     let big = value.pointer("/big").expect(&rt, "it is there");
     assert!(rt; floats::float(&big).is_none());
     assert!(rt; floats::float(&value).is_none());
-    assert_eq!(rt; walks::depth(value, 1024), 3);
-    assert_eq!(rt; walks::depth(value, 2), 2);
+    Ok(())
+}
+
+#[test]
+fn walks_see_each_value(rt: HostRuntime) -> Tested {
+    let mut input = *b"{\"a\":[\"x\",{\"b\":\"y\"}],\"c\":\"z\",\"d\":1}";
+    let tape = to_tape(rt.alloc(), &mut input)?;
+    assert!(rt; !tape.is_empty());
+    let value = tape.as_value();
+    assert_eq!(rt; walks::depth(value), 3);
+    assert_eq!(rt; walks::count(value), 7);
+    assert_eq!(rt; walks::strings(&value), 3);
     Ok(())
 }
 

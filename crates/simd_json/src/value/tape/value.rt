@@ -8,6 +8,7 @@ ghost use Rattle.simd_json.specs.Tapes.{StandsFor};
 ghost use Rattle.simd_json_parts.specs.Nodes.{Item, item_of};
 
 use crate::value::tape::array::Array;
+use crate::value::tape::descendants::Descendants;
 use crate::value::tape::object::Object;
 use simd_json_parts::node::{Node, StaticNode, ValueType};
 
@@ -47,7 +48,9 @@ pub struct Value<'tape, 'input> {
 }
 
 impl<'tape, 'input> Value<'tape, 'input> {
-    ghost use Rattle.std.specs.Prelude.{◌≡◌, ◌++◌, ◌∷◌, map, drop, is_some, IfSome, option_map};
+    ghost use Rattle.std.specs.Prelude.{◌≡◌, ◌<◌, ◌^◌, ◌++◌, ◌∷◌, map, drop, length, is_some, IfSome, option_map};
+    ghost use Rattle.simd_json.specs.Beneath.{beneath};
+    ghost use Rattle.simd_json.specs.Descending.{descendants_left};
     ghost use Rattle.simd_json.specs.Documents.{IsListing, IsFirst, document_of};
     ghost use Rattle.simd_json.specs.Printable.{ArePrintable};
     ghost use Rattle.simd_json.specs.Viewed.{doc, docs, pairs};
@@ -100,7 +103,8 @@ impl<'tape, 'input> Value<'tape, 'input> {
 
     // All of them.
     pub(crate) fn nodes(&self) -> &'tape [Node<'input>]
-        ensures { result.now ≡ self.now.nodes.now }
+        ensures nodes { result.now ≡ self.now.nodes.now }
+        ensures few { length result.now < 2 ^ 64 }
     {
         self.nodes
     }
@@ -197,6 +201,34 @@ impl<'tape, 'input> Value<'tape, 'input> {
         ensures { result ≡ contains_key k.now (doc self.now) }
     {
         self.get(k).is_some()
+    }
+
+    /// An iterator over the value and the values beneath it, at most `DEPTH` levels down, in the document's
+    /// order: each container before its members. A container on the lowest level is returned, but not its
+    /// members. Keys are no values.
+    ///
+    /// With a `DEPTH` of no less than the depth limit of the parse these are all values. The iterator allocates
+    /// nothing and has 16 bytes for each level.
+    ///
+    /// ```
+    /// use simd_json::tape::Value;
+    ///
+    /// // How many strings there are in the value, at most 32 levels down.
+    /// fn strings(value: &Value<'_, '_>) -> usize {
+    ///     let mut count = 0usize;
+    ///     for beneath in value.descendants::<32>() {
+    ///         if beneath.as_str().is_some() {
+    ///             count = count.saturating_add(1);
+    ///         }
+    ///     }
+    ///     count
+    /// }
+    /// ```
+    pub fn descendants<const DEPTH: usize>(&self) -> Descendants<'tape, 'input, DEPTH>
+        ensures values { descendants_left result ≡ beneath DEPTH (doc self.now) }
+        ensures few { length (descendants_left result) < 2 ^ 64 }
+    {
+        Descendants::new(*self)
     }
 }
 

@@ -3,4 +3,4 @@ use Rattle.simd_json.proofs.Compared.{compared}
 use Rattle.simd_json.proofs.value.cmp.ValuePartialEq.eq.Goals as goal
 
 pub returns : goal.returns
-returns c = c.eq.ensures ∙ compared _ _ _ _ c.nodes.ensures c.nodes-2.ensures c.args.self.now.listed c.args.other.now.listed
+returns c = c.eq.ensures ∙ compared _ _ _ _ c.nodes.ensures.nodes c.nodes-2.ensures.nodes c.args.self.now.listed c.args.other.now.listed

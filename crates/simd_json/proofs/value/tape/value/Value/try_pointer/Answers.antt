@@ -1,5 +1,5 @@
-use Rattle.std.proofs.Common.{◌∙◌, ap, sym, drop, Err}
-use Rattle.simd_json.specs.Pointed.{pointed, stop}
+use Rattle.std.proofs.Common.{◌∙◌, ap, sym, drop}
+use Rattle.simd_json.specs.Pointed.{pointed}
 use Rattle.simd_json.specs.Viewed.{doc}
 use Rattle.simd_json.specs.Followed.{first_step}
 use Rattle.simd_json.proofs.Pointed.{rest, stop-at, stop-kind, some-left}

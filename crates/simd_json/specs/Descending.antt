@@ -1,0 +1,63 @@
+-- What is left to an iterator over a value and the values beneath it, by the nodes and the open containers that are left.
+use Rattle.std.specs.Prelude.{ℕ, suc, Bool, true, false, List, [], ◌∷◌, ◌++◌, drop, flat_map, map}
+use Rattle.simd_json_parts.specs.Document.{Document, string, array, object, Elements, no_elements, element, elements, Members, no_members, member}
+use Rattle.simd_json_parts.specs.Nodes.{item_of}
+use Rattle.simd_json_parts.specs.Views.{values}
+use Rattle.simd_json.specs.Beneath.{beneath}
+use Rattle.simd_json.specs.Documents.{elements_of, front, others, front_pairs, other_pairs}
+use Rattle.simd_json.specs.declared.value.tape.descendants.Descendants.{Descendants}
+use Rattle.simd_json.specs.declared.value.tape.descendants.Level.{Level}
+use Rattle.simd_json.specs.declared.value.tape.descendants.Levels.{Levels}
+use Rattle.simd_json.specs.declared.value.tape.descendants.Row.{Row}
+
+-- ---- documents in a row, where the name of a pair is one of them
+
+abbrev pub in_row : Row → Elements
+in_row r = elements_of (map item_of r.nodes.now)
+
+abbrev pub joined : Elements → Elements → Elements
+joined no_elements es = es
+joined (element d ds) es = element d (joined ds es)
+
+-- pairs as the documents that their nodes list
+abbrev pub flat : Members → Elements → Elements
+flat no_members es = es
+flat (member k d ms) es = element (string k) (element d (flat ms es))
+
+-- what the first one has in it, then the others
+abbrev pub entered : Elements → Elements
+entered no_elements = no_elements
+entered (element (array es) ds) = joined es ds
+entered (element (object ms) ds) = flat ms ds
+entered (element d ds) = ds
+
+-- the values of so many members, of an object or of an array, and the documents after these members
+abbrev pub inside : Bool → ℕ → Elements → List Document
+inside true n ds = values (front_pairs n ds)
+inside false n ds = elements (front n ds)
+
+abbrev pub outside : Bool → ℕ → Elements → Elements
+outside true n ds = other_pairs n ds
+outside false n ds = others n ds
+
+-- ---- what is left
+
+-- of the members of the first of these containers at most so many levels, of each next one a level more
+abbrev pub left_in : ℕ → List Level → Elements → List Document
+left_in n [] ds = flat_map (beneath n) (elements ds)
+left_in n (l ∷ ls) ds = flat_map (beneath n) (inside l.is_object l.left ds) ++ left_in (suc n) ls (outside l.is_object l.left ds)
+
+-- where the row begins with a member that is counted no more
+abbrev pub left_with : ℕ → List Level → Elements → List Document
+left_with n ls no_elements = []
+left_with n ls (element d ds) = beneath n d ++ left_in n ls ds
+
+module _ {DEPTH : ℕ} where
+  abbrev pub left_open : Levels DEPTH → Elements → List Document
+  left_open l ds = left_in l.innermost (drop l.innermost l.all) ds
+
+  abbrev pub left_begun : Levels DEPTH → Elements → List Document
+  left_begun l ds = left_with l.innermost (drop l.innermost l.all) ds
+
+  abbrev pub descendants_left : Descendants DEPTH → List Document
+  descendants_left it = left_open it.levels (in_row it.row)

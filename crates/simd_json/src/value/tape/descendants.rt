@@ -1,0 +1,228 @@
+//! The iterator over a value and the values beneath it.
+ghost use Rattle.std.specs.Prelude.{◌≡◌, ◌≤◌, map};
+ghost use Rattle.simd_json.specs.Documents.{AreElements};
+ghost use Rattle.simd_json.specs.Printable.{ArePrintable};
+ghost use Rattle.simd_json_parts.specs.Nodes.{item_of};
+
+use crate::value::tape::Value;
+use simd_json_parts::node::Node;
+use std::iter::FusedIterator;
+
+// Documents in a row, of which the key of a pair is one.
+#[derive(Clone, Copy, Debug)]
+struct Row<'tape, 'input> {
+    nodes: &'tape [Node<'input>],
+    ghost listed: { AreElements (map item_of nodes.now) },
+    ghost printable: { ArePrintable nodes.now },
+}
+
+impl<'tape, 'input> Row<'tape, 'input> {
+    ghost use Rattle.std.specs.Prelude.{◌≡◌, ◌≢◌, ◌<◌, ◌^◌, length, MatchOption};
+    ghost use Rattle.simd_json.specs.Descending.{in_row, entered};
+    ghost use Rattle.simd_json.specs.Documents.{others};
+    ghost use Rattle.simd_json.specs.Viewed.{doc};
+    ghost use Rattle.simd_json_parts.specs.Document.{no_elements, element};
+    ghost use Rattle.simd_json_parts.specs.Listing.{listing};
+
+    // The document of a value alone.
+    fn new(value: Value<'tape, 'input>) -> Row<'tape, 'input>
+        ensures row { in_row result ≡ element (doc value.entry) no_elements }
+        ensures few { length (listing (doc value.entry)) < 2 ^ 64 }
+    {
+        Row {
+            nodes: value.nodes(),
+        }
+    }
+
+    // The first document, and the row of the others.
+    fn split_first(self) -> Option<(Value<'tape, 'input>, Row<'tape, 'input>)>
+        ensures { MatchOption result (in_row self.entry ≡ no_elements)
+            (λ r. in_row self.entry ≡ element (doc r.0) (in_row r.1)) }
+    {
+        if self.nodes.is_empty() {
+            return None;
+        }
+        let (value, nodes) = Value::split(self.nodes);
+        Some((value, Row { nodes }))
+    }
+
+    // The others than the first document.
+    fn without_first(self) -> Row<'tape, 'input>
+        ensures { in_row result ≡ others 1 (in_row self.entry) }
+    {
+        match self.split_first() {
+            Some((_, others)) => others,
+            None => self,
+        }
+    }
+
+    // The documents in the first one, then the others.
+    fn enter(self) -> Row<'tape, 'input>
+        requires { in_row self ≢ no_elements }
+        ensures { in_row result ≡ entered (in_row self.entry) }
+    {
+        let (_, nodes) = self.nodes.split_at(1);
+        Row { nodes }
+    }
+}
+
+// A container that is open, and how many of its members are left.
+#[derive(Clone, Copy, Debug)]
+struct Level {
+    is_object: bool,
+    left: usize,
+}
+
+impl Level {
+    ghost use Rattle.std.specs.Prelude.{◌≡◌, ◌≤◌, ◌<◌, ◌∷◌, ◌++◌, ℕ, List, [], suc, drop, flat_map, length, IfSome, MatchOption, slice_get};
+    ghost use Rattle.simd_json.specs.Beneath.{beneath, children};
+    ghost use Rattle.simd_json.specs.Descending.{left_in, entered};
+    ghost use Rattle.simd_json.specs.Viewed.{doc};
+    ghost use Rattle.simd_json.specs.declared.value.tape.descendants.Level.{Level};
+    ghost use Rattle.simd_json_parts.specs.Document.{Elements, element};
+
+    // The level of a container, or `None` of a scalar.
+    fn of(value: &Value<'_, '_>) -> Option<Level>
+        ensures { MatchOption result (children (doc value.now) ≡ [])
+            (λ l. (n : ℕ) (ls : List Level) (ds : Elements)
+            → left_in n (l ∷ ls) (entered (element (doc value.now) ds))
+            ≡ flat_map (beneath n) (children (doc value.now)) ++ left_in (suc n) ls ds) }
+    {
+        if let Some(array) = value.as_array() {
+            return Some(Level {
+                is_object: false,
+                left: array.len(),
+            });
+        }
+        let object = value.as_object()?;
+        Some(Level {
+            is_object: true,
+            left: object.len(),
+        })
+    }
+
+    // The index of the first container, from an index on, that has a member left.
+    fn first_unfinished(levels: &[Level], from: usize) -> usize
+        requires { from ≤ length levels.now }
+        ensures within { result ≤ length levels.now }
+        ensures some { IfSome (slice_get levels.now result) (λ l. 0 < l.left) }
+        ensures same { (ds : Elements)
+            → left_in from (drop from levels.now) ds ≡ left_in result (drop result levels.now) ds }
+    {
+        let mut index = from;
+        while index < levels.len() && levels[index].left == 0 {
+            index += 1;
+        }
+        index
+    }
+}
+
+// From `innermost` on, the containers that are open, each in the next one.
+#[derive(Debug, Drop)]
+struct Levels<const DEPTH: usize> {
+    all: [Level; DEPTH],
+    innermost: usize,
+    ghost within: { innermost ≤ DEPTH },
+}
+
+impl<const DEPTH: usize> Levels<DEPTH> {
+    ghost use Rattle.std.specs.Prelude.{◌≡◌, ◌∷◌, ◌++◌, cond};
+    ghost use Rattle.simd_json.specs.Beneath.{beneath};
+    ghost use Rattle.simd_json.specs.Descending.{left_open, left_begun, entered};
+    ghost use Rattle.simd_json.specs.Documents.{others};
+    ghost use Rattle.simd_json.specs.Viewed.{doc};
+    ghost use Rattle.simd_json_parts.specs.Document.{Elements, element};
+
+    // Takes the next member off the innermost container that has one left, and leaves those within it that have
+    // none. Returns whether the member begins with a key.
+    fn begin_member(&mut self) -> bool
+        ensures { (ds : Elements)
+            → left_open self.old ds ≡ left_begun self.new (cond result (others 1 ds) ds) }
+    {
+        self.innermost = Level::first_unfinished(&self.all, self.innermost);
+        if self.innermost == DEPTH {
+            return false;
+        }
+        self.all[self.innermost].left -= 1;
+        self.all[self.innermost].is_object
+    }
+
+    // Opens the value where it is a container and a level is left for it. Returns whether it did.
+    fn enter(&mut self, value: &Value<'_, '_>) -> bool
+        ensures { (ds : Elements)
+            → beneath self.old.innermost (doc value.now) ++ left_open self.old ds
+            ≡ doc value.now ∷ left_open self.new (cond result (entered (element (doc value.now) ds)) ds) }
+    {
+        if self.innermost == 0 {
+            return false;
+        }
+        let Some(level) = Level::of(value) else {
+            return false;
+        };
+        self.innermost -= 1;
+        self.all[self.innermost] = level;
+        true
+    }
+}
+
+/// An iterator over a value and the values beneath it.
+#[derive(Debug, Drop)]
+pub struct Descendants<'tape, 'input, const DEPTH: usize> {
+    row: Row<'tape, 'input>,
+    levels: Levels<DEPTH>,
+}
+
+impl<'tape, 'input, const DEPTH: usize> Descendants<'tape, 'input, DEPTH> {
+    ghost use Rattle.std.specs.Prelude.{◌≡◌, ◌<◌, ◌^◌, length};
+    ghost use Rattle.simd_json.specs.Beneath.{beneath};
+    ghost use Rattle.simd_json.specs.Descending.{descendants_left};
+    ghost use Rattle.simd_json.specs.Viewed.{doc};
+
+    pub(super) fn new(value: Value<'tape, 'input>) -> Descendants<'tape, 'input, DEPTH>
+        ensures values { descendants_left result ≡ beneath DEPTH (doc value.entry) }
+        ensures few { length (descendants_left result) < 2 ^ 64 }
+    {
+        let closed = Level {
+            is_object: false,
+            left: 0,
+        };
+        Descendants {
+            row: Row::new(value),
+            levels: Levels {
+                all: [closed; DEPTH],
+                innermost: DEPTH,
+            },
+        }
+    }
+}
+
+impl<'tape, 'input, const DEPTH: usize> Iterator for Descendants<'tape, 'input, DEPTH> {
+    type Item = Value<'tape, 'input>;
+
+    ghost use Rattle.std.specs.Iterator.{YieldsFirstBy, item_count};
+    ghost use Rattle.simd_json.specs.Descending.{descendants_left};
+    ghost use Rattle.simd_json.specs.Viewed.{doc};
+
+    ghost next_gives = { YieldsFirstBy doc descendants_left };
+
+    ghost remaining = { item_count descendants_left };
+
+    fn next(&mut self) -> Option<Value<'tape, 'input>> {
+        self.row = if self.levels.begin_member() {
+            self.row.without_first()
+        } else {
+            self.row
+        };
+        let Some((value, others)) = self.row.split_first() else {
+            return None;
+        };
+        self.row = if self.levels.enter(&value) {
+            self.row.enter()
+        } else {
+            others
+        };
+        Some(value)
+    }
+}
+
+impl<'tape, 'input, const DEPTH: usize> FusedIterator for Descendants<'tape, 'input, DEPTH> {}
