@@ -229,26 +229,46 @@ static void add_refuse(std::vector<Contender> &all, const std::string &level, co
                    })});
 }
 
-// The library for C makes its buffers at each call. There is room for as many nodes and bytes of text as the text has bytes.
+// What a call of the library for C writes to.
+struct Lent {
+    std::vector<simd_json_node> nodes;
+    std::vector<uint8_t> text;
+    simd_json_room room;
+    simd_json_place place;
+
+    // As many as are counted, where the call has read the text.
+    template <class Tape> int64_t read(size_t len, Tape tape) {
+        if (text.size() < len) nodes.resize(len), text.resize(len);
+        return tape(nodes.data(), len, text.data(), len, &room, &place) == SIMD_JSON_OK ? int64_t(room.nodes) : -1;
+    }
+};
+
+// The library for C, which makes its buffers at each call, and its parser, which keeps them. There is room for as many nodes and
+// bytes of text as the text has bytes.
 static void add_c(std::vector<Contender> &all, const std::string &level, const std::string &path) {
-    auto *check = symbol<decltype(simd_json_check)>(path, "simd_json_check");
-    all.push_back({Contender::Parse, "simd_json C check, " + level, each([check](uint8_t *text, size_t len) -> int64_t {
-                       simd_json_place place;
-                       return check(text, len, 1024, &place) == SIMD_JSON_OK ? 0 : -1;
-                   })});
-    struct Lent {
-        std::vector<simd_json_node> nodes;
-        std::vector<uint8_t> text;
-    };
     auto lent = std::make_shared<Lent>();
+    auto add = [&](const char *name, auto one) { all.push_back({Contender::Parse, "simd_json C " + (name + (", " + level)), each(one)}); };
+
+    auto *check = symbol<decltype(simd_json_check)>(path, "simd_json_check");
+    add("check", [check, lent](uint8_t *text, size_t len) -> int64_t {
+        return check(text, len, 1024, &lent->place) == SIMD_JSON_OK ? 0 : -1;
+    });
     auto *tape = symbol<decltype(simd_json_tape)>(path, "simd_json_tape");
-    all.push_back({Contender::Parse, "simd_json C tape, " + level, each([tape, lent](uint8_t *text, size_t len) -> int64_t {
-                       if (lent->text.size() < len) lent->nodes.resize(len), lent->text.resize(len);
-                       simd_json_room room;
-                       simd_json_place place;
-                       int status = tape(text, len, 1024, lent->nodes.data(), len, lent->text.data(), len, &room, &place);
-                       return status == SIMD_JSON_OK ? int64_t(room.nodes) : -1;
-                   })});
+    add("tape", [tape, lent](uint8_t *text, size_t len) {
+        return lent->read(len, [&](auto... memory) { return tape(text, len, 1024, memory...); });
+    });
+
+    auto *close = symbol<decltype(simd_json_close)>(path, "simd_json_close");
+    std::shared_ptr<simd_json_parser> parser(new simd_json_parser{}, [close](simd_json_parser *open) { close(open), delete open; });
+    if (symbol<decltype(simd_json_open)>(path, "simd_json_open")(parser.get(), 1024)) stop("the parser for C has no memory");
+    auto *kept_check = symbol<decltype(simd_json_parser_check)>(path, "simd_json_parser_check");
+    add("kept check", [kept_check, parser, lent](uint8_t *text, size_t len) -> int64_t {
+        return kept_check(parser.get(), text, len, &lent->place) == SIMD_JSON_OK ? 0 : -1;
+    });
+    auto *kept_tape = symbol<decltype(simd_json_parser_tape)>(path, "simd_json_parser_tape");
+    add("kept tape", [kept_tape, parser, lent](uint8_t *text, size_t len) {
+        return lent->read(len, [&](auto... memory) { return kept_tape(parser.get(), text, len, memory...); });
+    });
 }
 
 static void add_scan(std::vector<Contender> &all, const std::string &level, const std::string &path) {

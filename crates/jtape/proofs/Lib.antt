@@ -1,4 +1,4 @@
-mod DepthWords
+mod NumberWords
 pub mod Given
 mod Modes
 mod Outputs

@@ -32,4 +32,5 @@ mod words;
 
 pub use port::Port;
 pub use runs::{Answer, RunFault, run, status};
-pub use words::{Mode, settings};
+pub use stream::is_blank;
+pub use words::{Mode, number_named, settings};

@@ -144,8 +144,8 @@ impl<'de, A: Allocator> Stream<'de, A> {
     }
 }
 
-// Whether it is empty, or whitespace alone.
-fn is_blank(piece: &[u8]) -> bool
+/// Whether the piece is empty, or whitespace alone.
+pub fn is_blank(piece: &[u8]) -> bool
     ensures { result ≡ is_blank piece.now }
 {
     piece

@@ -2,7 +2,7 @@
 ghost use Rattle.std.specs.Prelude.{◌≡◌, map, string_bytes};
 ghost use Rattle.std.specs.Char.{is_ascii_digit};
 ghost use Rattle.std.specs.List.{list_all};
-ghost use Rattle.jtape.specs.Settings.{mode_of, depth_of, settings_of};
+ghost use Rattle.jtape.specs.Settings.{mode_of, number_of, settings_of};
 
 use simd_json::DEFAULT_MAX_DEPTH;
 
@@ -30,7 +30,7 @@ pub fn settings(words: &[String]) -> Option<(Mode, usize)>
 {
     match words {
         [mode] => Some((mode_named(mode.as_str())?, DEFAULT_MAX_DEPTH)),
-        [mode, depth] => Some((mode_named(mode.as_str())?, depth_named(depth.as_str())?)),
+        [mode, depth] => Some((mode_named(mode.as_str())?, number_named(depth.as_str())?)),
         _ => None,
     }
 }
@@ -48,9 +48,10 @@ fn mode_named(word: &str) -> Option<Mode>
     }
 }
 
-// The number of a word of digits, and of nothing else, where it fits.
-fn depth_named(word: &str) -> Option<usize>
-    ensures { result ≡ depth_of word.now }
+/// The number of a word that has digits alone, of which there is one at least. `None` for any other word, and
+/// where the number is 2^64 or more.
+pub fn number_named(word: &str) -> Option<usize>
+    ensures { result ≡ number_of word.now }
 {
     if has_digits_alone(word) {
         word.parse().ok()
@@ -69,6 +70,12 @@ fn has_digits_alone(word: &str) -> bool
 mod tests {
     use super::*;
     use std::test::Fail;
+
+    #[test]
+    fn numbers_have_digits_alone(rt: HostRuntime) {
+        assert_eq!(rt; number_named("042"), Some(42));
+        assert_eq!(rt; number_named("4 "), None);
+    }
 
     #[test]
     fn words_are_understood(rt: HostRuntime) -> std::result::Result<(), Fail> {

@@ -1,60 +1,129 @@
 -- Lines that end in a block.
-use Rattle.std.proofs.Common.{◌≡◌, ◌∙◌, refl, ap, sym, arith, ℕ, zero, suc, ◌<◌, ◌≤◌, List, [], ◌∷◌, ◌++◌, append_assoc, append-nil, take, drop, length, Bool, true, false, not, ◌&&◌, ◌==◌, Some, None}
-use Rattle.std.specs.Prelude.{slice_index}
-use Rattle.std.proofs.Math.Seq.{take-length}
+use Rattle.std.proofs.Common.{◌≡◌, ◌∙◌, refl, ap, sym, arith, ℕ, zero, suc, ◌+◌, ◌-◌, ◌<◌, ◌≤◌, List, [], ◌∷◌, ◌++◌, append_assoc, append-nil, take, drop, length, Bool, true, false, not, ◌&&◌, ◌==◌, cond, min, nat_lt, Some, None, Result, Ok, Err}
+use Rattle.std.specs.Prelude.{slice_index, is_ok, OnOk}
+use Rattle.std.proofs.Math.Seq.{take-append-add, take-length}
+use Rattle.std.proofs.lemmas.Bool.{ltb-false, ltb-true}
+use Rattle.std.proofs.lemmas.List.{drop-drop, length-take, take-append-le}
 use Rattle.memchr.specs.Find.{IsFirstByte, is_byte}
-use Rattle.jtape.proofs.Pieces.{is-equal, none-before, pieces-cut, pieces-last}
+use Rattle.jtape.proofs.Pieces.{has_none, is-equal, none-before, pieces-cut, pieces-last}
 use Rattle.jtape.specs.Pieces.{pieces}
 use Rattle.simd_json_parts.specs.Bytes.{line_feed}
 use Rattle.log_report.specs.Report.{Report, with_line, with_lines}
-use Rattle.log_report.specs.Runs.{GoesOn, has_no_feed}
+use Rattle.log_report.specs.Runs.{State, after}
+use Rattle.log_report.proofs.Shown.{long-line}
 
-pub goes-line : (key : List ℕ) (longest : ℕ) (r : Report) (hay front rest : List ℕ) → hay ≡ front ++ line_feed ∷ rest → has_no_feed front ≡ true
-    → GoesOn key longest r hay (with_line key longest r front) rest
-goes-line key longest r hay front rest is none =
-    λ more. ap (λ b. with_lines key longest r (pieces (b ++ more))) is
-    ∙ ap (λ b. with_lines key longest r (pieces b)) (append_assoc front (line_feed ∷ rest) more)
-    ∙ ap (with_lines key longest r) (pieces-cut front (rest ++ more) none)
+pub after-append : (key : List ℕ) (longest : ℕ) (s : State) (a b : List ℕ) → after key longest s (a ++ b) ≡ after key longest (after key longest s a) b
+after-append key longest s [] b = refl
+after-append key longest s (x ∷ a) b =
+    after-append key longest (cond (x == line_feed) (with_line key longest s.0 s.1, []) (s.0, s.1 ++ x ∷ [])) a b
 
-pub goes-then : (key : List ℕ) (longest : ℕ) (r s t : Report) (a b c : List ℕ) → GoesOn key longest r a s b → GoesOn key longest s b t c
-    → GoesOn key longest r a t c
-goes-then key longest r s t a b c f g = λ more. f more ∙ g more
+none-step : (key : List ℕ) (longest : ℕ) (r : Report) (p : List ℕ) (x : ℕ) (b : List ℕ) (feed rest : Bool) → (not feed && rest) ≡ true
+    → (rest ≡ true → after key longest (r, p ++ x ∷ []) b ≡ (r, (p ++ x ∷ []) ++ b))
+    → after key longest (cond feed (with_line key longest r p, []) (r, p ++ x ∷ [])) b ≡ (r, p ++ x ∷ b)
+none-step key longest r p x b true rest none more = cc
+none-step key longest r p x b false rest none more = more none ∙ ap (λ u. (r, u)) (append_assoc p (x ∷ []) b)
 
--- with more bytes behind both
-pub goes-more : (key : List ℕ) (longest : ℕ) (r s : Report) (a b c : List ℕ) → GoesOn key longest r a s b → GoesOn key longest r (a ++ c) s (b ++ c)
-goes-more key longest r s a b c f =
-    λ more. ap (λ u. with_lines key longest r (pieces u)) (append_assoc a c more) ∙ f (c ++ more)
-    ∙ sym (ap (λ u. with_lines key longest s (pieces u)) (append_assoc b c more))
-
--- at the end of the input
-pub goes-end : (key : List ℕ) (longest : ℕ) (r s : Report) (a b : List ℕ) → has_no_feed b ≡ true → GoesOn key longest r a s b
-    → with_lines key longest r (pieces a) ≡ with_line key longest s b
-goes-end key longest r s a b none f =
-    ap (λ u. with_lines key longest r (pieces u)) (sym (append-nil a)) ∙ f []
-    ∙ ap (λ u. with_lines key longest s (pieces u)) (append-nil b) ∙ ap (with_lines key longest s) (pieces-last b none)
-
--- ---- what a search for a line feed says
+-- no line ends in these bytes
+pub after-none : (key : List ℕ) (longest : ℕ) (r : Report) (p b : List ℕ) → has_none b ≡ true → after key longest (r, p) b ≡ (r, p ++ b)
+after-none key longest r p [] _ = ap (λ u. (r, u)) (sym (append-nil p))
+after-none key longest r p (x ∷ b) none =
+    none-step key longest r p x b (x == line_feed) (has_none b) none (λ rest. after-none key longest r (p ++ x ∷ []) b rest)
 
 split-at : (hay : List ℕ) (k : ℕ) → k < length hay → hay ≡ take k hay ++ slice_index hay k ∷ drop (suc k) hay
 split-at [] k l = absurd (omega (arith, l))
 split-at (x ∷ hay) zero l = refl
 split-at (x ∷ hay) (suc k) l = ap (λ ys. x ∷ ys) (split-at hay k (omega (arith, l)))
 
-pub feed-front : (hay : List ℕ) (k : ℕ) → IsFirstByte (is_byte line_feed) hay (Some k) → has_no_feed (take k hay) ≡ true
-feed-front hay k found = none-before hay k found.0.before
+-- the first line ends
+pub after-line : (key : List ℕ) (longest : ℕ) (r : Report) (p hay : List ℕ) (k : ℕ) → IsFirstByte (is_byte line_feed) hay (Some k)
+    → after key longest (r, p) hay ≡ after key longest (with_line key longest r (p ++ take k hay), []) (drop 1 (drop k hay))
+after-line key longest r p hay k found =
+    let front = take k hay in
+    let cut : hay ≡ front ++ line_feed ∷ drop (suc k) hay =
+    split-at hay k found.0.high ∙ ap (λ x. front ++ x ∷ drop (suc k) hay) (is-equal (slice_index hay k) found.1) in
+    let next : suc k ≡ k + 1 = omega arith in
+    let place : drop (suc k) hay ≡ drop 1 (drop k hay) = ap (λ n. drop n hay) next ∙ sym (drop-drop 1 k hay) in
+    ap (after key longest (r, p)) cut
+    ∙ after-append key longest (r, p) front (line_feed ∷ drop (suc k) hay)
+    ∙ ap (λ s. after key longest s (line_feed ∷ drop (suc k) hay)) (after-none key longest r p front (none-before hay k found.0.before))
+    ∙ ap (after key longest (with_line key longest r (p ++ front), [])) place
 
-pub feed-cut : (hay : List ℕ) (k : ℕ) → IsFirstByte (is_byte line_feed) hay (Some k) → hay ≡ take k hay ++ line_feed ∷ drop (suc k) hay
-feed-cut hay k found =
-    split-at hay k found.0.high ∙ ap (λ x. take k hay ++ x ∷ drop (suc k) hay) (is-equal (slice_index hay k) found.1)
+pub after-last : (key : List ℕ) (longest : ℕ) (r : Report) (p hay : List ℕ) → IsFirstByte (is_byte line_feed) hay None
+    → after key longest (r, p) hay ≡ (r, p ++ hay)
+after-last key longest r p hay none =
+    after-none key longest r p hay (ap has_none (sym (take-length hay)) ∙ none-before hay (length hay) none)
 
-pub feed-none : (hay : List ℕ) → IsFirstByte (is_byte line_feed) hay None → has_no_feed hay ≡ true
-feed-none hay none = ap has_no_feed (sym (take-length hay)) ∙ none-before hay (length hay) none
+-- ---- the report of all lines
 
 and-append : (p q r : Bool) → (p && q) ≡ true → (q ≡ true → r ≡ true) → (p && r) ≡ true
 and-append true q r is more = more is
 and-append false q r is more = is
 
-pub no_feed-append : (a b : List ℕ) → has_no_feed a ≡ true → has_no_feed b ≡ true → has_no_feed (a ++ b) ≡ true
-no_feed-append [] b _ is = is
-no_feed-append (x ∷ a) b none is =
-    and-append (not (x == line_feed)) (has_no_feed a) (has_no_feed (a ++ b)) none (λ rest. no_feed-append a b rest is)
+none-more : (p : List ℕ) (x : ℕ) → has_none p ≡ true → (x == line_feed) ≡ false → has_none (p ++ x ∷ []) ≡ true
+none-more [] x _ is = ap (λ t. not t && true) is
+none-more (y ∷ p) x none is =
+    and-append (not (y == line_feed)) (has_none p) (has_none (p ++ x ∷ [])) none (λ rest. none-more p x rest is)
+
+abbrev ended : List ℕ → ℕ → State → Report
+ended key longest s = with_line key longest s.0 s.1
+
+ends-step : (key : List ℕ) (longest : ℕ) (r : Report) (p : List ℕ) (x : ℕ) (b : List ℕ) (feed : Bool) → has_none p ≡ true → (x == line_feed) ≡ feed
+    → ((r : Report) (p : List ℕ) → has_none p ≡ true → with_lines key longest r (pieces (p ++ b)) ≡ ended key longest (after key longest (r, p) b))
+    → with_lines key longest r (pieces (p ++ x ∷ b)) ≡ ended key longest (after key longest (cond feed (with_line key longest r p, []) (r, p ++ x ∷ [])) b)
+ends-step key longest r p x b true none is more =
+    ap (λ y. with_lines key longest r (pieces (p ++ y ∷ b))) (is-equal x is)
+    ∙ ap (with_lines key longest r) (pieces-cut p b none) ∙ more (with_line key longest r p) [] refl
+ends-step key longest r p x b false none is more =
+    ap (λ u. with_lines key longest r (pieces u)) (sym (append_assoc p (x ∷ []) b)) ∙ more r (p ++ x ∷ []) (none-more p x none is)
+
+pub ends : (key : List ℕ) (longest : ℕ) (b : List ℕ) (r : Report) (p : List ℕ) → has_none p ≡ true
+    → with_lines key longest r (pieces (p ++ b)) ≡ ended key longest (after key longest (r, p) b)
+ends key longest [] r p none =
+    ap (λ u. with_lines key longest r (pieces u)) (append-nil p) ∙ ap (with_lines key longest r) (pieces-last p none)
+ends key longest (x ∷ b) r p none = ends-step key longest r p x b (x == line_feed) none refl (ends key longest b)
+
+-- ---- the line that is kept
+
+pub take-all : (n : ℕ) (b : List ℕ) → length b ≤ n → take n b ≡ b
+take-all zero [] _ = refl
+take-all (suc n) [] _ = refl
+take-all zero (x ∷ b) le = absurd (omega (arith, le))
+take-all (suc n) (x ∷ b) le = ap (λ ys. x ∷ ys) (take-all n b (omega (arith, le)))
+
+least-step : (n k : ℕ) (b : List ℕ) (t : Bool) → nat_lt k (length b) ≡ t → n ≡ min (length b) k → take n b ≡ take k b
+least-step n k b true some is = ap (λ m. take m b) (omega (arith, ltb-true k (length b) some, is))
+least-step n k b false some is =
+    let few : length b ≤ k = ltb-false k (length b) some in
+    take-all n b (omega (arith, few, is)) ∙ sym (take-all k b few)
+
+pub kept-long : (longest : ℕ) (line begun bytes : List ℕ) → line ≡ take (longest + 1) begun → longest < length line → line ≡ take (longest + 1) (begun ++ bytes)
+kept-long longest line begun bytes is long =
+    is ∙ sym (take-append-le (longest + 1) begun bytes (omega (arith, long, ap length is, length-take (longest + 1) begun)))
+
+pub kept-short : (longest n : ℕ) (line begun bytes : List ℕ) → line ≡ take (longest + 1) begun → length line ≤ longest
+    → n ≡ min (length bytes) (longest - length line + 1) → line ++ take n bytes ≡ take (longest + 1) (begun ++ bytes)
+kept-short longest n line begun bytes is short same =
+    let few : length begun ≤ longest + 1 = omega (arith, short, ap length is, length-take (longest + 1) begun) in
+    let whole : line ≡ begun = is ∙ take-all (longest + 1) begun few in
+    let room : length line + (longest - length line + 1) ≡ longest + 1 = omega (arith, short) in
+    ap (λ u. line ++ u) (least-step n _ bytes (nat_lt (longest - length line + 1) (length bytes)) refl same) ∙ sym (take-append-add line bytes (longest - length line + 1))
+    ∙ ap (λ k. take k (line ++ bytes)) room ∙ ap (λ u. take (longest + 1) (u ++ bytes)) whole
+
+-- a line that is cut after its longest and one byte more is as long as too long a line
+cut-step : (key : List ℕ) (longest : ℕ) (r : Report) (line : List ℕ) (t : Bool) → nat_lt longest (length line) ≡ t
+    → with_line key longest r (take (longest + 1) line) ≡ with_line key longest r line
+cut-step key longest r line true is =
+    let long = ltb-true longest (length line) is in
+    sym (long-line key longest r (take (longest + 1) line) (omega (arith, long, length-take (longest + 1) line))) ∙ long-line key longest r line long
+cut-step key longest r line false is =
+    ap (with_line key longest r) (take-all (longest + 1) line (omega (arith, ltb-false longest (length line) is)))
+
+pub cut-line : (key : List ℕ) (longest : ℕ) (r : Report) (line : List ℕ) → with_line key longest r (take (longest + 1) line) ≡ with_line key longest r line
+cut-line key longest r line = cut-step key longest r line (nat_lt longest (length line)) refl
+
+pub none-kept : (n : ℕ) → [] ≡ take {A = ℕ} n []
+none-kept n = sym (take-all n [] (omega arith))
+
+pub on_ok-if : {T E X : Type 0} (r : Result T E) (x y z : X) → x ≡ cond (is_ok r) y z → OnOk r (x ≡ y)
+on_ok-if (Ok v) x y z is = is
+on_ok-if (Err e) x y z is = tt

@@ -1,9 +1,6 @@
-mod Blocks
 mod Feeds
 mod Labels
-mod LengthWords
 mod Orders
-mod Pendings
 mod Places
 mod Shown
 mod Writes

@@ -5,7 +5,7 @@ use Rattle.std.specs.List.{position, position_from}
 use Rattle.std.proofs.lemmas.Iterator.Adapters.{position_from-zero}
 use Rattle.std.proofs.lemmas.Bool.{lt-ltb, le-ltb}
 use Rattle.log_report.specs.Table.{Count, added, counted, has_text, most_texts, one_more, others}
-use Rattle.log_report.specs.Tables.{counts_of, shown}
+use Rattle.log_report.specs.Runs.{counts_of, shown}
 use Rattle.log_report.specs.declared.table.Entry.{Entry}
 
 abbrev pub has_items : {A : Type 0} → List ℕ → Entry A → Bool
@@ -93,15 +93,6 @@ counted-new t cs lacks few =
 pub counted-other : (t : List ℕ) (cs : List Count) → has_text t cs ≡ false → most_texts ≤ length cs → added others cs ≡ counted t cs
 counted-other t cs lacks many =
     sym (if-has t cs false lacks ∙ ap (λ x. cond x (cs ++ (t, 1) ∷ []) (added others cs)) (le-ltb (length cs) most_texts many))
-
-none-step : (t : List ℕ) (c : Count) (cs : List Count) (b : Bool) → (b || has_text t cs) ≡ false → (has_text t cs ≡ false → added t cs ≡ cs)
-    → cond b ((c.0, one_more c.1) ∷ cs) (c ∷ added t cs) ≡ c ∷ cs
-none-step t c cs true lacks _ = cc
-none-step t c cs false lacks rest = ap (λ xs. c ∷ xs) (rest lacks)
-
-pub added-none : (t : List ℕ) (cs : List Count) → has_text t cs ≡ false → added t cs ≡ cs
-added-none t [] _ = refl
-added-none t (c ∷ cs) lacks = none-step t c cs (bytes_eq c.0 t) lacks (added-none t cs)
 
 pub on_ok-is : {T E X : Type 0} (r : Result T E) (x y z : X) → y ≡ z → OnOk r (x ≡ y) → OnOk r (x ≡ z)
 on_ok-is (Ok v) x y z is h = h ∙ is

@@ -1,37 +1,65 @@
 -- What one line more comes to.
-use Rattle.std.proofs.Common.{◌≡◌, ◌∙◌, refl, ap, sym, ℕ, ◌<◌, ◌≤◌, List, length, Bool, true, false, cond, nat_lt, Option, Some, None, Result, Ok, Err}
-use Rattle.std.specs.Result.{result_err}
+use Rattle.std.proofs.Common.{◌≡◌, ◌∙◌, ap, sym, subst, ℕ, ◌<◌, ◌≤◌, List, length, Bool, cond, Option, Some, None, Result, Ok, Err}
+use Rattle.std.specs.Io.KnownBytes.{Appends}
 use Rattle.std.proofs.lemmas.Bool.{lt-ltb, le-ltb}
 use Rattle.jtape.specs.Pieces.{is_blank}
 use Rattle.simd_json.specs.MaxDepth.{default_max_depth}
 use Rattle.simd_json_parts.specs.Answer.{answer}
 use Rattle.simd_json_parts.specs.Document.{Document}
 use Rattle.simd_json_parts.specs.declared.error.Error.{Error}
-use Rattle.log_report.specs.Labels.{label}
-use Rattle.log_report.specs.Report.{Report, with_answer, with_blank, with_line, with_refusal, with_text}
-use Rattle.log_report.specs.declared.refusal.Refusal.TheVariants.{Json, Long}
+use Rattle.simd_json_print.proofs.Texts.{appends-then}
+use Rattle.log_report.specs.Report.{IsLabelled, Report, next, refusal_line, with_answer, with_line, with_refusal, with_text}
+use Rattle.log_report.specs.Runs.{IsRefused, Shows, counts_of}
+use Rattle.log_report.specs.Table.{counted, one_more, refused}
+use Rattle.log_report.specs.declared.counts.Counts.{Counts}
 
-short-line : (key : List ℕ) (longest : ℕ) (r : Report) (line : List ℕ) (b : Bool) → length line ≤ longest → is_blank line ≡ b
-    → with_line key longest r line ≡ cond b (with_blank r) (with_answer key r (answer line default_max_depth))
-short-line key longest r line b fits is =
-    ap (λ x. cond x (with_refusal r (Long longest)) (cond (is_blank line) (with_blank r) (with_answer key r (answer line default_max_depth))))
-    (le-ltb longest (length line) fits)
-    ∙ ap (λ x. cond x (with_blank r) (with_answer key r (answer line default_max_depth))) is
+abbrev rest_of : List ℕ → ℕ → Report → List ℕ → Bool → Report
+rest_of key longest r line blank = cond blank (next r) (with_answer key longest (next r) (answer line default_max_depth))
 
-answer-taken : (key : List ℕ) (r : Report) (a : Result Document Error) → None ≡ result_err a → with_answer key r a ≡ with_text r (label key a)
-answer-taken key r (Ok d) is = refl
-answer-taken key r (Err e) is = cc
+pub long-line : (key : List ℕ) (longest : ℕ) (r : Report) (line : List ℕ) → longest < length line
+    → with_refusal longest (next r) None ≡ with_line key longest r line
+long-line key longest r line more =
+    sym (ap (λ t. cond t (with_refusal longest (next r) None) (rest_of key longest r line (is_blank line))) (lt-ltb longest (length line) more))
 
-answer-refused : (key : List ℕ) (r : Report) (a : Result Document Error) (e : Error) → Some e ≡ result_err a → with_answer key r a ≡ with_refusal r (Json e)
-answer-refused key r (Ok d) e is = cc
-answer-refused key r (Err x) e is = cc
+pub short-line : (key : List ℕ) (longest : ℕ) (r : Report) (line : List ℕ) (blank : Bool) → length line ≤ longest → is_blank line ≡ blank
+    → rest_of key longest r line blank ≡ with_line key longest r line
+short-line key longest r line blank fits is =
+    sym (ap (λ t. cond t (with_refusal longest (next r) None) (rest_of key longest r line (is_blank line))) (le-ltb longest (length line) fits)
+    ∙ ap (rest_of key longest r line) is)
 
-pub with-taken : (key : List ℕ) (longest : ℕ) (r : Report) (line : List ℕ) → length line ≤ longest → is_blank line ≡ false
-    → None ≡ result_err (answer line default_max_depth) → with_text r (label key (answer line default_max_depth)) ≡ with_line key longest r line
-with-taken key longest r line fits some is =
-    sym (short-line key longest r line false fits some ∙ answer-taken key r (answer line default_max_depth) is)
+pub answer-taken : (key : List ℕ) (longest : ℕ) (r : Report) (a : Result Document Error) (label : List ℕ) → IsLabelled key a None label
+    → with_text r label ≡ with_answer key longest r a
+answer-taken key longest r (Ok d) label is = ap (with_text r) is
+answer-taken key longest r (Err e) label is = absurd is
 
-pub with-refused : (key : List ℕ) (longest : ℕ) (r : Report) (line : List ℕ) (e : Error) → length line ≤ longest → is_blank line ≡ false
-    → Some e ≡ result_err (answer line default_max_depth) → with_refusal r (Json e) ≡ with_line key longest r line
-with-refused key longest r line e fits some is =
-    sym (short-line key longest r line false fits some ∙ answer-refused key r (answer line default_max_depth) e is)
+pub answer-refused : (key : List ℕ) (longest : ℕ) (r : Report) (a : Result Document Error) (e : Error) (label : List ℕ) → IsLabelled key a (Some e) label
+    → with_refusal longest r (Some e) ≡ with_answer key longest r a
+answer-refused key longest r (Ok d) e label is = absurd is
+answer-refused key longest r (Err x) e label is = ap (λ y. with_refusal longest r (Some y)) is
+
+pub shows-next : {A : Type 0} (old new : Counts A) (held holds : Option (List ℕ)) (key : List ℕ) (longest : ℕ) (r : Report)
+    → new.key ≡ old.key → new.parser.longest ≡ old.parser.longest → new.number ≡ one_more old.number → new.all_taken ≡ old.all_taken → new.table ≡ old.table
+    → Shows old held holds key longest r → Shows new held holds key longest (next r)
+shows-next old new held holds key longest r key_is longest_is number_is taken_is table_is shown = record {
+  by_key = ap (λ k. k.now) key_is ∙ shown.by_key;
+  most = longest_is ∙ shown.most;
+  number = number_is ∙ ap one_more shown.number;
+  all_taken = taken_is ∙ shown.all_taken;
+  counts = ap (λ table. counts_of table.entries.items) table_is ∙ shown.counts;
+  refusals = shown.refusals;
+}
+
+pub shows-refused : {A : Type 0} (old new : Counts A) (held start end : Option (List ℕ)) (key : List ℕ) (longest : ℕ) (r : Report) (error : Option Error)
+    → Shows old held start key longest r → IsRefused old new × Appends start end (refusal_line old.parser.longest old.number error)
+    → Shows new held end key longest (with_refusal longest r error)
+shows-refused old new held start end key longest r error shown h = record {
+  by_key = ap (λ k. k.now) h.0.key ∙ shown.by_key;
+  most = ap (λ parser. parser.longest) h.0.parser ∙ shown.most;
+  number = h.0.number ∙ shown.number;
+  all_taken = h.0.all_taken;
+  counts = h.0.counts ∙ ap (counted refused) shown.counts;
+  refusals =
+      appends-then held start end r.refusals _ shown.refusals
+      (subst (λ n. Appends start end (refusal_line n r.number error)) shown.most
+      (subst (λ n. Appends start end (refusal_line old.parser.longest n error)) shown.number h.1));
+}

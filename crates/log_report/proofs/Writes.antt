@@ -1,5 +1,5 @@
 -- Whether a port has failed after a text went through it.
-use Rattle.std.proofs.Common.{◌≡◌, ◌∙◌, ap, Bool, true, false, Option, Some}
+use Rattle.std.proofs.Common.{◌≡◌, ◌∙◌, Bool, true, false, Some}
 use Rattle.std.specs.Prelude.{option_map}
 
 some-is : {x y : Bool} → Some x ≡ Some y → x ≡ y

@@ -1,9 +1,6 @@
 -- What the arguments ask for, and what is said of how a run ended: a line on standard error, and a status.
-use Rattle.std.specs.Prelude.{ℕ, ◌^◌, List, [], ◌∷◌, length, codes, Option, Some, None, option_map, ◌&&◌, nat_lt, Bool, true, false, Result, Ok, Err, if◌then◌else◌}
-use Rattle.std.specs.Char.{is_ascii_digit}
-use Rattle.std.specs.List.{list_all}
-use Rattle.std.specs.Option.{ok_or}
-use Rattle.std.specs.Str.Parse.{digits_value}
+use Rattle.std.specs.Prelude.{ℕ, ◌^◌, List, [], ◌∷◌, codes, Option, Some, None, option_and_then, nat_lt, Bool, true, false, Result, Ok, Err, if◌then◌else◌}
+use Rattle.jtape.specs.Settings.{number_of}
 use Rattle.log_report.specs.declared.failure.Failure.{Failure}
 use Rattle.log_report.specs.declared.failure.Failure.TheVariants.{Usage, Read, Write, Resources}
 
@@ -18,17 +15,10 @@ abbrev pub status_of : Result Bool Failure → ℕ
 status_of (Ok true) = 0
 status_of (Ok false) = 1
 status_of (Err Usage) = 2
-status_of (Err Read) = 3
-status_of (Err Write) = 3
-status_of (Err Resources) = 3
+status_of (Err _) = 3
 
--- one digit or more, of a number below 2^32
-abbrev pub length_of : List ℕ → Option ℕ
-length_of word =
-    if list_all is_ascii_digit word && nat_lt 0 (length word) && nat_lt (digits_value 10 word) (2 ^ 32) then Some (digits_value 10 word) else None
-
--- a key, and after it, or not, how many bytes a line may have; the first word is the program's name
-abbrev pub asked_of : List (List ℕ) → Result (List ℕ × ℕ) Failure
-asked_of (name ∷ key ∷ []) = Ok (key, 65536)
-asked_of (name ∷ key ∷ longest ∷ []) = ok_or (option_map (λ n. (key, n)) (length_of longest)) Usage
-asked_of _ = Err Usage
+-- a key, and after it, or not, how many bytes a line may have, fewer than 2^32; the first word is the program's name
+abbrev pub asked_of : List (List ℕ) → Option (List ℕ × ℕ)
+asked_of (name ∷ key ∷ []) = Some (key, 65536)
+asked_of (name ∷ key ∷ longest ∷ []) = option_and_then (λ n. if nat_lt n (2 ^ 32) then Some (key, n) else None) (number_of longest)
+asked_of _ = None

@@ -1,7 +1,4 @@
 pub mod Failures
-pub mod Labels
-pub mod Refusals
 pub mod Report
 pub mod Runs
 pub mod Table
-pub mod Tables

@@ -1,51 +1,68 @@
--- What is counted and told of a stream of lines.
-use Rattle.std.specs.Prelude.{ℕ, List, [], ◌∷◌, ◌++◌, length, nat_lt, Bool, true, false, Result, Ok, Err, if◌then◌else◌}
+-- What is counted of a stream of lines, and how each refused line is named.
+use Rattle.std.specs.Prelude.{◌≡◌, ℕ, List, [], ◌∷◌, ◌++◌, codes, length, nat_lt, Bool, true, false, Option, None, Some, Result, Ok, Err, if◌then◌else◌}
+use Rattle.std.specs.Fmt.{decimal}
 use Rattle.jtape.specs.Pieces.{pieces, is_blank}
 use Rattle.simd_json.specs.MaxDepth.{default_max_depth}
 use Rattle.simd_json_parts.specs.Answer.{answer}
+use Rattle.simd_json_parts.specs.Bytes.{line_feed}
 use Rattle.simd_json_parts.specs.Document.{Document}
+use Rattle.simd_json_parts.specs.ErrorKinds.{error_text}
+use Rattle.simd_json_parts.specs.Printed.{compact}
+use Rattle.simd_json_parts.specs.Views.{get}
 use Rattle.simd_json_parts.specs.declared.error.Error.{Error}
-use Rattle.log_report.specs.Labels.{label}
-use Rattle.log_report.specs.Refusals.{told_line}
-use Rattle.log_report.specs.Table.{Count, one_more, none_counted, counted, refused}
-use Rattle.log_report.specs.declared.refusal.Refusal.{Refusal}
-use Rattle.log_report.specs.declared.refusal.Refusal.TheVariants.{Json, Long}
+use Rattle.log_report.specs.Table.{Count, one_more, none_counted, counted, no_value, others, refused}
 
--- how many lines there are so far, whether none of them was refused, the counts, and what is told of refused ones
+-- what a value counts under: its compact text, if that has at most 1,024 bytes
+abbrev pub value_label : Option Document → List ℕ
+value_label None = no_value
+value_label (Some d) = if nat_lt 1024 (length (compact d)) then others else compact d
+
+-- of a line with this answer: the label is that of its first value with the key, or the error its own
+abbrev pub IsLabelled : List ℕ → Result Document Error → Option Error → List ℕ → Type 0
+IsLabelled key (Ok d) None label = label ≡ value_label (get key d)
+IsLabelled key (Err e) (Some error) label = error ≡ e
+IsLabelled key _ _ label = ⊥
+
+-- why it is refused: for its error, or because it has more than `longest` bytes
+abbrev pub refusal_text : ℕ → Option Error → List ℕ
+refusal_text longest (Some e) = error_text e
+refusal_text longest None = codes "longer than " ++ decimal longest ++ codes " bytes"
+
+-- of the line with this number, from 1
+abbrev pub refusal_line : ℕ → ℕ → Option Error → List ℕ
+refusal_line longest number error = codes "line " ++ decimal number ++ codes ": " ++ refusal_text longest error ++ line_feed ∷ []
+
+-- how many lines there are so far, whether none of them was refused, the counts, and the lines that name refused ones
 pub record Report : Type 0 where
   pub number : ℕ
   pub all_taken : Bool
   pub counts : List Count
-  pub told : List ℕ
+  pub refusals : List ℕ
 
 abbrev pub no_line : Report
-no_line = record { number = 0; all_taken = true; counts = none_counted; told = [] }
+no_line = record { number = 0; all_taken = true; counts = none_counted; refusals = [] }
 
-abbrev pub with_blank : Report → Report
-with_blank r = record r { number = one_more r.number }
+abbrev pub next : Report → Report
+next r = record r { number = one_more r.number }
 
 abbrev pub with_text : Report → List ℕ → Report
-with_text r t = record r { number = one_more r.number; counts = counted t r.counts }
+with_text r t = record r { counts = counted t r.counts }
 
-abbrev pub with_refusal : Report → Refusal → Report
-with_refusal r why =
-    record {
-      number = one_more r.number;
-      all_taken = false;
-      counts = counted refused r.counts;
-      told = r.told ++ told_line (one_more r.number) why;
-    }
+abbrev pub with_refusal : ℕ → Report → Option Error → Report
+with_refusal longest r error =
+    record (with_text r refused) { all_taken = false; refusals = r.refusals ++ refusal_line longest r.number error }
 
-abbrev pub with_answer : List ℕ → Report → Result Document Error → Report
-with_answer key r (Ok d) = with_text r (label key (Ok d))
-with_answer key r (Err e) = with_refusal r (Json e)
+-- by its first value with the key
+abbrev pub with_answer : List ℕ → ℕ → Report → Result Document Error → Report
+with_answer key longest r (Ok d) = with_text r (value_label (get key d))
+with_answer key longest r (Err e) = with_refusal longest r (Some e)
 
 -- A line is refused if it is longer than this or no JSON text. One that is empty, or whitespace alone, counts under nothing.
 abbrev pub with_line : List ℕ → ℕ → Report → List ℕ → Report
 with_line key longest r line =
-    if nat_lt longest (length line) then with_refusal r (Long longest)
-    else if is_blank line then with_blank r
-    else with_answer key r (answer line default_max_depth)
+    if nat_lt longest (length line) then with_refusal longest (next r) None
+    else if is_blank line then next r
+    else with_answer key longest (next r) (answer line default_max_depth)
 
 abbrev pub with_lines : List ℕ → ℕ → Report → List (List ℕ) → Report
 with_lines key longest r [] = r

@@ -1,14 +1,16 @@
 //! What the arguments ask for, and how the program ends: with a line on standard error or none, and a status.
-ghost use Rattle.std.specs.Prelude.{◌≡◌, ◌^◌, ◌<◌, ℕ, map, string_bytes, IfOk, MatchResult, Ok, Err};
-ghost use Rattle.std.specs.Char.{is_ascii_digit};
-ghost use Rattle.std.specs.List.{list_all};
-ghost use Rattle.log_report.specs.Failures.{asked_of, length_of, status_of};
+ghost use Rattle.std.specs.Prelude.{◌≡◌, map, string_bytes, MatchOption, Some, None};
+ghost use Rattle.log_report.specs.Failures.{asked_of, status_of};
 
+use jtape::number_named;
 use std::alloc::AllocError;
-use std::{fmt, io};
+use std::fmt;
 
 /// How many bytes a line may have, unless another number is asked for.
 const LONGEST: usize = 65_536;
+
+/// How many may be asked for.
+const MOST: usize = 4_294_967_295;
 
 /// Why the program does not report. What is displayed is the line for standard error.
 #[derive(Debug, Drop, PartialEq)]
@@ -34,17 +36,6 @@ impl From<AllocError> for Failure {
     }
 }
 
-impl From<io::Error> for Failure {
-    ghost use Rattle.log_report.specs.declared.failure.Failure.TheVariants.{Usage};
-    ghost use Rattle.std.specs.Prelude.{◌≡◌};
-
-    ghost from_gives = { λ _ failure. failure ≡ Usage };
-
-    fn from(_unread: io::Error) -> Failure {
-        Failure::Usage
-    }
-}
-
 impl fmt::Display for Failure {
     ghost use Rattle.std.specs.Prelude.{Some};
     ghost use Rattle.log_report.specs.Failures.{failure_text};
@@ -62,40 +53,19 @@ impl fmt::Display for Failure {
 }
 
 /// What the program's arguments ask for, of which the first is its name: a key, and after it, or not, how many
-/// bytes a line may have, in digits, up to 4,294,967,295. Returns `Usage` where they are not understood.
-pub fn asked(words: &[String]) -> Result<(&str, usize), Failure>
-    ensures { MatchResult result
-        (λ r. asked_of (map string_bytes words.now) ≡ Ok (r.0.now, r.1))
-        (λ fault. asked_of (map string_bytes words.now) ≡ Err fault) }
+/// bytes a line may have, in digits, up to 4,294,967,295. `None` where they are not understood.
+pub fn asked(words: &[String]) -> Option<(&str, usize)>
+    ensures { MatchOption result (asked_of (map string_bytes words.now) ≡ None)
+        (λ r. asked_of (map string_bytes words.now) ≡ Some (r.0.now, r.1)) }
 {
     match words {
-        [_, key] => Ok((key.as_str(), LONGEST)),
-        [_, key, longest] => match length_named(longest.as_str()) {
-            Some(longest) => Ok((key.as_str(), longest)),
-            None => Err(Failure::Usage),
+        [_, key] => Some((key.as_str(), LONGEST)),
+        [_, key, longest] => match number_named(longest.as_str()) {
+            Some(longest) if longest <= MOST => Some((key.as_str(), longest)),
+            _ => None,
         },
-        _ => Err(Failure::Usage),
+        _ => None,
     }
-}
-
-// The number of a word of digits, and of nothing else, where it fits.
-fn length_named(word: &str) -> Option<usize>
-    ensures { result ≡ length_of word.now }
-{
-    if has_digits_alone(word) {
-        match word.parse::<u32>() {
-            Ok(longest) => Some(longest as usize),
-            Err(_) => None,
-        }
-    } else {
-        None
-    }
-}
-
-fn has_digits_alone(word: &str) -> bool
-    ensures { result ≡ list_all is_ascii_digit word.now }
-{
-    word.as_bytes().iter().all(|byte| byte.is_ascii_digit())
 }
 
 /// The status that the program ends with: 0 where no line was refused, and 1 where some was; 2 where the
@@ -107,6 +77,6 @@ pub fn exit_status(ended: &Result<bool, Failure>) -> u8
         Ok(true) => 0,
         Ok(false) => 1,
         Err(Failure::Usage) => 2,
-        Err(Failure::Read | Failure::Write | Failure::Resources) => 3,
+        Err(_) => 3,
     }
 }

@@ -2,13 +2,9 @@
 //! are, and counts the lines by their value at a key. docs/LINES.md says what it prints.
 #![tactic(auto)]
 
-mod block;
-mod count;
+mod counts;
 mod failure;
 mod label;
-mod lines;
-mod parser;
-mod refusal;
 mod run;
 mod table;
 
@@ -27,18 +23,18 @@ fn main(rt: HostRuntime) -> ExitCode {
 }
 
 fn program(rt: &HostRuntime) -> Result<bool, Failure> {
-    let words = arguments(rt)?;
-    let (key, longest) = asked(words.as_slice())?;
+    let words = arguments(rt).map_err(|_| Failure::Usage)?;
+    let (key, longest) = asked(words.as_slice()).ok_or(Failure::Usage)?;
     let mut reader = Port::new(rt.reader());
     let mut report = Port::new(io::writer(rt));
-    let mut told = Port::new(rt.stderr());
+    let mut refusals = Port::new(rt.stderr());
     run(
         rt.alloc(),
         key,
         longest,
         &mut reader,
         &mut report,
-        &mut told,
+        &mut refusals,
     )
 }
 

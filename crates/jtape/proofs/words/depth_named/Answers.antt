@@ -1,7 +1,0 @@
-use Rattle.std.proofs.Common.{◌∙◌, sym}
-use Rattle.jtape.proofs.DepthWords.{depth-read}
-use Rattle.jtape.proofs.words.depth_named.Goals as goal
-
-pub returns-then-has_digits_alone : goal.returns-then-has_digits_alone
-returns-then-has_digits_alone c =
-    c.ok.ensures.value ∙ depth-read c.args.word.now c.parse.result (sym c.has_digits_alone.ensures ∙ c.if-has_digits_alone.true) c.parse.ensures.value.0
