@@ -5,7 +5,8 @@ use Rattle.std.proofs.Math.ListN.{set}
 use Rattle.std.specs.Prelude.{◌==◌, flat_map, slice_get, IfSome}
 use Rattle.std.proofs.lemmas.Option.{slice_get-get_or}
 use Rattle.simd_json_parts.specs.Document.{Document, null, boolean, integer, decimal, string, array, object, Elements, no_elements, element, elements, Members, no_members, member, members}
-use Rattle.simd_json_parts.specs.Listing.{listing, elements_listing, members_listing, StandsFor}
+use Rattle.simd_json_parts.specs.Listing.{listing, elements_listing, members_listing}
+use Rattle.simd_json.specs.Tapes.{StandsFor}
 use Rattle.simd_json_parts.specs.Nodes.{Item, string_item, item_of}
 use Rattle.simd_json_parts.specs.Views.{values, is_array, is_object}
 use Rattle.simd_json_parts.specs.declared.node.Node.{Node}
