@@ -1,74 +1,76 @@
-"""chart.py SIZES.tsv: draws the cost against size, ours and simdjson's, as an SVG on standard output."""
-import math
+"""chart.py KINDS.tsv: draws the speed of a parse of each text, ours beside the others', as an SVG on standard output."""
 import sys
 
-from tables import Results, shown_size
+from tables import KINDS, Results
 
-WIDTH, HEIGHT = 760, 420
-LEFT, RIGHT, TOP, BOTTOM = 60, 170, 50, 50
+WIDTH, LEFT, RIGHT, TOP, BAR, GAP = 760, 130, 60, 70, 8, 12
 # Colours with enough contrast on white, and on dark where the reader prefers that.
 STYLE = """
   .page { fill: #ffffff } text { font: 13px system-ui, sans-serif; fill: #24292f } .grid { stroke: #d0d7de }
-  .simdjson { color: #6e7781 } .v2 { color: #bc4c00 } .v3 { color: #0969da }
+  .kept { fill: #0969da } .fresh { fill: #80b3f0 } .simdjson { fill: #6e7781 } .rapidjson { fill: #bc4c00 } .serde { fill: #8250df }
   @media (prefers-color-scheme: dark) {
     .page { fill: #0d1117 } text { fill: #e6edf3 } .grid { stroke: #30363d }
-    .simdjson { color: #9ea7b3 } .v2 { color: #f0883e } .v3 { color: #58a6ff }
+    .kept { fill: #58a6ff } .fresh { fill: #1f4f85 } .simdjson { fill: #9ea7b3 } .rapidjson { fill: #f0883e } .serde { fill: #bc8cff }
   }
   .title { font-weight: 600; font-size: 15px }
-  .name { fill: currentColor }
-  .line { fill: none; stroke: currentColor; stroke-width: 2.5; stroke-linejoin: round }
-  .fresh { stroke-dasharray: 6 4 }
+  .small { font-size: 11px }
 """
 
 
-def spread(places, gap):
-    """Moves labels apart: the heights, in the order of the labels, at least so far from one another."""
-    order = sorted(range(len(places)), key=lambda i: places[i])
-    heights = list(places)
-    for before, i in zip(order, order[1:]):
-        heights[i] = max(heights[i], heights[before] + gap)
-    return heights
+def series(results):
+    """Name, colour, and the gigabytes of a second at each text, of those that were timed."""
+    level = "v3" if any(c.endswith("kept, v3") for c in results.parts) else "v2"
+    wanted = [
+        ("simd_json, buffers kept", "kept", f"simd_json kept, {level}"),
+        ("simd_json, fresh", "fresh", f"simd_json fresh, {level}"),
+        ("simdjson DOM", "simdjson", None),
+        ("rapidjson", "rapidjson", "rapidjson in place"),
+        ("serde_json", "serde", "serde_json Value"),
+    ]
+    for name, colour, contender in wanted:
+        if contender is None and results.has_simdjson():
+            yield name, colour, {t: results.base(t, "parse") for t in results.sizes}
+        elif contender in results.parts:
+            yield name, colour, {t: results.ns[t, contender] for t in results.sizes}
 
 
 def main():
     results = Results(sys.argv[1])
-    sizes = list(results.sizes.values())
-    lines = []
-    if results.has_simdjson():
-        lines.append(("simdjson DOM", "simdjson", [results.base(t, "parse") for t in results.sizes]))
-    for contender in results.contenders("parse", ours=True):
-        form, level = contender.removeprefix("simd_json ").split(", ")
-        lines.append((f"{form}, x86-64-{level}", f"{level} {form}", [results.ns[t, contender] for t in results.sizes]))
+    order = {kind: i for i, kind in enumerate(KINDS)}
+    texts = sorted(results.sizes, key=lambda t: (order.get(named(t), len(order)), t))
+    lines = list(series(results))
+    speeds = {(name, t): 1 / ns[t] for name, _, ns in lines for t in texts if ns.get(t)}
+    most = max(speeds.values())
+    step = next(s for s in (0.1, 0.2, 0.25, 0.5, 1, 2, 5) if most / s <= 8)
+    across = (WIDTH - LEFT - RIGHT) / most
+    row = BAR * len(lines) + GAP
+    height = TOP + row * len(texts) + 30
 
-    most = max(ns for _, _, line in lines for ns in line)
-    step = next(s for s in (0.1, 0.2, 0.25, 0.5, 1, 2, 2.5, 5, 10, 20, 50) if most / s <= 7)
-    top = math.ceil(most / step) * step
-    logs = [math.log(size) for size in sizes]
-
-    def across(size):
-        return LEFT + (math.log(size) - logs[0]) / (logs[-1] - logs[0]) * (WIDTH - LEFT - RIGHT)
-
-    def up(ns):
-        return HEIGHT - BOTTOM - ns / top * (HEIGHT - TOP - BOTTOM)
-
-    out = [f'<svg xmlns="http://www.w3.org/2000/svg" viewBox="0 0 {WIDTH} {HEIGHT}" role="img" aria-label="Nanoseconds of a byte against the size of the input">']
+    out = [f'<svg xmlns="http://www.w3.org/2000/svg" viewBox="0 0 {WIDTH} {height}" role="img" aria-label="Speed of a parse by text and parser">']
     out.append(f"<style>{STYLE}</style>")
-    out.append(f'<rect class="page" width="{WIDTH}" height="{HEIGHT}"/>')
-    out.append(f'<text class="title" x="{LEFT}" y="26">Cost of a parse: nanoseconds of a byte, over tweets</text>')
-    for i in range(round(top / step) + 1):
-        y = up(i * step)
-        out.append(f'<line class="grid" x1="{LEFT}" x2="{WIDTH - RIGHT}" y1="{y:.1f}" y2="{y:.1f}"/>')
-        out.append(f'<text x="{LEFT - 8}" y="{y + 4:.1f}" text-anchor="end">{i * step:g}</text>')
-    for size in sizes:
-        out.append(f'<text x="{across(size):.1f}" y="{HEIGHT - BOTTOM + 20}" text-anchor="middle">{shown_size(size)}</text>')
-    out.append(f'<text x="{(LEFT + WIDTH - RIGHT) / 2}" y="{HEIGHT - 8}" text-anchor="middle">size of the input</text>')
-    heights = spread([up(line[-1]) for _, _, line in lines], 16)
-    for (name, kind, line), height in zip(lines, heights):
-        points = " ".join(f"{across(size):.1f},{up(ns):.1f}" for size, ns in zip(sizes, line))
-        out.append(f'<polyline class="line {kind}" points="{points}"/>')
-        out.append(f'<text class="name {kind}" x="{WIDTH - RIGHT + 10}" y="{height + 4:.1f}">{name}</text>')
+    out.append(f'<rect class="page" width="{WIDTH}" height="{height}"/>')
+    out.append(f'<text class="title" x="{LEFT}" y="24">Speed of a parse in GB/s (longer is faster)</text>')
+    for i, (name, colour, _) in enumerate(lines):
+        x = 10 + i * (WIDTH - 20) / len(lines)
+        out.append(f'<rect class="{colour}" x="{x:.0f}" y="40" width="12" height="12"/>')
+        out.append(f'<text class="small" x="{x + 17:.0f}" y="50">{name}</text>')
+    for i in range(int(most / step) + 1):
+        x = LEFT + i * step * across
+        out.append(f'<line class="grid" x1="{x:.1f}" x2="{x:.1f}" y1="{TOP - 8}" y2="{height - 24}"/>')
+        out.append(f'<text class="small" x="{x:.1f}" y="{height - 10}" text-anchor="middle">{i * step:g}</text>')
+    for at, text in enumerate(texts):
+        y = TOP + at * row
+        out.append(f'<text x="{LEFT - 8}" y="{y + row / 2:.0f}" text-anchor="end">{named(text).replace("_", " ")}</text>')
+        for i, (name, colour, _) in enumerate(lines):
+            if (name, text) in speeds:
+                width = speeds[name, text] * across
+                out.append(f'<rect class="{colour}" x="{LEFT}" y="{y + i * BAR}" width="{width:.1f}" height="{BAR - 1}"/>')
     out.append("</svg>")
     print("\n".join(out))
+
+
+def named(path):
+    return path.split("/")[-1].removesuffix(".json")
 
 
 main()

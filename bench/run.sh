@@ -83,7 +83,7 @@ say "timing"
 sh bench/shapes.sh "$OUT" "$ROUNDS" "$OUT/x86-64-v2-0.so" $parses $refusals
 
 python3 bench/tables.py "$OUT/kinds.tsv" "$OUT/sizes.tsv" "$OUT/shapes.tsv" "$OUT/memory.tsv" "$OUT/lines.tsv" > "$OUT/tables.md"
-python3 bench/chart.py "$OUT/sizes.tsv" > "$OUT/speed.svg"
+python3 bench/chart.py "$OUT/kinds.tsv" > "$OUT/speed.svg"
 cat "$OUT/tables.md"
 if [ "${SAVE:-}" = 1 ]; then
     python3 bench/tables.py "$OUT/kinds.tsv" "$OUT/sizes.tsv" "$OUT/shapes.tsv" "$OUT/memory.tsv" "$OUT/lines.tsv" docs/SPEED.md
