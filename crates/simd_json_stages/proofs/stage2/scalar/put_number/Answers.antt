@@ -1,14 +1,11 @@
-use Rattle.std.proofs.Common.{◌≡◌, sym, subst, ◌∙◌, ap, ℕ, ◌+◌, ◌≤◌, inr, [], ◌∷◌, length, take, drop, arith}
+use Rattle.std.proofs.Common.{◌≡◌, sym, subst, ◌∙◌, ap, ℕ, ◌+◌, inr, [], ◌∷◌, take, drop, arith}
 use Rattle.std.specs.Prelude.{Ok}
-use Rattle.simd_json_parts.specs.Document.{integer, decimal}
+use Rattle.simd_json_parts.specs.Document.{decimal}
 use Rattle.simd_json_scalars.specs.NumeralRead.{IsNumeralAt}
 use Rattle.simd_json_parts.specs.Tokens.{form_at, scalar}
-use Rattle.simd_json_parts.specs.Nodes.{static_item, decimal_item}
+use Rattle.simd_json_parts.specs.Nodes.{decimal_item}
 use Rattle.simd_json_parts.specs.declared.node.Node.TheVariants as nodes
-use Rattle.simd_json_stages.specs.Put.{IsNoScalar}
-use Rattle.simd_json_stages.specs.Texts.{Reads}
-use Rattle.simd_json_stages.proofs.Exits.{passed-on}
-use Rattle.simd_json_stages.proofs.ScalarPut.{decimal-here, offset-within, number-refused, static-put}
+use Rattle.simd_json_stages.proofs.ScalarPut.{decimal-here}
 use Rattle.simd_json_stages.proofs.stage2.scalar.put_number.Goals as goal
 
 pub from-requires : goal.from-requires
