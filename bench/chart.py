@@ -3,7 +3,7 @@ import sys
 
 from tables import KINDS, Results
 
-WIDTH, LEFT, RIGHT, TOP, BAR, GAP = 760, 130, 60, 70, 8, 12
+WIDTH, LEFT, RIGHT, TOP, BAR, GAP = 760, 150, 60, 70, 5, 8
 # Colours with enough contrast on white, and on dark where the reader prefers that.
 STYLE = """
   .page { fill: #ffffff } text { font: 13px system-ui, sans-serif; fill: #24292f } .grid { stroke: #d0d7de }
@@ -60,7 +60,7 @@ def main():
         out.append(f'<text class="small" x="{x:.1f}" y="{height - 10}" text-anchor="middle">{i * step:g}</text>')
     for at, text in enumerate(texts):
         y = TOP + at * row
-        out.append(f'<text x="{LEFT - 8}" y="{y + row / 2:.0f}" text-anchor="end">{named(text).replace("_", " ")}</text>')
+        out.append(f'<text x="{LEFT - 8}" y="{y + row / 2:.0f}" text-anchor="end">{named(text).replace("_", " ") if "/texts/kinds/" in text else named(text)}</text>')
         for i, (name, colour, _) in enumerate(lines):
             if (name, text) in speeds:
                 width = speeds[name, text] * across
@@ -70,7 +70,9 @@ def main():
 
 
 def named(path):
-    return path.split("/")[-1].removesuffix(".json")
+    """The generated texts without their ending, others as their files are called."""
+    name = path.split("/")[-1]
+    return name.removesuffix(".json") if "/texts/kinds/" in path else name
 
 
 main()

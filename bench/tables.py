@@ -1,6 +1,7 @@
 """tables.py KINDS.tsv SIZES.tsv SHAPES.tsv MEMORY.tsv LINES.tsv [DOCUMENT]: what the harness measured, as tables in Markdown.
 
-With a document, they stand there between the marks `<!-- results -->` and `<!-- end of results -->`; else they are printed."""
+With a document, all but that of shapes are put there between the marks `<!-- results -->` and `<!-- end of results -->`; else
+all are printed."""
 import math
 import re
 import statistics
@@ -67,14 +68,20 @@ def mean(ratios):
 
 
 def table_of_kinds(results):
+    """A line for each text: ours at the highest level that was timed, then the others. Another level has its mean alone."""
     kinds = {t: Path(t).stem for t in results.sizes if "/texts/kinds/" in t}
     texts = sorted(results.sizes, key=lambda t: KINDS.index(kinds[t]) if t in kinds else len(KINDS))
-    head = ["", *(kinds[t].replace("_", " ") if t in kinds else Path(t).name for t in texts), "geometric mean"]
-    lines = []
-    for part in ("parse", "scan"):
-        for contender in results.contenders(part, ours=False) + results.contenders(part, ours=True):
-            ratios = [results.ratio(t, contender) for t in texts]
-            lines.append([contender, *map(shown, [*ratios, mean(ratios)])])
+    level = "v3" if any(c.endswith(", v3") for c in results.parts) else "v2"
+    ours = [c for part in ("parse", "scan") for c in results.contenders(part, ours=True)]
+    shown_ones = [c for c in ours if c.endswith(f", {level}")] + results.contenders("parse", ours=False)
+    shown_ones = [c for c in shown_ones if not c.startswith("simdjson ")]
+    head = ["text", *(c.removeprefix("simd_json ").removesuffix(f", {level}") for c in shown_ones)]
+    lines = [[kinds[t].replace("_", " ") if t in kinds else Path(t).name, *(shown(results.ratio(t, c)) for c in shown_ones)] for t in texts]
+    means = {c: shown(mean([results.ratio(t, c) for t in texts])) for c in ours + shown_ones}
+    lines.append(["**geometric mean**", *(means[c] for c in shown_ones)])
+    below = [c.removesuffix(f", {level}") + ", v2" for c in shown_ones]
+    if level == "v3" and any(c in means for c in below):
+        lines.append(["geometric mean, v2", *(means.get(c, "") for c in below)])
     return rows(head, lines)
 
 
@@ -134,25 +141,25 @@ def table_of_lines(lines):
 
 
 def main():
-    kinds, sizes, shapes, memory = *map(Results, sys.argv[1:4]), sys.argv[4]
-    log = Results(sys.argv[5])
+    kinds, sizes, log = Results(sys.argv[1]), Results(sys.argv[2]), Results(sys.argv[5])
     whole, scan = ("simdjson's best DOM parse", "its best stage 1") if kinds.has_simdjson() else ("the fastest", "the fastest")
     text = (
-        f"Speed at the fastest round, ours as the median over the places of its code, as a multiple: of a whole parse over {whole}, "
+        f"Speed at the fastest round, ours at x86-64-v3 where the processor has it, as a multiple: of a whole parse over {whole}, "
         f"of a scan over {scan}.\n\n"
         f"{table_of_kinds(kinds)}\n\n"
         f"Cost against size, over tweets; in brackets the speed over {whole}.\n\n"
         f"{table_of_sizes(sizes)}\n\n"
         f"Geometric mean of our speed over {whole}, over all {len(kinds.sizes) + len(sizes.sizes)} texts of both tables: "
         f"{means(kinds, sizes)}.\n\n"
-        f"Shapes that are made to be slow: nanoseconds of a byte at 1 MB, at 64 MB (and how many times as much that is).\n\n"
-        f"{table_of_shapes(shapes, memory)}\n\n"
         f"A log of {sum(log.sizes.values()) // 200:,} lines of 200 bytes, each line parsed by itself or all as one stream; the speed is "
         f"over the fastest of {'simdjson' if log.has_simdjson() else 'all'}.\n\n"
         f"{table_of_lines(log)}\n"
     )
     if len(sys.argv) == 6:
-        print(text, end="")
+        shapes, memory = Results(sys.argv[3]), sys.argv[4]
+        print(text)
+        print("Shapes that are made to be slow: nanoseconds of a byte at 1 MB, at 64 MB (and how many times as much that is).\n")
+        print(table_of_shapes(shapes, memory))
         return
     document = Path(sys.argv[6])
     marked = re.compile(r"(<!-- results -->\n).*(<!-- end of results -->)", re.DOTALL)

@@ -10,7 +10,7 @@ import sys
 from pathlib import Path
 
 # Bytes of a text of one kind: more than the caches near a core hold.
-KIND_BYTES = 1_000_000
+KIND_BYTES = int(os.environ.get("KIND_BYTES", 1_000_000))
 SIZES = [n * unit for unit in (1000, 1_000_000) for n in (1, 4, 16, 64, 256)][:-1]
 
 LATIN = """about after answer before between bread bridge carry city cloud could every field first garden great harbour

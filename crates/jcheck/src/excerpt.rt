@@ -3,17 +3,18 @@ ghost use Rattle.std.specs.Prelude.{◌≤◌, length};
 
 use std::io::{self, Write};
 
-// How many characters are shown of a line, and at most how many of them before the place.
-const WIDTH: usize = 78;
-
-const BEFORE: usize = 39;
-
 /// Writes a line with the characters around a byte of the input that are in its line, and a line with a caret
-/// under that byte. Control characters are shown as spaces, and what is not UTF-8 as U+FFFD.
-pub fn write_excerpt<W: Write>(out: &mut W, input: &[u8], byte: usize) -> io::Result<()> {
+/// under that byte. At most `width` characters are shown, half of them before the byte. Control characters are
+/// shown as spaces, and what is not UTF-8 as U+FFFD.
+pub fn write_excerpt<W: Write>(
+    out: &mut W,
+    input: &[u8],
+    byte: usize,
+    width: usize,
+) -> io::Result<()> {
     let place = byte.min(input.len());
-    let start = step_back(input, place);
-    let end = step_on(input, start);
+    let start = step_back(input, place, width / 2);
+    let end = step_on(input, start, width);
     for chunk in input[start..end].utf8_chunks() {
         for c in chunk.valid().chars() {
             let shown = if c.is_control() { ' ' } else { c };
@@ -32,14 +33,14 @@ pub fn write_excerpt<W: Write>(out: &mut W, input: &[u8], byte: usize) -> io::Re
     writeln!(out, "^")
 }
 
-// The index at most `BEFORE` characters before a place, in its line.
-fn step_back(input: &[u8], place: usize) -> usize
+// The index at most `most` characters before a place, in its line.
+fn step_back(input: &[u8], place: usize, most: usize) -> usize
     requires { place ≤ length input.now }
     ensures { result ≤ place }
 {
     let mut start = place;
     let mut count = 0usize;
-    while start > 0 && count < BEFORE && input[start - 1] != b'\n' {
+    while start > 0 && count < most && input[start - 1] != b'\n' {
         start -= 1;
         if begins_character(input[start]) {
             count += 1;
@@ -48,8 +49,8 @@ fn step_back(input: &[u8], place: usize) -> usize
     start
 }
 
-// The index after at most `WIDTH` characters, in the line of `start`.
-fn step_on(input: &[u8], start: usize) -> usize
+// The index after at most `most` characters, in the line of `start`.
+fn step_on(input: &[u8], start: usize, most: usize) -> usize
     requires { start ≤ length input.now }
     ensures { (start ≤ result) × (result ≤ length input.now) }
 {
@@ -57,7 +58,7 @@ fn step_on(input: &[u8], start: usize) -> usize
     let mut count = 0usize;
     while end < input.len() && input[end] != b'\n' {
         if begins_character(input[end]) {
-            if count == WIDTH {
+            if count == most {
                 break;
             }
             count += 1;

@@ -39,6 +39,17 @@ fn program(rt: &HostRuntime, words: &[String]) -> u8 {
     }
 }
 
+// How many characters a line of the terminal has: the number in `COLUMNS`, if it is not 0, or 80.
+fn terminal_width(rt: &HostRuntime) -> usize {
+    match env::var(rt, "COLUMNS") {
+        Ok(columns) => match columns.as_str().parse::<usize>() {
+            Ok(0) | Err(_) => 80,
+            Ok(width) => width,
+        },
+        Err(_) => 80,
+    }
+}
+
 // Checks each file, and goes on after one that can't be read.
 fn check_files(rt: &HostRuntime, options: &Options<'_>) -> Ended {
     let mut checker = match Checker::new(rt.alloc(), options.depth()) {
@@ -48,9 +59,10 @@ fn check_files(rt: &HostRuntime, options: &Options<'_>) -> Ended {
             return Ended::Failed;
         }
     };
+    let width = terminal_width(rt);
     let mut ended = Ended::Clean;
     for file in options.files() {
-        let checked = check_file(rt, &mut checker, file, options.has_lines());
+        let checked = check_file(rt, &mut checker, file, options.has_lines(), width);
         match checked {
             Ok(clean) => ended = ended.and(if clean { Ended::Clean } else { Ended::Refused }),
             // Who reads the output has had enough of it.
@@ -69,10 +81,11 @@ fn check_file(
     checker: &mut Checker<'_>,
     file: &str,
     has_lines: bool,
+    width: usize,
 ) -> io::Result<bool> {
     let input = read_input(rt, file)?;
     let mut out = BufWriter::new(rt.alloc(), io::writer(rt))?;
-    let clean = check_input(checker, &mut out, file, input.as_slice(), has_lines)?;
+    let clean = check_input(checker, &mut out, file, input.as_slice(), has_lines, width)?;
     out.flush()?;
     Ok(clean)
 }

@@ -45,7 +45,7 @@ impl Ended {
 }
 
 /// Checks an input as one document, or each of its lines as one, and writes the place and the reason of each
-/// error. Returns whether there is none.
+/// error, with at most `width` characters of its line. Returns whether there is none.
 ///
 /// Returns an error where the writer or an allocation fails.
 pub fn check_input<W: Write>(
@@ -54,12 +54,13 @@ pub fn check_input<W: Write>(
     file: &str,
     input: &[u8],
     has_lines: bool,
+    width: usize,
 ) -> io::Result<bool>
     ensures { has_lines ≡ false → IfOk result (λ clean. IsTrue clean
         ↔ (found_in input.now checker.old.buffers.limit ≡ None)) }
 {
     if has_lines {
-        return check_lines(checker, out, file, input);
+        return check_lines(checker, out, file, input, width);
     }
     match checker.check(input)? {
         None => Ok(true),
@@ -69,7 +70,7 @@ pub fn check_input<W: Write>(
                 line: location.line(),
                 byte: location.byte(),
             };
-            place.write(out, input, &location)?;
+            place.write(out, input, &location, width)?;
             Ok(false)
         }
     }
@@ -81,6 +82,7 @@ fn check_lines<W: Write>(
     out: &mut W,
     file: &str,
     input: &[u8],
+    width: usize,
 ) -> io::Result<bool> {
     let mut clean = true;
     let mut start = 0usize;
@@ -95,7 +97,7 @@ fn check_lines<W: Write>(
                 line: number,
                 byte: start.saturating_add(location.byte()),
             };
-            place.write(out, line, &location)?;
+            place.write(out, line, &location, width)?;
             clean = false;
         }
         start = start.saturating_add(line.len()).saturating_add(1);
@@ -112,7 +114,13 @@ struct Place<'a> {
 
 impl Place<'_> {
     // Writes where and why, and the line's text with a caret.
-    fn write<W: Write>(self, out: &mut W, input: &[u8], location: &Location) -> io::Result<()> {
+    fn write<W: Write>(
+        self,
+        out: &mut W,
+        input: &[u8],
+        location: &Location,
+        width: usize,
+    ) -> io::Result<()> {
         let Place { file, line, byte } = self;
         let column = location.column();
         let reason = location.reason();
@@ -121,7 +129,7 @@ impl Place<'_> {
             out,
             "{file}:{line}:{column}: {reason} [{kind} at byte {byte}]"
         )?;
-        write_excerpt(out, input, location.byte())
+        write_excerpt(out, input, location.byte(), width)
     }
 }
 

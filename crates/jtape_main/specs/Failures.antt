@@ -18,5 +18,5 @@ exit_status_of (Err Usage) = 2
 exit_status_of (Err (Run fault)) = status_of (Err fault)
 
 -- what the arguments ask for, of which the first is the program's name
-abbrev pub asked_of : List (List ℕ) → Result (Mode × ℕ) Failure
-asked_of arguments = ok_or (settings_of (drop 1 arguments)) Usage
+abbrev pub requested_of : List (List ℕ) → Result (Mode × ℕ) Failure
+requested_of arguments = ok_or (settings_of (drop 1 arguments)) Usage

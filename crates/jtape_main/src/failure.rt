@@ -1,12 +1,12 @@
 //! What the arguments ask for, and how the program ends: with a line on standard error or none, and a status.
 ghost use Rattle.std.specs.Prelude.{◌≡◌, map, string_bytes, IfOk, IfErr, Err};
-ghost use Rattle.jtape_main.specs.Failures.{asked_of, exit_status_of};
+ghost use Rattle.jtape_main.specs.Failures.{requested_of, exit_status_of};
 ghost use Rattle.jtape_main.specs.declared.failure.Failure.TheVariants.{Usage};
 
 use jtape::{Mode, RunFault, settings, status};
 use std::{fmt, io};
 
-/// Why the program does not print what it was asked for. What is displayed is the line for standard error.
+/// Why the program fails. It displays as the line for standard error.
 #[derive(Debug, Drop, PartialEq)]
 pub enum Failure {
     /// The arguments can't be read, or are not understood.
@@ -42,8 +42,8 @@ impl fmt::Display for Failure {
 
 /// What the program's arguments ask for, of which the first is its name. Returns `Usage` where they can't be
 /// read, or where [`settings`] does not understand the words after the name.
-pub fn asked(arguments: io::Result<Vec<String>>) -> Result<(Mode, usize), Failure>
-    ensures asked { IfOk arguments (λ words. result ≡ asked_of (map string_bytes words.items)) }
+pub fn requested(arguments: io::Result<Vec<String>>) -> Result<(Mode, usize), Failure>
+    ensures requested { IfOk arguments (λ words. result ≡ requested_of (map string_bytes words.items)) }
     ensures unread { IfErr arguments (λ _. result ≡ Err Usage) }
 {
     match arguments {
@@ -111,10 +111,14 @@ mod tests {
             for word in given {
                 words.push(String::from_str(rt.alloc(), word)?)?;
             }
-            assert_eq!(rt; asked(Ok(words)), wanted.ok_or(Failure::Usage), "{given:?}");
+            assert_eq!(rt;
+                requested(Ok(words)),
+                wanted.ok_or(Failure::Usage),
+                "{given:?}"
+            );
         }
         let unread = io::Error::from(io::ErrorKind::InvalidData);
-        assert_eq!(rt; asked(Err(unread)), Err(Failure::Usage));
+        assert_eq!(rt; requested(Err(unread)), Err(Failure::Usage));
         Ok(())
     }
 }

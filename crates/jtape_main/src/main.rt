@@ -1,11 +1,11 @@
 //! `jtape MODE [DEPTH]` reads one JSON document from standard input, or a stream of lines, and prints it as
-//! the mode asks. What is read and written stands in the library `jtape`, and here what its arguments ask for
-//! and how it ends: with a line on standard error or none, and a status.
+//! the mode asks. The library `jtape` reads and writes; here are the arguments, the line on standard error
+//! and the status.
 #![tactic(auto)]
 
 mod failure;
 
-use failure::{Failure, asked, exit_status};
+use failure::{Failure, exit_status, requested};
 use jtape::{Port, run};
 use std::process::ExitCode;
 use std::{env, io};
@@ -19,7 +19,7 @@ fn main(rt: HostRuntime) -> ExitCode {
 }
 
 fn program(rt: &HostRuntime) -> Result<bool, Failure> {
-    let (mode, depth) = asked(arguments(rt))?;
+    let (mode, depth) = requested(arguments(rt))?;
     let mut reader = Port::new(rt.reader());
     let mut writer = Port::new(io::writer(rt));
     Ok(run(rt.alloc(), mode, depth, &mut reader, &mut writer)?)

@@ -1,6 +1,6 @@
+mod Answered
 mod Feeds
-mod Labels
 mod Orders
 mod Places
 mod Shown
-mod Writes
+mod Written

@@ -6,33 +6,33 @@ use Rattle.std.proofs.lemmas.Iterator.Adapters.{position_from-zero}
 use Rattle.std.proofs.lemmas.Bool.{lt-ltb, le-ltb}
 use Rattle.log_report.specs.Table.{Count, added, counted, has_text, most_texts, one_more, others}
 use Rattle.log_report.specs.Runs.{counts_of, shown}
-use Rattle.log_report.specs.declared.table.Entry.{Entry}
+use Rattle.log_report.specs.declared.run.Row.{Row}
 
-abbrev pub has_items : {A : Type 0} → List ℕ → Entry A → Bool
+abbrev pub has_items : {A : Type 0} → List ℕ → Row A → Bool
 has_items t e = bytes_eq e.text.items t
 
-abbrev pub with_one : {A : Type 0} → Entry A → Entry A
+abbrev pub with_one : {A : Type 0} → Row A → Row A
 with_one e = record e { count = one_more e.count }
 
 -- one line more, at a place where the text stands
-pub record IsAt {A : Type 0} (t : List ℕ) (es : List (Entry A)) (j : ℕ) : Type 0 where
+pub record IsAt {A : Type 0} (t : List ℕ) (es : List (Row A)) (j : ℕ) : Type 0 where
   pub inside : j < length es
   pub has : has_text t (counts_of es) ≡ true
-  pub entry : Entry A
+  pub entry : Row A
   pub is_there : slice_get es j ≡ Some entry
   pub more : counts_of (slice_set es j (with_one entry)) ≡ added t (counts_of es)
 
-pub record IsNowhere {A : Type 0} (t : List ℕ) (es : List (Entry A)) : Type 0 where
+pub record IsNowhere {A : Type 0} (t : List ℕ) (es : List (Row A)) : Type 0 where
   pub lacks : has_text t (counts_of es) ≡ false
   pub same : added t (counts_of es) ≡ counts_of es
 
-abbrev pub IsPlace : {A : Type 0} → List ℕ → List (Entry A) → ℕ → Option ℕ → Type 0
+abbrev pub IsPlace : {A : Type 0} → List ℕ → List (Row A) → ℕ → Option ℕ → Type 0
 IsPlace t es i r = MatchOption r (IsNowhere t es) (λ k. (j : ℕ) × (k ≡ i + j) × IsAt t es j)
 
 shift : (i j k : ℕ) → k ≡ (i + 1) + j → k ≡ i + suc j
 shift i j k is = omega arith
 
-first-at : {A : Type 0} (t : List ℕ) (e : Entry A) (es : List (Entry A)) → bytes_eq e.text.items t ≡ true → IsAt t (e ∷ es) 0
+first-at : {A : Type 0} (t : List ℕ) (e : Row A) (es : List (Row A)) → bytes_eq e.text.items t ≡ true → IsAt t (e ∷ es) 0
 first-at t e es is = record {
   inside = omega arith;
   has = ap (λ b. b || has_text t (counts_of es)) is;
@@ -41,7 +41,7 @@ first-at t e es is = record {
   more = sym (ap (λ b. cond b ((e.text.items, one_more e.count) ∷ counts_of es) (shown e ∷ added t (counts_of es))) is);
 }
 
-later-at : {A : Type 0} (t : List ℕ) (e : Entry A) (es : List (Entry A)) (j : ℕ) → bytes_eq e.text.items t ≡ false → IsAt t es j → IsAt t (e ∷ es) (suc j)
+later-at : {A : Type 0} (t : List ℕ) (e : Row A) (es : List (Row A)) (j : ℕ) → bytes_eq e.text.items t ≡ false → IsAt t es j → IsAt t (e ∷ es) (suc j)
 later-at t e es j is at = record {
   inside = omega (arith, at.inside);
   has = ap (λ b. b || has_text t (counts_of es)) is ∙ at.has;
@@ -50,31 +50,31 @@ later-at t e es j is at = record {
   more = ap (λ cs. shown e ∷ cs) at.more ∙ sym (ap (λ b. cond b ((e.text.items, one_more e.count) ∷ counts_of es) (shown e ∷ added t (counts_of es))) is);
 }
 
-later : {A : Type 0} (t : List ℕ) (e : Entry A) (es : List (Entry A)) (i : ℕ) (r : Option ℕ) → bytes_eq e.text.items t ≡ false → IsPlace t es (i + 1) r → IsPlace t (e ∷ es) i r
+later : {A : Type 0} (t : List ℕ) (e : Row A) (es : List (Row A)) (i : ℕ) (r : Option ℕ) → bytes_eq e.text.items t ≡ false → IsPlace t es (i + 1) r → IsPlace t (e ∷ es) i r
 later t e es i None is absent = record {
   lacks = ap (λ b. b || has_text t (counts_of es)) is ∙ absent.lacks;
   same = ap (λ b. cond b ((e.text.items, one_more e.count) ∷ counts_of es) (shown e ∷ added t (counts_of es))) is ∙ ap (λ cs. shown e ∷ cs) absent.same;
 }
 later t e es i (Some k) is (j, at_k, at) = (suc j, shift i j k at_k, later-at t e es j is at)
 
-place-step : {A : Type 0} (t : List ℕ) (e : Entry A) (es : List (Entry A)) (i : ℕ) (r : Option ℕ) (b : Bool) → bytes_eq e.text.items t ≡ b → IsPlace t es (i + 1) r
+place-step : {A : Type 0} (t : List ℕ) (e : Row A) (es : List (Row A)) (i : ℕ) (r : Option ℕ) (b : Bool) → bytes_eq e.text.items t ≡ b → IsPlace t es (i + 1) r
     → IsPlace t (e ∷ es) i (cond b (Some i) r)
 place-step t e es i r true is _ = (0, omega arith, first-at t e es is)
 place-step t e es i r false is rest = later t e es i r is rest
 
-pub place-of : {A : Type 0} (t : List ℕ) (es : List (Entry A)) (i : ℕ) → IsPlace t es i (position_from (has_items t) i es)
+pub place-of : {A : Type 0} (t : List ℕ) (es : List (Row A)) (i : ℕ) → IsPlace t es i (position_from (has_items t) i es)
 place-of t [] i = record { lacks = refl; same = refl }
 place-of t (e ∷ es) i = place-step t e es i _ (bytes_eq e.text.items t) refl (place-of t es (i + 1))
 
-at-zero : {A : Type 0} (t : List ℕ) (es : List (Entry A)) (r : Option ℕ) → r ≡ position (has_items t) es → IsPlace t es 0 r
+at-zero : {A : Type 0} (t : List ℕ) (es : List (Row A)) (r : Option ℕ) → r ≡ position (has_items t) es → IsPlace t es 0 r
 at-zero t es r is = subst (IsPlace t es 0) (sym (is ∙ position_from-zero (has_items t) es)) (place-of t es 0)
 
-pub found-at : {A : Type 0} (t : List ℕ) (es : List (Entry A)) (k : ℕ) → Some k ≡ position (has_items t) es → IsAt t es k
+pub found-at : {A : Type 0} (t : List ℕ) (es : List (Row A)) (k : ℕ) → Some k ≡ position (has_items t) es → IsAt t es k
 found-at t es k is =
     let found : IsPlace t es 0 (Some k) = at-zero t es (Some k) is in
     subst (IsAt t es) (sym (found.1 ∙ zero-add found.0)) found.2
 
-pub found-nowhere : {A : Type 0} (t : List ℕ) (es : List (Entry A)) → None ≡ position (has_items t) es → IsNowhere t es
+pub found-nowhere : {A : Type 0} (t : List ℕ) (es : List (Row A)) → None ≡ position (has_items t) es → IsNowhere t es
 found-nowhere t es is = at-zero t es None is
 
 -- ---- what one line more comes to

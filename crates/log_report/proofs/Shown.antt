@@ -1,17 +1,20 @@
 -- What one line more comes to.
-use Rattle.std.proofs.Common.{◌≡◌, ◌∙◌, ap, sym, subst, ℕ, ◌<◌, ◌≤◌, List, length, Bool, cond, Option, Some, None, Result, Ok, Err}
+use Rattle.std.proofs.Common.{◌≡◌, ◌∙◌, ap, sym, subst, ℕ, ◌<◌, ◌≤◌, List, length, Bool, cond, Option, None}
 use Rattle.std.specs.Io.KnownBytes.{Appends}
 use Rattle.std.proofs.lemmas.Bool.{lt-ltb, le-ltb}
 use Rattle.jtape.specs.Pieces.{is_blank}
 use Rattle.simd_json.specs.MaxDepth.{default_max_depth}
 use Rattle.simd_json_parts.specs.Answer.{answer}
-use Rattle.simd_json_parts.specs.Document.{Document}
 use Rattle.simd_json_parts.specs.declared.error.Error.{Error}
 use Rattle.simd_json_print.proofs.Texts.{appends-then}
-use Rattle.log_report.specs.Report.{IsLabelled, Report, next, refusal_line, with_answer, with_line, with_refusal, with_text}
-use Rattle.log_report.specs.Runs.{IsRefused, Shows, counts_of}
+use Rattle.log_report.specs.Report.{Report, next, refusal_line, with_answer, with_line, with_refusal}
+use Rattle.log_report.specs.Runs.{IsRefused, Shows}
 use Rattle.log_report.specs.Table.{counted, one_more, refused}
-use Rattle.log_report.specs.declared.counts.Counts.{Counts}
+use Rattle.jtape.specs.declared.port.Port.{Port}
+use Rattle.simd_json.specs.Capacities.{Capacities}
+use Rattle.simd_json.specs.Reserved.{IsReserved}
+use Rattle.simd_json.specs.Tapes.{Listed}
+use Rattle.log_report.specs.declared.run.Lines.{Lines}
 
 abbrev rest_of : List ℕ → ℕ → Report → List ℕ → Bool → Report
 rest_of key longest r line blank = cond blank (next r) (with_answer key longest (next r) (answer line default_max_depth))
@@ -27,39 +30,54 @@ short-line key longest r line blank fits is =
     sym (ap (λ t. cond t (with_refusal longest (next r) None) (rest_of key longest r line (is_blank line))) (le-ltb longest (length line) fits)
     ∙ ap (rest_of key longest r line) is)
 
-pub answer-taken : (key : List ℕ) (longest : ℕ) (r : Report) (a : Result Document Error) (label : List ℕ) → IsLabelled key a None label
-    → with_text r label ≡ with_answer key longest r a
-answer-taken key longest r (Ok d) label is = ap (with_text r) is
-answer-taken key longest r (Err e) label is = absurd is
-
-pub answer-refused : (key : List ℕ) (longest : ℕ) (r : Report) (a : Result Document Error) (e : Error) (label : List ℕ) → IsLabelled key a (Some e) label
-    → with_refusal longest r (Some e) ≡ with_answer key longest r a
-answer-refused key longest r (Ok d) e label is = absurd is
-answer-refused key longest r (Err x) e label is = ap (λ y. with_refusal longest r (Some y)) is
-
-pub shows-next : {A : Type 0} (old new : Counts A) (held holds : Option (List ℕ)) (key : List ℕ) (longest : ℕ) (r : Report)
-    → new.key ≡ old.key → new.parser.longest ≡ old.parser.longest → new.number ≡ one_more old.number → new.all_taken ≡ old.all_taken → new.table ≡ old.table
-    → Shows old held holds key longest r → Shows new held holds key longest (next r)
-shows-next old new held holds key longest r key_is longest_is number_is taken_is table_is shown = record {
-  by_key = ap (λ k. k.now) key_is ∙ shown.by_key;
-  most = longest_is ∙ shown.most;
-  number = number_is ∙ ap one_more shown.number;
-  all_taken = taken_is ∙ shown.all_taken;
-  counts = ap (λ table. counts_of table.entries.items) table_is ∙ shown.counts;
+pub shows-next : {A : Type 0} (old : Lines A) (number : ℕ) (held holds : Option (List ℕ)) (key : List ℕ) (longest : ℕ) (r : Report)
+    → number ≡ one_more old.number → Shows old held holds key longest r → Shows (record old { number = number }) held holds key longest (next r)
+shows-next old number held holds key longest r is shown = record {
+  by_key = shown.by_key;
+  most = shown.most;
+  limited = shown.limited;
+  reserved = shown.reserved;
+  number = is ∙ ap one_more shown.number;
+  all_taken = shown.all_taken;
+  counts = shown.counts;
   refusals = shown.refusals;
 }
 
-pub shows-refused : {A : Type 0} (old new : Counts A) (held start end : Option (List ℕ)) (key : List ℕ) (longest : ℕ) (r : Report) (error : Option Error)
-    → Shows old held start key longest r → IsRefused old new × Appends start end (refusal_line old.parser.longest old.number error)
-    → Shows new held end key longest (with_refusal longest r error)
-shows-refused old new held start end key longest r error shown h = record {
-  by_key = ap (λ k. k.now) h.0.key ∙ shown.by_key;
-  most = ap (λ parser. parser.longest) h.0.parser ∙ shown.most;
-  number = h.0.number ∙ shown.number;
-  all_taken = h.0.all_taken;
-  counts = h.0.counts ∙ ap (counted refused) shown.counts;
-  refusals =
-      appends-then held start end r.refusals _ shown.refusals
-      (subst (λ n. Appends start end (refusal_line n r.number error)) shown.most
-      (subst (λ n. Appends start end (refusal_line old.parser.longest n error)) shown.number h.1));
+-- after a parse
+pub shows-parsed : {A : Type 0} (lines : Lines A) (buffers : Capacities) (tape : Listed) (held holds : Option (List ℕ)) (key : List ℕ) (longest : ℕ) (r : Report)
+    → buffers.limit ≡ lines.buffers.limit → IsReserved lines.longest buffers tape → Shows lines held holds key longest r
+    → Shows (record lines { buffers = buffers; tape = tape }) held holds key longest r
+shows-parsed lines buffers tape held holds key longest r limited reserved shown = record {
+  by_key = shown.by_key;
+  most = shown.most;
+  limited = limited ∙ shown.limited;
+  reserved = reserved;
+  number = shown.number;
+  all_taken = shown.all_taken;
+  counts = shown.counts;
+  refusals = shown.refusals;
 }
+
+pub shows-refused : {A E : Type 0} (naming : E → Option (List ℕ)) (old new : Lines A) (refusals refuses : Port E) (held : Option (List ℕ)) (key : List ℕ) (longest : ℕ) (r : Report)
+    (error : Option Error) → Shows old held (naming refusals.inner) key longest r → IsRefused naming old new refusals refuses error
+    → Shows new held (naming refuses.inner) key longest (with_refusal longest r error)
+shows-refused naming old new refusals refuses held key longest r error shown h = record {
+  by_key = ap (λ l. l.key.now) h.same ∙ shown.by_key;
+  most = ap (λ l. l.longest) h.same ∙ shown.most;
+  limited = ap (λ l. l.buffers.limit) h.same ∙ shown.limited;
+  reserved = subst (λ l. IsReserved l.longest l.buffers l.tape) (sym h.same) shown.reserved;
+  number = ap (λ l. l.number) h.same ∙ shown.number;
+  all_taken = ap (λ l. l.all_taken) h.same;
+  counts = h.counts ∙ ap (counted refused) shown.counts;
+  refusals =
+      appends-then held (naming refusals.inner) (naming refuses.inner) r.refusals _ shown.refusals
+      (subst (λ n. Appends (naming refusals.inner) (naming refuses.inner) (refusal_line n r.number error)) shown.most
+      (subst (λ n. Appends (naming refusals.inner) (naming refuses.inner) (refusal_line old.longest n error)) shown.number h.named));
+}
+
+pub refused-over : {A E : Type 0} (naming : E → Option (List ℕ)) (old new : Lines A) (tape : Listed) (refusals refuses : Port E) (error : Option Error)
+    → IsRefused naming old new refusals refuses error → IsRefused naming (record old { tape = tape }) (record new { tape = tape }) refusals refuses error
+refused-over {A} naming old new tape refusals refuses error h = record { counts = h.counts; same = ap {A = Lines A} (λ (l : Lines A). record l { tape = tape }) h.same; named = h.named }
+
+pub reserved-as : (len : ℕ) (b c : Capacities) (t u : Listed) → c ≡ b → u ≡ t → IsReserved len b t → IsReserved len c u
+reserved-as len b c t u is same reserved = subst (λ x. IsReserved len x u) (sym is) (subst (IsReserved len b) (sym same) reserved)

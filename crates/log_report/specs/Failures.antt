@@ -1,8 +1,8 @@
 -- What the arguments ask for, and what is said of how a run ended: a line on standard error, and a status.
 use Rattle.std.specs.Prelude.{ℕ, ◌^◌, List, [], ◌∷◌, codes, Option, Some, None, option_and_then, nat_lt, Bool, true, false, Result, Ok, Err, if◌then◌else◌}
 use Rattle.jtape.specs.Settings.{number_of}
-use Rattle.log_report.specs.declared.failure.Failure.{Failure}
-use Rattle.log_report.specs.declared.failure.Failure.TheVariants.{Usage, Read, Write, Resources}
+use Rattle.log_report.specs.declared.run.Failure.{Failure}
+use Rattle.log_report.specs.declared.run.Failure.TheVariants.{Usage, Read, Write, Resources}
 
 -- the line, without its line feed
 abbrev pub failure_text : Failure → List ℕ
@@ -18,7 +18,12 @@ status_of (Err Usage) = 2
 status_of (Err _) = 3
 
 -- a key, and after it, or not, how many bytes a line may have, fewer than 2^32; the first word is the program's name
-abbrev pub asked_of : List (List ℕ) → Option (List ℕ × ℕ)
-asked_of (name ∷ key ∷ []) = Some (key, 65536)
-asked_of (name ∷ key ∷ longest ∷ []) = option_and_then (λ n. if nat_lt n (2 ^ 32) then Some (key, n) else None) (number_of longest)
-asked_of _ = None
+abbrev pub settings_of : List (List ℕ) → Option (List ℕ × ℕ)
+settings_of (name ∷ key ∷ []) = Some (key, 65536)
+settings_of (name ∷ key ∷ longest ∷ []) = option_and_then (λ n. if nat_lt n (2 ^ 32) then Some (key, n) else None) (number_of longest)
+settings_of _ = None
+
+-- the line for standard error that a failure has
+abbrev pub line_of : Result Bool Failure → Option (List ℕ)
+line_of (Ok _) = None
+line_of (Err failure) = Some (failure_text failure)

@@ -1,5 +1,5 @@
 -- What is counted of a stream of lines, and how each refused line is named.
-use Rattle.std.specs.Prelude.{◌≡◌, ℕ, List, [], ◌∷◌, ◌++◌, codes, length, nat_lt, Bool, true, false, Option, None, Some, Result, Ok, Err, if◌then◌else◌}
+use Rattle.std.specs.Prelude.{ℕ, List, [], ◌∷◌, ◌++◌, codes, length, nat_lt, Bool, true, false, Option, None, Some, Result, Ok, Err, if◌then◌else◌}
 use Rattle.std.specs.Fmt.{decimal}
 use Rattle.jtape.specs.Pieces.{pieces, is_blank}
 use Rattle.simd_json.specs.MaxDepth.{default_max_depth}
@@ -16,12 +16,6 @@ use Rattle.log_report.specs.Table.{Count, one_more, none_counted, counted, no_va
 abbrev pub value_label : Option Document → List ℕ
 value_label None = no_value
 value_label (Some d) = if nat_lt 1024 (length (compact d)) then others else compact d
-
--- of a line with this answer: the label is that of its first value with the key, or the error its own
-abbrev pub IsLabelled : List ℕ → Result Document Error → Option Error → List ℕ → Type 0
-IsLabelled key (Ok d) None label = label ≡ value_label (get key d)
-IsLabelled key (Err e) (Some error) label = error ≡ e
-IsLabelled key _ _ label = ⊥
 
 -- why it is refused: for its error, or because it has more than `longest` bytes
 abbrev pub refusal_text : ℕ → Option Error → List ℕ

@@ -1,13 +1,17 @@
 -- What a run leaves.
-use Rattle.std.specs.Prelude.{◌≡◌, ◌⊎◌, ◌+◌, ◌++◌, ℕ, List, [], ◌∷◌, take, map, Bool, true, false, ◌==◌, Option, MatchResult, Result, Ok, if◌then◌else◌}
-use Rattle.std.specs.Io.KnownBytes.{Appends, Consumes, IsAtEnd}
+use Rattle.std.specs.Prelude.{◌≡◌, ◌↔◌, ◌||◌, ◌+◌, ◌++◌, ℕ, List, [], ◌∷◌, take, map, Bool, true, false, ◌==◌, Option, OnOk, Result, Ok, Err, if◌then◌else◌}
+use Rattle.std.specs.Io.KnownBytes.{Appends, Consumes, IsAtEnd, Keeps}
+use Rattle.jtape.specs.declared.port.Port.{Port}
+use Rattle.simd_json.specs.MaxDepth.{default_max_depth}
+use Rattle.simd_json.specs.Reserved.{IsReserved}
+use Rattle.simd_json_parts.specs.declared.error.Error.{Error}
 use Rattle.simd_json_parts.specs.Bytes.{line_feed}
-use Rattle.log_report.specs.Report.{Report, report_of, with_line}
+use Rattle.log_report.specs.Report.{Report, no_line, refusal_line, report_of, with_line}
 use Rattle.log_report.specs.Table.{Count, counted, refused, report_text}
-use Rattle.log_report.specs.declared.counts.Counts.{Counts}
-use Rattle.log_report.specs.declared.failure.Failure.{Failure}
-use Rattle.log_report.specs.declared.failure.Failure.TheVariants.{Read, Write, Resources}
-use Rattle.log_report.specs.declared.table.Entry.{Entry}
+use Rattle.log_report.specs.declared.run.Failure.{Failure}
+use Rattle.log_report.specs.declared.run.Failure.TheVariants.{Read, Write}
+use Rattle.log_report.specs.declared.run.Lines.{Lines}
+use Rattle.log_report.specs.declared.run.Row.{Row}
 
 -- Of a reader with these bytes left before and after, a writer of the report and one that names refused lines, which held and
 -- hold these: the reader was read to its end, and the report of its lines was written, and its refused lines were named.
@@ -19,48 +23,46 @@ pub record HasRun (key : List ℕ) (longest : ℕ) (before after held holds name
   pub refusals : Appends named names (report_of key longest input).refusals
   pub returned : result ≡ Ok (report_of key longest input).all_taken
 
+-- Of a run over ports, of what is known of their bytes: a report is that of what was read, and reading failed exactly where the
+-- reader did, writing exactly where one of the writers did; where reading failed no byte of the report was written.
+pub record Reports {R W E : Type 0} (remaining : R → Option (List ℕ)) (written : W → Option (List ℕ)) (naming : E → Option (List ℕ)) (key : List ℕ) (longest : ℕ)
+    (reader reads : Port R) (report reports : Port W) (refusals refuses : Port E) (result : Result Bool Failure) : Type 0 where
+  pub run : OnOk result (HasRun key longest (remaining reader.inner) (remaining reads.inner) (written report.inner) (written reports.inner)
+      (naming refusals.inner) (naming refuses.inner) result)
+  pub read : (result ≡ Err Read) ↔ (reads.failed ≡ true)
+  pub write : (result ≡ Err Write) ↔ ((reports.failed || refuses.failed) ≡ true)
+  pub unread : result ≡ Err Read → Keeps (written report.inner) (written reports.inner)
+
 -- ---- what private clauses cite
 
--- of a writer that has failed or not: it has, or there is no memory
-abbrev pub IsWriteFault : Bool → Failure → Type 0
-IsWriteFault failed fault = ((fault ≡ Write) × (failed ≡ true)) ⊎ ((fault ≡ Resources) × (failed ≡ false))
+abbrev pub shown : {A : Type 0} → Row A → Count
+shown row = (row.text.items, row.count)
 
--- likewise, or the reader has failed
-abbrev pub IsRunFault : Bool → Bool → Failure → Type 0
-IsRunFault reader writer fault = ((fault ≡ Read) × (reader ≡ true) × (writer ≡ false)) ⊎ ((reader ≡ false) × IsWriteFault writer fault)
+abbrev pub counts_of : {A : Type 0} → List (Row A) → List Count
+counts_of rows = map shown rows
 
--- the writer has not failed, or that is why
-abbrev pub HasWritten : {T : Type 0} → Result T Failure → Bool → Type 0
-HasWritten result failed = MatchResult result (λ _. failed ≡ false) (IsWriteFault failed)
-
-abbrev pub shown : {A : Type 0} → Entry A → Count
-shown e = (e.text.items, e.count)
-
-abbrev pub counts_of : {A : Type 0} → List (Entry A) → List Count
-counts_of es = map shown es
-
--- one line more counts as refused
-pub record IsRefused {A : Type 0} (old new : Counts A) : Type 0 where
-  pub counts : counts_of new.table.entries.items ≡ counted refused (counts_of old.table.entries.items)
-  pub all_taken : new.all_taken ≡ false
-  pub key : new.key ≡ old.key
-  pub parser : new.parser ≡ old.parser
-  pub number : new.number ≡ old.number
+-- of a writer of what is known: the last line counts as refused, and is named
+pub record IsRefused {A E : Type 0} (naming : E → Option (List ℕ)) (old new : Lines A) (refusals refuses : Port E) (error : Option Error) : Type 0 where
+  pub counts : counts_of new.table.rows.items ≡ counted refused (counts_of old.table.rows.items)
+  pub same : new ≡ record old { all_taken = false; table = new.table; refusal = new.refusal }
+  pub named : Appends (naming refusals.inner) (naming refuses.inner) (refusal_line old.longest old.number error)
 
 -- Since a writer held these bytes: the counts are those of this report, and the writer holds the lines that name refused ones, too.
-pub record Shows {A : Type 0} (lines : Counts A) (held holds : Option (List ℕ)) (key : List ℕ) (longest : ℕ) (r : Report) : Type 0 where
+pub record Shows {A : Type 0} (lines : Lines A) (held holds : Option (List ℕ)) (key : List ℕ) (longest : ℕ) (r : Report) : Type 0 where
   pub by_key : lines.key.now ≡ key
-  pub most : lines.parser.longest ≡ longest
+  pub most : lines.longest ≡ longest
+  pub limited : lines.buffers.limit ≡ default_max_depth
+  pub reserved : IsReserved lines.longest lines.buffers lines.tape
   pub number : lines.number ≡ r.number
   pub all_taken : lines.all_taken ≡ r.all_taken
-  pub counts : counts_of lines.table.entries.items ≡ r.counts
+  pub counts : counts_of lines.table.rows.items ≡ r.counts
   pub refusals : Appends held holds r.refusals
 
--- what any report that was shown has become
-abbrev pub Goes : {A : Type 0} → Counts A → Option (List ℕ) → Counts A → Option (List ℕ) → (List ℕ → ℕ → Report → Report) → Type 0
-Goes old old_holds new new_holds next =
+-- any report that was shown has become that with this line
+abbrev pub TakesLine : {A E : Type 0} → (E → Option (List ℕ)) → Lines A → Lines A → Port E → Port E → List ℕ → Type 0
+TakesLine naming old new refusals refuses line =
     (held : Option (List ℕ)) (key : List ℕ) (longest : ℕ) (r : Report)
-    → Shows old held old_holds key longest r → Shows new held new_holds key longest (next key longest r)
+    → Shows old held (naming refusals.inner) key longest r → Shows new held (naming refuses.inner) key longest (with_line key longest r line)
 
 -- a report, and the line that has begun
 abbrev pub State : Type 0
@@ -73,6 +75,24 @@ after key longest s (x ∷ bytes) =
     after key longest (if x == line_feed then (with_line key longest s.0 s.1, []) else (s.0, s.1 ++ x ∷ [])) bytes
 
 -- the counts are those of the report, and the line is kept, up to one byte more than it may have
-pub record IsAt {A : Type 0} (lines : Counts A) (kept : List ℕ) (held holds : Option (List ℕ)) (key : List ℕ) (longest : ℕ) (s : State) : Type 0 where
+pub record IsAt {A : Type 0} (lines : Lines A) (kept : List ℕ) (held holds : Option (List ℕ)) (key : List ℕ) (longest : ℕ) (s : State) : Type 0 where
   pub shown : Shows lines held holds key longest s.0
   pub line : kept ≡ take (longest + 1) s.1
+
+-- any report, and the line that has begun, have become those after this block
+abbrev pub After : {A E : Type 0} → (E → Option (List ℕ)) → Lines A → Lines A → Port E → Port E → List ℕ → List ℕ → List ℕ → Type 0
+After naming old new refusals refuses line kept block =
+    (held : Option (List ℕ)) (key : List ℕ) (longest : ℕ) (s : State)
+    → IsAt old line held (naming refusals.inner) key longest s → IsAt new kept held (naming refuses.inner) key longest (after key longest s block)
+
+-- a line that has begun has become that with these bytes
+abbrev pub IsKept : ℕ → List ℕ → List ℕ → List ℕ → Type 0
+IsKept longest line kept bytes = (begun : List ℕ) → line ≡ take (longest + 1) begun → kept ≡ take (longest + 1) (begun ++ bytes)
+
+-- from no line, all lines of the reader were counted, and the report of them written
+abbrev pub Finishes : {A R W E : Type 0} → (R → Option (List ℕ)) → (W → Option (List ℕ)) → (E → Option (List ℕ)) → Lines A → Lines A
+    → Port R → Port R → Port W → Port W → Port E → Port E → Type 0
+Finishes remaining written naming old new reader reads report reports refusals refuses =
+    (key : List ℕ) (longest : ℕ) → Shows old (naming refusals.inner) (naming refusals.inner) key longest no_line
+    → HasRun key longest (remaining reader.inner) (remaining reads.inner) (written report.inner) (written reports.inner)
+    (naming refusals.inner) (naming refuses.inner) (Ok new.all_taken)

@@ -1,43 +1,64 @@
-//! `log_report KEY [BYTES]` reads JSON Lines from standard input, in memory that does not depend on how many there
-//! are, and counts the lines by their value at a key. docs/LINES.md says what it prints.
+//! `log_report KEY [BYTES]` counts the lines of JSON Lines on standard input by their value at a key, in memory
+//! that does not depend on how many there are. docs/LINES.md says what it prints.
 #![tactic(auto)]
 
-mod counts;
-mod failure;
-mod label;
-mod run;
-mod table;
+ghost use Rattle.std.specs.Prelude.{◌≡◌, map, option_map, string_bytes};
+ghost use Rattle.log_report.specs.Failures.{settings_of, line_of, status_of};
 
-use failure::{Failure, asked, exit_status};
-use jtape::Port;
-use run::run;
+mod run;
+
+use jtape::{Port, number_named};
+use run::{Failure, run};
 use std::process::ExitCode;
 use std::{env, io};
 
+// How many bytes a line may have by default, and at most.
+const LONGEST: usize = 65_536;
+
+const MOST: usize = 4_294_967_295;
+
 fn main(rt: HostRuntime) -> ExitCode {
-    let ended = program(&rt);
-    if let Err(failure) = &ended {
-        let _ = eprintln!(rt; "{failure}");
+    let (status, line) = ending(&program(&rt));
+    if let Some(line) = line {
+        let _ = eprintln!(rt; "{line}");
     }
-    ExitCode::from(exit_status(&ended))
+    ExitCode::from(status)
 }
 
 fn program(rt: &HostRuntime) -> Result<bool, Failure> {
     let words = arguments(rt).map_err(|_| Failure::Usage)?;
-    let (key, longest) = asked(words.as_slice()).ok_or(Failure::Usage)?;
-    let mut reader = Port::new(rt.reader());
-    let mut report = Port::new(io::writer(rt));
-    let mut refusals = Port::new(rt.stderr());
-    run(
-        rt.alloc(),
-        key,
-        longest,
-        &mut reader,
-        &mut report,
-        &mut refusals,
-    )
+    let (key, longest) = settings(words.as_slice()).ok_or(Failure::Usage)?;
+    let (mut input, mut out) = (Port::new(rt.reader()), Port::new(io::writer(rt)));
+    let mut err = Port::new(rt.stderr());
+    run(rt.alloc(), key, longest, &mut input, &mut out, &mut err)
 }
 
 fn arguments(rt: &HostRuntime) -> io::Result<Vec<String>> {
     Ok(env::args(rt)?.collect(rt.alloc())?)
+}
+
+// The key, and how many bytes a line may have. The first word is the program's name.
+fn settings(words: &[String]) -> Option<(&str, usize)>
+    ensures { option_map (λ r. (r.0.now, r.1)) result ≡ settings_of (map string_bytes words.now) }
+{
+    let (key, longest) = match words {
+        [_, key] => (key.as_str(), LONGEST),
+        [_, key, longest] => (key.as_str(), number_named(longest.as_str())?),
+        _ => return None,
+    };
+    (longest <= MOST).then_some((key, longest))
+}
+
+// The status that the program ends with, and the line for standard error.
+fn ending(ended: &Result<bool, Failure>) -> (u8, Option<&'static str>)
+    ensures { (result.0 ≡ status_of ended.now) × (option_map (λ line. line.now) result.1 ≡ line_of ended.now) }
+{
+    match ended {
+        Ok(true) => (0, None),
+        Ok(false) => (1, None),
+        Err(Failure::Usage) => (2, Some("usage: log_report KEY [BYTES]")),
+        Err(Failure::Read) => (3, Some("reading failed")),
+        Err(Failure::Write) => (3, Some("writing failed")),
+        Err(Failure::Resources) => (3, Some("out of memory")),
+    }
 }

@@ -1,3 +1,4 @@
+mod Alike
 mod ParseLaws
 mod ParseEnds
 mod ParseAnswers
@@ -14,3 +15,7 @@ mod Encoded
 mod Pointed
 mod StringScan
 mod ByteBefore
+mod WalkedTokens
+mod WalkedSteps
+mod WalkedLoops
+mod WalkedRoot

@@ -1,19 +1,20 @@
 -- A JSON Pointer a token at a time.
-use Rattle.std.proofs.Common.{◌≡◌, ◌≢◌, ◌∙◌, ap, sym, refl, ◌<◌, ◌≤◌, ◌+◌, ◌-◌, ◌*◌, ◌↔◌, ℕ, zero, suc, Bool, true, false, cond, bytes_eq, List, [], ◌∷◌, length, map, take, drop, length-drop, get_or, Some, None, Option, option_map, Result, Ok, Err, arith, ne_eqb, lit<}
-use Rattle.std.proofs.lemmas.Bool.{ltb-false, le-ltb}
+use Rattle.std.proofs.Common.{◌≡◌, ◌≢◌, ◌∙◌, ap, sym, refl, ◌<◌, ◌≤◌, ◌+◌, ◌-◌, ◌*◌, ◌↔◌, ℕ, zero, suc, Bool, true, false, cond, bytes_eq, List, [], ◌∷◌, length, map, take, drop, length-drop, get_or, Some, None, Option, option_map, Result, Ok, Err, arith, ne_eqb, lit<, subst, eqb}
+use Rattle.std.proofs.lemmas.Bool.{eqb-true, eq-eqb, ltb-false, le-ltb}
 use Rattle.std.proofs.lemmas.Int.Digits.{number_more, number_after_append, number_after_ge}
 use Rattle.std.proofs.lemmas.List.{get_or-take, get_or-drop, get_or-map, length-take-le, length-map, take_all, take-append-drop, drop-drop, drop_more, drop_all}
 use Rattle.std.specs.Char.{digit_value}
 use Rattle.std.specs.Int.Digits.{number_from_digits, number_from_digits_after}
 use Rattle.std.proofs.lemmas.Option.{slice_get_past}
 use Rattle.std.proofs.lemmas.Slice.Eq.{bytes_eq-Decides}
+use Rattle.std.proofs.lemmas.Grind.{same_number_lists}
 use Rattle.std.specs.Prelude.{◌==◌, ◌^◌, nat_lt, slice_get, ok_or, is_some, option_and_then}
 use Rattle.std.specs.Result.{result_ok}
 use Rattle.simd_json_parts.specs.Document.{Document, array, object, elements, Elements, Members, members}
 use Rattle.simd_json_parts.specs.Views.{first_with, is_array, is_object, value_type}
 use Rattle.simd_json_parts.specs.declared.node.ValueType.{ValueType}
 use Rattle.simd_json.specs.Pointed.{with_first, tokens, unescaped, is_array_index, array_index, element_at, member_at, named, stop, go_on, followed, pointed_from}
-use Rattle.simd_json.specs.Followed.{IsWritten, tokens_after, first_of, first_step, fits_64}
+use Rattle.simd_json.specs.Followed.{AreAlike, IsPlain, IsWritten, tokens_after, first_of, first_step, fits_64}
 use Rattle.simd_json.specs.declared.value.pointer.PointerError.{PointerError}
 use Rattle.simd_json.specs.declared.value.pointer.PointerExpected.{PointerExpected}
 use Rattle.simd_json.specs.declared.value.pointer.PointerExpected.TheVariants as lacking
@@ -42,7 +43,7 @@ tokens-whole p n past lacks =
     tokens-first p (length p) (omega arith) (λ k less. lacks k (omega arith)) (λ less. absurd (omega arith))
     ∙ ap (λ t. t ∷ tokens_after (drop (length p) p)) (take_all (length p) p (omega arith))
 
-unescaped-plain : (t : List ℕ) → Lacks 126 (length t) t → unescaped t ≡ Some t
+pub unescaped-plain : (t : List ℕ) → Lacks 126 (length t) t → unescaped t ≡ Some t
 unescaped-plain [] lacks = refl
 unescaped-plain (c ∷ []) lacks = rw (ne_eqb c 126 (lacks 0 (omega arith))) refl
 unescaped-plain (c ∷ e ∷ t) lacks =
@@ -54,11 +55,79 @@ lacks-front p n within lacks k less is =
     let inside : k < n = omega (arith, length-take-le n p within) in
     lacks k inside (sym (get_or-take n p k 0 inside) ∙ is)
 
-pub unescaped-front : (p : List ℕ) (n : ℕ) → n < length p → Lacks 126 n p → unescaped (take n p) ≡ Some (take n p)
-unescaped-front p n inside lacks = unescaped-plain (take n p) (lacks-front p n (omega arith) lacks)
+pub plain-front : (p : List ℕ) (n : ℕ) → n < length p → Lacks 126 n p → IsPlain (take n p)
+plain-front p n inside lacks = lacks-front p n (omega arith) lacks
 
-pub unescaped-whole : (p : List ℕ) (n : ℕ) → length p ≤ n → Lacks 126 n p → unescaped p ≡ Some p
-unescaped-whole p n past lacks = unescaped-plain p (λ k less. lacks k (omega arith))
+pub plain-whole : (p : List ℕ) (n : ℕ) → length p ≤ n → Lacks 126 n p → IsPlain p
+plain-whole p n past lacks k less = lacks k (omega arith)
+
+-- ---- the first token of what is left of a pointer
+
+pub record IsFirst (p t : List ℕ) : Type 0 where
+  pub within : length t ≤ length p
+  pub split : tokens p ≡ t ∷ tokens_after (drop (length t) p)
+  pub ended : length t < length p → get_or p (length t) 0 ≡ 47
+  pub lacks : Lacks 47 (length t) t
+  pub front : take (length t) p ≡ t
+
+lacks-more : (c n : ℕ) (t : List ℕ) → c ≢ 47 → Lacks 47 n t → Lacks 47 (suc n) (c ∷ t)
+lacks-more c n t other lacks zero less is = other is
+lacks-more c n t other lacks (suc k) less is = lacks k (omega arith) is
+
+first-more : (c : ℕ) (p : List ℕ) → IsFirst p (first_of (tokens p)) → (b : Bool) → eqb c 47 ≡ b → IsFirst (c ∷ p) (first_of (tokens (c ∷ p)))
+first-more c p rest true is =
+    let all : tokens (c ∷ p) ≡ [] ∷ tokens p = ap (λ b. cond b ([] ∷ tokens p) (with_first c (tokens p))) is in
+    let first : IsFirst (c ∷ p) [] = record {
+      within = omega arith;
+      split = all;
+      ended = λ less. eqb-true c 47 is;
+      lacks = λ k less e. absurd (omega arith);
+      front = refl;
+    } in
+    subst (IsFirst (c ∷ p)) (sym (ap first_of all)) first
+first-more c p rest false is =
+    let t = first_of (tokens p) in
+    let all : tokens (c ∷ p) ≡ (c ∷ t) ∷ tokens_after (drop (length t) p) =
+    ap (λ b. cond b ([] ∷ tokens p) (with_first c (tokens p))) is ∙ ap (with_first c) rest.split in
+    let other : c ≢ 47 = λ e. (let yes : eqb c 47 ≡ true = eq-eqb c 47 e in cc) in
+    let first : IsFirst (c ∷ p) (c ∷ t) = record {
+      within = omega (arith, rest.within);
+      split = all;
+      ended = λ less. rest.ended (omega arith);
+      lacks = lacks-more c (length t) t other rest.lacks;
+      front = ap (λ l. c ∷ l) rest.front;
+    } in
+    subst (IsFirst (c ∷ p)) (sym (ap first_of all)) first
+
+pub first-is : (p : List ℕ) → IsFirst p (first_of (tokens p))
+first-is [] = record {
+  within = omega arith;
+  split = refl;
+  ended = λ less. absurd (omega arith);
+  lacks = λ k less e. absurd (omega arith);
+  front = refl;
+}
+first-is (c ∷ p) = first-more c p (first-is p) (eqb c 47) refl
+
+-- a key that the bytes in front are
+pub first-alike : (p t : List ℕ) → length t ≤ length p → (length t < length p → get_or p (length t) 0 ≡ 47) → AreAlike p t 0 (length t)
+    → (first_of (tokens p) ≡ t) × IsPlain t
+first-alike p t within ended alike =
+    let n = length t in
+    let long : length (take n p) ≡ n = length-take-le n p within in
+    let front : take n p ≡ t =
+    same_number_lists (take n p) t long (λ k less. get_or-take n p k 0 (omega arith) ∙ (alike k (omega arith) (omega arith)).0) in
+    let lacks : Lacks 47 n p = λ k less e. (alike k (omega arith) less).1 (sym (alike k (omega arith) less).0 ∙ e) in
+    (ap first_of (tokens-first p n within lacks ended) ∙ front, λ k less. (alike k (omega arith) less).2)
+
+pub alike-first : (p t : List ℕ) → first_of (tokens p) ≡ t → IsPlain t
+    → (length t ≤ length p) × (length t < length p → get_or p (length t) 0 ≡ 47) × AreAlike p t 0 (length t)
+alike-first p t is plain =
+    let first : IsFirst p t = subst (IsFirst p) is (first-is p) in (
+      first.within,
+      first.ended,
+      λ k from less. (sym (get_or-take (length t) p k 0 less) ∙ ap (λ l. get_or l k 0) first.front, first.lacks k less, plain k less),
+    )
 
 -- ---- escapes
 
@@ -125,6 +194,32 @@ key-is-whole key m within = (
   λ is. (let empty : drop m key ≡ [] = cc in omega (arith, length-drop m key, ap length empty)),
   λ all. ap Some (sym (drop_all m key (omega arith))),
 )
+
+-- ---- how long a decoded token is
+
+pub len-first : (o : Option (List ℕ)) → option_map (λ key. length key) o ≡ option_map (λ key. 0 + length key) o
+len-first None = refl
+len-first (Some key) = let same : length key ≡ 0 + length key = omega arith in ap Some same
+
+pub len-more : (o : Option (List ℕ)) (x n : ℕ)
+    → option_map (λ key. n + length key) (option_map (λ key. x ∷ key) o) ≡ option_map (λ key. n + 1 + length key) o
+len-more None x n = refl
+len-more (Some key) x n = ap Some (omega arith)
+
+pub len-none : (o rest : Option (List ℕ)) (n : ℕ) → option_map (λ key. length key) o ≡ option_map (λ key. n + length key) rest → rest ≡ None
+    → None ≡ option_map (λ key. length key) o
+len-none o rest n same none = sym (same ∙ ap (option_map (λ key. n + length key)) none)
+
+pub len-of : (o : Option (List ℕ)) (key : List ℕ) (n : ℕ) → Some n ≡ option_map (λ k. length k) o → o ≡ Some key → length key ≡ n
+len-of o key n is has = let both : Some n ≡ Some (length key) = is ∙ ap (option_map (λ k. length k)) has in let same : n ≡ length key = cc in sym same
+
+pub malformed : (o : Option (List ℕ)) → None ≡ option_map (λ k. length k) o → o ≡ None
+malformed None is = refl
+malformed (Some key) is = cc
+
+pub is_some-len : (o : Option (List ℕ)) → is_some (option_map (λ k. length k) o) ≡ is_some o
+is_some-len None = refl
+is_some-len (Some key) = refl
 
 -- ---- results
 
@@ -374,10 +469,6 @@ pub token-step : (p q t : List ℕ) (ts : List (List ℕ)) (d : Document) → 0 
 token-step [] q t ts d some begins is split = absurd (omega arith)
 token-step (c ∷ p) q t ts d some begins is split =
     ap (λ x. first_step (x ∷ p) d) begins ∙ ap (λ l. named (first_of (tokens l)) d) (sym is) ∙ ap (λ xs. named (first_of xs) d) split
-
-pub some-written : (o : Option (List ℕ)) (x : ℕ) → is_some (option_map (λ k. x ∷ k) o) ≡ is_some o
-some-written None x = refl
-some-written (Some k) x = refl
 
 pub some-left : (p : List ℕ) (i : ℕ) → i < length p → 0 < length (drop i p)
 some-left p i inside = omega (arith, length-drop i p)

@@ -1,8 +1,8 @@
 -- A JSON Pointer a token at a time. Only private clauses cite it.
-use Rattle.std.specs.Prelude.{◌≡◌, ◌<◌, ◌≤◌, ℕ, ◌^◌, List, [], ◌∷◌, length, drop, nat_lt, ◌==◌, if◌then◌else◌, Option, Some, None, option_map, Result, Ok, Err}
+use Rattle.std.specs.Prelude.{◌≡◌, ◌≢◌, ◌<◌, ◌≤◌, ℕ, ◌^◌, List, [], ◌∷◌, length, drop, slice_index, nat_lt, ◌==◌, if◌then◌else◌, Option, Some, None, option_map, Result, Ok, Err}
 use Rattle.simd_json_parts.specs.Bytes.{slash}
 use Rattle.simd_json_parts.specs.Document.{Document}
-use Rattle.simd_json.specs.Pointed.{tokens, unescaped, named}
+use Rattle.simd_json.specs.Pointed.{tokens, tilde, unescaped, named}
 use Rattle.simd_json.specs.declared.value.pointer.Written.{Written}
 use Rattle.simd_json.specs.declared.value.pointer.PointerExpected.{PointerExpected}
 use Rattle.simd_json.specs.declared.value.pointer.PointerExpected.TheVariants as lacking
@@ -20,6 +20,14 @@ first_of (t ∷ ts) = t
 abbrev pub first_step : List ℕ → Document → Result Document PointerExpected
 first_step [] d = Ok d
 first_step (c ∷ p) d = if c == slash then named (first_of (tokens p)) d else Err lacking.Slash
+
+-- a token without escapes
+abbrev pub IsPlain : List ℕ → Type 0
+IsPlain t = (k : ℕ) → k < length t → slice_index t k ≢ tilde
+
+-- from an index up to another both have the same bytes, none of them a `/` or a `~`
+abbrev pub AreAlike : List ℕ → List ℕ → ℕ → ℕ → Type 0
+AreAlike p t i j = (k : ℕ) → i ≤ k → k < j → (slice_index p k ≡ slice_index t k) × (slice_index t k ≢ slash) × (slice_index t k ≢ tilde)
 
 abbrev pub fits_64 : ℕ → Option ℕ
 fits_64 n = if nat_lt n (2 ^ 64) then Some n else None

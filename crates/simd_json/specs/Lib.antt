@@ -23,3 +23,5 @@ pub mod Followed
 pub mod Locations
 pub mod Reasons
 pub mod Messages
+pub mod Walked
+pub mod WalkedNext

@@ -19,8 +19,8 @@ use std::marker::Model;
 /// What parses use one after another: the lists of the structural positions and of the blocks that hold a
 /// backslash, and the stack of the open containers, of which there may be so many.
 ///
-/// Each list grows by what an input needs, and is never given up. What buffers held before does not change an
-/// answer.
+/// Each list grows by what an input needs, and is never given up. What buffers held before does not change a
+/// result.
 // The lists are kept filled up to their capacity.
 #[derive(Drop)]
 pub struct Buffers<A: Allocator = Global> {
@@ -92,7 +92,7 @@ impl<A: Allocator> Buffers<A> {
     /// string, and outside strings of each structural character and of the first byte of each other token.
     /// They rise.
     ///
-    /// There are none before the first parse, and none after one that answered an error without a character.
+    /// There are none before the first parse, and none after one that returned an error without a character.
     pub fn structural_indexes(&self) -> &[u32]
         ensures { result.now ≡ self.now.positions }
     {

@@ -21,7 +21,7 @@ use std::marker::Model;
 
 /// A tape and a position on it: [`next_`](Deserializer::next_) gives one node after another, in preorder.
 ///
-/// A new one stands at node 0, as one that is [restarted](Deserializer::restart) does, so it is
+/// A new one is at node 0, as one that is [restarted](Deserializer::restart) does, so it is
 /// [at its end](Deserializer::is_at_end) exactly if its tape is empty.
 #[derive(Debug, Drop)]
 pub struct Deserializer<'de, A: Allocator = Global> {
@@ -38,7 +38,7 @@ impl<'de, A: Allocator> Model for Deserializer<'de, A> {
 }
 
 impl<'de, A: Allocator + Copy> Deserializer<'de, A> {
-    /// Reads a document as [`to_tape`] does, with the same errors, and stands at its first node.
+    /// Reads a document as [`to_tape`] does, with the same errors, and is at its first node.
     ///
     /// ```
     /// use simd_json::{Deserializer, Node};
@@ -68,7 +68,7 @@ impl<'de, A: Allocator + Copy> Deserializer<'de, A> {
         Ok(Deserializer::from_tape(to_tape(a, input)?))
     }
 
-    /// Reads a document as [`to_tape_with_buffers`] does, with the same errors, and stands at its first node.
+    /// Reads a document as [`to_tape_with_buffers`] does, with the same errors, and is at its first node.
     /// The tape takes its memory from the allocator of the buffers, and these are left as by
     /// [`to_tape_with_buffers`].
     pub fn from_slice_with_buffers(

@@ -1,5 +1,5 @@
-//! Laws of what a parse leaves, of which the entry points have one statement, and of the documents that
-//! values stand for. Each function has an empty body: its contract is the law, and what it says is proved.
+//! Laws of what a parse leaves, of which the entry points have one statement, and of the documents of
+//! values. Each function has an empty body: its contract is the law, and what it says is proved.
 ghost use Rattle.std.specs.Prelude.{◌≡◌, ◌≤◌, ◌↔◌, ◌∷◌, ℕ, List, length, take};
 ghost use Rattle.std.specs.Prelude.{Option, Some, None, Ok, IsSome};
 ghost use Rattle.std.specs.Result.{result_err};
@@ -22,8 +22,8 @@ ghost use Rattle.simd_json.specs.Viewed.{doc};
 ghost use Rattle.simd_json.specs.declared.value.tape.value.Value.{Value};
 ghost use Rattle.simd_json_parts.specs.declared.error.Error.{Error};
 
-/// A parse in which no allocation fails returns what the definitions answer, with the nodes of their
-/// document, and it lists the positions that belong to this answer.
+/// A parse in which no allocation fails returns the result of the definitions, with the nodes of their
+/// document, and it lists the positions that belong to this result.
 pub fn parses_are_answers()
     ensures { (b : List ℕ) (limit capacity : ℕ) (fault : Option Error)
         (nodes : List Item) (listed : List ℕ)
@@ -77,7 +77,7 @@ pub fn documents_are_known_by_their_listing()
     ensures { (d e : Document) → listing d ≡ listing e → d ≡ e }
 {}
 
-/// So the value that a parsed tape is read as, whose listing is the tape's, stands for the document that the
+/// So the document of a parsed tape's value, whose listing is the tape's, is the document that the
 /// bytes denote.
 pub fn values_stand_for_parsed_documents()
     ensures { (b : List ℕ) (limit capacity : ℕ) (nodes : List Item) (listed : List ℕ) (d : Document)

@@ -30,8 +30,8 @@ pub use value::pointer::{PointerError, PointerExpected};
 pub use value::tape;
 pub use value::tape::Tape;
 
-/// How many containers may be open at a time, unless another limit is asked for.
+/// How many containers may be open at a time, unless another limit is given.
 pub const DEFAULT_MAX_DEPTH: usize = 1024;
 
-/// How many bytes [`fill_tape_padded`] asks for after its document.
+/// How many bytes [`fill_tape_padded`] needs after its document.
 pub const INPUT_PADDING: usize = 64;

@@ -8,6 +8,8 @@ mod find;
 mod place;
 mod reason;
 mod scan;
+mod tokens;
+mod walk;
 
 use context::reason_for;
 pub use find::locate;

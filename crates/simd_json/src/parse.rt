@@ -59,7 +59,7 @@ pub fn to_tape<'de, A: Allocator + Copy>(a: A, s: &'de mut [u8]) -> Result<Tape<
 /// tape takes its memory from the allocator of the buffers.
 ///
 /// The errors are those of [`to_tape`]. After one without a character `structural_indexes` of the buffers is
-/// empty; else it lists the positions of `s`. The buffers can be used again after every answer.
+/// empty; else it lists the positions of `s`. The buffers can be used again after every call.
 ///
 /// ```
 /// use simd_json::{Buffers, to_tape_with_buffers};
@@ -91,7 +91,7 @@ pub fn to_tape_with_buffers<'de, A: Allocator + Copy>(
 ///
 /// The errors are those of [`to_tape`]. After one the tape is empty. After one without a character
 /// `structural_indexes` of the buffers is empty too; else it lists the positions of `s`. Buffers and tape can
-/// be used again after every answer.
+/// be used again after every call.
 ///
 /// Where buffers and tape have capacity for as many bytes as `s` has, as after [`reserve`], `OutOfMemory` is
 /// not returned. No parse gives up capacity.

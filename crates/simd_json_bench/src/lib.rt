@@ -1,4 +1,4 @@
-//! What a program in C calls to time the parser: a text with buffers made anew, and many texts with buffers that
+//! What a program in C calls to time the parser: a text with new buffers, and many texts with buffers that
 //! are kept.
 //!
 //! A text is a pointer and a length. A [`Global`] takes no bytes, so C passes nothing for it:
@@ -9,8 +9,8 @@
 //! int64_t simd_json_bench_scan_all(const uint8_t *texts, size_t size, size_t stride, size_t len);
 //! ```
 //!
-//! Each answers a count, or -1 where a text was refused, or -2 where there is no telling: a growth was refused,
-//! or the count is too great. The last two take texts of `len` bytes, one at the front of each whole `stride` of
+//! Each returns a count, or -1 where a text was refused, or -2 where an allocation failed or the count is too
+//! great. The last two take texts of `len` bytes, one at the front of each whole `stride` of
 //! `texts`.
 #![tactic(auto)]
 
@@ -41,7 +41,7 @@ fn reported(count: Result<usize>) -> i64
     }
 }
 
-/// Reads a text with buffers made anew. Answers the number of its nodes.
+/// Reads a text with new buffers. Returns the number of its nodes.
 #[unsafe(no_mangle)]
 pub extern "C" fn simd_json_bench_parse(alloc: Global, text: &mut [u8]) -> i64
     ensures nodes { (n : ℕ) → result ≡ pos n → HasNodes text.old n }

@@ -1,4 +1,4 @@
-//! The examples of the documents, as they stand there, and those of the standard for JSON Pointers. Other crates
+//! The examples of the documents, as printed there, and those of the standard for JSON Pointers. Other crates
 //! need nothing of it.
 #![tactic(auto)]
 

@@ -32,7 +32,7 @@ pub fn byte_or_space(bytes: &[u8], i: usize) -> u8
 
 /// The number that four hexadecimal digits spell, in either case; none if one of them is no such digit.
 ///
-/// No digit is looked at by itself: one test of the sum tells whether all four are digits.
+/// No digit is looked at by itself: one test of the sum shows whether all four are digits.
 #[inline]
 pub fn hex_to_u32_nocheck(digits: [u8; 4]) -> Option<u32>
     ensures { result ≡ hex_value (slice_index digits 0) (slice_index digits 1)

@@ -120,7 +120,7 @@ pub struct Error {
 }
 
 impl Error {
-    /// An error of this kind at this byte of the input, with the character that stands there.
+    /// An error of this kind at this byte of the input, with the character there.
     pub fn new(index: usize, character: Option<char>, error: ErrorType) -> Error
         ensures { result ≡ error_of index character error }
     {

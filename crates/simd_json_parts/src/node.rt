@@ -217,12 +217,12 @@ impl Node<'_> {
     }
 }
 
-/// A value of another kind than the one asked for.
+/// A value of another kind than the expected one.
 ///
 /// It prints in words, as `expected a string, found an array`.
 #[derive(Clone, Copy, Debug, Drop, PartialEq, Eq)]
 pub struct TryTypeError {
-    /// The kind that was asked for.
+    /// The kind that was expected.
     pub expected: ValueType,
     /// The kind of the value.
     pub got: ValueType,

@@ -8,3 +8,4 @@ pub mod Steps
 pub mod Decoding
 pub mod Plain
 pub mod Reader
+pub mod Passing

@@ -19,7 +19,7 @@ mod tests;
 pub use integers::parse_long;
 pub use short::parse_short;
 
-/// What stands at the front of some bytes, read as a number.
+/// The front of some bytes, read as a number.
 #[derive(Clone, Copy, Debug, Drop, PartialEq, Eq)]
 pub enum Number {
     /// An integer, as a node, whose literal has so many bytes.
@@ -30,7 +30,7 @@ pub enum Number {
     Invalid(usize),
 }
 
-/// The same in two words, for a reader that knows the first byte: it tells the sign of an integer. An integer
+/// The same in two words, for a reader that knows the first byte, and so the sign. An integer
 /// of more than nineteen bytes is left to [`parse_long`], so that readers of shorter ones know no 128 bits.
 #[derive(Clone, Copy, Debug, Drop, PartialEq, Eq)]
 pub enum Numeral {

@@ -1,9 +1,10 @@
 -- Positions and what is kept, a byte further, in the form in which words compute them.
-use Rattle.std.proofs.Common.{◌≡◌, refl, sym, ◌∙◌, ap, ap₂, ℕ, zero, suc, ◌+◌, ◌<◌, ◌≤◌, List, Bool, true, false, not, ◌&&◌, ◌||◌, ◌==◌, add-zero, add-suc, T, arith}
+use Rattle.std.proofs.Common.{◌≡◌, refl, sym, ◌∙◌, ap, ap₂, ℕ, zero, suc, ◌+◌, ◌<◌, ◌≤◌, List, Bool, true, false, not, ◌&&◌, ◌||◌, ◌==◌}
+use Rattle.std.proofs.Common.{add-zero, add-suc, T, arith}
 use Rattle.std.proofs.Math.Bool.{beq}
 use Rattle.simd_json_parts.specs.Bytes.{quote, backslash, is_whitespace, is_structural, is_control, byte_at}
 use Rattle.simd_json_parts.specs.Positions.{is_even, backslashes_before, is_real_quote, real_quotes, is_inside, is_fresh, is_position}
-use Rattle.simd_json_stages.specs.Classes.{is_soft, is_hard}
+use Rattle.simd_json_stages.specs.Classes.{is_space_or_quote, is_op_or_quote}
 use Rattle.simd_json_stages.specs.Words.{is_set, xor, escaped_in, parity}
 use Rattle.simd_json_stages.specs.Blocks.{is_plain, is_plain_before}
 use Rattle.simd_json_stages.proofs.CarryLaws.{odd-next, inside-next}
@@ -14,14 +15,14 @@ use Rattle.simd_json_stages.proofs.Bits.Computed.{upto, upto_sound, same, same_i
 by_bytes : (p q : ℕ → Bool) → T (upto (λ x. same (p x) (q x)) 256) → (x : ℕ) → x < 256 → p x ≡ q x
 by_bytes p q all x h = same_is _ _ (upto_sound (λ y. same (p y) (q y)) 256 all x h)
 
-pub quote-classes : (x : ℕ) → x < 256 → (is_soft x && is_hard x) ≡ (x == quote)
-quote-classes = by_bytes (λ x. is_soft x && is_hard x) (λ x. x == quote) tt
+pub quote-classes : (x : ℕ) → x < 256 → (is_space_or_quote x && is_op_or_quote x) ≡ (x == quote)
+quote-classes = by_bytes (λ x. is_space_or_quote x && is_op_or_quote x) (λ x. x == quote) tt
 
-pub structural-classes : (x : ℕ) → x < 256 → (is_hard x && not (is_control x || is_soft x)) ≡ is_structural x
-structural-classes = by_bytes (λ x. is_hard x && not (is_control x || is_soft x)) is_structural tt
+pub structural-classes : (x : ℕ) → x < 256 → (is_op_or_quote x && not (is_control x || is_space_or_quote x)) ≡ is_structural x
+structural-classes = by_bytes (λ x. is_op_or_quote x && not (is_control x || is_space_or_quote x)) is_structural tt
 
-pub space-classes : (x : ℕ) → x < 256 → xor (is_soft x) (is_soft x && is_hard x) ≡ is_whitespace x
-space-classes = by_bytes (λ x. xor (is_soft x) (is_soft x && is_hard x)) is_whitespace tt
+pub space-classes : (x : ℕ) → x < 256 → xor (is_space_or_quote x) (is_space_or_quote x && is_op_or_quote x) ≡ is_whitespace x
+space-classes = by_bytes (λ x. xor (is_space_or_quote x) (is_space_or_quote x && is_op_or_quote x)) is_whitespace tt
 
 apart : (x : ℕ) → x < 256 → (is_structural x && is_whitespace x) ≡ false
 apart = by_bytes (λ x. is_structural x && is_whitespace x) (λ x. false) tt

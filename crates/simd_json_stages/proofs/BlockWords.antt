@@ -1,19 +1,23 @@
 -- The words of one block.
-use Rattle.std.proofs.Common.{◌≡◌, refl, sym, ◌∙◌, ap, ap₂, subst, ℕ, zero, suc, ◌+◌, ◌-◌, ◌/◌, ◌%◌, ◌^◌, ◌<◌, List, [], ◌∷◌, length, get_or, Bool, true, false, ◌&&◌, ◌||◌, ◌==◌, add-zero, add-suc, arith}
+use Rattle.std.proofs.Common.{◌≡◌, refl, sym, ◌∙◌, ap, ap₂, subst, ℕ, zero, suc, ◌+◌, ◌-◌, ◌/◌, ◌%◌, ◌^◌, ◌<◌, List, [], ◌∷◌, length}
+use Rattle.std.proofs.Common.{get_or, Bool, true, false, ◌&&◌, ◌||◌, ◌==◌, add-zero, add-suc, arith}
 use Rattle.std.specs.List.{list_any, range_with_len}
 use lib.Bits.{bit_and, bit_or, bit_xor}
 use mir.Val.{bool_byte}
 use Rattle.simd_json_parts.specs.Bytes.{backslash, is_whitespace, is_structural, is_control, byte_at}
 use Rattle.simd_json_parts.specs.Positions.{is_real_quote, is_inside, is_position}
-use Rattle.simd_json_stages.specs.Classes.{is_soft, is_hard}
+use Rattle.simd_json_stages.specs.Classes.{is_space_or_quote, is_op_or_quote}
 use Rattle.simd_json_stages.specs.Words.{HasBits, escaped_in, parity as parity_of}
-use Rattle.simd_json_stages.specs.Blocks.{is_plain, is_plain_before, all_bits, IsBlock, HasClasses, IsControl, IsCarried, AreClassified, AreParts, AreMarks}
+use Rattle.simd_json_stages.specs.Blocks.{is_plain, is_plain_before, all_bits, IsBlock, HasClasses, IsControl, IsCarried, AreClassified}
+use Rattle.simd_json_stages.specs.Blocks.{AreParts, AreStarts}
 use Rattle.simd_json_stages.specs.declared.stage1.words.Carry.{Carry}
 use Rattle.simd_json_stages.specs.declared.stage1.words.Parts.{Parts}
 use Rattle.simd_json_stages.specs.declared.stage1.words.Classified.{Classified}
 use Rattle.simd_json_stages.proofs.Bits.Operations.{flip, shl}
-use Rattle.simd_json_stages.proofs.Bits.Combined.{bits-and, bits-or, bits-xor, bits-not, bits-same, after, bits-after, bits-all, bits-last, bits-last_spread}
-use Rattle.simd_json_stages.proofs.BlockLaws.{escaped_at, open_at, quote-classes, structural-classes, space-classes, quote-real, inside-along, inside-open, escaped-along, position-found}
+use Rattle.simd_json_stages.proofs.Bits.Combined.{bits-and, bits-or, bits-xor, bits-not, bits-same, after, bits-after, bits-all, bits-last}
+use Rattle.simd_json_stages.proofs.Bits.Combined.{bits-last_spread}
+use Rattle.simd_json_stages.proofs.BlockLaws.{escaped_at, open_at, quote-classes, structural-classes, space-classes, quote-real}
+use Rattle.simd_json_stages.proofs.BlockLaws.{inside-along, inside-open, escaped-along, position-found}
 use Rattle.simd_json_stages.proofs.Bits.Escapes.{no_escapes, none_set}
 
 and-swap : (s t : Bool) → (s && t) ≡ (t && s)
@@ -25,27 +29,28 @@ and-swap false false = refl
 -- ---- the parts of a block
 
 abbrev quotes : ℕ → ℕ → ℕ
-quotes soft hard = bit_and soft hard
+quotes s o = bit_and s o
 
 abbrev real : ℕ → ℕ → ℕ → ℕ
-real soft hard escaped = bit_and (quotes soft hard) (flip escaped)
+real s o escaped = bit_and (quotes s o) (flip escaped)
 
-pub parts-found : (b : List ℕ) (at soft hard control escaped parity : ℕ) → HasClasses b at soft hard control escaped
-    → HasBits parity (λ i. parity_of (real soft hard escaped) (i + 1))
+pub parts-found : (b : List ℕ) (at s o control escaped parity : ℕ) → HasClasses b at s o control escaped
+    → HasBits parity (λ i. parity_of (real s o escaped) (i + 1))
     → AreParts b at (record {
       parity = parity;
       plain = flip (bit_or
-          (bit_or (bit_and hard (flip (bit_or control soft))) (bit_xor soft (quotes soft hard))) (real soft hard escaped));
-      space = bit_xor soft (quotes soft hard);
-      quote = real soft hard escaped;
+          (bit_or (bit_and o (flip (bit_or control s))) (bit_xor s (quotes s o))) (real s o escaped));
+      space = bit_xor s (quotes s o);
+      quote = real s o escaped;
     })
-parts-found b at soft hard control escaped parity c h =
-    let op : HasBits (bit_and hard (flip (bit_or control soft))) (λ i. is_structural (byte_at b (at + i))) =
-    bits-same (bits-and c.hard (bits-not (bits-or c.control c.soft))) (λ i l. structural-classes _ (c.bytes i l)) in
-    let space : HasBits (bit_xor soft (quotes soft hard)) (λ i. is_whitespace (byte_at b (at + i))) = bits-same
-    (bits-xor c.soft (bits-and c.soft c.hard)) (λ i l. space-classes _ (c.bytes i l)) in
-    let quote : HasBits (real soft hard escaped) (λ i. is_real_quote b (at + i)) =
-    bits-same (bits-and (bits-same (bits-and c.soft c.hard) (λ i l. quote-classes _ (c.bytes i l))) (bits-not c.escaped))
+parts-found b at s o control escaped parity c h =
+    let op : HasBits (bit_and o (flip (bit_or control s))) (λ i. is_structural (byte_at b (at + i))) =
+    bits-same (bits-and c.op_or_quote (bits-not (bits-or c.control c.space_or_quote))) (λ i l. structural-classes _ (c.bytes i l)) in
+    let space : HasBits (bit_xor s (quotes s o)) (λ i. is_whitespace (byte_at b (at + i))) = bits-same
+    (bits-xor c.space_or_quote (bits-and c.space_or_quote c.op_or_quote)) (λ i l. space-classes _ (c.bytes i l)) in
+    let quote : HasBits (real s o escaped) (λ i. is_real_quote b (at + i)) =
+    bits-same (bits-and (bits-same (bits-and c.space_or_quote c.op_or_quote) (λ i l. quote-classes _ (c.bytes i l)))
+    (bits-not c.escaped))
     (λ i l. quote-real b (at + i)) in
     record {
       bytes = c.bytes;
@@ -98,13 +103,13 @@ module _ (b : List ℕ) (at : ℕ) (p : Parts) (control : ℕ) (c : Carry) (part
       let now : is_plain b (at + 63) ≡ is_plain_before b (suc (at + 63)) = refl in
       bits-last parts.plain ∙ ap bool_byte (now ∙ ap (is_plain_before b) e)
 
-  pub marks-found : AreMarks b at (record {
+  pub starts-found : AreStarts b at (record {
     starts = flip (bit_or (bit_or (bit_and p.plain follows) p.space)
         (bit_xor within p.quote));
     bad = bit_and control within;
     carry = record { inside = (0 + (2 ^ 64 - within / 2 ^ 63)) % 2 ^ 64; plain = p.plain / 2 ^ 63 };
   })
-  marks-found = record { starts = starts-bits; bad = bad-bits; carry = record { inside = inside-out; plain = plain-out } }
+  starts-found = record { starts = starts-bits; bad = bad-bits; carry = record { inside = inside-out; plain = plain-out } }
 
 -- ---- the bytes of a block, as those of the input
 
@@ -150,15 +155,16 @@ escaped-none b at before e none =
 -- ---- what is found in a block by itself
 
 pub classified-found : (b : List ℕ) (at : ℕ) (bytes : List ℕ) (m : Classified) → IsBlock b at bytes → ((i : ℕ) → get_or bytes i 0 < 256)
-    → HasBits m.soft (λ i. is_soft (get_or bytes i 0)) → HasBits m.hard (λ i. is_hard (get_or bytes i 0))
+    → HasBits m.space_or_quote (λ i. is_space_or_quote (get_or bytes i 0))
+    → HasBits m.op_or_quote (λ i. is_op_or_quote (get_or bytes i 0))
     → HasBits m.control (λ i. is_control (get_or bytes i 0))
     → (m.high ≡ 0 → (i : ℕ) → i < 64 → get_or bytes i 0 < 128) → m.has_backslash ≡ list_any (λ x. x == backslash) bytes
     → AreEscaped b at m.escaped m.next → AreClassified b at m
-classified-found b at bytes m block small soft hard control ascii escapes escaped = record {
+classified-found b at bytes m block small space_or_quote op_or_quote control ascii escapes escaped = record {
   classes = record {
     bytes = λ i l. subst (λ x. x < 256) (block.same i l) (small i);
-    soft = bits-same soft (λ i l. ap is_soft (block.same i l));
-    hard = bits-same hard (λ i l. ap is_hard (block.same i l));
+    space_or_quote = bits-same space_or_quote (λ i l. ap is_space_or_quote (block.same i l));
+    op_or_quote = bits-same op_or_quote (λ i l. ap is_op_or_quote (block.same i l));
     control = bits-same control (λ i l. ap is_control (block.same i l));
     escaped = escaped.0;
   };

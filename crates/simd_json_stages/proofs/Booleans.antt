@@ -11,7 +11,8 @@ use Rattle.simd_json_parts.specs.Tokens.{scalar, form_at}
 use Rattle.simd_json_stages.specs.Put.{is_boolean, IsNoScalar}
 use Rattle.simd_json_stages.specs.Refusals.{refused_kind}
 use Rattle.simd_json_stages.specs.declared.stage2.fault.Fault.{Fault}
-use Rattle.simd_json_stages.proofs.ScalarLaws.{byte_at-after, form_at-true, form_at-false, form_at-no_true, form_at-no_false, form_at-no_scalar, refused_kind-other}
+use Rattle.simd_json_stages.proofs.ScalarLaws.{byte_at-after, form_at-true, form_at-false, form_at-no_true, form_at-no_false}
+use Rattle.simd_json_stages.proofs.ScalarLaws.{form_at-no_scalar, refused_kind-other}
 use Rattle.simd_json_stages.proofs.ScalarPut.{atom-refused, none-refused}
 
 -- ---- by its letters
@@ -116,8 +117,10 @@ first-letter false (c ∷ rest) h = sym (eqb-true 102 c (and_parts _ _ (and_part
 
 pub form_at-boolean : (v : Bool) (b rest : List ℕ) (i : ℕ) → drop i b ≡ rest → is_boolean v rest ≡ true
     → form_at b i ≡ scalar (Ok (boolean v, i + cond v 4 5))
-form_at-boolean true b rest i e h = form_at-true b rest i e (ap (byte_at b) (omega arith) ∙ byte_at-after b rest i 0 e ∙ first-letter true rest h) h
-form_at-boolean false b rest i e h = form_at-false b rest i e (ap (byte_at b) (omega arith) ∙ byte_at-after b rest i 0 e ∙ first-letter false rest h) h
+form_at-boolean true b rest i e h =
+    form_at-true b rest i e (ap (byte_at b) (omega arith) ∙ byte_at-after b rest i 0 e ∙ first-letter true rest h) h
+form_at-boolean false b rest i e h =
+    form_at-false b rest i e (ap (byte_at b) (omega arith) ∙ byte_at-after b rest i 0 e ∙ first-letter false rest h) h
 
 -- where no boolean is, and no other scalar may be
 pub no_boolean : (b rest : List ℕ) (i c : ℕ) → drop i b ≡ rest → c ≡ byte_at b i

@@ -1,5 +1,6 @@
 -- What the machine counts stays within bounds from one token to the next.
-use Rattle.std.proofs.Common.{inl, inr, ◌≡◌, ◌≢◌, refl, sym, ◌∙◌, ap, subst, ℕ, ◌+◌, ◌-◌, ◌<◌, ◌≤◌, List, [], ◌∷◌, ◌++◌, length, get_or, drop, Contains, arith}
+use Rattle.std.proofs.Common.{inl, inr, ◌≡◌, ◌≢◌, refl, sym, ◌∙◌, ap, subst, ℕ, ◌+◌, ◌-◌, ◌<◌, ◌≤◌, List, [], ◌∷◌, ◌++◌, length, get_or}
+use Rattle.std.proofs.Common.{drop, Contains, arith}
 use Rattle.std.specs.Prelude.{Some, Result, IfErr, IsErrAnd, slice_index}
 use Rattle.std.proofs.lemmas.Bool.{cases_lt}
 use Rattle.std.proofs.lemmas.List.{length_push}
@@ -10,32 +11,35 @@ use Rattle.simd_json_parts.specs.Tokens.{Token, tokens, string_token}
 use Rattle.simd_json_scalars.specs.TokensAlong.{tokens_along}
 use Rattle.simd_json_parts.specs.declared.error.ErrorType.{ErrorType}
 use Rattle.simd_json_parts.specs.declared.node.Node.{Node}
-use Rattle.simd_json_stages.specs.Building.{AtValue, AtName, Tells}
+use Rattle.simd_json_stages.specs.Building.{AtValue, AtName, IsFirstFault}
 use Rattle.simd_json_stages.specs.NodesEnough.{nodes_enough}
 use Rattle.simd_json_stages.specs.Progresses.{EndsClosed, IsRead, IsNext, IsBefore, IsAfter}
-use Rattle.simd_json_stages.specs.declared.stage2.Container.{Container}
+use Rattle.simd_json_stages.specs.declared.stage2.stack.Container.{Container}
 use Rattle.simd_json_stages.specs.Put.{IsStringPut, IsScalarPut}
 use Rattle.simd_json_stages.specs.declared.stage2.progress.Progress.{Progress}
-use Rattle.simd_json_stages.specs.declared.stage2.StackState.{StackState}
+use Rattle.simd_json_stages.specs.declared.stage2.stack.StackState.{StackState}
 use Rattle.simd_json_stages.specs.declared.stage2.fault.Fault.{Fault}
 use Rattle.simd_json_stages.specs.declared.stage2.fault.FaultKind.{FaultKind}
 use Rattle.simd_json_stages.specs.declared.stage2.fault.FaultKind.TheVariants as kinds
 use Rattle.simd_json_stages.proofs.Exits.{passed-on}
-use Rattle.simd_json_stages.proofs.Places.{token, at-inside, position-inside, next-later, IsRead-next, IsRead-same, end-before_next, token-read}
+use Rattle.simd_json_stages.proofs.Places.{token, at-inside, position-inside, next-later, IsRead-next, IsRead-same, end-before_next}
+use Rattle.simd_json_stages.proofs.Places.{token-read}
 use Rattle.simd_json_stages.proofs.TokenForms.{quotes}
 
 -- a fault at the last token
-pub told-at : (b ps : List ℕ) (limit : ℕ) (kind : FaultKind) (p : Progress) (f : Fault)
+pub refused-at : (b ps : List ℕ) (limit : ℕ) (kind : FaultKind) (p : Progress) (f : Fault)
     → f ≡ record { kind = kind; index = p.at; byte = p.byte } → p.byte ≡ byte_at b p.at
-    → Tells b ps limit (record { kind = kind; index = p.at; byte = byte_at b p.at }) → Tells b ps limit f
-told-at b ps limit kind p f is first told =
-    subst (Tells b ps limit) (sym is) (subst (λ x. Tells b ps limit (record { kind = kind; index = p.at; byte = x })) (sym first) told)
+    → IsFirstFault b ps limit (record { kind = kind; index = p.at; byte = byte_at b p.at }) → IsFirstFault b ps limit f
+refused-at b ps limit kind p f is first refused =
+    subst (IsFirstFault b ps limit) (sym is)
+    (subst (λ x. IsFirstFault b ps limit (record { kind = kind; index = p.at; byte = x })) (sym first) refused)
 
 -- no token after the last one, as `next_token` answers, and a `?` hands it on
-pub told-none : {A : Type 0} (b ps : List ℕ) (limit : ℕ) (p : Progress) (r : Result A Fault) (f : Fault) → IsErrAnd r (λ x. x ≡ f)
+pub refused-none : {A : Type 0} (b ps : List ℕ) (limit : ℕ) (p : Progress) (r : Result A Fault) (f : Fault) → IsErrAnd r (λ x. x ≡ f)
     → f ≡ record { kind = kinds.Syntax; index = p.at; byte = byte_at b p.at }
-    → Tells b ps limit (record { kind = kinds.Syntax; index = p.at; byte = byte_at b p.at }) → IfErr r (Tells b ps limit)
-told-none b ps limit p r f handed is told = passed-on r f (Tells b ps limit) handed (subst (Tells b ps limit) (sym is) told)
+    → IsFirstFault b ps limit (record { kind = kinds.Syntax; index = p.at; byte = byte_at b p.at }) → IfErr r (IsFirstFault b ps limit)
+refused-none b ps limit p r f handed is refused =
+    passed-on r f (IsFirstFault b ps limit) handed (subst (IsFirstFault b ps limit) (sym is) refused)
 
 -- where the last position holds a closing bracket, after any other token a position is left
 pub some-left : (b ps : List ℕ) (p : Progress) → EndsClosed b ps → IsRead b ps p → p.byte ≢ 93 → p.byte ≢ 125 → p.read < length ps

@@ -1,5 +1,6 @@
 -- The steps of the machine that accept a token: each keeps what is built, and what the rest of the tokens make of it.
-use Rattle.std.proofs.Common.{◌≡◌, ◌≢◌, refl, sym, ◌∙◌, ap, subst, ℕ, zero, suc, ◌+◌, ◌-◌, ◌<◌, ◌≤◌, List, [], ◌∷◌, ◌++◌, true, append_assoc, length, get_or, set, map, drop, cond, add-one, arith}
+use Rattle.std.proofs.Common.{◌≡◌, ◌≢◌, refl, sym, ◌∙◌, ap, subst, ℕ, zero, suc, ◌+◌, ◌-◌, ◌<◌, ◌≤◌, List, [], ◌∷◌, ◌++◌, true}
+use Rattle.std.proofs.Common.{append_assoc, length, get_or, set, map, drop, cond, add-one, arith}
 use Rattle.std.specs.Prelude.{Result, Ok, Err}
 use Rattle.std.proofs.lemmas.List.{get_or-set_other, get_or-set_same, map-append, map-set, drop_more, length-map}
 use Rattle.std.proofs.Math.Seq.{drop-length}
@@ -10,7 +11,8 @@ use Rattle.simd_json_parts.specs.Listing.{listing}
 use Rattle.simd_json_parts.specs.Descent.{◌>>=◌, value_from, last_index, root_end, descent}
 use Rattle.simd_json_parts.specs.Faults.{fault_at, fault_with}
 use Rattle.simd_json_parts.specs.Positions.{positions}
-use Rattle.simd_json_parts.specs.Tokens.{Token, Form, begin_array, end_array, begin_object, end_object, name_separator, value_separator, string_token, scalar, form_at}
+use Rattle.simd_json_parts.specs.Tokens.{Token, Form, begin_array, end_array, begin_object, end_object, name_separator, value_separator}
+use Rattle.simd_json_parts.specs.Tokens.{string_token, scalar, form_at}
 use Rattle.simd_json_scalars.specs.TokensAlong.{goes_on, tokens_along}
 use Rattle.simd_json_parts.specs.declared.error.Error.{Error}
 use Rattle.simd_json_parts.specs.declared.error.ErrorType.{ErrorType}
@@ -18,19 +20,24 @@ use Rattle.simd_json_parts.specs.declared.error.ErrorType.TheVariants.{Syntax}
 use Rattle.simd_json_parts.specs.declared.node.Node.{Node}
 use Rattle.simd_json_scalars.proofs.Positions.TokensAtPositions.{tokens-positions}
 use Rattle.simd_json_stages.specs.Continued.{Open, in_array, in_object, at_value, at_array, at_object, at_name, after_value}
-use Rattle.simd_json_stages.specs.Building.{closer, header_of, frames, top, patch, Holds, HoldsValue, HoldsMembers, closed_with, missing, whole, AtValue, AtName, AfterValue, AtMemberOf, AtMember, IsBuilt, IsListed, Tells}
+use Rattle.simd_json_stages.specs.Building.{closer, header_of, frames, top, patch, Holds, HoldsValue, HoldsMembers, closed_with, missing}
+use Rattle.simd_json_stages.specs.Building.{whole, AtValue, AtName, AfterValue, AtMemberOf, AtMember, IsBuilt, IsListed, IsFirstFault}
 use Rattle.simd_json_stages.specs.Put.{IsStringPut, IsScalarPut}
 use Rattle.simd_json_stages.specs.Refusals.{error_type}
-use Rattle.simd_json_stages.specs.declared.stage2.Container.{Container}
-use Rattle.simd_json_stages.specs.declared.stage2.Container.TheVariants.{Array, Object}
+use Rattle.simd_json_stages.specs.declared.stage2.stack.Container.{Container}
+use Rattle.simd_json_stages.specs.declared.stage2.stack.Container.TheVariants.{Array, Object}
 use Rattle.simd_json_stages.specs.declared.stage2.progress.Progress.{Progress}
-use Rattle.simd_json_stages.specs.declared.stage2.StackState.{StackState}
+use Rattle.simd_json_stages.specs.declared.stage2.stack.StackState.{StackState}
 use Rattle.simd_json_stages.specs.declared.stage2.fault.Fault.{Fault}
 use Rattle.simd_json_stages.specs.declared.stage2.fault.FaultKind.TheVariants as kinds
-use Rattle.simd_json_stages.proofs.Holding.{Holds-value, Holds-name, Holds-comma, Holds-member_comma, Holds-open, Holds-open_object, Holds-close, Holds-header, Holds-outer_len}
+use Rattle.simd_json_stages.proofs.Holding.{Holds-value, Holds-name, Holds-comma, Holds-member_comma, Holds-open, Holds-open_object}
+use Rattle.simd_json_stages.proofs.Holding.{Holds-close, Holds-header, Holds-outer_len}
 use Rattle.simd_json_stages.proofs.Places.{token}
-use Rattle.simd_json_stages.proofs.Steps.{after_value-comma, at_value-open, at_array-close, at_array-element, at_value-scalar, after_value-root, at_value-root, after_value-closed, at_value-open_object, at_object-close, at_object-name, at_name-value, after_value-member_comma, at_value-string, closing_form}
-use Rattle.simd_json_stages.proofs.TokenForms.{along-form, closes, commas, last_index-append, next, no_end, no_end_object, opens, opens_object, closes_object, colons, quotes}
+use Rattle.simd_json_stages.proofs.Steps.{after_value-comma, at_value-open, at_array-close, at_array-element, at_value-scalar}
+use Rattle.simd_json_stages.proofs.Steps.{after_value-root, at_value-root, after_value-closed, at_value-open_object, at_object-close}
+use Rattle.simd_json_stages.proofs.Steps.{at_object-name, at_name-value, after_value-member_comma, at_value-string, closing_form}
+use Rattle.simd_json_stages.proofs.TokenForms.{along-form, closes, commas, last_index-append, next, no_end, no_end_object, opens}
+use Rattle.simd_json_stages.proofs.TokenForms.{opens_object, closes_object, colons, quotes}
 
 -- ---- the stack and the nodes
 
@@ -528,6 +535,6 @@ descent-built b limit nodes built =
     }
 
 -- What is reported is the descent's fault.
-pub descent-told : (b : List ℕ) (limit : ℕ) (f : Fault) → Tells b (positions b) limit f
+pub descent-refused : (b : List ℕ) (limit : ℕ) (f : Fault) → IsFirstFault b (positions b) limit f
     → descent b limit ≡ Err (fault_with (error_type f.kind) f.index f.byte)
-descent-told b limit f told = sym (whole-descent b limit) ∙ told
+descent-refused b limit f refused = sym (whole-descent b limit) ∙ refused

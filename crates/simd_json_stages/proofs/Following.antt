@@ -1,6 +1,6 @@
 -- After a comma stands the next member.
 use Rattle.std.proofs.Common.{◌≡◌, refl, sym, ◌∙◌, ap, subst, ℕ, ◌+◌, ◌-◌, ◌<◌, ◌≤◌, List, [], ◌∷◌, length, get_or, map, arith}
-use Rattle.std.specs.Prelude.{Bool, Result, IfErr, IsErrAnd}
+use Rattle.std.specs.Prelude.{Result, IfErr, IsErrAnd}
 use Rattle.simd_json_parts.specs.Bytes.{byte_at}
 use Rattle.simd_json_parts.specs.Positions.{positions}
 use Rattle.simd_json_parts.specs.declared.node.Node.{Node}
@@ -8,24 +8,29 @@ use Rattle.simd_json_parts.specs.declared.node.Node.TheVariants.{Static}
 use Rattle.simd_json_parts.specs.declared.node.StaticNode.TheVariants.{Null}
 use Rattle.simd_json_parts.specs.Nodes.{item_of}
 use Rattle.simd_json_stages.specs.Continued.{Open}
-use Rattle.simd_json_stages.specs.Building.{closer, end_kind, frames, top, patch, HoldsValue, AfterValue, AtMember, AtMemberOf, Tells}
-use Rattle.simd_json_stages.specs.Members.{HasCapacity, AfterLast, AtFirst, HasCome, IsAtMember, IsAtMemberOf}
+use Rattle.simd_json_stages.specs.Building.{closer, end_kind, frames, top, patch, HoldsValue, AfterValue, AtMember, AtMemberOf}
+use Rattle.simd_json_stages.specs.Building.{IsFirstFault}
+use Rattle.simd_json_stages.specs.Members.{HasCapacity, AfterLast, AtFirst, AtStart, HasCome, IsAtMember, IsAtMemberOf}
 use Rattle.simd_json_stages.specs.Refusals.{error_type}
 use Rattle.simd_json_stages.specs.Progresses.{IsOnRoute, IsRead, IsNext, IsBefore, IsAfter}
-use Rattle.simd_json_stages.specs.declared.stage2.Container.TheVariants.{Array, Object}
-use Rattle.simd_json_stages.specs.declared.stage2.Container.{Container}
-use Rattle.simd_json_stages.specs.declared.stage2.machine.Member.TheVariants.{Next, End}
-use Rattle.simd_json_stages.specs.declared.stage2.machine.Value.{Value}
-use Rattle.simd_json_stages.specs.declared.stage2.machine.Value.TheVariants.{Opened, Read}
+use Rattle.simd_json_stages.specs.Texts.{Reads}
+use Rattle.simd_json_stages.specs.declared.stage2.machine.Machine.{Machine}
+use Rattle.simd_json_stages.specs.declared.stage2.progress.Route.{Route}
+use Rattle.simd_json_stages.specs.declared.stage2.stack.Container.TheVariants.{Array, Object}
+use Rattle.simd_json_stages.specs.declared.stage2.stack.Container.{Container}
+use Rattle.simd_json_stages.specs.declared.stage2.progress.Member.TheVariants.{Next, End}
+use Rattle.simd_json_stages.specs.declared.stage2.progress.Value.{Value}
+use Rattle.simd_json_stages.specs.declared.stage2.progress.Value.TheVariants.{Opened, Read}
 use Rattle.simd_json_stages.specs.declared.stage2.progress.Progress.{Progress}
-use Rattle.simd_json_stages.specs.declared.stage2.StackState.{StackState}
+use Rattle.simd_json_stages.specs.declared.stage2.stack.StackState.{StackState}
 use Rattle.simd_json_stages.specs.declared.stage2.fault.Fault.{Fault}
 use Rattle.simd_json_stages.specs.declared.stage2.fault.FaultKind.{FaultKind}
 use Rattle.simd_json_stages.specs.declared.stage2.fault.FaultKind.TheVariants as kinds
-use Rattle.simd_json_stages.proofs.Bounds.{IsKept, told-at, told-none, inside, later, read-next, next-read}
+use Rattle.simd_json_stages.proofs.Bounds.{IsKept, refused-at, refused-none, inside, later, read-next, next-read}
 use Rattle.simd_json_stages.proofs.BuildingSteps.{items-length, step-close, step-end, root-value}
 use Rattle.simd_json_stages.proofs.Holding.{listing-some}
-use Rattle.simd_json_stages.proofs.Refusing.{tells-trailing}
+use Rattle.simd_json_stages.proofs.Refusing.{refuses-trailing}
+use Rattle.simd_json_stages.proofs.TextLaws.{reads-kept}
 
 module _ (b ps : List ℕ) (e : ps ≡ positions b) where
   -- the progress at the next position
@@ -60,13 +65,13 @@ module _ (b ps : List ℕ) (e : ps ≡ positions b) where
       (sym (two-is p q s n m)) (omega arith, omega arith, refl, refl)
 
   -- no token after the next one
-  pub told-next_none : {A : Type 0} (limit : ℕ) (p q : Progress) (r : Result A Fault) (f : Fault) → IsNext b ps p q
+  pub refused-next_none : {A : Type 0} (limit : ℕ) (p q : Progress) (r : Result A Fault) (f : Fault) → IsNext b ps p q
       → IsErrAnd r (λ x. x ≡ f) → f ≡ record { kind = kinds.Syntax; index = q.at; byte = byte_at b q.at }
-      → Tells b ps limit (record { kind = kinds.Syntax; index = get_or ps p.read 0; byte = byte_at b (get_or ps p.read 0) })
-      → IfErr r (Tells b ps limit)
-  told-next_none limit p q r f n handed is told =
-      told-none b ps limit q r f handed is (subst (λ (q : Progress). Tells b ps limit
-      (record { kind = kinds.Syntax; index = q.at; byte = byte_at b q.at })) (sym n.same) told)
+      → IsFirstFault b ps limit (record { kind = kinds.Syntax; index = get_or ps p.read 0; byte = byte_at b (get_or ps p.read 0) })
+      → IfErr r (IsFirstFault b ps limit)
+  refused-next_none limit p q r f n handed is refused =
+      refused-none b ps limit q r f handed is (subst (λ (q : Progress). IsFirstFault b ps limit
+      (record { kind = kinds.Syntax; index = q.at; byte = byte_at b q.at })) (sym n.same) refused)
 
   -- after a comma
   pub comma-progress : (reads : ℕ → Type 0) → IsKept reads → (written : ℕ) (p q s : Progress) → IsAfter b ps reads written p
@@ -84,11 +89,12 @@ module _ (b ps : List ℕ) (e : ps ≡ positions b) where
       })
 
   -- a fault at the next token
-  pub told-next : (limit : ℕ) (kind : FaultKind) (p q : Progress) (f : Fault) → q ≡ one_more p
+  pub refused-next : (limit : ℕ) (kind : FaultKind) (p q : Progress) (f : Fault) → q ≡ one_more p
       → f ≡ record { kind = kind; index = q.at; byte = q.byte }
-      → Tells b ps limit (record { kind = kind; index = get_or ps p.read 0; byte = byte_at b (get_or ps p.read 0) }) → Tells b ps limit f
-  told-next limit kind p q f is fault told = subst (Tells b ps limit)
-      (sym (fault ∙ ap (λ (q : Progress). record { kind = kind; index = q.at; byte = q.byte }) is)) told
+      → IsFirstFault b ps limit (record { kind = kind; index = get_or ps p.read 0; byte = byte_at b (get_or ps p.read 0) })
+      → IsFirstFault b ps limit f
+  refused-next limit kind p q f is fault refused = subst (IsFirstFault b ps limit)
+      (sym (fault ∙ ap (λ (q : Progress). record { kind = kind; index = q.at; byte = q.byte }) is)) refused
 
   -- after a closing bracket, as `close` makes the progress
   pub closed-after : (reads : ℕ → Type 0) → IsKept reads → (stack : List StackState) (written now : ℕ) (p q q' : Progress) → now ≡ written
@@ -152,52 +158,52 @@ module _ (b ps : List ℕ) (e : ps ≡ positions b) where
       })
 
   -- after the root
-  pub end-built : (limit : ℕ) (reads : ℕ → Type 0) (stack : List StackState) (capacity : ℕ) (nodes : List Node) (p : Progress)
-      → IsAfter b ps reads (length nodes) p → AfterValue b ps limit stack nodes p → p.depth ≡ 0 → p.read ≡ length ps
-      → IsAtMember b ps limit reads stack capacity nodes End
-  end-built limit reads stack capacity nodes p after at none all =
-      (omega (arith, after.few), step-end b ps limit stack nodes p at none all)
-
-  pub end-tells : (limit : ℕ) (stack : List StackState) (nodes : List Node) (p : Progress) (first : Node) (fault : Fault)
+  pub end-refused : (limit : ℕ) (stack : List StackState) (nodes : List Node) (p : Progress) (first : Node) (fault : Fault)
       → AfterValue b ps limit stack nodes p → IsRead b ps p → p.depth ≡ 0 → 0 < length nodes
       → first ≡ get_or nodes 0 (Static Null) → p.read < length ps
-      → fault ≡ record { kind = end_kind first; index = p.at; byte = p.byte } → Tells b ps limit fault
-  end-tells limit stack nodes p first fault at read none some is more told =
-      told-at b ps limit (end_kind first) p fault told read.first
-      (tells-trailing b ps limit stack nodes p first at none more some is)
+      → fault ≡ record { kind = end_kind first; index = p.at; byte = p.byte } → IsFirstFault b ps limit fault
+  end-refused limit stack nodes p first fault at read none some is more refused =
+      refused-at b ps limit (end_kind first) p fault refused read.first
+      (refuses-trailing b ps limit stack nodes p first at none more some is)
 
 -- ---- from a value to the next member
 
-module _ (b ps : List ℕ) (limit : ℕ) (reads : ℕ → Type 0) (stack : List StackState) (capacity : ℕ) (nodes : List Node) where
+module _ (b : List ℕ) (r : Route) (m : Machine) (capacity : ℕ) (nodes : List Node) where
   -- past a value
-  pub come-read : (v : Value) (p : Progress) → HasCome b ps limit reads stack capacity nodes v → v ≡ Read p
-      → AfterLast b ps limit reads stack capacity nodes p
+  pub come-read : (v : Value) (p : Progress) → HasCome b r m capacity nodes v → v ≡ Read p → AfterLast b r m capacity nodes p
   come-read v p come is =
-      let h : HasCome b ps limit reads stack capacity nodes (Read p) = subst (HasCome b ps limit reads stack capacity nodes) is come in
-      record { capacities = h.capacities; progress = h.within; depth = h.depth; after = h.step }
+      let h : HasCome b r m capacity nodes (Read p) = subst (HasCome b r m capacity nodes) is come in
+      record { on_route = h.on_route; capacities = h.capacities; progress = h.within; depth = h.depth; after = h.step }
 
   -- at the first token of a member
-  pub at-member : (p : Progress) (kind : FaultKind) → HasCapacity ps limit stack capacity → IsBefore b ps reads (length nodes) p
-      → p.depth ≤ limit
-      → 0 < p.depth → AtMember b ps limit kind stack nodes p
-      → IsAtMember b ps limit reads stack capacity nodes (Next p kind)
-  at-member p kind capacities progress depth inside at = go p.container refl at
+  pub at-member : (p : Progress) (kind : FaultKind) → IsOnRoute r.ends_closed b r.indexes.now
+      → HasCapacity r.indexes.now r.max_depth m.stack.now capacity → IsBefore b r.indexes.now (Reads b m.text) (length nodes) p
+      → p.depth ≤ r.max_depth → 0 < p.depth → AtMember b r.indexes.now r.max_depth kind m.stack.now nodes p
+      → IsAtMember b r m capacity nodes (Next p kind)
+  at-member p kind route capacities progress depth inside at = go p.container refl at
     where
-      go : (c : Container) → p.container ≡ c → AtMemberOf b ps limit c (error_type kind) stack nodes p
-          → IsAtMemberOf b ps limit reads stack capacity nodes c p kind
+      go : (c : Container) → p.container ≡ c → AtMemberOf b r.indexes.now r.max_depth c (error_type kind) m.stack.now nodes p
+          → IsAtMemberOf b r m capacity nodes c p kind
       go Array is at = record {
-        first = record { capacities = capacities; progress = progress; depth = depth; value = at };
+        first = record { on_route = route; capacities = capacities; progress = progress; depth = depth; value = at };
         inside = inside;
         array = is;
       }
-      go Object is at = record { capacities = capacities; progress = progress; depth = depth; name = at }
+      go Object is at = record { on_route = route; capacities = capacities; progress = progress; depth = depth; name = at }
 
   -- in a new container
-  pub come-opened : (v : Value) (p : Progress) → HasCome b ps limit reads stack capacity nodes v → v ≡ Opened p
-      → IsAtMember b ps limit reads stack capacity nodes (Next p kinds.ExpectedObjectContent)
+  pub come-opened : (v : Value) (p : Progress) → HasCome b r m capacity nodes v → v ≡ Opened p
+      → IsAtMember b r m capacity nodes (Next p kinds.ExpectedObjectContent)
   come-opened v p come is =
-      let h : HasCome b ps limit reads stack capacity nodes (Opened p) = subst (HasCome b ps limit reads stack capacity nodes) is come in
-      at-member p kinds.ExpectedObjectContent h.capacities h.within h.depth h.inside h.step
+      let h : HasCome b r m capacity nodes (Opened p) = subst (HasCome b r m capacity nodes) is come in
+      at-member p kinds.ExpectedObjectContent h.on_route h.capacities h.within h.depth h.inside h.step
+
+  -- after the root
+  pub end-built : (p : Progress) → IsAfter b r.indexes.now (Reads b m.text) (length nodes) p
+      → AfterValue b r.indexes.now r.max_depth m.stack.now nodes p → p.depth ≡ 0 → p.read ≡ length r.indexes.now
+      → IsAtMember b r m capacity nodes End
+  end-built p after at none all =
+      (omega (arith, after.few), step-end b r.indexes.now r.max_depth m.stack.now nodes p at none all)
 
 -- a root that is whole has a node
 pub some-node : (b ps : List ℕ) (limit : ℕ) (stack : List StackState) (nodes : List Node) (p : Progress)
@@ -215,20 +221,21 @@ abbrev pub first_token : List ℕ → ℕ → Progress
 first_token ps x = record { read = 1; at = get_or ps 0 0; byte = x; depth = 0; container = Array; len = 0 }
 
 -- All of the input can be read there, and no node is written.
-pub at-first : (closed : Bool) (b ps : List ℕ) (reads : ℕ → Type 0) → IsKept reads → (stack : List StackState) (capacity : ℕ)
-    (nodes : List Node) (limit x : ℕ) → nodes ≡ [] → IsOnRoute closed b ps → HasCapacity ps limit stack capacity → 0 < length ps
-    → reads 0 → x ≡ byte_at b (get_or ps 0 0) → AtFirst b ps limit reads stack capacity nodes (first_token ps x)
-at-first closed b ps reads kept stack capacity nodes limit x empty route capacities some text byte =
-    let none : length nodes ≡ 0 = ap length empty in
+pub at-first : (b : List ℕ) (r : Route) (m : Machine) (capacity : ℕ) (nodes : List Node) (x : ℕ) → AtStart b r m capacity nodes
+    → 0 < length r.indexes.now → x ≡ byte_at b (get_or r.indexes.now 0 0)
+    → AtFirst b r m capacity nodes (first_token r.indexes.now x)
+at-first b r m capacity nodes x start some byte =
+    let none : length nodes ≡ 0 = ap length start.empty in
     record {
-      capacities = capacities;
+      on_route = start.on_route;
+      capacities = start.capacities;
       progress = record {
         read = record { some = omega arith; within = omega arith; last = refl; first = byte };
         few = omega arith;
         deep = omega arith;
         len = omega arith;
-        text = kept _ _ text (omega arith);
+        text = reads-kept b m.text _ _ start.text (omega arith);
       };
       depth = omega arith;
-      value = root-value b ps limit stack nodes x empty some;
+      value = root-value b r.indexes.now r.max_depth m.stack.now nodes x start.empty some;
     }

@@ -1,14 +1,16 @@
 -- What is held grows by a value, by a name, by an opening bracket and by a closing one.
-use Rattle.std.proofs.Common.{◌≡◌, refl, sym, ◌∙◌, ap, subst, ℕ, ◌+◌, ◌-◌, ◌<◌, ◌≤◌, List, [], ◌∷◌, ◌++◌, length, set, append_assoc, length-append, arith}
+use Rattle.std.proofs.Common.{◌≡◌, refl, sym, ◌∙◌, ap, subst, ℕ, ◌+◌, ◌-◌, ◌<◌, ◌≤◌, List, [], ◌∷◌, ◌++◌, length, set, append_assoc}
+use Rattle.std.proofs.Common.{length-append, arith}
 use Rattle.std.proofs.lemmas.List.{append-nil}
-use Rattle.simd_json_parts.specs.Document.{Document, null, boolean, integer, decimal, string, array, object, elements, members, no_elements, no_members}
+use Rattle.simd_json_parts.specs.Document.{Document, null, boolean, integer, decimal, string, array, object, elements, members}
+use Rattle.simd_json_parts.specs.Document.{no_elements, no_members}
 use Rattle.simd_json_parts.specs.Nodes.{Item, string_item, array_item, object_item, item_of}
 use Rattle.simd_json_parts.specs.Listing.{listing, elements_listing, members_listing}
 use Rattle.simd_json_stages.specs.Continued.{Open, in_array, in_object, elements_onto, members_onto}
 use Rattle.simd_json_stages.specs.Building.{header_of, listings, member_listings, Headed, Holds, HoldsValue, HoldsMembers, closed_with}
-use Rattle.simd_json_stages.specs.declared.stage2.Container.{Container}
-use Rattle.simd_json_stages.specs.declared.stage2.Container.TheVariants.{Array, Object}
-use Rattle.simd_json_stages.specs.declared.stage2.StackState.{StackState}
+use Rattle.simd_json_stages.specs.declared.stage2.stack.Container.{Container}
+use Rattle.simd_json_stages.specs.declared.stage2.stack.Container.TheVariants.{Array, Object}
+use Rattle.simd_json_stages.specs.declared.stage2.stack.StackState.{StackState}
 
 -- ---- listings
 

@@ -1,11 +1,11 @@
 pub mod Exits
 mod CarryLaws
-mod Steps
+pub mod Steps
 mod Holding
-mod ScalarLaws
+pub mod ScalarLaws
 mod Booleans
-mod Places
-mod TokenForms
+pub mod Places
+pub mod TokenForms
 mod Bounds
 mod BuildingSteps
 mod Refusing
@@ -14,7 +14,7 @@ mod EscapeBlockLaws
 mod BetweenBlocks
 mod EscapesPassed
 mod TextLaws
-mod StringEnds
+pub mod StringEnds
 mod ScalarPut
 mod StringPut
 mod Bits

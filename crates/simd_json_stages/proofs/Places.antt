@@ -1,5 +1,6 @@
 -- Where the machine is: its last token stands at a position, and the next position is known.
-use Rattle.std.proofs.Common.{◌≡◌, sym, ◌∙◌, ap, subst, ℕ, zero, suc, ◌+◌, ◌-◌, ◌<◌, ◌≤◌, ◌⊎◌, inl, inr, List, ◌∷◌, ◌++◌, length, get_or, drop, true, not, ◌&&◌, ◌||◌, Contains, IsFalse, refl, nat_eq, arith}
+use Rattle.std.proofs.Common.{◌≡◌, sym, ◌∙◌, ap, subst, ℕ, zero, suc, ◌+◌, ◌-◌, ◌<◌, ◌≤◌, ◌⊎◌, inl, inr, List, ◌∷◌, ◌++◌, length, get_or}
+use Rattle.std.proofs.Common.{drop, true, not, ◌&&◌, ◌||◌, Contains, IsFalse, refl, nat_eq, arith}
 use Rattle.std.specs.Prelude.{Some, None, IsUtf8}
 use Rattle.std.specs.List.Sorted.{IsStrictlyIncreasing}
 use Rattle.std.proofs.lemmas.Bool.{cases_Bool, cases_lt, or_cases, and_parts, or_from, false≢true}

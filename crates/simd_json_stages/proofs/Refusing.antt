@@ -1,5 +1,6 @@
 -- The steps of the machine that refuse a token: the fault is the whole descent's.
-use Rattle.std.proofs.Common.{inl, inr, ◌≡◌, ◌≢◌, refl, sym, ◌∙◌, ap, subst, ℕ, ◌+◌, ◌-◌, ◌<◌, ◌≤◌, List, [], ◌∷◌, ◌++◌, Bool, true, false, length-append, length, get_or, map, take, drop, cond, arith}
+use Rattle.std.proofs.Common.{inl, inr, ◌≡◌, ◌≢◌, refl, sym, ◌∙◌, ap, subst, ℕ, ◌+◌, ◌-◌, ◌<◌, ◌≤◌, List, [], ◌∷◌, ◌++◌, Bool, true, false}
+use Rattle.std.proofs.Common.{length-append, length, get_or, map, take, drop, cond, arith}
 use Rattle.std.specs.Prelude.{Ok, Err, if◌then◌else◌}
 use Rattle.std.proofs.lemmas.List.{append-nil}
 use Rattle.std.proofs.Math.Seq.{take-append_seam, drop-length}
@@ -14,25 +15,32 @@ use Rattle.simd_json_parts.specs.Tokens.{Token, Form, begin_array, begin_object,
 use Rattle.simd_json_scalars.specs.TokensAlong.{goes_on, tokens_along}
 use Rattle.simd_json_parts.specs.declared.error.Error.{Error}
 use Rattle.simd_json_parts.specs.declared.error.ErrorType.{ErrorType}
-use Rattle.simd_json_parts.specs.declared.error.ErrorType.TheVariants.{Syntax, DepthLimitExceeded, InternalError, ExpectedObjectKey, TrailingData}
+use Rattle.simd_json_parts.specs.declared.error.ErrorType.TheVariants.{Syntax, DepthLimitExceeded, InternalError, ExpectedObjectKey}
+use Rattle.simd_json_parts.specs.declared.error.ErrorType.TheVariants.{TrailingData}
 use Rattle.simd_json_parts.specs.declared.node.Node.{Node}
 use Rattle.simd_json_parts.specs.declared.node.Node.TheVariants as nodes
 use Rattle.simd_json_parts.specs.declared.node.Node.TheVariants.{Static}
 use Rattle.simd_json_parts.specs.declared.node.StaticNode.TheVariants.{Null}
 use Rattle.simd_json_stages.specs.Continued.{Open, in_array, in_object, at_value, at_name, after_value}
-use Rattle.simd_json_stages.specs.Building.{closer, content_kind, end_kind, frames, HoldsValue, missing, whole, AtValue, AtName, AfterValue, Tells}
+use Rattle.simd_json_stages.specs.Building.{closer, content_kind, end_kind, frames, HoldsValue, missing, whole, AtValue, AtName}
+use Rattle.simd_json_stages.specs.Building.{AfterValue, IsFirstFault}
 use Rattle.simd_json_stages.specs.Put.{IsBadString, IsNoScalar}
 use Rattle.simd_json_stages.specs.Refusals.{error_type}
-use Rattle.simd_json_stages.specs.declared.stage2.Container.{Container}
-use Rattle.simd_json_stages.specs.declared.stage2.Container.TheVariants.{Array, Object}
+use Rattle.simd_json_stages.specs.declared.stage2.stack.Container.{Container}
+use Rattle.simd_json_stages.specs.declared.stage2.stack.Container.TheVariants.{Array, Object}
 use Rattle.simd_json_stages.specs.declared.stage2.progress.Progress.{Progress}
-use Rattle.simd_json_stages.specs.declared.stage2.StackState.{StackState}
+use Rattle.simd_json_stages.specs.declared.stage2.stack.StackState.{StackState}
 use Rattle.simd_json_stages.specs.declared.stage2.fault.Fault.{Fault}
 use Rattle.simd_json_stages.specs.declared.stage2.fault.FaultKind.{FaultKind}
 use Rattle.simd_json_stages.specs.declared.stage2.fault.FaultKind.TheVariants as kinds
 use Rattle.simd_json_stages.proofs.Places.{token}
-use Rattle.simd_json_stages.proofs.Steps.{after_value-comma, at_value-open, at_array-missing, at_value-too_deep, at_value-missing, at_value-fault, at_value-unexpected, after_value-root, after_value-none, after_value-unexpected, at_value-open_object, at_value-object_too_deep, at_object-missing, at_name-value, at_name-missing, at_name-other, at_name-fault, at_name-no_more, at_name-no_colon, after_value-member_comma, at_value-string_fault}
-use Rattle.simd_json_stages.proofs.TokenForms.{along-form, commas, last_index-append, next, opens, opens_object, colons, quotes, no_string, no_colon, no_ending, no_member_ending}
+use Rattle.simd_json_stages.proofs.Steps.{after_value-comma, at_value-open, at_array-missing, at_value-too_deep, at_value-missing}
+use Rattle.simd_json_stages.proofs.Steps.{at_value-fault, at_value-unexpected, after_value-root, after_value-none, after_value-unexpected}
+use Rattle.simd_json_stages.proofs.Steps.{at_value-open_object, at_value-object_too_deep, at_object-missing, at_name-value}
+use Rattle.simd_json_stages.proofs.Steps.{at_name-missing, at_name-other, at_name-fault, at_name-no_more, at_name-no_colon}
+use Rattle.simd_json_stages.proofs.Steps.{after_value-member_comma, at_value-string_fault}
+use Rattle.simd_json_stages.proofs.TokenForms.{along-form, commas, last_index-append, next, opens, opens_object, colons, quotes, no_string}
+use Rattle.simd_json_stages.proofs.TokenForms.{no_colon, no_ending, no_member_ending}
 use Rattle.simd_json_stages.proofs.BuildingSteps.{extended, reached_next}
 
 -- whether the first item is a container's header
@@ -63,8 +71,8 @@ root-kind (n ∷ ns) d first l is listed =
     ∙ end_kind-starts n (map item_of ns) ∙ ap (λ x. error_type (end_kind x)) (sym is)
 
 module _ (b ps : List ℕ) (limit : ℕ) where
-  told : (f : Fault) → whole b ps limit ≡ Err (fault_with (error_type f.kind) f.index f.byte) → Tells b ps limit f
-  told f is = ap (λ r. r >>= root_end b (tokens_along b ps)) is
+  refused : (f : Fault) → whole b ps limit ≡ Err (fault_with (error_type f.kind) f.index f.byte) → IsFirstFault b ps limit f
+  refused f is = ap (λ r. r >>= root_end b (tokens_along b ps)) is
 
   -- where no token is left, the last one read is reported
   missing-at : (before : List Token) (i : ℕ) → tokens_along b ps ≡ before → last_index before ≡ i → missing b ps ≡ fault_at b Syntax i
@@ -90,10 +98,10 @@ module _ (b ps : List ℕ) (limit : ℕ) where
   only i k form is goes end = along-form b i (drop k ps) form is goes ∙ ap (λ us. token b i ∷ tokens_along b us) (nothing_left k end)
 
   -- one container too many
-  pub tells-deep : (c : Container) (stack : List StackState) (nodes : List Node) (p : Progress) → AtValue b ps limit stack nodes p
+  pub refuses-deep : (c : Container) (stack : List StackState) (nodes : List Node) (p : Progress) → AtValue b ps limit stack nodes p
       → limit ≤ p.depth → byte_at b p.at + 2 ≡ closer c
-      → Tells b ps limit (record { kind = kinds.DepthLimitExceeded; index = p.at; byte = byte_at b p.at })
-  tells-deep c stack nodes p at l e = told (record { kind = kinds.DepthLimitExceeded; index = p.at; byte = byte_at b p.at })
+      → IsFirstFault b ps limit (record { kind = kinds.DepthLimitExceeded; index = p.at; byte = byte_at b p.at })
+  refuses-deep c stack nodes p at l e = refused (record { kind = kinds.DepthLimitExceeded; index = p.at; byte = byte_at b p.at })
       (at.same ∙ go c e)
     where
       full : limit ≤ length at.opens
@@ -112,10 +120,11 @@ module _ (b ps : List ℕ) (limit : ℕ) where
           (opens_object b p.at o)
 
   -- nothing after an opening bracket
-  pub tells-open_end : (c : Container) (stack : List StackState) (nodes : List Node) (p : Progress)
+  pub refuses-open_end : (c : Container) (stack : List StackState) (nodes : List Node) (p : Progress)
       → AtValue b ps limit stack nodes p → p.depth < limit → byte_at b p.at + 2 ≡ closer c → p.read ≡ length ps
-      → Tells b ps limit (record { kind = kinds.Syntax; index = p.at; byte = byte_at b p.at })
-  tells-open_end c stack nodes p at l e end = told (record { kind = kinds.Syntax; index = p.at; byte = byte_at b p.at }) (at.same ∙ go c e)
+      → IsFirstFault b ps limit (record { kind = kinds.Syntax; index = p.at; byte = byte_at b p.at })
+  refuses-open_end c stack nodes p at l e end =
+      refused (record { kind = kinds.Syntax; index = p.at; byte = byte_at b p.at }) (at.same ∙ go c e)
     where
       capacity : length at.opens < limit
       capacity = omega (arith, at.deep)
@@ -136,31 +145,31 @@ module _ (b ps : List ℕ) (limit : ℕ) where
           ∙ ap Err (ends_at at.before p.at p.read begin_object (opens_object b p.at o) refl end at.along)
 
   -- a scalar that is refused, or a token that begins no value
-  pub tells-scalar : (stack : List StackState) (nodes : List Node) (p : Progress) (f : Fault) → AtValue b ps limit stack nodes p
-      → IsNoScalar b p.at f → Tells b ps limit f
-  tells-scalar stack nodes p f at (inl is) =
-      told f (at.same ∙ at_value-fault b (missing b ps) limit at.opens (token b p.at)
+  pub refuses-scalar : (stack : List StackState) (nodes : List Node) (p : Progress) (f : Fault) → AtValue b ps limit stack nodes p
+      → IsNoScalar b p.at f → IsFirstFault b ps limit f
+  refuses-scalar stack nodes p f at (inl is) =
+      refused f (at.same ∙ at_value-fault b (missing b ps) limit at.opens (token b p.at)
       (cond (goes_on (form_at b p.at)) (tokens_along b (drop p.read ps)) []) (fault_with (error_type f.kind) f.index f.byte) is)
-  tells-scalar stack nodes p f at (inr (none, is)) =
+  refuses-scalar stack nodes p f at (inr (none, is)) =
       let g : Fault = record { kind = kinds.InternalError; index = p.at; byte = byte_at b p.at } in
-      subst (Tells b ps limit) (sym is)
-      (told g (at.same ∙ at_value-unexpected b (missing b ps) limit at.opens (token b p.at)
+      subst (IsFirstFault b ps limit) (sym is)
+      (refused g (at.same ∙ at_value-unexpected b (missing b ps) limit at.opens (token b p.at)
       (cond (goes_on (form_at b p.at)) (tokens_along b (drop p.read ps)) []) (form_at b p.at) refl none))
 
   -- a bad string
-  pub tells-string : (stack : List StackState) (nodes : List Node) (p : Progress) (f : Fault) → AtValue b ps limit stack nodes p
-      → byte_at b p.at ≡ 34 → IsBadString b p.at f → Tells b ps limit f
-  tells-string stack nodes p f at e bad =
+  pub refuses-string : (stack : List StackState) (nodes : List Node) (p : Progress) (f : Fault) → AtValue b ps limit stack nodes p
+      → byte_at b p.at ≡ 34 → IsBadString b p.at f → IsFirstFault b ps limit f
+  refuses-string stack nodes p f at e bad =
       let error : Error = fault_with (error_type f.kind) f.index f.byte in
-      told f (at.same ∙ at_value-string_fault b (missing b ps) limit at.opens (token b p.at)
+      refused f (at.same ∙ at_value-string_fault b (missing b ps) limit at.opens (token b p.at)
       (cond (goes_on (form_at b p.at)) (tokens_along b (drop p.read ps)) []) error (quotes b p.at e ∙ ap string_token bad))
 
   -- after a member nothing is left
-  pub tells-end : (stack : List StackState) (nodes : List Node) (p : Progress) → AfterValue b ps limit stack nodes p → 0 < p.depth
+  pub refuses-end : (stack : List StackState) (nodes : List Node) (p : Progress) → AfterValue b ps limit stack nodes p → 0 < p.depth
       → p.read ≡ length ps
-      → Tells b ps limit (record { kind = kinds.Syntax; index = p.at; byte = byte_at b p.at })
-  tells-end stack nodes p at l end =
-      told (record { kind = kinds.Syntax; index = p.at; byte = byte_at b p.at })
+      → IsFirstFault b ps limit (record { kind = kinds.Syntax; index = p.at; byte = byte_at b p.at })
+  refuses-end stack nodes p at l end =
+      refused (record { kind = kinds.Syntax; index = p.at; byte = byte_at b p.at })
       (at.same ∙ ap (λ us. after_value b (missing b ps) limit at.opens at.last (tokens_along b us)) (nothing_left p.read end)
       ∙ go at.opens at.deep ∙ ap Err (missing-at at.before p.at (at_end at.before p.read end at.along) at.reached))
     where
@@ -169,11 +178,11 @@ module _ (b ps : List ℕ) (limit : ℕ) where
       go (o ∷ outer) deep = after_value-none b (missing b ps) limit o outer at.last
 
   -- after a comma nothing is left
-  pub tells-comma_end : (stack : List StackState) (nodes : List Node) (p : Progress) → AfterValue b ps limit stack nodes p
+  pub refuses-comma_end : (stack : List StackState) (nodes : List Node) (p : Progress) → AfterValue b ps limit stack nodes p
       → 0 < p.depth → p.read < length ps → byte_at b (get_or ps p.read 0) ≡ 44 → p.read + 1 ≡ length ps
-      → Tells b ps limit (record { kind = kinds.Syntax; index = get_or ps p.read 0; byte = byte_at b (get_or ps p.read 0) })
-  tells-comma_end stack nodes p at l k e end =
-      told (record { kind = kinds.Syntax; index = i; byte = byte_at b i })
+      → IsFirstFault b ps limit (record { kind = kinds.Syntax; index = get_or ps p.read 0; byte = byte_at b (get_or ps p.read 0) })
+  refuses-comma_end stack nodes p at l k e end =
+      refused (record { kind = kinds.Syntax; index = i; byte = byte_at b i })
       (at.same ∙ ap (after_value b (missing b ps) limit at.opens at.last)
       (next b ps p.read k ∙ only i (p.read + 1) value_separator (commas b i e) refl end)
       ∙ go at.opens at.deep ∙ ap Err (ends_at at.before i (p.read + 1) value_separator (commas b i e) refl end
@@ -191,11 +200,12 @@ module _ (b ps : List ℕ) (limit : ℕ) where
           ∙ at_name-missing b (missing b ps) limit ExpectedObjectKey (ms ++ (name, at.last) ∷ []) outer
 
   -- another token after a member
-  pub tells-other : (stack : List StackState) (nodes : List Node) (p : Progress) → AfterValue b ps limit stack nodes p
+  pub refuses-other : (stack : List StackState) (nodes : List Node) (p : Progress) → AfterValue b ps limit stack nodes p
       → 0 < p.depth → p.read < length ps → byte_at b (get_or ps p.read 0) ≢ 44 → byte_at b (get_or ps p.read 0) ≢ closer p.container
-      → Tells b ps limit (record { kind = content_kind p.container; index = get_or ps p.read 0; byte = byte_at b (get_or ps p.read 0) })
-  tells-other stack nodes p at l k no_comma no_closer =
-      told (record { kind = content_kind p.container; index = get_or ps p.read 0; byte = byte_at b (get_or ps p.read 0) })
+      → IsFirstFault b ps limit
+      (record { kind = content_kind p.container; index = get_or ps p.read 0; byte = byte_at b (get_or ps p.read 0) })
+  refuses-other stack nodes p at l k no_comma no_closer =
+      refused (record { kind = content_kind p.container; index = get_or ps p.read 0; byte = byte_at b (get_or ps p.read 0) })
       (at.same ∙ ap (after_value b (missing b ps) limit at.opens at.last) (next b ps p.read k)
       ∙ go at.opens at.deep p.container at.holds no_closer)
     where
@@ -232,11 +242,11 @@ module _ (b ps : List ℕ) (limit : ℕ) where
       ∙ ap (λ n. Err (fault_at b (if is_container d then InternalError else TrailingData) n)) (last_read-append before rest)
 
   -- something after the root
-  pub tells-trailing : (stack : List StackState) (nodes : List Node) (p : Progress) (first : Node)
+  pub refuses-trailing : (stack : List StackState) (nodes : List Node) (p : Progress) (first : Node)
       → AfterValue b ps limit stack nodes p → p.depth ≡ 0 → p.read < length ps → 0 < length nodes
       → first ≡ get_or nodes 0 (Static Null)
-      → Tells b ps limit (record { kind = end_kind first; index = p.at; byte = byte_at b p.at })
-  tells-trailing stack nodes p first at root k l is =
+      → IsFirstFault b ps limit (record { kind = end_kind first; index = p.at; byte = byte_at b p.at })
+  refuses-trailing stack nodes p first at root k l is =
       let i : ℕ = get_or ps p.read 0 in
       let rest : List Token = tokens_along b (drop p.read ps) in
       ap (λ r. r >>= root_end b (tokens_along b ps)) (at.same ∙ alone at.opens at.deep)
@@ -256,59 +266,60 @@ module _ (b ps : List ℕ) (limit : ℕ) where
       listed (o ∷ outer) deep holds = absurd (omega (arith, deep, root))
 
   -- no name where one is expected
-  pub tells-no_name : (kind : FaultKind) (stack : List StackState) (nodes : List Node) (p : Progress)
+  pub refuses-no_name : (kind : FaultKind) (stack : List StackState) (nodes : List Node) (p : Progress)
       → AtName b ps limit (error_type kind) stack nodes p → byte_at b p.at ≢ 34
-      → Tells b ps limit (record { kind = kind; index = p.at; byte = byte_at b p.at })
-  tells-no_name kind stack nodes p at other =
-      told (record { kind = kind; index = p.at; byte = byte_at b p.at })
+      → IsFirstFault b ps limit (record { kind = kind; index = p.at; byte = byte_at b p.at })
+  refuses-no_name kind stack nodes p at other =
+      refused (record { kind = kind; index = p.at; byte = byte_at b p.at })
       (at.same ∙ at_name-other b (missing b ps) limit (error_type kind) at.members at.outer (token b p.at)
       (cond (goes_on (form_at b p.at)) (tokens_along b (drop p.read ps)) []) (form_at b p.at) refl (no_string b p.at other))
 
   -- a bad name
-  pub tells-name : (kind : ErrorType) (stack : List StackState) (nodes : List Node) (p : Progress) (f : Fault)
-      → AtName b ps limit kind stack nodes p → byte_at b p.at ≡ 34 → IsBadString b p.at f → Tells b ps limit f
-  tells-name kind stack nodes p f at e bad =
+  pub refuses-name : (kind : ErrorType) (stack : List StackState) (nodes : List Node) (p : Progress) (f : Fault)
+      → AtName b ps limit kind stack nodes p → byte_at b p.at ≡ 34 → IsBadString b p.at f → IsFirstFault b ps limit f
+  refuses-name kind stack nodes p f at e bad =
       let error : Error = fault_with (error_type f.kind) f.index f.byte in
-      told f (at.same ∙ at_name-fault b (missing b ps) limit kind at.members at.outer (token b p.at)
+      refused f (at.same ∙ at_name-fault b (missing b ps) limit kind at.members at.outer (token b p.at)
       (cond (goes_on (form_at b p.at)) (tokens_along b (drop p.read ps)) []) error (quotes b p.at e ∙ ap string_token bad))
 
   -- nothing after a name
-  pub tells-name_end : (kind : ErrorType) (stack : List StackState) (nodes : List Node) (p : Progress) (name : List ℕ) (end : ℕ)
+  pub refuses-name_end : (kind : ErrorType) (stack : List StackState) (nodes : List Node) (p : Progress) (name : List ℕ) (end : ℕ)
       → AtName b ps limit kind stack nodes p → byte_at b p.at ≡ 34 → string_at b p.at ≡ Ok (name, end) → p.read ≡ length ps
-      → Tells b ps limit (record { kind = kinds.Syntax; index = p.at; byte = byte_at b p.at })
-  tells-name_end kind stack nodes p name end at e read none =
+      → IsFirstFault b ps limit (record { kind = kinds.Syntax; index = p.at; byte = byte_at b p.at })
+  refuses-name_end kind stack nodes p name end at e read none =
       let form : form_at b p.at ≡ string_token (Ok (name, end)) = quotes b p.at e ∙ ap string_token read in
-      told (record { kind = kinds.Syntax; index = p.at; byte = byte_at b p.at })
+      refused (record { kind = kinds.Syntax; index = p.at; byte = byte_at b p.at })
       (at.same ∙ ap (at_name b (missing b ps) limit kind at.members at.outer)
       (only p.at p.read (string_token (Ok (name, end))) form refl none)
       ∙ at_name-no_more b (missing b ps) limit kind at.members at.outer (token b p.at) name end form
       ∙ ap Err (ends_at at.before p.at p.read (string_token (Ok (name, end))) form refl none at.along))
 
   -- no colon after it
-  pub tells-no_colon : (kind : ErrorType) (stack : List StackState) (nodes : List Node) (p : Progress) (name : List ℕ) (end : ℕ)
+  pub refuses-no_colon : (kind : ErrorType) (stack : List StackState) (nodes : List Node) (p : Progress) (name : List ℕ) (end : ℕ)
       → AtName b ps limit kind stack nodes p → byte_at b p.at ≡ 34 → string_at b p.at ≡ Ok (name, end) → p.read < length ps
       → byte_at b (get_or ps p.read 0) ≢ 58
-      → Tells b ps limit (record { kind = kinds.ExpectedObjectColon; index = get_or ps p.read 0; byte = byte_at b (get_or ps p.read 0) })
-  tells-no_colon kind stack nodes p name end at e read k other =
+      → IsFirstFault b ps limit
+      (record { kind = kinds.ExpectedObjectColon; index = get_or ps p.read 0; byte = byte_at b (get_or ps p.read 0) })
+  refuses-no_colon kind stack nodes p name end at e read k other =
       let i : ℕ = get_or ps p.read 0 in
       let form : form_at b p.at ≡ string_token (Ok (name, end)) = quotes b p.at e ∙ ap string_token read in
-      told (record { kind = kinds.ExpectedObjectColon; index = i; byte = byte_at b i })
+      refused (record { kind = kinds.ExpectedObjectColon; index = i; byte = byte_at b i })
       (at.same ∙ ap (at_name b (missing b ps) limit kind at.members at.outer)
       (along-form b p.at (drop p.read ps) (string_token (Ok (name, end))) form refl ∙ ap (λ us. token b p.at ∷ us) (next b ps p.read k))
       ∙ at_name-no_colon b (missing b ps) limit kind at.members at.outer (token b p.at) (token b i)
       (cond (goes_on (form_at b i)) (tokens_along b (drop (p.read + 1) ps)) []) name end (form_at b i) form refl (no_colon b i other))
 
   -- nothing after a colon
-  pub tells-colon_end : (kind : ErrorType) (stack : List StackState) (nodes : List Node) (p : Progress) (name : List ℕ) (end : ℕ)
+  pub refuses-colon_end : (kind : ErrorType) (stack : List StackState) (nodes : List Node) (p : Progress) (name : List ℕ) (end : ℕ)
       → AtName b ps limit kind stack nodes p → byte_at b p.at ≡ 34 → string_at b p.at ≡ Ok (name, end) → p.read < length ps
       → byte_at b (get_or ps p.read 0) ≡ 58 → p.read + 1 ≡ length ps
-      → Tells b ps limit (record { kind = kinds.Syntax; index = get_or ps p.read 0; byte = byte_at b (get_or ps p.read 0) })
-  tells-colon_end kind stack nodes p name end at e read k colon none =
+      → IsFirstFault b ps limit (record { kind = kinds.Syntax; index = get_or ps p.read 0; byte = byte_at b (get_or ps p.read 0) })
+  refuses-colon_end kind stack nodes p name end at e read k colon none =
       let i : ℕ = get_or ps p.read 0 in
       let form : form_at b p.at ≡ string_token (Ok (name, end)) = quotes b p.at e ∙ ap string_token read in
       let after : tokens_along b ps ≡ (at.before ++ token b p.at ∷ []) ++ tokens_along b (drop p.read ps)
       = extended b ps limit at.before p.at (drop p.read ps) (string_token (Ok (name, end))) form refl at.along in
-      told (record { kind = kinds.Syntax; index = i; byte = byte_at b i })
+      refused (record { kind = kinds.Syntax; index = i; byte = byte_at b i })
       (at.same ∙ ap (at_name b (missing b ps) limit kind at.members at.outer)
       (along-form b p.at (drop p.read ps) (string_token (Ok (name, end))) form refl
       ∙ ap (λ us. token b p.at ∷ us) (next b ps p.read k ∙ only i (p.read + 1) name_separator (colons b i colon) refl none))

@@ -1,21 +1,25 @@
 -- The last block, which spaces fill up.
-use Rattle.std.proofs.Common.{◌≡◌, refl, sym, ◌∙◌, ap, ap₂, ℕ, zero, suc, ◌+◌, ◌-◌, ◌*◌, ◌/◌, ◌<◌, ◌≤◌, inl, inr, List, [], ◌∷◌, ◌++◌, length, get_or, take, drop, replicate, Bool, true, false, not, ◌&&◌, ◌||◌, ◌==◌, if◌then◌else◌, add-zero, add-suc, arith, length-drop, length-append}
+use Rattle.std.proofs.Common.{◌≡◌, refl, sym, ◌∙◌, ap, ap₂, ℕ, zero, suc, ◌+◌, ◌-◌, ◌*◌, ◌/◌, ◌<◌, ◌≤◌, inl, inr, List, [], ◌∷◌, ◌++◌}
+use Rattle.std.proofs.Common.{length, get_or, take, drop, replicate, Bool, true, false, not, ◌&&◌, ◌||◌, ◌==◌, if◌then◌else◌, add-zero}
+use Rattle.std.proofs.Common.{add-suc, arith, length-drop, length-append}
 use Rattle.std.specs.List.{list_any, range_with_len, filter}
 use Rattle.std.proofs.lemmas.Bool.{cases_lt}
-use Rattle.std.proofs.lemmas.List.{get_or_past, get_or_default, get_or_append_left, get_or-append_right, get_or-replicate, get_or-drop, length-replicate, drop-replicate, length-take-le}
+use Rattle.std.proofs.lemmas.List.{get_or_past, get_or_default, get_or_append_left, get_or-append_right, get_or-replicate, get_or-drop}
+use Rattle.std.proofs.lemmas.List.{length-replicate, drop-replicate, length-take-le}
 use Rattle.std.proofs.lemmas.List.Sums.{length-filter, count_by-le-length}
 use Rattle.std.proofs.lemmas.List.Folds.{list_any-append}
 use Rattle.std.proofs.lemmas.List.FromFn.{length-range_with_len}
 use lib.Bits.{bit_or}
 use lib.Count.{ones}
 use Rattle.simd_json_parts.specs.Bytes.{quote, is_whitespace, is_structural, is_control, byte_at}
-use Rattle.simd_json_parts.specs.Positions.{is_even, backslashes_before, is_real_quote, real_quotes, is_inside, is_fresh, is_position, positions, has_control_inside}
+use Rattle.simd_json_parts.specs.Positions.{is_even, backslashes_before, is_real_quote, real_quotes, is_inside, is_fresh, is_position}
+use Rattle.simd_json_parts.specs.Positions.{positions, has_control_inside}
 use Rattle.simd_json_parts.specs.InputFaults.{has_bad_string}
 use Rattle.simd_json_stages.specs.Carries.{has_control_before}
 use Rattle.simd_json_stages.specs.EscapeBlocks.{blocks_in, holds_backslash, backslash_blocks}
 use Rattle.simd_json_stages.specs.Words.{set_bits}
-use Rattle.simd_json_stages.specs.Blocks.{all_bits, IsBlock, AreClassified, AreMarks, IsClassified, IsPlaced}
-use Rattle.simd_json_stages.specs.declared.stage1.words.Marks.{Marks}
+use Rattle.simd_json_stages.specs.Blocks.{all_bits, IsBlock, AreClassified, AreStarts, IsClassified, IsPlaced}
+use Rattle.simd_json_stages.specs.declared.stage1.words.BlockStarts.{BlockStarts}
 use Rattle.simd_json_stages.specs.declared.stage1.words.Classified.{Classified}
 use Rattle.simd_json_stages.specs.declared.stage1.scan.Placing.{Placing}
 use Rattle.simd_json_stages.specs.declared.stage1.scan.Classifying.{Classifying}
@@ -108,24 +112,24 @@ all-zero : (t : Bool) → not (all_bits t == 0) ≡ t
 all-zero true = refl
 all-zero false = refl
 
-pub rest-bad : (b : List ℕ) (p : Placing) (out : List ℕ) (m : Marks) → IsPlaced b (whole b) p out → AreMarks b (64 * whole b) m
+pub rest-bad : (b : List ℕ) (p : Placing) (out : List ℕ) (m : BlockStarts) → IsPlaced b (whole b) p out → AreStarts b (64 * whole b) m
     → (not (m.carry.inside == 0) || not (bit_or p.bad m.bad == 0)) ≡ has_bad_string b
-rest-bad b p out m h marks =
+rest-bad b p out m h placed =
     let k = whole b in
     let n = 64 * k + 64 - length b in
     let e : 64 * k + 64 ≡ length b + n = omega arith in
     let f : 64 * (k + 1) ≡ length b + n = omega arith in
     ap₂ (λ x y. x || y)
-    (ap (λ w. not (w == 0)) marks.carry.inside ∙ all-zero (not (is_even (real_quotes b (64 * k + 64))))
+    (ap (λ w. not (w == 0)) placed.carry.inside ∙ all-zero (not (is_even (real_quotes b (64 * k + 64))))
     ∙ ap (λ j. not (is_even (real_quotes b j))) e ∙ ap (λ j. not (is_even j)) (quotes-past b n))
-    (ap not (control-next b k p.bad m.bad h.bad marks.bad) ∙ not-not (has_control_before b (64 * (k + 1)))
+    (ap not (control-next b k p.bad m.bad h.bad placed.bad) ∙ not-not (has_control_before b (64 * (k + 1)))
     ∙ ap (has_control_before b) f ∙ control-all b n)
 
-pub rest-positions : (b : List ℕ) (p : Placing) (out : List ℕ) (m : Marks) → IsPlaced b (whole b) p out
-    → AreMarks b (64 * whole b) m → take p.used out ++ set_bits 64 (64 * whole b) m.starts ≡ positions b
-rest-positions b p out m h marks =
+pub rest-positions : (b : List ℕ) (p : Placing) (out : List ℕ) (m : BlockStarts) → IsPlaced b (whole b) p out
+    → AreStarts b (64 * whole b) m → take p.used out ++ set_bits 64 (64 * whole b) m.starts ≡ positions b
+rest-positions b p out m h placed =
     let k = whole b in
-    ap (λ l. l ++ set_bits 64 (64 * k) m.starts) h.found ∙ positions-next (is_position b) k m.starts marks.starts
+    ap (λ l. l ++ set_bits 64 (64 * k) m.starts) h.found ∙ positions-next (is_position b) k m.starts placed.starts
     ∙ positions-all b (64 * (k + 1)) (omega arith)
 
 few-positions : (b : List ℕ) → length (positions b) ≤ length b
@@ -137,13 +141,13 @@ few-positions b = omega (
   length-range_with_len 0 (length b),
 )
 
-pub rest-few : (b : List ℕ) (p : Placing) (out : List ℕ) (m : Marks) → IsPlaced b (whole b) p out → AreMarks b (64 * whole b) m
+pub rest-few : (b : List ℕ) (p : Placing) (out : List ℕ) (m : BlockStarts) → IsPlaced b (whole b) p out → AreStarts b (64 * whole b) m
     → p.used + ones m.starts ≤ length b
-rest-few b p out m h marks =
-    let all = ap length (rest-positions b p out m h marks) in
+rest-few b p out m h placed =
+    let all = ap length (rest-positions b p out m h placed) in
     let two = length-append (take p.used out) (set_bits 64 (64 * whole b) m.starts) in
     let one = length-take-le p.used out h.within in
-    let bits = length-ones 64 (64 * whole b) m.starts marks.starts.small in
+    let bits = length-ones 64 (64 * whole b) m.starts placed.starts.small in
     omega (arith, few-positions b)
 
 pub rest-listed : (b : List ℕ) (s : Classifying) (listed : List ℕ) (m : Classified) → IsClassified b (whole b) s listed

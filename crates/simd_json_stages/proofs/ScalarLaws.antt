@@ -1,5 +1,6 @@
 -- The token of a scalar, by its first byte.
-use Rattle.std.proofs.Common.{Bool, subst, zero, suc, ◌<◌, cond, take, ◌≡◌, refl, sym, ◌∙◌, ap, ℕ, ◌+◌, ◌≤◌, List, true, false, length, drop, nat_eq, nat_le, ◌&&◌, ◌||◌, inl, inr, arith}
+use Rattle.std.proofs.Common.{Bool, subst, zero, suc, ◌<◌, cond, take, ◌≡◌, refl, sym, ◌∙◌, ap, ℕ, ◌+◌, ◌≤◌, List, true, false, length}
+use Rattle.std.proofs.Common.{drop, nat_eq, nat_le, ◌&&◌, ◌||◌, inl, inr, arith}
 use Rattle.std.specs.Prelude.{Result, Option, Some, None, find, nat_lt, Ok, Err, codes, ◌==◌, if◌then◌else◌}
 use Rattle.std.specs.List.{starts_with, range_with_len}
 use Rattle.std.specs.Char.{is_ascii_digit}
@@ -15,7 +16,8 @@ use Rattle.simd_json_parts.specs.Numbers.{number_literal, integer_literal, has_m
 use Rattle.simd_json_parts.specs.Integers.{max_magnitude}
 use Rattle.simd_json_scalars.proofs.Patterns.Sets.{longest_prefix-le}
 use Rattle.simd_json_parts.specs.declared.error.Error.{Error}
-use Rattle.simd_json_parts.specs.Tokens.{Form, begin_array, end_array, begin_object, end_object, name_separator, value_separator, string_token, scalar, stray, form_of, form_at}
+use Rattle.simd_json_parts.specs.Tokens.{Form, begin_array, end_array, begin_object, end_object, name_separator, value_separator}
+use Rattle.simd_json_parts.specs.Tokens.{string_token, scalar, stray, form_of, form_at}
 use Rattle.simd_json_parts.specs.StringAt.{string_at}
 use Rattle.simd_json_stages.specs.Refusals.{refused_kind}
 use Rattle.simd_json_stages.specs.declared.stage2.fault.FaultKind.TheVariants as kinds
@@ -182,24 +184,25 @@ number_between-within : (b literal : List ℕ) (i end bound : ℕ) (e : Error) �
 number_between-within b literal i end bound e l k h = go (matches number_literal literal && is_terminator (byte_at b end))
     (matches integer_literal literal) h
   where
-    told : (j : ℕ) → j ≤ bound → (let r : Result (Document × ℕ) Error = Err (fault_at b InvalidNumber j) in r ≡ Err e) → e.index ≤ bound
-    told j m same = let is : fault_at b InvalidNumber j ≡ e = cc in subst (λ (f : Error). f.index ≤ bound) is m
+    refused : (j : ℕ) → j ≤ bound → (let r : Result (Document × ℕ) Error = Err (fault_at b InvalidNumber j) in r ≡ Err e) → e.index ≤ bound
+    refused j m same = let is : fault_at b InvalidNumber j ≡ e = cc in subst (λ (f : Error). f.index ≤ bound) is m
 
     range : (t : Bool) → (let read : Result (Document × ℕ) Error = Ok (integer (has_minus literal) (magnitude literal), end) in
         (if t then Err (fault_at b InvalidNumber end) else read) ≡ Err e) → e.index ≤ bound
-    range true same = told end l same
+    range true same = refused end l same
     range false same = cc
 
     excess : (o : Option ℕ) → first_excess literal ≡ o → integer_or b i literal end o ≡ Err e → e.index ≤ bound
     excess None is same = range (nat_lt (max_magnitude (has_minus literal)) (magnitude literal)) same
-    excess (Some j) is same = let below : j < 0 + length literal = found-below _ 0 (length literal) j is in told (i + j) (omega arith) same
+    excess (Some j) is same =
+        let below : j < 0 + length literal = found-below _ 0 (length literal) j is in refused (i + j) (omega arith) same
 
     go : (t u : Bool) → (let read : Result (Document × ℕ) Error = Ok (decimal literal, end) in
         (if t then (if u then integer_or b i literal end (first_excess literal) else read) else Err
         (fault_at b InvalidNumber end)) ≡ Err e) → e.index ≤ bound
     go true true same = excess (first_excess literal) refl same
     go true false same = cc
-    go false u same = told end l same
+    go false u same = refused end l same
 
 pub number_at-within : (b : List ℕ) (i : ℕ) (e : Error) → i ≤ length b → number_at b i ≡ Err e → e.index ≤ length b
 unfolding number_at

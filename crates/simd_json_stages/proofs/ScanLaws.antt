@@ -1,5 +1,7 @@
 -- What a scan knows, a block further.
-use Rattle.std.proofs.Common.{◌≡◌, if◌then◌else◌, ◌≢◌, refl, sym, ◌∙◌, ap, ap₂, subst, ℕ, zero, suc, ◌+◌, ◌*◌, ◌/◌, ◌%◌, ◌^◌, ◌<◌, ◌≤◌, inl, inr, List, [], ◌∷◌, ◌++◌, length, get_or, take, drop, Bool, true, false, not, ◌&&◌, ◌||◌, ◌==◌, add-zero, zero-add, arith, pow-suc, eqb-true, eq-eqb}
+use Rattle.std.proofs.Common.{◌≡◌, if◌then◌else◌, ◌≢◌, refl, sym, ◌∙◌, ap, ap₂, subst, ℕ, zero, suc, ◌+◌, ◌*◌, ◌/◌, ◌%◌, ◌^◌, ◌<◌, ◌≤◌}
+use Rattle.std.proofs.Common.{inl, inr, List, [], ◌∷◌, ◌++◌, length, get_or, take, drop, Bool, true, false, not, ◌&&◌, ◌||◌, ◌==◌}
+use Rattle.std.proofs.Common.{add-zero, zero-add, arith, pow-suc, eqb-true, eq-eqb}
 use Rattle.std.specs.Int.{from_bool}
 use Rattle.std.specs.List.{list_any, range_with_len, filter}
 use Rattle.std.proofs.lemmas.Bool.{cases_lt, ne_eqb, eqb-false}
@@ -20,8 +22,9 @@ use Rattle.simd_json_parts.specs.Positions.{backslashes_before, real_quotes, is_
 use Rattle.simd_json_stages.specs.Carries.{is_escaped_at, has_control_before}
 use Rattle.simd_json_stages.specs.EscapeBlocks.{holds_backslash}
 use Rattle.simd_json_stages.specs.Words.{is_set, HasBits, set_bits}
-use Rattle.simd_json_stages.specs.Blocks.{is_plain_before, IsCarried, AreBlocks, AreClassified, AreMarks, IsClassified, IsPlaced, IsScanned}
-use Rattle.simd_json_stages.specs.declared.stage1.words.Marks.{Marks}
+use Rattle.simd_json_stages.specs.Blocks.{is_plain_before, IsCarried, AreBlocks, AreClassified, AreStarts, IsClassified, IsPlaced}
+use Rattle.simd_json_stages.specs.Blocks.{IsScanned}
+use Rattle.simd_json_stages.specs.declared.stage1.words.BlockStarts.{BlockStarts}
 use Rattle.simd_json_stages.specs.declared.stage1.words.Classified.{Classified}
 use Rattle.simd_json_stages.specs.declared.stage1.scan.Placing.{Placing}
 use Rattle.simd_json_stages.specs.declared.stage1.scan.Scanned.{Scanned}
@@ -127,18 +130,18 @@ IsClassified-next b k s listed m high after end h classified written count withi
       found = listed-next (holds_backslash b) k s.listed listed after end m.has_backslash classified.escapes h.found written;
     }
 
-pub IsPlaced-next : (b : List ℕ) (k : ℕ) (p : Placing) (out : List ℕ) (m : Marks) (after : List ℕ) (used : ℕ) → IsPlaced b k p out
-    → AreMarks b (64 * k) m
+pub IsPlaced-next : (b : List ℕ) (k : ℕ) (p : Placing) (out : List ℕ) (m : BlockStarts) (after : List ℕ) (used : ℕ) → IsPlaced b k p out
+    → AreStarts b (64 * k) m
     → take used after ≡ take p.used out ++ set_bits 64 (64 * k) m.starts → used ≤ p.used + 64 → used ≤ length after
     → IsPlaced b (k + 1) (record { carry = m.carry; bad = bit_or p.bad m.bad; used = used }) after
-IsPlaced-next b k p out m after used h marks written few within =
+IsPlaced-next b k p out m after used h placed written few within =
     let e : 64 * k + 64 ≡ 64 * (k + 1) = omega arith in
     record {
-      carried = subst (λ n. IsCarried b n m.carry) e marks.carry;
-      bad = control-next b k p.bad m.bad h.bad marks.bad;
+      carried = subst (λ n. IsCarried b n m.carry) e placed.carry;
+      bad = control-next b k p.bad m.bad h.bad placed.bad;
       few = let f = h.few in omega arith;
       within = within;
-      found = written ∙ ap (λ l. l ++ set_bits 64 (64 * k) m.starts) h.found ∙ positions-next (is_position b) k m.starts marks.starts;
+      found = written ∙ ap (λ l. l ++ set_bits 64 (64 * k) m.starts) h.found ∙ positions-next (is_position b) k m.starts placed.starts;
     }
 
 -- ---- the same block, counted otherwise

@@ -2,14 +2,19 @@
 use Rattle.std.proofs.Common.{◌≡◌, refl, sym, ◌∙◌, ap, ℕ, zero, suc, Bool, true, false, ◌-◌, ◌<◌, ◌≤◌, List, [], ◌∷◌, ◌++◌, length, arith}
 use Rattle.std.specs.Prelude.{Result, Ok, Err}
 use Rattle.simd_json_parts.specs.Document.{Document, string, array, object, Elements, no_elements, element, Members, no_members, member}
-use Rattle.simd_json_parts.specs.Tokens.{Token, Form, begin_array, end_array, begin_object, end_object, name_separator, value_separator, string_token, scalar}
-use Rattle.simd_json_parts.specs.Descent.{◌>>=◌, Reads, after_element, element_end, elements_by, first_element, array_from, name_of, name_from, after_name, name_end, after_member, member_end, members_by, first_member, object_from, too_deep, value_of, value_from}
+use Rattle.simd_json_parts.specs.Tokens.{Token, Form, begin_array, end_array, begin_object, end_object, name_separator, value_separator}
+use Rattle.simd_json_parts.specs.Tokens.{string_token, scalar}
+use Rattle.simd_json_parts.specs.Descent.{◌>>=◌, Reads, after_element, element_end, elements_by, first_element, array_from, name_of}
+use Rattle.simd_json_parts.specs.Descent.{name_from, after_name, name_end, after_member, member_end, members_by, first_member, object_from}
+use Rattle.simd_json_parts.specs.Descent.{too_deep, value_of, value_from}
 use Rattle.simd_json_parts.specs.Faults.{fault_at}
-use Rattle.simd_json_parts.specs.declared.error.ErrorType.TheVariants.{DepthLimitExceeded, ExpectedArrayContent, ExpectedObjectContent, ExpectedObjectKey, ExpectedObjectColon, InternalError}
+use Rattle.simd_json_parts.specs.declared.error.ErrorType.TheVariants.{DepthLimitExceeded, ExpectedArrayContent, ExpectedObjectContent}
+use Rattle.simd_json_parts.specs.declared.error.ErrorType.TheVariants.{ExpectedObjectKey, ExpectedObjectColon, InternalError}
 use Rattle.simd_json_parts.specs.declared.error.ErrorType.{ErrorType}
 use Rattle.simd_json_stages.specs.Building.{closed_with}
 use Rattle.simd_json_stages.specs.Put.{begins_value}
-use Rattle.simd_json_stages.specs.Continued.{Open, in_array, in_object, elements_onto, members_onto, after_value, at_value, at_array, at_object, at_name}
+use Rattle.simd_json_stages.specs.Continued.{Open, in_array, in_object, elements_onto, members_onto, after_value, at_value, at_array}
+use Rattle.simd_json_stages.specs.Continued.{at_object, at_name}
 use Rattle.simd_json_parts.specs.declared.error.Error.{Error}
 use Rattle.simd_json_scalars.proofs.Descent.ArrayTurns.{elements_by-turn}
 use Rattle.simd_json_scalars.proofs.Descent.ObjectTurns.{members_by-turn}

@@ -1,5 +1,6 @@
 -- The string at the last token: where it ends, and that nothing of it is a position.
-use Rattle.std.proofs.Common.{◌≡◌, refl, sym, ◌∙◌, ap, subst, ℕ, suc, ◌+◌, ◌-◌, ◌<◌, ◌≤◌, ◌⊎◌, inl, inr, List, [], ◌∷◌, length, get_or, true, false, not, ◌==◌, ◌&&◌, Contains, arith}
+use Rattle.std.proofs.Common.{◌≡◌, refl, sym, ◌∙◌, ap, subst, ℕ, suc, ◌+◌, ◌-◌, ◌<◌, ◌≤◌, ◌⊎◌, inl, inr, List, [], ◌∷◌, length, get_or}
+use Rattle.std.proofs.Common.{true, false, not, ◌==◌, ◌&&◌, Contains, arith}
 use Rattle.std.specs.Prelude.{None, Err, slice_range}
 use Rattle.std.proofs.lemmas.Bool.{and_parts, eqb-true, cases_Bool, cases_lt, false≢true}
 use Rattle.simd_json_parts.specs.Bytes.{quote, is_structural, is_whitespace, byte_at}
@@ -15,7 +16,10 @@ use Rattle.simd_json_stages.specs.Members.{AtString}
 use Rattle.simd_json_stages.specs.Texts.{IsStringBefore}
 use Rattle.simd_json_stages.specs.Progresses.{IsRead}
 use Rattle.simd_json_stages.specs.declared.stage2.progress.Progress.{Progress}
-use Rattle.simd_json_stages.proofs.Places.{token, at-position, at-inside, none-between, next-there, at-before_next, next-inside, string-closed, string-utf8}
+use Rattle.simd_json_stages.specs.declared.stage2.progress.Route.{Route}
+use Rattle.simd_json_stages.specs.declared.stage2.text.Text.{Text}
+use Rattle.simd_json_stages.proofs.Places.{token, at-position, at-inside, none-between, next-there, at-before_next, next-inside}
+use Rattle.simd_json_stages.proofs.Places.{string-closed, string-utf8}
 
 -- ---- after an opening quote
 
@@ -63,10 +67,12 @@ string_at-fault b i e h = string_read-fault (read_pieces 0 (slice_range b (suc i
 -- ---- the string at the last token
 
 -- as `put_string` is called, where `next` is the next position or the end of the input
-module _ (b ps : List ℕ) (positions' : ps ≡ positions b) (none : input_fault b ≡ None) (reads : ℕ → Type 0)
-    (capacity written : ℕ) (p : Progress) (at : AtString b ps reads capacity written p) where
+module _ (b : List ℕ) (r : Route) (t : Text) (capacity written : ℕ) (p : Progress) (at : AtString b r t capacity written p) where
+  none : input_fault b ≡ None
+  none = at.on_route.whole
+
   read : IsRead b (positions b) p
-  read = subst (λ ps. IsRead b ps p) positions' at.read
+  read = subst (λ ps. IsRead b ps p) at.on_route.positions at.read
 
   opening : byte_at b p.at ≡ quote
   opening = sym read.first ∙ at.opening
@@ -101,9 +107,9 @@ module _ (b ps : List ℕ) (positions' : ps ≡ positions b) (none : input_fault
       ]
 
   -- its closing quote is the last one before that
-  pub string-before : (next : ℕ) → next ≡ get_or ps p.read (length b) → IsStringBefore b p.at next
+  pub string-before : (next : ℕ) → next ≡ get_or r.indexes.now p.read (length b) → IsStringBefore b p.at next
   string-before next is' =
-      let is : next ≡ get_or (positions b) p.read (length b) = is' ∙ ap (λ ps. get_or ps p.read (length b)) positions' in
+      let is : next ≡ get_or (positions b) p.read (length b) = is' ∙ ap (λ ps. get_or ps p.read (length b)) at.on_route.positions in
       let there : Contains (positions b) next ⊎ (next ≡ length b) = subst (λ n. Contains (positions b) n ⊎ (n ≡ length b))
       (sym is) (next-there b p) in
       let ends = string-ends b (token b p.at) next at.token opening closed (later next is there) there

@@ -1,10 +1,12 @@
 -- Which token stands at a byte, and the tokens along positions.
-use Rattle.std.proofs.Common.{◌≡◌, ◌≢◌, refl, ◌∙◌, ap, ℕ, ◌+◌, ◌<◌, List, [], ◌∷◌, ◌++◌, true, false, length, get_or, drop, cond, ◌||◌, ◌&&◌, ◌==◌, nat_le}
+use Rattle.std.proofs.Common.{◌≡◌, ◌≢◌, refl, ◌∙◌, ap, ℕ, ◌+◌, ◌<◌, List, [], ◌∷◌, ◌++◌, true, false, length, get_or, drop, cond, ◌||◌}
+use Rattle.std.proofs.Common.{◌&&◌, ◌==◌, nat_le}
 use Rattle.std.specs.Prelude.{if◌then◌else◌}
 use Rattle.std.proofs.lemmas.Bool.{cond_both, eqb-true}
 use Rattle.std.proofs.lemmas.List.{drop_more}
 use Rattle.simd_json_parts.specs.Bytes.{byte_at}
-use Rattle.simd_json_parts.specs.Tokens.{Token, Form, begin_array, end_array, begin_object, end_object, name_separator, value_separator, string_token, scalar, stray, form_of, form_at}
+use Rattle.simd_json_parts.specs.Tokens.{Token, Form, begin_array, end_array, begin_object, end_object, name_separator, value_separator}
+use Rattle.simd_json_parts.specs.Tokens.{string_token, scalar, stray, form_of, form_at}
 use Rattle.simd_json_parts.specs.Descent.{last_index}
 use Rattle.simd_json_parts.specs.StringAt.{string_at}
 use Rattle.simd_json_scalars.specs.TokensAlong.{goes_on, tokens_along}

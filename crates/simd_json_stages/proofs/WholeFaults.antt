@@ -1,5 +1,6 @@
 -- The fault of the whole input, from what a scan finds.
-use Rattle.std.proofs.Common.{◌≡◌, ◌∙◌, ap, ap₂, sym, subst, ◌<◌, ◌≤◌, ℕ, zero, suc, List, length, Bool, true, false, not, cond, nat_lt, nat_eq, Option, Some, None, IsUtf8, ◌==◌, if◌then◌else◌, refl, arith, ◌⊎◌, inl, inr}
+use Rattle.std.proofs.Common.{◌≡◌, ◌∙◌, ap, ap₂, sym, subst, ◌<◌, ◌≤◌, ℕ, zero, suc, List, length, Bool, true, false, not, cond, nat_lt}
+use Rattle.std.proofs.Common.{nat_eq, Option, Some, None, IsUtf8, ◌==◌, if◌then◌else◌, refl, arith, ◌⊎◌, inl, inr}
 use Rattle.std.specs.Str.{is_utf8}
 use Rattle.std.proofs.lemmas.Bool.{true≢false}
 use Rattle.simd_json_scalars.proofs.Positions.ScannedInputs.{by_size, fault-by_size, scanned, bad_encoding}

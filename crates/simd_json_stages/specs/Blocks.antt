@@ -1,16 +1,17 @@
 -- What a scan by blocks of 64 bytes keeps between two blocks, and what it finds in one. It serves proofs: only the crate's
 -- private clauses cite it.
-use Rattle.std.specs.Prelude.{◌≡◌, ℕ, zero, suc, ◌+◌, ◌-◌, ◌*◌, ◌^◌, ◌<◌, ◌≤◌, ◌==◌, List, length, take, filter, Bool, true, false, not, ◌&&◌, ◌||◌, slice_index, slice_index_or}
+use Rattle.std.specs.Prelude.{◌≡◌, ℕ, zero, suc, ◌+◌, ◌-◌, ◌*◌, ◌^◌, ◌<◌, ◌≤◌, ◌==◌, List, length, take, filter, Bool, true, false, not}
+use Rattle.std.specs.Prelude.{◌&&◌, ◌||◌, slice_index, slice_index_or}
 use Rattle.std.specs.List.{list_any, range_with_len}
 use Rattle.std.specs.Int.{from_bool}
 use Rattle.simd_json_parts.specs.Bytes.{backslash, is_whitespace, is_structural, is_control, byte_at}
 use Rattle.simd_json_parts.specs.Positions.{is_real_quote, is_inside, is_position}
 use Rattle.simd_json_stages.specs.Words.{HasBits, parity}
-use Rattle.simd_json_stages.specs.Classes.{is_soft, is_hard}
+use Rattle.simd_json_stages.specs.Classes.{is_space_or_quote, is_op_or_quote}
 use Rattle.simd_json_stages.specs.EscapeBlocks.{holds_backslash}
 use Rattle.simd_json_stages.specs.Carries.{is_escaped_at, is_open_at, has_control_before}
 use Rattle.simd_json_stages.specs.declared.stage1.words.Carry.{Carry}
-use Rattle.simd_json_stages.specs.declared.stage1.words.Marks.{Marks}
+use Rattle.simd_json_stages.specs.declared.stage1.words.BlockStarts.{BlockStarts}
 use Rattle.simd_json_stages.specs.declared.stage1.words.Parts.{Parts}
 use Rattle.simd_json_stages.specs.declared.stage1.words.Classified.{Classified}
 use Rattle.simd_json_stages.specs.declared.stage1.scan.Placing.{Placing}
@@ -53,16 +54,16 @@ abbrev pub IsControl : List ℕ → ℕ → ℕ → Type 0
 IsControl b from control = HasBits control (λ i. is_control (byte_at b (from + i)))
 
 -- a bit for each byte of a block that is of a class, or escaped
-pub record HasClasses (b : List ℕ) (from s h c e : ℕ) : Type 0 where
+pub record HasClasses (b : List ℕ) (from s o c e : ℕ) : Type 0 where
   pub bytes : HasBytes b from
-  pub soft : HasBits s (λ i. is_soft (byte_at b (from + i)))
-  pub hard : HasBits h (λ i. is_hard (byte_at b (from + i)))
+  pub space_or_quote : HasBits s (λ i. is_space_or_quote (byte_at b (from + i)))
+  pub op_or_quote : HasBits o (λ i. is_op_or_quote (byte_at b (from + i)))
   pub control : IsControl b from c
   pub escaped : HasBits e (λ i. is_escaped_at b (from + i))
 
 -- what is found in a block by itself
 pub record AreClassified (b : List ℕ) (from : ℕ) (m : Classified) : Type 0 where
-  pub classes : HasClasses b from m.soft m.hard m.control m.escaped
+  pub classes : HasClasses b from m.space_or_quote m.op_or_quote m.control m.escaped
   pub next : m.next ≡ from_bool (is_escaped_at b (from + 64))
   pub ascii : m.high ≡ 0 → IsAscii b from (from + 64)
   pub escapes : m.has_backslash ≡ list_any (λ i. byte_at b i == backslash) (range_with_len from 64)
@@ -81,7 +82,7 @@ pub record IsCarried (b : List ℕ) (i : ℕ) (c : Carry) : Type 0 where
   pub plain : c.plain ≡ from_bool (is_plain_before b i)
 
 -- what is found in a block, from what is kept before it
-pub record AreMarks (b : List ℕ) (from : ℕ) (m : Marks) : Type 0 where
+pub record AreStarts (b : List ℕ) (from : ℕ) (m : BlockStarts) : Type 0 where
   pub starts : HasBits m.starts (λ i. is_position b (from + i))
   pub bad : HasBits m.bad (λ i. is_inside b (from + i) && is_control (byte_at b (from + i)))
   pub carry : IsCarried b (from + 64) m.carry

@@ -14,14 +14,14 @@ use Rattle.simd_json_parts.specs.declared.node.Node.{Node}
 use Rattle.simd_json_parts.specs.declared.node.Node.TheVariants as nodes
 use Rattle.simd_json_stages.specs.Continued.{Open, in_array, in_object, elements_onto, members_onto, after_value, at_value, at_name}
 use Rattle.simd_json_stages.specs.Refusals.{error_type}
-use Rattle.simd_json_stages.specs.declared.stage2.Container.{Container}
-use Rattle.simd_json_stages.specs.declared.stage2.Container.TheVariants.{Array, Object}
+use Rattle.simd_json_stages.specs.declared.stage2.stack.Container.{Container}
+use Rattle.simd_json_stages.specs.declared.stage2.stack.Container.TheVariants.{Array, Object}
 use Rattle.simd_json_stages.specs.declared.stage2.progress.Progress.{Progress}
-use Rattle.simd_json_stages.specs.declared.stage2.StackState.{StackState}
-use Rattle.simd_json_stages.specs.declared.stage2.machine.Turn.{Turn}
-use Rattle.simd_json_stages.specs.declared.stage2.machine.Turn.TheVariants as turns
-use Rattle.simd_json_stages.specs.declared.stage2.machine.Value.{Value}
-use Rattle.simd_json_stages.specs.declared.stage2.machine.Value.TheVariants.{Opened, Read}
+use Rattle.simd_json_stages.specs.declared.stage2.stack.StackState.{StackState}
+use Rattle.simd_json_stages.specs.declared.stage2.progress.Following.{Following}
+use Rattle.simd_json_stages.specs.declared.stage2.progress.Following.TheVariants as followings
+use Rattle.simd_json_stages.specs.declared.stage2.progress.Value.{Value}
+use Rattle.simd_json_stages.specs.declared.stage2.progress.Value.TheVariants.{Opened, Read}
 use Rattle.simd_json_stages.specs.declared.stage2.fault.Fault.{Fault}
 use Rattle.simd_json_stages.specs.declared.stage2.fault.FaultKind.{FaultKind}
 use Rattle.simd_json_stages.specs.declared.stage2.fault.FaultKind.TheVariants as kinds
@@ -170,15 +170,15 @@ module _ (b ps : List ℕ) (limit : ℕ) where
   AtMember kind stack nodes p = AtMemberOf p.container (error_type kind) stack nodes p
 
   -- what a value came to
-  abbrev pub Opens : List StackState → List Node → Value → Type 0
-  Opens stack nodes (Opened p) = AtMember kinds.ExpectedObjectContent stack nodes p
-  Opens stack nodes (Read p) = AfterValue stack nodes p
+  abbrev pub AtFirstOrAfter : List StackState → List Node → Value → Type 0
+  AtFirstOrAfter stack nodes (Opened p) = AtMember kinds.ExpectedObjectContent stack nodes p
+  AtFirstOrAfter stack nodes (Read p) = AfterValue stack nodes p
 
   -- what follows a member
-  abbrev pub Takes : List StackState → List Node → Turn → Type 0
-  Takes stack nodes (turns.Next p) = AtMember kinds.ExpectedObjectKey stack nodes p
-  Takes stack nodes (turns.Closed p) = AfterValue stack nodes p
+  abbrev pub AtNextOrAfter : List StackState → List Node → Following → Type 0
+  AtNextOrAfter stack nodes (followings.Next p) = AtMember kinds.ExpectedObjectKey stack nodes p
+  AtNextOrAfter stack nodes (followings.Closed p) = AfterValue stack nodes p
 
   -- The fault is the descent's.
-  abbrev pub Tells : Fault → Type 0
-  Tells f = (whole >>= root_end b (tokens_along b ps)) ≡ Err (fault_with (error_type f.kind) f.index f.byte)
+  abbrev pub IsFirstFault : Fault → Type 0
+  IsFirstFault f = (whole >>= root_end b (tokens_along b ps)) ≡ Err (fault_with (error_type f.kind) f.index f.byte)

@@ -5,8 +5,8 @@ use Rattle.simd_json_stages.specs.Blocks.{HasClasses, IsControl, AreParts}
 
 -- the classes of each
 abbrev pub HaveClasses : List ℕ → ℕ → ℕ → List ℕ → List ℕ → List ℕ → List ℕ → Type 0
-HaveClasses b first n soft hard control escaped = (k : ℕ) → k < n
-    → HasClasses b (64 * (first + k)) (slice_index soft k) (slice_index hard k) (slice_index control k) (slice_index escaped k)
+HaveClasses b first n s o c e = (k : ℕ) → k < n
+    → HasClasses b (64 * (first + k)) (slice_index s k) (slice_index o k) (slice_index c k) (slice_index e k)
 
 -- the control bytes of each
 abbrev pub HaveControl : List ℕ → ℕ → ℕ → List ℕ → Type 0

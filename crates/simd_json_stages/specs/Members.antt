@@ -1,34 +1,45 @@
 -- The machine between the members of a container.
-use Rattle.std.specs.Prelude.{◌≡◌, ◌≤◌, ◌<◌, ◌+◌, ◌*◌, ℕ, List, length, min, Contains, Result, OnOk, IfErr}
+use Rattle.std.specs.Prelude.{◌≡◌, ◌≤◌, ◌<◌, ◌+◌, ◌*◌, ℕ, List, [], length, slice_index, min, Contains, Result, OnOk, IfErr}
 use Rattle.simd_json_parts.specs.Bytes.{quote}
 use Rattle.simd_json_parts.specs.Tokens.{form_at, tokens}
 use Rattle.simd_json_parts.specs.declared.node.Node.{Node}
-use Rattle.simd_json_stages.specs.Building.{AtValue, AtName, AfterValue, Opens, IsBuilt, Tells}
+use Rattle.simd_json_stages.specs.Building.{closer, AtValue, AtName, AfterValue, AtFirstOrAfter, IsBuilt, IsFirstFault}
 use Rattle.simd_json_stages.specs.NodesEnough.{nodes_enough}
-use Rattle.simd_json_stages.specs.Progresses.{IsRead, IsBefore, IsAfter, IsWithin, reached}
+use Rattle.simd_json_stages.specs.Progresses.{IsOnRoute, IsRead, IsBefore, IsAfter, IsWithin, reached}
 use Rattle.simd_json_stages.specs.Refusals.{error_type}
-use Rattle.simd_json_stages.specs.declared.stage2.Container.{Container}
-use Rattle.simd_json_stages.specs.declared.stage2.Container.TheVariants.{Array, Object}
-use Rattle.simd_json_stages.specs.declared.stage2.StackState.{StackState}
+use Rattle.simd_json_stages.specs.Texts.{Reads}
+use Rattle.simd_json_stages.specs.declared.stage2.machine.Machine.{Machine}
+use Rattle.simd_json_stages.specs.declared.stage2.progress.Route.{Route}
+use Rattle.simd_json_stages.specs.declared.stage2.stack.Container.{Container}
+use Rattle.simd_json_stages.specs.declared.stage2.stack.Container.TheVariants.{Array, Object}
+use Rattle.simd_json_stages.specs.declared.stage2.stack.StackState.{StackState}
 use Rattle.simd_json_stages.specs.declared.stage2.fault.Fault.{Fault}
 use Rattle.simd_json_stages.specs.declared.stage2.fault.FaultKind.{FaultKind}
-use Rattle.simd_json_stages.specs.declared.stage2.machine.Member.{Member}
-use Rattle.simd_json_stages.specs.declared.stage2.machine.Member.TheVariants.{Next, End}
-use Rattle.simd_json_stages.specs.declared.stage2.machine.Value.{Value}
-use Rattle.simd_json_stages.specs.declared.stage2.machine.Value.TheVariants.{Opened, Read}
+use Rattle.simd_json_stages.specs.declared.stage2.progress.Member.{Member}
+use Rattle.simd_json_stages.specs.declared.stage2.progress.Member.TheVariants.{Next, End}
+use Rattle.simd_json_stages.specs.declared.stage2.progress.Value.{Value}
+use Rattle.simd_json_stages.specs.declared.stage2.progress.Value.TheVariants.{Opened, Read}
 use Rattle.simd_json_stages.specs.declared.stage2.progress.Progress.{Progress}
+use Rattle.simd_json_stages.specs.declared.stage2.text.Text.{Text}
 
 -- there is capacity for the nodes of the positions ps, and for a frame each
 pub record HasCapacity (ps : List ℕ) (limit : ℕ) (stack : List StackState) (capacity : ℕ) : Type 0 where
   pub node_capacity : nodes_enough (length ps) limit ≤ capacity
   pub frame_capacity : min (length ps) limit ≤ length stack
 
+-- after a token, where the next one can be read if there is one
+pub record AfterToken (b : List ℕ) (r : Route) (t : Text) (p : Progress) : Type 0 where
+  pub on_route : IsOnRoute r.ends_closed b r.indexes.now
+  pub read : IsRead b r.indexes.now p
+  pub text : p.read < length r.indexes.now → Reads b t (slice_index r.indexes.now p.read)
+
 -- at the opening quote of a string
-pub record AtString (b ps : List ℕ) (reads : ℕ → Type 0) (capacity written : ℕ) (p : Progress) : Type 0 where
-  pub read : IsRead b ps p
+pub record AtString (b : List ℕ) (r : Route) (t : Text) (capacity written : ℕ) (p : Progress) : Type 0 where
+  pub on_route : IsOnRoute r.ends_closed b r.indexes.now
+  pub read : IsRead b r.indexes.now p
   pub token : Contains (tokens b) (record { index = p.at; form = form_at b p.at })
   pub opening : p.byte ≡ quote
-  pub text : reads p.at
+  pub text : Reads b t p.at
   pub room : written < capacity
 
 -- no token before this one is looked at again
@@ -36,13 +47,27 @@ abbrev pub IsFrom : ℕ → Member → Type 0
 IsFrom n (Next p kind) = n ≤ p.read
 IsFrom n End = Unit {0}
 
-module _ (b ps : List ℕ) (limit : ℕ) (reads : ℕ → Type 0) (stack : List StackState) (capacity : ℕ) (nodes : List Node) where
+-- before any token of the input b is read
+pub record AtStart (b : List ℕ) (r : Route) (m : Machine) (capacity : ℕ) (nodes : List Node) : Type 0 where
+  pub on_route : IsOnRoute r.ends_closed b r.indexes.now
+  pub capacities : HasCapacity r.indexes.now r.max_depth m.stack.now capacity
+  pub empty : nodes ≡ []
+  pub text : Reads b m.text 0
+
+-- The state of the machine is its text and stack, and the nodes with their capacity.
+module _ (b : List ℕ) (r : Route) (m : Machine) (capacity : ℕ) (nodes : List Node) where
   -- at the first token of a value
   pub record AtFirst (p : Progress) : Type 0 where
-    pub capacities : HasCapacity ps limit stack capacity
-    pub progress : IsBefore b ps reads (length nodes) p
-    pub depth : p.depth ≤ limit
-    pub value : AtValue b ps limit stack nodes p
+    pub on_route : IsOnRoute r.ends_closed b r.indexes.now
+    pub capacities : HasCapacity r.indexes.now r.max_depth m.stack.now capacity
+    pub progress : IsBefore b r.indexes.now (Reads b m.text) (length nodes) p
+    pub depth : p.depth ≤ r.max_depth
+    pub value : AtValue b r.indexes.now r.max_depth m.stack.now nodes p
+
+  -- at the opening bracket of a container of this kind
+  pub record AtOpening (p : Progress) (c : Container) : Type 0 where
+    pub first : AtFirst p
+    pub bracket : p.byte + 2 ≡ closer c
 
   -- at the first token of an element of an array
   pub record AtElement (p : Progress) : Type 0 where
@@ -52,17 +77,19 @@ module _ (b ps : List ℕ) (limit : ℕ) (reads : ℕ → Type 0) (stack : List 
 
   -- at the first token of a member of an object, where a fault of this kind is reported if it is no key
   pub record AtPair (p : Progress) (kind : FaultKind) : Type 0 where
-    pub capacities : HasCapacity ps limit stack capacity
-    pub progress : IsBefore b ps reads (length nodes) p
-    pub depth : p.depth ≤ limit
-    pub name : AtName b ps limit (error_type kind) stack nodes p
+    pub on_route : IsOnRoute r.ends_closed b r.indexes.now
+    pub capacities : HasCapacity r.indexes.now r.max_depth m.stack.now capacity
+    pub progress : IsBefore b r.indexes.now (Reads b m.text) (length nodes) p
+    pub depth : p.depth ≤ r.max_depth
+    pub name : AtName b r.indexes.now r.max_depth (error_type kind) m.stack.now nodes p
 
   -- after a value
   pub record AfterLast (p : Progress) : Type 0 where
-    pub capacities : HasCapacity ps limit stack capacity
-    pub progress : IsAfter b ps reads (length nodes) p
-    pub depth : p.depth ≤ limit
-    pub after : AfterValue b ps limit stack nodes p
+    pub on_route : IsOnRoute r.ends_closed b r.indexes.now
+    pub capacities : HasCapacity r.indexes.now r.max_depth m.stack.now capacity
+    pub progress : IsAfter b r.indexes.now (Reads b m.text) (length nodes) p
+    pub depth : p.depth ≤ r.max_depth
+    pub after : AfterValue b r.indexes.now r.max_depth m.stack.now nodes p
 
   -- after a member of a container of this kind
   pub record AfterMember (p : Progress) (c : Container) : Type 0 where
@@ -76,11 +103,12 @@ module _ (b ps : List ℕ) (limit : ℕ) (reads : ℕ → Type 0) (stack : List 
 
   -- in a new container, or past a value
   pub record HasCome (v : Value) : Type 0 where
-    pub capacities : HasCapacity ps limit stack capacity
-    pub within : IsWithin b ps reads (length nodes) v
-    pub depth : (reached v).depth ≤ limit
+    pub on_route : IsOnRoute r.ends_closed b r.indexes.now
+    pub capacities : HasCapacity r.indexes.now r.max_depth m.stack.now capacity
+    pub within : IsWithin b r.indexes.now (Reads b m.text) (length nodes) v
+    pub depth : (reached v).depth ≤ r.max_depth
     pub inside : IsInside v
-    pub step : Opens b ps limit stack nodes v
+    pub step : AtFirstOrAfter b r.indexes.now r.max_depth m.stack.now nodes v
 
   -- at a member of a container of this kind
   abbrev pub IsAtMemberOf : Container → Progress → FaultKind → Type 0
@@ -90,10 +118,10 @@ module _ (b ps : List ℕ) (limit : ℕ) (reads : ℕ → Type 0) (stack : List 
   -- at a member, or at the end with the whole document
   abbrev pub IsAtMember : Member → Type 0
   IsAtMember (Next p kind) = IsAtMemberOf p.container p kind
-  IsAtMember End = (2 * length nodes ≤ length ps + 1) × IsBuilt b ps limit nodes
+  IsAtMember End = (2 * length nodes ≤ length r.indexes.now + 1) × IsBuilt b r.indexes.now r.max_depth nodes
 
 -- The nodes of the whole document are written, or the fault is the descent's.
 pub record IsTape (b ps : List ℕ) (limit : ℕ) (nodes : List Node) (r : Result (Unit {0}) Fault) : Type 0 where
   pub few : OnOk r (2 * length nodes ≤ length ps + 1)
   pub built : OnOk r (IsBuilt b ps limit nodes)
-  pub refused : IfErr r (Tells b ps limit)
+  pub refused : IfErr r (IsFirstFault b ps limit)

@@ -4,10 +4,10 @@ use Rattle.simd_json_parts.specs.Bytes.{byte_at}
 use Rattle.simd_json_parts.specs.InputFaults.{input_fault}
 use Rattle.simd_json_parts.specs.Positions.{positions}
 use Rattle.simd_json_stages.specs.declared.stage2.progress.Progress.{Progress}
-use Rattle.simd_json_stages.specs.declared.stage2.machine.Turn.{Turn}
-use Rattle.simd_json_stages.specs.declared.stage2.machine.Turn.TheVariants as turns
-use Rattle.simd_json_stages.specs.declared.stage2.machine.Value.{Value}
-use Rattle.simd_json_stages.specs.declared.stage2.machine.Value.TheVariants.{Opened, Read}
+use Rattle.simd_json_stages.specs.declared.stage2.progress.Following.{Following}
+use Rattle.simd_json_stages.specs.declared.stage2.progress.Following.TheVariants as followings
+use Rattle.simd_json_stages.specs.declared.stage2.progress.Value.{Value}
+use Rattle.simd_json_stages.specs.declared.stage2.progress.Value.TheVariants.{Opened, Read}
 
 -- the last token is at the last position that was read, and this is its first byte
 pub record IsRead (b ps : List ℕ) (p : Progress) : Type 0 where
@@ -53,20 +53,20 @@ abbrev pub IsWithin : List ℕ → List ℕ → (ℕ → Type 0) → ℕ → Val
 IsWithin b ps reads written (Opened p) = IsBefore b ps reads written p
 IsWithin b ps reads written (Read p) = IsAfter b ps reads written p
 
-abbrev pub IsTurned : List ℕ → List ℕ → (ℕ → Type 0) → ℕ → Turn → Type 0
-IsTurned b ps reads written (turns.Next p) = IsBefore b ps reads written p
-IsTurned b ps reads written (turns.Closed p) = IsAfter b ps reads written p
+abbrev pub IsWithinNext : List ℕ → List ℕ → (ℕ → Type 0) → ℕ → Following → Type 0
+IsWithinNext b ps reads written (followings.Next p) = IsBefore b ps reads written p
+IsWithinNext b ps reads written (followings.Closed p) = IsAfter b ps reads written p
 
 abbrev pub reached : Value → Progress
 reached (Opened p) = p
 reached (Read p) = p
 
 -- tokens are read, and one more container is open, or none
-abbrev pub Advances : ℕ → Progress → Value → Type 0
-Advances limit p (Opened q) = (p.read < q.read) × (p.at ≤ q.at) × (q.depth ≤ limit) × (0 < q.depth)
-Advances limit p (Read q) = (p.read ≤ q.read) × (p.at ≤ q.at) × (q.depth ≡ p.depth) × (q.container ≡ p.container)
+abbrev pub AdvancesPastValue : ℕ → Progress → Value → Type 0
+AdvancesPastValue limit p (Opened q) = (p.read < q.read) × (p.at ≤ q.at) × (q.depth ≤ limit) × (0 < q.depth)
+AdvancesPastValue limit p (Read q) = (p.read ≤ q.read) × (p.at ≤ q.at) × (q.depth ≡ p.depth) × (q.container ≡ p.container)
 
 -- tokens are read, and the container stays open or is closed
-abbrev pub Turns : Progress → Turn → Type 0
-Turns p (turns.Next q) = (p.read < q.read) × (p.at ≤ q.at) × (q.depth ≡ p.depth) × (q.container ≡ p.container)
-Turns p (turns.Closed q) = (p.read < q.read) × (p.at ≤ q.at) × (q.depth ≤ p.depth)
+abbrev pub AdvancesPastMember : Progress → Following → Type 0
+AdvancesPastMember p (followings.Next q) = (p.read < q.read) × (p.at ≤ q.at) × (q.depth ≡ p.depth) × (q.container ≡ p.container)
+AdvancesPastMember p (followings.Closed q) = (p.read < q.read) × (p.at ≤ q.at) × (q.depth ≤ p.depth)

@@ -1,17 +1,40 @@
 -- What a reader of one value answers that is put as the next node.
-use Rattle.std.specs.Prelude.{◌≡◌, ◌⊎◌, ℕ, List, [], ◌∷◌, ◌++◌, Bool, true, false, ◌&&◌, nat_eq, codes, Ok, Err}
+use Rattle.std.specs.Prelude.{◌≡◌, ◌≢◌, ◌<◌, ◌⊎◌, ℕ, List, [], ◌∷◌, ◌++◌, length, Bool, true, false, ◌&&◌, nat_eq, codes, Ok, Err}
 use Rattle.std.specs.List.{starts_with}
 use Rattle.simd_json_parts.specs.Bytes.{byte_at, is_terminator}
 use Rattle.simd_json_parts.specs.Document.{Document}
 use Rattle.simd_json_parts.specs.Faults.{fault_with}
 use Rattle.simd_json_parts.specs.Listing.{listing}
 use Rattle.simd_json_parts.specs.Nodes.{string_item, item_of}
+use Rattle.simd_json_parts.specs.NumberAt.{number_at}
 use Rattle.simd_json_parts.specs.StringAt.{string_at}
 use Rattle.simd_json_parts.specs.Tokens.{Form, begin_array, begin_object, string_token, scalar, form_at}
 use Rattle.simd_json_parts.specs.declared.node.Node.{Node}
 use Rattle.simd_json_stages.specs.Refusals.{error_type}
+use Rattle.simd_json_stages.specs.Texts.{Reads}
 use Rattle.simd_json_stages.specs.declared.stage2.fault.Fault.{Fault}
 use Rattle.simd_json_stages.specs.declared.stage2.fault.FaultKind.TheVariants as kinds
+use Rattle.simd_json_stages.specs.declared.stage2.progress.Progress.{Progress}
+use Rattle.simd_json_stages.specs.declared.stage2.text.Text.{Text}
+
+-- at the first byte of a token, with room for a node
+pub record AtScalar (b : List ℕ) (t : Text) (capacity written : ℕ) (p : Progress) : Type 0 where
+  pub text : Reads b t p.at
+  pub within : p.at < length b
+  pub first : p.byte ≡ byte_at b p.at
+  pub room : written < capacity
+
+-- which is no string, array or object
+pub record AtOther (b : List ℕ) (t : Text) (capacity written : ℕ) (p : Progress) : Type 0 where
+  pub at : AtScalar b t capacity written p
+  pub no_string : p.byte ≢ 34
+  pub no_array : p.byte ≢ 91
+  pub no_object : p.byte ≢ 123
+
+-- which is a number
+pub record AtNumber (b : List ℕ) (t : Text) (capacity written : ℕ) (p : Progress) : Type 0 where
+  pub at : AtScalar b t capacity written p
+  pub form : form_at b p.at ≡ scalar (number_at b p.at)
 
 -- the string at index i is the next node, and what is after it can be read
 pub record IsStringPut (b : List ℕ) (i : ℕ) (nodes nodes' : List Node) (reads : ℕ → Type 0) : Type 0 where

@@ -1,24 +1,13 @@
 //! From structural positions to nodes.
 //!
-//! The machine goes from token to token. Between two of them it is in one of three states:
-//!
-//! ```text
-//! value         read a scalar, an empty array or an empty object     →  after a value
-//!               open a container                                     →  value (array), key (object)
-//! key           read a string and a colon                            →  value
-//! after a value a comma, in a container                              →  value (array), key (object)
-//!               the closing bracket of the container                 →  after a value
-//!               the end of the tokens, in no container               →  done
-//! ```
-//!
-//! `machine` has the states, `progress` how far it is, `text` what it reads from, `scalar` the scalars and `fault`
-//! what it refuses.
+//! `machine` goes from token to token, `progress` has how far it is, `stack` the containers that are open, `text`
+//! what it reads from, `string` and `scalar` the values of one node, and `fault` what it refuses.
 ghost use Rattle.std.specs.Prelude.{◌≡◌, ◌≤◌, ℕ, List, [], length, min, None, OnOk, IfErr, true, false};
 ghost use Rattle.std.specs.Prelude.{vec_capacity};
 ghost use Rattle.simd_json_parts.specs.Descent.{descent};
 ghost use Rattle.simd_json_parts.specs.InputFaults.{input_fault};
 ghost use Rattle.simd_json_parts.specs.Positions.{positions};
-ghost use Rattle.simd_json_stages.specs.Building.{IsListed, closer, header_of, content_kind};
+ghost use Rattle.simd_json_stages.specs.Building.{IsListed};
 ghost use Rattle.simd_json_stages.specs.EscapeBlocks.{backslash_blocks};
 ghost use Rattle.simd_json_stages.specs.EscapesAhead.{PlainFrom};
 ghost use Rattle.simd_json_stages.specs.Members.{HasCapacity, IsTape};
@@ -30,79 +19,22 @@ mod fault;
 mod machine;
 mod progress;
 mod scalar;
+mod stack;
+mod string;
 mod text;
 
-use fault::{Fault, FaultKind};
-use machine::{Machine, Route};
+use fault::Fault;
+use machine::Machine;
+use progress::Route;
 pub use scalar::{is_valid_false_atom, is_valid_null_atom, is_valid_true_atom};
 use simd_json_parts::error::Result;
 use simd_json_parts::node::Node;
+pub use stack::{Container, StackState};
 use std::alloc::Allocator;
 use text::Text;
 
 #[cfg(test)]
 mod tests;
-
-/// The two kinds of containers.
-#[derive(Clone, Copy, Debug, Drop)]
-pub enum Container {
-    Array,
-    Object,
-}
-
-impl Container {
-    // The byte that closes it.
-    #[inline(always)]
-    fn closer(self) -> u8
-        ensures { result ≡ closer self }
-    {
-        match self {
-            Container::Array => b']',
-            Container::Object => b'}',
-        }
-    }
-
-    // The node that stands for it.
-    #[inline(always)]
-    fn header<'de>(self, len: usize, count: usize) -> Node<'de>
-        ensures { result ≡ header_of self len count }
-    {
-        match self {
-            Container::Array => Node::Array { len, count },
-            Container::Object => Node::Object { len, count },
-        }
-    }
-
-    // The fault of a token that may not stand after one of its members.
-    fn content_kind(self) -> FaultKind
-        ensures { result ≡ content_kind self }
-    {
-        match self {
-            Container::Array => FaultKind::ExpectedArrayContent,
-            Container::Object => FaultKind::ExpectedObjectContent,
-        }
-    }
-}
-
-/// What is kept of an open container, and of its parent while it is open.
-#[derive(Clone, Copy, Debug, Drop)]
-pub struct StackState {
-    /// Where its header stands among the nodes.
-    pub header: usize,
-    /// What its parent is.
-    pub outer: Container,
-    /// How many members its parent has so far.
-    pub len: usize,
-}
-
-impl StackState {
-    /// Of no container: what a stack is filled with.
-    pub const EMPTY: StackState = StackState {
-        header: 0,
-        outer: Container::Array,
-        len: 0,
-    };
-}
 
 /// How many nodes are enough for the tape of so many structural positions, with so many containers open at
 /// most: one for each container that may be open, and one for every other of the positions that are left.

@@ -64,7 +64,7 @@ pub fn equality_is_an_equivalence()
     ensures same { (d e : Document) → (equal d e ≡ true) ↔ (normalized d ≡ normalized e) }
 {}
 
-/// The answer is the fault of the whole input where there is one, and else the descent's.
+/// The result is the fault of the whole input where there is one, and else the descent's.
 pub fn input_faults_come_first()
     ensures fault { (b : List ℕ) (limit : ℕ) (e : Error) → input_fault b ≡ Some e
         → answer b limit ≡ Err e }
@@ -106,7 +106,7 @@ pub fn kinds_have_one_class()
         × (syntax ≢ shape) }
 {}
 
-/// An answer is a document: the whole input denotes it, and its length, its nesting and its integers are
+/// What is accepted is a document: the whole input denotes it, and its length, its nesting and its integers are
 /// within the limits. So nothing outside the grammar is ever accepted.
 pub fn answers_are_documents()
     ensures { (b : List ℕ) (limit : ℕ) (d : Document) → answer b limit ≡ Ok d
@@ -123,7 +123,7 @@ pub fn documents_are_utf8()
     ensures { (b : List ℕ) (d : Document) → Denotes b d → IsUtf8 b }
 {}
 
-/// Bytes that denote a document within the limits are answered with that document.
+/// Bytes that denote a document within the limits are read as that document.
 pub fn documents_are_answered()
     ensures { (b : List ℕ) (d : Document) (limit : ℕ) → Denotes b d → WithinLimits b d limit
         → answer b limit ≡ Ok d }
@@ -156,7 +156,7 @@ pub fn documents_are_compared_node_by_node()
     ensures { (d e : Document) → same_items (listing d) (listing e) ≡ equal d e }
 {}
 
-/// An accessor and its `try_` form agree, also at a key: one answers a value exactly where the other does,
+/// An accessor and its `try_` form agree, also at a key: one returns a value exactly where the other does,
 /// and then the same. Where there is none, the refusal names the kind that the accessor expects and the kind
 /// that the value has.
 pub fn accessors_agree<T>()

@@ -6,7 +6,7 @@ use std::test::Fail;
 fn written(rt: &impl AllocGlobal, input: &[u8], has_lines: bool) -> Result<(bool, String), Fail> {
     let mut checker = Checker::new(rt.alloc(), 4)?;
     let mut out = Vec::new(rt.alloc());
-    let clean = check_input(&mut checker, &mut out, "f", input, has_lines)?;
+    let clean = check_input(&mut checker, &mut out, "f", input, has_lines, 80)?;
     Ok((clean, String::from_utf8(out)?))
 }
 
@@ -56,14 +56,14 @@ const REFUSED: [(&[u8], &str); 10] = [
         b"[\"a\", \"b]",
         "f:1:7: the string that begins here has no end [Syntax at byte 6]\n[\"a\", \"b]\n      ^\n",
     ),
-    // a line is cut: 39 characters before the place, 78 in all
+    // a line is cut: 40 characters before the place, 80 in all
     (
         b"[000000000000000000000000000000000000000000]",
         "f:1:3: malformed number [InvalidNumber at byte 2]\n[000000000000000000000000000000000000000000]\n  ^\n",
     ),
     (
         b"[\"0123456789012345678901234567890123456789\",x,\"0123456789012345678901234567890123456789\"]",
-        "f:1:45: expected a value, found `x` [InternalError at byte 44]\n3456789012345678901234567890123456789\",x,\"012345678901234567890123456789012345\n                                       ^\n",
+        "f:1:45: expected a value, found `x` [InternalError at byte 44]\n23456789012345678901234567890123456789\",x,\"0123456789012345678901234567890123456\n                                        ^\n",
     ),
 ];
 

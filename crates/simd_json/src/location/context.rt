@@ -175,7 +175,7 @@ fn byte_before(input: &[u8], i: usize) -> Option<u8>
     None
 }
 
-fn is_whitespace(byte: u8) -> bool
+pub(super) fn is_whitespace(byte: u8) -> bool
     ensures { result ≡ is_whitespace byte }
 {
     matches!(byte, b' ' | b'\t' | b'\n' | b'\r')

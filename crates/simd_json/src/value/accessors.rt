@@ -15,7 +15,7 @@
 //! | `str` | a string, with its escapes decoded | `String` |
 //! | `decimal`, as `&str` | a number with a fraction or an exponent: its literal | `Decimal` |
 //!
-//! An integer is told from a decimal by how it is written (RFC 8259, section 6). It fits by its number alone:
+//! Whether a number is an integer or a decimal depends on how it is written (RFC 8259, section 6). It fits by its number alone:
 //! `-0` is 0 for each type.
 
 mod containers;

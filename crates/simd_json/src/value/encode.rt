@@ -45,7 +45,7 @@ impl Value<'_, '_> {
     }
 
     /// The pretty text of the value: as [`encode`](Value::encode), but each member of an array or object that
-    /// has some stands on a line of its own, after two spaces for each container that is open there, with `:
+    /// has some is on a line of its own, after two spaces for each container that is open there, with `:
     /// ` between a key and its value. A line ends with 0x0A, the last one with nothing.
     ///
     /// Returns `OutOfMemory`, at index 0 without a character, where an allocation fails, and no other error.

@@ -1,8 +1,8 @@
 //! JSON Pointer (RFC 6901): the value at a place within another.
-ghost use Rattle.std.specs.Prelude.{◌≡◌, ◌≤◌, ◌<◌, ◌+◌, ◌*◌, ◌∷◌, ◌↔◌, IsTrue, Some, None, Err, true, drop, length, slice_index, option_map, option_and_then, is_some, MatchOption};
+ghost use Rattle.std.specs.Prelude.{◌≡◌, ◌≤◌, ◌<◌, ◌+◌, ◌*◌, ◌∷◌, ◌↔◌, IsTrue, Some, None, Err, true, drop, length, slice_index, option_map, option_and_then, IfSome, MatchOption};
 ghost use Rattle.std.specs.Result.{result_ok};
-ghost use Rattle.simd_json.specs.Followed.{IsWritten, first_step, fits_64};
-ghost use Rattle.simd_json.specs.Pointed.{unescaped, is_array_index, array_index, element_at, member_at, named, pointed, pointed_from};
+ghost use Rattle.simd_json.specs.Followed.{AreAlike, IsPlain, IsWritten, first_of, first_step, fits_64};
+ghost use Rattle.simd_json.specs.Pointed.{tokens, unescaped, is_array_index, array_index, element_at, member_at, named, pointed, pointed_from};
 ghost use Rattle.simd_json.specs.Viewed.{doc, docs, pairs};
 ghost use Rattle.simd_json_parts.specs.Bytes.{slash};
 ghost use Rattle.std.specs.Char.{is_ascii_digit, digit_value};
@@ -12,6 +12,7 @@ mod display;
 
 use crate::value::tape::{Array, Object, Value};
 use simd_json_parts::node::ValueType;
+use std::simd::prelude::*;
 
 /// What a JSON Pointer lacks where it leads nowhere.
 #[derive(Clone, Copy, Debug, Drop, PartialEq, Eq)]
@@ -108,12 +109,11 @@ fn follow<'tape, 'input>(
     let mut reached = value;
     let mut followed = 0;
     while begins_token(pointer, followed) {
-        let token = Token::first(&pointer[followed + 1..]);
-        let Some(next) = step(reached, &token) else {
+        let Some((next, len)) = step(reached, &pointer[followed + 1..]) else {
             return (reached, followed);
         };
         reached = next;
-        followed += 1 + token.bytes.len();
+        followed += 1 + len;
     }
     (reached, followed)
 }
@@ -125,44 +125,163 @@ fn begins_token(pointer: &[u8], at: usize) -> bool
     at < pointer.len() && pointer[at] == b'/'
 }
 
-// The value that the token names in another.
+// The value that the first token of what is left of a pointer names in another, and how long the token is.
 fn step<'tape, 'input>(
     value: Value<'tape, 'input>,
-    token: &Token<'_>,
-) -> Option<Value<'tape, 'input>>
-    ensures { option_map doc result ≡ result_ok (named token.now.bytes.now (doc value.entry)) }
+    left: &[u8],
+) -> Option<(Value<'tape, 'input>, usize)>
+    ensures named { option_map (λ r. doc r.0) result
+        ≡ result_ok (named (first_of (tokens left.now)) (doc value.entry)) }
+    ensures len { IfSome result (λ r. r.1 ≡ length (first_of (tokens left.now))) }
 {
     if let Some(object) = value.as_object() {
-        return member(object, token);
+        return member(object, left);
     }
-    element(value.as_array()?, token.bytes)
+    element(value.as_array()?, left)
 }
 
-// The value of the first pair whose key the token names.
+// The value of the first pair whose key the first token names. A key is compared with what is left of the
+// pointer where a token would end with it, so that where the token ends is not looked for.
+#[inline(always)]
 fn member<'tape, 'input>(
     object: Object<'tape, 'input>,
-    token: &Token<'_>,
-) -> Option<Value<'tape, 'input>>
-    ensures { option_map doc result
-        ≡ result_ok (member_at (pairs object.entry) (unescaped token.now.bytes.now)) }
+    left: &[u8],
+) -> Option<(Value<'tape, 'input>, usize)>
+    ensures named { option_map (λ r. doc r.0) result
+        ≡ result_ok (member_at (pairs object.entry) (unescaped (first_of (tokens left.now)))) }
+    ensures len { IfSome result (λ r. r.1 ≡ length (first_of (tokens left.now))) }
 {
     for (key, value) in object.iter() {
-        if token.is_name(key.as_bytes()) {
+        if is_first_token(left, key.as_bytes()) {
+            return Some((value, key.len()));
+        }
+    }
+    let token = Token::first(left);
+    if token.is_plain {
+        return None;
+    }
+    let value = escaped_member(object, token.bytes)?;
+    Some((value, token.bytes.len()))
+}
+
+// The value of the first pair whose key the token names, which may have escapes.
+#[cold]
+fn escaped_member<'tape, 'input>(
+    object: Object<'tape, 'input>,
+    token: &[u8],
+) -> Option<Value<'tape, 'input>>
+    ensures { option_map doc result ≡ result_ok (member_at (pairs object.entry) (unescaped token.now)) }
+{
+    let Some(len) = decoded_len(token) else {
+        return None;
+    };
+    for (key, value) in object.iter() {
+        if is_name(token, len, key.as_bytes()) {
             return Some(value);
         }
     }
     None
 }
 
-// The value at the index that the token is.
-fn element<'tape, 'input>(array: Array<'tape, 'input>, token: &[u8]) -> Option<Value<'tape, 'input>>
-    ensures { option_map doc result
-        ≡ result_ok (element_at (docs array.entry) (array_index token.now)) }
+// The value at the index that the first token is.
+#[inline(always)]
+fn element<'tape, 'input>(
+    array: Array<'tape, 'input>,
+    left: &[u8],
+) -> Option<(Value<'tape, 'input>, usize)>
+    ensures named { option_map (λ r. doc r.0) result
+        ≡ result_ok (element_at (docs array.entry) (array_index (first_of (tokens left.now)))) }
+    ensures len { IfSome result (λ r. r.1 ≡ length (first_of (tokens left.now))) }
 {
-    let Some(index) = read_index(token) else {
+    let Some((index, len)) = first_index(left) else {
         return None;
     };
-    array.get(index)
+    Some((array.get(index)?, len))
+}
+
+// The array index that the first token is, where 64 bits hold it, and how long the token is.
+#[inline(always)]
+fn first_index(left: &[u8]) -> Option<(usize, usize)>
+    ensures index { option_map (λ r. r.0) result
+        ≡ option_and_then fits_64 (array_index (first_of (tokens left.now))) }
+    ensures len { IfSome result (λ r. r.1 ≡ length (first_of (tokens left.now))) }
+{
+    if is_front_token(left, 1) && left[0].is_ascii_digit() {
+        return Some((usize::from(left[0] - b'0'), 1));
+    }
+    let token = Token::first(left).bytes;
+    Some((read_index(token)?, token.len()))
+}
+
+// Whether bytes of this number are in front of a `/` or all that is left.
+#[inline(always)]
+fn is_front_token(left: &[u8], len: usize) -> bool
+    ensures { IsTrue result ↔ ((len ≤ length left.now)
+        × (len < length left.now → slice_index left.now len ≡ slash)) }
+{
+    len == left.len() || (len < left.len() && left[len] == b'/')
+}
+
+// Whether the key, in which there is no `~`, is the first token.
+#[inline(always)]
+fn is_first_token(left: &[u8], key: &[u8]) -> bool
+    ensures found { IsTrue result → (first_of (tokens left.now) ≡ key.now) × IsPlain key.now }
+    ensures missed { first_of (tokens left.now) ≡ key.now → IsPlain key.now → IsTrue result }
+{
+    is_front_token(left, key.len()) && are_alike(left, key)
+}
+
+// Whether the bytes begin with the key, in which there is no `/` and no `~`.
+#[inline(always)]
+fn are_alike(bytes: &[u8], key: &[u8]) -> bool
+    requires { length key.now ≤ length bytes.now }
+    ensures { IsTrue result ↔ AreAlike bytes.now key.now 0 (length key.now) }
+{
+    let len = key.len();
+    if len >= 16 {
+        are_alike_by::<16>(bytes, key)
+    } else if len >= 8 {
+        are_alike_by::<8>(bytes, key)
+    } else if len >= 4 {
+        are_alike_by::<4>(bytes, key)
+    } else if len >= 2 {
+        are_alike_by::<2>(bytes, key)
+    } else if len == 1 {
+        are_alike_by::<1>(bytes, key)
+    } else {
+        true
+    }
+}
+
+// The same, N bytes at a time, and then the last N, which overlap those before.
+#[inline(always)]
+fn are_alike_by<const N: usize>(bytes: &[u8], key: &[u8]) -> bool
+    requires vector { (0 < N) × (N ≤ 16) }
+    requires within { (N ≤ length key.now) × (length key.now ≤ length bytes.now) }
+    ensures { IsTrue result ↔ AreAlike bytes.now key.now 0 (length key.now) }
+{
+    let mut done = 0;
+    while key.len() - done > N {
+        if !are_lanes_alike::<N>(bytes, key, done) {
+            return false;
+        }
+        done += N;
+    }
+    are_lanes_alike::<N>(bytes, key, key.len() - N)
+}
+
+// The same of N bytes from an index on.
+#[inline(always)]
+fn are_lanes_alike<const N: usize>(bytes: &[u8], key: &[u8], from: usize) -> bool
+    requires vector { N ≤ 16 }
+    requires within { (from + N ≤ length key.now) × (from + N ≤ length bytes.now) }
+    ensures { IsTrue result ↔ AreAlike bytes.now key.now from (from + N) }
+{
+    let lanes = Simd::<u8, N>::from_slice(&key[from..]);
+    let others = lanes.simd_ne(Simd::<u8, N>::from_slice(&bytes[from..]))
+        | lanes.simd_eq(Simd::<u8, N>::splat(b'/'))
+        | lanes.simd_eq(Simd::<u8, N>::splat(b'~'));
+    others.to_bitmask() == 0
 }
 
 // What the pointer, of which this is left, lacks at the value, from which it does not go on.
@@ -190,7 +309,7 @@ fn lack_within(value: Value<'_, '_>, token: &[u8]) -> PointerExpected
         return PointerExpected::Index;
     }
     if value.is_object() {
-        if is_well_formed(token) {
+        if decoded_len(token).is_some() {
             return PointerExpected::Key;
         }
         return PointerExpected::Escape;
@@ -204,14 +323,14 @@ struct Token<'pointer> {
     bytes: &'pointer [u8],
     // It has no `~`.
     is_plain: bool,
-    ghost plain: { IsTrue is_plain → unescaped bytes.now ≡ Some bytes.now },
+    ghost plain: { IsTrue is_plain → IsPlain bytes.now },
 }
 
 impl<'pointer> Token<'pointer> {
-    ghost use Rattle.std.specs.Prelude.{◌≡◌, ◌≤◌, ◌<◌, ◌∷◌, ◌↔◌, IsTrue, Some, drop, length, slice_index};
+    ghost use Rattle.std.specs.Prelude.{◌≡◌, ◌≤◌, ◌<◌, ◌∷◌, drop, length, slice_index};
     ghost use Rattle.simd_json_parts.specs.Bytes.{slash};
     ghost use Rattle.simd_json.specs.Followed.{tokens_after};
-    ghost use Rattle.simd_json.specs.Pointed.{tokens, unescaped};
+    ghost use Rattle.simd_json.specs.Pointed.{tokens};
 
     // The token that follows a `/`, after which this is left of the pointer.
     fn first(left: &'pointer [u8]) -> Token<'pointer>
@@ -238,17 +357,14 @@ impl<'pointer> Token<'pointer> {
             is_plain,
         }
     }
+}
 
-    // Whether the token, decoded, is the key.
-    fn is_name(&self, key: &[u8]) -> bool
-        ensures { IsTrue result ↔ (unescaped self.now.bytes.now ≡ Some key.now) }
-    {
-        if self.is_plain {
-            self.bytes == key
-        } else {
-            is_unescaped(self.bytes, key)
-        }
-    }
+// Whether the token, which has so many bytes when decoded, is the key.
+fn is_name(token: &[u8], len: usize, key: &[u8]) -> bool
+    requires { Some len ≡ option_map (λ k. length k) (unescaped token.now) }
+    ensures { IsTrue result ↔ (unescaped token.now ≡ Some key.now) }
+{
+    key.len() == len && is_unescaped(token, key)
 }
 
 // Whether the token, decoded, is the key.
@@ -270,18 +386,20 @@ fn is_unescaped(token: &[u8], key: &[u8]) -> bool
     matched == key.len()
 }
 
-// Whether each `~` of the token begins an escape.
-fn is_well_formed(token: &[u8]) -> bool
-    ensures { result ≡ is_some (unescaped token.now) }
+// How many bytes the token has, decoded, or `None` where a `~` of it begins no escape.
+fn decoded_len(token: &[u8]) -> Option<usize>
+    ensures { result ≡ option_map (λ key. length key) (unescaped token.now) }
 {
     let mut at = 0;
+    let mut len = 0;
     while at < token.len() {
         let Some(written) = unescaped_at(token, at) else {
-            return false;
+            return None;
         };
         at = written.end;
+        len += 1;
     }
-    true
+    Some(len)
 }
 
 // A byte as a token writes it, itself or escaped, and the index after it.

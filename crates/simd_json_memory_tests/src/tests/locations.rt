@@ -1,7 +1,5 @@
 // Where errors are and why, in words: each kind in its contexts.
 use crate::tests::Tested;
-use crate::tests::memory::ballast;
-use linked_list_allocator::LocalHeap;
 use simd_json::{ErrorType, Location, Reason, locate, to_tape};
 use std::process::Abort;
 
@@ -13,7 +11,7 @@ fn assert_located(
     byte: usize,
     text: &str,
 ) -> Tested {
-    let found = locate(rt.alloc(), input, depth)?;
+    let found = locate(input, depth);
     assert!(rt; found.is_some(), "{input:?}");
     if let Some(location) = found {
         assert_eq!(rt; location.to_string(rt.alloc())?.as_str(), text, "{input:?}");
@@ -233,7 +231,7 @@ fn documents_have_no_place(rt: HostRuntime) -> Tested {
         "\"\\n",
         "{\"\\t\":01}",
     ] {
-        let found = locate(rt.alloc(), input.as_bytes(), 2)?;
+        let found = locate(input.as_bytes(), 2);
         let mut parsed = Vec::from_slice(rt.alloc(), input.as_bytes())?;
         let error = to_tape(rt.alloc(), parsed.as_mut_slice()).err();
         assert_eq!(rt; found.is_some(), error.is_some(), "{input}");
@@ -283,23 +281,43 @@ fn other_kinds_have_reasons(rt: HostRuntime) -> Tested {
     Ok(())
 }
 
-// With more and more room, an allocation is refused or the error is found.
-#[test]
-fn allocations_for_a_copy_are_refused(rt: HostRuntime) -> Tested {
-    let (mut refused, mut found) = (0u32, 0u32);
-    for left in 0..64usize {
-        let heap = LocalHeap::new(rt.alloc(), 1 << 14)?;
-        let _ballast = ballast(rt.alloc(), &heap, left * 16)?;
-        match locate(&heap, b"[\"\\n\",\n1,]", 1024) {
-            Err(_) => refused = refused.saturating_add(1),
-            Ok(location) => {
-                found = found.saturating_add(1);
-                let place = location.map(|location| (location.line(), location.column()));
-                assert_eq!(rt; place, Some((2, 3)), "{left}");
-            }
-        }
+// So many arrays one inside another, with a 1 in the innermost; `closed` of them are closed.
+fn nested(
+    rt: &(impl AllocGlobal + Abort),
+    count: usize,
+    closed: usize,
+) -> std::result::Result<Vec<u8>, std::alloc::AllocError> {
+    let mut text = Vec::new(rt.alloc());
+    for _ in 0..count {
+        text.push(b'[')?;
     }
-    assert!(rt; refused > 2, "{refused}");
-    assert!(rt; found > 2, "{found}");
+    text.push(b'1')?;
+    for _ in 0..closed {
+        text.push(b']')?;
+    }
+    Ok(text)
+}
+
+// One call keeps 64 containers open.
+#[test]
+fn deep_inputs_are_walked(rt: HostRuntime) -> Tested {
+    for count in [1, 63, 64, 65, 128, 129, 1024] {
+        let text = nested(&rt, count, count)?;
+        assert!(rt; locate(text.as_slice(), 1024).is_none(), "{count}");
+        let (shallow, place) = (count - 1, count - 1);
+        let found = locate(text.as_slice(), shallow);
+        assert_eq!(rt;
+            found.map(|l| (l.byte(), l.reason())),
+            Some((place, Reason::TooDeep)),
+            "{count}"
+        );
+        let open = nested(&rt, count, shallow)?;
+        let found = locate(open.as_slice(), 1024);
+        assert_eq!(rt;
+            found.map(|l| (l.byte(), l.reason())),
+            Some((count + shallow, Reason::EndOfInput)),
+            "{count}"
+        );
+    }
     Ok(())
 }

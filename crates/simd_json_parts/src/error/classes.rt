@@ -22,7 +22,7 @@ impl Error {
         matches!(self.error, ErrorType::Eof)
     }
 
-    /// Whether a value is not of the shape that was asked for.
+    /// Whether a value is not of the expected shape.
     pub fn is_data(&self) -> bool
         ensures { IsTrue result ↔ (class_of self.now.error ≡ shape) }
     {

@@ -94,7 +94,8 @@ module _ (b : List ℕ) where
   ends-form k end stray ends is = cc is
   ends-form k end _ ends is = let same : suc k ≡ end = cc is in subst (EndsBefore b k) same ends
 
-  token-ends : (t : Token) (end : ℕ) → Contains (tokens b) t → token_end t ≡ Some end → EndsBefore b t.index end
+  -- A token ends after its first byte.
+  pub token-ends : (t : Token) (end : ℕ) → Contains (tokens b) t → token_end t ≡ Some end → EndsBefore b t.index end
   token-ends t end c is =
       let s : Standing b t = token-stands t c in
       ends-form t.index end t.form (subst (IsEnded b t.index) (sym s.is) (IsEnded-form b t.index s.at)) is

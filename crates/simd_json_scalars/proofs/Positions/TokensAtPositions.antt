@@ -93,7 +93,7 @@ IsEnded-atom b k at =
     (λ _. IsEnded-letters b k (codes "null") null ExpectedNull at (omega arith) refl))
 
 -- no number is empty
-some_byte : (n : ℕ) (xs : List ℕ) → matches number_literal (take n xs) ≡ true → 0 < n
+pub some_byte : (n : ℕ) (xs : List ℕ) → matches number_literal (take n xs) ≡ true → 0 < n
 some_byte zero xs h = absurd (false≢true h)
 some_byte (suc n) xs h = omega arith
 

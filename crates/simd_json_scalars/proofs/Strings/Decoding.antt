@@ -69,13 +69,13 @@ decoded-run old new r w s v goes_on after e f written unread same =
 -- ---- an escape
 
 -- what is open at a backslash goes on after it
-record Backslash (bs : List ℕ) : Type 0 where
-  letter : ℕ
-  rest : List ℕ
-  is : bs ≡ 92 ∷ letter ∷ rest
+pub record Backslash (bs : List ℕ) : Type 0 where
+  pub letter : ℕ
+  pub rest : List ℕ
+  pub is : bs ≡ 92 ∷ letter ∷ rest
 
 -- at the front
-backslash-first : (bs : List ℕ) → length (content bs) < length bs → byte_at bs 0 ≡ 92 → Backslash bs
+pub backslash-first : (bs : List ℕ) → length (content bs) < length bs → byte_at bs 0 ≡ 92 → Backslash bs
 backslash-first [] l e = absurd (omega arith)
 backslash-first (x ∷ []) l e =
     let all : length (content (x ∷ [])) ≡ 1 = ap (λ y. length (content (y ∷ []))) e ∙ ap length content-dangling in absurd (omega arith)
@@ -135,7 +135,7 @@ pub decoded-open : (old new : List ℕ) (r w s v : ℕ) → IsDecoded old r w ne
 decoded-open old new r w s v d = record { closed = omega (arith, d.goes_on.closed, ap (λ us. length (content us)) d.unread); utf8 = subst IsUtf8 (sym d.unread) d.goes_on.utf8 }
 
 -- two strings as one prefix
-with_prefix-with_prefix : (xs ys : List ℕ) (read : List ℕ × List ℕ) → with_prefix xs (with_prefix ys read) ≡ with_prefix (xs ++ ys) read
+pub with_prefix-with_prefix : (xs ys : List ℕ) (read : List ℕ × List ℕ) → with_prefix xs (with_prefix ys read) ≡ with_prefix (xs ++ ys) read
 with_prefix-with_prefix xs ys read = ap (λ us. (us, read.1)) (sym (append_assoc xs ys read.0))
 
 -- Two steps are one.

@@ -53,7 +53,7 @@ after-at : (b old : List ℕ) (i n : ℕ) → drop i b ≡ old → drop n old �
 after-at b old i n e = ap (drop n) (sym e) ∙ drop-drop n i b
 
 -- the string at the index, from the content of the bytes
-string_at-drop : (b old : List ℕ) (i : ℕ) → drop i b ≡ old → byte_at old 0 ≡ quote → string_at b i ≡ string_read (read_pieces 0 (content (drop 1 old))) (i + (1 + length (content (drop 1 old))))
+pub string_at-drop : (b old : List ℕ) (i : ℕ) → drop i b ≡ old → byte_at old 0 ≡ quote → string_at b i ≡ string_read (read_pieces 0 (content (drop 1 old))) (i + (1 + length (content (drop 1 old))))
 string_at-drop b old i e opening =
     let next : i + 1 ≡ suc i = omega arith in
     let after : drop (suc i) b ≡ drop 1 old = ap (λ n. drop n b) (sym next) ∙ sym (after-at b old i 1 e) in
@@ -63,12 +63,12 @@ string_at-drop b old i e opening =
     ∙ ap (string_read (read_pieces 0 (content (drop 1 old)))) end
 
 -- nothing is read of nothing
-read_pieces-none : read_pieces 0 [] ≡ ([], [])
+pub read_pieces-none : read_pieces 0 [] ≡ ([], [])
 unfolding read_pieces
 read_pieces-none = refl
 
 -- a quote at the front leaves no content
-content-closed : (bs : List ℕ) → 0 < length bs → byte_at bs 0 ≡ quote → content bs ≡ []
+pub content-closed : (bs : List ℕ) → 0 < length bs → byte_at bs 0 ≡ quote → content bs ≡ []
 content-closed [] l e = absurd (omega arith)
 content-closed (x ∷ xs) l e = ap (λ y. content (y ∷ xs)) e ∙ content-quote xs
 

@@ -95,7 +95,8 @@ pub(super) fn digits_len(word: u64) -> usize
 }
 
 // The number that the first `len` of the eight spell. They are moved up behind zeros and joined to pairs, and
-// two multiplications add the pairs, each times its power of 100, in the upper half.
+// two multiplications add the pairs, each times its power of 100, in the upper half, as in simdjson after J. Lee,
+// "Fast numeric string to int".
 #[inline(always)]
 pub(super) fn value_of_digits(word: u64, len: usize) -> u64
     requires some { 0 < len }

@@ -1,4 +1,4 @@
-//! One escape, decoded where it stands (RFC 8259, section 7).
+//! One escape, decoded in place (RFC 8259, section 7).
 ghost use Rattle.std.specs.Prelude.{◌≡◌, ◌≤◌, ◌<◌, length, drop, encode_utf8, Some, None};
 ghost use Rattle.std.specs.Prelude.{MatchOption, IfSome};
 ghost use Rattle.std.specs.Char.{len_utf8};
@@ -28,7 +28,7 @@ pub(super) fn unescape_one(unread: &mut [u8], ends: Ends) -> Option<Ends>
 
 // The character of the escape at the front, and how many bytes of it follow the backslash. The table is asked
 // first, since most escapes are of one letter.
-fn escape(bytes: &[u8]) -> Option<(char, usize)>
+pub(super) fn escape(bytes: &[u8]) -> Option<(char, usize)>
     requires { 2 ≤ length bytes.now }
     ensures value { MatchOption result (escape_at bytes.now ≡ None)
         (λ e. escape_at bytes.now ≡ Some (encode_utf8 e.0, e.1)) }

@@ -1,10 +1,13 @@
 -- Words by what their bits are: each operation on words is one on bits.
-use Rattle.std.proofs.Common.{◌≡◌, ℕ, zero, suc, ◌+◌, ◌-◌, ◌*◌, ◌/◌, ◌%◌, ◌^◌, ◌<◌, Bool, true, false, not, ◌&&◌, ◌||◌, ◌==◌, refl, sym, ap, ap₂, ◌∙◌, arith, mod-lt, pow_pos}
+use Rattle.std.proofs.Common.{◌≡◌, ℕ, zero, suc, ◌+◌, ◌-◌, ◌*◌, ◌/◌, ◌%◌, ◌^◌, ◌<◌, Bool, true, false, not, ◌&&◌, ◌||◌, ◌==◌, refl, sym}
+use Rattle.std.proofs.Common.{ap, ap₂, ◌∙◌, arith, mod-lt, pow_pos}
 use lib.Bits.{bit_and, bit_or, bit_xor, and_le_l, or_lt, xor_lt}
 use mir.Val.{bool_byte}
 use Rattle.simd_json_stages.specs.Words.{is_set, HasBits, xor}
 use Rattle.simd_json_stages.specs.Blocks.{all_bits}
-use Rattle.simd_json_stages.proofs.Bits.Operations.{is_set-and, is_set-or, is_set-xor, flip, is_set-flip, shl, is_set-shl_one, is_set-shl_low, byte_lt, is_set-byte_zero, is_set-byte_suc, spread, is_set-spread, top_bit}
+use Rattle.simd_json_stages.proofs.Bits.Operations.{is_set-and, is_set-or, is_set-xor, flip, is_set-flip, shl, is_set-shl_one}
+use Rattle.simd_json_stages.proofs.Bits.Operations.{is_set-shl_low, byte_lt, is_set-byte_zero, is_set-byte_suc, spread, is_set-spread}
+use Rattle.simd_json_stages.proofs.Bits.Operations.{top_bit}
 
 pub bits-and : {x y : ℕ} {p q : ℕ → Bool} → HasBits x p → HasBits y q → HasBits (bit_and x y) (λ i. p i && q i)
 bits-and {x} {y} h k = record {

@@ -1,5 +1,6 @@
 -- The escaped bytes of a block, by the words of the code.
-use Rattle.std.proofs.Common.{◌≡◌, ℕ, zero, suc, ◌+◌, ◌-◌, ◌*◌, ◌/◌, ◌%◌, ◌^◌, ◌<◌, ◌==◌, Bool, true, false, not, ◌&&◌, ◌||◌, List, [], ◌∷◌, length, map, get_or, refl, sym, ap, ap₂, ◌∙◌, subst, arith, bit_and, bit_or, replicate}
+use Rattle.std.proofs.Common.{◌≡◌, ℕ, zero, suc, ◌+◌, ◌-◌, ◌*◌, ◌/◌, ◌%◌, ◌^◌, ◌<◌, ◌==◌, Bool, true, false, not, ◌&&◌, ◌||◌, List, []}
+use Rattle.std.proofs.Common.{◌∷◌, length, map, get_or, refl, sym, ap, ap₂, ◌∙◌, subst, arith, bit_and, bit_or, replicate}
 use Rattle.std.specs.Int.RustNames.{bit_xor}
 use Rattle.std.proofs.lemmas.Nat.{mod-mul-add}
 use Rattle.std.proofs.lemmas.Simd.{mask_l-lt}
@@ -7,8 +8,11 @@ use Rattle.std.specs.Bool.{FalseIff}
 use lib.Lanes.{mask_l, zip2}
 use mir.Val.{bool_byte}
 use Rattle.simd_json_stages.specs.Words.{xor, is_set, HasBits, escaped_in}
-use Rattle.simd_json_stages.proofs.Bits.Operations.{is_set-half, is_set-lowest, is_set-mask_l, is_set-zero, is_set-byte_zero, is_set-byte_suc, byte_lt}
-use Rattle.simd_json_stages.proofs.Bits.Runs.{bits_of, escaped, escape_out, bit, and-mask, or-mask, xor-mask, not-mask, shifted, last_or, shift-mask, sums, carry_out, sum-mask, bits-mask, length-bits, evens, starts, ends, machine, machine_out}
+use Rattle.simd_json_stages.proofs.Bits.Operations.{is_set-half, is_set-lowest, is_set-mask_l, is_set-zero, is_set-byte_zero}
+use Rattle.simd_json_stages.proofs.Bits.Operations.{is_set-byte_suc, byte_lt}
+use Rattle.simd_json_stages.proofs.Bits.Runs.{bits_of, escaped, escape_out, bit, and-mask, or-mask, xor-mask, not-mask, shifted, last_or}
+use Rattle.simd_json_stages.proofs.Bits.Runs.{shift-mask, sums, carry_out, sum-mask, bits-mask, length-bits, evens, starts, ends, machine}
+use Rattle.simd_json_stages.proofs.Bits.Runs.{machine_out}
 
 and-trues : (xs : List Bool) → zip2 ◌&&◌ xs (replicate (length xs) true) ≡ xs
 and-trues [] = refl

@@ -1,9 +1,14 @@
 -- The classes of 32 lanes, and the words of two halves.
-use Rattle.std.proofs.Common.{◌≡◌, ℕ, zero, suc, ◌+◌, ◌-◌, ◌*◌, ◌/◌, ◌%◌, ◌^◌, ◌<◌, ◌≤◌, ◌⊎◌, inl, inr, Bool, true, false, not, ◌||◌, cond, eqb, leb, subst, T, List, [], ◌∷◌, ◌++◌, map, length, get_or, take, replicate, bit_and, bit_or, refl, sym, ap, ap₂, ◌∙◌, drop, take-append-drop, arith, w8, Fits, eqb→eq, mod-lt, pow_pos}
+use Rattle.std.proofs.Common.{◌≡◌, ℕ, zero, suc, ◌+◌, ◌-◌, ◌*◌, ◌/◌, ◌%◌, ◌^◌, ◌<◌, ◌≤◌, ◌⊎◌, inl, inr, Bool, true, false, not, ◌||◌, cond}
+use Rattle.std.proofs.Common.{eqb, leb, subst, T, List, [], ◌∷◌, ◌++◌, map, length, get_or, take, replicate, bit_and, bit_or, refl, sym}
+use Rattle.std.proofs.Common.{ap, ap₂, ◌∙◌, drop, take-append-drop, arith, w8, Fits, eqb→eq, mod-lt, pow_pos}
 use Rattle.std.proofs.lemmas.Bool.{cases_lt, ne_eqb, leb-false}
-use Rattle.std.proofs.lemmas.List.{get_or-map, get_or_past, get_or_append_left, get_or-append_right, length-map, ext_get_or, take-take, take_all, length-drop, length-take-le}
+use Rattle.std.proofs.lemmas.List.{get_or-map, get_or_past, get_or_append_left, get_or-append_right, length-map, ext_get_or, take-take}
+use Rattle.std.proofs.lemmas.List.{take_all, length-drop, length-take-le}
 use Rattle.std.proofs.lemmas.Nat.{and_le_r, le_or_l, le_or_r}
-use Rattle.std.proofs.lemmas.Simd.{bitmask_splat, Each1-all, Each1-zip2, Each2-splat, length-zip2, mask_l-mod, mask_l-lt, swz_l, SwzOk, SwzOk-from_below, length-swz_l, get_or-swz_l_below, zip2_splat, zip2_of_maps, length-chunk, tops_compared, zip2_splat_left, get_or-zip2}
+use Rattle.std.proofs.lemmas.Simd.{bitmask_splat, Each1-all, Each1-zip2, Each2-splat, length-zip2, mask_l-mod, mask_l-lt, swz_l, SwzOk}
+use Rattle.std.proofs.lemmas.Simd.{SwzOk-from_below, length-swz_l, get_or-swz_l_below, zip2_splat, zip2_of_maps, length-chunk}
+use Rattle.std.proofs.lemmas.Simd.{tops_compared, zip2_splat_left, get_or-zip2}
 use lib.Bits.{or_lt}
 use lib.Lanes.{chunk, zip2, mask_l, top, Each1}
 use Rattle.std.specs.List.{list_any}

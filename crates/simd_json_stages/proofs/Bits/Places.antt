@@ -1,5 +1,6 @@
 -- The places of a word's set bits, as a list: the lowest first, then those of the word without it.
-use Rattle.std.proofs.Common.{◌≡◌, refl, sym, ◌∙◌, ap, ap₂, ℕ, zero, suc, ◌+◌, ◌-◌, ◌*◌, ◌/◌, ◌%◌, ◌^◌, ◌<◌, ◌≤◌, ◌==◌, min, [], ◌∷◌, length, map, filter, Bool, true, false, inl, inr, if◌then◌else◌, add-zero, arith, pow-suc}
+use Rattle.std.proofs.Common.{◌≡◌, refl, sym, ◌∙◌, ap, ap₂, ℕ, zero, suc, ◌+◌, ◌-◌, ◌*◌, ◌/◌, ◌%◌, ◌^◌, ◌<◌, ◌≤◌, ◌==◌, min, [], ◌∷◌}
+use Rattle.std.proofs.Common.{length, map, filter, Bool, true, false, inl, inr, if◌then◌else◌, add-zero, arith, pow-suc}
 use Rattle.std.specs.List.{range_with_len}
 use Rattle.std.proofs.lemmas.Bool.{cases_lt}
 use lib.Bits.{bit_and, and_step, and_self}

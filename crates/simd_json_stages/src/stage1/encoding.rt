@@ -1,5 +1,6 @@
 // How far an input is known to be UTF-8 (RFC 3629): a window at a time after the scan, and all of the rest
-// before any memory is taken. A window of ASCII alone needs no test.
+// before any memory is taken. A window of ASCII alone needs no test. The test is `simdutf8`'s: J. Keiser and
+// D. Lemire, "Validating UTF-8 In Less Than One Instruction Per Byte", Software: Practice and Experience 51 (2021).
 ghost use Rattle.std.specs.Prelude.{◌≡◌, ◌≤◌, ◌<◌, ℕ, List, length, take, true, IfOk, IfErr, IsUtf8};
 ghost use Rattle.simd_json_parts.specs.Bytes.{byte_at};
 ghost use Rattle.simd_json_stages.specs.Scans.{IsBadEncoding};

@@ -1,9 +1,10 @@
 // A scan of a whole input: its whole blocks in windows, and then what is left.
-ghost use Rattle.std.specs.Prelude.{◌≡◌, ◌*◌, ◌/◌, ◌<◌, ◌≤◌, ◌⊎◌, length, take, drop};
+ghost use Rattle.std.specs.Prelude.{◌≡◌, ◌+◌, ◌*◌, ◌/◌, ◌^◌, ◌<◌, ◌≤◌, ◌⊎◌, ℕ, List, length, take, drop};
 ghost use Rattle.std.specs.Prelude.{IfOk, IfErr, IsUtf8};
 ghost use Rattle.std.specs.Simd.{first_chunks};
 ghost use Rattle.simd_json_parts.specs.Limits.{max_length};
-ghost use Rattle.simd_json_stages.specs.Blocks.{IsScanned};
+ghost use Rattle.simd_json_stages.specs.Blocks.{AreClassified, AreParts, IsClassified};
+ghost use Rattle.simd_json_stages.specs.Blocks.{IsControl, IsPlaced, IsScanned};
 ghost use Rattle.simd_json_stages.specs.Scans.{IsBadEncoding, IsFound, LacksMemory};
 
 mod groups;
@@ -11,8 +12,8 @@ mod windows;
 
 use super::capacity::grow;
 use super::encoding::check_window;
-use super::words::{Carry, classify, find_marks, find_parts};
-use super::writing::write_exactly;
+use super::words::{Carry, Classified, Parts, classify, find_parts, find_starts};
+use super::writing::{list_block, write, write_exactly};
 use super::{BLOCK_LEN, Found};
 use simd_json_parts::error::Result;
 use std::alloc::Allocator;
@@ -28,6 +29,25 @@ struct Classifying {
     listed: usize,
 }
 
+impl Classifying {
+    // After the next block, which has this number and is classified: it is listed where it holds a backslash.
+    #[inline(always)]
+    fn with_block(self, found: Classified, number: usize, listed: &mut [u32]) -> Classifying
+        requires short { number < 2 ^ 32 }
+        requires capacity { self.listed < length listed.old }
+        ensures few { result.listed ≤ self.listed + 1 }
+        ensures ascii { result.high ≡ 0 → (self.high ≡ 0) × (found.high ≡ 0) }
+        ensures classified { (b : List ℕ) → AreClassified b (64 * number) found
+            → IsClassified b number self listed.old → IsClassified b (number + 1) result listed.new }
+    {
+        Classifying {
+            escaped: found.next,
+            high: self.high | found.high,
+            listed: list_block(listed, self.listed, number as u32, found.has_backslash),
+        }
+    }
+}
+
 // What is kept from one block to the next of those whose positions are written.
 #[derive(Clone, Copy, Drop)]
 struct Placing {
@@ -35,6 +55,25 @@ struct Placing {
     // Not 0 where a control byte is inside.
     bad: u64,
     used: usize,
+}
+
+impl Placing {
+    // Writes the positions of the next block, which has this number.
+    #[inline(always)]
+    fn place_block(self, parts: Parts, control: u64, number: usize, out: &mut [u32]) -> Placing
+        requires short { 64 * (number + 1) ≤ 2 ^ 32 }
+        requires capacity { self.used + 64 ≤ length out.old }
+        ensures few { result.used ≤ self.used + 64 }
+        ensures placed { (b : List ℕ) → AreParts b (64 * number) parts → IsControl b (64 * number) control
+            → IsPlaced b number self out.old → IsPlaced b (number + 1) result out.new }
+    {
+        let placed = find_starts(parts, control, self.carry);
+        Placing {
+            carry: placed.carry,
+            bad: self.bad | placed.bad,
+            used: write(out, self.used, (BLOCK_LEN * number) as u32, placed.starts),
+        }
+    }
 }
 
 // What is known after some whole blocks.
@@ -136,17 +175,17 @@ pub(super) fn scan_rest<A: Allocator>(
     let is_ascii = classified.high == 0;
     check_window(input, checked, BLOCK_LEN * number, input.len(), is_ascii)?;
     let parts = find_parts(
-        classified.soft,
-        classified.hard,
+        classified.space_or_quote,
+        classified.op_or_quote,
         classified.control,
         classified.escaped,
     );
-    let marks = find_marks(parts, classified.control, done.placing.carry);
+    let placed = find_starts(parts, classified.control, done.placing.carry);
     let used = done.placing.used;
-    let positions = used + marks.starts.count_ones() as usize;
+    let positions = used + placed.starts.count_ones() as usize;
     grow(structural_indexes, positions, positions, input.len())?;
     let out = structural_indexes.as_mut_slice();
-    write_exactly(out, used, (BLOCK_LEN * number) as u32, marks.starts);
+    write_exactly(out, used, (BLOCK_LEN * number) as u32, placed.starts);
     let mut listed = done.classifying.listed;
     if classified.has_backslash {
         let max_blocks = input.len().div_ceil(BLOCK_LEN);
@@ -154,8 +193,8 @@ pub(super) fn scan_rest<A: Allocator>(
         escape_blocks[listed] = number as u32;
         listed += 1;
     }
-    let is_open = marks.carry.inside != 0;
-    let has_control = (done.placing.bad | marks.bad) != 0;
+    let is_open = placed.carry.inside != 0;
+    let has_control = (done.placing.bad | placed.bad) != 0;
     let found = Found {
         positions,
         escape_blocks: listed,

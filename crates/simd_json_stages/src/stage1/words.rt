@@ -1,10 +1,11 @@
-// The words of a block: from classes to positions, 64 bytes at a time.
+// The words of a block: from classes to positions, 64 bytes at a time, as in G. Langdale and D. Lemire, "Parsing
+// Gigabytes of JSON per Second", VLDB Journal 28 (2019): escapes, quoted strings and token starts by arithmetic.
 ghost use Rattle.std.specs.Prelude.{◌≡◌, ◌+◌, ℕ, List, Bool};
 ghost use Rattle.std.specs.Int.{from_bool};
 ghost use Rattle.simd_json_stages.specs.Words.{HasBits, escaped_in, parity};
 ghost use Rattle.simd_json_stages.specs.Carries.{is_escaped_at};
 ghost use Rattle.simd_json_stages.specs.Blocks.{IsBlock, IsControl, IsCarried, HasClasses};
-ghost use Rattle.simd_json_stages.specs.Blocks.{AreMarks, AreParts, AreClassified};
+ghost use Rattle.simd_json_stages.specs.Blocks.{AreStarts, AreParts, AreClassified};
 
 use super::classes::{backslashes, classes};
 
@@ -20,8 +21,8 @@ struct Escaped {
 // 1 where the byte after the block is escaped, else 0; `high` is not 0 where a byte is no ASCII.
 #[derive(Clone, Copy, Drop)]
 pub(super) struct Classified {
-    pub(super) soft: u64,
-    pub(super) hard: u64,
+    pub(super) space_or_quote: u64,
+    pub(super) op_or_quote: u64,
     pub(super) control: u64,
     pub(super) escaped: u64,
     pub(super) next: u64,
@@ -50,7 +51,7 @@ pub(super) struct Carry {
 // A bit for each position of a block, one for each byte below 0x20 that is inside, and what the next block
 // has to know.
 #[derive(Clone, Copy, Drop)]
-pub(super) struct Marks {
+pub(super) struct BlockStarts {
     pub(super) starts: u64,
     pub(super) bad: u64,
     pub(super) carry: Carry,
@@ -72,7 +73,7 @@ fn find_escaped(backslash: u64, before: u64) -> Escaped
     }
 }
 
-// Each bit is the xor of all up to it.
+// Each bit is the xor of all up to it: the carry-less product with all ones, by shifts.
 #[inline(always)]
 fn prefix_xor(x: u64) -> u64
     ensures { HasBits result (λ i. parity x (i + 1)) }
@@ -102,8 +103,8 @@ pub(super) fn classify(bytes: &[u8; 64], before: u64) -> Classified
         }
     };
     Classified {
-        soft: m.soft,
-        hard: m.hard,
+        space_or_quote: m.space_or_quote,
+        op_or_quote: m.op_or_quote,
         control: m.control,
         escaped: e.escaped,
         next: e.next,
@@ -114,13 +115,13 @@ pub(super) fn classify(bytes: &[u8; 64], before: u64) -> Classified
 
 // What the words of a block tell by themselves.
 #[inline(always)]
-pub(super) fn find_parts(soft: u64, hard: u64, control: u64, escaped: u64) -> Parts
-    ensures { (b : List ℕ) (i : ℕ) → HasClasses b i soft hard control escaped → AreParts b i result }
+pub(super) fn find_parts(space_or_quote: u64, op_or_quote: u64, control: u64, escaped: u64) -> Parts
+    ensures { (b : List ℕ) (i : ℕ) → HasClasses b i space_or_quote op_or_quote control escaped → AreParts b i result }
 {
-    let quotes = soft & hard;
-    let op = hard & !(control | soft);
-    // Not `soft & !hard`: LLVM would take that apart, lane by lane.
-    let space = soft ^ quotes;
+    let quotes = space_or_quote & op_or_quote;
+    let op = op_or_quote & !(control | space_or_quote);
+    // Not `space_or_quote & !op_or_quote`: LLVM would take that apart, lane by lane.
+    let space = space_or_quote ^ quotes;
     let quote = quotes & !escaped;
     Parts {
         parity: prefix_xor(quote),
@@ -132,13 +133,13 @@ pub(super) fn find_parts(soft: u64, hard: u64, control: u64, escaped: u64) -> Pa
 
 // The positions of a block, from what stands before it.
 #[inline(always)]
-pub(super) fn find_marks(parts: Parts, control: u64, carry: Carry) -> Marks
+pub(super) fn find_starts(parts: Parts, control: u64, carry: Carry) -> BlockStarts
     ensures { (b : List ℕ) (i : ℕ) → AreParts b i parts → IsControl b i control → IsCarried b i carry
-        → AreMarks b i result }
+        → AreStarts b i result }
 {
     let inside = parts.parity ^ carry.inside;
     let follows = (parts.plain << 1) | carry.plain;
-    Marks {
+    BlockStarts {
         starts: !((parts.plain & follows) | parts.space | (inside ^ parts.quote)),
         bad: control & inside,
         carry: Carry {

@@ -1,75 +1,31 @@
-//! The machine: a loop for the elements of an array, one for the members of an object, and one round both.
-ghost use Rattle.std.specs.Prelude.{◌≡◌, ◌⊎◌, ◌<◌, ◌≤◌, ◌+◌, ◌-◌, ◌*◌, ◌^◌, ℕ, List, length, get_or, slice_index};
-ghost use Rattle.std.specs.Prelude.{None, IfOk, IfErr, OnOk, IsTrue, vec_capacity, []};
-ghost use Rattle.simd_json_parts.specs.Bytes.{quote, byte_at};
-ghost use Rattle.simd_json_parts.specs.Faults.{fault_with};
-ghost use Rattle.simd_json_parts.specs.InputFaults.{input_fault};
-ghost use Rattle.simd_json_parts.specs.StringAt.{escape_fault};
-ghost use Rattle.simd_json_stages.specs.Building.{IsBuilt, Opens, Takes, Tells};
-ghost use Rattle.simd_json_stages.specs.Building.{closer, end_kind, patch, top};
-ghost use Rattle.simd_json_stages.specs.Members.{AfterMember, AtElement, AtFirst, AtPair, HasCome};
-ghost use Rattle.simd_json_stages.specs.Members.{AtString, HasCapacity, IsAtMember, IsFrom};
-ghost use Rattle.simd_json_stages.specs.Progresses.{Advances, IsNext, IsOnRoute, IsRead};
-ghost use Rattle.simd_json_stages.specs.Progresses.{IsTurned, IsWithin, Turns, reached};
-ghost use Rattle.simd_json_stages.specs.Put.{IsBadString, IsStringPut};
-ghost use Rattle.simd_json_stages.specs.Refusals.{error_type};
+//! The machine: a loop for the elements of an array, one for the members of an object, and one round both. Between
+//! two tokens it is in one of three states:
+//!
+//! ```text
+//! value         read a scalar, an empty array or an empty object     →  after a value
+//!               open a container                                     →  value (array), key (object)
+//! key           read a string and a colon                            →  value
+//! after a value a comma, in a container                              →  value (array), key (object)
+//!               the closing bracket of the container                 →  after a value
+//!               the end of the tokens, in no container               →  done
+//! ```
+ghost use Rattle.std.specs.Prelude.{◌≡◌, ◌<◌, ◌≤◌, ◌+◌, ◌*◌, ℕ, List, length, IfOk, IfErr, OnOk, vec_capacity};
+ghost use Rattle.simd_json_stages.specs.Building.{IsBuilt, AtFirstOrAfter, AtNextOrAfter, IsFirstFault};
+ghost use Rattle.simd_json_stages.specs.Members.{AfterMember, AtElement, AtFirst, AtOpening, AtPair, AtStart};
+ghost use Rattle.simd_json_stages.specs.Members.{HasCome, IsAtMember, IsFrom};
+ghost use Rattle.simd_json_stages.specs.Progresses.{AdvancesPastMember, AdvancesPastValue};
+ghost use Rattle.simd_json_stages.specs.Progresses.{IsWithin, IsWithinNext, reached};
 ghost use Rattle.simd_json_stages.specs.Texts.{Reads};
 
 use super::fault::{Fault, FaultKind};
-use super::progress::Progress;
+use super::progress::{Following, Member, Progress, Route, Value};
 use super::scalar::put_scalar;
+use super::stack::{Container, StackState, close};
+use super::string::put_string;
 use super::text::Text;
-use super::{Container, StackState};
 use simd_json_parts::node::Node;
-use simd_json_scalars::stringparse::BadEscape;
 use std::alloc::Allocator;
 use std::result::Result;
-
-// What stays as it is on the way through the tokens: their positions, whether the last of them holds a closing
-// bracket, and how many containers may be open.
-#[derive(Clone, Copy, Drop)]
-pub(crate) struct Route<'m> {
-    pub(crate) indexes: &'m [u32],
-    pub(crate) ends_closed: bool,
-    pub(crate) max_depth: usize,
-}
-
-impl Route<'_> {
-    // The position of this number, or the end of the input.
-    #[inline(always)]
-    fn position_or_end(self, number: usize, end: usize) -> usize
-        requires { IsTrue self.ends_closed → number < length self.indexes.now }
-        ensures { result ≡ get_or self.entry.indexes.now number end }
-    {
-        if self.ends_closed || number < self.indexes.len() {
-            self.indexes[number] as usize
-        } else {
-            end
-        }
-    }
-}
-
-// After a value's first token: inside a new container, before its first member, or past a complete value.
-#[derive(Clone, Copy, Debug, Drop)]
-enum Value {
-    Opened(Progress),
-    Read(Progress),
-}
-
-// What follows a member: another one, or the end of its container.
-#[derive(Clone, Copy, Debug, Drop)]
-enum Turn {
-    Next(Progress),
-    Closed(Progress),
-}
-
-// What the machine goes on with: a member of the innermost container, where in an object a fault of this kind is
-// reported if it has no key, or nothing, at the end of the root.
-#[derive(Clone, Copy, Debug, Drop)]
-enum Member {
-    Next(Progress, FaultKind),
-    End,
-}
 
 // What the machine changes: what is left of the text, and what is kept of open containers. The nodes are lent
 // beside it, since the prover can't follow, through a struct, a list of values that share the input. Whatever
@@ -81,62 +37,6 @@ pub(crate) struct Machine<'m, 'de> {
 }
 
 impl<'de> Machine<'_, 'de> {
-    // The token after the last one. Where none is left, the fault is at the last one.
-    #[inline(always)]
-    fn next_token(&self, route: Route, p: Progress) -> Result<Progress, Fault>
-        ghost b: { List ℕ }
-        requires route { IsOnRoute route.ends_closed b route.indexes.now }
-        requires read { IsRead b route.indexes.now p }
-        requires text { p.read < length route.indexes.now
-            → Reads b self.now.text (slice_index route.indexes.now p.read) }
-        ensures next { IfOk result (IsNext b route.entry.indexes.now p) }
-        ensures none { IfErr result (λ f. (p.read ≡ length route.entry.indexes.now)
-            × (f ≡ record { kind = FaultKind.Syntax; index = p.at; byte = byte_at b p.at })) }
-    {
-        if p.is_last(route.indexes, route.ends_closed) {
-            return Err(p.fault(FaultKind::Syntax));
-        }
-        let at = route.indexes[p.read] as usize;
-        Ok(Progress {
-            read: p.read + 1,
-            at,
-            byte: self.text.byte(at),
-            ..p
-        })
-    }
-
-    // The string at the last token becomes the next node. Only whitespace stands between its closing quote and
-    // the next position.
-    #[inline(always)]
-    fn put_string<A: Allocator>(
-        &mut self,
-        route: Route,
-        nodes: &mut Vec<Node<'de>, A>,
-        p: Progress,
-    ) -> Result<(), Fault>
-        ghost b: { List ℕ }
-        requires route { IsOnRoute route.ends_closed b route.indexes.now }
-        requires string { AtString b route.indexes.now (Reads b self.old.text) (vec_capacity nodes.old)
-            (length nodes.old.items) p }
-        ensures capacity { vec_capacity nodes.new ≡ vec_capacity nodes.old }
-        ensures stack { self.new.stack ≡ self.old.stack }
-        ensures put { OnOk result
-            (IsStringPut b p.at nodes.old.items nodes.new.items (Reads b self.new.text)) }
-        ensures refused { IfErr result (IsBadString b p.at) }
-    {
-        let next = route.position_or_end(p.read, self.text.end());
-        let may_have_escape = self.text.may_have_escape(p.at, next);
-        if !may_have_escape {
-            nodes.push_reserved(Node::String(self.text.share_string(p.at, next)));
-            return Ok(());
-        }
-        match self.text.parse_string(p.at) {
-            Ok(string) => nodes.push_reserved(Node::String(string)),
-            Err(bad) => return Err(bad_escape(p.at, bad)),
-        }
-        Ok(())
-    }
-
     // The key at the last token, and its colon, and on to the first token of the member's value. Where no key
     // stands, the fault is of this kind.
     #[inline(always)]
@@ -148,30 +48,28 @@ impl<'de> Machine<'_, 'de> {
         kind: FaultKind,
     ) -> Result<Progress, Fault>
         ghost b: { List ℕ }
-        requires route { IsOnRoute route.ends_closed b route.indexes.now }
-        requires pair { AtPair b route.indexes.now route.max_depth (Reads b self.old.text)
-            self.old.stack.now (vec_capacity nodes.old) nodes.old.items p kind }
+        requires { AtPair b route self.old (vec_capacity nodes.old) nodes.old.items p kind }
         ensures capacity { vec_capacity nodes.new ≡ vec_capacity nodes.old }
         ensures stack { self.new.stack ≡ self.old.stack }
-        ensures value { IfOk result (AtFirst b route.entry.indexes.now route.entry.max_depth
-            (Reads b self.new.text) self.new.stack.now (vec_capacity nodes.new) nodes.new.items) }
+        ensures value { IfOk result
+            (AtFirst b route.entry self.new (vec_capacity nodes.new) nodes.new.items) }
         ensures advances { IfOk result (λ q. (p.read < q.read) × (p.at ≤ q.at)
             × (q.depth ≡ p.depth) × (q.container ≡ p.container)) }
-        ensures refused { IfErr result (Tells b route.entry.indexes.now route.entry.max_depth) }
+        ensures refused { IfErr result (IsFirstFault b route.entry.indexes.now route.entry.max_depth) }
     {
         if p.byte != b'"' {
             return Err(p.fault(kind));
         }
-        self.put_string(route, nodes, p)?;
-        let colon = self.next_token(route, p)?;
+        put_string(&mut self.text, route, nodes, p)?;
+        let colon = p.next_token(&self.text, route)?;
         if colon.byte != b':' {
             return Err(colon.fault(FaultKind::ExpectedObjectColon));
         }
-        let value = self.next_token(route, colon)?;
+        let value = colon.next_token(&self.text, route)?;
         Ok(value)
     }
 
-    // The container that opens at the last token: the token after it tells whether it is empty.
+    // The container that opens at the last token: the token after it shows whether it is empty.
     #[inline(always)]
     #[tactic(auto, unfolding(crate::specs::NodesEnough::nodes_enough))]
     fn open<A: Allocator>(
@@ -182,24 +80,21 @@ impl<'de> Machine<'_, 'de> {
         container: Container,
     ) -> Result<Value, Fault>
         ghost b: { List ℕ }
-        requires route { IsOnRoute route.ends_closed b route.indexes.now }
-        requires value { AtFirst b route.indexes.now route.max_depth (Reads b self.old.text)
-            self.old.stack.now (vec_capacity nodes.old) nodes.old.items p }
-        requires opener { p.byte + 2 ≡ closer container }
+        requires { AtOpening b route self.old (vec_capacity nodes.old) nodes.old.items p container }
         ensures capacity { (vec_capacity nodes.new ≡ vec_capacity nodes.old)
             × (length self.new.stack.now ≡ length self.old.stack.now) }
         ensures text { self.new.text ≡ self.old.text }
         ensures progress { IfOk result (IsWithin b route.entry.indexes.now (Reads b self.new.text)
             (length nodes.new.items)) }
-        ensures advances { IfOk result (Advances route.entry.max_depth p) }
+        ensures advances { IfOk result (AdvancesPastValue route.entry.max_depth p) }
         ensures step { IfOk result
-            (Opens b route.entry.indexes.now route.entry.max_depth self.new.stack.now nodes.new.items) }
-        ensures refused { IfErr result (Tells b route.entry.indexes.now route.entry.max_depth) }
+            (AtFirstOrAfter b route.entry.indexes.now route.entry.max_depth self.new.stack.now nodes.new.items) }
+        ensures refused { IfErr result (IsFirstFault b route.entry.indexes.now route.entry.max_depth) }
     {
         if p.depth == route.max_depth {
             return Err(p.fault(FaultKind::DepthLimitExceeded));
         }
-        let q = self.next_token(route, p)?;
+        let q = p.next_token(&self.text, route)?;
         if q.byte == container.closer() {
             nodes.push_reserved(container.header(0, 0));
             return Ok(Value::Read(q.with_value()));
@@ -227,17 +122,15 @@ impl<'de> Machine<'_, 'de> {
         p: Progress,
     ) -> Result<Value, Fault>
         ghost b: { List ℕ }
-        requires route { IsOnRoute route.ends_closed b route.indexes.now }
-        requires value { AtFirst b route.indexes.now route.max_depth (Reads b self.old.text)
-            self.old.stack.now (vec_capacity nodes.old) nodes.old.items p }
+        requires { AtFirst b route self.old (vec_capacity nodes.old) nodes.old.items p }
         ensures capacity { (vec_capacity nodes.new ≡ vec_capacity nodes.old)
             × (length self.new.stack.now ≡ length self.old.stack.now) }
         ensures progress { IfOk result (IsWithin b route.entry.indexes.now (Reads b self.new.text)
             (length nodes.new.items)) }
-        ensures advances { IfOk result (Advances route.entry.max_depth p) }
+        ensures advances { IfOk result (AdvancesPastValue route.entry.max_depth p) }
         ensures step { IfOk result
-            (Opens b route.entry.indexes.now route.entry.max_depth self.new.stack.now nodes.new.items) }
-        ensures refused { IfErr result (Tells b route.entry.indexes.now route.entry.max_depth) }
+            (AtFirstOrAfter b route.entry.indexes.now route.entry.max_depth self.new.stack.now nodes.new.items) }
+        ensures refused { IfErr result (IsFirstFault b route.entry.indexes.now route.entry.max_depth) }
     {
         if p.byte == b'{' {
             return self.open(route, nodes, p, Container::Object);
@@ -246,7 +139,7 @@ impl<'de> Machine<'_, 'de> {
             return self.open(route, nodes, p, Container::Array);
         }
         if p.byte == b'"' {
-            self.put_string(route, nodes, p)?;
+            put_string(&mut self.text, route, nodes, p)?;
         } else {
             put_scalar(&mut self.text, nodes, p)?;
         }
@@ -263,27 +156,25 @@ impl<'de> Machine<'_, 'de> {
         nodes: &mut Vec<Node<'de>, A>,
         p: Progress,
         container: Container,
-    ) -> Result<Turn, Fault>
+    ) -> Result<Following, Fault>
         ghost b: { List ℕ }
-        requires route { IsOnRoute route.ends_closed b route.indexes.now }
-        requires member { AfterMember b route.indexes.now route.max_depth (Reads b self.now.text)
-            self.now.stack.now (vec_capacity nodes.old) nodes.old.items p container }
+        requires { AfterMember b route self.now (vec_capacity nodes.old) nodes.old.items p container }
         ensures capacity { vec_capacity nodes.new ≡ vec_capacity nodes.old }
-        ensures progress { IfOk result (IsTurned b route.entry.indexes.now (Reads b self.now.text)
+        ensures progress { IfOk result (IsWithinNext b route.entry.indexes.now (Reads b self.now.text)
             (length nodes.new.items)) }
-        ensures advances { IfOk result (Turns p) }
+        ensures advances { IfOk result (AdvancesPastMember p) }
         ensures step { IfOk result
-            (Takes b route.entry.indexes.now route.entry.max_depth self.now.stack.now nodes.new.items) }
-        ensures refused { IfErr result (Tells b route.entry.indexes.now route.entry.max_depth) }
+            (AtNextOrAfter b route.entry.indexes.now route.entry.max_depth self.now.stack.now nodes.new.items) }
+        ensures refused { IfErr result (IsFirstFault b route.entry.indexes.now route.entry.max_depth) }
     {
-        let q = self.next_token(route, p)?;
+        let q = p.next_token(&self.text, route)?;
         if q.byte == b',' {
-            return Ok(Turn::Next(self.next_token(route, q)?));
+            return Ok(Following::Next(q.next_token(&self.text, route)?));
         }
         if q.byte != container.closer() {
             return Err(q.fault(container.content_kind()));
         }
-        Ok(Turn::Closed(close(self.stack, nodes, q, container)))
+        Ok(Following::Closed(close(self.stack, nodes, q, container)))
     }
 
     // After a value closing brackets and a comma, or the end of the root; in a new container nothing.
@@ -296,14 +187,12 @@ impl<'de> Machine<'_, 'de> {
         value: Value,
     ) -> Result<Member, Fault>
         ghost b: { List ℕ }
-        requires route { IsOnRoute route.ends_closed b route.indexes.now }
-        requires value { HasCome b route.indexes.now route.max_depth (Reads b self.now.text)
-            self.now.stack.now (vec_capacity nodes.old) nodes.old.items value }
+        requires { HasCome b route self.now (vec_capacity nodes.old) nodes.old.items value }
         ensures capacity { vec_capacity nodes.new ≡ vec_capacity nodes.old }
-        ensures member { IfOk result (IsAtMember b route.entry.indexes.now route.entry.max_depth
-            (Reads b self.now.text) self.now.stack.now (vec_capacity nodes.new) nodes.new.items) }
+        ensures member { IfOk result
+            (IsAtMember b route.entry self.now (vec_capacity nodes.new) nodes.new.items) }
         ensures further { IfOk result (IsFrom (reached value).read) }
-        ensures refused { IfErr result (Tells b route.entry.indexes.now route.entry.max_depth) }
+        ensures refused { IfErr result (IsFirstFault b route.entry.indexes.now route.entry.max_depth) }
     {
         let mut p = match value {
             Value::Opened(p) => return Ok(Member::Next(p, FaultKind::ExpectedObjectContent)),
@@ -311,14 +200,14 @@ impl<'de> Machine<'_, 'de> {
         };
         while p.depth > 0 {
             match self.after_member(route, nodes, p, p.container)? {
-                Turn::Next(next) => {
+                Following::Next(next) => {
                     return Ok(Member::Next(next, FaultKind::ExpectedObjectKey));
                 }
-                Turn::Closed(closed) => p = closed,
+                Following::Closed(closed) => p = closed,
             }
         }
         if p.read < route.indexes.len() {
-            return Err(after_root(nodes[0], p));
+            return Err(p.fault_after_root(nodes[0]));
         }
         Ok(Member::End)
     }
@@ -335,15 +224,13 @@ impl<'de> Machine<'_, 'de> {
         first: Progress,
     ) -> Result<Value, Fault>
         ghost b: { List ℕ }
-        requires route { IsOnRoute route.ends_closed b route.indexes.now }
-        requires element { AtElement b route.indexes.now route.max_depth (Reads b self.old.text)
-            self.old.stack.now (vec_capacity nodes.old) nodes.old.items first }
+        requires { AtElement b route self.old (vec_capacity nodes.old) nodes.old.items first }
         ensures capacity { (vec_capacity nodes.new ≡ vec_capacity nodes.old)
             × (length self.new.stack.now ≡ length self.old.stack.now) }
-        ensures came { IfOk result (HasCome b route.entry.indexes.now route.entry.max_depth
-            (Reads b self.new.text) self.new.stack.now (vec_capacity nodes.new) nodes.new.items) }
+        ensures came { IfOk result
+            (HasCome b route.entry self.new (vec_capacity nodes.new) nodes.new.items) }
         ensures further { IfOk result (λ value. first.read < (reached value).read) }
-        ensures refused { IfErr result (Tells b route.entry.indexes.now route.entry.max_depth) }
+        ensures refused { IfErr result (IsFirstFault b route.entry.indexes.now route.entry.max_depth) }
     {
         let mut p = first;
         'values: loop {
@@ -351,8 +238,8 @@ impl<'de> Machine<'_, 'de> {
                 Value::Opened(opened) => return Ok(Value::Opened(opened)),
                 Value::Read(read) => {
                     match self.after_member(route, nodes, read, Container::Array)? {
-                        Turn::Next(next) => p = next,
-                        Turn::Closed(closed) => return Ok(Value::Read(closed)),
+                        Following::Next(next) => p = next,
+                        Following::Closed(closed) => return Ok(Value::Read(closed)),
                     }
                 }
             }
@@ -369,15 +256,13 @@ impl<'de> Machine<'_, 'de> {
         kind: FaultKind,
     ) -> Result<Value, Fault>
         ghost b: { List ℕ }
-        requires route { IsOnRoute route.ends_closed b route.indexes.now }
-        requires pair { AtPair b route.indexes.now route.max_depth (Reads b self.old.text)
-            self.old.stack.now (vec_capacity nodes.old) nodes.old.items first kind }
+        requires { AtPair b route self.old (vec_capacity nodes.old) nodes.old.items first kind }
         ensures capacity { (vec_capacity nodes.new ≡ vec_capacity nodes.old)
             × (length self.new.stack.now ≡ length self.old.stack.now) }
-        ensures came { IfOk result (HasCome b route.entry.indexes.now route.entry.max_depth
-            (Reads b self.new.text) self.new.stack.now (vec_capacity nodes.new) nodes.new.items) }
+        ensures came { IfOk result
+            (HasCome b route.entry self.new (vec_capacity nodes.new) nodes.new.items) }
         ensures further { IfOk result (λ value. first.read < (reached value).read) }
-        ensures refused { IfErr result (Tells b route.entry.indexes.now route.entry.max_depth) }
+        ensures refused { IfErr result (IsFirstFault b route.entry.indexes.now route.entry.max_depth) }
     {
         let mut p = first;
         let mut kind = kind;
@@ -387,8 +272,8 @@ impl<'de> Machine<'_, 'de> {
                 Value::Opened(opened) => return Ok(Value::Opened(opened)),
                 Value::Read(read) => {
                     match self.after_member(route, nodes, read, Container::Object)? {
-                        Turn::Next(next) => p = next,
-                        Turn::Closed(closed) => return Ok(Value::Read(closed)),
+                        Following::Next(next) => p = next,
+                        Following::Closed(closed) => return Ok(Value::Read(closed)),
                     }
                 }
             }
@@ -404,15 +289,11 @@ impl<'de> Machine<'_, 'de> {
         nodes: &mut Vec<Node<'de>, A>,
     ) -> Result<(), Fault>
         ghost b: { List ℕ }
-        requires route { IsOnRoute route.ends_closed b route.indexes.now }
-        requires capacities { HasCapacity route.indexes.now route.max_depth self.old.stack.now
-            (vec_capacity nodes.old) }
-        requires empty { nodes.old.items ≡ [] }
-        requires text { Reads b self.old.text 0 }
+        requires { AtStart b route self.old (vec_capacity nodes.old) nodes.old.items }
         ensures capacity { vec_capacity nodes.new ≡ vec_capacity nodes.old }
         ensures few { OnOk result (2 * length nodes.new.items ≤ length route.entry.indexes.now + 1) }
         ensures built { OnOk result (IsBuilt b route.entry.indexes.now route.entry.max_depth nodes.new.items) }
-        ensures refused { IfErr result (Tells b route.entry.indexes.now route.entry.max_depth) }
+        ensures refused { IfErr result (IsFirstFault b route.entry.indexes.now route.entry.max_depth) }
     {
         let at = route.indexes[0] as usize;
         let first = Progress {
@@ -433,67 +314,5 @@ impl<'de> Machine<'_, 'de> {
                 Member::End => return Ok(()),
             };
         }
-    }
-}
-
-// The fault of a bad escape in the string whose opening quote has index `at`.
-#[cold]
-fn bad_escape(at: usize, bad: BadEscape) -> Fault
-    requires { at + bad.offset < 2 ^ 64 }
-    ensures { fault_with (error_type result.kind) result.index result.byte
-        ≡ escape_fault (at + bad.offset) bad.letter }
-{
-    let kind = if bad.letter == b'u' {
-        FaultKind::InvalidUnicodeCodepoint
-    } else {
-        FaultKind::InvalidEscape
-    };
-    Fault {
-        kind,
-        index: at + bad.offset,
-        byte: bad.letter,
-    }
-}
-
-// The innermost container is closed at the last token: its header is patched, and it is one more member of
-// its parent.
-#[inline(always)]
-fn close<'de, A: Allocator>(
-    stack: &[StackState],
-    nodes: &mut Vec<Node<'de>, A>,
-    p: Progress,
-    container: Container,
-) -> Progress
-    requires depth { (0 < p.depth) × (p.depth ≤ length stack.now) }
-    requires header { (top stack.now p.depth).header < length nodes.old.items }
-    requires len { (top stack.now p.depth).len < length nodes.old.items }
-    requires container { container ≡ p.container }
-    ensures progress { result ≡ record p {
-      depth = p.depth - 1;
-      container = (top stack.now p.depth).outer;
-      len = (top stack.now p.depth).len + 1;
-    } }
-    ensures nodes { nodes.new.items ≡ patch nodes.old.items (top stack.now p.depth) p }
-    ensures capacity { vec_capacity nodes.new ≡ vec_capacity nodes.old }
-{
-    let frame = stack[p.depth - 1];
-    let beneath = nodes.len() - frame.header - 1;
-    nodes[frame.header] = container.header(p.len, beneath);
-    Progress {
-        depth: p.depth - 1,
-        container: frame.outer,
-        len: frame.len + 1,
-        ..p
-    }
-}
-
-// The fault of a token after the root, whose first node is given.
-#[cold]
-fn after_root<'de>(first: Node<'de>, p: Progress) -> Fault
-    ensures { result ≡ record { kind = end_kind first.entry; index = p.at; byte = p.byte } }
-{
-    match first {
-        Node::Array { .. } | Node::Object { .. } => p.fault(FaultKind::InternalError),
-        _ => p.fault(FaultKind::TrailingData),
     }
 }

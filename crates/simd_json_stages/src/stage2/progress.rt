@@ -1,8 +1,40 @@
 //! How far the machine is.
-ghost use Rattle.std.specs.Prelude.{◌≡◌, ◌≢◌, ◌<◌, ◌≤◌, ◌+◌, ◌^◌, length, IsTrue, IsFalse};
+ghost use Rattle.std.specs.Prelude.{◌≡◌, ◌≢◌, ◌<◌, ◌≤◌, ◌+◌, ◌^◌, ℕ, List, length, get_or};
+ghost use Rattle.std.specs.Prelude.{IfOk, IfErr, IsTrue, IsFalse};
+ghost use Rattle.simd_json_parts.specs.Bytes.{byte_at};
+ghost use Rattle.simd_json_stages.specs.Building.{end_kind};
+ghost use Rattle.simd_json_stages.specs.Members.{AfterToken};
+ghost use Rattle.simd_json_stages.specs.Progresses.{IsNext};
 
-use super::Container;
 use super::fault::{Fault, FaultKind};
+use super::stack::Container;
+use super::text::Text;
+use simd_json_parts::node::Node;
+use std::result::Result;
+
+// What stays as it is on the way through the tokens: their positions, whether the last of them holds a closing
+// bracket, and how many containers may be open.
+#[derive(Clone, Copy, Drop)]
+pub(crate) struct Route<'m> {
+    pub(crate) indexes: &'m [u32],
+    pub(crate) ends_closed: bool,
+    pub(crate) max_depth: usize,
+}
+
+impl Route<'_> {
+    // The position of this number, or the end of the input.
+    #[inline(always)]
+    pub(super) fn position_or_end(self, number: usize, end: usize) -> usize
+        requires { IsTrue self.ends_closed → number < length self.indexes.now }
+        ensures { result ≡ get_or self.entry.indexes.now number end }
+    {
+        if self.ends_closed || number < self.indexes.len() {
+            self.indexes[number] as usize
+        } else {
+            end
+        }
+    }
+}
 
 // The index and the first byte of the last token, what the innermost open container is, how many positions are
 // read, how many containers are open, and how many members the innermost has. It
@@ -46,6 +78,27 @@ impl Progress {
         self.read == indexes.len()
     }
 
+    // The token after the last one. Where none is left, the fault is at the last one.
+    #[inline(always)]
+    pub(super) fn next_token(self, text: &Text, route: Route) -> Result<Progress, Fault>
+        ghost b: { List ℕ }
+        requires { AfterToken b route text.now self }
+        ensures next { IfOk result (IsNext b route.entry.indexes.now self) }
+        ensures none { IfErr result (λ f. (self.read ≡ length route.entry.indexes.now)
+            × (f ≡ record { kind = FaultKind.Syntax; index = self.at; byte = byte_at b self.at })) }
+    {
+        if self.is_last(route.indexes, route.ends_closed) {
+            return Err(self.fault(FaultKind::Syntax));
+        }
+        let at = route.indexes[self.read] as usize;
+        Ok(Progress {
+            read: self.read + 1,
+            at,
+            byte: text.byte(at),
+            ..self
+        })
+    }
+
     // The fault at the last token.
     #[inline(always)]
     pub(super) fn fault(self, kind: FaultKind) -> Fault
@@ -57,4 +110,37 @@ impl Progress {
             byte: self.byte,
         }
     }
+
+    // The fault at the last token where it is after the root, whose first node is given.
+    #[cold]
+    pub(super) fn fault_after_root<'de>(self, first: Node<'de>) -> Fault
+        ensures { result ≡ record { kind = end_kind first.entry; index = self.at; byte = self.byte } }
+    {
+        match first {
+            Node::Array { .. } | Node::Object { .. } => self.fault(FaultKind::InternalError),
+            _ => self.fault(FaultKind::TrailingData),
+        }
+    }
+}
+
+// After a value's first token: inside a new container, before its first member, or past a complete value.
+#[derive(Clone, Copy, Debug, Drop)]
+pub(super) enum Value {
+    Opened(Progress),
+    Read(Progress),
+}
+
+// What follows a member: another one, or the end of its container.
+#[derive(Clone, Copy, Debug, Drop)]
+pub(super) enum Following {
+    Next(Progress),
+    Closed(Progress),
+}
+
+// What the machine goes on with: a member of the innermost container, where in an object a fault of this kind is
+// reported if it has no key, or nothing, at the end of the root.
+#[derive(Clone, Copy, Debug, Drop)]
+pub(super) enum Member {
+    Next(Progress, FaultKind),
+    End,
 }

@@ -1,17 +1,14 @@
 //! Scalars that are no strings become nodes.
-ghost use Rattle.std.specs.Prelude.{◌≡◌, ◌≢◌, ◌<◌, ◌≤◌, ◌+◌, ◌^◌, ◌==◌, ◌&&◌, ◌||◌, ℕ, List, length, drop};
+ghost use Rattle.std.specs.Prelude.{◌≡◌, ◌<◌, ◌≤◌, ◌+◌, ◌^◌, ◌==◌, ◌&&◌, ◌||◌, ℕ, List, length, drop};
 ghost use Rattle.std.specs.Prelude.{[], ◌∷◌, ◌++◌, nat_eq, codes, true, false, MatchOption, MatchResult, IfErr, OnOk, vec_capacity};
-ghost use Rattle.std.specs.Char.{is_ascii_digit};
 ghost use Rattle.std.specs.List.{starts_with};
 ghost use Rattle.simd_json_parts.specs.Bytes.{is_terminator, byte_at, minus_sign};
 ghost use Rattle.simd_json_parts.specs.Integers.{integer_node, max_magnitude_64};
-ghost use Rattle.simd_json_parts.specs.NumberAt.{number_at};
 ghost use Rattle.simd_json_scalars.specs.NumberRead.{IsNumberAt};
 ghost use Rattle.simd_json_scalars.specs.NumeralRead.{IsIntegerLiteral};
-ghost use Rattle.simd_json_parts.specs.Tokens.{form_at, scalar};
 ghost use Rattle.simd_json_scalars.specs.declared.numberparse.Number.TheVariants.{Integer, Invalid};
-ghost use Rattle.simd_json_stages.specs.Put.{is_boolean, IsScalarPut, IsNoScalar};
-ghost use Rattle.simd_json_stages.specs.Refusals.{error_type, refused_kind, number_refusal};
+ghost use Rattle.simd_json_stages.specs.Put.{is_boolean, AtNumber, AtOther, IsScalarPut, IsNoScalar};
+ghost use Rattle.simd_json_stages.specs.Refusals.{refused_kind, number_refusal};
 ghost use Rattle.simd_json_stages.specs.Texts.{Reads};
 
 use super::fault::{Fault, FaultKind};
@@ -62,10 +59,7 @@ pub(super) fn put_scalar<'de, A: Allocator>(
     p: Progress,
 ) -> std::result::Result<(), Fault>
     ghost b: { List ℕ }
-    requires text { Reads b text.old p.at }
-    requires at { (p.at < length b) × (p.byte ≡ byte_at b p.at) }
-    requires other { (p.byte ≢ 34) × (p.byte ≢ 91) × (p.byte ≢ 123) }
-    requires room { length nodes.old.items < vec_capacity nodes.old }
+    requires { AtOther b text.old (vec_capacity nodes.old) (length nodes.old.items) p }
     ensures capacity { vec_capacity nodes.new ≡ vec_capacity nodes.old }
     ensures put { OnOk result (IsScalarPut b p.at nodes.old.items nodes.new.items (Reads b text.new)) }
     ensures refused { IfErr result (IsNoScalar b p.at) }
@@ -156,10 +150,7 @@ fn put_number<'de, A: Allocator>(
     p: Progress,
 ) -> std::result::Result<(), Fault>
     ghost b: { List ℕ }
-    requires text { Reads b text.old p.at }
-    requires at { (p.at < length b) × (p.byte ≡ byte_at b p.at) }
-    requires number { form_at b p.at ≡ scalar (number_at b p.at) }
-    requires room { length nodes.old.items < vec_capacity nodes.old }
+    requires { AtNumber b text.old (vec_capacity nodes.old) (length nodes.old.items) p }
     ensures capacity { vec_capacity nodes.new ≡ vec_capacity nodes.old }
     ensures put { OnOk result (IsScalarPut b p.at nodes.old.items nodes.new.items (Reads b text.new)) }
     ensures refused { IfErr result (IsNoScalar b p.at) }
@@ -180,10 +171,7 @@ fn put_longer_number<'de, A: Allocator>(
     p: Progress,
 ) -> std::result::Result<(), Fault>
     ghost b: { List ℕ }
-    requires text { Reads b text.old p.at }
-    requires at { (p.at < length b) × (p.byte ≡ byte_at b p.at) }
-    requires number { form_at b p.at ≡ scalar (number_at b p.at) }
-    requires room { length nodes.old.items < vec_capacity nodes.old }
+    requires { AtNumber b text.old (vec_capacity nodes.old) (length nodes.old.items) p }
     ensures capacity { vec_capacity nodes.new ≡ vec_capacity nodes.old }
     ensures put { OnOk result (IsScalarPut b p.at nodes.old.items nodes.new.items (Reads b text.new)) }
     ensures refused { IfErr result (IsNoScalar b p.at) }

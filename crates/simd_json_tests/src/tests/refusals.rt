@@ -14,7 +14,8 @@ use std::process::Abort;
 // An input, and its refusal.
 type Row = (&'static [u8], Wanted);
 
-const WHOLE_INPUTS: [Row; 10] = [
+const WHOLE_INPUTS: [Row; 11] = [
+    (b"[\"\\u0041\",\"\\n", Whole(Syntax)),
     (b"", Whole(Eof)),
     (b" \t\r\n", Whole(Eof)),
     (b"[\xff]", Whole(InvalidUtf8)),
@@ -184,6 +185,9 @@ fn assert_parses_are_refused(
     let mut read = Vec::from_slice(rt.alloc(), input)?;
     let fault = to_tape(rt.alloc(), read.as_mut_slice()).err();
     assert!(rt; wanted.is_given(fault.as_ref()), "{input:?}: {fault:?}");
+    if let Whole(_) = wanted {
+        assert!(rt; read.as_slice() == input, "{input:?} is written to");
+    }
     Ok(())
 }
 

@@ -31,7 +31,7 @@ pub fn numbers_are_integers_or_decimals()
     ensures not_both { (bs : List ℕ) → Matches integer_literal bs → Matches decimal_literal bs → ⊥ }
 {}
 
-/// A zero that begins a number stands alone before the fraction and the exponent: no digit follows it.
+/// A zero that begins a number is its only digit before the fraction and the exponent.
 pub fn leading_zeros_stand_alone()
     ensures unsigned { (x : ℕ) (bs : List ℕ) → IsTrue (is_ascii_digit x)
         → Matches number_literal (48 ∷ x ∷ bs) → ⊥ }
@@ -39,7 +39,7 @@ pub fn leading_zeros_stand_alone()
         → Matches number_literal (45 ∷ 48 ∷ x ∷ bs) → ⊥ }
 {}
 
-/// A number of the grammar that stands at an index, with a terminator or the end after it, is read whole; an
+/// A number of the grammar at an index, with a terminator or the end after it, is read whole; an
 /// integer, where it is in the range of its sign.
 pub fn numbers_are_read()
     ensures integers { (b : List ℕ) (i : ℕ) (xs rest : List ℕ) → drop i b ≡ xs ++ rest

@@ -39,7 +39,7 @@ pub fn printed_texts_are_of_one_document()
         → pretty d ≡ pretty e → equal d e ≡ true }
 {}
 
-/// A printed text whose length and nesting are within the limits is answered with the document that was
+/// A printed text whose length and nesting are within the limits is read as the document that was
 /// printed, with no sign on a zero.
 pub fn printed_texts_are_read_again()
     ensures compact { (d : Document) (limit : ℕ) → IsSpellable d → IntegersFit d
@@ -53,7 +53,7 @@ pub fn compact_texts_are_shortest()
     ensures { (b : List ℕ) (d : Document) → Denotes b d → IntegersFit d → length (compact d) ≤ length b }
 {}
 
-/// So what is answered can be printed and read again within the same limits: compactly always, and pretty
+/// So a document that is accepted can be printed and read again within the same limits: compactly always, and pretty
 /// where that text is not too long.
 pub fn answers_are_printed_and_read_again()
     ensures compact { (b : List ℕ) (limit : ℕ) (d : Document) → answer b limit ≡ Ok d

@@ -14,8 +14,8 @@ pub fn pieces_spell_one_string()
         → encode_utf8_all cs ≡ encode_utf8_all ds }
 {}
 
-/// A string literal of the grammar that stands at an index is read as its string, up to its closing quote,
-/// whatever stands before and after.
+/// A string literal of the grammar at an index is read as its string, up to its closing quote, whatever is
+/// before and after it.
 pub fn strings_are_read()
     ensures { (b : List ℕ) (i : ℕ) (content rest cs : List ℕ)
         → drop i b ≡ quote ∷ (content ++ quote ∷ rest) → ArePieces content cs
@@ -33,7 +33,7 @@ pub fn longest_pieces()
         → n + length (read_pieces 0 bs).1 ≤ length bs }
 {}
 
-/// A string is determined by the bytes from its opening quote on, which are UTF-8 if all are: what stands
+/// A string is determined by the bytes from its opening quote on, which are UTF-8 if all are: what is
 /// before does not matter.
 pub fn strings_stand_by_themselves()
     ensures string { (b : List ℕ) (i : ℕ) → byte_at b i ≡ quote

@@ -1,4 +1,4 @@
-//! Laws of positions, and of the tokens that stand there.
+//! Laws of positions, and of the tokens there.
 ghost use Rattle.std.specs.Prelude.{◌≡◌, ◌≢◌, ◌↔◌, ◌≤◌, ◌<◌, ◌+◌, ◌-◌, [], ◌⊎◌, ℕ, List, length, IsTrue};
 ghost use Rattle.std.specs.Prelude.{Contains, Some, None, IsFalse};
 ghost use Rattle.std.specs.List.Sorted.{IsStrictlyIncreasing};
@@ -17,14 +17,14 @@ pub fn positions_rise()
 {}
 
 /// Where some byte is inside a string, and so where some string is bad, there is a position. So an input
-/// without positions has no bad string, and it does not matter which of these two faults is asked for first.
+/// without positions has no bad string, and it does not matter which of these two faults is looked for first.
 pub fn strings_have_positions()
     ensures inside { (b : List ℕ) (i : ℕ) → i < length b → IsTrue (is_inside b i)
         → positions b ≢ [] }
     ensures bad { (b : List ℕ) → IsTrue (has_bad_string b) → positions b ≢ [] }
 {}
 
-/// Tokens stand at positions: the tokens that the descent reads, up to the first that has a fault or is
+/// Tokens are at positions: the tokens that the descent reads, up to the first that has a fault or is
 /// stray, are those at the positions, one after another. So what lies between positions hides no token and no
 /// fault.
 pub fn tokens_stand_at_positions()

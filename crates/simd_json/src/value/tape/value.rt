@@ -12,8 +12,7 @@ use crate::value::tape::descendants::Descendants;
 use crate::value::tape::object::Object;
 use simd_json_parts::node::{Node, StaticNode, ValueType};
 
-/// A document on a tape, or a document within it: what its nodes stand for is read from them as it is asked
-/// for.
+/// A document on a tape, or a document within it. Each call reads its nodes.
 ///
 /// It is a copy of a reference, and no call of it takes memory but those that print.
 ///
@@ -195,7 +194,7 @@ impl<'tape, 'input> Value<'tape, 'input> {
         self.as_array()?.get(i)
     }
 
-    /// Whether the value is an object that has a pair with that key: whether [`get`](Value::get) answers a
+    /// Whether the value is an object that has a pair with that key: whether [`get`](Value::get) returns a
     /// value.
     pub fn contains_key(&self, k: &str) -> bool
         ensures { result ≡ contains_key k.now (doc self.now) }

@@ -8,7 +8,8 @@ use Rattle.simd_json_stages.proofs.Bounds.{inside}
 use Rattle.simd_json_stages.proofs.TextLaws.{no-blocks}
 use Rattle.simd_json_stages.proofs.WholeFaults.{some-listed}
 use Rattle.simd_json_stages.proofs.stage2.build_nodes.Goals as goal
-use Rattle.simd_json_stages.proofs.stage2.build_nodes.Goals.{else-last-ne93-via-then-last-ne93+else-last-ne125, else-last-ne93-via-else-last-ne93}
+use Rattle.simd_json_stages.proofs.stage2.build_nodes.Goals.{else-last-ne93-via-then-last-ne93+else-last-ne125}
+use Rattle.simd_json_stages.proofs.stage2.build_nodes.Goals.{else-last-ne93-via-else-last-ne93}
 
 pub overflow_sub-last : goal.overflow_sub-last
 overflow_sub-last g c = omega (arith, some-listed c.args.input.now c.args.indexes.now c.requires.positions c.requires.whole)

@@ -1,7 +1,7 @@
 use Rattle.std.proofs.Common.{ap, subst, ◌∙◌, sym, arith}
 use Rattle.std.specs.Prelude.{Err}
-use Rattle.simd_json_stages.specs.Building.{IsBuilt, Tells}
-use Rattle.simd_json_stages.proofs.BuildingSteps.{descent-built, descent-told}
+use Rattle.simd_json_stages.specs.Building.{IsBuilt, IsFirstFault}
+use Rattle.simd_json_stages.proofs.BuildingSteps.{descent-built, descent-refused}
 use Rattle.simd_json_stages.proofs.WholeFaults.{some-listed}
 use Rattle.simd_json_stages.proofs.stage2.build_tape.Goals as goal
 
@@ -21,6 +21,6 @@ returns-in-Ok-clause-built g c =
 pub returns-in-Err-clause-refused : goal.returns-in-Err-clause-refused
 returns-in-Err-clause-refused g c =
     let b = c.args.input.now in
-    let told = descent-told b c.args.max_depth c.in-Err.fault
-    (subst (λ ps. Tells b ps c.args.max_depth c.in-Err.fault) c.requires.positions c.in-Err.ensures.tape.refused) in
-    ((c.in-Err.fault.kind, c.in-Err.fault.index, c.in-Err.fault.byte, c.into_error.ensures), told ∙ ap Err (sym c.into_error.ensures))
+    let refused = descent-refused b c.args.max_depth c.in-Err.fault
+    (subst (λ ps. IsFirstFault b ps c.args.max_depth c.in-Err.fault) c.requires.positions c.in-Err.ensures.tape.refused) in
+    ((c.in-Err.fault.kind, c.in-Err.fault.index, c.in-Err.fault.byte, c.into_error.ensures), refused ∙ ap Err (sym c.into_error.ensures))

@@ -1,16 +1,12 @@
 // Eight blocks at a time: first what each tells by itself, then the arithmetic on their words, which is the
 // same for each and needs no other, so that LLVM does several at once, and at last their positions in order.
 ghost use Rattle.std.specs.Prelude.{◌≡◌, ◌+◌, ◌-◌, ◌*◌, ◌%◌, ◌^◌, ◌≤◌, ℕ, List, length};
-ghost use Rattle.std.specs.Int.{from_bool};
-ghost use Rattle.simd_json_stages.specs.Carries.{is_escaped_at};
 ghost use Rattle.simd_json_stages.specs.Blocks.{AreBlocks, IsAscii, IsClassified, IsPlaced, IsScanned};
 ghost use Rattle.simd_json_stages.specs.Groups.{HaveClasses, HaveControl, HaveParts};
 
 use super::windows::Window;
 use super::{Classifying, Placing, Scanned};
-use crate::stage1::BLOCK_LEN;
-use crate::stage1::words::{Parts, classify, find_marks, find_parts};
-use crate::stage1::writing::{list_block, write};
+use crate::stage1::words::{Parts, classify, find_parts};
 
 // How many blocks a group has.
 pub(super) const GROUP: usize = 8;
@@ -21,8 +17,8 @@ type Words = [u64; GROUP];
 // The classes of each block.
 #[derive(Clone, Copy, Drop)]
 struct GroupClasses {
-    soft: Words,
-    hard: Words,
+    space_or_quote: Words,
+    op_or_quote: Words,
     control: Words,
     escaped: Words,
 }
@@ -46,8 +42,8 @@ struct Group {
 impl Group {
     const EMPTY: Group = Group {
         classes: GroupClasses {
-            soft: [0; GROUP],
-            hard: [0; GROUP],
+            space_or_quote: [0; GROUP],
+            op_or_quote: [0; GROUP],
             control: [0; GROUP],
             escaped: [0; GROUP],
         },
@@ -75,24 +71,19 @@ fn classify_group(
         → IsClassified b (first + 8) result listed.new }
     ensures few { result.listed ≤ before.listed + 8 }
     ensures classes { (b : List ℕ) → AreBlocks b blocks.now → IsClassified b first before listed.old
-        → HaveClasses b first 8 classes.new.soft classes.new.hard classes.new.control classes.new.escaped }
+        → HaveClasses b first 8 classes.new.space_or_quote classes.new.op_or_quote classes.new.control classes.new.escaped }
     ensures ascii { (b : List ℕ) → AreBlocks b blocks.now → IsClassified b first before listed.old
         → result.high ≡ 0 → (before.high ≡ 0) × IsAscii b (64 * first) (64 * (first + 8)) }
 {
     let mut now = before;
     let mut k = 0;
     while k < GROUP {
-        let classified = classify(&blocks[first + k], now.escaped);
-        let number = (first + k) as u32;
-        now = Classifying {
-            escaped: classified.next,
-            high: now.high | classified.high,
-            listed: list_block(listed, now.listed, number, classified.has_backslash),
-        };
-        classes.soft[k] = classified.soft;
-        classes.hard[k] = classified.hard;
-        classes.control[k] = classified.control;
-        classes.escaped[k] = classified.escaped;
+        let found = classify(&blocks[first + k], now.escaped);
+        now = now.with_block(found, first + k, listed);
+        classes.space_or_quote[k] = found.space_or_quote;
+        classes.op_or_quote[k] = found.op_or_quote;
+        classes.control[k] = found.control;
+        classes.escaped[k] = found.escaped;
         k += 1;
     }
     now
@@ -101,14 +92,14 @@ fn classify_group(
 // The arithmetic on their words.
 fn part_group(classes: &GroupClasses, parts: &mut GroupParts)
     ensures { (b : List ℕ) (first : ℕ)
-        → HaveClasses b first 8 classes.now.soft classes.now.hard classes.now.control classes.now.escaped
+        → HaveClasses b first 8 classes.now.space_or_quote classes.now.op_or_quote classes.now.control classes.now.escaped
         → HaveParts b first 8 parts.new.parity parts.new.plain parts.new.space parts.new.quote }
 {
     let mut k = 0;
     while k < GROUP {
         let found = find_parts(
-            classes.soft[k],
-            classes.hard[k],
+            classes.space_or_quote[k],
+            classes.op_or_quote[k],
             classes.control[k],
             classes.escaped[k],
         );
@@ -144,17 +135,7 @@ fn place_group(
             space: group.space[k],
             quote: group.quote[k],
         };
-        let marks = find_marks(parts, control[k], now.carry);
-        now = Placing {
-            carry: marks.carry,
-            bad: now.bad | marks.bad,
-            used: write(
-                out,
-                now.used,
-                (BLOCK_LEN * (first + k)) as u32,
-                marks.starts,
-            ),
-        };
+        now = now.place_block(parts, control[k], first + k, out);
         k += 1;
     }
     now

@@ -5,13 +5,12 @@ ghost use Rattle.simd_json_parts.specs.Limits.{max_length};
 ghost use Rattle.simd_json_stages.specs.Blocks.{AreBlocks, IsAscii, IsScanned};
 ghost use Rattle.simd_json_stages.specs.Scans.{IsBadEncoding, LacksMemory};
 
+use super::Scanned;
 use super::groups::{GROUP, scan_groups};
-use super::{Classifying, Placing, Scanned};
 use crate::stage1::BLOCK_LEN;
 use crate::stage1::capacity::grow;
 use crate::stage1::encoding::check_rest;
-use crate::stage1::words::{classify, find_marks, find_parts};
-use crate::stage1::writing::{list_block, write};
+use crate::stage1::words::{classify, find_parts};
 use simd_json_parts::error::Result;
 use std::alloc::Allocator;
 
@@ -48,29 +47,15 @@ fn scan_few(
     let mut placing = before.placing;
     let mut i = window.first;
     while i < window.end {
-        let classified = classify(&blocks[i], classifying.escaped);
-        classifying = Classifying {
-            escaped: classified.next,
-            high: classifying.high | classified.high,
-            listed: list_block(
-                listed,
-                classifying.listed,
-                i as u32,
-                classified.has_backslash,
-            ),
-        };
+        let found = classify(&blocks[i], classifying.escaped);
+        classifying = classifying.with_block(found, i, listed);
         let parts = find_parts(
-            classified.soft,
-            classified.hard,
-            classified.control,
-            classified.escaped,
+            found.space_or_quote,
+            found.op_or_quote,
+            found.control,
+            found.escaped,
         );
-        let marks = find_marks(parts, classified.control, placing.carry);
-        placing = Placing {
-            carry: marks.carry,
-            bad: placing.bad | marks.bad,
-            used: write(out, placing.used, (BLOCK_LEN * i) as u32, marks.starts),
-        };
+        placing = placing.place_block(parts, found.control, i, out);
         i += 1;
     }
     Scanned {

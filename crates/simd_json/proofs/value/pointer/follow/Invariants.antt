@@ -3,9 +3,9 @@ use Rattle.simd_json.specs.Pointed.{pointed, pointed_from}
 use Rattle.simd_json.specs.Viewed.{doc}
 use Rattle.simd_json.proofs.value.pointer.follow.Given as goal
 
-abbrev pub invariant-loop-token : goal.invariant-loop-token
-invariant-loop-token l =
+abbrev pub invariant-loop-reached : goal.invariant-loop-reached
+invariant-loop-reached l =
     (l.followed ≤ length l.pointer) × (pointed l.pointer (doc l.fn.value) ≡ pointed_from l.followed (drop l.followed l.pointer) (doc l.reached))
 
-abbrev pub decreases-loop-token : goal.decreases-loop-token
-decreases-loop-token l = length l.pointer - l.followed
+abbrev pub decreases-loop-reached : goal.decreases-loop-reached
+decreases-loop-reached l = length l.pointer - l.followed

@@ -1,15 +1,20 @@
 use Rattle.std.proofs.Common.{◌∙◌, ◌==◌, ap, ltb}
 use Rattle.std.specs.List.{list_any}
 use Rattle.simd_json_parts.specs.Bytes.{backslash}
-use Rattle.simd_json_stages.specs.Classes.{is_soft, is_hard}
-use Rattle.simd_json_stages.proofs.Bits.Lanes.{two_lanes, two_tests, low_lanes, high_lanes, low-length, high-length, lanes-join, any_in_lanes, ascii_lanes, ascii_bytes}
+use Rattle.simd_json_stages.specs.Classes.{is_space_or_quote, is_op_or_quote}
+use Rattle.simd_json_stages.proofs.Bits.Lanes.{two_lanes, two_tests, low_lanes, high_lanes, low-length, high-length, lanes-join}
+use Rattle.simd_json_stages.proofs.Bits.Lanes.{any_in_lanes, ascii_lanes, ascii_bytes}
 use Rattle.simd_json_stages.proofs.stage1.classes.classes.Goals as goal
 
-pub returns-clause-soft : goal.returns-clause-soft
-returns-clause-soft c = two_lanes is_soft c.args.bytes.now c.soft.result c.soft-2.result c.told-bytes c.soft.ensures c.soft-2.ensures
+pub returns-clause-space_or_quote : goal.returns-clause-space_or_quote
+returns-clause-space_or_quote c =
+    two_lanes is_space_or_quote c.args.bytes.now c.space_or_quote.result c.space_or_quote-2.result c.told-bytes
+    c.space_or_quote.ensures c.space_or_quote-2.ensures
 
-pub returns-clause-hard : goal.returns-clause-hard
-returns-clause-hard c = two_lanes is_hard c.args.bytes.now c.hard.result c.hard-2.result c.told-bytes c.hard.ensures c.hard-2.ensures
+pub returns-clause-op_or_quote : goal.returns-clause-op_or_quote
+returns-clause-op_or_quote c =
+    two_lanes is_op_or_quote c.args.bytes.now c.op_or_quote.result c.op_or_quote-2.result c.told-bytes
+    c.op_or_quote.ensures c.op_or_quote-2.ensures
 
 pub returns-clause-control : goal.returns-clause-control
 returns-clause-control c = two_tests ltb 32 c.args.bytes.now c.told-bytes

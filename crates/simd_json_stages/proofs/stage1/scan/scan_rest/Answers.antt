@@ -1,4 +1,5 @@
-use Rattle.std.proofs.Common.{◌≡◌, ◌+◌, ◌*◌, ◌≤◌, ◌<◌, ◌++◌, length, take, drop, subst, refl, sym, ap, ◌∙◌, true, false, eqb-true, inr, arith}
+use Rattle.std.proofs.Common.{◌≡◌, ◌+◌, ◌*◌, ◌≤◌, ◌<◌, ◌++◌, length, take, drop, subst, refl, sym, ap, ◌∙◌, true, false, eqb-true, inr}
+use Rattle.std.proofs.Common.{arith}
 use Rattle.std.proofs.lemmas.List.{length-set}
 use lib.Count.{ones}
 use Rattle.simd_json_stages.specs.EscapeBlocks.{blocks_in, backslash_blocks}
@@ -24,9 +25,9 @@ grow-requires g c =
     let s = c.requires.scanned in
     let padded = IsBlock-rest b c.args.rest.now _ c.requires.rest c.copy_from_slice.ensures.after in
     let classified = c.classify-classified.ensures b _ padded s.classified.escaped in
-    let marks = c.find_marks-marks.ensures b _ (c.find_parts-parts.ensures b _ classified.classes) classified.classes.control
+    let placed = c.find_starts-placed.ensures b _ (c.find_parts-parts.ensures b _ classified.classes) classified.classes.control
     s.placed.carried in
-    rest-few b c.args.done.placing _ c.find_marks-marks.result s.placed marks
+    rest-few b c.args.done.placing _ c.find_starts-placed.result s.placed placed
 
 pub grow-requires-then-classified : goal.grow-requires-then-classified
 grow-requires-then-classified g c =
@@ -43,10 +44,10 @@ returns-clause-found g c =
     let b = c.args.input.now in
     let s = c.requires.scanned in
     let t = c.classify-classified.result in
-    let m = c.find_marks-marks.result in
+    let m = c.find_starts-placed.result in
     let padded = IsBlock-rest b c.args.rest.now _ c.requires.rest c.copy_from_slice.ensures.after in
     let classified = c.classify-classified.ensures b _ padded s.classified.escaped in
-    let marks = c.find_marks-marks.ensures b _ (c.find_parts-parts.ensures b _ classified.classes) classified.classes.control
+    let placed = c.find_starts-placed.ensures b _ (c.find_parts-parts.ensures b _ classified.classes) classified.classes.control
     s.placed.carried in
     let a = c.grow in
     let w = c.write_exactly in
@@ -79,11 +80,11 @@ returns-clause-found g c =
     ] in
     record {
       encoding = utf8-reached b c.in_ok-check_window.field-0 end utf8.1;
-      bad = rest-bad b p _ m s.placed marks;
+      bad = rest-bad b p _ m s.placed placed;
       within = subst (λ xs. p.used + ones m.starts ≤ length xs) (sym out) capacity;
       listed = ap (take (p.used + ones m.starts)) out ∙ ap (λ n. take n w.new.out) (sym total) ∙ w.ensures.written
           ∙ ap (λ l. l ++ set_bits 64 (64 * whole b) m.starts) before
-          ∙ rest-positions b p _ m s.placed marks;
+          ∙ rest-positions b p _ m s.placed placed;
       blocks_within = blocks.0;
       blocks_listed = blocks.1;
     }

@@ -10,7 +10,7 @@ returns-then-m c = λ b i e before.
     let m = c.classes-m.ensures in
     let found = escaped-some b i c.backslashes.result _ _ (bits-same c.backslashes.ensures (λ n l. ap (λ y. y == backslash) (e.same n l)))
     (c.find_escaped-e.ensures (escaped_at b i) before) in
-    classified-found b i c.args.bytes.now _ e c.fits-bytes m.soft m.hard m.control m.ascii m.escapes found
+    classified-found b i c.args.bytes.now _ e c.fits-bytes m.space_or_quote m.op_or_quote m.control m.ascii m.escapes found
 
 pub returns-else-m : goal.returns-else-m
 returns-else-m c = λ b i e before.
@@ -18,4 +18,4 @@ returns-else-m c = λ b i e before.
     let none = none-any (λ y. y == backslash) c.args.bytes.now (sym m.escapes ∙ c.if-m.false) in
     let found = escaped-none b i c.args.before before (λ n l. ap (λ y. y == backslash) (sym (e.same n l))
     ∙ none n (omega (arith, e.len))) in
-    classified-found b i c.args.bytes.now _ e c.fits-bytes m.soft m.hard m.control m.ascii m.escapes found
+    classified-found b i c.args.bytes.now _ e c.fits-bytes m.space_or_quote m.op_or_quote m.control m.ascii m.escapes found

@@ -9,29 +9,30 @@ use Rattle.simd_json_stages.proofs.ScalarPut.{decimal-here}
 use Rattle.simd_json_stages.proofs.stage2.scalar.put_number.Goals as goal
 
 pub from-requires : goal.from-requires
-from-requires g c = (g.b, c.requires.1.0, omega (arith, c.requires.1.1.0.0))
+from-requires g c = (g.b, c.requires.1.at.text, omega (arith, c.requires.1.at.within))
 
 pub share-requires : goal.share-requires
 share-requires g c =
     let i : ℕ = c.args.p.at in
-    let after : drop i g.b ≡ c.from.result.now = sym (c.from.ensures g.b c.requires.1.0) in
-    let is : form_at g.b i ≡ scalar (Ok (decimal (take c.in-Some-Decimal.len (drop i g.b)), i + c.in-Some-Decimal.len)) = c.requires.1.1.1.0
+    let after : drop i g.b ≡ c.from.result.now = sym (c.from.ensures g.b c.requires.1.at.text) in
+    let is : form_at g.b i ≡ scalar (Ok (decimal (take c.in-Some-Decimal.len (drop i g.b)), i + c.in-Some-Decimal.len)) = c.requires.1.form
     ∙ ap scalar (subst (IsNumeralAt g.b i) c.in-Some-Decimal.field-0-is (c.in-Some-Decimal.ensures g.b i after)) in
-    let here = decimal-here g.b i (take c.in-Some-Decimal.len (drop i g.b)) (i + c.in-Some-Decimal.len) (omega (arith, c.requires.1.1.0.0)) is in
-    (g.b, c.requires.1.0, here.1, here.0)
+    let here = decimal-here g.b i (take c.in-Some-Decimal.len (drop i g.b)) (i + c.in-Some-Decimal.len)
+    (omega (arith, c.requires.1.at.within)) is in
+    (g.b, c.requires.1.at.text, here.1, here.0)
 
 pub returns-in-Some-Decimal-clause-put : goal.returns-in-Some-Decimal-clause-put
 returns-in-Some-Decimal-clause-put g c =
     let i : ℕ = c.args.p.at in
     let is : form_at g.b i ≡ scalar (Ok (decimal (take c.in-Some-Decimal.len (drop i g.b)), i + c.in-Some-Decimal.len)) =
-    c.requires.1.1.1.0 ∙ ap scalar (subst (IsNumeralAt g.b i) c.in-Some-Decimal.field-0-is
-    (c.in-Some-Decimal.ensures g.b i (sym (c.from.ensures g.b c.requires.1.0)))) in
+    c.requires.1.form ∙ ap scalar (subst (IsNumeralAt g.b i) c.in-Some-Decimal.field-0-is
+    (c.in-Some-Decimal.ensures g.b i (sym (c.from.ensures g.b c.requires.1.at.text)))) in
     record {
       document = decimal (take c.in-Some-Decimal.len (drop i g.b));
       end = i + c.in-Some-Decimal.len;
       node = nodes.Decimal c.share.result;
       read = is;
-      listed = ap (λ bs. decimal_item bs ∷ []) (sym (c.share.ensures.string g.b c.requires.1.0));
+      listed = ap (λ bs. decimal_item bs ∷ []) (sym (c.share.ensures.string g.b c.requires.1.at.text));
       put = c.push_reserved.ensures.items;
-      text = inr (c.share.ensures.rest g.b c.requires.1.0);
+      text = inr (c.share.ensures.rest g.b c.requires.1.at.text);
     }

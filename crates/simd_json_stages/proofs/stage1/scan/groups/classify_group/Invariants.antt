@@ -6,8 +6,8 @@ use Rattle.simd_json_stages.proofs.stage1.scan.groups.classify_group.Given as go
 abbrev pub invariant-loop-k : goal.invariant-loop-k
 invariant-loop-k l = record {
   to : l.k ≤ 8;
-  soft_words : length l.classes.soft ≡ 8;
-  hard_words : length l.classes.hard ≡ 8;
+  space_or_quote_words : length l.classes.space_or_quote ≡ 8;
+  op_or_quote_words : length l.classes.op_or_quote ≡ 8;
   control_words : length l.classes.control ≡ 8;
   escaped_words : length l.classes.escaped ≡ 8;
   capacity : l.now.listed + (8 - l.k) ≤ length l.listed;
@@ -15,7 +15,7 @@ invariant-loop-k l = record {
   classified : (b : List ℕ) → AreBlocks b l.blocks → IsClassified b l.first l.fn.before l.fn.listed
       → IsClassified b (l.first + l.k) l.now l.listed;
   classifies : (b : List ℕ) → AreBlocks b l.blocks → IsClassified b l.first l.fn.before l.fn.listed
-      → HaveClasses b l.first l.k l.classes.soft l.classes.hard l.classes.control l.classes.escaped;
+      → HaveClasses b l.first l.k l.classes.space_or_quote l.classes.op_or_quote l.classes.control l.classes.escaped;
   ascii : (b : List ℕ) → AreBlocks b l.blocks → IsClassified b l.first l.fn.before l.fn.listed → l.now.high ≡ 0
       → (l.fn.before.high ≡ 0) × IsAscii b (64 * l.first) (64 * (l.first + l.k));
 }

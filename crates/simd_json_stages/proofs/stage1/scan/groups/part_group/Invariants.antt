@@ -9,7 +9,8 @@ invariant-loop-k l = record {
   plain_words : length l.parts.plain ≡ 8;
   space_words : length l.parts.space ≡ 8;
   quote_words : length l.parts.quote ≡ 8;
-  found : (b : List ℕ) (first : ℕ) → HaveClasses b first 8 l.classes.soft l.classes.hard l.classes.control l.classes.escaped
+  found : (b : List ℕ) (first : ℕ)
+      → HaveClasses b first 8 l.classes.space_or_quote l.classes.op_or_quote l.classes.control l.classes.escaped
       → HaveParts b first l.k l.parts.parity l.parts.plain l.parts.space l.parts.quote;
 }
 

@@ -1,5 +1,5 @@
 use Rattle.std.proofs.Common.{◌≡◌, ◌+◌, arith}
-use Rattle.simd_json_stages.proofs.ScanLaws.{IsPlaced-next, IsPlaced-same}
+use Rattle.simd_json_stages.proofs.ScanLaws.{IsPlaced-same}
 use Rattle.simd_json_stages.proofs.stage1.scan.groups.place_group.Goals as goal
 
 pub loop-k-init : goal.loop-k-init
@@ -12,24 +12,20 @@ loop-k-init c =
       placed = λ b control parts before. IsPlaced-same first before;
     }
 
-pub write-requires-clause-capacity : goal.write-requires-clause-capacity
-write-requires-clause-capacity c = omega (arith, c.loop-k.invariant.capacity)
+pub place_block-now-requires-clause-capacity : goal.place_block-now-requires-clause-capacity
+place_block-now-requires-clause-capacity c = omega (arith, c.loop-k.invariant.capacity)
 
 pub loop-k-preserved : goal.loop-k-preserved
 loop-k-preserved c =
     let l = c.loop-k in
     let i = l.invariant in
-    let w = c.write in
     let next : c.args.first + l.k + 1 ≡ c.args.first + (l.k + 1) = omega arith in
     record {
       to = omega arith;
       capacity = omega arith;
       few = omega arith;
-      placed = λ b control parts before.
-          let h = i.placed b control parts before in
-          let found = c.find_marks-marks.ensures b _ (parts l.k (omega arith)) (control l.k (omega arith)) h.carried in
-          IsPlaced-same next (IsPlaced-next b (c.args.first + l.k) l.now l.out c.find_marks-marks.result w.new.out w.result h found
-          w.ensures.written w.ensures.count (omega arith));
+      placed = λ b control parts before. IsPlaced-same next
+          (c.place_block-now.ensures.placed b (parts l.k (omega arith)) (control l.k (omega arith)) (i.placed b control parts before));
     }
 
 pub returns-clause-placed : goal.returns-clause-placed

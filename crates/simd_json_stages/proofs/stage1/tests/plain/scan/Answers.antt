@@ -5,9 +5,13 @@ use Rattle.simd_json_parts.specs.Bytes.{byte_at}
 use Rattle.simd_json_parts.specs.Positions.{backslashes_before, real_quotes, is_position, positions, has_control_inside}
 use Rattle.simd_json_stages.specs.Carries.{is_open_at, has_control_before}
 use Rattle.simd_json_stages.proofs.CarryLaws.{filter-next}
-use Rattle.simd_json_stages.proofs.EscapeBlockLaws.{ListsBlocks-none, ListsBlocks-other, ListsBlocks-again, ListsBlocks-first, ListsBlocks-all}
+use Rattle.simd_json_stages.proofs.EscapeBlockLaws.{ListsBlocks-none, ListsBlocks-other, ListsBlocks-again, ListsBlocks-first}
+use Rattle.simd_json_stages.proofs.EscapeBlockLaws.{ListsBlocks-all}
 use Rattle.simd_json_stages.proofs.stage1.tests.plain.scan.Goals as goal
-use Rattle.simd_json_stages.proofs.stage1.tests.plain.scan.Goals.{then-is_position+in_ok-put, else-is_position, then-is_backslash+then-next_block-block+in_ok-put-2, else-is_backslash, else-is_backslash-via-then-is_backslash+else-next_block-block, else-is_backslash-via-else-is_backslash}
+use Rattle.simd_json_stages.proofs.stage1.tests.plain.scan.Goals.{then-is_position+in_ok-put, else-is_position}
+use Rattle.simd_json_stages.proofs.stage1.tests.plain.scan.Goals.{then-is_backslash+then-next_block-block+in_ok-put-2, else-is_backslash}
+use Rattle.simd_json_stages.proofs.stage1.tests.plain.scan.Goals.{else-is_backslash-via-then-is_backslash+else-next_block-block}
+use Rattle.simd_json_stages.proofs.stage1.tests.plain.scan.Goals.{else-is_backslash-via-else-is_backslash}
 
 pub loop-i-init : goal.loop-i-init
 unfolding backslashes_before real_quotes

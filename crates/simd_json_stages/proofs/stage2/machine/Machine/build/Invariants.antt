@@ -1,7 +1,6 @@
 use Rattle.std.proofs.Common.{◌≡◌, ◌-◌, length}
 use Rattle.std.specs.Prelude.{vec_capacity}
 use Rattle.simd_json_stages.specs.Members.{HasCome}
-use Rattle.simd_json_stages.specs.Texts.{Reads}
 use Rattle.simd_json_stages.specs.Progresses.{reached}
 use Rattle.simd_json_stages.proofs.stage2.machine.Machine.build.Given as goal
 
@@ -19,7 +18,7 @@ ghost-members g a = g.b
 
 abbrev pub invariant-values : goal.invariant-values
 invariant-values g l = record {
-  came : HasCome g.b l.route.indexes.now l.route.max_depth (Reads g.b l.self.text) l.self.stack.now (vec_capacity l.nodes) l.nodes.items l.value;
+  came : HasCome g.b l.route l.self (vec_capacity l.nodes) l.nodes.items l.value;
   capacity : vec_capacity l.nodes ≡ vec_capacity l.fn.nodes;
   stack : length l.self.stack.now ≡ length l.fn.self.stack.now;
 }

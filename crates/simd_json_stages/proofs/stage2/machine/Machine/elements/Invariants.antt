@@ -1,7 +1,6 @@
 use Rattle.std.proofs.Common.{◌≡◌, ◌-◌, ◌≤◌, length}
 use Rattle.std.specs.Prelude.{vec_capacity}
 use Rattle.simd_json_stages.specs.Members.{AtElement}
-use Rattle.simd_json_stages.specs.Texts.{Reads}
 use Rattle.simd_json_stages.proofs.stage2.machine.Machine.elements.Given as goal
 
 abbrev pub ghost-read_value : goal.ghost-read_value
@@ -12,7 +11,7 @@ ghost-after_member g a = g.b
 
 abbrev pub invariant-values : goal.invariant-values
 invariant-values g l = record {
-  element : AtElement g.b l.route.indexes.now l.route.max_depth (Reads g.b l.self.text) l.self.stack.now (vec_capacity l.nodes) l.nodes.items l.p;
+  element : AtElement g.b l.route l.self (vec_capacity l.nodes) l.nodes.items l.p;
   further : l.fn.first.read ≤ l.p.read;
   capacity : vec_capacity l.nodes ≡ vec_capacity l.fn.nodes;
   stack : length l.self.stack.now ≡ length l.fn.self.stack.now;

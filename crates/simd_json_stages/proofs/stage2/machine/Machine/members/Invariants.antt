@@ -1,7 +1,6 @@
 use Rattle.std.proofs.Common.{◌≡◌, ◌-◌, ◌≤◌, length}
 use Rattle.std.specs.Prelude.{vec_capacity}
 use Rattle.simd_json_stages.specs.Members.{AtPair}
-use Rattle.simd_json_stages.specs.Texts.{Reads}
 use Rattle.simd_json_stages.proofs.stage2.machine.Machine.members.Given as goal
 
 abbrev pub ghost-read_key : goal.ghost-read_key
@@ -15,7 +14,7 @@ ghost-after_member g a = g.b
 
 abbrev pub invariant-pairs : goal.invariant-pairs
 invariant-pairs g l = record {
-  pair : AtPair g.b l.route.indexes.now l.route.max_depth (Reads g.b l.self.text) l.self.stack.now (vec_capacity l.nodes) l.nodes.items l.p l.kind;
+  pair : AtPair g.b l.route l.self (vec_capacity l.nodes) l.nodes.items l.p l.kind;
   further : l.fn.first.read ≤ l.p.read;
   capacity : vec_capacity l.nodes ≡ vec_capacity l.fn.nodes;
   stack : length l.self.stack.now ≡ length l.fn.self.stack.now;

@@ -3,25 +3,23 @@ use Rattle.std.specs.Prelude.{vec_capacity}
 use Rattle.std.proofs.lemmas.List.{get_or_default}
 use Rattle.simd_json_parts.specs.declared.node.Node.TheVariants.{Static}
 use Rattle.simd_json_parts.specs.declared.node.StaticNode.TheVariants.{Null}
-use Rattle.simd_json_stages.specs.Building.{Takes}
-use Rattle.simd_json_stages.specs.Progresses.{IsTurned, Turns, reached}
+use Rattle.simd_json_stages.specs.Building.{AtNextOrAfter}
+use Rattle.simd_json_stages.specs.Progresses.{IsWithinNext, AdvancesPastMember, reached}
 use Rattle.simd_json_stages.specs.Texts.{Reads}
 use Rattle.simd_json_stages.specs.declared.stage2.fault.FaultKind.TheVariants as kinds
-use Rattle.simd_json_stages.proofs.Following.{at-member, come-opened, come-read, end-built, end-tells, some-node}
+use Rattle.simd_json_stages.proofs.Following.{at-member, come-opened, come-read, end-built, end-refused, some-node}
 use Rattle.simd_json_stages.proofs.stage2.machine.Machine.next_member.Goals as goal
 
 pub returns-in-Opened-clause-member : goal.returns-in-Opened-clause-member
 returns-in-Opened-clause-member g c =
-    come-opened g.b c.args.route.indexes.now c.args.route.max_depth _ c.args.self.now.stack.now _ c.args.nodes.now.items c.args.value
-    c.in-Opened.p c.requires.1.1 c.in-Opened.is
+    come-opened g.b c.args.route c.args.self.now _ c.args.nodes.now.items c.args.value c.in-Opened.p c.requires.1 c.in-Opened.is
 
 pub returns-in-Opened-clause-further : goal.returns-in-Opened-clause-further
 returns-in-Opened-clause-further g c = omega (arith, ap (λ v. (reached v).read) c.in-Opened.is)
 
 pub loop-p-init : goal.loop-p-init
 loop-p-init g c =
-    let last = come-read g.b c.args.route.indexes.now c.args.route.max_depth _ c.args.self.now.stack.now _ c.args.nodes.now.items
-    c.args.value c.in-Read.p c.requires.1.1 c.in-Read.is in
+    let last = come-read g.b c.args.route c.args.self.now _ c.args.nodes.now.items c.args.value c.in-Read.p c.requires.1 c.in-Read.is in
     record {
       progress = last.progress;
       depth = last.depth;
@@ -33,34 +31,32 @@ loop-p-init g c =
 pub after_member-requires : goal.after_member-requires
 after_member-requires g c = λ κs lives. (
   lives,
-  (
-    c.requires.1.0,
-    record {
-      last = record {
-        capacities = record {
-          node_capacity = omega (arith, c.loop-p.invariant.capacity, c.requires.1.1.capacities.node_capacity);
-          frame_capacity = c.requires.1.1.capacities.frame_capacity;
-        };
-        progress = c.loop-p.invariant.progress;
-        depth = c.loop-p.invariant.depth;
-        after = c.loop-p.invariant.after;
+  record {
+    last = record {
+      on_route = c.requires.1.on_route;
+      capacities = record {
+        node_capacity = omega (arith, c.loop-p.invariant.capacity, c.requires.1.capacities.node_capacity);
+        frame_capacity = c.requires.1.capacities.frame_capacity;
       };
-      inside = c.loop-p-test.true;
-      container = refl;
-    },
-  ),
+      progress = c.loop-p.invariant.progress;
+      depth = c.loop-p.invariant.depth;
+      after = c.loop-p.invariant.after;
+    };
+    inside = c.loop-p-test.true;
+    container = refl;
+  },
 )
 
 pub returns-in-Next-clause-member : goal.returns-in-Next-clause-member
 returns-in-Next-clause-member g c =
     let ps = c.args.route.indexes.now in
-    let along = subst (Turns c.loop-p.p) c.in-Next.is c.in_ok-next.ensures.advances in
-    let progress = subst (IsTurned g.b ps (Reads g.b c.args.self.now.text) _) c.in-Next.is c.in_ok-next.ensures.progress in
-    let step = subst (Takes g.b ps c.args.route.max_depth c.args.self.now.stack.now c.after_member.new.nodes.items)
+    let along = subst (AdvancesPastMember c.loop-p.p) c.in-Next.is c.in_ok-next.ensures.advances in
+    let progress = subst (IsWithinNext g.b ps (Reads g.b c.args.self.now.text) _) c.in-Next.is c.in_ok-next.ensures.progress in
+    let step = subst (AtNextOrAfter g.b ps c.args.route.max_depth c.args.self.now.stack.now c.after_member.new.nodes.items)
     c.in-Next.is c.in_ok-next.ensures.step in
-    let capacities = c.requires.1.1.capacities in
-    at-member g.b ps c.args.route.max_depth _ c.args.self.now.stack.now _ c.after_member.new.nodes.items c.in-Next.next
-    kinds.ExpectedObjectKey
+    let capacities = c.requires.1.capacities in
+    at-member g.b c.args.route c.args.self.now _ c.after_member.new.nodes.items c.in-Next.next kinds.ExpectedObjectKey
+    c.requires.1.on_route
     (record {
       node_capacity = omega (arith, c.in_ok-next.ensures.capacity, c.loop-p.invariant.capacity, capacities.node_capacity);
       frame_capacity = capacities.frame_capacity;
@@ -69,7 +65,7 @@ returns-in-Next-clause-member g c =
 
 pub returns-in-Next-clause-further : goal.returns-in-Next-clause-further
 returns-in-Next-clause-further g c =
-    let along = subst (Turns c.loop-p.p) c.in-Next.is c.in_ok-next.ensures.advances in
+    let along = subst (AdvancesPastMember c.loop-p.p) c.in-Next.is c.in_ok-next.ensures.advances in
     omega (arith, along.0, c.loop-p.invariant.passed)
 
 pub returns-then-p-route-clause-refused : goal.returns-then-p-route-clause-refused
@@ -79,14 +75,13 @@ returns-then-p-route-clause-refused g c =
     let none : c.loop-p.p.depth ≡ 0 = omega arith in
     let some : 0 < length c.loop-p.nodes.items = some-node g.b ps c.args.route.max_depth c.args.self.now.stack.now c.loop-p.nodes.items
     c.loop-p.p c.loop-p.invariant.after none in
-    end-tells g.b ps c.requires.1.0.positions c.args.route.max_depth c.args.self.now.stack.now c.loop-p.nodes.items c.loop-p.p _ _
+    end-refused g.b ps c.requires.1.on_route.positions c.args.route.max_depth c.args.self.now.stack.now c.loop-p.nodes.items c.loop-p.p _ _
     c.loop-p.invariant.after r.read none some
     (c.index.ensures ∙ get_or_default c.loop-p.nodes.items 0 _ (Static Null) (omega arith))
-    (omega (arith, c.if-p-route)) c.after_root.ensures
+    (omega (arith, c.if-p-route)) c.fault_after_root.ensures
 
 pub returns-clause-member : goal.returns-clause-member
 returns-clause-member g c =
-    end-built g.b c.args.route.indexes.now c.requires.1.0.positions c.args.route.max_depth _ c.args.self.now.stack.now
-    (vec_capacity c.loop-p.nodes)
-    c.loop-p.nodes.items c.loop-p.p c.loop-p.invariant.progress c.loop-p.invariant.after (omega arith)
+    end-built g.b c.args.route c.args.self.now (vec_capacity c.loop-p.nodes) c.loop-p.nodes.items c.loop-p.p
+    c.loop-p.invariant.progress c.loop-p.invariant.after (omega arith)
     (omega (arith, c.if-p-route, c.loop-p.invariant.progress.read.within))

@@ -4,53 +4,53 @@ use Rattle.simd_json_stages.specs.Building.{closer, AtMember, AfterValue}
 use Rattle.simd_json_stages.specs.declared.stage2.progress.Progress.{Progress}
 use Rattle.simd_json_stages.specs.declared.stage2.fault.FaultKind.TheVariants as kinds
 use Rattle.simd_json_stages.specs.Progresses.{IsAfter}
-use Rattle.simd_json_stages.proofs.Bounds.{told-at, told-none, later, next-byte, one-more, after-first, before-first}
+use Rattle.simd_json_stages.proofs.Bounds.{refused-at, refused-none, later, next-byte, one-more, after-first, before-first}
 use Rattle.simd_json_stages.proofs.BuildingSteps.{step-empty, step-open}
 use Rattle.simd_json_stages.specs.Texts.{Reads}
 use Rattle.simd_json_stages.proofs.TextLaws.{reads-kept}
-use Rattle.simd_json_stages.proofs.Refusing.{tells-deep, tells-open_end}
+use Rattle.simd_json_stages.proofs.Refusing.{refuses-deep, refuses-open_end}
 use Rattle.simd_json_stages.proofs.stage2.machine.Machine.open.Goals as goal
 
 pub returns-then-p-route-clause-refused : goal.returns-then-p-route-clause-refused
 returns-then-p-route-clause-refused g c =
     let p = c.args.p in
-    let first = c.requires.1.1.0.progress.read.first in
-    told-at g.b c.args.route.indexes.now c.args.route.max_depth kinds.DepthLimitExceeded p c.fault.result c.fault.ensures first
-    (tells-deep g.b c.args.route.indexes.now c.args.route.max_depth c.args.container c.args.self.now.stack.now c.args.nodes.now.items p
-    c.requires.1.1.0.value (omega arith) (omega (arith, first, c.requires.1.1.1)))
+    let first = c.requires.1.first.progress.read.first in
+    refused-at g.b c.args.route.indexes.now c.args.route.max_depth kinds.DepthLimitExceeded p c.fault.result c.fault.ensures first
+    (refuses-deep g.b c.args.route.indexes.now c.args.route.max_depth c.args.container c.args.self.now.stack.now c.args.nodes.now.items p
+    c.requires.1.first.value (omega arith) (omega (arith, first, c.requires.1.bracket)))
 
 pub next_token-requires : goal.next_token-requires
 next_token-requires g c =
-    let r = c.requires.1.1.0.progress in
-    let positions = c.requires.1.0.positions in (
-      c.requires.1.0,
-      (
-        r.read,
-        λ more. reads-kept g.b c.args.self.now.text _ _ r.text
-            (omega (arith, later g.b c.args.route.indexes.now positions c.args.p r.read more)),
-      ),
-    )
+    let r = c.requires.1.first.progress in
+    let positions = c.requires.1.first.on_route.positions in
+    record {
+      on_route = c.requires.1.first.on_route;
+      read = r.read;
+      text = λ more. reads-kept g.b c.args.self.now.text _ _ r.text
+          (omega (arith, later g.b c.args.route.indexes.now positions c.args.p r.read more));
+    }
 
 pub returns-in_err-q-clause-refused : goal.returns-in_err-q-clause-refused
 returns-in_err-q-clause-refused g c =
     let p = c.args.p in
     let none = c.in_err-q.ensures.none in
-    told-none g.b c.args.route.indexes.now c.args.route.max_depth p c.from_residual.result _ c.from_residual.ensures.1 none.1
-    (tells-open_end g.b c.args.route.indexes.now c.args.route.max_depth c.args.container c.args.self.now.stack.now
-    c.args.nodes.now.items p c.requires.1.1.0.value (omega arith) (omega (arith, c.requires.1.1.0.progress.read.first, c.requires.1.1.1)) none.0)
+    refused-none g.b c.args.route.indexes.now c.args.route.max_depth p c.from_residual.result _ c.from_residual.ensures.1 none.1
+    (refuses-open_end g.b c.args.route.indexes.now c.args.route.max_depth c.args.container c.args.self.now.stack.now
+    c.args.nodes.now.items p c.requires.1.first.value (omega arith)
+    (omega (arith, c.requires.1.first.progress.read.first, c.requires.1.bracket)) none.0)
 
 pub returns-then-q-closer-clause-progress : goal.returns-then-q-closer-clause-progress
 returns-then-q-closer-clause-progress g c =
     subst (IsAfter g.b c.args.route.indexes.now (Reads g.b c.args.self.now.text) _) (sym c.with_value.ensures)
-    (after-first g.b c.args.route.indexes.now c.requires.1.0.positions _ (reads-kept g.b c.args.self.now.text) _ _
-    c.args.p c.in_ok-q.q (one-more c.args.nodes.now.items _ _ c.push_reserved.ensures.items) c.requires.1.1.0.progress
+    (after-first g.b c.args.route.indexes.now c.requires.1.first.on_route.positions _ (reads-kept g.b c.args.self.now.text) _ _
+    c.args.p c.in_ok-q.q (one-more c.args.nodes.now.items _ _ c.push_reserved.ensures.items) c.requires.1.first.progress
     c.in_ok-q.ensures.next)
 
 pub returns-then-q-closer-clause-advances : goal.returns-then-q-closer-clause-advances
 returns-then-q-closer-clause-advances g c =
     let next = c.in_ok-q.ensures.next in
     let l : c.args.p.at < get_or c.args.route.indexes.now c.args.p.read 0 = later g.b c.args.route.indexes.now
-    c.requires.1.0.positions c.args.p c.requires.1.1.0.progress.read next.more in
+    c.requires.1.first.on_route.positions c.args.p c.requires.1.first.progress.read next.more in
     subst (λ (q : Progress). (c.args.p.read ≤ q.read) × (c.args.p.at ≤ q.at) × (q.depth ≡ c.args.p.depth)
     × (q.container ≡ c.args.p.container)) (sym c.with_value.ensures)
     (subst (λ (q : Progress). (c.args.p.read ≤ q.read) × (c.args.p.at ≤ q.at) × (q.depth ≡ c.args.p.depth)
@@ -60,7 +60,7 @@ pub returns-then-q-closer-clause-step : goal.returns-then-q-closer-clause-step
 returns-then-q-closer-clause-step g c =
     let p = c.args.p in
     let ps = c.args.route.indexes.now in
-    let r = c.requires.1.1.0.progress in
+    let r = c.requires.1.first.progress in
     let next = c.in_ok-q.ensures.next in
     let byte : byte_at g.b (get_or ps p.read 0) ≡ closer c.args.container = next-byte g.b ps p c.in_ok-q.q next
     ∙ c.if-q-closer.true ∙ c.closer.ensures in
@@ -68,19 +68,19 @@ returns-then-q-closer-clause-step g c =
     subst (AfterValue g.b ps c.args.route.max_depth c.args.self.now.stack.now _)
     (sym (c.with_value.ensures ∙ ap (λ (q : Progress). record q { len = q.len + 1 }) next.same))
     (step-empty g.b ps c.args.route.max_depth c.args.container c.args.self.now.stack.now c.args.nodes.now.items _ p
-    c.requires.1.1.0.value put (omega arith) (omega (arith, r.read.first, c.requires.1.1.1)) next.more byte)
+    c.requires.1.first.value put (omega arith) (omega (arith, r.read.first, c.requires.1.bracket)) next.more byte)
 
 pub returns-clause-progress : goal.returns-clause-progress
 returns-clause-progress g c =
-    before-first g.b c.args.route.indexes.now c.requires.1.0.positions _ (reads-kept g.b c.args.self.now.text) _ _
+    before-first g.b c.args.route.indexes.now c.requires.1.first.on_route.positions _ (reads-kept g.b c.args.self.now.text) _ _
     c.args.p c.in_ok-q.q c.args.container (one-more c.args.nodes.now.items _ _ c.push_reserved-2.ensures.items)
-    c.requires.1.1.0.progress c.in_ok-q.ensures.next
+    c.requires.1.first.progress c.in_ok-q.ensures.next
 
 pub returns-clause-advances : goal.returns-clause-advances
 returns-clause-advances g c =
     let next = c.in_ok-q.ensures.next in
     let l : c.args.p.at < get_or c.args.route.indexes.now c.args.p.read 0 = later g.b c.args.route.indexes.now
-    c.requires.1.0.positions c.args.p c.requires.1.1.0.progress.read next.more in
+    c.requires.1.first.on_route.positions c.args.p c.requires.1.first.progress.read next.more in
     subst (λ (q : Progress). (c.args.p.read < q.read) × (c.args.p.at ≤ q.at) × (c.args.p.depth + 1 ≤ c.args.route.max_depth)
     × (0 < c.args.p.depth + 1)) (sym next.same) (omega arith, omega arith, omega arith, omega arith)
 
@@ -88,7 +88,7 @@ pub returns-clause-step : goal.returns-clause-step
 returns-clause-step g c =
     let p = c.args.p in
     let ps = c.args.route.indexes.now in
-    let r = c.requires.1.1.0.progress in
+    let r = c.requires.1.first.progress in
     let next = c.in_ok-q.ensures.next in
     let byte : byte_at g.b (get_or ps p.read 0) ≢ closer c.args.container = λ is. c.if-q-closer.false
     (sym (next-byte g.b ps p c.in_ok-q.q next) ∙ is ∙ sym c.closer.ensures) in
@@ -105,5 +105,5 @@ returns-clause-step g c =
       len = 0;
     })) (sym next.same)
     (step-open g.b ps c.args.route.max_depth c.args.container c.args.self.now.stack.now c.args.nodes.now.items _ _ _ p
-    c.requires.1.1.0.value c.push_reserved-2.ensures.items few (omega (arith, r.few, r.deep)) (omega arith)
-    (omega (arith, r.read.first, c.requires.1.1.1)) next.more byte)
+    c.requires.1.first.value c.push_reserved-2.ensures.items few (omega (arith, r.few, r.deep)) (omega arith)
+    (omega (arith, r.read.first, c.requires.1.bracket)) next.more byte)

@@ -1,52 +1,53 @@
-use Rattle.std.proofs.Common.{◌≡◌, ◌≤◌, ◌∙◌, ap, sym, subst, length, arith}
-use Rattle.std.specs.Prelude.{min}
-use Rattle.simd_json_stages.specs.Building.{AtValue, Tells}
+use Rattle.std.proofs.Common.{◌∙◌, sym, subst, arith}
+use Rattle.simd_json_stages.specs.Building.{AtValue, IsFirstFault}
 use Rattle.simd_json_stages.specs.Refusals.{error_type}
 use Rattle.simd_json_stages.specs.declared.stage2.fault.FaultKind.TheVariants as kinds
-use Rattle.simd_json_stages.proofs.Bounds.{node-left, name-token, told-at, told-none, next-ahead, next-read, next-byte, one-more, string-ahead}
+use Rattle.simd_json_stages.proofs.Bounds.{node-left, name-token, refused-at, refused-none, next-ahead, next-read, next-byte, one-more}
+use Rattle.simd_json_stages.proofs.Bounds.{string-ahead}
 use Rattle.simd_json_stages.proofs.BuildingSteps.{step-name}
 use Rattle.simd_json_stages.proofs.Exits.{passed-on}
-use Rattle.simd_json_stages.proofs.Following.{told-next, told-next_none, two-left, two-is, two-advances, named-progress}
+use Rattle.simd_json_stages.proofs.Following.{refused-next, refused-next_none, two-left, two-is, two-advances, named-progress}
 use Rattle.simd_json_stages.proofs.TextLaws.{reads-kept}
-use Rattle.simd_json_stages.proofs.Refusing.{tells-no_name, tells-name, tells-name_end, tells-no_colon, tells-colon_end}
+use Rattle.simd_json_stages.proofs.Refusing.{refuses-no_name, refuses-name, refuses-name_end, refuses-no_colon, refuses-colon_end}
 use Rattle.simd_json_stages.proofs.stage2.machine.Machine.read_key.Goals as goal
 
 pub returns-then-p-ne34-clause-refused : goal.returns-then-p-ne34-clause-refused
 returns-then-p-ne34-clause-refused g c =
-    let first = c.requires.1.1.progress.read.first in
-    told-at g.b c.args.route.indexes.now c.args.route.max_depth c.args.kind c.args.p c.fault.result c.fault.ensures first
-    (tells-no_name g.b c.args.route.indexes.now c.args.route.max_depth c.args.kind c.args.self.now.stack.now c.args.nodes.now.items
-    c.args.p c.requires.1.1.name (λ is. c.if-p-ne34.true (first ∙ is)))
+    let first = c.requires.1.progress.read.first in
+    refused-at g.b c.args.route.indexes.now c.args.route.max_depth c.args.kind c.args.p c.fault.result c.fault.ensures first
+    (refuses-no_name g.b c.args.route.indexes.now c.args.route.max_depth c.args.kind c.args.self.now.stack.now c.args.nodes.now.items
+    c.args.p c.requires.1.name (λ is. c.if-p-ne34.true (first ∙ is)))
 
 pub returns-in_err-put_string-clause-refused : goal.returns-in_err-put_string-clause-refused
 returns-in_err-put_string-clause-refused g c =
-    passed-on c.from_residual.result _ (Tells g.b c.args.route.indexes.now c.args.route.max_depth) c.from_residual.ensures.1
-    (tells-name g.b c.args.route.indexes.now c.args.route.max_depth (error_type c.args.kind)
-    c.args.self.now.stack.now c.args.nodes.now.items c.args.p _ c.requires.1.1.name
-    (sym c.requires.1.1.progress.read.first ∙ c.if-p-ne34.false) c.in_err-put_string.ensures.refused)
+    passed-on c.from_residual.result _ (IsFirstFault g.b c.args.route.indexes.now c.args.route.max_depth) c.from_residual.ensures.1
+    (refuses-name g.b c.args.route.indexes.now c.args.route.max_depth (error_type c.args.kind)
+    c.args.self.now.stack.now c.args.nodes.now.items c.args.p _ c.requires.1.name
+    (sym c.requires.1.progress.read.first ∙ c.if-p-ne34.false) c.in_err-put_string.ensures.refused)
 
 pub next_token-requires : goal.next_token-requires
 next_token-requires g c =
     let p = c.args.p in
     let ps = c.args.route.indexes.now in
-    let e = c.requires.1.0.positions in
-    let r = c.requires.1.1.progress in
+    let e = c.requires.1.on_route.positions in
+    let r = c.requires.1.progress in
     let put = c.in_ok-put_string.ensures.put in
     let token = name-token g.b ps e c.args.route.max_depth (error_type c.args.kind)
-    c.args.self.now.stack.now c.args.nodes.now.items p c.requires.1.1.name in
-    let kept = reads-kept g.b c.put_string.new.self.text in
-    (c.requires.1.0, (r.read, string-ahead g.b ps e p c.args.nodes.now.items _ _ kept r.read token (sym r.read.first ∙ c.if-p-ne34.false) put))
+    c.args.self.now.stack.now c.args.nodes.now.items p c.requires.1.name in
+    let kept = reads-kept g.b c.put_string.new.text in
+    let ahead = string-ahead g.b ps e p c.args.nodes.now.items _ _ kept r.read token (sym r.read.first ∙ c.if-p-ne34.false) put in
+    record { on_route = c.requires.1.on_route; read = r.read; text = ahead }
 
 pub returns-in_err-colon-clause-refused : goal.returns-in_err-colon-clause-refused
 returns-in_err-colon-clause-refused g c =
     let p = c.args.p in
     let none = c.in_err-colon.ensures.none in
     let put = c.in_ok-put_string.ensures.put in
-    told-none g.b c.args.route.indexes.now c.args.route.max_depth p c.from_residual-in_err-colon.result _
+    refused-none g.b c.args.route.indexes.now c.args.route.max_depth p c.from_residual-in_err-colon.result _
     c.from_residual-in_err-colon.ensures.1 none.1
-    (tells-name_end g.b c.args.route.indexes.now c.args.route.max_depth (error_type c.args.kind)
-    c.args.self.now.stack.now c.args.nodes.now.items p put.string put.end c.requires.1.1.name
-    (sym c.requires.1.1.progress.read.first ∙ c.if-p-ne34.false) put.read none.0)
+    (refuses-name_end g.b c.args.route.indexes.now c.args.route.max_depth (error_type c.args.kind)
+    c.args.self.now.stack.now c.args.nodes.now.items p put.string put.end c.requires.1.name
+    (sym c.requires.1.progress.read.first ∙ c.if-p-ne34.false) put.read none.0)
 
 pub returns-then-colon-ne58-clause-refused : goal.returns-then-colon-ne58-clause-refused
 returns-then-colon-ne58-clause-refused g c =
@@ -54,31 +55,30 @@ returns-then-colon-ne58-clause-refused g c =
     let ps = c.args.route.indexes.now in
     let put = c.in_ok-put_string.ensures.put in
     let next = c.in_ok-colon.ensures.next in
-    told-next g.b ps c.requires.1.0.positions c.args.route.max_depth kinds.ExpectedObjectColon p c.in_ok-colon.colon
+    refused-next g.b ps c.requires.1.on_route.positions c.args.route.max_depth kinds.ExpectedObjectColon p c.in_ok-colon.colon
     c.fault-then-colon-ne58.result next.same c.fault-then-colon-ne58.ensures
-    (tells-no_colon g.b ps c.args.route.max_depth (error_type c.args.kind)
-    c.args.self.now.stack.now c.args.nodes.now.items p put.string put.end c.requires.1.1.name
-    (sym c.requires.1.1.progress.read.first ∙ c.if-p-ne34.false) put.read next.more
+    (refuses-no_colon g.b ps c.args.route.max_depth (error_type c.args.kind)
+    c.args.self.now.stack.now c.args.nodes.now.items p put.string put.end c.requires.1.name
+    (sym c.requires.1.progress.read.first ∙ c.if-p-ne34.false) put.read next.more
     (λ is. c.if-colon-ne58.true (sym (next-byte g.b ps p c.in_ok-colon.colon next) ∙ is)))
 
 pub next_token-requires-2 : goal.next_token-requires-2
 next_token-requires-2 g c =
     let p = c.args.p in
     let ps = c.args.route.indexes.now in
-    let e = c.requires.1.0.positions in
-    let r = c.requires.1.1.progress in
+    let e = c.requires.1.on_route.positions in
+    let r = c.requires.1.progress in
     let put = c.in_ok-put_string.ensures.put in
     let token = name-token g.b ps e c.args.route.max_depth (error_type c.args.kind)
-    c.args.self.now.stack.now c.args.nodes.now.items p c.requires.1.1.name in
-    let kept = reads-kept g.b c.put_string.new.self.text in
-    let next = c.in_ok-colon.ensures.next in (
-      c.requires.1.0,
-      (
-        next.read,
-        next-ahead g.b ps e _ kept p c.in_ok-colon.colon next
-            (string-ahead g.b ps e p c.args.nodes.now.items _ _ kept r.read token (sym r.read.first ∙ c.if-p-ne34.false) put next.more),
-      ),
-    )
+    c.args.self.now.stack.now c.args.nodes.now.items p c.requires.1.name in
+    let kept = reads-kept g.b c.put_string.new.text in
+    let next = c.in_ok-colon.ensures.next in
+    record {
+      on_route = c.requires.1.on_route;
+      read = next.read;
+      text = next-ahead g.b ps e _ kept p c.in_ok-colon.colon next
+          (string-ahead g.b ps e p c.args.nodes.now.items _ _ kept r.read token (sym r.read.first ∙ c.if-p-ne34.false) put next.more);
+    }
 
 pub returns-in_err-value-clause-refused : goal.returns-in_err-value-clause-refused
 returns-in_err-value-clause-refused g c =
@@ -87,67 +87,64 @@ returns-in_err-value-clause-refused g c =
     let put = c.in_ok-put_string.ensures.put in
     let next = c.in_ok-colon.ensures.next in
     let none = c.in_err-value.ensures.none in
-    told-next_none g.b ps c.requires.1.0.positions c.args.route.max_depth p c.in_ok-colon.colon _ _ next
+    refused-next_none g.b ps c.requires.1.on_route.positions c.args.route.max_depth p c.in_ok-colon.colon _ _ next
     c.from_residual-in_err-value.ensures.1 none.1
-    (tells-colon_end g.b ps c.args.route.max_depth (error_type c.args.kind)
-    c.args.self.now.stack.now c.args.nodes.now.items p put.string put.end c.requires.1.1.name
-    (sym c.requires.1.1.progress.read.first ∙ c.if-p-ne34.false) put.read next.more
+    (refuses-colon_end g.b ps c.args.route.max_depth (error_type c.args.kind)
+    c.args.self.now.stack.now c.args.nodes.now.items p put.string put.end c.requires.1.name
+    (sym c.requires.1.progress.read.first ∙ c.if-p-ne34.false) put.read next.more
     (next-byte g.b c.args.route.indexes.now c.args.p c.in_ok-colon.colon next ∙ c.if-colon-ne58.false)
     (omega (arith, next-read g.b ps p c.in_ok-colon.colon next, none.0)))
 
 pub returns-clause-advances : goal.returns-clause-advances
-returns-clause-advances g c = two-advances g.b c.args.route.indexes.now c.requires.1.0.positions c.args.p c.in_ok-colon.colon
-    c.in_ok-value.value c.requires.1.1.progress.read c.in_ok-colon.ensures.next c.in_ok-value.ensures.next
+returns-clause-advances g c = two-advances g.b c.args.route.indexes.now c.requires.1.on_route.positions c.args.p c.in_ok-colon.colon
+    c.in_ok-value.value c.requires.1.progress.read c.in_ok-colon.ensures.next c.in_ok-value.ensures.next
 
 pub returns-clause-value : goal.returns-clause-value
 returns-clause-value g c =
     let p = c.args.p in
     let ps = c.args.route.indexes.now in
-    let e = c.requires.1.0.positions in
-    let r = c.requires.1.1.progress in
+    let e = c.requires.1.on_route.positions in
+    let r = c.requires.1.progress in
     let put = c.in_ok-put_string.ensures.put in
     let token = name-token g.b ps e c.args.route.max_depth (error_type c.args.kind)
-    c.args.self.now.stack.now c.args.nodes.now.items p c.requires.1.1.name in
-    let kept = reads-kept g.b c.put_string.new.self.text in
+    c.args.self.now.stack.now c.args.nodes.now.items p c.requires.1.name in
+    let kept = reads-kept g.b c.put_string.new.text in
     let limit = c.args.route.max_depth in
     let q = c.in_ok-colon.colon in
     let s = c.in_ok-value.value in
     let next = c.in_ok-colon.ensures.next in
     let second = c.in_ok-value.ensures.next in
-    let same : c.put_string.new.self.stack.now ≡ c.args.self.now.stack.now = ap (λ k. k.now) c.in_ok-put_string.ensures.stack in
     let ahead = string-ahead g.b ps e p c.args.nodes.now.items _ _ kept r.read token (sym r.read.first ∙ c.if-p-ne34.false) put next.more in
     record {
+      on_route = c.requires.1.on_route;
       capacities = record {
-        node_capacity = omega (arith, c.in_ok-put_string.ensures.capacity, c.requires.1.1.capacities.node_capacity);
-        frame_capacity = subst (λ st. min (length ps) limit ≤ length st) (sym same) c.requires.1.1.capacities.frame_capacity;
+        node_capacity = omega (arith, c.in_ok-put_string.ensures.capacity, c.requires.1.capacities.node_capacity);
+        frame_capacity = c.requires.1.capacities.frame_capacity;
       };
       progress = named-progress g.b ps e _ _ kept _ _ p q s (one-more c.args.nodes.now.items _ _ put.put) r ahead next second;
-      depth = omega (arith, (two-advances g.b ps e p q s r.read next second).2, c.requires.1.1.depth);
+      depth = omega (arith, (two-advances g.b ps e p q s r.read next second).2, c.requires.1.depth);
       value =
-          subst (λ st. AtValue g.b ps limit st c.put_string.new.nodes.items s) (sym same)
-          (subst (AtValue g.b ps limit c.args.self.now.stack.now c.put_string.new.nodes.items)
+          subst (AtValue g.b ps limit c.args.self.now.stack.now c.put_string.new.nodes.items)
           (sym (two-is g.b ps e p q s next second))
           (step-name g.b ps limit (error_type c.args.kind) c.args.self.now.stack.now c.args.nodes.now.items
-          c.put_string.new.nodes.items _ p c.requires.1.1.name (sym r.read.first ∙ c.if-p-ne34.false) put
-          next.more (next-byte g.b ps p q next ∙ c.if-colon-ne58.false) (two-left g.b ps e p q s next second)));
+          c.put_string.new.nodes.items _ p c.requires.1.name (sym r.read.first ∙ c.if-p-ne34.false) put
+          next.more (next-byte g.b ps p q next ∙ c.if-colon-ne58.false) (two-left g.b ps e p q s next second));
     }
 
 pub put_string-requires : goal.put_string-requires
 put_string-requires g c =
     let p = c.args.p in
     let ps = c.args.route.indexes.now in
-    let r = c.requires.1.1.progress in
+    let r = c.requires.1.progress in
     λ κs lives. (
       lives,
-      (
-        c.requires.1.0,
-        record {
-          read = r.read;
-          token = name-token g.b ps c.requires.1.0.positions c.args.route.max_depth (error_type c.args.kind)
-              c.args.self.now.stack.now c.args.nodes.now.items p c.requires.1.1.name;
-          opening = c.if-p-ne34.false;
-          text = r.text;
-          room = node-left _ _ _ _ _ _ p r c.requires.1.1.depth c.requires.1.1.capacities.node_capacity;
-        },
-      ),
+      record {
+        on_route = c.requires.1.on_route;
+        read = r.read;
+        token = name-token g.b ps c.requires.1.on_route.positions c.args.route.max_depth (error_type c.args.kind)
+            c.args.self.now.stack.now c.args.nodes.now.items p c.requires.1.name;
+        opening = c.if-p-ne34.false;
+        text = r.text;
+        room = node-left _ _ _ _ _ _ p r c.requires.1.depth c.requires.1.capacities.node_capacity;
+      },
     )

@@ -4,7 +4,8 @@ use Rattle.simd_json_parts.specs.Bytes.{quote, byte_at}
 use Rattle.simd_json_parts.specs.StringAt.{closing_quote}
 use Rattle.simd_json_stages.specs.Texts.{IsLent, IsStringBefore}
 use Rattle.simd_json_stages.proofs.StringEnds.{string_at-end}
-use Rattle.simd_json_stages.proofs.TextLaws.{closes-here, closing-further, lent-drop, opening-here, plain-here, plain-string, plain-utf8, reads-after, reads-kept, shared-slice}
+use Rattle.simd_json_stages.proofs.TextLaws.{closes-here, closing-further, lent-drop, opening-here, plain-here, plain-string, plain-utf8}
+use Rattle.simd_json_stages.proofs.TextLaws.{reads-after, reads-kept, shared-slice}
 use Rattle.simd_json_stages.proofs.stage2.text.Text.share_string.Goals as goal
 
 pub from_utf8_unchecked-requires : goal.from_utf8_unchecked-requires

@@ -1,0 +1,22 @@
+use Rattle.std.proofs.Common.{◌≤◌, arith}
+use Rattle.std.proofs.lemmas.Nat.{le_or_l, le_or_r}
+use mir.Val.{bool_byte}
+use Rattle.simd_json_stages.proofs.ScanLaws.{bool-small, IsClassified-next}
+use Rattle.simd_json_stages.proofs.stage1.scan.Classifying.with_block.Goals as goal
+
+pub returns-clause-few : goal.returns-clause-few
+returns-clause-few c = omega (arith, bool-small c.args.found.has_backslash, c.list_block.ensures.count)
+
+pub returns-clause-ascii : goal.returns-clause-ascii
+returns-clause-ascii c = λ none. (
+  omega (arith, le_or_l c.args.self.high c.args.found.high),
+  omega (arith, le_or_r c.args.self.high c.args.found.high),
+)
+
+pub returns-clause-classified : goal.returns-clause-classified
+returns-clause-classified c =
+    let m = c.args.found in
+    let d = c.list_block in
+    let one : bool_byte m.has_backslash ≤ 1 = bool-small m.has_backslash in
+    λ b found before. IsClassified-next b c.args.number c.args.self c.args.listed.now m _ d.new.listed d.result before found
+    d.ensures.listed d.ensures.count (omega arith)

@@ -1,0 +1,11 @@
+use Rattle.std.proofs.Common.{arith}
+use Rattle.simd_json_stages.proofs.ScanLaws.{IsPlaced-next}
+use Rattle.simd_json_stages.proofs.stage1.scan.Placing.place_block.Goals as goal
+
+pub returns-clause-placed : goal.returns-clause-placed
+returns-clause-placed c =
+    let w = c.write in
+    λ b parts control before.
+    let found = c.find_starts-placed.ensures b _ parts control before.carried in
+    IsPlaced-next b c.args.number c.args.self c.args.out.now c.find_starts-placed.result w.new.out w.result before found
+    w.ensures.written w.ensures.count (omega arith)

@@ -1,5 +1,0 @@
-use Rattle.simd_json_stages.proofs.BlockWords.{marks-found}
-use Rattle.simd_json_stages.proofs.stage1.words.find_marks.Goals as goal
-
-pub returns : goal.returns
-returns c = λ b i parts control carried. marks-found b i c.args.parts c.args.control c.args.carry parts control carried

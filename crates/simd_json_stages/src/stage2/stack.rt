@@ -1,0 +1,101 @@
+//! The stack of the containers that are open.
+ghost use Rattle.std.specs.Prelude.{◌≡◌, ◌<◌, ◌≤◌, ◌+◌, ◌-◌, length, vec_capacity};
+ghost use Rattle.simd_json_stages.specs.Building.{closer, header_of, content_kind, patch, top};
+
+use super::fault::FaultKind;
+use super::progress::Progress;
+use simd_json_parts::node::Node;
+use std::alloc::Allocator;
+
+/// The two kinds of containers.
+#[derive(Clone, Copy, Debug, Drop)]
+pub enum Container {
+    Array,
+    Object,
+}
+
+impl Container {
+    // The byte that closes it.
+    #[inline(always)]
+    pub(super) fn closer(self) -> u8
+        ensures { result ≡ closer self }
+    {
+        match self {
+            Container::Array => b']',
+            Container::Object => b'}',
+        }
+    }
+
+    // The node that stands for it.
+    #[inline(always)]
+    pub(super) fn header<'de>(self, len: usize, count: usize) -> Node<'de>
+        ensures { result ≡ header_of self len count }
+    {
+        match self {
+            Container::Array => Node::Array { len, count },
+            Container::Object => Node::Object { len, count },
+        }
+    }
+
+    // The fault of a token that may not stand after one of its members.
+    pub(super) fn content_kind(self) -> FaultKind
+        ensures { result ≡ content_kind self }
+    {
+        match self {
+            Container::Array => FaultKind::ExpectedArrayContent,
+            Container::Object => FaultKind::ExpectedObjectContent,
+        }
+    }
+}
+
+/// What is kept of an open container, and of its parent while it is open.
+#[derive(Clone, Copy, Debug, Drop)]
+pub struct StackState {
+    /// Where its header stands among the nodes.
+    pub header: usize,
+    /// What its parent is.
+    pub outer: Container,
+    /// How many members its parent has so far.
+    pub len: usize,
+}
+
+impl StackState {
+    /// Of no container: what a stack is filled with.
+    pub const EMPTY: StackState = StackState {
+        header: 0,
+        outer: Container::Array,
+        len: 0,
+    };
+}
+
+// The innermost container is closed at the last token: its header is patched, and it is one more member of
+// its parent.
+#[inline(always)]
+pub(super) fn close<'de, A: Allocator>(
+    stack: &[StackState],
+    nodes: &mut Vec<Node<'de>, A>,
+    p: Progress,
+    container: Container,
+) -> Progress
+    requires depth { (0 < p.depth) × (p.depth ≤ length stack.now) }
+    requires header { (top stack.now p.depth).header < length nodes.old.items }
+    requires len { (top stack.now p.depth).len < length nodes.old.items }
+    requires container { container ≡ p.container }
+    ensures progress { result ≡ record p {
+      depth = p.depth - 1;
+      container = (top stack.now p.depth).outer;
+      len = (top stack.now p.depth).len + 1;
+    } }
+    ensures nodes { nodes.new.items ≡ patch nodes.old.items (top stack.now p.depth) p }
+    ensures capacity { vec_capacity nodes.new ≡ vec_capacity nodes.old }
+{
+    let frame = stack[p.depth - 1];
+    let beneath = nodes.len() - frame.header - 1;
+    nodes[frame.header] = container.header(p.len, beneath);
+    Progress {
+        depth: p.depth - 1,
+        container: frame.outer,
+        len: frame.len + 1,
+        ..p
+    }
+}
