@@ -5,9 +5,10 @@ use Rattle.std.specs.Int.Digits.{AllBelowBase, number_from_digits}
 use Rattle.std.specs.List.{prefix_len}
 use Rattle.std.specs.Str.Parse.{digits_value}
 use Rattle.std.proofs.Math.Arith.{digits_div, digits_mod, mod-mul}
-use Rattle.std.proofs.Math.Nat.{pow-suc, mod-eq_of_lt, mul-mod_left, mul-div_cancel, zero-mod, add-zero}
+use Rattle.std.proofs.Math.Nat.{pow-le-pow_right, pow-suc, mod-eq_of_lt, mul-mod_left, mul-div_cancel, zero-mod, add-zero}
 use Rattle.std.proofs.lemmas.Bool.{agree_below_at, and_parts, eqb-true, leb-true}
-use Rattle.std.proofs.lemmas.Int.Digits.{digits_value_is}
+use Rattle.std.proofs.lemmas.Int.Digits.{digits_value_is, number_lt}
+use Rattle.std.proofs.lemmas.List.Sums.{prefix_len-le-length}
 use Rattle.std.proofs.lemmas.List.{drop-take, length-map, length-replicate, length-take, length-take-le, take-map, take-take}
 use Rattle.std.proofs.lemmas.Nat.{and_block, and_mask, pow-add, xor_lt}
 use lib.Lanes.{number_l}
@@ -118,6 +119,17 @@ values (suc n) (c ∷ bs) h = by (values n bs) (is_ascii_digit c) refl h
     by rest true e h = let r = rest (omega arith) in (((digit c e).0, r.0), ap₂ (λ d ds. d ∷ ds) (digit c e).1 r.1)
     by rest false e h = absurd (omega arith)
 
+-- Digits, k at most, are worth less than ten to the k-th.
+pub worth-lt : (n k : ℕ) (bs : List ℕ) → n ≤ k → n ≤ prefix_len is_ascii_digit bs → digits_value 10 (take n bs) < 10 ^ k
+worth-lt n k bs few run =
+    let v = values n bs run in
+    let inside : n ≤ length bs = omega (arith, prefix_len-le-length is_ascii_digit bs) in
+    let size : length (map lane (take n bs)) ≡ n = length-map (take n bs) lane ∙ length-take-le n bs inside in
+    let same : number_from_digits 10 (map lane (take n bs)) ≡ digits_value 10 (take n bs) =
+    ap (number_from_digits 10) v.1 ∙ sym (digits_value_is 10 (take n bs)) in
+    let most : 10 ^ n ≤ 10 ^ k = pow-le-pow_right (lit< tt) few in
+    omega (arith, same, number_lt 10 (map lane (take n bs)) v.0, ap (λ m. 10 ^ m) size)
+
 padded : (k : ℕ) (ds : List ℕ) → AllBelowBase 10 ds
     → AllBelowBase 10 (replicate k 0 ++ ds) × (number_l 256 (replicate k 0 ++ ds) ≡ number_l 256 ds * 256 ^ k)
     × (number_from_digits 10 (replicate k 0 ++ ds) ≡ number_from_digits 10 ds)
@@ -176,3 +188,11 @@ two-words more ds inside =
     let high : take more whole ≡ take more ds = take-take more (more + 8) ds (omega arith) in
     ap₂ (λ h l. h + l) (ap₂ (λ v p. digits_value 10 v * p) (sym high) (sym power)) (ap (digits_value 10) (sym low))
     ∙ sym (digits_value-join more whole) ∙ ap (λ n. digits_value 10 (take n ds)) (omega arith)
+
+-- So are digits before the last sixteen, twice.
+pub three-words : (more : ℕ) (ds : List ℕ) → more + 16 ≤ length ds
+    → (digits_value 10 (take more ds) * 100000000 + digits_value 10 (take 8 (drop more ds))) * 100000000
+    + digits_value 10 (take 8 (drop (8 + more) ds)) ≡ digits_value 10 (take (16 + more) ds)
+three-words more ds inside =
+    ap (λ n. n * 100000000 + digits_value 10 (take 8 (drop (8 + more) ds))) (two-words more ds (omega arith))
+    ∙ two-words (8 + more) ds (omega arith) ∙ ap (λ n. digits_value 10 (take n ds)) (omega arith)

@@ -19,7 +19,7 @@ use simd_json_parts::charutils::{byte_or_space, is_structural_or_whitespace};
 use std::simd::prelude::*;
 
 // The number at the front of 32 bytes or more. Where these do not show the whole, it is read byte by byte.
-#[inline(always)]
+#[inline(never)]
 pub(super) fn parse_by_look(bytes: &[u8]) -> Numeral
     requires { 32 ≤ length bytes.now }
     ensures { (b : List ℕ) (i : ℕ) → drop i b ≡ bytes.now → IsNumeralAt b i result }

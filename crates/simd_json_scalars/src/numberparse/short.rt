@@ -1,4 +1,4 @@
-//! Reads integers of one to sixteen digits by words of eight bytes, with no loop.
+//! Reads integers of one to nineteen digits by words of eight bytes, with no loop.
 ghost use Rattle.std.specs.Prelude.{◌≡◌, ◌+◌, ◌^◌, ◌≤◌, ◌<◌, ℕ, List, length, take, drop, IfSome};
 ghost use Rattle.std.specs.Char.{is_ascii_digit};
 ghost use Rattle.std.specs.List.{prefix_len};
@@ -51,17 +51,48 @@ pub(super) fn parse_longer(bytes: &[u8]) -> Numeral
 {
     let start = (bytes[0] == b'-') as usize;
     let first = digit_word(bytes, start);
+    if digits_len(first) < 8 || first % 256 == 0 {
+        return parse_by_look(bytes);
+    }
     let more = digits_len(digit_word(bytes, start + 8));
     let end = start + 8 + more;
-    if digits_len(first) < 8
-        || more == 0
+    if more == 0 || !is_structural_or_whitespace(bytes[end]) {
+        return if bytes[end].is_ascii_digit() {
+            parse_longest(bytes)
+        } else {
+            parse_by_look(bytes)
+        };
+    }
+    let low = value_of_digits(digit_word(bytes, end - 8), 8);
+    Numeral::Integer(value_of_digits(first, more) * 100_000_000 + low)
+}
+
+// The number at the front, where a look at sixteen bytes does not show the whole. Three words show an integer
+// of 17 digits or more whose literal has 19 bytes at most, so that 64 bits hold it: the last two are read again
+// from where its last sixteen digits begin. It is a function apart, since its registers would slow parse_longer.
+#[inline(never)]
+fn parse_longest(bytes: &[u8]) -> Numeral
+    requires { 32 ≤ length bytes.now }
+    ensures { (b : List ℕ) (i : ℕ) → drop i b ≡ bytes.now → IsNumeralAt b i result }
+{
+    let start = (bytes[0] == b'-') as usize;
+    let first = digit_word(bytes, start);
+    let second = digit_word(bytes, start + 8);
+    let more = digits_len(digit_word(bytes, start + 16));
+    let end = start + 16 + more;
+    if more == 0
+        || end > 19
         || first % 256 == 0
+        || digits_len(first) < 8
+        || digits_len(second) < 8
         || !is_structural_or_whitespace(bytes[end])
     {
         return parse_by_look(bytes);
     }
+    let high = value_of_digits(first, more);
+    let middle = value_of_digits(digit_word(bytes, end - 16), 8);
     let low = value_of_digits(digit_word(bytes, end - 8), 8);
-    Numeral::Integer(value_of_digits(first, more) * 100_000_000 + low)
+    Numeral::Integer((high * 100_000_000 + middle) * 100_000_000 + low)
 }
 
 // The eight bytes from an index on, the first lowest. A digit becomes its value, another byte 10 or more.
