@@ -59,7 +59,7 @@ differ true false = refl
 differ false true = refl
 differ false false = refl
 
-open-next : (b : List ℕ) (i : ℕ) → open_at b (suc i) ≡ xor (open_at b i) (is_real_quote b i)
+pub open-next : (b : List ℕ) (i : ℕ) → open_at b (suc i) ≡ xor (open_at b i) (is_real_quote b i)
 unfolding is_inside
 open-next b i = inside-next b i ∙ differ (open_at b i) (is_real_quote b i)
 

@@ -62,6 +62,14 @@ parts-found b at s o control escaped parity c h =
 
 -- ---- its positions, from what stands before it
 
+-- the last byte is what the next block has to know of plain ones
+pub plain-out : (b : List ℕ) (at : ℕ) (p : Parts) → AreParts b at p → p.plain / 2 ^ 63 ≡ bool_byte (is_plain_before b (at + 64))
+unfolding is_plain_before
+plain-out b at p parts =
+    let e : suc (at + 63) ≡ at + 64 = omega arith in
+    let now : is_plain b (at + 63) ≡ is_plain_before b (suc (at + 63)) = refl in
+    bits-last parts.plain ∙ ap bool_byte (now ∙ ap (is_plain_before b) e)
+
 module _ (b : List ℕ) (at : ℕ) (p : Parts) (control : ℕ) (c : Carry) (parts : AreParts b at p) (hcontrol : IsControl b at control)
     (carried : IsCarried b at c) where
   abbrev within : ℕ
@@ -96,20 +104,13 @@ module _ (b : List ℕ) (at : ℕ) (p : Parts) (control : ℕ) (c : Carry) (part
   inside-out = let e : suc (at + 63) ≡ at + 64 = omega arith in bits-last_spread hwithin
       ∙ ap all_bits (inside-open b (at + 63) ∙ ap (open_at b) e)
 
-  plain-out : p.plain / 2 ^ 63 ≡ bool_byte (is_plain_before b (at + 64))
-  unfolding is_plain_before
-  plain-out =
-      let e : suc (at + 63) ≡ at + 64 = omega arith in
-      let now : is_plain b (at + 63) ≡ is_plain_before b (suc (at + 63)) = refl in
-      bits-last parts.plain ∙ ap bool_byte (now ∙ ap (is_plain_before b) e)
-
   pub starts-found : AreStarts b at (record {
     starts = flip (bit_or (bit_or (bit_and p.plain follows) p.space)
         (bit_xor within p.quote));
     bad = bit_and control within;
     carry = record { inside = (0 + (2 ^ 64 - within / 2 ^ 63)) % 2 ^ 64; plain = p.plain / 2 ^ 63 };
   })
-  starts-found = record { starts = starts-bits; bad = bad-bits; carry = record { inside = inside-out; plain = plain-out } }
+  starts-found = record { starts = starts-bits; bad = bad-bits; carry = record { inside = inside-out; plain = plain-out b at p parts } }
 
 -- ---- the bytes of a block, as those of the input
 

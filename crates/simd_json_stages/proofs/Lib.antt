@@ -24,4 +24,5 @@ mod BlockLaws
 mod BlockWords
 mod ScanLaws
 mod GroupLaws
+mod InsideLaws
 mod RestLaws

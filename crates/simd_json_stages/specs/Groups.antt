@@ -1,6 +1,7 @@
 -- The words of the first n blocks of a group, which begins with the block `first`. It serves proofs: only the crate's private
 -- clauses cite it.
-use Rattle.std.specs.Prelude.{ℕ, ◌+◌, ◌*◌, ◌<◌, List, slice_index}
+use Rattle.std.specs.Prelude.{◌≡◌, ℕ, ◌+◌, ◌*◌, ◌<◌, ◌≤◌, List, false, slice_index}
+use Rattle.simd_json_parts.specs.Positions.{is_real_quote}
 use Rattle.simd_json_stages.specs.Blocks.{HasClasses, IsControl, AreParts}
 
 -- the classes of each
@@ -21,3 +22,7 @@ HaveParts b first n parity plain space quote =
       space = slice_index space k;
       quote = slice_index quote k;
     })
+
+-- no real quote from one index to another
+abbrev pub HasNoQuotes : List ℕ → ℕ → ℕ → Type 0
+HasNoQuotes b from end = (i : ℕ) → from ≤ i → i < end → is_real_quote b i ≡ false

@@ -64,6 +64,7 @@ fn known_positions(rt: HostRuntime) -> Tested {
         (b"", b' ', 63, b"\"a\"", &[63]),
         (b"\"", b'a', 62, b"\\\"\"", &[0]),
         (b"\"", b'a', 62, b"\\\\\"", &[0]),
+        (b"[\"", b'{', 1600, b"\",12]", &[0, 1, 1603, 1604, 1606]),
     ] {
         let text = text(rt.alloc(), before, byte, len, after)?;
         let (positions, _) = found(rt.alloc(), &text)?;

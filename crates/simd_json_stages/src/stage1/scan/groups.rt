@@ -1,15 +1,20 @@
 // Eight blocks at a time: first what each tells by itself, then the arithmetic on their words, which is the
 // same for each and needs no other, so that LLVM does several at once, and at last their positions in order.
-ghost use Rattle.std.specs.Prelude.{◌≡◌, ◌+◌, ◌-◌, ◌*◌, ◌%◌, ◌^◌, ◌≤◌, ℕ, List, length};
+// A group that is all inside a string is passed over: it has none.
+ghost use Rattle.std.specs.Prelude.{◌≡◌, ◌≢◌, ◌+◌, ◌-◌, ◌*◌, ◌%◌, ◌^◌, ◌≤◌, ℕ, List, length};
 ghost use Rattle.simd_json_stages.specs.Blocks.{AreBlocks, IsAscii, IsClassified, IsPlaced, IsScanned};
-ghost use Rattle.simd_json_stages.specs.Groups.{HaveClasses, HaveControl, HaveParts};
+ghost use Rattle.simd_json_stages.specs.Groups.{HaveClasses, HaveControl, HaveParts, HasNoQuotes};
 
 use super::windows::Window;
 use super::{Classifying, Placing, Scanned};
-use crate::stage1::words::{Parts, classify, find_parts};
+use crate::stage1::words::{Carry, Parts, classify, find_parts};
 
 // How many blocks a group has.
 pub(super) const GROUP: usize = 8;
+
+// The last of them. It is placed even where all others are passed over, so that the loop that places runs at
+// least once, and LLVM keeps what it carries in the same registers.
+const LAST: usize = GROUP - 1;
 
 // A word for each block of a group.
 type Words = [u64; GROUP];
@@ -111,6 +116,62 @@ fn part_group(classes: &GroupClasses, parts: &mut GroupParts)
     }
 }
 
+// Not 0 where a block has a quote that is not escaped.
+fn quotes_in(group: &GroupParts) -> u64
+    ensures { (b : List ℕ) (first : ℕ)
+        → HaveParts b first 8 group.now.parity group.now.plain group.now.space group.now.quote
+        → result ≡ 0 → HasNoQuotes b (64 * first) (64 * (first + 8)) }
+{
+    let mut quotes = 0;
+    let mut k = 0;
+    while k < GROUP {
+        quotes |= group.quote[k];
+        k += 1;
+    }
+    quotes
+}
+
+// Past all blocks but the last of a group that is all inside a string: they have no positions, and each of
+// their control bytes is bad.
+fn pass_blocks(group: &GroupParts, control: &Words, before: Placing) -> Placing
+    requires inside { before.carry.inside ≢ 0 }
+    ensures used { result.used ≡ before.used }
+    ensures placed { (b : List ℕ) (first : ℕ) (out : List ℕ) → HaveControl b first 8 control.now
+        → HaveParts b first 8 group.now.parity group.now.plain group.now.space group.now.quote
+        → HasNoQuotes b (64 * first) (64 * (first + 8))
+        → IsPlaced b first before out → IsPlaced b (first + 7) result out }
+{
+    let mut bad = before.bad;
+    let mut k = 0;
+    while k < LAST {
+        bad |= control[k];
+        k += 1;
+    }
+    Placing {
+        carry: Carry {
+            inside: before.carry.inside,
+            plain: group.plain[LAST - 1] >> 63,
+        },
+        bad,
+        used: before.used,
+    }
+}
+
+// How many blocks of a group are passed over, and what is known after them.
+fn pass_group(group: &GroupParts, control: &Words, before: Placing) -> (usize, Placing)
+    ensures few { result.0 ≤ 8 }
+    ensures used { result.1.used ≡ before.used }
+    ensures placed { (b : List ℕ) (first : ℕ) (out : List ℕ) → HaveControl b first 8 control.now
+        → HaveParts b first 8 group.now.parity group.now.plain group.now.space group.now.quote
+        → IsPlaced b first before out → IsPlaced b (first + result.0) result.1 out }
+{
+    // In this order: nearly each group has a quote, but about half begin inside a string.
+    if quotes_in(group) == 0 && before.carry.inside != 0 {
+        return (LAST, pass_blocks(group, control, before));
+    }
+    (0, before)
+}
+
 // Their positions, from left to right.
 fn place_group(
     first: usize,
@@ -126,8 +187,7 @@ fn place_group(
         → HaveParts b first 8 group.now.parity group.now.plain group.now.space group.now.quote
         → IsPlaced b first before out.old → IsPlaced b (first + 8) result out.new }
 {
-    let mut now = before;
-    let mut k = 0;
+    let (mut k, mut now) = pass_group(group, control, before);
     while k < GROUP {
         let parts = Parts {
             parity: group.parity[k],

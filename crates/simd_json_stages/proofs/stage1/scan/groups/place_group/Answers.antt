@@ -3,14 +3,12 @@ use Rattle.simd_json_stages.proofs.ScanLaws.{IsPlaced-same}
 use Rattle.simd_json_stages.proofs.stage1.scan.groups.place_group.Goals as goal
 
 pub loop-k-init : goal.loop-k-init
-loop-k-init c =
-    let first : c.args.first ≡ c.args.first + 0 = omega arith in
-    record {
-      to = omega arith;
-      capacity = omega arith;
-      few = omega arith;
-      placed = λ b control parts before. IsPlaced-same first before;
-    }
+loop-k-init c = record {
+  to = omega arith;
+  capacity = omega arith;
+  few = omega arith;
+  placed = λ b control parts. c.pass_group-k.ensures.placed b c.args.first c.args.out.now control parts;
+}
 
 pub place_block-now-requires-clause-capacity : goal.place_block-now-requires-clause-capacity
 place_block-now-requires-clause-capacity c = omega (arith, c.loop-k.invariant.capacity)

@@ -1,0 +1,12 @@
+use Rattle.std.proofs.Common.{◌≡◌, ◌+◌, arith}
+use Rattle.simd_json_stages.proofs.ScanLaws.{IsPlaced-same}
+use Rattle.simd_json_stages.proofs.stage1.scan.groups.pass_group.Goals as goal
+
+pub returns-then-before-ne0-clause-placed : goal.returns-then-before-ne0-clause-placed
+returns-then-before-ne0-clause-placed c = λ b first out control parts.
+    c.pass_blocks.ensures.placed b first out control parts (c.quotes_in.ensures b first parts c.if-quotes_in-eq0.true)
+
+pub returns-clause-placed : goal.returns-clause-placed
+returns-clause-placed c = λ b first out control parts.
+    let e : first ≡ first + 0 = omega arith in
+    IsPlaced-same e
