@@ -41,9 +41,26 @@ pub(super) fn check_rest(input: &[u8], checked: usize) -> Result<usize>
     }
 }
 
-// The bytes of a window, and those before it that are not tested yet. Answers how far the input is known to
-// be UTF-8 then, which is where a character begins, and the end only at the input's end.
+// What is not tested yet of the bytes before an index, which a character may go on past.
 #[inline(never)]
+fn check_up_to(input: &[u8], checked: usize, end: usize) -> Result<usize>
+    requires checked { (checked ≤ length input.now) × IsUtf8 (take checked input.now) }
+    requires within { end ≤ length input.now }
+    ensures utf8 { IfOk result (λ to. (to ≤ length input.now) × IsUtf8 (take to input.now)) }
+    ensures whole { IfOk result (λ to. end ≡ length input.now → to ≡ length input.now) }
+    ensures fault { IfErr result (IsBadEncoding input.now) }
+{
+    let to = character_start(input, end);
+    if checked <= to && simdutf8::is_utf8(&input[checked..to]) {
+        return Ok(to);
+    }
+    check_rest(input, checked)
+}
+
+// The bytes of a window, and those before it that are not tested yet. Returns how far the input is known to
+// be UTF-8 then, which is where a character begins, and the end only at the input's end. Most windows need no
+// test, so this much of it is compiled into each caller.
+#[inline(always)]
 pub(super) fn check_window(
     input: &[u8],
     checked: usize,
@@ -64,9 +81,5 @@ pub(super) fn check_window(
     if is_ascii && checked == start {
         return Ok(end);
     }
-    let to = character_start(input, end);
-    if checked <= to && simdutf8::is_utf8(&input[checked..to]) {
-        return Ok(to);
-    }
-    check_rest(input, checked)
+    check_up_to(input, checked, end)
 }

@@ -1,6 +1,6 @@
-use Rattle.std.proofs.Common.{◌≡◌, refl, sym, subst, arith}
+use Rattle.std.proofs.Common.{◌≡◌, sym, subst, arith}
 use Rattle.simd_json_stages.specs.Blocks.{IsAscii}
-use Rattle.simd_json_stages.proofs.EncodingLaws.{utf8-ascii, utf8-further, utf8-all}
+use Rattle.simd_json_stages.proofs.EncodingLaws.{utf8-ascii}
 use Rattle.simd_json_stages.proofs.stage1.encoding.check_window.Goals as goal
 
 pub returns-then-checked-start-clause-utf8 : goal.returns-then-checked-start-clause-utf8
@@ -10,13 +10,3 @@ returns-then-checked-start-clause-utf8 c =
       utf8-ascii c.args.input.now c.args.checked c.args.end (omega arith) c.requires.window.1 c.requires.checked.1
           (subst (λ i. IsAscii c.args.input.now i c.args.end) at (c.requires.ascii c.if-is_ascii.true)),
     )
-
-pub returns-then-is_utf8-clause-utf8 : goal.returns-then-is_utf8-clause-utf8
-returns-then-is_utf8-clause-utf8 c = (
-  omega arith,
-  utf8-further c.args.input.now c.args.checked c.character_start-to.result (omega arith) c.requires.checked.1
-      (c.if-is_utf8.ensures.0 refl),
-)
-
-pub returns-clause-utf8 : goal.returns-clause-utf8
-returns-clause-utf8 c = utf8-all c.args.input.now c.check_rest.result c.check_rest.ensures.utf8
