@@ -1,7 +1,7 @@
 // Eight blocks at a time: first what each tells by itself, then the arithmetic on their words, which is the
 // same for each and needs no other, so that LLVM does several at once, and at last their positions in order.
-// A group that is all inside a string is passed over: it has none.
-ghost use Rattle.std.specs.Prelude.{◌≡◌, ◌≢◌, ◌+◌, ◌-◌, ◌*◌, ◌%◌, ◌^◌, ◌≤◌, ℕ, List, length};
+// A group, or its first half, that is all inside a string has none, and is passed over.
+ghost use Rattle.std.specs.Prelude.{◌≡◌, ◌≢◌, ◌+◌, ◌-◌, ◌*◌, ◌%◌, ◌^◌, ◌<◌, ◌≤◌, ℕ, List, length};
 ghost use Rattle.simd_json_stages.specs.Blocks.{AreBlocks, IsAscii, IsClassified, IsPlaced, IsScanned};
 ghost use Rattle.simd_json_stages.specs.Groups.{HaveClasses, HaveControl, HaveParts, HasNoQuotes};
 
@@ -12,8 +12,11 @@ use crate::stage1::words::{Carry, Parts, classify, find_parts};
 // How many blocks a group has.
 pub(super) const GROUP: usize = 8;
 
-// The last of them. It is placed even where all others are passed over, so that the loop that places runs at
-// least once, and LLVM keeps what it carries in the same registers.
+// How many its first half has.
+const HALF: usize = GROUP / 2;
+
+// Its last block, which is placed even where all others are passed over: the loop that places runs at least
+// once, so LLVM keeps what it carries in the same registers.
 const LAST: usize = GROUP - 1;
 
 // A word for each block of a group.
@@ -116,41 +119,43 @@ fn part_group(classes: &GroupClasses, parts: &mut GroupParts)
     }
 }
 
-// Not 0 where a block has a quote that is not escaped.
-fn quotes_in(group: &GroupParts) -> u64
+// Not 0 where one of the first blocks has a quote that is not escaped.
+fn quotes_before(group: &GroupParts, end: usize) -> u64
+    requires within { end ≤ 8 }
     ensures { (b : List ℕ) (first : ℕ)
         → HaveParts b first 8 group.now.parity group.now.plain group.now.space group.now.quote
-        → result ≡ 0 → HasNoQuotes b (64 * first) (64 * (first + 8)) }
+        → result ≡ 0 → HasNoQuotes b (64 * first) (64 * (first + end)) }
 {
     let mut quotes = 0;
     let mut k = 0;
-    while k < GROUP {
+    while k < end {
         quotes |= group.quote[k];
         k += 1;
     }
     quotes
 }
 
-// Past all blocks but the last of a group that is all inside a string: they have no positions, and each of
-// their control bytes is bad.
-fn pass_blocks(group: &GroupParts, control: &Words, before: Placing) -> Placing
+// Past the first blocks, which are all inside a string: they have no positions, and each of their control
+// bytes is bad.
+fn pass_blocks(group: &GroupParts, control: &Words, end: usize, before: Placing) -> Placing
+    requires within { (0 < end) × (end ≤ 8) }
     requires inside { before.carry.inside ≢ 0 }
     ensures used { result.used ≡ before.used }
     ensures placed { (b : List ℕ) (first : ℕ) (out : List ℕ) → HaveControl b first 8 control.now
         → HaveParts b first 8 group.now.parity group.now.plain group.now.space group.now.quote
-        → HasNoQuotes b (64 * first) (64 * (first + 8))
-        → IsPlaced b first before out → IsPlaced b (first + 7) result out }
+        → HasNoQuotes b (64 * first) (64 * (first + end))
+        → IsPlaced b first before out → IsPlaced b (first + end) result out }
 {
     let mut bad = before.bad;
     let mut k = 0;
-    while k < LAST {
+    while k < end {
         bad |= control[k];
         k += 1;
     }
     Placing {
         carry: Carry {
             inside: before.carry.inside,
-            plain: group.plain[LAST - 1] >> 63,
+            plain: group.plain[end - 1] >> 63,
         },
         bad,
         used: before.used,
@@ -165,9 +170,12 @@ fn pass_group(group: &GroupParts, control: &Words, before: Placing) -> (usize, P
         → HaveParts b first 8 group.now.parity group.now.plain group.now.space group.now.quote
         → IsPlaced b first before out → IsPlaced b (first + result.0) result.1 out }
 {
-    // In this order: nearly each group has a quote, but about half begin inside a string.
-    if quotes_in(group) == 0 && before.carry.inside != 0 {
-        return (LAST, pass_blocks(group, control, before));
+    // Quotes first: nearly each half has one, while every other group begins inside a string.
+    if quotes_before(group, HALF) == 0 && before.carry.inside != 0 {
+        if quotes_before(group, LAST) == 0 {
+            return (LAST, pass_blocks(group, control, LAST, before));
+        }
+        return (HALF, pass_blocks(group, control, HALF, before));
     }
     (0, before)
 }

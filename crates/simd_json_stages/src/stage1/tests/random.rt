@@ -96,3 +96,11 @@ fn both_forms_agree_on_long_texts(rt: HostRuntime) -> Tested {
     let bytes = b"aaaaaaaaaaaa        ,,,,::{}[]1234\t\r\\\"\"";
     agree(&rt, 0x7e57_7e57_7e57_7e57, 200, 50_000, bytes)
 }
+
+// Strings of some hundred bytes, so that blocks are passed over.
+#[test]
+fn both_forms_agree_on_long_strings(rt: HostRuntime) -> Tested {
+    let mut bytes = [b'a'; 600];
+    bytes[..6].copy_from_slice(b"\"\\,{ 1");
+    agree(&rt, 0x1357_9bdf_0246_8ace, 100, 20_000, &bytes)
+}

@@ -1,4 +1,4 @@
-use Rattle.std.proofs.Common.{◌≡◌, ◌+◌, ◌*◌, ◌∙◌, ap, arith}
+use Rattle.std.proofs.Common.{◌≡◌, ◌+◌, ◌-◌, ◌*◌, ◌∙◌, ap, arith}
 use Rattle.std.specs.Int.{from_bool}
 use Rattle.simd_json_stages.specs.Blocks.{is_plain_before}
 use Rattle.simd_json_stages.proofs.BlockWords.{plain-out}
@@ -29,7 +29,8 @@ pub returns-clause-placed : goal.returns-clause-placed
 returns-clause-placed c =
     let l = c.loop-k in
     λ b first out control parts none before.
-    let e : first + l.k ≡ first + 7 = omega arith in
-    let end : 64 * (first + 6) + 64 ≡ 64 * (first + 7) = omega arith in
-    let plain = plain-out b (64 * (first + 6)) _ (parts 6 (omega arith)) ∙ ap (λ n. from_bool (is_plain_before b n)) end in
+    let e : first + l.k ≡ first + c.args.end = omega arith in
+    let end : 64 * (first + (c.args.end - 1)) + 64 ≡ 64 * (first + c.args.end) = omega arith in
+    let plain = plain-out b (64 * (first + (c.args.end - 1))) _ (parts (c.args.end - 1) (omega arith))
+    ∙ ap (λ n. from_bool (is_plain_before b n)) end in
     rw plain (passed-same c.args.before e (l.invariant.placed b first out control none before))

@@ -1,7 +1,7 @@
 use Rattle.std.proofs.Common.{◌≡◌, ◌+◌, ◌*◌, subst, arith}
 use Rattle.simd_json_stages.specs.Groups.{HasNoQuotes}
 use Rattle.simd_json_stages.proofs.InsideLaws.{HasNoQuotes-block, HasNoQuotes-next, or-none}
-use Rattle.simd_json_stages.proofs.stage1.scan.groups.quotes_in.Goals as goal
+use Rattle.simd_json_stages.proofs.stage1.scan.groups.quotes_before.Goals as goal
 
 pub loop-k-init : goal.loop-k-init
 loop-k-init c = record {
@@ -26,5 +26,5 @@ pub returns : goal.returns
 returns c =
     let l = c.loop-k in
     λ b first parts none.
-    let e : 64 * (first + l.k) ≡ 64 * (first + 8) = omega arith in
+    let e : 64 * (first + l.k) ≡ 64 * (first + c.args.end) = omega arith in
     subst (λ n. HasNoQuotes b (64 * first) n) e (l.invariant.none b first parts none)
