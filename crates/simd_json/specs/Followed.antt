@@ -3,7 +3,7 @@ use Rattle.std.specs.Prelude.{◌≡◌, ◌≢◌, ◌<◌, ◌≤◌, ℕ, ◌
 use Rattle.simd_json_parts.specs.Bytes.{slash}
 use Rattle.simd_json_parts.specs.Document.{Document}
 use Rattle.simd_json.specs.Pointed.{tokens, tilde, unescaped, named}
-use Rattle.simd_json.specs.declared.value.pointer.Written.{Written}
+use Rattle.simd_json.specs.declared.value.pointer.token.Written.{Written}
 use Rattle.simd_json.specs.declared.value.pointer.PointerExpected.{PointerExpected}
 use Rattle.simd_json.specs.declared.value.pointer.PointerExpected.TheVariants as lacking
 

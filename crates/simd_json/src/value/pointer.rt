@@ -1,18 +1,23 @@
 //! JSON Pointer (RFC 6901): the value at a place within another.
-ghost use Rattle.std.specs.Prelude.{◌≡◌, ◌≤◌, ◌<◌, ◌+◌, ◌*◌, ◌∷◌, ◌↔◌, IsTrue, Some, None, Err, true, drop, length, slice_index, option_map, option_and_then, IfSome, MatchOption};
+ghost use Rattle.std.specs.Prelude.{◌≡◌, ◌≤◌, ◌<◌, ◌↔◌, IsTrue, None, Err, drop, length, slice_index, option_map, option_and_then, IfSome};
 ghost use Rattle.std.specs.Result.{result_ok};
-ghost use Rattle.simd_json.specs.Followed.{AreAlike, IsPlain, IsWritten, first_of, first_step, fits_64};
-ghost use Rattle.simd_json.specs.Pointed.{tokens, unescaped, is_array_index, array_index, element_at, member_at, named, pointed, pointed_from};
+ghost use Rattle.simd_json.specs.Followed.{IsPlain, first_of, first_step, fits_64};
+ghost use Rattle.simd_json.specs.Pointed.{tokens, unescaped, array_index, element_at, member_at, named, pointed, pointed_from};
 ghost use Rattle.simd_json.specs.Viewed.{doc, docs, pairs};
 ghost use Rattle.simd_json_parts.specs.Bytes.{slash};
-ghost use Rattle.std.specs.Char.{is_ascii_digit, digit_value};
-ghost use Rattle.std.specs.List.{list_all};
 
+mod alike;
 mod display;
+mod escaped;
+mod index;
+mod token;
 
+use crate::value::pointer::alike::are_alike;
+use crate::value::pointer::escaped::escaped_member;
+use crate::value::pointer::index::{is_index, read_index};
+use crate::value::pointer::token::{Token, decoded_len};
 use crate::value::tape::{Array, Object, Value};
 use simd_json_parts::node::ValueType;
-use std::simd::prelude::*;
 
 /// What a JSON Pointer lacks where it leads nowhere.
 #[derive(Clone, Copy, Debug, Drop, PartialEq, Eq)]
@@ -164,25 +169,6 @@ fn member<'tape, 'input>(
     Some((value, token.bytes.len()))
 }
 
-// The value of the first pair whose key the token names, which may have escapes.
-#[cold]
-fn escaped_member<'tape, 'input>(
-    object: Object<'tape, 'input>,
-    token: &[u8],
-) -> Option<Value<'tape, 'input>>
-    ensures { option_map doc result ≡ result_ok (member_at (pairs object.entry) (unescaped token.now)) }
-{
-    let Some(len) = decoded_len(token) else {
-        return None;
-    };
-    for (key, value) in object.iter() {
-        if is_name(token, len, key.as_bytes()) {
-            return Some(value);
-        }
-    }
-    None
-}
-
 // The value at the index that the first token is.
 #[inline(always)]
 fn element<'tape, 'input>(
@@ -231,59 +217,6 @@ fn is_first_token(left: &[u8], key: &[u8]) -> bool
     is_front_token(left, key.len()) && are_alike(left, key)
 }
 
-// Whether the bytes begin with the key, in which there is no `/` and no `~`.
-#[inline(always)]
-fn are_alike(bytes: &[u8], key: &[u8]) -> bool
-    requires { length key.now ≤ length bytes.now }
-    ensures { IsTrue result ↔ AreAlike bytes.now key.now 0 (length key.now) }
-{
-    let len = key.len();
-    if len >= 16 {
-        are_alike_by::<16>(bytes, key)
-    } else if len >= 8 {
-        are_alike_by::<8>(bytes, key)
-    } else if len >= 4 {
-        are_alike_by::<4>(bytes, key)
-    } else if len >= 2 {
-        are_alike_by::<2>(bytes, key)
-    } else if len == 1 {
-        are_alike_by::<1>(bytes, key)
-    } else {
-        true
-    }
-}
-
-// The same, N bytes at a time, and then the last N, which overlap those before.
-#[inline(always)]
-fn are_alike_by<const N: usize>(bytes: &[u8], key: &[u8]) -> bool
-    requires vector { (0 < N) × (N ≤ 16) }
-    requires within { (N ≤ length key.now) × (length key.now ≤ length bytes.now) }
-    ensures { IsTrue result ↔ AreAlike bytes.now key.now 0 (length key.now) }
-{
-    let mut done = 0;
-    while key.len() - done > N {
-        if !are_lanes_alike::<N>(bytes, key, done) {
-            return false;
-        }
-        done += N;
-    }
-    are_lanes_alike::<N>(bytes, key, key.len() - N)
-}
-
-// The same of N bytes from an index on.
-#[inline(always)]
-fn are_lanes_alike<const N: usize>(bytes: &[u8], key: &[u8], from: usize) -> bool
-    requires vector { N ≤ 16 }
-    requires within { (from + N ≤ length key.now) × (from + N ≤ length bytes.now) }
-    ensures { IsTrue result ↔ AreAlike bytes.now key.now from (from + N) }
-{
-    let lanes = Simd::<u8, N>::from_slice(&key[from..]);
-    let others = lanes.simd_ne(Simd::<u8, N>::from_slice(&bytes[from..]))
-        | lanes.simd_eq(Simd::<u8, N>::splat(b'/'))
-        | lanes.simd_eq(Simd::<u8, N>::splat(b'~'));
-    others.to_bitmask() == 0
-}
-
 // What the pointer, of which this is left, lacks at the value, from which it does not go on.
 #[cold]
 fn lack(value: Value<'_, '_>, left: &[u8]) -> PointerExpected
@@ -315,158 +248,4 @@ fn lack_within(value: Value<'_, '_>, token: &[u8]) -> PointerExpected
         return PointerExpected::Escape;
     }
     PointerExpected::Container
-}
-
-// A reference token of a pointer.
-#[derive(Clone, Copy)]
-struct Token<'pointer> {
-    bytes: &'pointer [u8],
-    // It has no `~`.
-    is_plain: bool,
-    ghost plain: { IsTrue is_plain → IsPlain bytes.now },
-}
-
-impl<'pointer> Token<'pointer> {
-    ghost use Rattle.std.specs.Prelude.{◌≡◌, ◌≤◌, ◌<◌, ◌∷◌, drop, length, slice_index};
-    ghost use Rattle.simd_json_parts.specs.Bytes.{slash};
-    ghost use Rattle.simd_json.specs.Followed.{tokens_after};
-    ghost use Rattle.simd_json.specs.Pointed.{tokens};
-
-    // The token that follows a `/`, after which this is left of the pointer.
-    fn first(left: &'pointer [u8]) -> Token<'pointer>
-        ensures within { length result.bytes.now ≤ length left.now }
-        ensures token { tokens left.now
-            ≡ result.bytes.now ∷ tokens_after (drop (length result.bytes.now) left.now) }
-        ensures ended { length result.bytes.now < length left.now
-            → slice_index left.now (length result.bytes.now) ≡ slash }
-    {
-        let mut is_plain = true;
-        for (len, byte) in left.iter().enumerate() {
-            if *byte == b'/' {
-                return Token {
-                    bytes: &left[..len],
-                    is_plain,
-                };
-            }
-            if *byte == b'~' {
-                is_plain = false;
-            }
-        }
-        Token {
-            bytes: left,
-            is_plain,
-        }
-    }
-}
-
-// Whether the token, which has so many bytes when decoded, is the key.
-fn is_name(token: &[u8], len: usize, key: &[u8]) -> bool
-    requires { Some len ≡ option_map (λ k. length k) (unescaped token.now) }
-    ensures { IsTrue result ↔ (unescaped token.now ≡ Some key.now) }
-{
-    key.len() == len && is_unescaped(token, key)
-}
-
-// Whether the token, decoded, is the key.
-fn is_unescaped(token: &[u8], key: &[u8]) -> bool
-    ensures { IsTrue result ↔ (unescaped token.now ≡ Some key.now) }
-{
-    let mut at = 0;
-    let mut matched = 0;
-    while at < token.len() {
-        let Some(written) = unescaped_at(token, at) else {
-            return false;
-        };
-        if matched >= key.len() || key[matched] != written.byte {
-            return false;
-        }
-        at = written.end;
-        matched += 1;
-    }
-    matched == key.len()
-}
-
-// How many bytes the token has, decoded, or `None` where a `~` of it begins no escape.
-fn decoded_len(token: &[u8]) -> Option<usize>
-    ensures { result ≡ option_map (λ key. length key) (unescaped token.now) }
-{
-    let mut at = 0;
-    let mut len = 0;
-    while at < token.len() {
-        let Some(written) = unescaped_at(token, at) else {
-            return None;
-        };
-        at = written.end;
-        len += 1;
-    }
-    Some(len)
-}
-
-// A byte as a token writes it, itself or escaped, and the index after it.
-#[derive(Clone, Copy)]
-struct Written {
-    byte: u8,
-    end: usize,
-}
-
-// What is written at an index of the token, or `None` where a `~` stands there that begins no escape.
-fn unescaped_at(token: &[u8], at: usize) -> Option<Written>
-    requires { at < length token.now }
-    ensures { MatchOption result (unescaped (drop at token.now) ≡ None) (λ w. IsWritten token.now at w) }
-{
-    if token[at] != b'~' {
-        return Some(Written {
-            byte: token[at],
-            end: at + 1,
-        });
-    }
-    if at + 1 == token.len() {
-        return None;
-    }
-    let end = at + 2;
-    match token[at + 1] {
-        b'0' => Some(Written { byte: b'~', end }),
-        b'1' => Some(Written { byte: b'/', end }),
-        _ => None,
-    }
-}
-
-// The array index that the token is, where 64 bits hold it.
-fn read_index(token: &[u8]) -> Option<usize>
-    ensures { result ≡ option_and_then fits_64 (array_index token.now) }
-{
-    if !is_index(token) {
-        return None;
-    }
-    let mut index = 0usize;
-    for byte in token {
-        let Some(longer) = with_digit(index, *byte) else {
-            return None;
-        };
-        index = longer;
-    }
-    Some(index)
-}
-
-// The number with one more digit, where 64 bits hold it.
-fn with_digit(number: usize, digit: u8) -> Option<usize>
-    requires { is_ascii_digit digit ≡ true }
-    ensures { result ≡ fits_64 (number * 10 + digit_value digit) }
-{
-    number
-        .checked_mul(10)?
-        .checked_add(usize::from(digit - b'0'))
-}
-
-// Whether the token is an array index.
-fn is_index(token: &[u8]) -> bool
-    ensures { result ≡ is_array_index token.now }
-{
-    are_digits(token) && (token.len() == 1 || (token.len() > 1 && token[0] != b'0'))
-}
-
-fn are_digits(token: &[u8]) -> bool
-    ensures { result ≡ list_all is_ascii_digit token.now }
-{
-    token.iter().all(|byte| byte.is_ascii_digit())
 }

@@ -1,7 +1,7 @@
 use Rattle.std.proofs.Common.{arith}
 use Rattle.std.proofs.lemmas.Bool.{eqb-true, eq-eqb}
 use Rattle.simd_json.proofs.Alike.{lanes-alike}
-use Rattle.simd_json.proofs.value.pointer.are_lanes_alike.Goals as goal
+use Rattle.simd_json.proofs.value.pointer.alike.are_lanes_alike.Goals as goal
 
 pub returns : goal.returns
 returns g c =

@@ -2,7 +2,7 @@ use Rattle.std.proofs.Common.{◌≡◌, ◌∙◌, ap, sym, drop, length, optio
 use Rattle.std.proofs.lemmas.List.{drop_all}
 use Rattle.simd_json.specs.Pointed.{unescaped}
 use Rattle.simd_json.proofs.Pointed.{len-first, len-more, len-none}
-use Rattle.simd_json.proofs.value.pointer.decoded_len.Goals as goal
+use Rattle.simd_json.proofs.value.pointer.token.decoded_len.Goals as goal
 
 pub loop-at-init : goal.loop-at-init
 loop-at-init c = (len-first (unescaped c.args.token.now), omega arith, omega arith)

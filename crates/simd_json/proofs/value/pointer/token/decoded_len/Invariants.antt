@@ -1,6 +1,6 @@
 use Rattle.std.proofs.Common.{◌≡◌, ◌≤◌, ◌-◌, ◌+◌, length, drop, option_map}
 use Rattle.simd_json.specs.Pointed.{unescaped}
-use Rattle.simd_json.proofs.value.pointer.decoded_len.Given as goal
+use Rattle.simd_json.proofs.value.pointer.token.decoded_len.Given as goal
 
 abbrev pub invariant-loop-at : goal.invariant-loop-at
 invariant-loop-at l =

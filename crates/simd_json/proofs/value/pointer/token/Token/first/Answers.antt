@@ -1,6 +1,6 @@
 use Rattle.std.proofs.Common.{arith}
 use Rattle.simd_json.proofs.Pointed.{tokens-front, tokens-whole, plain-front, plain-whole}
-use Rattle.simd_json.proofs.value.pointer.Token.first.Goals as goal
+use Rattle.simd_json.proofs.value.pointer.token.Token.first.Goals as goal
 
 pub invariant_of-result : goal.invariant_of-result
 invariant_of-result c = record { plain = λ plain. plain-front c.args.left.now c.loop-len.len (omega arith) (c.loop-len.invariant.1 plain) }

@@ -1,10 +1,9 @@
 use Rattle.std.proofs.Common.{◌∙◌, ap, sym, refl, Some, true≢false}
-use Rattle.std.specs.Result.{result_ok}
-use Rattle.simd_json.specs.Pointed.{member_at, unescaped}
+use Rattle.simd_json.specs.Pointed.{unescaped}
 use Rattle.simd_json.specs.Viewed.{doc, pairs}
 use Rattle.simd_json.proofs.Split.{members_cancel}
-use Rattle.simd_json.proofs.Pointed.{found, malformed, member-here, member-later, member-none}
-use Rattle.simd_json.proofs.value.pointer.escaped_member.Goals as goal
+use Rattle.simd_json.proofs.Pointed.{found, member-here, member-later, member-none}
+use Rattle.simd_json.proofs.value.pointer.escaped.named_member.Goals as goal
 
 pub loop-key-init : goal.loop-key-init
 loop-key-init c =
@@ -14,16 +13,13 @@ loop-key-init c =
 pub returns-then-is_name : goal.returns-then-is_name
 returns-then-is_name c =
     let name = c.if-is_name.ensures.0 refl ∙ ap Some c.as_bytes.ensures.value in
-    sym (member-here (unescaped c.args.token.now) c.in-Some-2.key.now (doc c.in-Some-2.value) _ (pairs c.next.new.self.left) c.in-Some-2.ensures.steps name) ∙ c.loop-key.invariant
+    sym (member-here (unescaped c.args.token.now) c.in-Some.key.now (doc c.in-Some.value) _ (pairs c.next.new.self.left) c.in-Some.ensures.steps name) ∙ c.loop-key.invariant
 
 pub loop-key-preserved : goal.loop-key-preserved
 loop-key-preserved c =
-    sym (member-later (unescaped c.args.token.now) c.in-Some-2.key.now (doc c.in-Some-2.value) _ (pairs c.next.new.self.left) c.in-Some-2.ensures.steps
+    sym (member-later (unescaped c.args.token.now) c.in-Some.key.now (doc c.in-Some.value) _ (pairs c.next.new.self.left) c.in-Some.ensures.steps
     (λ is. true≢false (sym (c.if-is_name.ensures.1 (is ∙ ap Some (sym c.as_bytes.ensures.value))))))
     ∙ c.loop-key.invariant
 
 pub returns : goal.returns
 returns c = sym (member-none (unescaped c.args.token.now) _ c.in-None.ensures.steps.0) ∙ c.loop-key.invariant
-
-pub returns-in_default : goal.returns-in_default
-returns-in_default c = ap (λ u. result_ok (member_at (pairs c.args.object) u)) (sym (malformed (unescaped c.args.token.now) c.in_default.ensures))

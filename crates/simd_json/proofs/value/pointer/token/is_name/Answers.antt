@@ -1,7 +1,7 @@
 use Rattle.std.proofs.Common.{eqb-true, eq-eqb}
 use Rattle.simd_json.specs.Pointed.{unescaped}
 use Rattle.simd_json.proofs.Pointed.{len-of}
-use Rattle.simd_json.proofs.value.pointer.is_name.Goals as goal
+use Rattle.simd_json.proofs.value.pointer.token.is_name.Goals as goal
 
 pub returns-else-key-len : goal.returns-else-key-len
 returns-else-key-len c = (

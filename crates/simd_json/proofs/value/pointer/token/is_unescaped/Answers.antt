@@ -2,8 +2,8 @@ use Rattle.std.proofs.Common.{◌∙◌, ap, sym, drop, arith, eqb-true, eq-eqb}
 use Rattle.std.proofs.lemmas.List.{drop_all}
 use Rattle.simd_json.specs.Pointed.{unescaped}
 use Rattle.simd_json.proofs.Pointed.{key-ends, key-differs, key-goes-on, key-is-whole}
-use Rattle.simd_json.proofs.value.pointer.is_unescaped.Goals as goal
-use Rattle.simd_json.proofs.value.pointer.is_unescaped.Goals.{then-matched-key-via-then-matched-key, then-matched-key-via-else-matched-key+then-key-matched}
+use Rattle.simd_json.proofs.value.pointer.token.is_unescaped.Goals as goal
+use Rattle.simd_json.proofs.value.pointer.token.is_unescaped.Goals.{then-matched-key-via-then-matched-key, then-matched-key-via-else-matched-key+then-key-matched}
 
 pub returns-then-matched-key : goal.returns-then-matched-key
 returns-then-matched-key c =

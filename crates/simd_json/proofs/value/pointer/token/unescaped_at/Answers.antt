@@ -1,6 +1,6 @@
 use Rattle.std.proofs.Common.{arith}
 use Rattle.simd_json.proofs.Pointed.{plain-at, tilde-at, slash-at}
-use Rattle.simd_json.proofs.value.pointer.unescaped_at.Goals as goal
+use Rattle.simd_json.proofs.value.pointer.token.unescaped_at.Goals as goal
 
 pub returns-then-token-at-ne126 : goal.returns-then-token-at-ne126
 returns-then-token-at-ne126 c = plain-at c.args.token.now c.args.at c.requires c.if-token-at-ne126.true
