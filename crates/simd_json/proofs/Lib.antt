@@ -13,6 +13,7 @@ mod MapCompared
 mod Printable
 mod Encoded
 mod Pointed
+mod Splitting
 mod StringScan
 mod ByteBefore
 mod WalkedTokens

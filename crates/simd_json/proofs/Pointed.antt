@@ -263,10 +263,10 @@ token-at p i q t is inside begins split ended = record {
 pub token-within : (p : List ℕ) (i : ℕ) (q t : List ℕ) → q ≡ drop (i + 1) p → i < length p → length t ≤ length q → i + (1 + length t) ≤ length p
 token-within p i q t is inside within = omega (arith, length-drop (i + 1) p, ap length is)
 
-at-slash : (p : List ℕ) (i : ℕ) (t : List ℕ) → IsTokenAt p i t → drop i p ≡ 47 ∷ drop (i + 1) p
+pub at-slash : (p : List ℕ) (i : ℕ) (t : List ℕ) → IsTokenAt p i t → drop i p ≡ 47 ∷ drop (i + 1) p
 at-slash p i t at = drop_more p i 0 at.slashed.0 ∙ ap (λ c. c ∷ drop (i + 1) p) at.slashed.1
 
-rest-begins : (p : List ℕ) (i : ℕ) (t : List ℕ) → IsTokenAt p i t → (rest : List ℕ) → drop (i + (1 + length t)) p ≡ rest → 0 < length rest → get_or rest 0 0 ≡ 47
+pub rest-begins : (p : List ℕ) (i : ℕ) (t : List ℕ) → IsTokenAt p i t → (rest : List ℕ) → drop (i + (1 + length t)) p ≡ rest → 0 < length rest → get_or rest 0 0 ≡ 47
 rest-begins p i t at rest there some =
     let n = i + (1 + length t) in
     let inside : n < length p = omega (arith, length-drop n p, ap length there) in
@@ -302,7 +302,7 @@ with_first-some : (c : ℕ) (ts : List (List ℕ)) → 0 < length (with_first c 
 with_first-some c [] = omega arith
 with_first-some c (t ∷ ts) = omega arith
 
-tokens-some : (p : List ℕ) → 0 < length (tokens p)
+pub tokens-some : (p : List ℕ) → 0 < length (tokens p)
 tokens-some [] = omega arith
 tokens-some (c ∷ p) = elim (c == 47) as (λ b. 0 < length (cond b ([] ∷ tokens p) (with_first c (tokens p)))) [ true ↦ omega arith | false ↦ with_first-some c (tokens p) ]
 
@@ -353,7 +353,7 @@ member-none (Some key) ms empty = ap (λ o. result_ok (ok_or o lacking.Key)) (fi
 
 -- ---- elements
 
-ok-or : {A E : Type 0} (o : Option A) (e : E) → result_ok (ok_or o e) ≡ o
+pub ok-or : {A E : Type 0} (o : Option A) (e : E) → result_ok (ok_or o e) ≡ o
 ok-or None e = refl
 ok-or (Some x) e = refl
 

@@ -1,5 +1,5 @@
 -- Which value a JSON Pointer names in a document (RFC 6901).
-use Rattle.std.specs.Prelude.{ℕ, ◌+◌, List, [], ◌∷◌, length, map, slice_get, Bool, false, ◌&&◌, ◌||◌, not, ◌==◌, if◌then◌else◌, Option, Some, None, option_map, Result, Ok, Err, ok_or}
+use Rattle.std.specs.Prelude.{ℕ, ◌+◌, List, [], ◌∷◌, length, map, slice_get, Bool, true, false, ◌&&◌, ◌||◌, not, ◌==◌, if◌then◌else◌, Option, Some, None, option_map, is_some, Result, Ok, Err, ok_or}
 use Rattle.std.specs.Char.{digit_value, is_ascii_digit}
 use Rattle.std.specs.Int.Digits.{number_from_digits}
 use Rattle.std.specs.List.{list_all}
@@ -32,6 +32,15 @@ unescaped (c ∷ e ∷ t) =
     if c == tilde
     then (if e == 48 then option_map (λ k. tilde ∷ k) (unescaped t) else (if e == 49 then option_map (λ k. slash ∷ k) (unescaped t) else None))
     else option_map (λ k. c ∷ k) (unescaped (e ∷ t))
+
+-- well formed: empty, or a `/` before each reference token, and each `~` of them begins an escape
+abbrev pub is_pointer : List ℕ → Bool
+is_pointer [] = true
+is_pointer (c ∷ p) = (c == slash) && list_all (λ t. is_some (unescaped t)) (tokens p)
+
+abbrev pub token_count : List ℕ → ℕ
+token_count [] = 0
+token_count (c ∷ p) = length (tokens p)
 
 -- ---- the evaluation (section 4)
 

@@ -26,7 +26,7 @@ pub use parse::{fill_tape, fill_tape_padded, refill_tape, reserve, to_tape, to_t
 pub use simd_json_parts::error::{Error, ErrorType, Result};
 pub use simd_json_parts::node::{Node, StaticNode, TryTypeError, ValueType};
 pub use simd_json_print::document::{append_quoted, write_quoted};
-pub use value::pointer::{PointerError, PointerExpected};
+pub use value::pointer::{Pointer, PointerError, PointerExpected};
 pub use value::tape;
 pub use value::tape::Tape;
 

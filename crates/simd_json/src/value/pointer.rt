@@ -10,6 +10,7 @@ mod alike;
 mod display;
 mod escaped;
 mod index;
+mod split;
 mod token;
 
 use crate::value::pointer::alike::are_alike;
@@ -18,6 +19,7 @@ use crate::value::pointer::index::{is_index, read_index};
 use crate::value::pointer::token::{Token, decoded_len};
 use crate::value::tape::{Array, Object, Value};
 use simd_json_parts::node::ValueType;
+pub use split::Pointer;
 
 /// What a JSON Pointer lacks where it leads nowhere.
 #[derive(Clone, Copy, Debug, Drop, PartialEq, Eq)]

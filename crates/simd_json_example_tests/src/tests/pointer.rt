@@ -1,7 +1,7 @@
 // JSON Pointers (RFC 6901).
 use crate::tests::Tested;
 use simd_json::tape::Value;
-use simd_json::{PointerError, PointerExpected, ValueType, to_tape};
+use simd_json::{Pointer, PointerError, PointerExpected, ValueType, to_tape};
 
 // The document of RFC 6901, section 5, on one line.
 const EXAMPLE: [u8; 90] =
@@ -19,6 +19,9 @@ fn the_examples_of_the_standard_are_evaluated(rt: HostRuntime) -> Tested {
     assert_eq!(rt; foo.encode(rt.alloc())?.as_str(), "[\"bar\",\"baz\"]");
     let bar = value.pointer("/foo/0").expect(&rt, "it is there");
     assert!(rt; bar.eq_str("bar"));
+    assert!(rt; split_at(value, "") == Some(value));
+    assert!(rt; split_at(value, "/foo") == Some(foo));
+    assert!(rt; split_at(value, "/foo/0") == Some(bar));
     let rows = [
         ("/", 0),
         ("/a~1b", 1),
@@ -32,12 +35,26 @@ fn the_examples_of_the_standard_are_evaluated(rt: HostRuntime) -> Tested {
     ];
     for (pointer, number) in &rows {
         assert_eq!(rt; number_at(value, pointer), Some(*number));
+        assert_eq!(rt; split_number_at(value, pointer), Some(*number));
     }
     Ok(())
 }
 
 fn number_at(value: Value<'_, '_>, pointer: &str) -> Option<u64> {
     value.pointer(pointer)?.as_u64()
+}
+
+// The same by a pointer that is split.
+fn split_number_at(value: Value<'_, '_>, pointer: &str) -> Option<u64> {
+    split_at(value, pointer)?.as_u64()
+}
+
+fn split_at<'tape, 'input>(
+    value: Value<'tape, 'input>,
+    pointer: &str,
+) -> Option<Value<'tape, 'input>> {
+    let split = Pointer::<4>::new(pointer)?;
+    value.at(&split)
 }
 
 #[test]
@@ -74,6 +91,21 @@ fn pointers_lead_to_the_first_of_equal_keys(rt: HostRuntime) -> Tested {
     ];
     for (pointer, number) in &rows {
         assert_eq!(rt; number_at(value, pointer), *number);
+        assert_eq!(rt; split_number_at(value, pointer), *number);
+    }
+    Ok(())
+}
+
+#[test]
+fn pointers_are_split_within_their_limit(rt: HostRuntime) -> Tested {
+    let whole = Pointer::<0>::new("").expect(&rt, "it has no token");
+    assert_eq!(rt; whole.as_str(), "");
+    assert!(rt; Pointer::<0>::new("/").is_none());
+    let keys = Pointer::<3>::new("/a/~01/").expect(&rt, "it has three tokens");
+    assert_eq!(rt; keys.as_str(), "/a/~01/");
+    assert!(rt; Pointer::<2>::new("/a/~01/").is_none());
+    for malformed in &["a", "a/0", " /a", "/~", "/~2", "/a/~/b", "/a~0~"] {
+        assert!(rt; Pointer::<4>::new(malformed).is_none());
     }
     Ok(())
 }
@@ -130,6 +162,33 @@ fn errors_are_printed_in_words(rt: HostRuntime) -> Tested {
         refused.to_string(rt.alloc())?.as_str(),
         "expected an unsigned integer that fits, found an object"
     );
+    Ok(())
+}
+
+// The example of `Pointer`, as it stands there.
+mod servers {
+    use simd_json::Pointer;
+    use simd_json::tape::Value;
+
+    // How many of the servers listen on a port.
+    pub(super) fn listening(servers: &[Value<'_, '_>]) -> usize {
+        let Some(port) = Pointer::<2>::new("/listen/port") else {
+            return 0;
+        };
+        servers
+            .iter()
+            .filter(|server| server.at(&port).is_some())
+            .count()
+    }
+}
+
+#[test]
+fn servers_that_listen_are_counted(rt: HostRuntime) -> Tested {
+    let mut input = *b"{\"listen\":{\"port\":80}}";
+    let tape = to_tape(rt.alloc(), &mut input)?;
+    assert!(rt; !tape.is_empty());
+    let server = tape.as_value();
+    assert_eq!(rt; servers::listening(&[server, Value::null(), server]), 2);
     Ok(())
 }
 

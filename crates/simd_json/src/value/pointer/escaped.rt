@@ -22,6 +22,7 @@ pub(super) fn escaped_member<'tape, 'input>(
 }
 
 // The same of a token that has so many bytes when decoded.
+#[inline(always)]
 pub(super) fn named_member<'tape, 'input>(
     object: Object<'tape, 'input>,
     token: &[u8],
