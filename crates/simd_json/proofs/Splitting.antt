@@ -47,14 +47,16 @@ pub pointed-led : (p : List ℕ) (d : Document) → is_pointer p ≡ true → re
 pointed-led [] d formed = refl
 pointed-led (c ∷ p) d formed = led-by (c == 47) _ p d formed
 
-pub led-first : (f : Part → List ℕ) (ss : List Part) (s : Part) (others : List Part) (d : Document) (o : Option Document) → ss ≡ s ∷ others
+pub led-first : (f : Part → List ℕ) (ss : List Part) (s : Part) (others : List Part) (d : Document) (o : Option Document)
+    → ss ≡ s ∷ others
     → o ≡ result_ok (named (f s) d) → led (map f ss) d ≡ option_and_then (led (map f others)) o
 led-first f ss s others d o first is = ap (λ l. led (map f l) d) first ∙ ap (option_and_then (led (map f others))) (sym is)
 
 pub kept-first : (p : List ℕ) (ss : List Part) (s : Part) (others : List Part) → ss ≡ s ∷ others → All (IsToken p) ss → IsToken p s
 kept-first p ss s others first all = subst (All (IsToken p)) first all 0 s (omega arith)
 
-pub kept-others : (p : List ℕ) (ss : List Part) (s : Part) (others : List Part) → ss ≡ s ∷ others → All (IsToken p) ss → All (IsToken p) others
+pub kept-others : (p : List ℕ) (ss : List Part) (s : Part) (others : List Part) → ss ≡ s ∷ others → All (IsToken p) ss
+    → All (IsToken p) others
 kept-others p ss s others first all k d inside = subst (All (IsToken p)) first all (suc k) d (omega arith)
 
 -- ---- a token of a pointer
@@ -66,12 +68,14 @@ pub token-ends : (p : List ℕ) (i : ℕ) (t : List ℕ) → IsTokenAt p i t →
 token-ends p i t at = omega (arith, at.slashed.0, (first-at p i t at).within, length-drop (i + 1) p)
 
 part-is : (p : List ℕ) (i : ℕ) (t : List ℕ) (s : Part) → IsTokenAt p i t → s.start ≡ i + 1 → s.len ≡ length t → part_of p s ≡ t
-part-is p i t s at start long = ap (λ n. take n (drop s.start p)) long ∙ ap (λ n. take (length t) (drop n p)) start ∙ (first-at p i t at).front
+part-is p i t s at start long = ap (λ n. take n (drop s.start p)) long ∙ ap (λ n. take (length t) (drop n p)) start
+    ∙ (first-at p i t at).front
 
 boundary : (p : List ℕ) (i : ℕ) (t : List ℕ) → IsTokenAt p i t → IsCharBoundary p (i + (1 + length t))
 boundary p i t at = (token-ends p i t at, λ less high. absurd (omega (arith, at.ended less, high)))
 
-pub token-is : (p : List ℕ) (i : ℕ) (t : List ℕ) (s : Part) → IsUtf8 p → IsTokenAt p i t → s.start ≡ i + 1 → s.len ≡ length t → IsKept t s → IsToken p s
+pub token-is : (p : List ℕ) (i : ℕ) (t : List ℕ) (s : Part) → IsUtf8 p → IsTokenAt p i t → s.start ≡ i + 1 → s.len ≡ length t
+    → IsKept t s → IsToken p s
 token-is p i t s utf8 at start long kept =
     let ends : i + (1 + length t) ≡ s.start + s.len = omega (arith, start, long) in (
       subst (IsCharBoundary p) (sym start) (IsCharBoundary-after_ascii p i utf8 at.slashed.0 (omega (arith, at.slashed.1))),
@@ -87,17 +91,21 @@ left-after p i t = drop-drop (length t) (i + 1) p ∙ ap (λ n. drop n p) (omega
 tokens-at : (p : List ℕ) (i : ℕ) (t : List ℕ) → IsTokenAt p i t → tokens_after (drop i p) ≡ t ∷ tokens_after (drop (i + (1 + length t)) p)
 tokens-at p i t at = ap tokens_after (at-slash p i t at) ∙ at.split ∙ ap (λ q. t ∷ tokens_after q) (left-after p i t)
 
-pub tokens-more : (p : List ℕ) (i : ℕ) (t : List ℕ) (ss : List Part) (n : ℕ) (s : Part) → IsTokenAt p i t → n < length ss → s.start ≡ i + 1 → s.len ≡ length t
+pub tokens-more : (p : List ℕ) (i : ℕ) (t : List ℕ) (ss : List Part) (n : ℕ) (s : Part) → IsTokenAt p i t → n < length ss
+    → s.start ≡ i + 1 → s.len ≡ length t
     → tokens_after p ≡ map (part_of p) (take n ss) ++ tokens_after (drop i p)
     → tokens_after p ≡ map (part_of p) (take (n + 1) (set ss n s)) ++ tokens_after (drop (i + (1 + length t)) p)
 tokens-more p i t ss n s at room start long so_far =
     let f = part_of p in
     let left = tokens_after (drop (i + (1 + length t)) p) in
     let more : map f (take (n + 1) (set ss n s)) ≡ map f (take n ss) ++ t ∷ [] =
-    ap (map f) (take_more_set ss n s room) ∙ map-append f (take n ss) (s ∷ []) ∙ ap (λ x. map f (take n ss) ++ x ∷ []) (part-is p i t s at start long) in
-    so_far ∙ ap (λ ts. map f (take n ss) ++ ts) (tokens-at p i t at) ∙ sym (append_assoc (map f (take n ss)) (t ∷ []) left) ∙ ap (λ ts. ts ++ left) (sym more)
+    ap (map f) (take_more_set ss n s room) ∙ map-append f (take n ss) (s ∷ [])
+    ∙ ap (λ x. map f (take n ss) ++ x ∷ []) (part-is p i t s at start long) in
+    so_far ∙ ap (λ ts. map f (take n ss) ++ ts) (tokens-at p i t at) ∙ sym (append_assoc (map f (take n ss)) (t ∷ []) left)
+    ∙ ap (λ ts. ts ++ left) (sym more)
 
-pub tokens-kept : (p : List ℕ) (ss : List Part) (n : ℕ) (s : Part) → n < length ss → All (IsToken p) (take n ss) → IsToken p s → All (IsToken p) (take (n + 1) (set ss n s))
+pub tokens-kept : (p : List ℕ) (ss : List Part) (n : ℕ) (s : Part) → n < length ss → All (IsToken p) (take n ss) → IsToken p s
+    → All (IsToken p) (take (n + 1) (set ss n s))
 tokens-kept p ss n s room so_far is = subst (All (IsToken p)) (sym (take_more_set ss n s room)) (All-push (IsToken p) (take n ss) s so_far is)
 
 -- ---- whether the pointer is well formed
@@ -109,14 +117,16 @@ formed-rest : (p : List ℕ) → (0 < length p → get_or p 0 0 ≡ 47) → list
 formed-rest [] begins = refl
 formed-rest (c ∷ p) begins = let is : c ≡ 47 = begins (omega arith) in rw is refl
 
-formed-at : (p : List ℕ) (i : ℕ) (t : List ℕ) → IsTokenAt p i t → is_pointer (drop i p) ≡ formed-token t && is_pointer (drop (i + (1 + length t)) p)
+formed-at : (p : List ℕ) (i : ℕ) (t : List ℕ) → IsTokenAt p i t
+    → is_pointer (drop i p) ≡ formed-token t && is_pointer (drop (i + (1 + length t)) p)
 formed-at p i t at =
     let left = drop (i + (1 + length t)) p in
     ap is_pointer (at-slash p i t at) ∙ ap (list_all formed-token) at.split
     ∙ ap (λ q. formed-token t && list_all formed-token (tokens_after q)) (left-after p i t)
     ∙ ap (λ b. formed-token t && b) (formed-rest left (λ some. rest-begins p i t at left refl some))
 
-pub formed-further : (p : List ℕ) (i : ℕ) (t : List ℕ) → IsTokenAt p i t → is_some (unescaped t) ≡ true → is_pointer (drop i p) ≡ is_pointer (drop (i + (1 + length t)) p)
+pub formed-further : (p : List ℕ) (i : ℕ) (t : List ℕ) → IsTokenAt p i t → is_some (unescaped t) ≡ true
+    → is_pointer (drop i p) ≡ is_pointer (drop (i + (1 + length t)) p)
 formed-further p i t at formed = formed-at p i t at ∙ ap (λ b. b && is_pointer (drop (i + (1 + length t)) p)) formed
 
 pub malformed-token : (p : List ℕ) (i : ℕ) (t : List ℕ) → IsTokenAt p i t → unescaped t ≡ None → is_pointer (drop i p) ≡ false
@@ -131,7 +141,8 @@ count-tokens : (p : List ℕ) → token_count p ≡ length (tokens_after p)
 count-tokens [] = refl
 count-tokens (c ∷ p) = refl
 
-pub count-so-far : (p : List ℕ) (i : ℕ) (ss : List Part) (n : ℕ) → n ≤ length ss → tokens_after p ≡ map (part_of p) (take n ss) ++ tokens_after (drop i p)
+pub count-so-far : (p : List ℕ) (i : ℕ) (ss : List Part) (n : ℕ) → n ≤ length ss
+    → tokens_after p ≡ map (part_of p) (take n ss) ++ tokens_after (drop i p)
     → token_count p ≡ n + length (tokens_after (drop i p))
 count-so-far p i ss n room so_far =
     let f = part_of p in

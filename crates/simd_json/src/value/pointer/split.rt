@@ -144,7 +144,8 @@ impl<'pointer, const N: usize> Pointer<'pointer, N> {
     /// and does not begin with a `/`, or a `~` of it is followed by neither `0` nor `1`. A malformed pointer
     /// leads nowhere in any document.
     pub fn new(pointer: &'pointer str) -> Option<Pointer<'pointer, N>>
-        ensures formed { IsSome result ↔ ((is_pointer pointer.now ≡ true) × (token_count pointer.now ≤ N)) }
+        ensures formed { IsSome result
+            ↔ ((is_pointer pointer.now ≡ true) × (token_count pointer.now ≤ N)) }
         ensures text { IfSome result (λ split. text split ≡ pointer.now) }
     {
         let bytes = pointer.as_bytes();
