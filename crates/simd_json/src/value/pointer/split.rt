@@ -103,11 +103,11 @@ impl Part {
     }
 }
 
-/// A JSON Pointer (RFC 6901), split into at most `N` reference tokens. It takes no memory.
+/// A JSON Pointer (RFC 6901), split into at most `N` reference tokens. Nothing is allocated.
 ///
-/// Who looks up the same place in many documents splits the pointer once. [`Value::at`] then costs about as
-/// much as a call of [`Object::get`](crate::tape::Object::get) or [`Array::get`](crate::tape::Array::get) for
-/// each token.
+/// To look up the same place in many documents, split the pointer once: [`Value::at`] then costs about as much as
+/// a call of [`Object::get`](crate::tape::Object::get) or [`Array::get`](crate::tape::Array::get) for each token
+/// without escapes.
 ///
 /// ```
 /// use simd_json::Pointer;
