@@ -42,7 +42,7 @@ library: has-rt
 # Every proof from nothing, the must-fail edits, the tests and the programs. Its last line is 'N passed, M failed'. After it the
 # programs that it built are run on inputs of which the lines and the status are known, the counts of lines in DESIGN.md are
 # compared with the files, and the library is called from C and Python; all are silent where all is well.
-# As many checks run at a time as there are processors, and 3 GB of memory for each, which is what the largest takes. Left to
+# As many checks run at a time as there are processors, and 3 GB of memory for each, more than the largest takes. Left to
 # itself `rt ci` reserves 7.5 GB for a check of `simd_json`, and lets it wait behind small ones.
 test: has-rt
 	RT_JOBS=$$(awk -v n="$$(nproc)" '/^MemAvailable/ { m = int($$2 / 3000000); print (m > n ? n : m > 1 ? m : 1) }' /proc/meminfo) \

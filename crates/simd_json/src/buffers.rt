@@ -139,7 +139,7 @@ impl<A: Allocator> Buffers<A> {
     }
 
     // Lists the structural positions of the input and its blocks that hold a backslash, and reserves capacity
-    // for the containers that can open at the positions within the limit. Answers the fault of the whole
+    // for the containers that can open at the positions within the limit. Returns the fault of the whole
     // input, or `OutOfMemory` where a growth was refused, and lists nothing then.
     pub(crate) fn find_positions(&mut self, input: &[u8]) -> Result<()>
         ensures found { OnOk result ((self.new.positions ≡ positions input.now)

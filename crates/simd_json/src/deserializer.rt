@@ -87,7 +87,7 @@ impl<'de, A: Allocator + Copy> Deserializer<'de, A> {
 }
 
 impl<'de, A: Allocator> Deserializer<'de, A> {
-    /// Stands at the first node of the tape, which is as it was.
+    /// Starts at the first node of the tape, which is as it was.
     pub fn from_tape(tape: Tape<'de, A>) -> Deserializer<'de, A>
         ensures { result ≡ steps_from tape.entry }
     {

@@ -1,4 +1,4 @@
-//! What a parse answers.
+//! What a parse returns.
 
 mod accessors;
 mod cmp;

@@ -34,10 +34,10 @@ pub struct Found {
 pub trait Stage1Parse {
     /// Writes the structural positions of `input` to the front of one list, and to the front of the other the
     /// numbers of the blocks of 64 bytes that hold a backslash, so that a string in other blocks is known to
-    /// have no escape. Both rise, and the answer is how many there are. The lists grow by what is found, and
+    /// have no escape. Both rise, and it returns how many there are. The lists grow by what is found, and
     /// are filled a step ahead of it.
     ///
-    /// Answers the fault of the whole input, if it has one: `InputTooLarge` where it has more than
+    /// Returns the fault of the whole input, if it has one: `InputTooLarge` where it has more than
     /// 4,294,967,295 bytes, `InvalidUtf8` where it is not UTF-8 (RFC 3629), `Syntax` where a string is left
     /// open or holds a byte below 0x20 (RFC 8259, section 7), `Eof` where there is no position. `OutOfMemory`
     /// comes where a growth was refused, which is asked for only once size and encoding are known to be

@@ -27,7 +27,7 @@ fn character_start(input: &[u8], end: usize) -> usize
     )
 }
 
-// All that is left to be tested. Answers the input's length.
+// All that is left to be tested. Returns the input's length.
 #[inline(never)]
 pub(super) fn check_rest(input: &[u8], checked: usize) -> Result<usize>
     requires { (checked ≤ length input.now) × IsUtf8 (take checked input.now) }

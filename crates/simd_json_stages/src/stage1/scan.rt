@@ -145,7 +145,7 @@ pub(super) fn scan_blocks<A: Allocator>(
     Ok((done, checked))
 }
 
-// What is after the whole blocks, as a block that spaces fill up. Answers whether some string is bad, and how
+// What is after the whole blocks, as a block that spaces fill up. Returns whether some string is bad, and how
 // many positions and blocks with a backslash there are.
 pub(super) fn scan_rest<A: Allocator>(
     input: &[u8],

@@ -7,7 +7,7 @@ ghost use Rattle.std.specs.Int.RustNames.{count_ones};
 ghost use Rattle.simd_json_stages.specs.Words.{set_bits};
 ghost use Rattle.simd_json_stages.specs.Stored.{IsStored};
 
-// Stores the index of the lowest bit, and answers the others. Where there is no bit what is stored has no
+// Stores the index of the lowest bit, and returns the others. Where there is no bit what is stored has no
 // meaning.
 #[inline(always)]
 fn store_lowest(out: &mut [u32], at: usize, base: u32, bits: u64) -> u64
@@ -36,7 +36,7 @@ fn store_four(out: &mut [u32], at: usize, base: u32, bits: u64) -> u64
     store_lowest(out, at + 3, base, bits)
 }
 
-// Writes the indexes of a word's bits after those that are in use, and answers how many are in use then. Most
+// Writes the indexes of a word's bits after those that are in use, and returns how many are in use then. Most
 // blocks have a few, so the branches are on their number, and some stores are in vain.
 #[inline(always)]
 pub(super) fn write(out: &mut [u32], used: usize, base: u32, bits: u64) -> usize
@@ -83,7 +83,7 @@ pub(super) fn write_exactly(out: &mut [u32], used: usize, base: u32, bits: u64) 
 }
 
 // Writes the number of a block that holds a backslash after those that are in use, and nothing for another.
-// Answers how many are in use then.
+// Returns how many are in use then.
 #[inline(always)]
 pub(super) fn list_block(listed: &mut [u32], used: usize, number: u32, has_backslash: bool) -> usize
     requires capacity { used < length listed.old }

@@ -51,7 +51,7 @@ impl Container {
 /// What is kept of an open container, and of its parent while it is open.
 #[derive(Clone, Copy, Debug, Drop)]
 pub struct StackState {
-    /// Where its header stands among the nodes.
+    /// The index of its header among the nodes.
     pub header: usize,
     /// What its parent is.
     pub outer: Container,

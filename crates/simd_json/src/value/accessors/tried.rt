@@ -10,7 +10,7 @@ impl<'tape, 'input> Value<'tape, 'input> {
     ghost use Rattle.simd_json_parts.specs.Accessors.{try_as_t};
     ghost use Rattle.simd_json_parts.specs.Views.{mismatch};
 
-    // What an accessor answers, or the error that names the kind that it expects.
+    // What an accessor returns, or the error that names the kind that it expects.
     pub(super) fn or_refusal<T>(
         &self,
         answer: Option<T>,
