@@ -117,8 +117,8 @@ fn have_backslash(blocks: &[[u8; 64]], window: Window) -> bool
 }
 
 // Capacity for all that a window may have. Before a list grows, all of the input is known to be UTF-8. The
-// list of positions grows by how many there were so far. Where it grows, as for new lists, a window without a
-// backslash leaves the other list as it is: a short input with neither costs one allocation less.
+// list of positions grows by how many there were so far. With new lists, an input of one window that has no
+// backslash leaves the list of blocks empty, which is one allocation less.
 pub(super) fn capacity_for<A: Allocator>(
     input: &[u8],
     blocks: &[[u8; 64]],
@@ -159,7 +159,8 @@ pub(super) fn capacity_for<A: Allocator>(
         .saturating_mul(max_blocks)
         .saturating_add(BLOCK_LEN * WINDOW);
     grow(structural_indexes, positions, guess, input.len())?;
-    if !lacks_positions || have_backslash(blocks, window) {
+    let is_last = window.end == blocks.len();
+    if !lacks_positions || !is_last || have_backslash(blocks, window) {
         grow(escape_blocks, listed, 2 * WINDOW, max_blocks)?;
     }
     Ok(checked)
