@@ -13,7 +13,7 @@ mod index;
 mod split;
 mod token;
 
-use crate::value::pointer::alike::are_alike;
+use crate::value::pointer::alike::{are_alike, lacks_tilde};
 use crate::value::pointer::escaped::escaped_member;
 use crate::value::pointer::index::{is_index, read_index};
 use crate::value::pointer::token::{Token, decoded_len};
@@ -113,10 +113,11 @@ fn follow<'tape, 'input>(
     ensures stopped { result.1 < length pointer.now
         → result_ok (first_step (drop result.1 pointer.now) (doc result.0)) ≡ None }
 {
+    let is_plain = lacks_tilde(pointer);
     let mut reached = value;
     let mut followed = 0;
     while begins_token(pointer, followed) {
-        let Some((next, len)) = step(reached, &pointer[followed + 1..]) else {
+        let Some((next, len)) = step(reached, &pointer[followed + 1..], is_plain) else {
             return (reached, followed);
         };
         reached = next;
@@ -136,24 +137,30 @@ fn begins_token(pointer: &[u8], at: usize) -> bool
 fn step<'tape, 'input>(
     value: Value<'tape, 'input>,
     left: &[u8],
+    is_plain: bool,
 ) -> Option<(Value<'tape, 'input>, usize)>
+    requires { IsTrue is_plain → IsPlain left.now }
     ensures named { option_map (λ r. doc r.0) result
         ≡ result_ok (named (first_of (tokens left.now)) (doc value.entry)) }
     ensures len { IfSome result (λ r. r.1 ≡ length (first_of (tokens left.now))) }
 {
     if let Some(object) = value.as_object() {
-        return member(object, left);
+        if is_plain {
+            return member(object, left);
+        }
+        return escaped_member(object, left);
     }
     element(value.as_array()?, left)
 }
 
-// The value of the first pair whose key the first token names. A key is compared with what is left of the
-// pointer where a token would end with it, so that where the token ends is not looked for.
+// The value of the first pair whose key the first token is, where no `~` is left. A key is compared with what is
+// left of the pointer where a token would end with it, so that where the token ends is not looked for.
 #[inline(always)]
 fn member<'tape, 'input>(
     object: Object<'tape, 'input>,
     left: &[u8],
 ) -> Option<(Value<'tape, 'input>, usize)>
+    requires { IsPlain left.now }
     ensures named { option_map (λ r. doc r.0) result
         ≡ result_ok (member_at (pairs object.entry) (unescaped (first_of (tokens left.now)))) }
     ensures len { IfSome result (λ r. r.1 ≡ length (first_of (tokens left.now))) }
@@ -163,12 +170,7 @@ fn member<'tape, 'input>(
             return Some((value, key.len()));
         }
     }
-    let token = Token::first(left);
-    if token.is_plain {
-        return None;
-    }
-    let value = escaped_member(object, token.bytes)?;
-    Some((value, token.bytes.len()))
+    None
 }
 
 // The value at the index that the first token is.

@@ -7,7 +7,7 @@ ghost use Rattle.simd_json.specs.Splitting.{IsToken, part_of};
 
 use crate::value::pointer::escaped::named_member;
 use crate::value::pointer::index::read_index;
-use crate::value::pointer::token::{Token, decoded_len};
+use crate::value::pointer::token::{Key, Token};
 use crate::value::tape::{Array, Object, Value};
 
 // A reference token, as a part of a pointer's text, and what it names.
@@ -17,8 +17,7 @@ struct Part {
     len: usize,
     // It has no `~`.
     is_plain: bool,
-    // How many bytes it has, decoded.
-    key_len: usize,
+    key: Key,
     // The array index that it is, where 64 bits hold it.
     index: Option<usize>,
 }
@@ -36,7 +35,7 @@ impl Part {
         start: 0,
         len: 0,
         is_plain: true,
-        key_len: 0,
+        key: Key::EMPTY,
         index: None,
     };
 
@@ -46,14 +45,14 @@ impl Part {
             (λ part. (part.start ≡ start) × (part.len ≡ length token.entry.bytes.now)
             × IsKept token.entry.bytes.now part) }
     {
-        let Some(key_len) = decoded_len(token.bytes) else {
+        let Some(key) = Key::new(token.bytes) else {
             return None;
         };
         Some(Part {
             start,
             len: token.bytes.len(),
             is_plain: token.is_plain,
-            key_len,
+            key,
             index: read_index(token.bytes),
         })
     }
@@ -87,7 +86,7 @@ impl Part {
         if self.is_plain {
             return object.find(token);
         }
-        named_member(object, token.as_bytes(), self.key_len)
+        named_member(object, token.as_bytes(), &self.key)
     }
 
     // The element with the index that the token is.

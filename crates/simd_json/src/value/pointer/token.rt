@@ -1,5 +1,5 @@
 //! A reference token, and the key that it is when its escapes are decoded (RFC 6901, section 3).
-ghost use Rattle.std.specs.Prelude.{◌≡◌, ◌<◌, ◌↔◌, IsTrue, Some, None, drop, length, option_map, MatchOption};
+ghost use Rattle.std.specs.Prelude.{◌≡◌, ◌<◌, ◌≤◌, ◌↔◌, IsTrue, IfSome, Some, None, drop, length, option_map, MatchOption};
 ghost use Rattle.simd_json.specs.Followed.{IsPlain, IsWritten};
 ghost use Rattle.simd_json.specs.Pointed.{unescaped};
 
@@ -45,12 +45,70 @@ impl<'pointer> Token<'pointer> {
     }
 }
 
-// Whether the token, which has so many bytes when decoded, is the key.
-pub(super) fn is_name(token: &[u8], len: usize, key: &[u8]) -> bool
-    requires { Some len ≡ option_map (λ k. length k) (unescaped token.now) }
-    ensures { IsTrue result ↔ (unescaped token.now ≡ Some key.now) }
-{
-    key.len() == len && is_unescaped(token, key)
+// The key that a token is, its escapes decoded. Its first bytes are decoded once, so that they are compared with
+// those of each other key at once.
+#[derive(Clone, Copy, Debug)]
+pub(super) struct Key {
+    bytes: [u8; 64],
+    // How many of these bytes are decoded.
+    held: usize,
+    // Where in the token the others begin.
+    rest: usize,
+    // How many bytes it has.
+    len: usize,
+}
+
+impl Key {
+    ghost use Rattle.std.specs.Prelude.{◌≡◌, ◌↔◌, IsTrue, MatchOption, None, Some};
+    ghost use Rattle.simd_json.specs.Escaped.{IsKey};
+    ghost use Rattle.simd_json.specs.Pointed.{unescaped};
+
+    // The key that the empty token is.
+    pub(super) const EMPTY: Key = Key {
+        bytes: [0; 64],
+        held: 0,
+        rest: 0,
+        len: 0,
+    };
+
+    // The key that the token is, or `None` where a `~` of it begins no escape.
+    pub(super) fn new(token: &[u8]) -> Option<Key>
+        ensures { MatchOption result (unescaped token.now ≡ None) (IsKey token.now) }
+    {
+        let mut bytes = [0; 64];
+        let mut held = 0;
+        let mut rest = 0;
+        while held < 64 && rest < token.len() {
+            let Some(written) = unescaped_at(token, rest) else {
+                return None;
+            };
+            bytes[held] = written.byte;
+            held += 1;
+            rest = written.end;
+        }
+        let Some(left) = decoded_len(&token[rest..]) else {
+            return None;
+        };
+        Some(Key {
+            bytes,
+            held,
+            rest,
+            len: held + left,
+        })
+    }
+
+    // Whether another key is the same. It is compared byte by byte only past what is held.
+    #[inline(always)]
+    pub(super) fn is(&self, token: &[u8], key: &[u8]) -> bool
+        requires { IsKey token.now self.now }
+        ensures { IsTrue result ↔ (unescaped token.now ≡ Some key.now) }
+    {
+        if key.len() != self.len {
+            return false;
+        }
+        let (first, others) = key.split_at(self.held);
+        first == &self.bytes[..self.held] && is_unescaped(&token[self.rest..], others)
+    }
 }
 
 // Whether the token, decoded, is the key.
@@ -74,7 +132,8 @@ fn is_unescaped(token: &[u8], key: &[u8]) -> bool
 
 // How many bytes the token has, decoded, or `None` where a `~` of it begins no escape.
 pub(super) fn decoded_len(token: &[u8]) -> Option<usize>
-    ensures { result ≡ option_map (λ key. length key) (unescaped token.now) }
+    ensures len { result ≡ option_map (λ key. length key) (unescaped token.now) }
+    ensures short { IfSome result (λ len. len ≤ length token.now) }
 {
     let mut at = 0;
     let mut len = 0;

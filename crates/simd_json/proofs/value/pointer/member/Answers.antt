@@ -3,7 +3,7 @@ use Rattle.simd_json.specs.Followed.{IsPlain, first_of}
 use Rattle.simd_json.specs.Pointed.{tokens, unescaped}
 use Rattle.simd_json.specs.Viewed.{doc, pairs}
 use Rattle.simd_json.proofs.Split.{members_cancel}
-use Rattle.simd_json.proofs.Pointed.{found, unescaped-plain, member-here, member-later, member-none}
+use Rattle.simd_json.proofs.Pointed.{found, unescaped-plain, member-here, member-later, member-none, plain-first}
 use Rattle.simd_json.proofs.value.pointer.member.Goals as goal
 
 pub loop-key-init : goal.loop-key-init
@@ -32,9 +32,7 @@ loop-key-preserved c plain =
     sym (member-later (unescaped t) key (doc c.in-Some.value) _ (pairs c.next.new.self.left) c.in-Some.ensures.steps other)
     ∙ c.loop-key.invariant plain
 
-pub returns-then-token-clause-named : goal.returns-then-token-clause-named
-returns-then-token-clause-named c =
+pub returns-clause-named : goal.returns-clause-named
+returns-clause-named c =
     let t = first_of (tokens c.args.left.now) in
-    let is : t ≡ c.first-token.result.bytes.now = ap first_of c.first-token.ensures.token in
-    let plain = subst IsPlain (sym is) (c.first-token.result.plain c.if-token.true) in
-    sym (member-none (unescaped t) _ c.in-None.ensures.steps.0) ∙ c.loop-key.invariant plain
+    sym (member-none (unescaped t) _ c.in-None.ensures.steps.0) ∙ c.loop-key.invariant (plain-first c.args.left.now c.requires)

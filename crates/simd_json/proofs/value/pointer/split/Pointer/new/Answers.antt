@@ -33,7 +33,7 @@ loop-at-preserved g c =
     let long = c.in-Some.ensures.1 in
     let kept = c.in-Some.ensures.2 in
     let room : l.len < length l.parts = omega (arith, c.if-len.false, l.invariant.counted, l.invariant.room) in
-    let formed : is_some (unescaped t) ≡ true = sym (is_some-len (unescaped t)) ∙ ap is_some (sym kept.1) in
+    let formed : is_some (unescaped t) ≡ true = sym (is_some-len (unescaped t)) ∙ ap is_some (sym kept.1.counted) in
     let ends : l.at + (1 + length t) ≡ l.at + (1 + part.len) = omega (arith, long) in
     record {
       within = omega (arith, long, token-ends p l.at t at);
