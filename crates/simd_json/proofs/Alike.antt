@@ -109,7 +109,7 @@ lanes-alike i n p t few in-t in-p =
       λ none k from to.
           (let j = k - i in
           let number : i + j ≡ k = omega arith in
-          let lane = alike-of _ _ (none-of is_other xs ys same (sym mask ∙ none) j (omega arith)) in
+          let lane : IsAlike (get_or xs j 0) (get_or ys j 0) = alike-of _ _ (none-of is_other xs ys same (sym mask ∙ none) j (omega arith)) in
           let in-xs : get_or xs j 0 ≡ get_or t k 0 = get_or-chunk i n t j 0 (omega arith) ∙ ap (λ m. get_or t m 0) number in
           let in-ys : get_or ys j 0 ≡ get_or p k 0 = get_or-chunk i n p j 0 (omega arith) ∙ ap (λ m. get_or p m 0) number in
           (sym in-ys ∙ lane.0 ∙ in-xs, λ e. lane.1 (in-xs ∙ e), λ e. lane.2 (in-xs ∙ e))),

@@ -51,17 +51,6 @@ unescaped-plain (c ∷ e ∷ t) lacks =
     rw (ne_eqb c 126 (lacks 0 (omega arith)))
     (ap (option_map (λ k. c ∷ k)) (unescaped-plain (e ∷ t) (λ k less. lacks (suc k) (omega arith))))
 
-lacks-front : (p : List ℕ) (n : ℕ) → n ≤ length p → Lacks 126 n p → Lacks 126 (length (take n p)) (take n p)
-lacks-front p n within lacks k less is =
-    let inside : k < n = omega (arith, length-take-le n p within) in
-    lacks k inside (sym (get_or-take n p k 0 inside) ∙ is)
-
-pub plain-front : (p : List ℕ) (n : ℕ) → n < length p → Lacks 126 n p → IsPlain (take n p)
-plain-front p n inside lacks = lacks-front p n (omega arith) lacks
-
-pub plain-whole : (p : List ℕ) (n : ℕ) → length p ≤ n → Lacks 126 n p → IsPlain p
-plain-whole p n past lacks k less = lacks k (omega arith)
-
 -- ---- the first token of what is left of a pointer
 
 pub record IsFirst (p t : List ℕ) : Type 0 where

@@ -1,8 +1,7 @@
 -- A JSON Pointer that is split. Only private clauses cite it.
-use Rattle.std.specs.Prelude.{◌≡◌, ◌+◌, ℕ, List, length, take, drop, true, Some, option_map, option_and_then}
+use Rattle.std.specs.Prelude.{◌≡◌, ◌+◌, ℕ, List, take, drop, true, option_and_then}
 use Rattle.std.specs.Str.{IsCharBoundary}
-use Rattle.simd_json.specs.Escaped.{IsKey}
-use Rattle.simd_json.specs.Followed.{IsPlain, fits_64}
+use Rattle.simd_json.specs.Followed.{IsKey, IsPlain, fits_64}
 use Rattle.simd_json.specs.Pointed.{array_index}
 use Rattle.simd_json.specs.declared.value.pointer.split.Part.{Part}
 

@@ -8,15 +8,13 @@ ghost use Rattle.simd_json_parts.specs.Bytes.{slash};
 
 mod alike;
 mod display;
-mod escaped;
 mod index;
 mod split;
 mod token;
 
 use crate::value::pointer::alike::{are_alike, lacks_tilde};
-use crate::value::pointer::escaped::escaped_member;
 use crate::value::pointer::index::{is_index, read_index};
-use crate::value::pointer::token::{Token, decoded_len};
+use crate::value::pointer::token::{Key, decoded_len, first_token};
 use crate::value::tape::{Array, Object, Value};
 use simd_json_parts::node::ValueType;
 pub use split::Pointer;
@@ -148,19 +146,19 @@ fn step<'tape, 'input>(
         if is_plain {
             return member(object, left);
         }
-        return escaped_member(object, left);
+        return any_member(object, left);
     }
     element(value.as_array()?, left)
 }
 
-// The value of the first pair whose key the first token is, where no `~` is left. A key is compared with what is
+// The value of the first pair whose key the first token is, where it has no `~`. A key is compared with what is
 // left of the pointer where a token would end with it, so that where the token ends is not looked for.
 #[inline(always)]
 fn member<'tape, 'input>(
     object: Object<'tape, 'input>,
     left: &[u8],
 ) -> Option<(Value<'tape, 'input>, usize)>
-    requires { IsPlain left.now }
+    requires { IsPlain (first_of (tokens left.now)) }
     ensures named { option_map (λ r. doc r.0) result
         ≡ result_ok (member_at (pairs object.entry) (unescaped (first_of (tokens left.now)))) }
     ensures len { IfSome result (λ r. r.1 ≡ length (first_of (tokens left.now))) }
@@ -171,6 +169,27 @@ fn member<'tape, 'input>(
         }
     }
     None
+}
+
+// The same where the first token may have escapes.
+#[inline(never)]
+fn any_member<'tape, 'input>(
+    object: Object<'tape, 'input>,
+    left: &[u8],
+) -> Option<(Value<'tape, 'input>, usize)>
+    ensures named { option_map (λ r. doc r.0) result
+        ≡ result_ok (member_at (pairs object.entry) (unescaped (first_of (tokens left.now)))) }
+    ensures len { IfSome result (λ r. r.1 ≡ length (first_of (tokens left.now))) }
+{
+    let token = first_token(left);
+    if lacks_tilde(token) {
+        return member(object, left);
+    }
+    let Some(key) = Key::new(token) else {
+        return None;
+    };
+    let value = key.find(token, object)?;
+    Some((value, token.len()))
 }
 
 // The value at the index that the first token is.
@@ -199,7 +218,7 @@ fn first_index(left: &[u8]) -> Option<(usize, usize)>
     if is_front_token(left, 1) && left[0].is_ascii_digit() {
         return Some((usize::from(left[0] - b'0'), 1));
     }
-    let token = Token::first(left).bytes;
+    let token = first_token(left);
     Some((read_index(token)?, token.len()))
 }
 
@@ -231,7 +250,7 @@ fn lack(value: Value<'_, '_>, left: &[u8]) -> PointerExpected
     if left[0] != b'/' {
         return PointerExpected::Slash;
     }
-    lack_within(value, Token::first(&left[1..]).bytes)
+    lack_within(value, first_token(&left[1..]))
 }
 
 // What the token, which names nothing in the value, lacks there.

@@ -5,9 +5,9 @@ ghost use Rattle.simd_json.specs.Followed.{tokens_after};
 ghost use Rattle.simd_json.specs.Pointed.{is_pointer};
 ghost use Rattle.simd_json.specs.Splitting.{IsToken, part_of};
 
-use crate::value::pointer::escaped::named_member;
+use crate::value::pointer::alike::lacks_tilde;
 use crate::value::pointer::index::read_index;
-use crate::value::pointer::token::{Key, Token};
+use crate::value::pointer::token::{Key, first_token};
 use crate::value::tape::{Array, Object, Value};
 
 // A reference token, as a part of a pointer's text, and what it names.
@@ -40,20 +40,19 @@ impl Part {
     };
 
     // The token, which begins at this byte, or `None` where a `~` of it begins no escape.
-    fn new(token: Token<'_>, start: usize) -> Option<Part>
-        ensures { MatchOption result (unescaped token.entry.bytes.now ≡ None)
-            (λ part. (part.start ≡ start) × (part.len ≡ length token.entry.bytes.now)
-            × IsKept token.entry.bytes.now part) }
+    fn new(token: &[u8], start: usize) -> Option<Part>
+        ensures { MatchOption result (unescaped token.now ≡ None)
+            (λ part. (part.start ≡ start) × (part.len ≡ length token.now) × IsKept token.now part) }
     {
-        let Some(key) = Key::new(token.bytes) else {
+        let Some(key) = Key::new(token) else {
             return None;
         };
         Some(Part {
             start,
-            len: token.bytes.len(),
-            is_plain: token.is_plain,
+            len: token.len(),
+            is_plain: lacks_tilde(token),
             key,
-            index: read_index(token.bytes),
+            index: read_index(token),
         })
     }
 
@@ -86,7 +85,7 @@ impl Part {
         if self.is_plain {
             return object.find(token);
         }
-        named_member(object, token.as_bytes(), &self.key)
+        self.key.find(token.as_bytes(), object)
     }
 
     // The element with the index that the token is.
@@ -155,7 +154,7 @@ impl<'pointer, const N: usize> Pointer<'pointer, N> {
             if len == N || bytes[at] != b'/' {
                 return None;
             }
-            let Some(part) = Part::new(Token::first(&bytes[at + 1..]), at + 1) else {
+            let Some(part) = Part::new(first_token(&bytes[at + 1..]), at + 1) else {
                 return None;
             };
             parts[len] = part;

@@ -1,48 +1,23 @@
 //! A reference token, and the key that it is when its escapes are decoded (RFC 6901, section 3).
-ghost use Rattle.std.specs.Prelude.{◌≡◌, ◌<◌, ◌≤◌, ◌↔◌, IsTrue, IfSome, Some, None, drop, length, option_map, MatchOption};
-ghost use Rattle.simd_json.specs.Followed.{IsPlain, IsWritten};
-ghost use Rattle.simd_json.specs.Pointed.{unescaped};
+ghost use Rattle.std.specs.Prelude.{◌≡◌, ◌<◌, ◌≤◌, ◌↔◌, ◌∷◌, IsTrue, IfSome, Some, None, drop, length, slice_index, option_map, MatchOption};
+ghost use Rattle.simd_json.specs.Followed.{IsWritten, tokens_after};
+ghost use Rattle.simd_json.specs.Pointed.{tokens, unescaped};
+ghost use Rattle.simd_json_parts.specs.Bytes.{slash};
 
-// A reference token of a pointer.
-#[derive(Clone, Copy)]
-pub(super) struct Token<'pointer> {
-    pub(super) bytes: &'pointer [u8],
-    // It has no `~`.
-    pub(super) is_plain: bool,
-    ghost plain: { IsTrue is_plain → IsPlain bytes.now },
-}
+use crate::value::tape::{Object, Value};
 
-impl<'pointer> Token<'pointer> {
-    ghost use Rattle.std.specs.Prelude.{◌≡◌, ◌≤◌, ◌<◌, ◌∷◌, drop, length, slice_index};
-    ghost use Rattle.simd_json_parts.specs.Bytes.{slash};
-    ghost use Rattle.simd_json.specs.Followed.{tokens_after};
-    ghost use Rattle.simd_json.specs.Pointed.{tokens};
-
-    // The token that follows a `/`, after which this is left of the pointer.
-    pub(super) fn first(left: &'pointer [u8]) -> Token<'pointer>
-        ensures within { length result.bytes.now ≤ length left.now }
-        ensures token { tokens left.now
-            ≡ result.bytes.now ∷ tokens_after (drop (length result.bytes.now) left.now) }
-        ensures ended { length result.bytes.now < length left.now
-            → slice_index left.now (length result.bytes.now) ≡ slash }
-    {
-        let mut is_plain = true;
-        for (len, byte) in left.iter().enumerate() {
-            if *byte == b'/' {
-                return Token {
-                    bytes: &left[..len],
-                    is_plain,
-                };
-            }
-            if *byte == b'~' {
-                is_plain = false;
-            }
-        }
-        Token {
-            bytes: left,
-            is_plain,
+// The token that follows a `/`, after which this is left of the pointer.
+pub(super) fn first_token(left: &[u8]) -> &[u8]
+    ensures within { length result.now ≤ length left.now }
+    ensures token { tokens left.now ≡ result.now ∷ tokens_after (drop (length result.now) left.now) }
+    ensures ended { length result.now < length left.now → slice_index left.now (length result.now) ≡ slash }
+{
+    for (len, byte) in left.iter().enumerate() {
+        if *byte == b'/' {
+            return &left[..len];
         }
     }
+    left
 }
 
 // The key that a token is, its escapes decoded. Its first bytes are decoded once, so that they are compared with
@@ -59,9 +34,11 @@ pub(super) struct Key {
 }
 
 impl Key {
-    ghost use Rattle.std.specs.Prelude.{◌≡◌, ◌↔◌, IsTrue, MatchOption, None, Some};
-    ghost use Rattle.simd_json.specs.Escaped.{IsKey};
-    ghost use Rattle.simd_json.specs.Pointed.{unescaped};
+    ghost use Rattle.std.specs.Prelude.{◌≡◌, ◌↔◌, IsTrue, MatchOption, None, Some, option_map};
+    ghost use Rattle.std.specs.Result.{result_ok};
+    ghost use Rattle.simd_json.specs.Followed.{IsKey};
+    ghost use Rattle.simd_json.specs.Pointed.{member_at, unescaped};
+    ghost use Rattle.simd_json.specs.Viewed.{doc, pairs};
 
     // The key that the empty token is.
     pub(super) const EMPTY: Key = Key {
@@ -97,9 +74,27 @@ impl Key {
         })
     }
 
+    // The value of the first pair with the key.
+    #[inline(always)]
+    pub(super) fn find<'tape, 'input>(
+        &self,
+        token: &[u8],
+        object: Object<'tape, 'input>,
+    ) -> Option<Value<'tape, 'input>>
+        requires { IsKey token.now self.now }
+        ensures { option_map doc result ≡ result_ok (member_at (pairs object.entry) (unescaped token.now)) }
+    {
+        for (key, value) in object.iter() {
+            if self.is(token, key.as_bytes()) {
+                return Some(value);
+            }
+        }
+        None
+    }
+
     // Whether another key is the same. It is compared byte by byte only past what is held.
     #[inline(always)]
-    pub(super) fn is(&self, token: &[u8], key: &[u8]) -> bool
+    fn is(&self, token: &[u8], key: &[u8]) -> bool
         requires { IsKey token.now self.now }
         ensures { IsTrue result ↔ (unescaped token.now ≡ Some key.now) }
     {

@@ -3,7 +3,7 @@ use Rattle.simd_json.specs.Followed.{IsPlain, first_of}
 use Rattle.simd_json.specs.Pointed.{tokens, unescaped}
 use Rattle.simd_json.specs.Viewed.{doc, pairs}
 use Rattle.simd_json.proofs.Split.{members_cancel}
-use Rattle.simd_json.proofs.Pointed.{found, unescaped-plain, member-here, member-later, member-none, plain-first}
+use Rattle.simd_json.proofs.Pointed.{found, unescaped-plain, member-here, member-later, member-none}
 use Rattle.simd_json.proofs.value.pointer.member.Goals as goal
 
 pub loop-key-init : goal.loop-key-init
@@ -35,4 +35,4 @@ loop-key-preserved c plain =
 pub returns-clause-named : goal.returns-clause-named
 returns-clause-named c =
     let t = first_of (tokens c.args.left.now) in
-    sym (member-none (unescaped t) _ c.in-None.ensures.steps.0) ∙ c.loop-key.invariant (plain-first c.args.left.now c.requires)
+    sym (member-none (unescaped t) _ c.in-None.ensures.steps.0) ∙ c.loop-key.invariant c.requires

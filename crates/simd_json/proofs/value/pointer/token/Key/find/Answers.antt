@@ -3,7 +3,7 @@ use Rattle.simd_json.specs.Pointed.{unescaped}
 use Rattle.simd_json.specs.Viewed.{doc, pairs}
 use Rattle.simd_json.proofs.Split.{members_cancel}
 use Rattle.simd_json.proofs.Pointed.{found, member-here, member-later, member-none}
-use Rattle.simd_json.proofs.value.pointer.escaped.named_member.Goals as goal
+use Rattle.simd_json.proofs.value.pointer.token.Key.find.Goals as goal
 
 pub loop-key-init : goal.loop-key-init
 loop-key-init c =
