@@ -1,11 +1,10 @@
 -- Bytes that are compared with a key a vector at a time.
-use Rattle.std.proofs.Common.{◌≡◌, ◌≢◌, ◌∙◌, ap, ap₂, sym, refl, ◌<◌, ◌≤◌, ◌+◌, ◌-◌, ◌*◌, ◌%◌, ◌^◌, ◌↔◌, ℕ, zero, suc, Bool, true, false, true≢false, not, ◌||◌, cond, eqb, List, [], ◌∷◌, length, map, replicate, get_or, arith}
+use Rattle.std.proofs.Common.{◌≡◌, ◌≢◌, ◌∙◌, ap, ap₂, sym, refl, ◌<◌, ◌≤◌, ◌+◌, ◌-◌, ◌*◌, ◌%◌, ◌^◌, ◌↔◌, ℕ, zero, suc, Bool, true, false, not, ◌||◌, cond, eqb, List, [], ◌∷◌, length, map, replicate, get_or, arith}
 use Rattle.std.proofs.lemmas.Bool.{eqb-true, eq-eqb, ne_eqb}
-use Rattle.std.proofs.lemmas.List.{get_or-replicate, length-replicate}
 use Rattle.std.proofs.lemmas.Simd.{length-chunk, length-zip2, get_or-chunk, mask_l-mod}
 use lib.Bits.{bit_or}
 use lib.Lanes.{chunk, mask_l, zip2, top}
-use Rattle.simd_json.specs.Followed.{AreAlike, LacksTilde}
+use Rattle.simd_json.specs.Followed.{AreAlike, AreSame}
 
 -- ---- a lane
 
@@ -43,14 +42,21 @@ lanes (suc n) (x ∷ xs) (y ∷ ys) a b =
     ap₂ (λ t l. t ∷ l) (top-three (not (eqb x y)) (eqb x 47) (eqb x 126)) (lanes n xs ys (omega arith) (omega arith))
 
 -- of one test alone
+abbrev is_unlike : ℕ → ℕ → Bool
+is_unlike a b = not (eqb a b)
+
 top-one : (t : Bool) → top 7 (cond t 255 0) ≡ t
 top-one true = refl
 top-one false = refl
 
-hits : (xs ys : List ℕ) → map (top 7) (zip2 hit xs ys) ≡ zip2 eqb xs ys
-hits [] ys = refl
-hits (x ∷ xs) [] = refl
-hits (x ∷ xs) (y ∷ ys) = ap₂ (λ t l. t ∷ l) (top-one (eqb x y)) (hits xs ys)
+unlike : (xs ys : List ℕ) → map (top 7) (zip2 differ xs ys) ≡ zip2 is_unlike xs ys
+unlike [] ys = refl
+unlike (x ∷ xs) [] = refl
+unlike (x ∷ xs) (y ∷ ys) = ap₂ (λ t l. t ∷ l) (top-one (is_unlike x y)) (unlike xs ys)
+
+not-false : (t : Bool) → not t ≡ false → t ≡ true
+not-false true is = refl
+not-false false is = cc
 
 -- ---- all lanes
 
@@ -123,27 +129,27 @@ lanes-alike i n p t few in-t in-p =
           of-alike _ _ (in-ys ∙ lane.0 ∙ sym in-xs, λ e. lane.1 (sym in-xs ∙ e), λ e. lane.2 (sym in-xs ∙ e)))),
     )
 
--- the mask of the tildes among N bytes
-pub lanes-tilde : (i n : ℕ) (p : List ℕ) → n ≤ 64 → i + n ≤ length p
-    → (mask_l (map (top 7) (zip2 hit (chunk i n p) (replicate n 126))) % 2 ^ 64 ≡ 0) ↔ LacksTilde p i (i + n)
-lanes-tilde i n p few in-p =
+-- the mask of N bytes of each that differ
+pub lanes-same : (i n : ℕ) (p t : List ℕ) → n ≤ 64 → i + n ≤ length p → i + n ≤ length t
+    → (mask_l (map (top 7) (zip2 differ (chunk i n p) (chunk i n t))) % 2 ^ 64 ≡ 0) ↔ AreSame p t i (i + n)
+lanes-same i n p t few in-p in-t =
     let xs = chunk i n p in
-    let ys : List ℕ = replicate n 126 in
+    let ys = chunk i n t in
     let a : length xs ≡ n = length-chunk i n p in-p in
-    let b : length ys ≡ n = length-replicate n 126 in
+    let b : length ys ≡ n = length-chunk i n t in-t in
     let same : length xs ≡ length ys = omega arith in
-    let mask = ap (λ l. mask_l l % 2 ^ 64) (hits xs ys) ∙ mask_l-mod (zip2 eqb xs ys) 64 (omega (arith, length-zip2 eqb xs ys same)) in (
-      λ none k from to is.
+    let mask = ap (λ l. mask_l l % 2 ^ 64) (unlike xs ys) ∙ mask_l-mod (zip2 is_unlike xs ys) 64 (omega (arith, length-zip2 is_unlike xs ys same)) in (
+      λ none k from to.
           (let j = k - i in
           let number : i + j ≡ k = omega arith in
-          let lane : eqb (get_or xs j 0) (get_or ys j 0) ≡ false = none-of eqb xs ys same (sym mask ∙ none) j (omega arith) in
+          let lane : is_unlike (get_or xs j 0) (get_or ys j 0) ≡ false = none-of is_unlike xs ys same (sym mask ∙ none) j (omega arith) in
           let in-xs : get_or xs j 0 ≡ get_or p k 0 = get_or-chunk i n p j 0 (omega arith) ∙ ap (λ m. get_or p m 0) number in
-          let yes : eqb (get_or xs j 0) (get_or ys j 0) ≡ true =
-          eq-eqb _ _ (in-xs ∙ is ∙ sym (get_or-replicate n j 126 0 (omega arith))) in
-          true≢false (sym yes ∙ lane)),
-      λ lacks.
+          let in-ys : get_or ys j 0 ≡ get_or t k 0 = get_or-chunk i n t j 0 (omega arith) ∙ ap (λ m. get_or t m 0) number in
+          sym in-xs ∙ eqb-true _ _ (not-false _ lane) ∙ in-ys),
+      λ alike.
           mask
-          ∙ of-none eqb xs ys same (λ j less.
-          ne_eqb _ _ (λ is. lacks (i + j) (omega arith) (omega arith)
-          (sym (get_or-chunk i n p j 0 (omega arith)) ∙ is ∙ get_or-replicate n j 126 0 (omega arith)))),
+          ∙ of-none is_unlike xs ys same (λ j less.
+          (let in-xs : get_or xs j 0 ≡ get_or p (i + j) 0 = get_or-chunk i n p j 0 (omega arith) in
+          let in-ys : get_or ys j 0 ≡ get_or t (i + j) 0 = get_or-chunk i n t j 0 (omega arith) in
+          ap not (eq-eqb _ _ (in-xs ∙ alike (i + j) (omega arith) (omega arith) ∙ sym in-ys)))),
     )

@@ -15,7 +15,7 @@ use Rattle.simd_json_parts.specs.Document.{Document, array, object, elements, El
 use Rattle.simd_json_parts.specs.Views.{first_with, is_array, is_object, value_type}
 use Rattle.simd_json_parts.specs.declared.node.ValueType.{ValueType}
 use Rattle.simd_json.specs.Pointed.{with_first, tokens, unescaped, is_array_index, array_index, element_at, member_at, named, stop, go_on, followed, pointed_from}
-use Rattle.simd_json.specs.Followed.{AreAlike, IsPlain, IsWritten, tokens_after, first_of, first_step, fits_64}
+use Rattle.simd_json.specs.Followed.{AreAlike, AreSame, IsPlain, IsWritten, tokens_after, first_of, first_step, fits_64}
 use Rattle.simd_json.specs.declared.value.pointer.PointerError.{PointerError}
 use Rattle.simd_json.specs.declared.value.pointer.PointerExpected.{PointerExpected}
 use Rattle.simd_json.specs.declared.value.pointer.PointerExpected.TheVariants as lacking
@@ -118,14 +118,6 @@ alike-first p t is plain =
       first.ended,
       λ k from less. (sym (get_or-take (length t) p k 0 less) ∙ ap (λ l. get_or l k 0) first.front, first.lacks k less, plain k less),
     )
-
--- where no `~` is left
-pub plain-first : (p : List ℕ) → IsPlain p → IsPlain (first_of (tokens p))
-plain-first p plain =
-    let t = first_of (tokens p) in
-    let first = first-is p in
-    λ k less is. plain k (omega (arith, first.within))
-    (sym (get_or-take (length t) p k 0 less) ∙ ap (λ l. get_or l k 0) first.front ∙ is)
 
 -- ---- escapes
 
@@ -238,6 +230,16 @@ held-len o None held n is long = cc
 held-len o (Some key) held n is long =
     let same : n ≡ length key = cc in
     ap Some (ap (λ m. length held + m) same ∙ sym (length-append held key)) ∙ sym (ap (option_map (λ k. length k)) is)
+
+pub same-front : (bytes key : List ℕ) (n : ℕ) → n ≤ length bytes → n ≤ length key
+    → (take n key ≡ take n bytes) ↔ AreSame (take n bytes) key 0 n
+same-front bytes key n few short = (
+  λ same k from less. sym (ap (λ l. get_or l k 0) same) ∙ get_or-take n key k 0 less,
+  λ same.
+      same_number_lists (take n key) (take n bytes) (length-take-le n key short ∙ sym (length-take-le n bytes few))
+      (λ k less. get_or-take n key k 0 (omega (arith, length-take-le n key short))
+      ∙ sym (same k (omega arith) (omega (arith, length-take-le n key short)))),
+)
 
 pub held-is : (held key : List ℕ) (n : ℕ) (rest : Option (List ℕ)) → length held ≡ n
     → (option_map (λ others. held ++ others) rest ≡ Some key) ↔ ((take n key ≡ held) × (rest ≡ Some (drop n key)))

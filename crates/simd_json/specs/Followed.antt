@@ -26,9 +26,9 @@ first_step (c ∷ p) d = if c == slash then named (first_of (tokens p)) d else E
 abbrev pub IsPlain : List ℕ → Type 0
 IsPlain t = (k : ℕ) → k < length t → slice_index t k ≢ tilde
 
--- no `~` from an index up to another
-abbrev pub LacksTilde : List ℕ → ℕ → ℕ → Type 0
-LacksTilde p i j = (k : ℕ) → i ≤ k → k < j → slice_index p k ≢ tilde
+-- the same bytes from an index up to another
+abbrev pub AreSame : List ℕ → List ℕ → ℕ → ℕ → Type 0
+AreSame p t i j = (k : ℕ) → i ≤ k → k < j → slice_index p k ≡ slice_index t k
 
 -- from an index up to another both have the same bytes, none of them a `/` or a `~`
 abbrev pub AreAlike : List ℕ → List ℕ → ℕ → ℕ → Type 0

@@ -12,9 +12,9 @@ mod index;
 mod split;
 mod token;
 
-use crate::value::pointer::alike::{are_alike, lacks_tilde};
+use crate::value::pointer::alike::are_alike;
 use crate::value::pointer::index::{is_index, read_index};
-use crate::value::pointer::token::{Key, decoded_len, first_token};
+use crate::value::pointer::token::{Key, decoded_len, first_token, is_plain};
 use crate::value::tape::{Array, Object, Value};
 use simd_json_parts::node::ValueType;
 pub use split::Pointer;
@@ -111,11 +111,10 @@ fn follow<'tape, 'input>(
     ensures stopped { result.1 < length pointer.now
         → result_ok (first_step (drop result.1 pointer.now) (doc result.0)) ≡ None }
 {
-    let is_plain = lacks_tilde(pointer);
     let mut reached = value;
     let mut followed = 0;
     while begins_token(pointer, followed) {
-        let Some((next, len)) = step(reached, &pointer[followed + 1..], is_plain) else {
+        let Some((next, len)) = step(reached, &pointer[followed + 1..]) else {
             return (reached, followed);
         };
         reached = next;
@@ -135,30 +134,24 @@ fn begins_token(pointer: &[u8], at: usize) -> bool
 fn step<'tape, 'input>(
     value: Value<'tape, 'input>,
     left: &[u8],
-    is_plain: bool,
 ) -> Option<(Value<'tape, 'input>, usize)>
-    requires { IsTrue is_plain → IsPlain left.now }
     ensures named { option_map (λ r. doc r.0) result
         ≡ result_ok (named (first_of (tokens left.now)) (doc value.entry)) }
     ensures len { IfSome result (λ r. r.1 ≡ length (first_of (tokens left.now))) }
 {
     if let Some(object) = value.as_object() {
-        if is_plain {
-            return member(object, left);
-        }
-        return any_member(object, left);
+        return member(object, left);
     }
     element(value.as_array()?, left)
 }
 
-// The value of the first pair whose key the first token is, where it has no `~`. A key is compared with what is
-// left of the pointer where a token would end with it, so that where the token ends is not looked for.
+// The value of the first pair whose key the first token names. A key is compared with what is left of the
+// pointer where a token would end with it, so that where the token ends is not looked for.
 #[inline(always)]
 fn member<'tape, 'input>(
     object: Object<'tape, 'input>,
     left: &[u8],
 ) -> Option<(Value<'tape, 'input>, usize)>
-    requires { IsPlain (first_of (tokens left.now)) }
     ensures named { option_map (λ r. doc r.0) result
         ≡ result_ok (member_at (pairs object.entry) (unescaped (first_of (tokens left.now)))) }
     ensures len { IfSome result (λ r. r.1 ≡ length (first_of (tokens left.now))) }
@@ -168,28 +161,26 @@ fn member<'tape, 'input>(
             return Some((value, key.len()));
         }
     }
-    None
+    let token = first_token(left);
+    if is_plain(token) {
+        return None;
+    }
+    let value = escaped_member(object, token)?;
+    Some((value, token.len()))
 }
 
-// The same where the first token may have escapes.
-#[inline(never)]
-fn any_member<'tape, 'input>(
+// The value of the first pair whose key the token is, its escapes decoded.
+#[cold]
+fn escaped_member<'tape, 'input>(
     object: Object<'tape, 'input>,
-    left: &[u8],
-) -> Option<(Value<'tape, 'input>, usize)>
-    ensures named { option_map (λ r. doc r.0) result
-        ≡ result_ok (member_at (pairs object.entry) (unescaped (first_of (tokens left.now)))) }
-    ensures len { IfSome result (λ r. r.1 ≡ length (first_of (tokens left.now))) }
+    token: &[u8],
+) -> Option<Value<'tape, 'input>>
+    ensures { option_map doc result ≡ result_ok (member_at (pairs object.entry) (unescaped token.now)) }
 {
-    let token = first_token(left);
-    if lacks_tilde(token) {
-        return member(object, left);
-    }
     let Some(key) = Key::new(token) else {
         return None;
     };
-    let value = key.find(token, object)?;
-    Some((value, token.len()))
+    key.find(token, object)
 }
 
 // The value at the index that the first token is.

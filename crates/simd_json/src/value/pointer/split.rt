@@ -5,9 +5,8 @@ ghost use Rattle.simd_json.specs.Followed.{tokens_after};
 ghost use Rattle.simd_json.specs.Pointed.{is_pointer};
 ghost use Rattle.simd_json.specs.Splitting.{IsToken, part_of};
 
-use crate::value::pointer::alike::lacks_tilde;
 use crate::value::pointer::index::read_index;
-use crate::value::pointer::token::{Key, first_token};
+use crate::value::pointer::token::{Key, first_token, is_plain};
 use crate::value::tape::{Array, Object, Value};
 
 // A reference token, as a part of a pointer's text, and what it names.
@@ -50,7 +49,7 @@ impl Part {
         Some(Part {
             start,
             len: token.len(),
-            is_plain: lacks_tilde(token),
+            is_plain: is_plain(token),
             key,
             index: read_index(token),
         })
@@ -59,12 +58,12 @@ impl Part {
     // The value that it names in another.
     #[inline(always)]
     fn find<'tape, 'input>(
-        self,
+        &self,
         text: &str,
         value: Value<'tape, 'input>,
     ) -> Option<Value<'tape, 'input>>
-        requires { IsToken text.now self }
-        ensures { option_map doc result ≡ result_ok (named (part_of text.now self) (doc value.entry)) }
+        requires { IsToken text.now self.now }
+        ensures { option_map doc result ≡ result_ok (named (part_of text.now self.now) (doc value.entry)) }
     {
         if let Some(object) = value.as_object() {
             return self.member(&text[self.start..self.start + self.len], object);
@@ -75,11 +74,11 @@ impl Part {
     // The value of the first pair whose key the token is.
     #[inline(always)]
     fn member<'tape, 'input>(
-        self,
+        &self,
         token: &str,
         object: Object<'tape, 'input>,
     ) -> Option<Value<'tape, 'input>>
-        requires { IsKept token.now self }
+        requires { IsKept token.now self.now }
         ensures { option_map doc result ≡ result_ok (member_at (pairs object.entry) (unescaped token.now)) }
     {
         if self.is_plain {
@@ -90,8 +89,8 @@ impl Part {
 
     // The element with the index that the token is.
     #[inline(always)]
-    fn element<'tape, 'input>(self, array: Array<'tape, 'input>) -> Option<Value<'tape, 'input>>
-        ensures { (i : Option ℕ) → self.index ≡ option_and_then fits_64 i
+    fn element<'tape, 'input>(&self, array: Array<'tape, 'input>) -> Option<Value<'tape, 'input>>
+        ensures { (i : Option ℕ) → self.now.index ≡ option_and_then fits_64 i
             → option_map doc result ≡ result_ok (element_at (docs array.entry) i) }
     {
         let Some(index) = self.index else {
@@ -104,8 +103,7 @@ impl Part {
 /// A JSON Pointer (RFC 6901), split into at most `N` reference tokens. Nothing is allocated.
 ///
 /// To look up the same place in many documents, split the pointer once: [`Value::at`] then costs about as much as
-/// a call of [`Object::get`](crate::tape::Object::get) or [`Array::get`](crate::tape::Array::get) for each token
-/// without escapes.
+/// a call of [`Object::get`](crate::tape::Object::get) or [`Array::get`](crate::tape::Array::get) for each token.
 ///
 /// ```
 /// use simd_json::Pointer;

@@ -1,9 +1,10 @@
 //! A reference token, and the key that it is when its escapes are decoded (RFC 6901, section 3).
 ghost use Rattle.std.specs.Prelude.{◌≡◌, ◌<◌, ◌≤◌, ◌↔◌, ◌∷◌, IsTrue, IfSome, Some, None, drop, length, slice_index, option_map, MatchOption};
-ghost use Rattle.simd_json.specs.Followed.{IsWritten, tokens_after};
+ghost use Rattle.simd_json.specs.Followed.{IsPlain, IsWritten, tokens_after};
 ghost use Rattle.simd_json.specs.Pointed.{tokens, unescaped};
 ghost use Rattle.simd_json_parts.specs.Bytes.{slash};
 
+use crate::value::pointer::alike::are_same;
 use crate::value::tape::{Object, Value};
 
 // The token that follows a `/`, after which this is left of the pointer.
@@ -18,6 +19,13 @@ pub(super) fn first_token(left: &[u8]) -> &[u8]
         }
     }
     left
+}
+
+// Whether there is no `~` in the token.
+pub(super) fn is_plain(token: &[u8]) -> bool
+    ensures { IsTrue result ↔ IsPlain token.now }
+{
+    token.iter().all(|byte| *byte != b'~')
 }
 
 // The key that a token is, its escapes decoded. Its first bytes are decoded once, so that they are compared with
@@ -101,8 +109,8 @@ impl Key {
         if key.len() != self.len {
             return false;
         }
-        let (first, others) = key.split_at(self.held);
-        first == &self.bytes[..self.held] && is_unescaped(&token[self.rest..], others)
+        are_same(&self.bytes[..self.held], key)
+            && is_unescaped(&token[self.rest..], &key[self.held..])
     }
 }
 
