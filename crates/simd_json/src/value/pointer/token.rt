@@ -82,9 +82,8 @@ impl Key {
         })
     }
 
-    // The value of the first pair with the key. It is a function apart, so that tokens without an escape keep what
-    // they need in registers.
-    #[inline(never)]
+    // The value of the first pair with the key.
+    #[inline(always)]
     pub(super) fn find<'tape, 'input>(
         &self,
         token: &[u8],
