@@ -25,7 +25,7 @@ fn main(rt: HostRuntime) -> ExitCode {
 
 fn program(rt: &HostRuntime) -> Result<bool, Failure> {
     let words = env::args(rt).map_err(|_| Failure::Usage)?;
-    let words: Vec<String> = words.collect(rt.alloc())?;
+    let words: Vec<String> = words.collect(rt.alloc()).map_err(|_| Failure::Usage)?;
     let (key, longest) = settings(words.as_slice()).ok_or(Failure::Usage)?;
     let (mut input, mut out) = (Port::new(rt.reader()), Port::new(io::writer(rt)));
     let mut err = Port::new(rt.stderr());
