@@ -1,10 +1,11 @@
 -- A JSON Pointer a token at a time.
-use Rattle.std.proofs.Common.{◌≡◌, ◌≢◌, ◌∙◌, ap, sym, refl, ◌<◌, ◌≤◌, ◌+◌, ◌-◌, ◌*◌, ◌↔◌, ℕ, zero, suc, Bool, true, false, cond, bytes_eq, List, [], ◌∷◌, length, map, take, drop, length-drop, get_or, Some, None, Option, option_map, Result, Ok, Err, arith, ne_eqb, lit<, subst, eqb}
+use Rattle.std.proofs.Common.{◌≡◌, ◌≢◌, ◌∙◌, ap, sym, refl, ◌<◌, ◌≤◌, ◌+◌, ◌-◌, ◌*◌, ◌++◌, ◌↔◌, ℕ, zero, suc, Bool, true, false, cond, bytes_eq, List, [], ◌∷◌, length, map, take, drop, set, length-append, length-drop, append_assoc, get_or, Some, None, Option, option_map, Result, Ok, Err, arith, ne_eqb, lit<, subst, eqb}
 use Rattle.std.proofs.lemmas.Bool.{eqb-true, eq-eqb, ltb-false, le-ltb}
 use Rattle.std.proofs.lemmas.Int.Digits.{number_more, number_after_append, number_after_ge}
-use Rattle.std.proofs.lemmas.List.{get_or-take, get_or-drop, get_or-map, length-take-le, length-map, take_all, take-append-drop, drop-drop, drop_more, drop_all}
+use Rattle.std.proofs.lemmas.List.{get_or-take, get_or-drop, get_or-map, length-take-le, length-map, take_all, take-append-drop, drop-drop, drop_more, drop_all, take_more_set}
 use Rattle.std.specs.Char.{digit_value}
 use Rattle.std.specs.Int.Digits.{number_from_digits, number_from_digits_after}
+use Rattle.std.proofs.Math.Seq.{take-append_seam, drop-append_seam}
 use Rattle.std.proofs.lemmas.Option.{slice_get_past}
 use Rattle.std.proofs.lemmas.Slice.Eq.{bytes_eq-Decides}
 use Rattle.std.proofs.lemmas.Grind.{same_number_lists}
@@ -14,7 +15,7 @@ use Rattle.simd_json_parts.specs.Document.{Document, array, object, elements, El
 use Rattle.simd_json_parts.specs.Views.{first_with, is_array, is_object, value_type}
 use Rattle.simd_json_parts.specs.declared.node.ValueType.{ValueType}
 use Rattle.simd_json.specs.Pointed.{with_first, tokens, unescaped, is_array_index, array_index, element_at, member_at, named, stop, go_on, followed, pointed_from}
-use Rattle.simd_json.specs.Followed.{AreAlike, IsPlain, IsWritten, tokens_after, first_of, first_step, fits_64}
+use Rattle.simd_json.specs.Followed.{AreAlike, AreSame, IsPlain, IsWritten, tokens_after, first_of, first_step, fits_64}
 use Rattle.simd_json.specs.declared.value.pointer.PointerError.{PointerError}
 use Rattle.simd_json.specs.declared.value.pointer.PointerExpected.{PointerExpected}
 use Rattle.simd_json.specs.declared.value.pointer.PointerExpected.TheVariants as lacking
@@ -49,17 +50,6 @@ unescaped-plain (c ∷ []) lacks = rw (ne_eqb c 126 (lacks 0 (omega arith))) ref
 unescaped-plain (c ∷ e ∷ t) lacks =
     rw (ne_eqb c 126 (lacks 0 (omega arith)))
     (ap (option_map (λ k. c ∷ k)) (unescaped-plain (e ∷ t) (λ k less. lacks (suc k) (omega arith))))
-
-lacks-front : (p : List ℕ) (n : ℕ) → n ≤ length p → Lacks 126 n p → Lacks 126 (length (take n p)) (take n p)
-lacks-front p n within lacks k less is =
-    let inside : k < n = omega (arith, length-take-le n p within) in
-    lacks k inside (sym (get_or-take n p k 0 inside) ∙ is)
-
-pub plain-front : (p : List ℕ) (n : ℕ) → n < length p → Lacks 126 n p → IsPlain (take n p)
-plain-front p n inside lacks = lacks-front p n (omega arith) lacks
-
-pub plain-whole : (p : List ℕ) (n : ℕ) → length p ≤ n → Lacks 126 n p → IsPlain p
-plain-whole p n past lacks k less = lacks k (omega arith)
 
 -- ---- the first token of what is left of a pointer
 
@@ -220,6 +210,50 @@ malformed (Some key) is = cc
 pub is_some-len : (o : Option (List ℕ)) → is_some (option_map (λ k. length k) o) ≡ is_some o
 is_some-len None = refl
 is_some-len (Some key) = refl
+
+-- ---- a key whose first bytes are held
+
+pub held-none : (o : Option (List ℕ)) (bytes : List ℕ) → o ≡ option_map (λ others. take 0 bytes ++ others) o
+held-none None bytes = refl
+held-none (Some key) bytes = refl
+
+pub held-more : (o rest : Option (List ℕ)) (bytes : List ℕ) (n x : ℕ) → n < length bytes → o ≡ option_map (λ others. x ∷ others) rest
+    → option_map (λ others. take n bytes ++ others) o ≡ option_map (λ others. take (n + 1) (set bytes n x) ++ others) rest
+held-more o None bytes n x room is = ap (option_map (λ others. take n bytes ++ others)) is
+held-more o (Some key) bytes n x room is =
+    ap (option_map (λ others. take n bytes ++ others)) is
+    ∙ ap Some (sym (append_assoc (take n bytes) (x ∷ []) key) ∙ ap (λ held. held ++ key) (sym (take_more_set bytes n x room)))
+
+pub held-len : (o rest : Option (List ℕ)) (held : List ℕ) (n : ℕ) → o ≡ option_map (λ others. held ++ others) rest
+    → Some n ≡ option_map (λ key. length key) rest → Some (length held + n) ≡ option_map (λ key. length key) o
+held-len o None held n is long = cc
+held-len o (Some key) held n is long =
+    let same : n ≡ length key = cc in
+    ap Some (ap (λ m. length held + m) same ∙ sym (length-append held key)) ∙ sym (ap (option_map (λ k. length k)) is)
+
+pub same-front : (bytes key : List ℕ) (n : ℕ) → n ≤ length bytes → n ≤ length key
+    → (take n key ≡ take n bytes) ↔ AreSame (take n bytes) key 0 n
+same-front bytes key n few short = (
+  λ same k from less. sym (ap (λ l. get_or l k 0) same) ∙ get_or-take n key k 0 less,
+  λ same.
+      same_number_lists (take n key) (take n bytes) (length-take-le n key short ∙ sym (length-take-le n bytes few))
+      (λ k less. get_or-take n key k 0 (omega (arith, length-take-le n key short))
+      ∙ sym (same k (omega arith) (omega (arith, length-take-le n key short)))),
+)
+
+pub held-is : (held key : List ℕ) (n : ℕ) (rest : Option (List ℕ)) → length held ≡ n
+    → (option_map (λ others. held ++ others) rest ≡ Some key) ↔ ((take n key ≡ held) × (rest ≡ Some (drop n key)))
+held-is held key n None long = (λ is. cc, λ is. cc)
+held-is held key n (Some others) long = (
+  λ is.
+      (let whole : held ++ others ≡ key = cc in (
+        ap (λ m. take m key) (sym long) ∙ ap (take (length held)) (sym whole) ∙ take-append_seam held others,
+        ap Some (sym (drop-append_seam held others) ∙ ap (drop (length held)) whole ∙ ap (λ m. drop m key) long),
+      )),
+  λ is.
+      (let tail : others ≡ drop n key = cc in
+      ap Some (ap (λ l. held ++ l) tail ∙ ap (λ l. l ++ drop n key) (sym is.0) ∙ take-append-drop n key)),
+)
 
 -- ---- results
 

@@ -1,8 +1,8 @@
 -- A JSON Pointer that is split. Only private clauses cite it.
-use Rattle.std.specs.Prelude.{◌≡◌, ◌+◌, ℕ, List, length, take, drop, true, Some, option_map, option_and_then}
+use Rattle.std.specs.Prelude.{◌≡◌, ◌+◌, ℕ, List, take, drop, true, option_and_then}
 use Rattle.std.specs.Str.{IsCharBoundary}
-use Rattle.simd_json.specs.Followed.{IsPlain, fits_64}
-use Rattle.simd_json.specs.Pointed.{array_index, unescaped}
+use Rattle.simd_json.specs.Followed.{IsKey, IsPlain, fits_64}
+use Rattle.simd_json.specs.Pointed.{array_index}
 use Rattle.simd_json.specs.declared.value.pointer.split.Part.{Part}
 
 abbrev pub part_of : List ℕ → Part → List ℕ
@@ -12,7 +12,7 @@ part_of p s = take s.len (drop s.start p)
 abbrev pub IsKept : List ℕ → Part → Type 0
 IsKept t s =
     (s.is_plain ≡ true → IsPlain t)
-    × (Some s.key_len ≡ option_map (λ k. length k) (unescaped t))
+    × IsKey t s.key
     × (s.index ≡ option_and_then fits_64 (array_index t))
 
 abbrev pub IsToken : List ℕ → Part → Type 0

@@ -16,6 +16,10 @@ use simd_json_stages::stage2::StackState;
 use std::alloc::{Allocator, Global};
 use std::marker::Model;
 
+// How many containers may be open with a stack that is not kept, so that the first parse of a short input takes no
+// memory for one. A later parse takes it, since filling this one costs a tenth of the time of a short input.
+pub(crate) const FEW_OPEN: usize = 64;
+
 /// What parses use one after another: the lists of the structural positions and of the blocks that hold a
 /// backslash, and the stack of the open containers, of which there may be so many.
 ///
@@ -139,14 +143,14 @@ impl<A: Allocator> Buffers<A> {
     }
 
     // Lists the structural positions of the input and its blocks that hold a backslash, and reserves capacity
-    // for the containers that can open at the positions within the limit. Returns the fault of the whole
-    // input, or `OutOfMemory` where a growth was refused, and lists nothing then.
+    // for the containers that can open at the positions within the limit; new buffers reserve none for a few.
+    // Returns the fault of the whole input, or `OutOfMemory` where a growth was refused, and lists nothing then.
     pub(crate) fn find_positions(&mut self, input: &[u8]) -> Result<()>
         ensures found { OnOk result ((self.new.positions ≡ positions input.now)
             × (input_fault input.now ≡ None)) }
         ensures escapes { OnOk result (self.new.blocks ≡ backslash_blocks input.now) }
         ensures stack { OnOk result
-            (min (length (positions input.now)) self.new.limit ≤ self.new.stack_capacity) }
+            (min (length (positions input.now)) self.new.limit ≤ max self.new.stack_capacity 64) }
         ensures empty { OnErr result ((self.new.positions ≡ []) × (self.new.blocks ≡ [])) }
         ensures limit { self.new.limit ≡ self.old.limit }
         ensures kept { KeepsCapacities self.old self.new }
@@ -154,16 +158,16 @@ impl<A: Allocator> Buffers<A> {
             ⊎ (LacksMemory input.now e × (capacity self.old < length input.now))) }
     {
         self.clear();
+        let are_new = self.structural_indexes.is_empty();
         let found = BlockStage1Parse::find_structural_bits(
             input,
             &mut self.structural_indexes,
             &mut self.escape_blocks,
         )?;
-        lengthen(
-            &mut self.stack,
-            found.positions.min(self.max_depth),
-            StackState::EMPTY,
-        )?;
+        let open = found.positions.min(self.max_depth);
+        if open > FEW_OPEN || !are_new {
+            lengthen(&mut self.stack, open, StackState::EMPTY)?;
+        }
         self.used = found.positions;
         self.used_blocks = found.escape_blocks;
         Ok(())

@@ -1,23 +1,27 @@
 //! The entry points.
-ghost use Rattle.std.specs.Prelude.{◌≡◌, ◌≢◌, ◌≤◌, ◌<◌, [], ℕ, List, length, min};
+ghost use Rattle.std.specs.Prelude.{◌≡◌, ◌≢◌, ◌≤◌, ◌<◌, [], ℕ, List, length, min, max, vec_capacity};
 ghost use Rattle.std.specs.Prelude.{IfErr, IfOk, OnOk, OnErr, None, Err};
 ghost use Rattle.std.specs.Result.{result_err};
 ghost use Rattle.simd_json.specs.Parsed.{IsParse, IsPaddedParse, IsParsed, IsRefused, nodes_of};
 ghost use Rattle.simd_json.specs.Capacities.{KeepsCapacities, ListsSame, capped};
 ghost use Rattle.simd_json.specs.Memory.{HasMemory, IsOutOfMemory};
 ghost use Rattle.simd_json.specs.Reserved.{IsReserved, parse_capacity};
+ghost use Rattle.simd_json_parts.specs.Descent.{descent};
 ghost use Rattle.simd_json_parts.specs.FaultKinds.{IsOfToken};
 ghost use Rattle.simd_json_parts.specs.InputFaults.{input_fault};
 ghost use Rattle.simd_json.specs.MaxDepth.{default_max_depth};
 ghost use Rattle.simd_json_parts.specs.Positions.{positions};
 ghost use Rattle.simd_json_stages.specs.EscapeBlocks.{backslash_blocks};
+ghost use Rattle.simd_json_stages.specs.Building.{IsListed};
 ghost use Rattle.simd_json_stages.specs.NodesEnough.{nodes_enough};
+ghost use Rattle.simd_json_stages.specs.Refusals.{IsTokenFault};
 
-use crate::buffers::Buffers;
+use crate::buffers::{Buffers, FEW_OPEN};
 use crate::tape::Tape;
 use crate::{DEFAULT_MAX_DEPTH, INPUT_PADDING};
 use simd_json_parts::error::{Error, ErrorType, Result};
-use simd_json_stages::stage2::{build_tape, nodes_enough};
+use simd_json_parts::node::Node;
+use simd_json_stages::stage2::{StackState, build_tape, nodes_enough};
 use std::alloc::Allocator;
 
 /// Reads the bytes of one document (RFC 8259) as a tape, with at most [`DEFAULT_MAX_DEPTH`] containers open
@@ -276,7 +280,7 @@ fn build<'de, A: Allocator, B: Allocator>(
 ) -> Result<()>
     requires positions { (buffers.old.positions ≡ positions s.old) × (input_fault s.old ≡ None) }
     requires escapes { buffers.old.blocks ≡ backslash_blocks s.old }
-    requires stack { min (length (positions s.old)) buffers.old.limit ≤ buffers.old.stack_capacity }
+    requires stack { min (length (positions s.old)) buffers.old.limit ≤ max buffers.old.stack_capacity 64 }
     requires nodes { nodes_enough (length (positions s.old)) buffers.old.limit ≤ tape.old.capacity }
     requires empty { tape.old.nodes ≡ [] }
     ensures tape { OnOk result (IsParsed s.old buffers.old.limit tape.new.nodes) }
@@ -287,7 +291,7 @@ fn build<'de, A: Allocator, B: Allocator>(
     ensures capacity { tape.new.capacity ≡ tape.old.capacity }
     ensures fault { IfErr result (λ e. IsRefused s.old buffers.old.limit e × IsOfToken e) }
 {
-    match build_tape(
+    match build_nodes(
         s,
         &buffers.structural_indexes[..buffers.used],
         &buffers.escape_blocks[..buffers.used_blocks],
@@ -301,4 +305,31 @@ fn build<'de, A: Allocator, B: Allocator>(
             Err(e)
         }
     }
+}
+
+// The nodes of the tape, with the stack that is kept, or, where it is too short, with one for a few containers.
+fn build_nodes<'de, A: Allocator>(
+    s: &'de mut [u8],
+    indexes: &[u32],
+    escape_blocks: &[u32],
+    stack: &mut [StackState],
+    nodes: &mut Vec<Node<'de>, A>,
+    max_depth: usize,
+) -> Result<()>
+    requires positions { indexes.now ≡ positions s.old }
+    requires escapes { escape_blocks.now ≡ backslash_blocks s.old }
+    requires whole { input_fault s.old ≡ None }
+    requires capacity { nodes_enough (length indexes.now) max_depth ≤ vec_capacity nodes.old }
+    requires stack { min (length indexes.now) max_depth ≤ max (length stack.old) 64 }
+    requires empty { nodes.old.items ≡ [] }
+    ensures capacity { vec_capacity nodes.new ≡ vec_capacity nodes.old }
+    ensures few { OnOk result (length nodes.new.items ≤ length indexes.now) }
+    ensures built { OnOk result (IsListed s.old max_depth nodes.new.items) }
+    ensures refused { IfErr result (λ e. IsTokenFault e × (descent s.old max_depth ≡ Err e)) }
+{
+    if indexes.len().min(max_depth) <= stack.len() {
+        return build_tape(s, indexes, escape_blocks, stack, nodes, max_depth);
+    }
+    let mut few = [StackState::EMPTY; FEW_OPEN];
+    build_tape(s, indexes, escape_blocks, &mut few, nodes, max_depth)
 }

@@ -1,10 +1,11 @@
 //! Nodes and texts in the memory of a program in C. Texts are copied: no contract says what the input holds after
 //! a parse, so a node's text can't be an index into it. Integers are two words, since 128 bits don't cross to C.
-ghost use Rattle.std.specs.Prelude.{◌≡◌, ◌≤◌, ◌<◌, ◌+◌, ◌^◌, ◌++◌, ◌∷◌, [], take, drop, length, map};
+ghost use Rattle.std.specs.Prelude.{◌≡◌, ◌≤◌, ◌<◌, ◌+◌, ◌^◌, ◌++◌, ◌∷◌, [], false};
+ghost use Rattle.std.specs.Prelude.{ℕ, take, drop, length, map};
 ghost use Rattle.simd_json_parts.specs.Nodes.{item_of};
 ghost use Rattle.simd_json_c.specs.Calls.{ArePut, IsPut};
-ghost use Rattle.simd_json_c.specs.Nodes.{node_of, nodes_from, span, static_node, words};
-ghost use Rattle.simd_json_c.specs.Nodes.{room_for, text_of, texts};
+ghost use Rattle.simd_json_c.specs.Nodes.{node_of, nodes_from, span, static_node, variant_kind};
+ghost use Rattle.simd_json_c.specs.Nodes.{room_for, text_of, texts, words};
 
 use crate::copies::append;
 use crate::status::TOO_LITTLE_ROOM;
@@ -59,7 +60,8 @@ fn span_of(kind: u32, len: usize, value: usize) -> Node
     }
 }
 
-#[inline(always)]
+// Out of line, since its jump is through addresses.
+#[inline(never)]
 fn fixed(value: StaticNode) -> Node
     ensures { result ≡ static_node value }
 {
@@ -74,18 +76,66 @@ fn fixed(value: StaticNode) -> Node
     }
 }
 
-// The node, where its text begins at `start`.
+// Whether the number may have 128 bits.
 #[inline(always)]
-fn exported(node: &tape::Node<'_>, start: usize) -> Node
-    ensures { result ≡ node_of start (item_of node.now) }
+fn is_wide(value: &StaticNode) -> bool
+    ensures { result ≡ false → (static_node value.now).kind ≤ 3 }
 {
-    match *node {
-        tape::Node::Static(value) => fixed(value),
-        tape::Node::Decimal(text) => span_of(6, text.len(), start),
-        tape::Node::String(text) => span_of(7, text.len(), start),
-        tape::Node::Array { len, count } => span_of(8, len, count),
-        tape::Node::Object { len, count } => span_of(9, len, count),
+    matches!(*value, StaticNode::I128(_) | StaticNode::U128(_))
+}
+
+#[inline(always)]
+fn literal_kind(value: &StaticNode) -> u32
+    requires { (static_node value.now).kind ≤ 1 }
+    ensures { result ≡ (static_node value.now).kind }
+{
+    match *value {
+        StaticNode::Bool(_) => 1,
+        _ => 0,
     }
+}
+
+#[inline(always)]
+fn literal_value(value: &StaticNode) -> u64
+    requires { (static_node value.now).kind ≤ 1 }
+    ensures { result ≡ (static_node value.now).value }
+{
+    match *value {
+        StaticNode::Bool(true) => 1,
+        _ => 0,
+    }
+}
+
+// A null or a truth value, without a branch: which of them comes next can't be foreseen.
+#[inline(always)]
+fn literal(value: &StaticNode) -> Node
+    requires { (static_node value.now).kind ≤ 1 }
+    ensures { result ≡ static_node value.now }
+{
+    Node {
+        kind: literal_kind(value),
+        len: 0,
+        value: literal_value(value),
+        high: 0,
+    }
+}
+
+// The kinds of a node's variants, in order, and 0 for a scalar, which has one of six. They are looked up: of a match over
+// all variants the compiler makes a jump through addresses, which takes longer than all else that is done for a node.
+const KINDS: [u32; 5] = [7, 9, 8, 0, 6];
+
+#[inline(always)]
+fn variant_kind(node: &tape::Node<'_>) -> u32
+    ensures { result ≡ variant_kind (item_of node.now) }
+{
+    let variant = match *node {
+        tape::Node::String(_) => 0,
+        tape::Node::Object { .. } => 1,
+        tape::Node::Array { .. } => 2,
+        tape::Node::Static(_) => 3,
+        tape::Node::Decimal(_) => 4,
+    };
+    KINDS[variant]
 }
 
 #[inline(always)]
@@ -111,6 +161,22 @@ fn text_len(nodes: &[tape::Node<'_>]) -> usize
     text
 }
 
+// Of one of the two last kinds.
+#[inline(always)]
+fn container(node: &tape::Node<'_>, kind: u32) -> Node
+    requires kind { kind ≡ variant_kind (item_of node.now) }
+    requires container { 8 ≤ kind }
+    ensures node { (start : ℕ) → node_of start (item_of node.now) ≡ result }
+    ensures text { text_of (item_of node.now) ≡ [] }
+{
+    match *node {
+        tape::Node::Array { len, count } | tape::Node::Object { len, count } => span_of(
+            kind, len, count,
+        ),
+        _ => span_of(kind, 0, 0),
+    }
+}
+
 #[inline(always)]
 fn store(out: &mut [Node], at: usize, node: Node)
     requires { at < length out.old }
@@ -118,6 +184,50 @@ fn store(out: &mut [Node], at: usize, node: Node)
     ensures behind { drop (at + 1) out.new ≡ drop (at + 1) out.old }
 {
     out[at] = node;
+}
+
+// The kinds are told apart one after another, so that there is no jump through addresses.
+#[inline(always)]
+fn store_fixed(out: &mut [Node], at: usize, value: StaticNode)
+    requires { at < length out.old }
+    ensures front { take (at + 1) out.new ≡ take at out.old ++ static_node value ∷ [] }
+    ensures behind { drop (at + 1) out.new ≡ drop (at + 1) out.old }
+{
+    if is_wide(&value) {
+        store(out, at, fixed(value));
+    } else if let StaticNode::U64(number) = value {
+        store(out, at, words_of(3, number as u128));
+    } else if let StaticNode::I64(number) = value {
+        store(out, at, words_of(2, (number as i128).cast_unsigned()));
+    } else {
+        store(out, at, literal(&value));
+    }
+}
+
+// Puts a node, and its text at an index, and returns the index after the text.
+#[inline(always)]
+fn put(node: &tape::Node<'_>, out: &mut [Node], i: usize, text: &mut [u8], at: usize) -> usize
+    requires node { i < length out.old }
+    requires text { at + length (text_of (item_of node.now)) ≤ length text.old }
+    ensures node { take (i + 1) out.new ≡ take i out.old ++ node_of at (item_of node.now) ∷ [] }
+    ensures others { drop (i + 1) out.new ≡ drop (i + 1) out.old }
+    ensures end { result ≡ at + length (text_of (item_of node.now)) }
+    ensures text { take (at + length (text_of (item_of node.now))) text.new ≡ take at text.old ++ text_of (item_of node.now) }
+    ensures behind { drop (at + length (text_of (item_of node.now))) text.new
+        ≡ drop (at + length (text_of (item_of node.now))) text.old }
+{
+    let kind = variant_kind(node);
+    if kind == 6 || kind == 7 {
+        let bytes = text_at(node);
+        store(out, i, span_of(kind, bytes.len(), at));
+        return append(text, at, bytes);
+    }
+    if let tape::Node::Static(value) = *node {
+        store_fixed(out, i, value);
+    } else {
+        store(out, i, container(node, kind));
+    }
+    at
 }
 
 // Puts nodes and texts, and returns how many bytes the texts have together.
@@ -130,8 +240,7 @@ fn put_all(nodes: &[tape::Node<'_>], out: &mut [Node], text: &mut [u8]) -> usize
 {
     let mut at = 0usize;
     for (i, node) in nodes.iter().enumerate() {
-        store(out, i, exported(node, at));
-        at = append(text, at, text_at(node));
+        at = put(node, out, i, text, at);
     }
     at
 }

@@ -1,8 +1,8 @@
 -- The words of a group, a block further.
-use Rattle.std.proofs.Common.{◌≡◌, sym, subst, ℕ, ◌+◌, ◌*◌, ◌<◌, inl, inr, List, length, slice_index, slice_set, arith}
+use Rattle.std.proofs.Common.{◌≡◌, sym, subst, ℕ, ◌+◌, ◌*◌, ◌<◌, ◌≤◌, inl, inr, List, length, slice_index, slice_set, arith}
 use Rattle.std.proofs.lemmas.Bool.{cases_lt}
 use Rattle.std.proofs.lemmas.List.{get_or-set_same, get_or-set_other}
-use Rattle.simd_json_stages.specs.Blocks.{HasClasses, AreParts, IsAscii}
+use Rattle.simd_json_stages.specs.Blocks.{HasClasses, AreParts, IsAscii, CanList}
 use Rattle.simd_json_stages.specs.Groups.{HaveClasses, HaveParts}
 use Rattle.simd_json_stages.specs.declared.stage1.words.Parts.{Parts}
 
@@ -53,3 +53,10 @@ IsAscii-next b from to end first second = λ i l h. elim (cases_lt i to) [
   | inl below ↦ first i l below
   | inr here ↦ second i here h
 ]
+
+-- ---- capacity for the numbers of blocks that hold a backslash, after some more of these blocks
+
+pub CanList-after : (blocks : List (List ℕ)) (first end used len n used_then len_then : ℕ) → CanList blocks first end used len
+    → first + n ≤ end → used_then ≤ used + n → len ≤ len_then → CanList blocks (first + n) end used_then len_then
+CanList-after blocks first end used len n used_then len_then (inl enough) to few longer = inl (omega arith)
+CanList-after blocks first end used len n used_then len_then (inr none) to few longer = inr (λ k d l h. none k d (omega arith) h)

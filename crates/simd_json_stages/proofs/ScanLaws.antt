@@ -1,6 +1,6 @@
 -- What a scan knows, a block further.
 use Rattle.std.proofs.Common.{◌≡◌, if◌then◌else◌, ◌≢◌, refl, sym, ◌∙◌, ap, ap₂, subst, ℕ, zero, suc, ◌+◌, ◌*◌, ◌/◌, ◌%◌, ◌^◌, ◌<◌, ◌≤◌}
-use Rattle.std.proofs.Common.{inl, inr, List, [], ◌∷◌, ◌++◌, length, get_or, take, drop, Bool, true, false, not, ◌&&◌, ◌||◌, ◌==◌}
+use Rattle.std.proofs.Common.{inl, inr, List, [], ◌∷◌, ◌++◌, length, get_or, take, drop, Bool, true, false, not, ◌&&◌, ◌||◌, ◌==◌, IsTrue}
 use Rattle.std.proofs.Common.{add-zero, zero-add, arith, pow-suc, eqb-true, eq-eqb}
 use Rattle.std.specs.Int.{from_bool}
 use Rattle.std.specs.List.{list_any, range_with_len, filter}
@@ -111,6 +111,11 @@ listed-next p k n listed after end t e h written = written ∙ ap (λ ks. if t t
 pub bool-small : (t : Bool) → bool_byte t ≤ 1
 bool-small true = omega arith
 bool-small false = omega arith
+
+-- one more is within a list that has capacity for it
+pub listed-within : (t : Bool) {used len end : ℕ} → (IsTrue t → used < len) → used ≤ len → end ≡ used + bool_byte t → end ≤ len
+listed-within true more within count = let one = more refl in omega arith
+listed-within false more within count = omega arith
 
 -- ---- all of it
 

@@ -1,7 +1,7 @@
 -- What a scan by blocks of 64 bytes keeps between two blocks, and what it finds in one. It serves proofs: only the crate's
 -- private clauses cite it.
 use Rattle.std.specs.Prelude.{◌≡◌, ℕ, zero, suc, ◌+◌, ◌-◌, ◌*◌, ◌^◌, ◌<◌, ◌≤◌, ◌==◌, List, length, take, filter, Bool, true, false, not}
-use Rattle.std.specs.Prelude.{◌&&◌, ◌||◌, slice_index, slice_index_or}
+use Rattle.std.specs.Prelude.{◌&&◌, ◌||◌, ◌⊎◌, slice_index, slice_index_or}
 use Rattle.std.specs.List.{list_any, range_with_len}
 use Rattle.std.specs.Int.{from_bool}
 use Rattle.simd_json_parts.specs.Bytes.{backslash, is_whitespace, is_structural, is_control, byte_at}
@@ -40,6 +40,15 @@ pub record IsBlock (b : List ℕ) (from : ℕ) (bytes : List ℕ) : Type 0 where
 -- each whole block
 abbrev pub AreBlocks : List ℕ → List (List ℕ) → Type 0
 AreBlocks b blocks = (k : ℕ) (d : List ℕ) → k < length blocks → IsBlock b (64 * k) (slice_index_or blocks k d)
+
+-- none of the blocks from one to another holds a backslash
+abbrev pub HaveNoBackslash : List (List ℕ) → ℕ → ℕ → Type 0
+HaveNoBackslash blocks first end = (k : ℕ) (d : List ℕ) → first ≤ k → k < end
+    → list_any (λ x. x == backslash) (slice_index_or blocks k d) ≡ false
+
+-- where a list of `len` numbers has `used` in use, it has capacity for those of these blocks that hold one
+abbrev pub CanList : List (List ℕ) → ℕ → ℕ → ℕ → ℕ → Type 0
+CanList blocks first end used len = (used + (end - first) ≤ len) ⊎ HaveNoBackslash blocks first end
 
 -- the bytes from one index to another are ASCII
 abbrev pub IsAscii : List ℕ → ℕ → ℕ → Type 0

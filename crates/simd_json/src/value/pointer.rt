@@ -8,15 +8,13 @@ ghost use Rattle.simd_json_parts.specs.Bytes.{slash};
 
 mod alike;
 mod display;
-mod escaped;
 mod index;
 mod split;
 mod token;
 
 use crate::value::pointer::alike::are_alike;
-use crate::value::pointer::escaped::escaped_member;
 use crate::value::pointer::index::{is_index, read_index};
-use crate::value::pointer::token::{Token, decoded_len};
+use crate::value::pointer::token::{Key, decoded_len, first_token, is_plain};
 use crate::value::tape::{Array, Object, Value};
 use simd_json_parts::node::ValueType;
 pub use split::Pointer;
@@ -163,12 +161,26 @@ fn member<'tape, 'input>(
             return Some((value, key.len()));
         }
     }
-    let token = Token::first(left);
-    if token.is_plain {
+    let token = first_token(left);
+    if is_plain(token) {
         return None;
     }
-    let value = escaped_member(object, token.bytes)?;
-    Some((value, token.bytes.len()))
+    let value = escaped_member(object, token)?;
+    Some((value, token.len()))
+}
+
+// The value of the first pair whose key the token is, its escapes decoded.
+#[cold]
+fn escaped_member<'tape, 'input>(
+    object: Object<'tape, 'input>,
+    token: &[u8],
+) -> Option<Value<'tape, 'input>>
+    ensures { option_map doc result ≡ result_ok (member_at (pairs object.entry) (unescaped token.now)) }
+{
+    let Some(key) = Key::new(token) else {
+        return None;
+    };
+    key.find(token, object)
 }
 
 // The value at the index that the first token is.
@@ -197,7 +209,7 @@ fn first_index(left: &[u8]) -> Option<(usize, usize)>
     if is_front_token(left, 1) && left[0].is_ascii_digit() {
         return Some((usize::from(left[0] - b'0'), 1));
     }
-    let token = Token::first(left).bytes;
+    let token = first_token(left);
     Some((read_index(token)?, token.len()))
 }
 
@@ -229,7 +241,7 @@ fn lack(value: Value<'_, '_>, left: &[u8]) -> PointerExpected
     if left[0] != b'/' {
         return PointerExpected::Slash;
     }
-    lack_within(value, Token::first(&left[1..]).bytes)
+    lack_within(value, first_token(&left[1..]))
 }
 
 // What the token, which names nothing in the value, lacks there.

@@ -97,6 +97,82 @@ fn pointers_lead_to_the_first_of_equal_keys(rt: HostRuntime) -> Tested {
     Ok(())
 }
 
+// Keys that share what stands before an escape, or after it.
+const ESCAPED: [u8; 198] =
+    *b"{\"a/b\":1,\"a/c\":2,\"a~b\":3,\"a/\":4,\"/a\":5,\"~\":6,\"~1\":7,\"/\":8,\"//\":9,\"~/~\":10,\"a/bc\":11,\"a\":12,\"/users/{id}/posts\":13,\"/pages/{id}/posts\":14,\"/users/{id}/likes\":15,\"example.com/a/key/of/33/bytes/in\":16}";
+
+const ESCAPED_ROWS: [(&str, Option<u64>); 22] = [
+    ("/a~1b", Some(1)),
+    ("/a~1c", Some(2)),
+    ("/a~0b", Some(3)),
+    ("/a~1", Some(4)),
+    ("/~1a", Some(5)),
+    ("/~0", Some(6)),
+    ("/~01", Some(7)),
+    ("/~1", Some(8)),
+    ("/~1~1", Some(9)),
+    ("/~0~1~0", Some(10)),
+    ("/a~1bc", Some(11)),
+    ("/a", Some(12)),
+    ("/~1users~1{id}~1posts", Some(13)),
+    ("/~1pages~1{id}~1posts", Some(14)),
+    ("/~1users~1{id}~1likes", Some(15)),
+    ("/example.com~1a~1key~1of~133~1bytes~1in", Some(16)),
+    ("/a~1d", None),
+    ("/a~1b~1", None),
+    ("/~1~1~1", None),
+    ("/~00", None),
+    ("/~1users~1{id}~1like", None),
+    ("/a~1b~", None),
+];
+
+#[test]
+fn tokens_with_escapes_name_the_key_that_they_write(rt: HostRuntime) -> Tested {
+    let mut input = ESCAPED;
+    let tape = to_tape(rt.alloc(), &mut input)?;
+    assert!(rt; !tape.is_empty());
+    let value = tape.as_value();
+    for (pointer, number) in &ESCAPED_ROWS {
+        assert_eq!(rt; number_at(value, pointer), *number);
+        assert_eq!(rt; split_number_at(value, pointer), *number);
+    }
+    Ok(())
+}
+
+// The first 63 bytes of keys: of 64, one more is decoded once, and those after it where they are compared.
+const STEM: &str = "a-key-that-is-so-long-that-its-last-bytes-are-not-decoded-first";
+
+// What follows the stem in a pointer.
+const TAILS: [(&str, Option<u64>); 9] = [
+    ("", Some(1)),
+    ("~1", Some(2)),
+    ("~1~1", Some(3)),
+    ("~1~0", Some(4)),
+    ("~1~0~1", Some(5)),
+    ("~1~0~0", Some(6)),
+    ("~0", None),
+    ("~1~01", None),
+    ("~1~0~1~1", None),
+];
+
+#[test]
+fn tokens_with_escapes_may_be_long(rt: HostRuntime) -> Tested {
+    assert_eq!(rt; STEM.len(), 63);
+    let text = format!(in rt.alloc();
+        "{{\"{STEM}\":1,\"{STEM}/\":2,\"{STEM}//\":3,\"{STEM}/~\":4,\"{STEM}/~/\":5,\"{STEM}/~~\":6}}"
+    )?;
+    let mut input = text.into_bytes();
+    let tape = to_tape(rt.alloc(), &mut input)?;
+    assert!(rt; !tape.is_empty());
+    let value = tape.as_value();
+    for (tail, number) in &TAILS {
+        let pointer = format!(in rt.alloc(); "/{STEM}{tail}")?;
+        assert_eq!(rt; number_at(value, pointer.as_str()), *number);
+        assert_eq!(rt; split_number_at(value, pointer.as_str()), *number);
+    }
+    Ok(())
+}
+
 #[test]
 fn pointers_are_split_within_their_limit(rt: HostRuntime) -> Tested {
     let whole = Pointer::<0>::new("").expect(&rt, "it has no token");

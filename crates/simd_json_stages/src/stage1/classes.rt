@@ -59,14 +59,24 @@ pub(super) fn classes(bytes: &[u8; 64]) -> ClassWords
     let low = u8x32::from_slice(&bytes[..32]);
     let high = u8x32::from_slice(&bytes[32..]);
     let space = u8x32::splat(0x20);
-    let backslash = u8x32::splat(b'\\');
     ClassWords {
         space_or_quote: space_or_quote(low) | (space_or_quote(high) << 32),
         op_or_quote: op_or_quote(low) | (op_or_quote(high) << 32),
         control: low.simd_lt(space).to_bitmask() | (high.simd_lt(space).to_bitmask() << 32),
         high: (low | high).simd_ge(u8x32::splat(0x80)).to_bitmask(),
-        has_backslash: (low.simd_eq(backslash) | high.simd_eq(backslash)).to_bitmask() != 0,
+        has_backslash: has_backslash(bytes),
     }
+}
+
+// Whether one of the bytes is a backslash.
+#[inline(always)]
+pub(super) fn has_backslash(bytes: &[u8; 64]) -> bool
+    ensures { result ≡ list_any (λ x. x == backslash) bytes.now }
+{
+    let low = u8x32::from_slice(&bytes[..32]);
+    let high = u8x32::from_slice(&bytes[32..]);
+    let backslash = u8x32::splat(b'\\');
+    (low.simd_eq(backslash) | high.simd_eq(backslash)).to_bitmask() != 0
 }
 
 #[inline(always)]

@@ -1,6 +1,6 @@
 // A scan of a whole input: its whole blocks in windows, and then what is left.
 ghost use Rattle.std.specs.Prelude.{◌≡◌, ◌+◌, ◌*◌, ◌/◌, ◌^◌, ◌<◌, ◌≤◌, ◌⊎◌, ℕ, List, length, take, drop};
-ghost use Rattle.std.specs.Prelude.{IfOk, IfErr, IsUtf8};
+ghost use Rattle.std.specs.Prelude.{IfOk, IfErr, IsTrue, IsUtf8};
 ghost use Rattle.std.specs.Simd.{first_chunks};
 ghost use Rattle.simd_json_parts.specs.Limits.{max_length};
 ghost use Rattle.simd_json_stages.specs.Blocks.{AreClassified, AreParts, IsClassified};
@@ -34,7 +34,7 @@ impl Classifying {
     #[inline(always)]
     fn with_block(self, found: Classified, number: usize, listed: &mut [u32]) -> Classifying
         requires short { number < 2 ^ 32 }
-        requires capacity { self.listed < length listed.old }
+        requires capacity { IsTrue found.has_backslash → self.listed < length listed.old }
         ensures few { result.listed ≤ self.listed + 1 }
         ensures ascii { result.high ≡ 0 → (self.high ≡ 0) × (found.high ≡ 0) }
         ensures classified { (b : List ℕ) → AreClassified b (64 * number) found
@@ -125,6 +125,7 @@ pub(super) fn scan_blocks<A: Allocator>(
         let window = Window { first, end };
         checked = capacity_for(
             input,
+            blocks,
             checked,
             window,
             done,

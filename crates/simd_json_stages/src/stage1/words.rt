@@ -1,6 +1,8 @@
 // The words of a block: from classes to positions, 64 bytes at a time, as in G. Langdale and D. Lemire, "Parsing
 // Gigabytes of JSON per Second", VLDB Journal 28 (2019): escapes, quoted strings and token starts by arithmetic.
-ghost use Rattle.std.specs.Prelude.{◌≡◌, ◌+◌, ℕ, List, Bool};
+ghost use Rattle.std.specs.Prelude.{◌≡◌, ◌==◌, ◌+◌, ℕ, List, Bool};
+ghost use Rattle.std.specs.List.{list_any};
+ghost use Rattle.simd_json_parts.specs.Bytes.{backslash};
 ghost use Rattle.std.specs.Int.{from_bool};
 ghost use Rattle.simd_json_stages.specs.Words.{HasBits, escaped_in, parity};
 ghost use Rattle.simd_json_stages.specs.Carries.{is_escaped_at};
@@ -89,8 +91,9 @@ fn prefix_xor(x: u64) -> u64
 // The classes of a block, and what is escaped in it. `before` is 1 where its first byte is, else 0.
 #[inline(always)]
 pub(super) fn classify(bytes: &[u8; 64], before: u64) -> Classified
-    ensures { (b : List ℕ) (i : ℕ) → IsBlock b i bytes.now → before ≡ from_bool (is_escaped_at b i)
+    ensures classified { (b : List ℕ) (i : ℕ) → IsBlock b i bytes.now → before ≡ from_bool (is_escaped_at b i)
         → AreClassified b i result }
+    ensures escapes { result.has_backslash ≡ list_any (λ x. x == backslash) bytes.now }
 {
     let m = classes(bytes);
     // Most blocks hold no backslash.

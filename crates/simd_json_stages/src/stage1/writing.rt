@@ -1,7 +1,7 @@
 // The indexes of a block's positions, from the word of their bits to the list: several at a time whether they are
 // there or not, as simdjson's index extraction.
 ghost use Rattle.std.specs.Prelude.{◌≡◌, ◌+◌, ◌^◌, ◌<◌, ◌≤◌, ◌++◌, [], ◌∷◌, ℕ, List, length, take};
-ghost use Rattle.std.specs.Prelude.{if◌then◌else◌};
+ghost use Rattle.std.specs.Prelude.{if◌then◌else◌, IsTrue};
 ghost use Rattle.std.specs.Int.{from_bool};
 ghost use Rattle.std.specs.Int.RustNames.{count_ones};
 ghost use Rattle.simd_json_stages.specs.Words.{set_bits};
@@ -86,7 +86,7 @@ pub(super) fn write_exactly(out: &mut [u32], used: usize, base: u32, bits: u64) 
 // Returns how many are in use then.
 #[inline(always)]
 pub(super) fn list_block(listed: &mut [u32], used: usize, number: u32, has_backslash: bool) -> usize
-    requires capacity { used < length listed.old }
+    requires capacity { IsTrue has_backslash → used < length listed.old }
     ensures listed { take result listed.new
         ≡ (if has_backslash then take used listed.old ++ number ∷ [] else take used listed.old) }
     ensures count { result ≡ used + from_bool has_backslash }

@@ -13,22 +13,22 @@ invariant_of-tape g c =
     (parsed c.args.s.now c.buffers.inside.max_depth _ c.requires.positions.1 c.in-Ok.ensures.built)
 
 pub returns-clause-tape : goal.returns-clause-tape
-returns-clause-tape g c = elim c.match-build_tape.branch [
+returns-clause-tape g c = elim c.match-build_nodes.branch [
   | in-Ok w ↦ rw (w.result-is, w.tape-is)
-      (subst (λ limit. IsParsed c.args.s.now limit (map item_of c.build_tape.new.nodes.items)) (ap (λ r. r.limit) c.buffers.view_is)
+      (subst (λ limit. IsParsed c.args.s.now limit (map item_of c.build_nodes.new.nodes.items)) (ap (λ r. r.limit) c.buffers.view_is)
       (parsed c.args.s.now c.buffers.inside.max_depth _ c.requires.positions.1 w.in-Ok.ensures.built))
   | in-Err w ↦ rw w.result-is tt
 ]
 
 pub returns-clause-some : goal.returns-clause-some
-returns-clause-some g c = elim c.match-build_tape.branch [
+returns-clause-some g c = elim c.match-build_nodes.branch [
   | in-Ok w ↦ rw (w.result-is, w.tape-is) (parsed-some c.args.s.now c.buffers.inside.max_depth _
       (parsed c.args.s.now c.buffers.inside.max_depth _ c.requires.positions.1 w.in-Ok.ensures.built))
   | in-Err w ↦ rw w.result-is tt
 ]
 
 pub returns-clause-fault : goal.returns-clause-fault
-returns-clause-fault g c = elim c.match-build_tape.branch [
+returns-clause-fault g c = elim c.match-build_nodes.branch [
   | in-Ok w ↦ rw w.result-is tt
   | in-Err w ↦
       let refused = w.in-Err.ensures.refused.1 in

@@ -5,9 +5,8 @@ ghost use Rattle.simd_json.specs.Followed.{tokens_after};
 ghost use Rattle.simd_json.specs.Pointed.{is_pointer};
 ghost use Rattle.simd_json.specs.Splitting.{IsToken, part_of};
 
-use crate::value::pointer::escaped::named_member;
 use crate::value::pointer::index::read_index;
-use crate::value::pointer::token::{Token, decoded_len};
+use crate::value::pointer::token::{Key, first_token, is_plain};
 use crate::value::tape::{Array, Object, Value};
 
 // A reference token, as a part of a pointer's text, and what it names.
@@ -17,8 +16,7 @@ struct Part {
     len: usize,
     // It has no `~`.
     is_plain: bool,
-    // How many bytes it has, decoded.
-    key_len: usize,
+    key: Key,
     // The array index that it is, where 64 bits hold it.
     index: Option<usize>,
 }
@@ -36,37 +34,36 @@ impl Part {
         start: 0,
         len: 0,
         is_plain: true,
-        key_len: 0,
+        key: Key::EMPTY,
         index: None,
     };
 
     // The token, which begins at this byte, or `None` where a `~` of it begins no escape.
-    fn new(token: Token<'_>, start: usize) -> Option<Part>
-        ensures { MatchOption result (unescaped token.entry.bytes.now ≡ None)
-            (λ part. (part.start ≡ start) × (part.len ≡ length token.entry.bytes.now)
-            × IsKept token.entry.bytes.now part) }
+    fn new(token: &[u8], start: usize) -> Option<Part>
+        ensures { MatchOption result (unescaped token.now ≡ None)
+            (λ part. (part.start ≡ start) × (part.len ≡ length token.now) × IsKept token.now part) }
     {
-        let Some(key_len) = decoded_len(token.bytes) else {
+        let Some(key) = Key::new(token) else {
             return None;
         };
         Some(Part {
             start,
-            len: token.bytes.len(),
-            is_plain: token.is_plain,
-            key_len,
-            index: read_index(token.bytes),
+            len: token.len(),
+            is_plain: is_plain(token),
+            key,
+            index: read_index(token),
         })
     }
 
     // The value that it names in another.
     #[inline(always)]
     fn find<'tape, 'input>(
-        self,
+        &self,
         text: &str,
         value: Value<'tape, 'input>,
     ) -> Option<Value<'tape, 'input>>
-        requires { IsToken text.now self }
-        ensures { option_map doc result ≡ result_ok (named (part_of text.now self) (doc value.entry)) }
+        requires { IsToken text.now self.now }
+        ensures { option_map doc result ≡ result_ok (named (part_of text.now self.now) (doc value.entry)) }
     {
         if let Some(object) = value.as_object() {
             return self.member(&text[self.start..self.start + self.len], object);
@@ -77,23 +74,23 @@ impl Part {
     // The value of the first pair whose key the token is.
     #[inline(always)]
     fn member<'tape, 'input>(
-        self,
+        &self,
         token: &str,
         object: Object<'tape, 'input>,
     ) -> Option<Value<'tape, 'input>>
-        requires { IsKept token.now self }
+        requires { IsKept token.now self.now }
         ensures { option_map doc result ≡ result_ok (member_at (pairs object.entry) (unescaped token.now)) }
     {
         if self.is_plain {
             return object.find(token);
         }
-        named_member(object, token.as_bytes(), self.key_len)
+        self.key.find(token.as_bytes(), object)
     }
 
     // The element with the index that the token is.
     #[inline(always)]
-    fn element<'tape, 'input>(self, array: Array<'tape, 'input>) -> Option<Value<'tape, 'input>>
-        ensures { (i : Option ℕ) → self.index ≡ option_and_then fits_64 i
+    fn element<'tape, 'input>(&self, array: Array<'tape, 'input>) -> Option<Value<'tape, 'input>>
+        ensures { (i : Option ℕ) → self.now.index ≡ option_and_then fits_64 i
             → option_map doc result ≡ result_ok (element_at (docs array.entry) i) }
     {
         let Some(index) = self.index else {
@@ -107,7 +104,7 @@ impl Part {
 ///
 /// To look up the same place in many documents, split the pointer once: [`Value::at`] then costs about as much as
 /// a call of [`Object::get`](crate::tape::Object::get) or [`Array::get`](crate::tape::Array::get) for each token
-/// without escapes.
+/// without an escape.
 ///
 /// ```
 /// use simd_json::Pointer;
@@ -156,7 +153,7 @@ impl<'pointer, const N: usize> Pointer<'pointer, N> {
             if len == N || bytes[at] != b'/' {
                 return None;
             }
-            let Some(part) = Part::new(Token::first(&bytes[at + 1..]), at + 1) else {
+            let Some(part) = Part::new(first_token(&bytes[at + 1..]), at + 1) else {
                 return None;
             };
             parts[len] = part;

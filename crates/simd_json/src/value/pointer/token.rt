@@ -1,56 +1,117 @@
 //! A reference token, and the key that it is when its escapes are decoded (RFC 6901, section 3).
-ghost use Rattle.std.specs.Prelude.{◌≡◌, ◌<◌, ◌↔◌, IsTrue, Some, None, drop, length, option_map, MatchOption};
-ghost use Rattle.simd_json.specs.Followed.{IsPlain, IsWritten};
-ghost use Rattle.simd_json.specs.Pointed.{unescaped};
+ghost use Rattle.std.specs.Prelude.{◌≡◌, ◌<◌, ◌≤◌, ◌↔◌, ◌∷◌, IsTrue, IfSome, Some, None, drop, length, slice_index, option_map, MatchOption};
+ghost use Rattle.simd_json.specs.Followed.{IsPlain, IsWritten, tokens_after};
+ghost use Rattle.simd_json.specs.Pointed.{tokens, unescaped};
+ghost use Rattle.simd_json_parts.specs.Bytes.{slash};
 
-// A reference token of a pointer.
-#[derive(Clone, Copy)]
-pub(super) struct Token<'pointer> {
-    pub(super) bytes: &'pointer [u8],
-    // It has no `~`.
-    pub(super) is_plain: bool,
-    ghost plain: { IsTrue is_plain → IsPlain bytes.now },
-}
+use crate::value::pointer::alike::are_same;
+use crate::value::tape::{Object, Value};
 
-impl<'pointer> Token<'pointer> {
-    ghost use Rattle.std.specs.Prelude.{◌≡◌, ◌≤◌, ◌<◌, ◌∷◌, drop, length, slice_index};
-    ghost use Rattle.simd_json_parts.specs.Bytes.{slash};
-    ghost use Rattle.simd_json.specs.Followed.{tokens_after};
-    ghost use Rattle.simd_json.specs.Pointed.{tokens};
-
-    // The token that follows a `/`, after which this is left of the pointer.
-    pub(super) fn first(left: &'pointer [u8]) -> Token<'pointer>
-        ensures within { length result.bytes.now ≤ length left.now }
-        ensures token { tokens left.now
-            ≡ result.bytes.now ∷ tokens_after (drop (length result.bytes.now) left.now) }
-        ensures ended { length result.bytes.now < length left.now
-            → slice_index left.now (length result.bytes.now) ≡ slash }
-    {
-        let mut is_plain = true;
-        for (len, byte) in left.iter().enumerate() {
-            if *byte == b'/' {
-                return Token {
-                    bytes: &left[..len],
-                    is_plain,
-                };
-            }
-            if *byte == b'~' {
-                is_plain = false;
-            }
-        }
-        Token {
-            bytes: left,
-            is_plain,
+// The token that follows a `/`, after which this is left of the pointer.
+pub(super) fn first_token(left: &[u8]) -> &[u8]
+    ensures within { length result.now ≤ length left.now }
+    ensures token { tokens left.now ≡ result.now ∷ tokens_after (drop (length result.now) left.now) }
+    ensures ended { length result.now < length left.now → slice_index left.now (length result.now) ≡ slash }
+{
+    for (len, byte) in left.iter().enumerate() {
+        if *byte == b'/' {
+            return &left[..len];
         }
     }
+    left
 }
 
-// Whether the token, which has so many bytes when decoded, is the key.
-pub(super) fn is_name(token: &[u8], len: usize, key: &[u8]) -> bool
-    requires { Some len ≡ option_map (λ k. length k) (unescaped token.now) }
-    ensures { IsTrue result ↔ (unescaped token.now ≡ Some key.now) }
+// Whether there is no `~` in the token.
+pub(super) fn is_plain(token: &[u8]) -> bool
+    ensures { IsTrue result ↔ IsPlain token.now }
 {
-    key.len() == len && is_unescaped(token, key)
+    token.iter().all(|byte| *byte != b'~')
+}
+
+// The key that a token is, its escapes decoded. Its first bytes are decoded once, so that they are compared with
+// those of each other key at once.
+#[derive(Clone, Copy, Debug)]
+pub(super) struct Key {
+    bytes: [u8; 64],
+    // How many of these bytes are decoded.
+    held: usize,
+    // Where in the token the others begin.
+    rest: usize,
+    // How many bytes it has.
+    len: usize,
+}
+
+impl Key {
+    ghost use Rattle.std.specs.Prelude.{◌≡◌, ◌↔◌, IsTrue, MatchOption, None, Some, option_map};
+    ghost use Rattle.std.specs.Result.{result_ok};
+    ghost use Rattle.simd_json.specs.Followed.{IsKey};
+    ghost use Rattle.simd_json.specs.Pointed.{member_at, unescaped};
+    ghost use Rattle.simd_json.specs.Viewed.{doc, pairs};
+
+    // The key that the empty token is.
+    pub(super) const EMPTY: Key = Key {
+        bytes: [0; 64],
+        held: 0,
+        rest: 0,
+        len: 0,
+    };
+
+    // The key that the token is, or `None` where a `~` of it begins no escape.
+    pub(super) fn new(token: &[u8]) -> Option<Key>
+        ensures { MatchOption result (unescaped token.now ≡ None) (IsKey token.now) }
+    {
+        let mut bytes = [0; 64];
+        let mut held = 0;
+        let mut rest = 0;
+        while held < 64 && rest < token.len() {
+            let Some(written) = unescaped_at(token, rest) else {
+                return None;
+            };
+            bytes[held] = written.byte;
+            held += 1;
+            rest = written.end;
+        }
+        let Some(left) = decoded_len(&token[rest..]) else {
+            return None;
+        };
+        Some(Key {
+            bytes,
+            held,
+            rest,
+            len: held + left,
+        })
+    }
+
+    // The value of the first pair with the key.
+    #[inline(always)]
+    pub(super) fn find<'tape, 'input>(
+        &self,
+        token: &[u8],
+        object: Object<'tape, 'input>,
+    ) -> Option<Value<'tape, 'input>>
+        requires { IsKey token.now self.now }
+        ensures { option_map doc result ≡ result_ok (member_at (pairs object.entry) (unescaped token.now)) }
+    {
+        for (key, value) in object.iter() {
+            if self.is(token, key.as_bytes()) {
+                return Some(value);
+            }
+        }
+        None
+    }
+
+    // Whether another key is the same. It is compared byte by byte only past what is held.
+    #[inline(always)]
+    fn is(&self, token: &[u8], key: &[u8]) -> bool
+        requires { IsKey token.now self.now }
+        ensures { IsTrue result ↔ (unescaped token.now ≡ Some key.now) }
+    {
+        if key.len() != self.len {
+            return false;
+        }
+        are_same(&self.bytes[..self.held], key)
+            && is_unescaped(&token[self.rest..], &key[self.held..])
+    }
 }
 
 // Whether the token, decoded, is the key.
@@ -74,7 +135,8 @@ fn is_unescaped(token: &[u8], key: &[u8]) -> bool
 
 // How many bytes the token has, decoded, or `None` where a `~` of it begins no escape.
 pub(super) fn decoded_len(token: &[u8]) -> Option<usize>
-    ensures { result ≡ option_map (λ key. length key) (unescaped token.now) }
+    ensures len { result ≡ option_map (λ key. length key) (unescaped token.now) }
+    ensures short { IfSome result (λ len. len ≤ length token.now) }
 {
     let mut at = 0;
     let mut len = 0;

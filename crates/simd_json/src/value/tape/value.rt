@@ -231,15 +231,18 @@ impl<'tape, 'input> Value<'tape, 'input> {
     }
 }
 
-// How many nodes the document has that the nodes begin with.
+// How many nodes the document has that the nodes begin with. A `match` would become a jump by a table, which costs a
+// look-up more than all else at each pair that it passes over.
 fn size(nodes: &[Node<'_>]) -> usize
     requires { (d : Document) × StandsFor nodes.now d }
     ensures { (d : Document) (rest : List Item) → map item_of nodes.now ≡ listing d ++ rest
         → result ≡ length (listing d) }
 {
-    match nodes[0] {
-        Node::Array { count, .. } => count + 1,
-        Node::Object { count, .. } => count + 1,
-        _ => 1,
+    if let Node::Array { count, .. } = nodes[0] {
+        return count + 1;
     }
+    if let Node::Object { count, .. } = nodes[0] {
+        return count + 1;
+    }
+    1
 }

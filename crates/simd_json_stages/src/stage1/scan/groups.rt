@@ -2,7 +2,7 @@
 // same for each and needs no other, so that LLVM does several at once, and at last their positions in order.
 // A group, or its first half, that is all inside a string has none, and is passed over.
 ghost use Rattle.std.specs.Prelude.{◌≡◌, ◌≢◌, ◌+◌, ◌-◌, ◌*◌, ◌%◌, ◌^◌, ◌<◌, ◌≤◌, ℕ, List, length};
-ghost use Rattle.simd_json_stages.specs.Blocks.{AreBlocks, IsAscii, IsClassified, IsPlaced, IsScanned};
+ghost use Rattle.simd_json_stages.specs.Blocks.{AreBlocks, CanList, IsAscii, IsClassified, IsPlaced, IsScanned};
 ghost use Rattle.simd_json_stages.specs.Groups.{HaveClasses, HaveControl, HaveParts, HasNoQuotes};
 
 use super::windows::Window;
@@ -74,7 +74,7 @@ fn classify_group(
 ) -> Classifying
     requires within { first + 8 ≤ length blocks.now }
     requires short { 64 * (first + 8) ≤ 2 ^ 32 }
-    requires capacity { before.listed + 8 ≤ length listed.old }
+    requires capacity { CanList blocks.now first (first + 8) before.listed (length listed.old) }
     ensures classified { (b : List ℕ) → AreBlocks b blocks.now → IsClassified b first before listed.old
         → IsClassified b (first + 8) result listed.new }
     ensures few { result.listed ≤ before.listed + 8 }
@@ -221,7 +221,7 @@ fn scan_group(
     requires within { first + 8 ≤ length blocks.now }
     requires short { 64 * (first + 8) ≤ 2 ^ 32 }
     requires capacity { before.placing.used + 512 ≤ length out.old }
-    requires block_capacity { before.classifying.listed + 8 ≤ length listed.old }
+    requires block_capacity { CanList blocks.now first (first + 8) before.classifying.listed (length listed.old) }
     ensures few { (result.placing.used ≤ before.placing.used + 512)
         × (result.classifying.listed ≤ before.classifying.listed + 8) }
     ensures scanned { (b : List ℕ) → AreBlocks b blocks.now → IsScanned b first before out.old listed.old
@@ -259,7 +259,7 @@ pub(super) fn scan_groups(
     requires groups { (window.end - window.first) % 8 ≡ 0 }
     requires short { 64 * window.end ≤ 2 ^ 32 }
     requires capacity { before.placing.used + 64 * (window.end - window.first) ≤ length out.old }
-    requires block_capacity { before.classifying.listed + (window.end - window.first) ≤ length listed.old }
+    requires block_capacity { CanList blocks.now window.first window.end before.classifying.listed (length listed.old) }
     ensures few { (result.placing.used ≤ before.placing.used + 64 * (window.end - window.first))
         × (result.classifying.listed ≤ before.classifying.listed + (window.end - window.first)) }
     ensures scanned { (b : List ℕ) → AreBlocks b blocks.now

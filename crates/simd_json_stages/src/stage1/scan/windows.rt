@@ -1,14 +1,15 @@
 // Windows of some blocks: capacity for what each may have, and its scan.
 ghost use Rattle.std.specs.Prelude.{◌≡◌, ◌+◌, ◌-◌, ◌*◌, ◌^◌, ◌<◌, ◌≤◌, ◌⊎◌};
-ghost use Rattle.std.specs.Prelude.{ℕ, List, length, take, IfOk, IfErr, IsUtf8};
+ghost use Rattle.std.specs.Prelude.{ℕ, List, length, take, IfOk, IfErr, IsFalse, IsUtf8};
 ghost use Rattle.simd_json_parts.specs.Limits.{max_length};
-ghost use Rattle.simd_json_stages.specs.Blocks.{AreBlocks, IsAscii, IsScanned};
+ghost use Rattle.simd_json_stages.specs.Blocks.{AreBlocks, CanList, HaveNoBackslash, IsAscii, IsScanned};
 ghost use Rattle.simd_json_stages.specs.Scans.{IsBadEncoding, LacksMemory};
 
 use super::Scanned;
 use super::groups::{GROUP, scan_groups};
 use crate::stage1::BLOCK_LEN;
 use crate::stage1::capacity::grow;
+use crate::stage1::classes::has_backslash;
 use crate::stage1::encoding::check_rest;
 use crate::stage1::words::{classify, find_parts};
 use simd_json_parts::error::Result;
@@ -35,7 +36,7 @@ fn scan_few(
     requires within { (window.first ≤ window.end) × (window.end ≤ length blocks.now) }
     requires short { 64 * window.end ≤ 2 ^ 32 }
     requires capacity { before.placing.used + 64 * (window.end - window.first) ≤ length out.old }
-    requires block_capacity { before.classifying.listed + (window.end - window.first) ≤ length listed.old }
+    requires block_capacity { CanList blocks.now window.first window.end before.classifying.listed (length listed.old) }
     ensures scanned { (b : List ℕ) → AreBlocks b blocks.now
         → IsScanned b window.first before out.old listed.old
         → IsScanned b window.end result out.new listed.new }
@@ -75,7 +76,7 @@ pub(super) fn scan_window(
     requires within { (window.first ≤ window.end) × (window.end ≤ length blocks.now) }
     requires short { 64 * window.end ≤ 2 ^ 32 }
     requires capacity { before.placing.used + 64 * (window.end - window.first) ≤ length out.old }
-    requires block_capacity { before.classifying.listed + (window.end - window.first) ≤ length listed.old }
+    requires block_capacity { CanList blocks.now window.first window.end before.classifying.listed (length listed.old) }
     ensures scanned { (b : List ℕ) → AreBlocks b blocks.now
         → IsScanned b window.first before out.old listed.old
         → IsScanned b window.end result out.new listed.new }
@@ -99,10 +100,28 @@ pub(super) fn scan_window(
     scan_few(blocks, rest, out, listed, done)
 }
 
+// Whether one of the blocks of a window holds a backslash.
+#[inline(never)]
+fn have_backslash(blocks: &[[u8; 64]], window: Window) -> bool
+    requires within { (window.first ≤ window.end) × (window.end ≤ length blocks.now) }
+    ensures none { IsFalse result → HaveNoBackslash blocks.now window.first window.end }
+{
+    let mut i = window.first;
+    while i < window.end {
+        if has_backslash(&blocks[i]) {
+            return true;
+        }
+        i += 1;
+    }
+    false
+}
+
 // Capacity for all that a window may have. Before a list grows, all of the input is known to be UTF-8. The
-// list of positions grows by how many there were so far.
+// list of positions grows by how many there were so far. With new lists, an input of one window that has no
+// backslash leaves the list of blocks empty, which is one allocation less.
 pub(super) fn capacity_for<A: Allocator>(
     input: &[u8],
+    blocks: &[[u8; 64]],
     checked: usize,
     window: Window,
     done: Scanned,
@@ -110,14 +129,15 @@ pub(super) fn capacity_for<A: Allocator>(
     escape_blocks: &mut Vec<u32, A>,
 ) -> Result<usize>
     requires size { length input.now ≤ max_length }
-    requires within { (window.first < window.end) × (64 * window.end ≤ length input.now) }
+    requires within { (window.first < window.end) × (window.end ≤ length blocks.now) }
+    requires blocks { 64 * length blocks.now ≤ length input.now }
     requires checked { (checked ≤ length input.now) × IsUtf8 (take checked input.now) }
     requires used { (done.placing.used ≤ 64 * window.first) × (done.classifying.listed ≤ window.first) }
     ensures checked { IfOk result (λ to. (to ≤ length input.now) × IsUtf8 (take to input.now)) }
     ensures positions { IfOk result (λ to. done.placing.used + 64 * (window.end - window.first)
         ≤ length structural_indexes.new.items) }
-    ensures blocks { IfOk result (λ to. done.classifying.listed + (window.end - window.first)
-        ≤ length escape_blocks.new.items) }
+    ensures blocks { IfOk result (λ to. CanList blocks.now window.first window.end
+        done.classifying.listed (length escape_blocks.new.items)) }
     ensures kept { (take (length structural_indexes.old.items) structural_indexes.new.items
         ≡ structural_indexes.old.items)
         × (take (length escape_blocks.old.items) escape_blocks.new.items ≡ escape_blocks.old.items) }
@@ -128,8 +148,9 @@ pub(super) fn capacity_for<A: Allocator>(
 {
     let count = window.end - window.first;
     let positions = done.placing.used + BLOCK_LEN * count;
-    let blocks = done.classifying.listed + count;
-    if positions <= structural_indexes.len() && blocks <= escape_blocks.len() {
+    let listed = done.classifying.listed + count;
+    let lacks_positions = structural_indexes.len() < positions;
+    if !lacks_positions && listed <= escape_blocks.len() {
         return Ok(checked);
     }
     let checked = check_rest(input, checked)?;
@@ -138,6 +159,9 @@ pub(super) fn capacity_for<A: Allocator>(
         .saturating_mul(max_blocks)
         .saturating_add(BLOCK_LEN * WINDOW);
     grow(structural_indexes, positions, guess, input.len())?;
-    grow(escape_blocks, blocks, 2 * WINDOW, max_blocks)?;
+    let is_last = window.end == blocks.len();
+    if !lacks_positions || !is_last || have_backslash(blocks, window) {
+        grow(escape_blocks, listed, 2 * WINDOW, max_blocks)?;
+    }
     Ok(checked)
 }

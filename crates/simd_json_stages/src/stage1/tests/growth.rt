@@ -58,6 +58,7 @@ fn needs_no_growth(rt: &(impl AllocGlobal + Abort), text: &[u8], want: Found) ->
     Ok(())
 }
 
+// Without a backslash the list of blocks of one window does not grow.
 #[test]
 fn each_growth_of_one_window_is_refused(rt: HostRuntime) -> Tested {
     for (before, byte, len, want, lengths) in [
@@ -69,7 +70,7 @@ fn each_growth_of_one_window_is_refused(rt: HostRuntime) -> Tested {
                 positions: 200,
                 escape_blocks: 0,
             },
-            [(0, 0), (200, 0)].as_slice(),
+            [(0, 0)].as_slice(),
         ),
         (
             b"\"",

@@ -11,9 +11,9 @@ returns-then-is_index c = lacks-element c.args.token.now (doc c.args.value) (sym
 pub returns-then-is_some : goal.returns-then-is_some
 returns-then-is_some c =
     lacks-key c.args.token.now (doc c.args.value) (sym c.if-is_object.ensures)
-    (sym (is_some-len (unescaped c.args.token.now)) ∙ ap is_some (sym c.decoded_len.ensures) ∙ sym c.if-is_some.ensures) c.requires
+    (sym (is_some-len (unescaped c.args.token.now)) ∙ ap is_some (sym c.decoded_len.ensures.len) ∙ sym c.if-is_some.ensures) c.requires
 
 pub returns-then-is_object : goal.returns-then-is_object
 returns-then-is_object c =
     lacks-escape c.args.token.now (doc c.args.value) (sym c.if-is_object.ensures)
-    (sym (is_some-len (unescaped c.args.token.now)) ∙ ap is_some (sym c.decoded_len.ensures) ∙ sym c.if-is_some.ensures)
+    (sym (is_some-len (unescaped c.args.token.now)) ∙ ap is_some (sym c.decoded_len.ensures.len) ∙ sym c.if-is_some.ensures)

@@ -32,9 +32,9 @@ loop-key-preserved c plain =
     sym (member-later (unescaped t) key (doc c.in-Some.value) _ (pairs c.next.new.self.left) c.in-Some.ensures.steps other)
     ∙ c.loop-key.invariant plain
 
-pub returns-then-token-clause-named : goal.returns-then-token-clause-named
-returns-then-token-clause-named c =
+pub returns-then-is_plain-clause-named : goal.returns-then-is_plain-clause-named
+returns-then-is_plain-clause-named c =
     let t = first_of (tokens c.args.left.now) in
-    let is : t ≡ c.first-token.result.bytes.now = ap first_of c.first-token.ensures.token in
-    let plain = subst IsPlain (sym is) (c.first-token.result.plain c.if-token.true) in
+    let is : t ≡ c.first_token-token.result.now = ap first_of c.first_token-token.ensures.token in
+    let plain = subst IsPlain (sym is) (c.if-is_plain.ensures.0 refl) in
     sym (member-none (unescaped t) _ c.in-None.ensures.steps.0) ∙ c.loop-key.invariant plain

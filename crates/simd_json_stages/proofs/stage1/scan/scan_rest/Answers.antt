@@ -16,7 +16,7 @@ check_window-requires-clause-ascii g c =
     let b = c.args.input.now in
     let s = c.requires.scanned.classified in
     let padded = IsBlock-rest b c.args.rest.now _ c.requires.rest c.copy_from_slice.ensures.after in
-    let classified = c.classify-classified.ensures b _ padded s.escaped in
+    let classified = c.classify-classified.ensures.classified b _ padded s.escaped in
     λ zero i from end. classified.ascii (eqb-true _ _ zero) i from (omega arith)
 
 pub grow-requires : goal.grow-requires
@@ -24,7 +24,7 @@ grow-requires g c =
     let b = c.args.input.now in
     let s = c.requires.scanned in
     let padded = IsBlock-rest b c.args.rest.now _ c.requires.rest c.copy_from_slice.ensures.after in
-    let classified = c.classify-classified.ensures b _ padded s.classified.escaped in
+    let classified = c.classify-classified.ensures.classified b _ padded s.classified.escaped in
     let placed = c.find_starts-placed.ensures b _ (c.find_parts-parts.ensures b _ classified.classes) classified.classes.control
     s.placed.carried in
     rest-few b c.args.done.placing _ c.find_starts-placed.result s.placed placed
@@ -34,7 +34,7 @@ grow-requires-then-classified g c =
     let b = c.args.input.now in
     let s = c.requires.scanned.classified in
     let padded = IsBlock-rest b c.args.rest.now _ c.requires.rest c.copy_from_slice.ensures.after in
-    let classified = c.classify-classified.ensures b _ padded s.escaped in
+    let classified = c.classify-classified.ensures.classified b _ padded s.escaped in
     let l : c.args.done.classifying.listed < blocks_in (length b) = rest-listed b c.args.done.classifying _ c.classify-classified.result
     s classified c.if-classified.true in
     omega (arith, c.div_ceil-max_blocks.ensures)
@@ -46,7 +46,7 @@ returns-clause-found g c =
     let t = c.classify-classified.result in
     let m = c.find_starts-placed.result in
     let padded = IsBlock-rest b c.args.rest.now _ c.requires.rest c.copy_from_slice.ensures.after in
-    let classified = c.classify-classified.ensures b _ padded s.classified.escaped in
+    let classified = c.classify-classified.ensures.classified b _ padded s.classified.escaped in
     let placed = c.find_starts-placed.ensures b _ (c.find_parts-parts.ensures b _ classified.classes) classified.classes.control
     s.placed.carried in
     let a = c.grow in

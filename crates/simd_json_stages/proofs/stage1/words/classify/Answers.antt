@@ -5,15 +5,15 @@ use Rattle.simd_json_stages.proofs.BlockWords.{none-any, escaped-some, escaped-n
 use Rattle.simd_json_stages.proofs.BlockLaws.{escaped_at}
 use Rattle.simd_json_stages.proofs.stage1.words.classify.Goals as goal
 
-pub returns-then-m : goal.returns-then-m
-returns-then-m c = λ b i e before.
+pub returns-then-m-clause-classified : goal.returns-then-m-clause-classified
+returns-then-m-clause-classified c = λ b i e before.
     let m = c.classes-m.ensures in
     let found = escaped-some b i c.backslashes.result _ _ (bits-same c.backslashes.ensures (λ n l. ap (λ y. y == backslash) (e.same n l)))
     (c.find_escaped-e.ensures (escaped_at b i) before) in
     classified-found b i c.args.bytes.now _ e c.fits-bytes m.space_or_quote m.op_or_quote m.control m.ascii m.escapes found
 
-pub returns-else-m : goal.returns-else-m
-returns-else-m c = λ b i e before.
+pub returns-else-m-clause-classified : goal.returns-else-m-clause-classified
+returns-else-m-clause-classified c = λ b i e before.
     let m = c.classes-m.ensures in
     let none = none-any (λ y. y == backslash) c.args.bytes.now (sym m.escapes ∙ c.if-m.false) in
     let found = escaped-none b i c.args.before before (λ n l. ap (λ y. y == backslash) (sym (e.same n l))

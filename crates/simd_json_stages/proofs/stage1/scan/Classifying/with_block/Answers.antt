@@ -1,7 +1,6 @@
 use Rattle.std.proofs.Common.{◌≤◌, arith}
 use Rattle.std.proofs.lemmas.Nat.{le_or_l, le_or_r}
-use mir.Val.{bool_byte}
-use Rattle.simd_json_stages.proofs.ScanLaws.{bool-small, IsClassified-next}
+use Rattle.simd_json_stages.proofs.ScanLaws.{bool-small, listed-within, IsClassified-next}
 use Rattle.simd_json_stages.proofs.stage1.scan.Classifying.with_block.Goals as goal
 
 pub returns-clause-few : goal.returns-clause-few
@@ -17,6 +16,6 @@ pub returns-clause-classified : goal.returns-clause-classified
 returns-clause-classified c =
     let m = c.args.found in
     let d = c.list_block in
-    let one : bool_byte m.has_backslash ≤ 1 = bool-small m.has_backslash in
     λ b found before. IsClassified-next b c.args.number c.args.self c.args.listed.now m _ d.new.listed d.result before found
-    d.ensures.listed d.ensures.count (omega arith)
+    d.ensures.listed d.ensures.count
+    (let within = listed-within m.has_backslash c.requires.capacity before.within d.ensures.count in omega arith)

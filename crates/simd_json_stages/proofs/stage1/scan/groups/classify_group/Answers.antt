@@ -1,8 +1,8 @@
-use Rattle.std.proofs.Common.{◌≡◌, ◌∙◌, ◌+◌, ◌*◌, subst, arith}
+use Rattle.std.proofs.Common.{◌≡◌, ◌∙◌, ◌+◌, ◌*◌, length, subst, arith}
 use Rattle.std.proofs.lemmas.List.{length-set}
-use Rattle.simd_json_stages.specs.Blocks.{IsAscii}
+use Rattle.simd_json_stages.specs.Blocks.{CanList, IsAscii}
 use Rattle.simd_json_stages.proofs.ScanLaws.{IsClassified-same}
-use Rattle.simd_json_stages.proofs.GroupLaws.{HaveClasses-next, IsAscii-next}
+use Rattle.simd_json_stages.proofs.GroupLaws.{CanList-after, HaveClasses-next, IsAscii-next}
 use Rattle.simd_json_stages.proofs.stage1.scan.groups.classify_group.Goals as goal
 
 pub loop-k-init : goal.loop-k-init
@@ -14,7 +14,8 @@ loop-k-init c =
       op_or_quote_words = omega arith;
       control_words = omega arith;
       escaped_words = omega arith;
-      capacity = omega arith;
+      capacity = subst (λ n. CanList c.args.blocks.now n (c.args.first + 8) c.args.before.listed (length c.args.listed.now)) first
+          c.requires.capacity;
       few = omega arith;
       classified = λ b blocks before. IsClassified-same first before;
       classifies = λ b blocks before k l. absurd (omega arith);
@@ -34,19 +35,21 @@ loop-k-preserved c =
       op_or_quote_words = length-set l.classes.op_or_quote l.k _ ∙ i.op_or_quote_words;
       control_words = length-set l.classes.control l.k _ ∙ i.control_words;
       escaped_words = length-set l.classes.escaped l.k _ ∙ i.escaped_words;
-      capacity = omega arith;
+      capacity = subst (λ n. CanList c.args.blocks.now n (c.args.first + 8) s.result.listed (length s.new.listed)) next
+          (CanList-after c.args.blocks.now (c.args.first + l.k) (c.args.first + 8) l.now.listed (length l.listed) 1
+          s.result.listed (length s.new.listed) i.capacity (omega arith) s.ensures.few (omega arith));
       few = omega arith;
       classified = λ b blocks before.
           let h = i.classified b blocks before in
-          let found = m.ensures b _ (blocks (c.args.first + l.k) _ (omega arith)) h.escaped in
+          let found = m.ensures.classified b _ (blocks (c.args.first + l.k) _ (omega arith)) h.escaped in
           IsClassified-same next (s.ensures.classified b found h);
       classifies = λ b blocks before.
-          let found = m.ensures b _ (blocks (c.args.first + l.k) _ (omega arith)) (i.classified b blocks before).escaped in
+          let found = m.ensures.classified b _ (blocks (c.args.first + l.k) _ (omega arith)) (i.classified b blocks before).escaped in
           HaveClasses-next b c.args.first l.k l.classes.space_or_quote l.classes.op_or_quote l.classes.control l.classes.escaped
           _ _ _ _ i.space_or_quote_words i.op_or_quote_words i.control_words i.escaped_words (omega arith)
           (i.classifies b blocks before) found.classes;
       ascii = λ b blocks before none.
-          let found = m.ensures b _ (blocks (c.args.first + l.k) _ (omega arith)) (i.classified b blocks before).escaped in
+          let found = m.ensures.classified b _ (blocks (c.args.first + l.k) _ (omega arith)) (i.classified b blocks before).escaped in
           let high = s.ensures.ascii none in
           let first = i.ascii b blocks before high.0 in
           let end : 64 * (c.args.first + l.k) + 64 ≡ 64 * (c.args.first + (l.k + 1)) = omega arith in (

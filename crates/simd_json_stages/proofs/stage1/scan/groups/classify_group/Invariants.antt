@@ -1,5 +1,5 @@
 use Rattle.std.proofs.Common.{◌≡◌, ◌+◌, ◌-◌, ◌*◌, ◌≤◌, ℕ, List, length}
-use Rattle.simd_json_stages.specs.Blocks.{AreBlocks, IsAscii, IsClassified}
+use Rattle.simd_json_stages.specs.Blocks.{AreBlocks, CanList, IsAscii, IsClassified}
 use Rattle.simd_json_stages.specs.Groups.{HaveClasses}
 use Rattle.simd_json_stages.proofs.stage1.scan.groups.classify_group.Given as goal
 
@@ -10,7 +10,7 @@ invariant-loop-k l = record {
   op_or_quote_words : length l.classes.op_or_quote ≡ 8;
   control_words : length l.classes.control ≡ 8;
   escaped_words : length l.classes.escaped ≡ 8;
-  capacity : l.now.listed + (8 - l.k) ≤ length l.listed;
+  capacity : CanList l.blocks (l.first + l.k) (l.first + 8) l.now.listed (length l.listed);
   few : l.now.listed ≤ l.fn.before.listed + l.k;
   classified : (b : List ℕ) → AreBlocks b l.blocks → IsClassified b l.first l.fn.before l.fn.listed
       → IsClassified b (l.first + l.k) l.now l.listed;

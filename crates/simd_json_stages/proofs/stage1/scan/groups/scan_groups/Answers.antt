@@ -1,6 +1,6 @@
-use Rattle.std.proofs.Common.{◌≡◌, ◌*◌, subst, arith}
+use Rattle.std.proofs.Common.{◌≡◌, ◌*◌, length, subst, arith}
 use Rattle.simd_json_stages.specs.Blocks.{IsAscii, IsScanned}
-use Rattle.simd_json_stages.proofs.GroupLaws.{IsAscii-next}
+use Rattle.simd_json_stages.proofs.GroupLaws.{CanList-after, IsAscii-next}
 use Rattle.simd_json_stages.proofs.stage1.scan.groups.scan_groups.Goals as goal
 
 pub loop-i-init : goal.loop-i-init
@@ -11,7 +11,7 @@ loop-i-init c = record {
   few = omega arith;
   few_blocks = omega arith;
   capacity = omega arith;
-  block_capacity = omega arith;
+  block_capacity = c.requires.block_capacity;
   scanned = λ b blocks before. before;
   ascii = λ b blocks before none. (none, λ i from to. absurd (omega arith));
 }
@@ -28,7 +28,8 @@ loop-i-preserved c =
       few = omega arith;
       few_blocks = omega arith;
       capacity = omega arith;
-      block_capacity = omega arith;
+      block_capacity = CanList-after c.args.blocks.now l.i c.args.window.end l.done.classifying.listed (length l.listed) 8
+          g.result.classifying.listed (length g.new.listed) i.block_capacity (omega arith) g.ensures.few.1 (omega arith);
       scanned = λ b blocks before. g.ensures.scanned b blocks (i.scanned b blocks before);
       ascii = λ b blocks before none.
           let h = g.ensures.ascii b blocks (i.scanned b blocks before) none in

@@ -1,5 +1,5 @@
 use Rattle.std.proofs.Common.{◌≡◌, ◌+◌, ◌-◌, ◌*◌, ◌%◌, ◌≤◌, ℕ, List, length}
-use Rattle.simd_json_stages.specs.Blocks.{AreBlocks, IsAscii, IsScanned}
+use Rattle.simd_json_stages.specs.Blocks.{AreBlocks, CanList, IsAscii, IsScanned}
 use Rattle.simd_json_stages.proofs.stage1.scan.groups.scan_groups.Given as goal
 
 abbrev pub invariant-loop-i : goal.invariant-loop-i
@@ -10,7 +10,7 @@ invariant-loop-i l = record {
   few : l.done.placing.used ≤ l.fn.before.placing.used + 64 * (l.i - l.window.first);
   few_blocks : l.done.classifying.listed ≤ l.fn.before.classifying.listed + (l.i - l.window.first);
   capacity : l.done.placing.used + 64 * (l.window.end - l.i) ≤ length l.out;
-  block_capacity : l.done.classifying.listed + (l.window.end - l.i) ≤ length l.listed;
+  block_capacity : CanList l.blocks l.i l.window.end l.done.classifying.listed (length l.listed);
   scanned : (b : List ℕ) → AreBlocks b l.blocks → IsScanned b l.window.first l.fn.before l.fn.out l.fn.listed
       → IsScanned b l.i l.done l.out l.listed;
   ascii : (b : List ℕ) → AreBlocks b l.blocks → IsScanned b l.window.first l.fn.before l.fn.out l.fn.listed → l.done.classifying.high ≡ 0

@@ -1,6 +1,6 @@
-use Rattle.std.proofs.Common.{◌≡◌, ◌+◌, ◌*◌, subst, arith}
+use Rattle.std.proofs.Common.{◌≡◌, ◌+◌, ◌*◌, length, subst, arith}
 use Rattle.simd_json_stages.specs.Blocks.{IsAscii, IsScanned}
-use Rattle.simd_json_stages.proofs.GroupLaws.{IsAscii-next}
+use Rattle.simd_json_stages.proofs.GroupLaws.{CanList-after, IsAscii-next}
 use Rattle.simd_json_stages.proofs.stage1.scan.windows.scan_few.Goals as goal
 
 pub loop-i-init : goal.loop-i-init
@@ -8,7 +8,7 @@ loop-i-init c = record {
   from = omega arith;
   to = omega arith;
   capacity = omega arith;
-  block_capacity = omega arith;
+  block_capacity = c.requires.block_capacity;
   scanned = λ b blocks before. before;
   ascii = λ b blocks before none. (none, λ i from to. absurd (omega arith));
 }
@@ -23,17 +23,18 @@ loop-i-preserved c =
       from = omega arith;
       to = omega arith;
       capacity = omega arith;
-      block_capacity = omega arith;
+      block_capacity = CanList-after c.args.blocks.now l.i c.args.window.end l.classifying.listed (length l.listed) 1 s.result.listed
+          (length s.new.listed) i.block_capacity (omega arith) s.ensures.few (omega arith);
       scanned = λ b blocks before.
           let h = i.scanned b blocks before in
-          let found = m.ensures b _ (blocks l.i _ (omega arith)) h.classified.escaped in
+          let found = m.ensures.classified b _ (blocks l.i _ (omega arith)) h.classified.escaped in
           let parts = c.find_parts-parts.ensures b _ found.classes in
           record {
             classified = s.ensures.classified b found h.classified;
             placed = c.place_block-placing.ensures.placed b parts found.classes.control h.placed;
           };
       ascii = λ b blocks before none.
-          let found = m.ensures b _ (blocks l.i _ (omega arith)) (i.scanned b blocks before).classified.escaped in
+          let found = m.ensures.classified b _ (blocks l.i _ (omega arith)) (i.scanned b blocks before).classified.escaped in
           let high = s.ensures.ascii none in
           let first = i.ascii b blocks before high.0 in
           let end : 64 * l.i + 64 ≡ 64 * (l.i + 1) = omega arith in

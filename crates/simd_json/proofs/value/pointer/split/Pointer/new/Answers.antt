@@ -25,15 +25,15 @@ pub loop-at-preserved : goal.loop-at-preserved
 loop-at-preserved g c =
     let p = c.as_bytes-bytes.result.now in
     let l = c.loop-at in
-    let t = c.first.result.bytes.now in
+    let t = c.first_token.result.now in
     let at : IsTokenAt p l.at t =
-    token-at p l.at _ t (rest p (l.at + 1)) c.loop-at-test.true c.if-bytes-at-ne47.false c.first.ensures.token c.first.ensures.ended in
+    token-at p l.at _ t (rest p (l.at + 1)) c.loop-at-test.true c.if-bytes-at-ne47.false c.first_token.ensures.token c.first_token.ensures.ended in
     let part = c.in-Some.part in
     let start = c.in-Some.ensures.0 in
     let long = c.in-Some.ensures.1 in
     let kept = c.in-Some.ensures.2 in
     let room : l.len < length l.parts = omega (arith, c.if-len.false, l.invariant.counted, l.invariant.room) in
-    let formed : is_some (unescaped t) ≡ true = sym (is_some-len (unescaped t)) ∙ ap is_some (sym kept.1) in
+    let formed : is_some (unescaped t) ≡ true = sym (is_some-len (unescaped t)) ∙ ap is_some (sym kept.1.counted) in
     let ends : l.at + (1 + length t) ≡ l.at + (1 + part.len) = omega (arith, long) in
     record {
       within = omega (arith, long, token-ends p l.at t at);
