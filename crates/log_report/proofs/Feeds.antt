@@ -96,11 +96,11 @@ least-step n k b false some is =
     let few : length b ≤ k = ltb-false k (length b) some in
     take-all n b (omega (arith, few, is)) ∙ sym (take-all k b few)
 
-pub kept-long : (longest : ℕ) (line begun bytes : List ℕ) → line ≡ take (longest + 1) begun → longest < length line → line ≡ take (longest + 1) (begun ++ bytes)
+kept-long : (longest : ℕ) (line begun bytes : List ℕ) → line ≡ take (longest + 1) begun → longest < length line → line ≡ take (longest + 1) (begun ++ bytes)
 kept-long longest line begun bytes is long =
     is ∙ sym (take-append-le (longest + 1) begun bytes (omega (arith, long, ap length is, length-take (longest + 1) begun)))
 
-pub kept-short : (longest n : ℕ) (line begun bytes : List ℕ) → line ≡ take (longest + 1) begun → length line ≤ longest
+kept-short : (longest n : ℕ) (line begun bytes : List ℕ) → line ≡ take (longest + 1) begun → length line ≤ longest
     → n ≡ min (length bytes) (longest - length line + 1) → line ++ take n bytes ≡ take (longest + 1) (begun ++ bytes)
 kept-short longest n line begun bytes is short same =
     let few : length begun ≤ longest + 1 = omega (arith, short, ap length is, length-take (longest + 1) begun) in
@@ -108,6 +108,20 @@ kept-short longest n line begun bytes is short same =
     let room : length line + (longest - length line + 1) ≡ longest + 1 = omega (arith, short) in
     ap (λ u. line ++ u) (least-step n _ bytes (nat_lt (longest - length line + 1) (length bytes)) refl same) ∙ sym (take-append-add line bytes (longest - length line + 1))
     ∙ ap (λ k. take k (line ++ bytes)) room ∙ ap (λ u. take (longest + 1) (u ++ bytes)) whole
+
+kept-step : (longest room n : ℕ) (line begun bytes : List ℕ) (t : Bool) → nat_lt longest (length line) ≡ t → line ≡ take (longest + 1) begun
+    → room ≡ longest + 1 - length line → n ≡ min (length bytes) room → line ++ take n bytes ≡ take (longest + 1) (begun ++ bytes)
+kept-step longest room n line begun bytes true long is same least =
+    let more = ltb-true longest (length line) long in
+    let none : n ≡ 0 = omega (arith, more, same, least) in
+    ap (λ k. line ++ take k bytes) none ∙ append-nil line ∙ kept-long longest line begun bytes is more
+kept-step longest room n line begun bytes false short is same least =
+    let fits : length line ≤ longest = ltb-false longest (length line) short in
+    kept-short longest n line begun bytes is fits (least ∙ ap (min (length bytes)) (omega (arith, same, fits)))
+
+pub kept : (longest room n : ℕ) (line begun bytes : List ℕ) → line ≡ take (longest + 1) begun → room ≡ longest + 1 - length line
+    → n ≡ min (length bytes) room → line ++ take n bytes ≡ take (longest + 1) (begun ++ bytes)
+kept longest room n line begun bytes = kept-step longest room n line begun bytes (nat_lt longest (length line)) refl
 
 -- a line that is cut after its longest and one byte more is as long as too long a line
 cut-step : (key : List ℕ) (longest : ℕ) (r : Report) (line : List ℕ) (t : Bool) → nat_lt longest (length line) ≡ t

@@ -1,99 +1,122 @@
--- The place of a text in a table, and one line more there.
-use Rattle.std.proofs.Common.{◌≡◌, ◌∙◌, refl, ap, sym, subst, arith, zero-add, ℕ, suc, ◌+◌, ◌<◌, ◌≤◌, List, [], ◌∷◌, ◌++◌, length, Bool, true, false, ◌||◌, cond, nat_lt, Option, Some, None}
-use Rattle.std.specs.Prelude.{bytes_eq, slice_get, slice_set, MatchOption, OnOk, Result, Ok, Err}
+-- The place of a text in a table, and more lines there.
+use Rattle.std.proofs.Common.{◌≡◌, ◌∙◌, refl, ap, sym, subst, arith, zero-add, ℕ, suc, ◌+◌, ◌<◌, ◌≤◌, List, [], ◌∷◌, ◌++◌, length, map, Bool, true, false, ◌||◌, cond, nat_lt, Option, Some, None, Vec}
+use Rattle.std.specs.Prelude.{bytes_eq, slice_get, MatchOption}
 use Rattle.std.specs.List.{position, position_from}
+use Rattle.std.specs.Map.{keys_of, values_of}
 use Rattle.std.proofs.lemmas.Iterator.Adapters.{position_from-zero}
 use Rattle.std.proofs.lemmas.Bool.{lt-ltb, le-ltb}
-use Rattle.log_report.specs.Table.{Count, added, counted, has_text, most_texts, one_more, others}
-use Rattle.log_report.specs.Runs.{counts_of, shown}
-use Rattle.log_report.specs.declared.run.Row.{Row}
+use Rattle.indexmap.specs.IndexMap.{insert_entry, set_value_at}
+use Rattle.log_report.specs.Table.{Count, added, counted, has_text, most_texts, others, plus}
+use Rattle.log_report.specs.Runs.{shown}
 
-abbrev pub has_items : {A : Type 0} → List ℕ → Row A → Bool
-has_items t e = bytes_eq e.text.items t
+abbrev Entry : Type 0 → Type 0
+Entry A = Vec ℕ A × ℕ
 
-abbrev pub with_one : {A : Type 0} → Row A → Row A
-with_one e = record e { count = one_more e.count }
+abbrev counts : {A : Type 0} → List (Entry A) → List Count
+counts es = map shown es
 
--- one line more, at a place where the text stands
-pub record IsAt {A : Type 0} (t : List ℕ) (es : List (Row A)) (j : ℕ) : Type 0 where
-  pub inside : j < length es
-  pub has : has_text t (counts_of es) ≡ true
-  pub entry : Row A
-  pub is_there : slice_get es j ≡ Some entry
-  pub more : counts_of (slice_set es j (with_one entry)) ≡ added t (counts_of es)
+abbrev pub is_text : {A : Type 0} → List ℕ → Vec ℕ A → Bool
+is_text t k = bytes_eq t k.items
 
-pub record IsNowhere {A : Type 0} (t : List ℕ) (es : List (Row A)) : Type 0 where
-  pub lacks : has_text t (counts_of es) ≡ false
-  pub same : added t (counts_of es) ≡ counts_of es
+-- n lines more, at a place where the text stands
+pub record IsAt {A : Type 0} (n : ℕ) (t : List ℕ) (es : List (Entry A)) (j : ℕ) : Type 0 where
+  pub has : has_text t (counts es) ≡ true
+  pub count : ℕ
+  pub is_there : slice_get (values_of es) j ≡ Some count
+  pub more : counts (set_value_at es j (plus n count)) ≡ added n t (counts es)
 
-abbrev pub IsPlace : {A : Type 0} → List ℕ → List (Row A) → ℕ → Option ℕ → Type 0
-IsPlace t es i r = MatchOption r (IsNowhere t es) (λ k. (j : ℕ) × (k ≡ i + j) × IsAt t es j)
+pub record IsNowhere {A : Type 0} (n : ℕ) (t : List ℕ) (es : List (Entry A)) : Type 0 where
+  pub lacks : has_text t (counts es) ≡ false
+  pub same : added n t (counts es) ≡ counts es
+
+abbrev pub IsPlace : {A : Type 0} → ℕ → List ℕ → List (Entry A) → ℕ → Option ℕ → Type 0
+IsPlace n t es i r = MatchOption r (IsNowhere n t es) (λ k. (j : ℕ) × (k ≡ i + j) × IsAt n t es j)
 
 shift : (i j k : ℕ) → k ≡ (i + 1) + j → k ≡ i + suc j
 shift i j k is = omega arith
 
-first-at : {A : Type 0} (t : List ℕ) (e : Row A) (es : List (Row A)) → bytes_eq e.text.items t ≡ true → IsAt t (e ∷ es) 0
-first-at t e es is = record {
-  inside = omega arith;
-  has = ap (λ b. b || has_text t (counts_of es)) is;
-  entry = e;
+at-first : {A : Type 0} (n : ℕ) (t : List ℕ) (e : Entry A) (es : List (Entry A)) (b : Bool) → bytes_eq t e.0.items ≡ b
+    → added n t (counts (e ∷ es)) ≡ cond b ((e.0.items, plus n e.1) ∷ counts es) (shown e ∷ added n t (counts es))
+at-first n t e es b is = ap (λ x. cond x ((e.0.items, plus n e.1) ∷ counts es) (shown e ∷ added n t (counts es))) is
+
+first-at : {A : Type 0} (n : ℕ) (t : List ℕ) (e : Entry A) (es : List (Entry A)) → bytes_eq t e.0.items ≡ true → IsAt n t (e ∷ es) 0
+first-at n t e es is = record {
+  has = ap (λ b. b || has_text t (counts es)) is;
+  count = e.1;
   is_there = refl;
-  more = sym (ap (λ b. cond b ((e.text.items, one_more e.count) ∷ counts_of es) (shown e ∷ added t (counts_of es))) is);
+  more = sym (at-first n t e es true is);
 }
 
-later-at : {A : Type 0} (t : List ℕ) (e : Row A) (es : List (Row A)) (j : ℕ) → bytes_eq e.text.items t ≡ false → IsAt t es j → IsAt t (e ∷ es) (suc j)
-later-at t e es j is at = record {
-  inside = omega (arith, at.inside);
-  has = ap (λ b. b || has_text t (counts_of es)) is ∙ at.has;
-  entry = at.entry;
+later-at : {A : Type 0} (n : ℕ) (t : List ℕ) (e : Entry A) (es : List (Entry A)) (j : ℕ) → bytes_eq t e.0.items ≡ false → IsAt n t es j → IsAt n t (e ∷ es) (suc j)
+later-at n t e es j is at = record {
+  has = ap (λ b. b || has_text t (counts es)) is ∙ at.has;
+  count = at.count;
   is_there = at.is_there;
-  more = ap (λ cs. shown e ∷ cs) at.more ∙ sym (ap (λ b. cond b ((e.text.items, one_more e.count) ∷ counts_of es) (shown e ∷ added t (counts_of es))) is);
+  more = ap (λ cs. shown e ∷ cs) at.more ∙ sym (at-first n t e es false is);
 }
 
-later : {A : Type 0} (t : List ℕ) (e : Row A) (es : List (Row A)) (i : ℕ) (r : Option ℕ) → bytes_eq e.text.items t ≡ false → IsPlace t es (i + 1) r → IsPlace t (e ∷ es) i r
-later t e es i None is absent = record {
-  lacks = ap (λ b. b || has_text t (counts_of es)) is ∙ absent.lacks;
-  same = ap (λ b. cond b ((e.text.items, one_more e.count) ∷ counts_of es) (shown e ∷ added t (counts_of es))) is ∙ ap (λ cs. shown e ∷ cs) absent.same;
+later : {A : Type 0} (n : ℕ) (t : List ℕ) (e : Entry A) (es : List (Entry A)) (i : ℕ) (r : Option ℕ) → bytes_eq t e.0.items ≡ false → IsPlace n t es (i + 1) r → IsPlace n t (e ∷ es) i r
+later n t e es i None is absent = record {
+  lacks = ap (λ b. b || has_text t (counts es)) is ∙ absent.lacks;
+  same = at-first n t e es false is ∙ ap (λ cs. shown e ∷ cs) absent.same;
 }
-later t e es i (Some k) is (j, at_k, at) = (suc j, shift i j k at_k, later-at t e es j is at)
+later n t e es i (Some k) is (j, at_k, at) = (suc j, shift i j k at_k, later-at n t e es j is at)
 
-place-step : {A : Type 0} (t : List ℕ) (e : Row A) (es : List (Row A)) (i : ℕ) (r : Option ℕ) (b : Bool) → bytes_eq e.text.items t ≡ b → IsPlace t es (i + 1) r
-    → IsPlace t (e ∷ es) i (cond b (Some i) r)
-place-step t e es i r true is _ = (0, omega arith, first-at t e es is)
-place-step t e es i r false is rest = later t e es i r is rest
+place-step : {A : Type 0} (n : ℕ) (t : List ℕ) (e : Entry A) (es : List (Entry A)) (i : ℕ) (r : Option ℕ) (b : Bool) → bytes_eq t e.0.items ≡ b → IsPlace n t es (i + 1) r
+    → IsPlace n t (e ∷ es) i (cond b (Some i) r)
+place-step n t e es i r true is _ = (0, omega arith, first-at n t e es is)
+place-step n t e es i r false is rest = later n t e es i r is rest
 
-pub place-of : {A : Type 0} (t : List ℕ) (es : List (Row A)) (i : ℕ) → IsPlace t es i (position_from (has_items t) i es)
-place-of t [] i = record { lacks = refl; same = refl }
-place-of t (e ∷ es) i = place-step t e es i _ (bytes_eq e.text.items t) refl (place-of t es (i + 1))
+place-of : {A : Type 0} (n : ℕ) (t : List ℕ) (es : List (Entry A)) (i : ℕ) → IsPlace n t es i (position_from (is_text t) i (keys_of es))
+place-of n t [] i = record { lacks = refl; same = refl }
+place-of n t (e ∷ es) i = place-step n t e es i _ (bytes_eq t e.0.items) refl (place-of n t es (i + 1))
 
-at-zero : {A : Type 0} (t : List ℕ) (es : List (Row A)) (r : Option ℕ) → r ≡ position (has_items t) es → IsPlace t es 0 r
-at-zero t es r is = subst (IsPlace t es 0) (sym (is ∙ position_from-zero (has_items t) es)) (place-of t es 0)
+at-zero : {A : Type 0} (n : ℕ) (t : List ℕ) (es : List (Entry A)) (r : Option ℕ) → r ≡ position (is_text t) (keys_of es) → IsPlace n t es 0 r
+at-zero n t es r is = subst (IsPlace n t es 0) (sym (is ∙ position_from-zero (is_text t) (keys_of es))) (place-of n t es 0)
 
-pub found-at : {A : Type 0} (t : List ℕ) (es : List (Row A)) (k : ℕ) → Some k ≡ position (has_items t) es → IsAt t es k
-found-at t es k is =
-    let found : IsPlace t es 0 (Some k) = at-zero t es (Some k) is in
-    subst (IsAt t es) (sym (found.1 ∙ zero-add found.0)) found.2
+pub found-at : {A : Type 0} (n : ℕ) (t : List ℕ) (es : List (Entry A)) (k : ℕ) → Some k ≡ position (is_text t) (keys_of es) → IsAt n t es k
+found-at n t es k is =
+    let found = at-zero n t es (Some k) is in
+    subst (IsAt n t es) (sym (found.1 ∙ zero-add found.0)) found.2
 
-pub found-nowhere : {A : Type 0} (t : List ℕ) (es : List (Row A)) → None ≡ position (has_items t) es → IsNowhere t es
-found-nowhere t es is = at-zero t es None is
+pub found-nowhere : {A : Type 0} (n : ℕ) (t : List ℕ) (es : List (Entry A)) → None ≡ position (is_text t) (keys_of es) → IsNowhere n t es
+found-nowhere n t es is = at-zero n t es None is
 
--- ---- what one line more comes to
+some-is : {a b : ℕ} → Some a ≡ Some b → a ≡ b
+some-is is = cc
 
-if-has : (t : List ℕ) (cs : List Count) (b : Bool) → has_text t cs ≡ b
-    → counted t cs ≡ cond b (added t cs) (cond (nat_lt (length cs) most_texts) (cs ++ (t, 1) ∷ []) (added others cs))
-if-has t cs b is = ap (λ x. cond x (added t cs) (cond (nat_lt (length cs) most_texts) (cs ++ (t, 1) ∷ []) (added others cs))) is
+-- the count that is there is this one
+pub more-at : {A : Type 0} (n : ℕ) (t : List ℕ) (es : List (Entry A)) (k count new : ℕ) → IsAt n t es k → slice_get (values_of es) k ≡ Some count
+    → new ≡ plus n count → counts (set_value_at es k new) ≡ added n t (counts es)
+more-at n t es k count new at is more =
+    ap (λ m. counts (set_value_at es k m)) (more ∙ ap (plus n) (some-is (sym is ∙ at.is_there))) ∙ at.more
 
-pub counted-known : (t : List ℕ) (cs : List Count) → has_text t cs ≡ true → added t cs ≡ counted t cs
-counted-known t cs is = sym (if-has t cs true is)
+inserted-step : {A : Type 0} (k : Vec ℕ A) (n : ℕ) (e : Entry A) (es new : List (Entry A)) (b rest : Bool) → (b || rest) ≡ false
+    → (rest ≡ false → counts new ≡ counts es ++ (k.items, n) ∷ [])
+    → counts (cond b ((e.0, n) ∷ es) (e ∷ new)) ≡ counts (e ∷ es) ++ (k.items, n) ∷ []
+inserted-step k n e es new true rest is more = cc
+inserted-step k n e es new false rest is more = ap (λ cs. shown e ∷ cs) (more is)
 
-pub counted-new : (t : List ℕ) (cs : List Count) → has_text t cs ≡ false → length cs < most_texts → cs ++ (t, 1) ∷ [] ≡ counted t cs
-counted-new t cs lacks few =
-    sym (if-has t cs false lacks ∙ ap (λ x. cond x (cs ++ (t, 1) ∷ []) (added others cs)) (lt-ltb (length cs) most_texts few))
+-- a new text goes last
+pub inserted : {A : Type 0} (k : Vec ℕ A) (n : ℕ) (es : List (Entry A)) → has_text k.items (counts es) ≡ false
+    → counts (insert_entry (λ a b. bytes_eq a.items b.items) es k n) ≡ counts es ++ (k.items, n) ∷ []
+inserted k n [] lacks = refl
+inserted k n (e ∷ es) lacks =
+    inserted-step k n e es _ (bytes_eq k.items e.0.items) (has_text k.items (counts es)) lacks (λ rest. inserted k n es rest)
 
-pub counted-other : (t : List ℕ) (cs : List Count) → has_text t cs ≡ false → most_texts ≤ length cs → added others cs ≡ counted t cs
-counted-other t cs lacks many =
-    sym (if-has t cs false lacks ∙ ap (λ x. cond x (cs ++ (t, 1) ∷ []) (added others cs)) (le-ltb (length cs) most_texts many))
+-- ---- what more lines come to
 
-pub on_ok-is : {T E X : Type 0} (r : Result T E) (x y z : X) → y ≡ z → OnOk r (x ≡ y) → OnOk r (x ≡ z)
-on_ok-is (Ok v) x y z is h = h ∙ is
-on_ok-is (Err e) x y z is h = tt
+if-has : (n : ℕ) (t : List ℕ) (cs : List Count) (b : Bool) → has_text t cs ≡ b
+    → counted n t cs ≡ cond b (added n t cs) (cond (nat_lt (length cs) most_texts) (cs ++ (t, n) ∷ []) (added n others cs))
+if-has n t cs b is = ap (λ x. cond x (added n t cs) (cond (nat_lt (length cs) most_texts) (cs ++ (t, n) ∷ []) (added n others cs))) is
+
+pub counted-known : (n : ℕ) (t : List ℕ) (cs : List Count) → has_text t cs ≡ true → added n t cs ≡ counted n t cs
+counted-known n t cs is = sym (if-has n t cs true is)
+
+pub counted-new : (n : ℕ) (t : List ℕ) (cs : List Count) → has_text t cs ≡ false → length cs < most_texts → cs ++ (t, n) ∷ [] ≡ counted n t cs
+counted-new n t cs lacks few =
+    sym (if-has n t cs false lacks ∙ ap (λ x. cond x (cs ++ (t, n) ∷ []) (added n others cs)) (lt-ltb (length cs) most_texts few))
+
+pub counted-other : (n : ℕ) (t : List ℕ) (cs : List Count) → has_text t cs ≡ false → most_texts ≤ length cs → added n others cs ≡ counted n t cs
+counted-other n t cs lacks many =
+    sym (if-has n t cs false lacks ∙ ap (λ x. cond x (cs ++ (t, n) ∷ []) (added n others cs)) (le-ltb (length cs) most_texts many))

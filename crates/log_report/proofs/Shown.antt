@@ -8,7 +8,7 @@ use Rattle.simd_json_parts.specs.Answer.{answer}
 use Rattle.simd_json_parts.specs.declared.error.Error.{Error}
 use Rattle.simd_json_print.proofs.Texts.{appends-then}
 use Rattle.log_report.specs.Report.{Report, next, refusal_line, with_answer, with_line, with_refusal}
-use Rattle.log_report.specs.Runs.{IsRefused, Shows}
+use Rattle.log_report.specs.Runs.{Adds, IsRefused, Shows}
 use Rattle.log_report.specs.Table.{counted, one_more, refused}
 use Rattle.jtape.specs.declared.port.Port.{Port}
 use Rattle.simd_json.specs.Capacities.{Capacities}
@@ -58,6 +58,23 @@ shows-parsed lines buffers tape held holds key longest r limited reserved shown 
   refusals = shown.refusals;
 }
 
+pub shows-added : {A : Type 0} (old new : Lines A) (held holds : Option (List ℕ)) (key : List ℕ) (longest : ℕ) (r : Report) (text : List ℕ) (more : ℕ)
+    → Shows old held holds key longest r → Adds old new text more → Shows new held holds key longest (record r { counts = counted more text r.counts })
+shows-added old new held holds key longest r text more shown h = record {
+  by_key = ap (λ l. l.key.now) h.same ∙ shown.by_key;
+  most = ap (λ l. l.longest) h.same ∙ shown.most;
+  limited = ap (λ l. l.buffers.limit) h.same ∙ shown.limited;
+  reserved = subst (λ l. IsReserved l.longest l.buffers l.tape) (sym h.same) shown.reserved;
+  number = ap (λ l. l.number) h.same ∙ shown.number;
+  all_taken = ap (λ l. l.all_taken) h.same ∙ shown.all_taken;
+  counts = h.counts ∙ ap (counted more text) shown.counts;
+  refusals = shown.refusals;
+}
+
+pub added-over : {A : Type 0} (old new : Lines A) (tape : Listed) (text : List ℕ) (more : ℕ) → Adds old new text more
+    → Adds (record old { tape = tape }) (record new { tape = tape }) text more
+added-over {A} old new tape text more h = record { counts = h.counts; same = ap {A = Lines A} (λ (l : Lines A). record l { tape = tape }) h.same }
+
 pub shows-refused : {A E : Type 0} (naming : E → Option (List ℕ)) (old new : Lines A) (refusals refuses : Port E) (held : Option (List ℕ)) (key : List ℕ) (longest : ℕ) (r : Report)
     (error : Option Error) → Shows old held (naming refusals.inner) key longest r → IsRefused naming old new refusals refuses error
     → Shows new held (naming refuses.inner) key longest (with_refusal longest r error)
@@ -68,7 +85,7 @@ shows-refused naming old new refusals refuses held key longest r error shown h =
   reserved = subst (λ l. IsReserved l.longest l.buffers l.tape) (sym h.same) shown.reserved;
   number = ap (λ l. l.number) h.same ∙ shown.number;
   all_taken = ap (λ l. l.all_taken) h.same;
-  counts = h.counts ∙ ap (counted refused) shown.counts;
+  counts = h.counts ∙ ap (counted 1 refused) shown.counts;
   refusals =
       appends-then held (naming refusals.inner) (naming refuses.inner) r.refusals _ shown.refusals
       (subst (λ n. Appends (naming refusals.inner) (naming refuses.inner) (refusal_line n r.number error)) shown.most

@@ -40,7 +40,7 @@ abbrev pub next : Report → Report
 next r = record r { number = one_more r.number }
 
 abbrev pub with_text : Report → List ℕ → Report
-with_text r t = record r { counts = counted t r.counts }
+with_text r t = record r { counts = counted 1 t r.counts }
 
 abbrev pub with_refusal : ℕ → Report → Option Error → Report
 with_refusal longest r error =

@@ -1,17 +1,18 @@
 -- What a run leaves.
-use Rattle.std.specs.Prelude.{◌≡◌, ◌↔◌, ◌||◌, ◌+◌, ◌++◌, ℕ, List, [], ◌∷◌, take, map, Bool, true, false, ◌==◌, Option, OnOk, Result, Ok, Err, if◌then◌else◌}
+use Rattle.std.specs.Prelude.{◌≡◌, ◌↔◌, ◌||◌, ◌+◌, ◌++◌, ℕ, List, [], ◌∷◌, take, map, Bool, true, false, ◌==◌, Option, option_map, OnOk, Result, Ok, Err, MatchResult, Vec, if◌then◌else◌}
 use Rattle.std.specs.Io.KnownBytes.{Appends, Consumes, IsAtEnd, Keeps}
 use Rattle.jtape.specs.declared.port.Port.{Port}
 use Rattle.simd_json.specs.MaxDepth.{default_max_depth}
 use Rattle.simd_json.specs.Reserved.{IsReserved}
 use Rattle.simd_json_parts.specs.declared.error.Error.{Error}
 use Rattle.simd_json_parts.specs.Bytes.{line_feed}
-use Rattle.log_report.specs.Report.{Report, no_line, refusal_line, report_of, with_line}
+use Rattle.simd_json.specs.Viewed.{doc}
+use Rattle.simd_json.specs.declared.value.tape.value.Value.{Value}
+use Rattle.log_report.specs.Report.{Report, no_line, refusal_line, report_of, value_label, with_line}
 use Rattle.log_report.specs.Table.{Count, counted, refused, report_text}
 use Rattle.log_report.specs.declared.run.Failure.{Failure}
-use Rattle.log_report.specs.declared.run.Failure.TheVariants.{Read, Write}
+use Rattle.log_report.specs.declared.run.Failure.TheVariants.{Read, Write, Resources}
 use Rattle.log_report.specs.declared.run.Lines.{Lines}
-use Rattle.log_report.specs.declared.run.Row.{Row}
 
 -- Of a reader with these bytes left before and after, a writer of the report and one that names refused lines, which held and
 -- hold these: the reader was read to its end, and the report of its lines was written, and its refused lines were named.
@@ -35,16 +36,39 @@ pub record Reports {R W E : Type 0} (remaining : R → Option (List ℕ)) (writt
 
 -- ---- what private clauses cite
 
-abbrev pub shown : {A : Type 0} → Row A → Count
-shown row = (row.text.items, row.count)
+-- what a call on a port that had not failed ends in, if its failures come from that port or from want of memory
+abbrev pub fault_of : Bool → Failure
+fault_of true = Write
+fault_of false = Resources
 
-abbrev pub counts_of : {A : Type 0} → List (Row A) → List Count
-counts_of rows = map shown rows
+-- of such a call: P, and the port has not failed; or a failure
+abbrev pub Ends : {T : Type 0} → Port T → Port T → Type 0 → Result Unit Failure → Type 0
+Ends old new P result =
+    old.failed ≡ false → MatchResult result (λ _. (new.failed ≡ false) × P) (λ failure. failure ≡ fault_of new.failed)
+
+abbrev pub shown : {A : Type 0} → Vec ℕ A × ℕ → Count
+shown entry = (entry.0.items, entry.1)
+
+abbrev pub counts_of : {A : Type 0} → Lines A → List Count
+counts_of lines = map shown lines.counts.entries
+
+-- so many lines more count under the text
+pub record Adds {A : Type 0} (old new : Lines A) (text : List ℕ) (more : ℕ) : Type 0 where
+  pub counts : counts_of new ≡ counted more text (counts_of old)
+  pub same : new ≡ record old { counts = new.counts }
+
+-- one more, by the value at the key
+abbrev pub AddsValue : {A : Type 0} → Lines A → Lines A → Option Value → Type 0
+AddsValue old new value = Adds old new (value_label (option_map doc value)) 1
+
+-- of a writer of what is known: the report is written
+abbrev pub Prints : {A W : Type 0} → (W → Option (List ℕ)) → Lines A → Port W → Port W → Type 0
+Prints written lines out outs = Appends (written out.inner) (written outs.inner) (report_text (counts_of lines))
 
 -- of a writer of what is known: the last line counts as refused, and is named
 pub record IsRefused {A E : Type 0} (naming : E → Option (List ℕ)) (old new : Lines A) (refusals refuses : Port E) (error : Option Error) : Type 0 where
-  pub counts : counts_of new.table.rows.items ≡ counted refused (counts_of old.table.rows.items)
-  pub same : new ≡ record old { all_taken = false; table = new.table; refusal = new.refusal }
+  pub counts : counts_of new ≡ counted 1 refused (counts_of old)
+  pub same : new ≡ record old { all_taken = false; counts = new.counts }
   pub named : Appends (naming refusals.inner) (naming refuses.inner) (refusal_line old.longest old.number error)
 
 -- Since a writer held these bytes: the counts are those of this report, and the writer holds the lines that name refused ones, too.
@@ -55,8 +79,12 @@ pub record Shows {A : Type 0} (lines : Lines A) (held holds : Option (List ℕ))
   pub reserved : IsReserved lines.longest lines.buffers lines.tape
   pub number : lines.number ≡ r.number
   pub all_taken : lines.all_taken ≡ r.all_taken
-  pub counts : counts_of lines.table.rows.items ≡ r.counts
+  pub counts : counts_of lines ≡ r.counts
   pub refusals : Appends held holds r.refusals
+
+-- before any line
+abbrev pub IsStart : {A : Type 0} → List ℕ → ℕ → Lines A → Type 0
+IsStart key longest lines = (held : Option (List ℕ)) → Shows lines held held key longest no_line
 
 -- any report that was shown has become that with this line
 abbrev pub TakesLine : {A E : Type 0} → (E → Option (List ℕ)) → Lines A → Lines A → Port E → Port E → List ℕ → Type 0
@@ -88,11 +116,3 @@ After naming old new refusals refuses line kept block =
 -- a line that has begun has become that with these bytes
 abbrev pub IsKept : ℕ → List ℕ → List ℕ → List ℕ → Type 0
 IsKept longest line kept bytes = (begun : List ℕ) → line ≡ take (longest + 1) begun → kept ≡ take (longest + 1) (begun ++ bytes)
-
--- from no line, all lines of the reader were counted, and the report of them written
-abbrev pub Finishes : {A R W E : Type 0} → (R → Option (List ℕ)) → (W → Option (List ℕ)) → (E → Option (List ℕ)) → Lines A → Lines A
-    → Port R → Port R → Port W → Port W → Port E → Port E → Type 0
-Finishes remaining written naming old new reader reads report reports refusals refuses =
-    (key : List ℕ) (longest : ℕ) → Shows old (naming refusals.inner) (naming refusals.inner) key longest no_line
-    → HasRun key longest (remaining reader.inner) (remaining reads.inner) (written report.inner) (written reports.inner)
-    (naming refusals.inner) (naming refuses.inner) (Ok new.all_taken)

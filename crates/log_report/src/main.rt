@@ -12,10 +12,8 @@ use run::{Failure, run};
 use std::process::ExitCode;
 use std::{env, io};
 
-// How many bytes a line may have by default, and at most.
+// How many bytes a line may have by default.
 const LONGEST: usize = 65_536;
-
-const MOST: usize = 4_294_967_295;
 
 fn main(rt: HostRuntime) -> ExitCode {
     let (status, line) = ending(&program(&rt));
@@ -26,15 +24,12 @@ fn main(rt: HostRuntime) -> ExitCode {
 }
 
 fn program(rt: &HostRuntime) -> Result<bool, Failure> {
-    let words = arguments(rt).map_err(|_| Failure::Usage)?;
+    let words = env::args(rt).map_err(|_| Failure::Usage)?;
+    let words: Vec<String> = words.collect(rt.alloc()).map_err(|_| Failure::Usage)?;
     let (key, longest) = settings(words.as_slice()).ok_or(Failure::Usage)?;
     let (mut input, mut out) = (Port::new(rt.reader()), Port::new(io::writer(rt)));
     let mut err = Port::new(rt.stderr());
     run(rt.alloc(), key, longest, &mut input, &mut out, &mut err)
-}
-
-fn arguments(rt: &HostRuntime) -> io::Result<Vec<String>> {
-    Ok(env::args(rt)?.collect(rt.alloc())?)
 }
 
 // The key, and how many bytes a line may have. The first word is the program's name.
@@ -46,7 +41,7 @@ fn settings(words: &[String]) -> Option<(&str, usize)>
         [_, key, longest] => (key.as_str(), number_named(longest.as_str())?),
         _ => return None,
     };
-    (longest <= MOST).then_some((key, longest))
+    (longest <= 4_294_967_295).then_some((key, longest))
 }
 
 // The status that the program ends with, and the line for standard error.
