@@ -1,7 +1,7 @@
 //! Reads one string, decoded in the bytes it was written in (RFC 8259, section 7).
-ghost use Rattle.std.specs.Prelude.{◌≡◌, ◌≢◌, ◌≤◌, ◌<◌, ◌+◌, ℕ, List, length, drop, slice_range};
-ghost use Rattle.std.specs.Prelude.{Ok, MatchResult, IsUtf8, false};
-ghost use Rattle.simd_json_parts.specs.Bytes.{quote, backslash, byte_at};
+ghost use Rattle.std.specs.Prelude.{◌≡◌, ◌≤◌, ◌<◌, ◌+◌, ℕ, List, length, drop, slice_range};
+ghost use Rattle.std.specs.Prelude.{MatchResult, IsUtf8, false};
+ghost use Rattle.simd_json_parts.specs.Bytes.{quote, byte_at};
 ghost use Rattle.simd_json_parts.specs.StringAt.{closing_quote};
 ghost use Rattle.simd_json_scalars.specs.StringContent.{is_plain};
 ghost use Rattle.simd_json_scalars.specs.StringDecoded.{IsOpen, IsDecoded, IsLeft};
@@ -85,21 +85,6 @@ pub fn string_len(bytes: &[u8]) -> Result<usize, BadEscape>
         }
     }
     Ok(read + 1)
-}
-
-/// Borrows the string whose opening quote is the first of the unread bytes, where its closing quote is known,
-/// as an index of the unread bytes, and it holds no escape. No byte of it is read.
-///
-/// It is the string that [`parse_str`] returns.
-#[inline]
-pub fn share_str<'de>(unread: &'de mut [u8], closing: usize) -> ParsedString<'de>
-    requires opening { byte_at unread.old 0 ≡ quote }
-    requires closing { (closing ≡ closing_quote unread.old 0) × (closing < length unread.old) }
-    requires plain { (i : ℕ) → 0 < i → i < closing → byte_at unread.old i ≢ backslash }
-    requires utf8 { IsUtf8 unread.old }
-    ensures { (b : List ℕ) (i : ℕ) → drop i b ≡ unread.old → IsStringAt b i (Ok result) }
-{
-    share(unread, closing, closing)
 }
 
 // The bytes after the opening quote up to `end` as a string, and those after the closing quote.

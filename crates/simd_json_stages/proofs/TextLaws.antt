@@ -1,7 +1,7 @@
 -- What the machine can read of a text: later on it stays, and a string without an escape is its bytes.
 use Rattle.std.proofs.Common.{◌≡◌, sym, ◌∙◌, ap, subst, ℕ, suc, ◌+◌, ◌-◌, ◌<◌, ◌≤◌, ◌≢◌, List, length, get_or, take, drop, refl, arith}
 use Rattle.std.specs.Prelude.{Ok, IsUtf8, IsFalse, slice_range}
-use Rattle.std.proofs.lemmas.List.{get_or-drop, get_or_past, drop-drop, length-drop}
+use Rattle.std.proofs.lemmas.List.{get_or-drop, get_or_past, drop-drop, drop-take, length-drop, take_all, take_rest}
 use Rattle.simd_json_parts.specs.Bytes.{quote, backslash, byte_at}
 use Rattle.simd_json_parts.specs.StringAt.{closing_quote, string_at}
 use Rattle.simd_json_scalars.proofs.Strings.Plain.{plain-decoded}
@@ -21,6 +21,7 @@ pub reads-kept : (b : List ℕ) (t : Text) → IsKept (Reads b t)
 reads-kept b t i j h l =
     record {
       fits = h.fits;
+      end = h.end;
       whole = h.whole;
       part = λ lent. let p : IsLent b t.rest.now t.at t.escapes i = h.part lent in
           record { rest = p.rest; before = omega (arith, p.before); ahead = ahead-later b t.escapes i p.ahead j l };
@@ -32,6 +33,21 @@ pub lent-drop : (b rest : List ℕ) (at : ℕ) (escapes : Escapes) (i : ℕ) →
 lent-drop b rest at escapes i lent j l =
     let there : at + (j - at) ≡ j = omega (arith, l) in
     ap (drop (j - at)) lent.rest ∙ drop-drop (j - at) at b ∙ ap (λ n. drop n b) there
+
+-- from where a token begins so many of its bytes
+pub lent-slice : (b rest : List ℕ) (at : ℕ) (escapes : Escapes) (i len : ℕ) (prefix : List ℕ) → IsLent b rest at escapes i
+    → prefix ≡ take (i + len - at) rest → take (length prefix - (i - at)) (drop (i - at) prefix) ≡ take len (drop i b)
+lent-slice b rest at escapes i len prefix lent is =
+    let size : i + len - at ≡ (i - at) + len = omega (arith, lent.before) in
+    take_rest prefix (i - at) ∙ ap (drop (i - at)) (is ∙ ap (λ n. take n rest) size) ∙ drop-take (i - at) len rest
+    ∙ ap (take len) (lent-drop b rest at escapes i lent i lent.before)
+
+-- and up to the end all of them
+pub lent-all : (b rest : List ℕ) (at : ℕ) (escapes : Escapes) (i end : ℕ) (after all : List ℕ) → IsLent b rest at escapes i
+    → end ≡ length b → after ≡ drop (i - at) rest → all ≡ take (end - i) after → all ≡ drop i b
+lent-all b rest at escapes i end after all lent whole is cut =
+    let from : after ≡ drop i b = is ∙ lent-drop b rest at escapes i lent i lent.before in
+    cut ∙ take_all (end - i) after (omega (arith, whole, ap length from, length-drop i b)) ∙ from
 
 -- ---- a string that is closed before an index
 
@@ -75,12 +91,13 @@ shared-slice b shared i next k string e is =
 
 -- what is left after a string can be read
 pub reads-after : (b : List ℕ) (t t' : Text) (i next end : ℕ) → Reads b t i → IsStringBefore b i next → IsFalse t.is_shared
-    → t'.is_shared ≡ t.is_shared → t'.escapes ≡ t.escapes
+    → t'.is_shared ≡ t.is_shared → t'.escapes ≡ t.escapes → t'.end ≡ t.end
     → t'.at ≡ end → end ≡ suc (closing_quote b i) → t'.rest.now ≡ drop end b → Reads b t' (suc (closing_quote b i))
-reads-after b t t' i next end reads string lent kind escapes at is rest =
+reads-after b t t' i next end reads string lent kind escapes whole at is rest =
     let part : IsLent b t.rest.now t.at t.escapes i = reads.part lent in
     record {
       fits = reads.fits;
+      end = whole ∙ reads.end;
       whole = λ shared. cc (shared, kind, lent);
       part = λ _. record {
         rest = rest ∙ ap (λ n. drop n b) (sym at);

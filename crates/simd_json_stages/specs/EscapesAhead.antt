@@ -14,7 +14,7 @@ pub record ArePassed (b listed : List ℕ) (next at : ℕ) : Type 0 where
   pub within : next ≤ length listed
   pub plain : PlainFrom b at (listed_start b next)
 
--- so far the walk has come, and its mark is where the next block begins
+-- so far the walk has come, and from there up to its mark no backslash stands
 pub record AreAhead (b : List ℕ) (e : Escapes) (at : ℕ) : Type 0 where
   pub passed : ArePassed b e.blocks.now e.next at
-  pub mark : e.next < length e.blocks.now → e.mark ≡ listed_start b e.next
+  pub plain : PlainFrom b at e.mark

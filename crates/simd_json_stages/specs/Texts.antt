@@ -20,6 +20,7 @@ pub record IsShared (b shared : List ℕ) : Type 0 where
 -- All bytes of the input b from index i on can be read.
 pub record Reads (b : List ℕ) (t : Text) (i : ℕ) : Type 0 where
   pub fits : length b < 2 ^ 64
+  pub end : t.end ≡ length b
   pub whole : IsTrue t.is_shared → IsShared b t.shared.now
   pub part : IsFalse t.is_shared → IsLent b t.rest.now t.at t.escapes i
 

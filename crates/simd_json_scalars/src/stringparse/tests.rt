@@ -121,12 +121,3 @@ fn bad_escapes_are_reported_at_their_backslash(rt: HostRuntime) {
         _ => assert!(rt; false),
     }
 }
-
-#[test]
-fn a_known_string_is_handed_over(rt: HostRuntime) {
-    let mut unread = *b"\"hi\":1";
-    let shared = share_str(&mut unread, 3);
-    assert_eq!(rt; shared.string, "hi");
-    assert_eq!(rt; shared.len, 4);
-    assert_eq!(rt; *shared.rest, *b":1".as_slice());
-}

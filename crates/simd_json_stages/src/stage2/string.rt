@@ -31,7 +31,7 @@ pub(super) fn put_string<'de, A: Allocator>(
         (IsStringPut b p.at nodes.old.items nodes.new.items (Reads b text.new)) }
     ensures refused { IfErr result (IsBadString b p.at) }
 {
-    let next = route.position_or_end(p.read, text.end());
+    let next = route.position_or_end(p.read, text.end);
     let may_have_escape = text.may_have_escape(p.at, next);
     if !may_have_escape {
         nodes.push_reserved(Node::String(text.share_string(p.at, next)));

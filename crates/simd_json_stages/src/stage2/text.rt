@@ -10,7 +10,8 @@ ghost use Rattle.simd_json_stages.specs.EscapesAhead.{AreAhead, ArePassed, Plain
 ghost use Rattle.simd_json_stages.specs.Texts.{Reads, IsStringBefore};
 
 use crate::stage1::BLOCK_LEN;
-use simd_json_scalars::stringparse::{BadEscape, parse_str, share_str};
+use memchr::memchr;
+use simd_json_scalars::stringparse::{BadEscape, parse_str};
 
 // An input without a backslash is shared as a whole. Another one is lent for writing, since its strings are
 // decoded in the bytes they were written in: what is shared is split off from the front, for good.
@@ -19,10 +20,12 @@ pub(crate) struct Text<'m, 'de> {
     pub(crate) is_shared: bool,
     // All of the input, where it is shared; else nothing.
     pub(crate) shared: &'de [u8],
-    // Else the bytes of the input from this index on, and the blocks ahead that hold a backslash.
+    // Else the bytes of the input from this index on, and the backslashes ahead.
     pub(crate) rest: &'de mut [u8],
     pub(crate) at: usize,
     pub(crate) escapes: Escapes<'m>,
+    // The index of the end of the input. Lengths are computed from it, so that none is carried along.
+    pub(crate) end: usize,
 }
 
 impl<'m, 'de> Text<'m, 'de> {
@@ -41,6 +44,7 @@ impl<'m, 'de> Text<'m, 'de> {
                 next: 0,
                 mark: 0,
             },
+            end: input.len(),
         }
     }
 
@@ -50,6 +54,7 @@ impl<'m, 'de> Text<'m, 'de> {
         ensures { (b : List ℕ) → input.old ≡ b → escape_blocks.now ≡ backslash_blocks b
             → Reads b result 0 }
     {
+        let end = input.len();
         Text {
             is_shared: false,
             shared: &[],
@@ -58,21 +63,10 @@ impl<'m, 'de> Text<'m, 'de> {
             escapes: Escapes {
                 blocks: escape_blocks,
                 next: 0,
-                mark: mark(escape_blocks, 0),
+                mark: 0,
             },
+            end,
         }
-    }
-
-    // The index of the end of the input.
-    #[inline(always)]
-    pub(crate) fn end(&self) -> usize
-        requires { (b : List ℕ) × (i : ℕ) × Reads b self.now i × (i ≤ length b) }
-        ensures { (b : List ℕ) (i : ℕ) → Reads b self.now i → i ≤ length b → result ≡ length b }
-    {
-        if self.is_shared {
-            return self.shared.len();
-        }
-        self.at + self.rest.len()
     }
 
     #[inline(always)]
@@ -95,7 +89,7 @@ impl<'m, 'de> Text<'m, 'de> {
         if self.is_shared {
             return &self.shared[i..];
         }
-        &self.rest[i - self.at..]
+        &self.rest[i - self.at..self.end - self.at]
     }
 
     // So many bytes from index i on, as a string.
@@ -110,9 +104,9 @@ impl<'m, 'de> Text<'m, 'de> {
             let shared = self.shared;
             return unsafe { str::from_utf8_unchecked(&shared[i..i + len]) };
         }
-        let _ = self.split(i);
+        let start = i - self.at;
         let prefix = self.split(i + len);
-        unsafe { str::from_utf8_unchecked(prefix) }
+        unsafe { str::from_utf8_unchecked(&prefix[start..]) }
     }
 
     // The bytes up to an index, split off.
@@ -124,6 +118,7 @@ impl<'m, 'de> Text<'m, 'de> {
         ensures at { self.new.at ≡ i }
         ensures shared { (self.new.shared ≡ self.old.shared) × (self.new.is_shared ≡ self.old.is_shared) }
         ensures escapes { self.new.escapes ≡ self.old.escapes }
+        ensures end { self.new.end ≡ self.old.end }
     {
         let (prefix, rest) = std::mem::take(&mut self.rest).split_at_mut(i - self.at);
         self.rest = rest;
@@ -134,11 +129,30 @@ impl<'m, 'de> Text<'m, 'de> {
     // Whether the string from index `at` may have an escape before index `end`.
     #[inline(always)]
     pub(crate) fn may_have_escape(&mut self, at: usize, end: usize) -> bool
+        requires { (b : List ℕ) × Reads b self.old at × (at ≤ length b) }
         ensures reads { (b : List ℕ) → Reads b self.old at → Reads b self.new at }
         ensures plain { IsFalse result → (b : List ℕ) → Reads b self.old at → PlainFrom b at end }
         ensures lent { IsTrue result → IsFalse self.new.is_shared }
     {
-        !self.is_shared && self.escapes.may_lie_between(at, end)
+        if self.is_shared || end <= self.escapes.mark {
+            return false;
+        }
+        if self.escapes.mark < at {
+            self.escapes = self.escapes_from(at);
+        }
+        self.escapes.mark < end
+    }
+
+    // The walk along the backslashes, its mark at the first from index `at` on.
+    #[inline(always)]
+    fn escapes_from(&self, at: usize) -> Escapes<'m>
+        requires { (b : List ℕ) × IsFalse self.now.is_shared × Reads b self.now at × (at ≤ length b) }
+        ensures { (b : List ℕ) → IsFalse self.now.is_shared → Reads b self.now at → AreAhead b result at }
+    {
+        let Escapes { blocks, next, .. } = self.escapes;
+        let rest = &self.rest[..self.end - self.at];
+        let (next, mark) = next_backslash(blocks, next, at, rest, self.at);
+        Escapes { blocks, next, mark }
     }
 
     // The index of the last quote before index `end`: it closes the string whose opening quote has index `at`.
@@ -165,15 +179,7 @@ impl<'m, 'de> Text<'m, 'de> {
             × Reads b self.new (suc (closing_quote b at)) }
     {
         let closing = self.last_quote(at, end);
-        if self.is_shared {
-            let shared = self.shared;
-            return unsafe { str::from_utf8_unchecked(&shared[at + 1..closing]) };
-        }
-        let _ = self.split(at);
-        let string = share_str(std::mem::take(&mut self.rest), closing - at);
-        self.at = at + string.len;
-        self.rest = string.rest;
-        string.string
+        self.share(at + 1, closing - (at + 1))
     }
 
     // The string whose opening quote has index `at`, or its first invalid escape. It is decoded in the bytes it
@@ -188,15 +194,15 @@ impl<'m, 'de> Text<'m, 'de> {
             (λ bad. string_at b at ≡ Err (escape_fault (at + bad.offset) bad.letter)) }
     {
         let _ = self.split(at);
-        let string = parse_str(std::mem::take(&mut self.rest))?;
+        let (unread, _) = std::mem::take(&mut self.rest).split_at_mut(self.end - at);
+        let string = parse_str(unread)?;
         self.at = at + string.len;
         self.rest = string.rest;
         Ok(string.string)
     }
 }
 
-// A walk along the blocks that hold a backslash, beside the walk through the input. Before `mark` no backslash is
-// ahead.
+// A walk along the backslashes, beside the walk through the input: from where it is up to `mark` there is none.
 #[derive(Clone, Copy, Debug, Drop)]
 pub(crate) struct Escapes<'a> {
     pub(crate) blocks: &'a [u32],
@@ -204,28 +210,24 @@ pub(crate) struct Escapes<'a> {
     pub(crate) mark: usize,
 }
 
-impl<'a> Escapes<'a> {
-    // Whether a backslash may stand from index `at` up to `end`. What lies before `at` is passed.
-    #[inline(always)]
-    fn may_lie_between(&mut self, at: usize, end: usize) -> bool
-        ensures ahead { (b : List ℕ) → AreAhead b self.old at → AreAhead b self.new at }
-        ensures plain { IsFalse result → (b : List ℕ) → AreAhead b self.old at → PlainFrom b at end }
-    {
-        if end <= self.mark {
-            return false;
-        }
-        if self.mark.saturating_add(BLOCK_LEN) > at {
-            return true;
-        }
-        self.next = passed(self.blocks, self.next, at);
-        self.mark = mark(self.blocks, self.next);
-        self.mark < end
+// The number of the first block that does not lie before an index, and where the first backslash from there on is,
+// or past every input where there is none. `rest` is the input from index `base` on. It is out of line, and takes no
+// more than it reads, since whatever is lent to such a call stays in memory.
+#[inline(never)]
+fn next_backslash(blocks: &[u32], next: usize, at: usize, rest: &[u8], base: usize) -> (usize, usize)
+    requires { (base ≤ at) × (at ≤ base + length rest.now) × (base + length rest.now < 2 ^ 64) }
+    ensures { (b : List ℕ) → drop base b ≡ rest.now → ArePassed b blocks.now next at
+        → ArePassed b blocks.now result.0 at × PlainFrom b at result.1 }
+{
+    let next = passed(blocks, next, at);
+    let from = start(blocks, next).max(at).min(base + rest.len());
+    match memchr(b'\\', &rest[from - base..]) {
+        Some(plain) => (next, from + plain),
+        None => (next, usize::MAX),
     }
 }
 
-// The number of the first block, from this one on, that does not lie before an index. It is out of line, and
-// takes numbers alone, since whatever is lent to such a call stays in memory.
-#[inline(never)]
+// The number of the first block, from this one on, that does not lie before an index.
 fn passed(blocks: &[u32], next: usize, at: usize) -> usize
     ensures { (b : List ℕ) → ArePassed b blocks.now next at → ArePassed b blocks.now result at }
 {
@@ -238,7 +240,7 @@ fn passed(blocks: &[u32], next: usize, at: usize) -> usize
 
 // Where the block of this number in the list begins, or past every input where there is none.
 #[inline(always)]
-fn mark(blocks: &[u32], next: usize) -> usize
+fn start(blocks: &[u32], next: usize) -> usize
     ensures { next < length blocks.now → result ≡ 64 * slice_index blocks.now next }
 {
     match blocks.get(next) {

@@ -6,17 +6,10 @@ use Rattle.simd_json_stages.proofs.Bounds.{some-left}
 use Rattle.simd_json_stages.proofs.StringPut.{at-within, string-before, bad-within}
 use Rattle.simd_json_stages.proofs.stage2.string.put_string.Goals as goal
 
-pub end-requires : goal.end-requires
-end-requires g c =
-    let s = c.requires.1 in (
-      g.b,
-      c.args.p.at,
-      s.text,
-      omega (
-        arith,
-        at-within g.b c.args.route c.args.text.now _ _ c.args.p s,
-      ),
-    )
+pub may_have_escape-may_have_escape-requires : goal.may_have_escape-may_have_escape-requires
+may_have_escape-may_have_escape-requires g c =
+    let within = at-within g.b c.args.route c.args.text.now _ _ c.args.p c.requires.1 in
+    (g.b, c.requires.1.text, omega (arith, within))
 
 pub position_or_end-next-requires : goal.position_or_end-next-requires
 position_or_end-next-requires g c t =
@@ -27,9 +20,7 @@ position_or_end-next-requires g c t =
 pub share_string-requires : goal.share_string-requires
 share_string-requires g c =
     let s = c.requires.1 in
-    let within = at-within g.b c.args.route c.args.text.now _ _ c.args.p s in
-    let next = c.position_or_end-next.ensures ∙ ap (get_or c.args.route.indexes.now c.args.p.read)
-    (c.end.ensures g.b c.args.p.at s.text (omega arith)) in
+    let next = c.position_or_end-next.ensures ∙ ap (get_or c.args.route.indexes.now c.args.p.read) s.text.end in
     let string = string-before g.b c.args.route c.args.text.now _ _ c.args.p
     s c.position_or_end-next.result next in
     let asked = c.may_have_escape-may_have_escape.ensures in
@@ -38,9 +29,7 @@ share_string-requires g c =
 pub returns-then-not-may_have_escape-clause-put : goal.returns-then-not-may_have_escape-clause-put
 returns-then-not-may_have_escape-clause-put g c =
     let s = c.requires.1 in
-    let within = at-within g.b c.args.route c.args.text.now _ _ c.args.p s in
-    let next = c.position_or_end-next.ensures ∙ ap (get_or c.args.route.indexes.now c.args.p.read)
-    (c.end.ensures g.b c.args.p.at s.text (omega arith)) in
+    let next = c.position_or_end-next.ensures ∙ ap (get_or c.args.route.indexes.now c.args.p.read) s.text.end in
     let string = string-before g.b c.args.route c.args.text.now _ _ c.args.p
     s c.position_or_end-next.result next in
     let asked = c.may_have_escape-may_have_escape.ensures in
@@ -58,9 +47,7 @@ returns-then-not-may_have_escape-clause-put g c =
 pub parse_string-requires : goal.parse_string-requires
 parse_string-requires g c =
     let s = c.requires.1 in
-    let within = at-within g.b c.args.route c.args.text.now _ _ c.args.p s in
-    let next = c.position_or_end-next.ensures ∙ ap (get_or c.args.route.indexes.now c.args.p.read)
-    (c.end.ensures g.b c.args.p.at s.text (omega arith)) in
+    let next = c.position_or_end-next.ensures ∙ ap (get_or c.args.route.indexes.now c.args.p.read) s.text.end in
     let string = string-before g.b c.args.route c.args.text.now _ _ c.args.p
     s c.position_or_end-next.result next in
     let asked = c.may_have_escape-may_have_escape.ensures in
@@ -69,9 +56,7 @@ parse_string-requires g c =
 pub bad_escape-requires : goal.bad_escape-requires
 bad_escape-requires g c =
     let s = c.requires.1 in
-    let within = at-within g.b c.args.route c.args.text.now _ _ c.args.p s in
-    let next = c.position_or_end-next.ensures ∙ ap (get_or c.args.route.indexes.now c.args.p.read)
-    (c.end.ensures g.b c.args.p.at s.text (omega arith)) in
+    let next = c.position_or_end-next.ensures ∙ ap (get_or c.args.route.indexes.now c.args.p.read) s.text.end in
     let string = string-before g.b c.args.route c.args.text.now _ _ c.args.p
     s c.position_or_end-next.result next in
     let is = c.in-Err.ensures g.b c.position_or_end-next.result (c.may_have_escape-may_have_escape.ensures.reads g.b s.text) string in
@@ -85,9 +70,7 @@ bad_escape-requires g c =
 pub returns-in-Err-clause-refused : goal.returns-in-Err-clause-refused
 returns-in-Err-clause-refused g c =
     let s = c.requires.1 in
-    let within = at-within g.b c.args.route c.args.text.now _ _ c.args.p s in
-    let next = c.position_or_end-next.ensures ∙ ap (get_or c.args.route.indexes.now c.args.p.read)
-    (c.end.ensures g.b c.args.p.at s.text (omega arith)) in
+    let next = c.position_or_end-next.ensures ∙ ap (get_or c.args.route.indexes.now c.args.p.read) s.text.end in
     let string = string-before g.b c.args.route c.args.text.now _ _ c.args.p
     s c.position_or_end-next.result next in
     c.in-Err.ensures g.b c.position_or_end-next.result (c.may_have_escape-may_have_escape.ensures.reads g.b s.text) string
@@ -96,9 +79,7 @@ returns-in-Err-clause-refused g c =
 pub returns-clause-put : goal.returns-clause-put
 returns-clause-put g c =
     let s = c.requires.1 in
-    let within = at-within g.b c.args.route c.args.text.now _ _ c.args.p s in
-    let next = c.position_or_end-next.ensures ∙ ap (get_or c.args.route.indexes.now c.args.p.read)
-    (c.end.ensures g.b c.args.p.at s.text (omega arith)) in
+    let next = c.position_or_end-next.ensures ∙ ap (get_or c.args.route.indexes.now c.args.p.read) s.text.end in
     let string = string-before g.b c.args.route c.args.text.now _ _ c.args.p
     s c.position_or_end-next.result next in
     let read = c.in-Ok.ensures g.b c.position_or_end-next.result (c.may_have_escape-may_have_escape.ensures.reads g.b s.text) string in

@@ -1,0 +1,13 @@
+use Rattle.std.proofs.Common.{◌∙◌, sym, subst}
+use Rattle.std.specs.Prelude.{IsUtf8}
+use Rattle.simd_json_stages.proofs.TextLaws.{lent-slice}
+use Rattle.simd_json_stages.proofs.stage2.text.Text.share.Goals as goal
+
+pub from_utf8_unchecked-requires-2 : goal.from_utf8_unchecked-requires-2
+from_utf8_unchecked-requires-2 c =
+    subst IsUtf8 (sym (lent-slice c.requires.0 _ _ _ c.args.i c.args.len _ (c.requires.1.part c.if-self.false)
+    c.split-prefix.ensures.prefix)) c.requires.3
+
+pub returns-clause-string : goal.returns-clause-string
+returns-clause-string c b reads =
+    c.from_utf8_unchecked-2.ensures ∙ lent-slice b _ _ _ c.args.i c.args.len _ (reads.part c.if-self.false) c.split-prefix.ensures.prefix
