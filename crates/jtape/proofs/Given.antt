@@ -9,7 +9,8 @@ use Rattle.simd_json_print.proofs.FlatMaps.{flat_map-more}
 use Rattle.simd_json_print.proofs.Texts.{adds-is, adds-then, adds-lost}
 
 -- one element more
-pub adds-more : {T : Type 0} {size : ℕ} {X : Type 0} (place : T → Place) (f : X → List ℕ) (xs : List X) (i : ℕ) (d : X) (a b c : Text T size)
+pub adds-more : {T : Type 0} {size : ℕ} {X : Type 0} (place : T → Place) (f : X → List ℕ) (xs : List X) (i : ℕ)
+    (d : X) (a b c : Text T size)
     → i < length xs → Adds place a b (flat_map f (take i xs)) → Adds place b c (f (get_or xs i d))
     → Adds place a c (flat_map f (take (i + 1) xs))
 adds-more place f xs i d a b c more g h =

@@ -16,9 +16,11 @@ use Rattle.jtape.specs.declared.words.Mode.{Mode}
 use Rattle.jtape.specs.declared.words.Mode.TheVariants.{Tape, Positions, Compact, Pretty, Lines}
 
 -- Some bytes are put, and of a document those that the mode prints.
-pub record IsPut {T : Type 0} {size : ℕ} (place : T → Place) (a b : Text T size) (m : Mode) (nodes : List Node) (indexes : List ℕ) : Type 0 where
+pub record IsPut {T : Type 0} {size : ℕ} (place : T → Place) (a b : Text T size) (m : Mode) (nodes : List Node)
+    (indexes : List ℕ) : Type 0 where
   pub kept : AddsSome place a b
-  pub given : (d : Document) (input : List ℕ) → map item_of nodes ≡ listing d → indexes ≡ positions input → Adds place a b (printed m input d)
+  pub given : (d : Document) (input : List ℕ) → map item_of nodes ≡ listing d → indexes ≡ positions input
+      → Adds place a b (printed m input d)
 
 -- into a text by another name
 pub put-into : {T : Type 0} {size : ℕ} (place : T → Place) (a b c : Text T size) (mode : Mode) (nodes : List Node) (indexes : List ℕ)

@@ -1,5 +1,6 @@
 -- What `parse` reads of a word that has digits alone.
-use Rattle.std.proofs.Common.{◌≡◌, refl, sym, ap, ◌∙◌, ℕ, ◌<◌, ◌^◌, List, [], ◌∷◌, length, Bool, true, false, ◌&&◌, cond, nat_lt, Some, None, Result, Ok, Err}
+use Rattle.std.proofs.Common.{◌≡◌, refl, sym, ap, ◌∙◌, ℕ, ◌<◌, ◌^◌, List, [], ◌∷◌, length, Bool, true, false, ◌&&◌, cond, nat_lt}
+use Rattle.std.proofs.Common.{Some, None, Result, Ok, Err}
 use Rattle.std.specs.Char.{is_ascii_digit}
 use Rattle.std.specs.List.{list_all}
 use Rattle.std.specs.Result.{OkIff, result_ok}
@@ -25,12 +26,17 @@ unless_all true true false x y none = refl
 unless_all true false r x y none = refl
 unless_all false q r x y none = refl
 
-read-as : {E : Type 0} (word : List ℕ) (r : Result ℕ E) → list_all is_ascii_digit word ≡ true → OkIff r ((0 < length word) × (digits_value 10 word < 2 ^ 64)) (digits_value 10 word) → result_ok r ≡ number_of word
+read-as : {E : Type 0} (word : List ℕ) (r : Result ℕ E) → list_all is_ascii_digit word ≡ true
+    → OkIff r ((0 < length word) × (digits_value 10 word < 2 ^ 64)) (digits_value 10 word) → result_ok r ≡ number_of word
 read-as word (Ok x) digits h =
-    ap Some h.1 ∙ sym (if_all (list_all is_ascii_digit word) (nat_lt 0 (length word)) (nat_lt (digits_value 10 word) (2 ^ 64)) (Some (digits_value 10 word)) None digits (lt-ltb 0 (length word) h.0.0) (lt-ltb (digits_value 10 word) (2 ^ 64) h.0.1))
+    ap Some h.1 ∙ sym (if_all (list_all is_ascii_digit word) (nat_lt 0 (length word)) (nat_lt (digits_value 10 word) (2 ^ 64))
+    (Some (digits_value 10 word)) None digits (lt-ltb 0 (length word) h.0.0) (lt-ltb (digits_value 10 word) (2 ^ 64) h.0.1))
 read-as word (Err e) digits h =
-    sym (unless_all (list_all is_ascii_digit word) (nat_lt 0 (length word)) (nat_lt (digits_value 10 word) (2 ^ 64)) (Some (digits_value 10 word)) None (λ p q. h (ltb-true 0 (length word) p, ltb-true (digits_value 10 word) (2 ^ 64) q)))
+    sym (unless_all (list_all is_ascii_digit word) (nat_lt 0 (length word)) (nat_lt (digits_value 10 word) (2 ^ 64))
+    (Some (digits_value 10 word)) None (λ p q. h (ltb-true 0 (length word) p, ltb-true (digits_value 10 word) (2 ^ 64) q)))
 
-pub number-read : {E : Type 0} (word : List ℕ) (r : Result ℕ E) → list_all is_ascii_digit word ≡ true → ParsesUnsigned 64 10 word r → result_ok r ≡ number_of word
+pub number-read : {E : Type 0} (word : List ℕ) (r : Result ℕ E) → list_all is_ascii_digit word ≡ true → ParsesUnsigned 64 10 word r
+    → result_ok r ≡ number_of word
 number-read word r digits parsed =
-    read-as word r digits (parse_digits (numerals_by_value (λ ds. all_ascii_digits ds ≡ true) tells_all_ascii_digits) 64 word r parsed (sym (digits-all word) ∙ digits))
+    read-as word r digits (parse_digits (numerals_by_value (λ ds. all_ascii_digits ds ≡ true) tells_all_ascii_digits)
+    64 word r parsed (sym (digits-all word) ∙ digits))

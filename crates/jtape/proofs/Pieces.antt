@@ -1,5 +1,6 @@
 -- How an input is cut at its first line feed.
-use Rattle.std.proofs.Common.{◌≡◌, ◌∙◌, refl, ap, sym, arith, ℕ, zero, suc, ◌<◌, ◌≤◌, List, [], ◌∷◌, ◌++◌, take, drop, length, Bool, true, false, not, ◌&&◌, ◌==◌, cond, Some, None}
+use Rattle.std.proofs.Common.{◌≡◌, ◌∙◌, refl, ap, sym, arith, ℕ, zero, suc, ◌<◌, ◌≤◌, List, [], ◌∷◌, ◌++◌, take, drop, length, Bool}
+use Rattle.std.proofs.Common.{true, false, not, ◌&&◌, ◌==◌, cond, Some, None}
 use Rattle.std.specs.Prelude.{slice_index}
 use Rattle.std.specs.List.{list_all}
 use Rattle.std.proofs.Math.Seq.{take-length}
@@ -9,7 +10,8 @@ use Rattle.simd_json_parts.specs.Bytes.{line_feed}
 use Rattle.jtape.specs.Pieces.{pieces, with_first}
 
 -- one byte that is no line feed, in front
-pieces-more : (t : Bool) (x : ℕ) (ps qs : List (List ℕ)) → (not t && true) ≡ true → qs ≡ ps → cond t ([] ∷ qs) (with_first x qs) ≡ with_first x ps
+pieces-more : (t : Bool) (x : ℕ) (ps qs : List (List ℕ)) → (not t && true) ≡ true → qs ≡ ps
+    → cond t ([] ∷ qs) (with_first x qs) ≡ with_first x ps
 pieces-more true x ps qs here _ = absurd (false≢true here)
 pieces-more false x ps qs _ is = ap (with_first x) is
 
@@ -29,16 +31,20 @@ pub pieces-cut : (front rest : List ℕ) → has_none front ≡ true → pieces 
 unfolding pieces
 pieces-cut [] rest _ = refl
 pieces-cut (x ∷ front) rest none =
-    pieces-more (x == line_feed) x (front ∷ pieces rest) (pieces (front ++ line_feed ∷ rest)) (and-first (not (x == line_feed)) (has_none front) none) (pieces-cut front rest (and-second (not (x == line_feed)) (has_none front) none))
+    pieces-more (x == line_feed) x (front ∷ pieces rest) (pieces (front ++ line_feed ∷ rest))
+    (and-first (not (x == line_feed)) (has_none front) none)
+    (pieces-cut front rest (and-second (not (x == line_feed)) (has_none front) none))
 
 pub pieces-last : (front : List ℕ) → has_none front ≡ true → pieces front ≡ front ∷ []
 unfolding pieces
 pieces-last [] _ = refl
 pieces-last (x ∷ front) none =
-    pieces-more (x == line_feed) x (front ∷ []) (pieces front) (and-first (not (x == line_feed)) (has_none front) none) (pieces-last front (and-second (not (x == line_feed)) (has_none front) none))
+    pieces-more (x == line_feed) x (front ∷ []) (pieces front) (and-first (not (x == line_feed)) (has_none front) none)
+    (pieces-last front (and-second (not (x == line_feed)) (has_none front) none))
 
 -- there is a first piece
-some-of : (t : Bool) (x : ℕ) (ps : List (List ℕ)) → ((p : List ℕ) × (qs : List (List ℕ)) × (ps ≡ p ∷ qs)) → (p : List ℕ) × (qs : List (List ℕ)) × (cond t ([] ∷ ps) (with_first x ps) ≡ p ∷ qs)
+some-of : (t : Bool) (x : ℕ) (ps : List (List ℕ)) → ((p : List ℕ) × (qs : List (List ℕ)) × (ps ≡ p ∷ qs))
+    → (p : List ℕ) × (qs : List (List ℕ)) × (cond t ([] ∷ ps) (with_first x ps) ≡ p ∷ qs)
 some-of true x ps _ = ([], ps, refl)
 some-of false x ps (p, qs, is) = (x ∷ p, qs, ap (with_first x) is)
 
@@ -53,11 +59,13 @@ and-both : (p q : Bool) → (p ≡ true → ⊥) → q ≡ true → (not p && q)
 and-both true q never _ = absurd (never refl)
 and-both false q _ is = is
 
-pub none-before : (hay : List ℕ) (k : ℕ) → ((j : ℕ) → 0 ≤ j → j < k → is_byte line_feed (slice_index hay j) ≡ true → ⊥) → has_none (take k hay) ≡ true
+pub none-before : (hay : List ℕ) (k : ℕ) → ((j : ℕ) → 0 ≤ j → j < k → is_byte line_feed (slice_index hay j) ≡ true → ⊥)
+    → has_none (take k hay) ≡ true
 none-before hay zero _ = refl
 none-before [] (suc k) _ = refl
 none-before (x ∷ hay) (suc k) none =
-    and-both (x == line_feed) (has_none (take k hay)) (none 0 (omega arith) (omega arith)) (none-before hay k (λ j low high. none (suc j) (omega arith) (omega (arith, high))))
+    and-both (x == line_feed) (has_none (take k hay)) (none 0 (omega arith) (omega arith))
+    (none-before hay k (λ j low high. none (suc j) (omega arith) (omega (arith, high))))
 
 split-at : (hay : List ℕ) (k : ℕ) → k < length hay → hay ≡ take k hay ++ slice_index hay k ∷ drop 1 (drop k hay)
 split-at [] k l = absurd (omega (arith, l))
@@ -67,7 +75,8 @@ split-at (x ∷ hay) (suc k) l = ap (λ ys. x ∷ ys) (split-at hay k (omega (ar
 pub is-equal : (x : ℕ) → is_byte line_feed x ≡ true → x ≡ line_feed
 is-equal x is = grind (arith, is)
 
-pub found-cut : (hay piece after more : List ℕ) (k : ℕ) → IsFirstByte (is_byte line_feed) hay (Some k) → piece ≡ take k hay → after ≡ drop k hay → more ≡ drop 1 after
+pub found-cut : (hay piece after more : List ℕ) (k : ℕ) → IsFirstByte (is_byte line_feed) hay (Some k) → piece ≡ take k hay
+    → after ≡ drop k hay → more ≡ drop 1 after
     → pieces hay ≡ piece ∷ pieces more
 found-cut hay piece after more k found front back next =
     let is : more ≡ drop 1 (drop k hay) = next ∙ ap (drop 1) back in

@@ -1,9 +1,12 @@
 -- The texts of a document are together no longer than its bytes, and nor is its compact text.
-use Rattle.std.proofs.Common.{◌≡◌, ◌≤◌, ◌+◌, ◌/◌, ◌%◌, ◌==◌, ℕ, suc, List, [], ◌∷◌, ◌++◌, length, length-append, Bool, true, false, cond, None, Result, Ok, Err, IfOk, String, string_bytes, flat_map, codes, arith, subst, sym, ◌∙◌}
+use Rattle.std.proofs.Common.{◌≡◌, ◌≤◌, ◌+◌, ◌/◌, ◌%◌, ◌==◌, ℕ, suc, List, [], ◌∷◌, ◌++◌, length, length-append, Bool, true, false}
+use Rattle.std.proofs.Common.{cond, None, Result, Ok, Err, IfOk, String, string_bytes, flat_map, codes, arith, subst, sym, ◌∙◌}
 use Rattle.std.specs.Char.{digit_char}
 use Rattle.std.specs.Result.{result_err}
-use Rattle.simd_json_parts.specs.Bytes.{backspace, tab, line_feed, form_feed, carriage_return, quote, comma, backslash, left_bracket, right_bracket, left_brace, right_brace, is_control}
-use Rattle.simd_json_parts.specs.Document.{Document, null, boolean, integer, decimal, string, array, object, Elements, no_elements, element, Members, no_members, member}
+use Rattle.simd_json_parts.specs.Bytes.{backspace, tab, line_feed, form_feed, carriage_return, quote, comma, backslash}
+use Rattle.simd_json_parts.specs.Bytes.{left_bracket, right_bracket, left_brace, right_brace, is_control}
+use Rattle.simd_json_parts.specs.Document.{Document, null, boolean, integer, decimal, string, array, object, Elements, no_elements}
+use Rattle.simd_json_parts.specs.Document.{element, Members, no_members, member}
 use Rattle.simd_json_parts.specs.Listing.{listing, elements_listing, members_listing}
 use Rattle.simd_json_parts.specs.Nodes.{Item}
 use Rattle.simd_json_parts.specs.declared.error.Error.{Error}

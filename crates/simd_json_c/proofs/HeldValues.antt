@@ -57,5 +57,6 @@ module _ {M : Type 1} {𝓤 : Ura M} {𝓛 : Logic 𝓤} {K : Type 0} {Γ : List
   held_in t p h a x = step (λ s. let v : Val = both (ptr_val p) h in
       nothing t $ move t (2 ∷ 0 ∷ []) $ fjoin t $ feq_i t (List Val) (ptr_val p ∷ []) (ptr_val p ∷ []) refl $ fjoin t $
       feq_i t (List Val) (v ∷ []) (v ∷ []) refl $ fjoin t $
-      fpack t (Valss (RawPtr ∷ Z ∷ [])) (within (shape handle.the_type) (p, (global.the_type.to a, tt)) (v ∷ [])) (ptr_val p ∷ [], (h ∷ [], tt)) $
+      fpack t (Valss (RawPtr ∷ Z ∷ [])) (within (shape handle.the_type) (p, (global.the_type.to a, tt)) (v ∷ []))
+      (ptr_val p ∷ [], (h ∷ [], tt)) $
       fjoin t $ s)

@@ -1,5 +1,6 @@
 -- A node and its text put at the front of what is left.
-use Rattle.std.proofs.Common.{◌≡◌, ◌+◌, ◌++◌, ◌∷◌, ◌<◌, ◌≤◌, [], ℕ, List, length, drop, map, get_or, arith, ap, sym, ◌∙◌, drop-drop, refl, true, false}
+use Rattle.std.proofs.Common.{◌≡◌, ◌+◌, ◌++◌, ◌∷◌, ◌<◌, ◌≤◌, [], ℕ, List, length, drop, map, get_or, arith, ap, sym, ◌∙◌, drop-drop}
+use Rattle.std.proofs.Common.{refl, true, false}
 use Rattle.std.proofs.lemmas.Grind.{common_steps}
 use Rattle.std.proofs.lemmas.List.{drop_more}
 use Rattle.simd_json_parts.specs.Nodes.{Item, item_of}

@@ -28,7 +28,8 @@ counted-table-bound xs c all l = omega (arith, counted-table xs c all l, counted
 
 -- the number of the digits, by their tests, values and counts
 spelled : (t u v w : Bool) (a b c d : ℕ) → counts t a * 4096 + counts u b * 256 + counts v c * 16 + counts w d < 65536
-    → Some (counts t a * 4096 + counts u b * 256 + counts v c * 16 + counts w d) ≡ cond (t && u && v && w) (Some (a * 4096 + b * 256 + c * 16 + d)) None
+    → Some (counts t a * 4096 + counts u b * 256 + counts v c * 16 + counts w d)
+    ≡ cond (t && u && v && w) (Some (a * 4096 + b * 256 + c * 16 + d)) None
 spelled true true true true a b c d l = refl
 spelled false u v w a b c d l = absurd (omega arith)
 spelled true false v w a b c d l = absurd (omega arith)
@@ -37,8 +38,14 @@ spelled true true true false a b c d l = absurd (omega arith)
 
 -- where the sum is greater, one of them is no digit
 excess : (t u v w : Bool) (a b c d : ℕ) → (t ≡ true → a < 16) → (u ≡ true → b < 16) → (v ≡ true → c < 16) → (w ≡ true → d < 16)
-    → 65536 ≤ counts t a * 4096 + counts u b * 256 + counts v c * 16 + counts w d → None ≡ cond (t && u && v && w) (Some (a * 4096 + b * 256 + c * 16 + d)) None
-excess true true true true a b c d ha hb hc hd l = let pa = ha refl in let pb = hb refl in let pc = hc refl in let pd = hd refl in absurd (omega arith)
+    → 65536 ≤ counts t a * 4096 + counts u b * 256 + counts v c * 16 + counts w d
+    → None ≡ cond (t && u && v && w) (Some (a * 4096 + b * 256 + c * 16 + d)) None
+excess true true true true a b c d ha hb hc hd l =
+    let pa = ha refl in
+    let pb = hb refl in
+    let pc = hc refl in
+    let pd = hd refl in
+    absurd (omega arith)
 excess false u v w a b c d ha hb hc hd l = refl
 excess true false v w a b c d ha hb hc hd l = refl
 excess true true false w a b c d ha hb hc hd l = refl
@@ -52,7 +59,8 @@ digit-small c e = ltb-true (digit_value c) 16 e
 pub hex_value-sum : (a b c d p q r s : ℕ) → p ≡ counted a → q ≡ counted b → r ≡ counted c → s ≡ counted d
     → p * 4096 + q * 256 + r * 16 + s < 65536 → Some (p * 4096 + q * 256 + r * 16 + s) ≡ hex_value a b c d
 hex_value-sum a b c d p q r s ep eq er es l =
-    rw (ep, eq, er, es) (spelled (is_digit a 16) (is_digit b 16) (is_digit c 16) (is_digit d 16) (digit_value a) (digit_value b) (digit_value c) (digit_value d) (rw (ep, eq, er, es) at l))
+    rw (ep, eq, er, es) (spelled (is_digit a 16) (is_digit b 16) (is_digit c 16) (is_digit d 16) (digit_value a) (digit_value b)
+    (digit_value c) (digit_value d) (rw (ep, eq, er, es) at l))
 
 -- and with any other one of them is none.
 pub hex_value-excess : (a b c d p q r s : ℕ) → p ≡ counted a → q ≡ counted b → r ≡ counted c → s ≡ counted d

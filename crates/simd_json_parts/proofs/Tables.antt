@@ -1,5 +1,6 @@
 -- The rule of a table, proved once by computing.
-use Rattle.std.proofs.Common.{◌≡◌, refl, sym, ◌∙◌, ap, ℕ, zero, suc, ◌+◌, ◌<◌, List, [], ◌∷◌, length, get_or, Bool, true, false, not, cond, ◌&&◌, nat_eq, add-zero, arith}
+use Rattle.std.proofs.Common.{◌≡◌, refl, sym, ◌∙◌, ap, ℕ, zero, suc, ◌+◌, ◌<◌, List, [], ◌∷◌, length, get_or, Bool, true, false}
+use Rattle.std.proofs.Common.{not, cond, ◌&&◌, nat_eq, add-zero, arith}
 use Rattle.std.proofs.lemmas.Bool.{eqb-true, and_parts}
 use Rattle.simd_json_parts.specs.Bytes.{is_terminator}
 
@@ -37,7 +38,8 @@ abbrev pub lists_tests : (ℕ → Bool) → ℕ → List Bool → Bool
 lists_tests f k [] = true
 lists_tests f k (t ∷ ts) = agree t (f k) && lists_tests f (suc k) ts
 
-tests-from : (f : ℕ → Bool) (k : ℕ) (ts : List Bool) (i : ℕ) (d : Bool) → lists_tests f k ts ≡ true → i < length ts → get_or ts i d ≡ f (k + i)
+tests-from : (f : ℕ → Bool) (k : ℕ) (ts : List Bool) (i : ℕ) (d : Bool) → lists_tests f k ts ≡ true → i < length ts
+    → get_or ts i d ≡ f (k + i)
 tests-from f k [] i d all l = absurd (omega arith)
 tests-from f k (t ∷ ts) zero d all l = agree-same t (f k) (and_parts _ _ all).0 ∙ ap f (sym (add-zero k))
 tests-from f k (t ∷ ts) (suc i) d all l =
@@ -45,5 +47,6 @@ tests-from f k (t ∷ ts) (suc i) d all l =
     tests-from f (suc k) ts i d (and_parts _ _ all).1 (omega arith) ∙ ap f later
 
 -- Each byte that may stand after a scalar is marked in such a table.
-pub terminators-table : (ts : List Bool) (c : ℕ) → lists_tests is_terminator 0 ts ≡ true → c < length ts → get_or ts c false ≡ is_terminator c
+pub terminators-table : (ts : List Bool) (c : ℕ) → lists_tests is_terminator 0 ts ≡ true → c < length ts
+    → get_or ts c false ≡ is_terminator c
 terminators-table ts c all l = let same : 0 + c ≡ c = omega arith in tests-from is_terminator 0 ts c false all l ∙ ap is_terminator same

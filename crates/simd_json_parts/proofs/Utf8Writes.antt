@@ -1,5 +1,6 @@
 -- A character's UTF-8, written byte by byte.
-use Rattle.std.proofs.Common.{◌≡◌, refl, ℕ, ◌+◌, ◌-◌, ◌/◌, ◌%◌, ◌<◌, ◌≤◌, List, [], ◌∷◌, ◌++◌, length, take, drop, slice_set, append-nil, sym, ◌∙◌, ap, arith}
+use Rattle.std.proofs.Common.{◌≡◌, refl, ℕ, ◌+◌, ◌-◌, ◌/◌, ◌%◌, ◌<◌, ◌≤◌, List, [], ◌∷◌, ◌++◌, length, take, drop, slice_set}
+use Rattle.std.proofs.Common.{append-nil, sym, ◌∙◌, ap, arith}
 use Rattle.std.specs.Char.{encode_utf8}
 use Rattle.std.proofs.lemmas.Bool.{lt-ltb, le-ltb}
 use Rattle.std.proofs.lemmas.Grind.{common_steps}
@@ -20,7 +21,8 @@ three-set (x ∷ y ∷ []) p q r l = absurd (omega arith)
 three-set (x ∷ y ∷ z ∷ b) p q r l = refl
 
 -- the first four
-four-set : (b : List ℕ) (p q r s : ℕ) → 4 ≤ length b → slice_set (slice_set (slice_set (slice_set b 0 p) 1 q) 2 r) 3 s ≡ p ∷ q ∷ r ∷ s ∷ drop 4 b
+four-set : (b : List ℕ) (p q r s : ℕ) → 4 ≤ length b
+    → slice_set (slice_set (slice_set (slice_set b 0 p) 1 q) 2 r) 3 s ≡ p ∷ q ∷ r ∷ s ∷ drop 4 b
 four-set [] p q r s l = absurd (omega arith)
 four-set (x ∷ []) p q r s l = absurd (omega arith)
 four-set (x ∷ y ∷ []) p q r s l = absurd (omega arith)
@@ -28,7 +30,8 @@ four-set (x ∷ y ∷ z ∷ []) p q r s l = absurd (omega arith)
 four-set (x ∷ y ∷ z ∷ w ∷ b) p q r s l = refl
 
 -- Two bytes are a character below U+0800,
-pub two-written : (b : List ℕ) (c : ℕ) → 2 ≤ length b → 128 ≤ c → c < 2048 → slice_set (slice_set b 0 (192 + c / 64)) 1 (128 + c % 64) ≡ encode_utf8 c ++ drop 2 b
+pub two-written : (b : List ℕ) (c : ℕ) → 2 ≤ length b → 128 ≤ c → c < 2048
+    → slice_set (slice_set b 0 (192 + c / 64)) 1 (128 + c % 64) ≡ encode_utf8 c ++ drop 2 b
 unfolding encode_utf8
 two-written b c l h k = two-set b _ _ l ∙ simp (le-ltb c 128 h, lt-ltb c 2048 k)
 
@@ -40,7 +43,8 @@ three-written b c l h k = three-set b _ _ _ l ∙ simp (le-ltb c 128 (omega arit
 
 -- and four any other.
 pub four-written : (b : List ℕ) (c : ℕ) → 4 ≤ length b → 65536 ≤ c
-    → slice_set (slice_set (slice_set (slice_set b 0 (240 + c / 262144)) 1 (128 + c / 4096 % 64)) 2 (128 + c / 64 % 64)) 3 (128 + c % 64) ≡ encode_utf8 c ++ drop 4 b
+    → slice_set (slice_set (slice_set (slice_set b 0 (240 + c / 262144)) 1 (128 + c / 4096 % 64)) 2 (128 + c / 64 % 64)) 3
+    (128 + c % 64) ≡ encode_utf8 c ++ drop 4 b
 unfolding encode_utf8
 four-written b c l h = four-set b _ _ _ _ l ∙ simp (le-ltb c 128 (omega arith), le-ltb c 2048 (omega arith), le-ltb c 65536 h)
 

@@ -1,5 +1,6 @@
 -- What is given between values.
-use Rattle.std.proofs.Common.{◌≡◌, ◌∙◌, ap, sym, refl, subst, ◌≤◌, ◌<◌, ◌+◌, ◌*◌, ◌/◌, ◌%◌, ℕ, not, nat_eq, Bor, List, [], ◌∷◌, ◌++◌, append_assoc, flat_map, take, replicate, codes, arith}
+use Rattle.std.proofs.Common.{◌≡◌, ◌∙◌, ap, sym, refl, subst, ◌≤◌, ◌<◌, ◌+◌, ◌*◌, ◌/◌, ◌%◌, ℕ, not, nat_eq, Bor, List, [], ◌∷◌}
+use Rattle.std.proofs.Common.{◌++◌, append_assoc, flat_map, take, replicate, codes, arith}
 use Rattle.std.proofs.lemmas.List.{replicate-append-replicate, take-replicate}
 use Rattle.std.proofs.lemmas.Bool.{ne_eqb}
 use Rattle.std.proofs.Math.Seq.{take-append-add}
@@ -71,14 +72,16 @@ pub adds-pretty-name : {T : Type 0} {size : ℕ} (place : T → Place) (m n befo
     → Adds place a b (before ∷ (line (not (nat_eq m 0)) n ++ (quoted k ++ after_name (not (nat_eq m 0)))))
 adds-pretty-name place m n before a b t k is same g =
     let name : t ≡ k = cc in
-    subst (λ p. Adds place a b (before ∷ (line p n ++ (quoted k ++ after_name p)))) (sym (ap not (ne_eqb m 0 is))) (subst (λ us. Adds place a b (before ∷ (new_line n ++ (quoted us ++ codes ": ")))) name g)
+    subst (λ p. Adds place a b (before ∷ (line p n ++ (quoted k ++ after_name p)))) (sym (ap not (ne_eqb m 0 is)))
+    (subst (λ us. Adds place a b (before ∷ (new_line n ++ (quoted us ++ codes ": ")))) name g)
 
 pub adds-compact-name : {T : Type 0} {size : ℕ} (place : T → Place) (m n before : ℕ) (a b : Text T size) (t k : List ℕ) → m ≡ 0
     → string_item t ≡ string_item k → Adds place a b (before ∷ (quoted t ++ codes ":"))
     → Adds place a b (before ∷ (line (not (nat_eq m 0)) n ++ (quoted k ++ after_name (not (nat_eq m 0)))))
 adds-compact-name place m n before a b t k is same g =
     let name : t ≡ k = cc in
-    subst (λ j. Adds place a b (before ∷ (line (not (nat_eq j 0)) n ++ (quoted k ++ after_name (not (nat_eq j 0)))))) (sym is) (subst (λ us. Adds place a b (before ∷ (quoted us ++ codes ":"))) name g)
+    subst (λ j. Adds place a b (before ∷ (line (not (nat_eq j 0)) n ++ (quoted k ++ after_name (not (nat_eq j 0)))))) (sym is)
+    (subst (λ us. Adds place a b (before ∷ (quoted us ++ codes ":"))) name g)
 
 -- a name is a string's node
 pub no-name : (x : Node) (k : List ℕ) → ((s : Bor (List ℕ)) → x ≡ nodes.String s → ⊥) → item_of x ≡ string_item k → ⊥

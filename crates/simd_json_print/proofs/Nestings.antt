@@ -1,5 +1,7 @@
 -- The steps of the walk, by what is left of the containers that are open.
-use Rattle.std.proofs.Common.{◌≡◌, ◌∙◌, ap, ap₂, sym, refl, subst, ◌<◌, ◌≤◌, ◌+◌, ◌-◌, ℕ, zero, suc, Bool, true, false, cond, List, [], ◌∷◌, ◌++◌, length, length-append, map, min, take, drop, get_or, set, append_assoc, append-nil, arith}
+use Rattle.std.proofs.Common.{◌≡◌, ◌∙◌, ap, ap₂, sym, refl, subst, ◌<◌, ◌≤◌, ◌+◌, ◌-◌, ℕ, zero, suc, Bool, true, false, cond, List}
+use Rattle.std.proofs.Common.{[], ◌∷◌, ◌++◌, length, length-append, map, min, take, drop, get_or, set}
+use Rattle.std.proofs.Common.{append_assoc, append-nil, arith}
 use Rattle.std.proofs.lemmas.List.{get_or-set_other, get_or-set_same, length-map, take-map, drop-map}
 use Rattle.std.proofs.lemmas.Grind.{common_steps}
 use Rattle.std.proofs.Math.Seq.{take-append_seam, drop-append_seam}
@@ -12,7 +14,8 @@ use Rattle.simd_json_scalars.specs.Headers.{count_of}
 use Rattle.simd_json_parts.specs.Printed.{quoted}
 use Rattle.simd_json_parts.specs.declared.node.Node.{Node}
 use Rattle.simd_json_parts.specs.declared.node.Node.TheVariants as nodes
-use Rattle.simd_json_print.specs.Frames.{Frame, elements_left, members_left, has_members, frame_listing, frame_text, frames_listing, frames_text, AreNested, IsBetween, IsAtValue}
+use Rattle.simd_json_print.specs.Frames.{Frame, elements_left, members_left, has_members, frame_listing, frame_text, frames_listing}
+use Rattle.simd_json_print.specs.Frames.{frames_text, AreNested, IsBetween, IsAtValue}
 use Rattle.simd_json_print.specs.Layout.{leaf_text}
 use Rattle.simd_json_parts.specs.Printed.{line, after_name, text, elements_text, members_text}
 use Rattle.simd_json_print.specs.declared.document.walk.Nesting.{Nesting}
@@ -46,7 +49,8 @@ turned : (done before value more close outer : List ℕ)
 turned done before value more close outer = grind (arith, common_steps)
 
 turned-name : (done before name value more close outer : List ℕ)
-    → (done ++ (before ++ name)) ++ (value ++ ((more ++ close) ++ outer)) ≡ done ++ (((before ++ (name ++ (value ++ more))) ++ close) ++ outer)
+    → (done ++ (before ++ name)) ++ (value ++ ((more ++ close) ++ outer))
+    ≡ done ++ (((before ++ (name ++ (value ++ more))) ++ close) ++ outer)
 turned-name done before name value more close outer = grind (arith, common_steps)
 
 element-at : (p : Bool) (n i j : ℕ) (first : Bool) (done whole : List ℕ) (d : Document) (ds : Elements) (outer : List Frame)
@@ -57,17 +61,21 @@ element-at p n i j first done whole d ds outer one two is =
     let k = n + length outer in
     let b = cond first left_bracket comma in
     ap₂ (λ u v. (done ++ (b ∷ line p u)) ++ (text p d v ++ frames_text p n false (elements_left ds ∷ outer))) one two
-    ∙ turned done (b ∷ line p (suc k)) (text p d (suc k)) (elements_text p comma ds (suc k)) (line p k ++ right_bracket ∷ []) (frames_text p n false outer) ∙ is
+    ∙ turned done (b ∷ line p (suc k)) (text p d (suc k)) (elements_text p comma ds (suc k)) (line p k ++ right_bracket ∷ [])
+    (frames_text p n false outer) ∙ is
 
 member-at : (p : Bool) (n i j : ℕ) (first : Bool) (done whole : List ℕ) (k : List ℕ) (d : Document) (ms : Members) (outer : List Frame)
     → i ≡ suc (n + length outer) → j ≡ suc (n + length outer)
     → done ++ frames_text p n first (members_left (member k d ms) ∷ outer) ≡ whole
-    → (done ++ (cond first left_brace comma ∷ (line p i ++ (quoted k ++ after_name p)))) ++ (text p d j ++ frames_text p n false (members_left ms ∷ outer)) ≡ whole
+    → (done ++ (cond first left_brace comma ∷ (line p i ++ (quoted k ++ after_name p))))
+    ++ (text p d j ++ frames_text p n false (members_left ms ∷ outer)) ≡ whole
 member-at p n i j first done whole k d ms outer one two is =
     let m = n + length outer in
     let b = cond first left_brace comma in
-    ap₂ (λ u v. (done ++ (b ∷ (line p u ++ (quoted k ++ after_name p)))) ++ (text p d v ++ frames_text p n false (members_left ms ∷ outer))) one two
-    ∙ turned-name done (b ∷ line p (suc m)) (quoted k ++ after_name p) (text p d (suc m)) (members_text p comma ms (suc m)) (line p m ++ right_brace ∷ []) (frames_text p n false outer) ∙ is
+    ap₂ (λ u v. (done ++ (b ∷ (line p u ++ (quoted k ++ after_name p))))
+    ++ (text p d v ++ frames_text p n false (members_left ms ∷ outer))) one two
+    ∙ turned-name done (b ∷ line p (suc m)) (quoted k ++ after_name p) (text p d (suc m)) (members_text p comma ms (suc m))
+    (line p m ++ right_brace ∷ []) (frames_text p n false outer) ∙ is
 
 true-false : (b : Bool) → b ≡ true → b ≡ false → ⊥
 true-false true is not = cc
@@ -96,7 +104,8 @@ pub element-before : (p : Bool) (n : ℕ) (o : Nesting) (first : Bool) (items : 
     → IsBetween p n o first items done whole
     → 0 < o.count → get_or o.are_objects (o.count - 1) false ≡ false → get_or o.ends (o.count - 1) 0 < length items
     → IsAtValue p n o items (done ++ (cond first left_bracket comma ∷ line p (n + o.count))) whole
-element-before p n o first items done whole is some kind live = elements-front p n o first items done whole is.frames is.number is.are_nested is.listed is.printed some kind live
+element-before p n o first items done whole is some kind live =
+    elements-front p n o first items done whole is.frames is.number is.are_nested is.listed is.printed some kind live
 
 -- the name is the first node
 pub record IsNamed (p : Bool) (n : ℕ) (o : Nesting) (first : Bool) (x : Item) (items : List Item) (done whole : List ℕ) : Type 0 where
@@ -131,13 +140,15 @@ pub member-before : (p : Bool) (n : ℕ) (o : Nesting) (first : Bool) (x : Item)
     → IsBetween p n o first (x ∷ items) done whole
     → 0 < o.count → get_or o.are_objects (o.count - 1) false ≡ true → get_or o.ends (o.count - 1) 0 < suc (length items)
     → IsNamed p n o first x items done whole
-member-before p n o first x items done whole is some kind live = members-front p n o first x items done whole is.frames is.number is.are_nested is.listed is.printed some kind live
+member-before p n o first x items done whole is some kind live =
+    members-front p n o first x items done whole is.frames is.number is.are_nested is.listed is.printed some kind live
 
 -- ---- a value
 
 pub no-value : (p : Bool) (n : ℕ) (o : Nesting) (items : List Item) (done whole : List ℕ) → length items ≡ 0
     → IsAtValue p n o items done whole → ⊥
-no-value p n o items done whole none is = omega (arith, positive is.value, none, ap length is.listed, length-append (listing is.value) (frames_listing is.frames))
+no-value p n o items done whole none is =
+    omega (arith, positive is.value, none, ap length is.listed, length-append (listing is.value) (frames_listing is.frames))
 
 -- with nothing beneath its first node
 pub after-leaf : (p : Bool) (n : ℕ) (o : Nesting) (x : Item) (items : List Item) (done whole : List ℕ) → count_of x ≡ 0
@@ -197,7 +208,8 @@ after-opening p n o q x items done whole end some at room rooms ends kinds count
         ap (λ es. get_or es (length is.frames) 0) ends ∙ set-here o.ends o.count (length is.frames) end room is.number ∙ left,
         ap (λ es. get_or es (length is.frames) false) kinds
             ∙ kind-here o.are_objects o.count (length is.frames) (is_object_item x) rooms is.number ∙ c.kind,
-        subst (λ es. AreNested es q.are_objects is.frames) (sym ends) (subst (λ ks. AreNested (set o.ends o.count end) ks is.frames) (sym kinds) old),
+        subst (λ es. AreNested es q.are_objects is.frames) (sym ends)
+            (subst (λ ks. AreNested (set o.ends o.count end) ks is.frames) (sym kinds) old),
       );
       listed = c.after;
       printed = ap (λ us. us ++ (frame_text p (n + length is.frames) true c.frame ++ frames_text p n false is.frames)) (append-nil done)
@@ -237,7 +249,8 @@ closed-text : (p : Bool) (k : ℕ) (first : Bool) (f : Frame) → frame_listing 
     → frame_text p k first f ≡ line p k ++ cond (has_members f) right_brace right_bracket ∷ []
 closed-text p k first (elements_left no_elements) none = refl
 closed-text p k first (members_left no_members) none = refl
-closed-text p k first (elements_left (element d ds)) none = absurd (omega (arith, positive d, ap length none, length-append (listing d) (elements_listing ds)))
+closed-text p k first (elements_left (element d ds)) none =
+    absurd (omega (arith, positive d, ap length none, length-append (listing d) (elements_listing ds)))
 closed-text p k first (members_left (member t d ms)) none = absurd (omega (arith, ap length none))
 
 none-of : (xs : List Item) → length xs ≡ 0 → xs ≡ []
@@ -248,13 +261,22 @@ closed : (p : Bool) (n : ℕ) (o q : Nesting) (first : Bool) (items : List Item)
     → length fs ≡ o.count → AreNested o.ends o.are_objects fs → items ≡ frames_listing fs
     → done ++ frames_text p n first fs ≡ whole → 0 < o.count → length items ≤ get_or o.ends (o.count - 1) 0 → q.ends ≡ o.ends
     → q.are_objects ≡ o.are_objects → q.count ≡ o.count - 1
-    → IsBetween p n q false items (done ++ (line p (n + q.count) ++ cond (get_or o.are_objects q.count false) right_brace right_bracket ∷ [])) whole
+    → IsBetween p n q false items
+    (done ++ (line p (n + q.count) ++ cond (get_or o.are_objects q.count false) right_brace right_bracket ∷ [])) whole
 closed p n o q first items done whole [] number are listed is some few ends kinds count = absurd (omega (arith, number, some))
 closed p n o q first items done whole (f ∷ outer) number are listed is some few ends kinds count =
     let same : q.count ≡ length outer = omega (arith, number, count) in
     let none = none-of (frame_listing f)
-    (omega (arith, same-end o.ends o.count outer number, are.0, ap length listed, length-append (frame_listing f) (frames_listing outer), few)) in
-    let end = ap₂ (λ k b. line p (n + k) ++ cond b right_brace right_bracket ∷ []) same (ap (λ k. get_or o.are_objects k false) same ∙ are.1) ∙ sym (closed-text p (n + length outer) first f none) in
+    (omega (
+      arith,
+      same-end o.ends o.count outer number,
+      are.0,
+      ap length listed,
+      length-append (frame_listing f) (frames_listing outer),
+      few,
+    )) in
+    let end = ap₂ (λ k b. line p (n + k) ++ cond b right_brace right_bracket ∷ []) same
+    (ap (λ k. get_or o.are_objects k false) same ∙ are.1) ∙ sym (closed-text p (n + length outer) first f none) in
     record {
       frames = outer;
       number = sym same;
@@ -266,7 +288,8 @@ closed p n o q first items done whole (f ∷ outer) number are listed is some fe
 pub after-end : (p : Bool) (n : ℕ) (o q : Nesting) (first : Bool) (items : List Item) (done whole : List ℕ) → 0 < o.count
     → length items ≤ get_or o.ends (o.count - 1) 0
     → q.ends ≡ o.ends → q.are_objects ≡ o.are_objects → q.count ≡ o.count - 1 → IsBetween p n o first items done whole
-    → IsBetween p n q false items (done ++ (line p (n + q.count) ++ cond (get_or o.are_objects q.count false) right_brace right_bracket ∷ [])) whole
+    → IsBetween p n q false items
+    (done ++ (line p (n + q.count) ++ cond (get_or o.are_objects q.count false) right_brace right_bracket ∷ [])) whole
 after-end p n o q first items done whole some few ends kinds count is =
     closed p n o q first items done whole is.frames is.number is.are_nested is.listed is.printed some few ends kinds count
 
@@ -283,19 +306,23 @@ leaf-step p n o ns first rest default beneath count done whole some front back s
     let few = beneath-within x (map item_of rest) (frames_listing at.frames) at.value at.listed in
     after-leaf p n o x (map item_of rest) done whole (omega (arith, few, length-map rest item_of, sized, least, none)) at
 
-pub open-step : (p : Bool) (n : ℕ) (o q : Nesting) (ns first rest : List Node) (default : Node) (beneath count end : ℕ) (done whole : List ℕ) → 0 < length ns → first ≡ take 1 ns → rest ≡ drop 1 ns
+pub open-step : (p : Bool) (n : ℕ) (o q : Nesting) (ns first rest : List Node) (default : Node) (beneath count end : ℕ)
+    (done whole : List ℕ) → 0 < length ns → first ≡ take 1 ns → rest ≡ drop 1 ns
     → beneath ≡ count_of (item_of (get_or first 0 default)) → count ≡ min beneath (length rest) → 0 < count → end ≡ length rest - count
     → o.count < length o.ends → o.count < length o.are_objects
     → q.ends ≡ set o.ends o.count end → q.are_objects ≡ set o.are_objects o.count (is_object_item (item_of (get_or first 0 default)))
     → q.count ≡ o.count + 1
     → IsAtValue p n o (map item_of ns) done whole → IsBetween p n q true (map item_of rest) (done ++ []) whole
-open-step p n o q ns first rest default beneath count end done whole some front back sized least more at_end room rooms ends kinds counted is =
+open-step p n o q ns first rest default beneath count end done whole some front back sized least more at_end room
+    rooms ends kinds counted is =
     let x = item_of (get_or first 0 default) in
     let at = subst (λ us. IsAtValue p n o us done whole) (split-first ns first rest default 1 some refl front back) is in
     let few = beneath-within x (map item_of rest) (frames_listing at.frames) at.value at.listed in
-    after-opening p n o q x (map item_of rest) done whole end (omega (arith, sized, least, more)) (omega (arith, few, length-map rest item_of, sized, least, at_end)) room rooms ends kinds counted at
+    after-opening p n o q x (map item_of rest) done whole end (omega (arith, sized, least, more))
+    (omega (arith, few, length-map rest item_of, sized, least, at_end)) room rooms ends kinds counted at
 
-pub deep-step : (p : Bool) (n : ℕ) (o : Nesting) (ns first rest value others : List Node) (default : Node) (beneath count : ℕ) (done whole : List ℕ) → 0 < length ns → first ≡ take 1 ns
+pub deep-step : (p : Bool) (n : ℕ) (o : Nesting) (ns first rest value others : List Node) (default : Node) (beneath count : ℕ)
+    (done whole : List ℕ) → 0 < length ns → first ≡ take 1 ns
     → rest ≡ drop 1 ns → beneath ≡ count_of (item_of (get_or first 0 default)) → count ≡ min beneath (length rest) → 0 < count
     → value ≡ take (count + 1) ns → others ≡ drop (count + 1) ns
     → IsAtValue p n o (map item_of ns) done whole → IsDeep p n o (map item_of value) (map item_of others) done whole
@@ -309,11 +336,13 @@ deep-step p n o ns first rest value others default beneath count done whole some
     (ap (map item_of) (fronts ∙ ap (λ k. take k ns) size) ∙ sym (take-map item_of (count_of x + 1) ns) ∙ ap (take (count_of x + 1)) one)
     (ap (map item_of) (backs ∙ ap (λ k. drop k ns) size) ∙ sym (drop-map item_of (count_of x + 1) ns) ∙ ap (drop (count_of x + 1)) one) at
 
-pub element-step : (p : Bool) (n : ℕ) (o : Nesting) (is_first : Bool) (ns first rest : List Node) (default : Node) (beneath : ℕ) (done whole : List ℕ) → 0 < length ns
+pub element-step : (p : Bool) (n : ℕ) (o : Nesting) (is_first : Bool) (ns first rest : List Node) (default : Node) (beneath : ℕ)
+    (done whole : List ℕ) → 0 < length ns
     → first ≡ take 1 ns → rest ≡ drop 1 ns → beneath ≡ count_of (item_of (get_or first 0 default)) → beneath ≡ 0 → 0 < o.count
     → get_or o.are_objects (o.count - 1) false ≡ false
     → get_or o.ends (o.count - 1) 0 < length ns → IsBetween p n o is_first (map item_of ns) done whole
-    → IsBetween p n o false (map item_of rest) (done ++ (cond is_first left_bracket comma ∷ (line p (n + o.count) ++ leaf_text (item_of (get_or first 0 default))))) whole
+    → IsBetween p n o false (map item_of rest)
+    (done ++ (cond is_first left_bracket comma ∷ (line p (n + o.count) ++ leaf_text (item_of (get_or first 0 default))))) whole
 element-step p n o is_first ns first rest default beneath done whole some front back sized none open_some kind live is =
     let x = item_of (get_or first 0 default) in
     let one = split-first ns first rest default 1 some refl front back in
@@ -355,7 +384,8 @@ value-opened p n ns first beneath default d some front back more is = by-count (
     whole = sym (split-first ns first beneath default 1 some refl front back) ∙ is ∙ sym (append-nil (listing d))
 
     by-count : (k : ℕ) → count_of x ≡ k → IsOpened p n x (map item_of beneath) [] d
-    by-count zero none = absurd (omega (arith, more, length-map beneath item_of, ap length (is-leaf p n x (map item_of beneath) [] d whole none).after))
+    by-count zero none = absurd
+        (omega (arith, more, length-map beneath item_of, ap length (is-leaf p n x (map item_of beneath) [] d whole none).after))
     by-count (suc k) some_beneath = is-opened p n x (map item_of beneath) [] d whole (omega (arith, some_beneath))
 
 -- ---- what was printed in two steps

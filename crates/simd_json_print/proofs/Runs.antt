@@ -1,5 +1,6 @@
 -- Escaped text by runs that need no escape.
-use Rattle.std.proofs.Common.{◌≡◌, ◌∙◌, ap, sym, ◌<◌, ℕ, List, [], ◌∷◌, ◌++◌, length, take, drop, get_or, flat_map, append_assoc, append-nil, take-append-drop, false, arith}
+use Rattle.std.proofs.Common.{◌≡◌, ◌∙◌, ap, sym, ◌<◌, ℕ, List, [], ◌∷◌, ◌++◌, length, take, drop, get_or, flat_map, append_assoc}
+use Rattle.std.proofs.Common.{append-nil, take-append-drop, false, arith}
 use Rattle.std.proofs.lemmas.Bool.Decides.{nat_tests}
 use Rattle.simd_json_parts.specs.Bytes.{is_control}
 use Rattle.simd_json_scalars.specs.StringContent.{is_stop}
@@ -38,13 +39,17 @@ last-run done bytes (x ∷ xs) whole k so_far back none = cc
 -- a run, and the byte after it
 one-run : (done bytes others whole : List ℕ) (k default : ℕ) → done ++ flat_map escaped_byte bytes ≡ whole → others ≡ drop k bytes
     → 0 < length others
-    → (done ++ (flat_map escaped_byte (take k bytes) ++ escaped_byte (get_or others 0 default))) ++ flat_map escaped_byte (drop 1 others) ≡ whole
+    → (done ++ (flat_map escaped_byte (take k bytes) ++ escaped_byte (get_or others 0 default)))
+    ++ flat_map escaped_byte (drop 1 others) ≡ whole
 one-run done bytes [] whole k default so_far back some = absurd (omega arith)
 one-run done bytes (x ∷ xs) whole k default so_far back some =
     append_assoc done (flat_map escaped_byte (take k bytes) ++ escaped_byte x) (flat_map escaped_byte xs)
-    ∙ ap (λ us. done ++ us) (append_assoc (flat_map escaped_byte (take k bytes)) (escaped_byte x) (flat_map escaped_byte xs) ∙ sym (split-run bytes (x ∷ xs) k back)) ∙ so_far
+    ∙ ap (λ us. done ++ us) (append_assoc (flat_map escaped_byte (take k bytes)) (escaped_byte x) (flat_map escaped_byte xs)
+    ∙ sym (split-run bytes (x ∷ xs) k back)) ∙ so_far
 
-pub given-run : {T : Type 0} {size : ℕ} (place : T → Place) (a b c d : Text T size) (done bytes others after whole : List ℕ) (k default : ℕ) → Adds place a b done → done ++ flat_map escaped_byte bytes ≡ whole → Adds place b c (flat_map escaped_byte (take k bytes))
+pub given-run : {T : Type 0} {size : ℕ} (place : T → Place) (a b c d : Text T size)
+    (done bytes others after whole : List ℕ) (k default : ℕ)
+    → Adds place a b done → done ++ flat_map escaped_byte bytes ≡ whole → Adds place b c (flat_map escaped_byte (take k bytes))
     → Adds place c d (escaped_byte (get_or others 0 default)) → others ≡ drop k bytes → 0 < length others → after ≡ drop 1 others
     → (more : List ℕ) × Adds place a d more × (more ++ flat_map escaped_byte after ≡ whole)
 given-run place a b c d done bytes others after whole k default g so_far h e back some next = (

@@ -60,4 +60,5 @@ pub stored-run : (old middle new bytes : List ℕ) (at from done n count : ℕ) 
     → take (at + from + n) new ≡ take (at + from) middle ++ take n (drop from bytes)
     → take (at + (from + count)) new ≡ take at old ++ take (from + count) bytes
 stored-run old middle new bytes at from done n count l within room first second =
-    stored-front old new bytes at (from + count) (from + n) (omega arith) room (stored-then old middle new bytes at from done n l room first second)
+    stored-front old new bytes at (from + count) (from + n) (omega arith) room
+    (stored-then old middle new bytes at from done n l room first second)

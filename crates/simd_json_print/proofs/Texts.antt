@@ -1,7 +1,9 @@
 -- Laws of what a text was given.
-use Rattle.std.proofs.Common.{◌≡◌, ◌∙◌, ap, sym, refl, subst, ℕ, Bool, true, false, List, [], ◌++◌, Option, None, Some, append_assoc, append-nil, length, take, drop, take-append-drop}
+use Rattle.std.proofs.Common.{◌≡◌, ◌∙◌, ap, sym, refl, subst, ℕ, Bool, true, false, List, [], ◌++◌, Option, None, Some}
+use Rattle.std.proofs.Common.{append_assoc, append-nil, length, take, drop, take-append-drop}
 use Rattle.std.proofs.Math.Seq.{take-append_seam}
-use Rattle.std.specs.Prelude.{Result, Ok, Err, is_some, is_none, is_ok, OnOk, OnErr, IfNone, option_map, ◌||◌, ◌&&◌, ◌==◌, zero, suc, nat_lt}
+use Rattle.std.specs.Prelude.{Result, Ok, Err, is_some, is_none, is_ok, OnOk, OnErr, IfNone, option_map, ◌||◌, ◌&&◌, ◌==◌, zero}
+use Rattle.std.specs.Prelude.{suc, nat_lt}
 use Rattle.std.specs.Io.KnownBytes.{Appends, Keeps}
 use Rattle.simd_json_print.specs.Prefix.{IsPrefix}
 use Rattle.simd_json_print.specs.Texts.{Place, Takes, IsLeft, failed_or, HasGiven, HasEnded, Adds, AddsSome, IsLonger}
@@ -42,7 +44,11 @@ none-now (Some false) t is = ap Some is
 pub write-failed : {E : Type 0} (e : E) (a b c : Place) (sent left whole : List ℕ) → Takes b c (Err e) left → Appends a.held b.held sent
     → sent ++ left ≡ whole → b.failed ≡ a.failed → HasFailed a c whole
 write-failed e a b c sent left whole t p all same = (
-  (length sent, subst (λ us. Appends a.held c.held us) (sym (take-append_seam sent left) ∙ ap (take (length sent)) all) (appends-keeps a.held b.held c.held sent p t.taken)),
+  (
+    length sent,
+    subst (λ us. Appends a.held c.held us) (sym (take-append_seam sent left) ∙ ap (take (length sent)) all)
+        (appends-keeps a.held b.held c.held sent p t.taken),
+  ),
   t.failed ∙ failed-now b.failed _ ∙ ap (option_map (λ _. true)) same,
 )
 
@@ -51,7 +57,8 @@ pub write-zero : {E : Type 0} (n : ℕ) (a b c : Place) (sent left whole : List 
 write-zero zero a b c sent left whole is t some p all same = (
   (
     length sent,
-    subst (λ us. Appends a.held c.held us) (append-nil sent ∙ sym (take-append_seam sent left) ∙ ap (take (length sent)) all) (appends-then a.held b.held c.held sent [] p t.taken),
+    subst (λ us. Appends a.held c.held us) (append-nil sent ∙ sym (take-append_seam sent left) ∙ ap (take (length sent)) all)
+        (appends-then a.held b.held c.held sent [] p t.taken),
   ),
   t.failed ∙ none-now b.failed _ some ∙ ap (option_map (λ _. true)) same,
 )
@@ -83,7 +90,8 @@ pub adds-then : {T : Type 0} {size : ℕ} (place : T → Place) (a b c : Text T 
     → Adds place a c (xs ++ ys)
 adds-then place a b c xs ys g h = record {
   same_target = h.same_target ∙ g.same_target;
-  given = λ start before is. subst (λ us. HasGiven place start c us) (append_assoc before xs ys) (h.given start (before ++ xs) (g.given start before is));
+  given = λ start before is.
+      subst (λ us. HasGiven place start c us) (append_assoc before xs ys) (h.given start (before ++ xs) (g.given start before is));
 }
 
 left-of : {E : Type 0} (o : Option E) (collected left : List ℕ) → is_some o ≡ false → IsLeft o collected left → left ≡ collected
@@ -157,7 +165,8 @@ adds-failed place old new bytes chunk same sound stopped all ends = record {
     is_left = any-left new.fault new.pieces _ stopped;
     taken = appends-then start.held _ _ is.sent (take ends.0.0 chunk) is.taken ends.0.1;
     whole = append_assoc is.sent (take ends.0.0 chunk) (drop ends.0.0 chunk)
-        ∙ ap (λ us. is.sent ++ us) (take-append-drop ends.0.0 chunk ∙ all ∙ ap (λ us. us ++ bytes) (sym (left-of old.fault old.pieces is.left sound is.is_left)))
+        ∙ ap (λ us. is.sent ++ us) (take-append-drop ends.0.0 chunk ∙ all
+        ∙ ap (λ us. us ++ bytes) (sym (left-of old.fault old.pieces is.left sound is.is_left)))
         ∙ sym (append_assoc is.sent is.left bytes) ∙ ap (λ us. us ++ bytes) is.whole;
     failed = ends.1 ∙ ap (option_map (λ _. true)) (is.failed ∙ still _ start.failed sound) ∙ sym (ended _ start.failed stopped);
   };
@@ -213,24 +222,33 @@ none-then (Some e) is p = cc
 pub ends-before : {T : Type 0} {size : ℕ} (place : T → Place) (start : Place) (text : Text T size) (bytes : List ℕ)
     → is_some text.fault ≡ true → HasGiven place start text bytes → HasFailed start (place text.target.now) bytes
 ends-before place start text bytes stopped g = (
-  (length g.sent, subst (λ us. Appends start.held (place text.target.now).held us) (sym (take-append_seam g.sent g.left) ∙ ap (take (length g.sent)) g.whole) g.taken),
+  (
+    length g.sent,
+    subst (λ us. Appends start.held (place text.target.now).held us)
+        (sym (take-append_seam g.sent g.left) ∙ ap (take (length g.sent)) g.whole) g.taken,
+  ),
   g.failed ∙ ended _ start.failed stopped,
 )
 
 take-further : (xs ys : List ℕ) (n : ℕ) → take (length (xs ++ take n ys)) (xs ++ ys) ≡ xs ++ take n ys
-take-further xs ys n = ap (λ us. take (length (xs ++ take n ys)) us) (ap (λ us. xs ++ us) (sym (take-append-drop n ys)) ∙ sym (append_assoc xs (take n ys) (drop n ys))) ∙ take-append_seam (xs ++ take n ys) (drop n ys)
+take-further xs ys n = ap (λ us. take (length (xs ++ take n ys)) us) (ap (λ us. xs ++ us) (sym (take-append-drop n ys))
+    ∙ sym (append_assoc xs (take n ys) (drop n ys))) ∙ take-append_seam (xs ++ take n ys) (drop n ys)
 
-pub ends-after : {E : Type 0} {T : Type 0} {size : ℕ} (r : Result Unit E) (place : T → Place) (start end : Place) (text : Text T size) (bytes : List ℕ) → is_some text.fault ≡ false
+pub ends-after : {E : Type 0} {T : Type 0} {size : ℕ} (r : Result Unit E) (place : T → Place) (start end : Place)
+    (text : Text T size) (bytes : List ℕ) → is_some text.fault ≡ false
     → HasGiven place start text bytes → HasEnded r (place text.target.now) end text.pieces → HasEnded r start end bytes
 ends-after (Ok u) place start end text bytes sound g ends = (
-  subst (λ us. Appends start.held end.held us) (ap (λ us. g.sent ++ us) (sym (left-of text.fault text.pieces g.left sound g.is_left)) ∙ g.whole) (appends-then start.held _ end.held g.sent text.pieces g.taken ends.0),
+  subst (λ us. Appends start.held end.held us)
+      (ap (λ us. g.sent ++ us) (sym (left-of text.fault text.pieces g.left sound g.is_left)) ∙ g.whole)
+      (appends-then start.held _ end.held g.sent text.pieces g.taken ends.0),
   ends.1 ∙ g.failed ∙ still _ start.failed sound,
 )
 ends-after (Err e) place start end text bytes sound g ends = (
   (
     length (g.sent ++ take ends.0.0 text.pieces),
     subst (λ us. Appends start.held end.held us)
-        (sym (take-further g.sent text.pieces ends.0.0) ∙ ap (take (length (g.sent ++ take ends.0.0 text.pieces))) (ap (λ us. g.sent ++ us) (sym (left-of text.fault text.pieces g.left sound g.is_left)) ∙ g.whole))
+        (sym (take-further g.sent text.pieces ends.0.0) ∙ ap (take (length (g.sent ++ take ends.0.0 text.pieces)))
+        (ap (λ us. g.sent ++ us) (sym (left-of text.fault text.pieces g.left sound g.is_left)) ∙ g.whole))
         (appends-then start.held _ end.held g.sent (take ends.0.0 text.pieces) g.taken ends.0.1),
   ),
   ends.1 ∙ ap (option_map (λ _. true)) (g.failed ∙ still _ start.failed sound),

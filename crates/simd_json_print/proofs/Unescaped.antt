@@ -1,5 +1,7 @@
 -- Vectors of bytes of which none is to be escaped, and two that overlap.
-use Rattle.std.proofs.Common.{◌≡◌, ◌≢◌, refl, ◌∙◌, ap, ap₂, sym, ℕ, suc, ◌+◌, ◌-◌, ◌≤◌, ◌%◌, ◌^◌, Bool, true, false, cond, eqb, ltb, ◌||◌, List, [], ◌∷◌, ◌++◌, length, take, drop, get_or, flat_map, map, not, subst, replicate, inl, inr, arith, IsFalse}
+use Rattle.std.proofs.Common.{◌≡◌, ◌≢◌, refl, ◌∙◌, ap, ap₂, sym, ℕ, suc, ◌+◌, ◌-◌, ◌≤◌, ◌%◌, ◌^◌, Bool, true, false, cond, eqb, ltb}
+use Rattle.std.proofs.Common.{◌||◌, List, [], ◌∷◌, ◌++◌, length, take, drop, get_or, flat_map, map, not, subst, replicate, inl, inr}
+use Rattle.std.proofs.Common.{arith, IsFalse}
 use Rattle.std.proofs.lemmas.Bool.{cases_lt, or_parts, not-true}
 use Rattle.std.proofs.lemmas.Simd.{length-chunk, none_from_empty_mask, zip2_splat, zip2_of_maps, map-map, mask_l-mod, trailing_mask_l}
 use Rattle.std.proofs.lemmas.List.Sums.{prefix_len_passes, prefix_len-le-length}
@@ -34,7 +36,8 @@ top-three false false false = refl
 
 -- the test of a vector, as the code makes it
 pub mask-three : (n : ℕ) (v : List ℕ) → length v ≡ n → n ≤ 64
-    → mask_l (map (top 7) (zip2 bit_or (zip2 bit_or (zip2 hit v (replicate n 34)) (zip2 hit v (replicate n 92))) (zip2 below v (replicate n 32)))) % 2 ^ 64 ≡ mask_l (map needs_escape v)
+    → mask_l (map (top 7) (zip2 bit_or (zip2 bit_or (zip2 hit v (replicate n 34)) (zip2 hit v (replicate n 92)))
+    (zip2 below v (replicate n 32)))) % 2 ^ 64 ≡ mask_l (map needs_escape v)
 mask-three n v long short =
     let stops = zip2_of_maps bit_or (λ x. hit x 34) (λ x. hit x 92) v (zip2_splat hit v n 34 long) (zip2_splat hit v n 92 long) in
     let lanes = zip2_of_maps bit_or (λ x. bit_or (hit x 34) (hit x 92)) (λ x. below x 32) v stops (zip2_splat below v n 32 long) in
@@ -57,7 +60,12 @@ front-count d i n mask room few is some =
 pub front-within : (d : List ℕ) (i n mask : ℕ) → i + n ≤ length d → n ≤ 64 → mask ≡ mask_l (map needs_escape (chunk i n d)) → mask ≢ 0
     → count_trailing_zeros 64 mask ≤ n
 front-within d i n mask room few is some =
-    omega (arith, front-count d i n mask room few is some, prefix_len-le-length (λ x. not (needs_escape x)) (chunk i n d), length-chunk i n d room)
+    omega (
+      arith,
+      front-count d i n mask room few is some,
+      prefix_len-le-length (λ x. not (needs_escape x)) (chunk i n d),
+      length-chunk i n d room,
+    )
 
 pub unescaped-front : (d : List ℕ) (i n mask : ℕ) → i + n ≤ length d → n ≤ 64 → mask ≡ mask_l (map needs_escape (chunk i n d)) → mask ≢ 0
     → AreUnescaped d i (i + count_trailing_zeros 64 mask)

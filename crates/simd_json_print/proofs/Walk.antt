@@ -1,9 +1,11 @@
 -- What the walk over nodes meets, step by step.
-use Rattle.std.proofs.Common.{◌≡◌, ◌∙◌, ap, ap₂, sym, refl, ◌<◌, ◌≤◌, ℕ, zero, suc, Bool, true, false, List, [], ◌∷◌, ◌++◌, length, length-append, map, take, drop, get_or, arith}
+use Rattle.std.proofs.Common.{◌≡◌, ◌∙◌, ap, ap₂, sym, refl, ◌<◌, ◌≤◌, ℕ, zero, suc, Bool, true, false, List, [], ◌∷◌, ◌++◌, length}
+use Rattle.std.proofs.Common.{length-append, map, take, drop, get_or, arith}
 use Rattle.std.specs.Fmt.{signed_decimal}
 use Rattle.simd_json_scalars.proofs.Documents.Fronts.{positive}
 use Rattle.simd_json_scalars.proofs.Documents.Integers.{of-integer_node}
-use Rattle.simd_json_parts.specs.Document.{Document, null, boolean, integer, decimal, string, array, object, no_elements, element, no_members, member}
+use Rattle.simd_json_parts.specs.Document.{Document, null, boolean, integer, decimal, string, array, object, no_elements, element}
+use Rattle.simd_json_parts.specs.Document.{no_members, member}
 use Rattle.simd_json_parts.specs.Listing.{listing, elements_listing}
 use Rattle.simd_json_parts.specs.Nodes.{Item, static_item, object_item, item_of}
 use Rattle.simd_json_scalars.specs.Headers.{count_of}
@@ -17,7 +19,8 @@ use Rattle.simd_json_parts.specs.Printed.{text}
 -- ---- the node in front of a value
 
 of-integer : (minus : Bool) (m : ℕ) → static_text (integer_node minus m) ≡ signed_decimal (number_of minus m)
-of-integer = of-integer_node (λ minus m s. static_text s ≡ signed_decimal (number_of minus m)) (λ m. refl) (λ m. refl) (λ m. refl) (λ m. refl)
+of-integer = of-integer_node (λ minus m s. static_text s ≡ signed_decimal (number_of minus m)) (λ m. refl)
+    (λ m. refl) (λ m. refl) (λ m. refl)
 
 first_of : List Item → Item
 first_of [] = static_item fixed.Null
@@ -96,8 +99,10 @@ is-opened p n x items rest (decimal literal) is some = absurd (no-container x _ 
 is-opened p n x items rest (string t) is some = absurd (no-container x _ items rest is refl some)
 is-opened p n x items rest (array no_elements) is some = absurd (no-container x _ items rest is refl some)
 is-opened p n x items rest (object no_members) is some = absurd (no-container x _ items rest is refl some)
-is-opened p n x items rest (array (element d ds)) is some = opened p n x _ items rest _ (elements_left (element d ds)) is refl refl refl refl
-is-opened p n x items rest (object (member k d ms)) is some = opened p n x _ items rest _ (members_left (member k d ms)) is refl refl refl refl
+is-opened p n x items rest (array (element d ds)) is some =
+    opened p n x _ items rest _ (elements_left (element d ds)) is refl refl refl refl
+is-opened p n x items rest (object (member k d ms)) is some =
+    opened p n x _ items rest _ (members_left (member k d ms)) is refl refl refl refl
 
 -- no more than there are
 pub beneath-within : (x : Item) (items rest : List Item) (d : Document) → x ∷ items ≡ listing d ++ rest → count_of x ≤ length items
@@ -115,4 +120,5 @@ pub split-first : (ns front back : List Node) (default : Node) (k : ℕ) → 0 <
     → map item_of ns ≡ item_of (get_or front 0 default) ∷ map item_of back
 split-first [] front back default k some one fronts backs = absurd (omega (arith, some))
 split-first (x ∷ ns) front back default k some one fronts backs =
-    sym (ap₂ (λ a b. item_of (get_or a 0 default) ∷ map item_of b) (fronts ∙ ap (λ j. take j (x ∷ ns)) one) (backs ∙ ap (λ j. drop j (x ∷ ns)) one))
+    sym (ap₂ (λ a b. item_of (get_or a 0 default) ∷ map item_of b) (fronts ∙ ap (λ j. take j (x ∷ ns)) one)
+    (backs ∙ ap (λ j. drop j (x ∷ ns)) one))

@@ -17,7 +17,8 @@ pub record TakesTokens (missing : Error) (value : Reads Document) : Type 0 where
 
 module _ (b : List ℕ) (missing : Error) (value : Reads Document) (takes : TakesTokens missing value) where
   -- after an element only fewer tokens are read
-  after_same : (more more' : Reads Elements) (ts : List Token) → ((us : List Token) → length us < length ts → more us ≡ more' us) → element_end b missing ts more ≡ element_end b missing ts more'
+  after_same : (more more' : Reads Elements) (ts : List Token) → ((us : List Token) → length us < length ts → more us ≡ more' us)
+      → element_end b missing ts more ≡ element_end b missing ts more'
   after_same more more' [] same = refl
   after_same more more' (t ∷ ts) same = go t.form
     where
@@ -30,23 +31,29 @@ module _ (b : List ℕ) (missing : Error) (value : Reads Document) (takes : Take
   abbrev pub turn : Result (Document × List Token) Error → Reads Elements → Result (Elements × List Token) Error
   turn r more = r >>= λ first. element_end b missing first.1 more >>= λ rest. Ok (element first.0 rest.0, rest.1)
 
-  turn_same : (more more' : Reads Elements) (ts : List Token) (r : Result (Document × List Token) Error) → value ts ≡ r → ((us : List Token) → length us < length ts → more us ≡ more' us) → turn r more ≡ turn r more'
+  turn_same : (more more' : Reads Elements) (ts : List Token) (r : Result (Document × List Token) Error) → value ts ≡ r
+      → ((us : List Token) → length us < length ts → more us ≡ more' us) → turn r more ≡ turn r more'
   turn_same more more' ts (Err e) is same = refl
   turn_same more more' ts (Ok (d, rest)) is same =
-      ap (λ r. r >>= λ rest'. Ok (element d rest'.0, rest'.1)) (after_same more more' rest (λ us h. let shorter : length rest < length ts = subst (λ r. Leaves r (length ts)) is (takes.some ts) in same us (omega arith)))
+      ap (λ r. r >>= λ rest'. Ok (element d rest'.0, rest'.1)) (after_same more more' rest (λ us h.
+      let shorter : length rest < length ts = subst (λ r. Leaves r (length ts)) is (takes.some ts) in
+      same us (omega arith)))
 
-  pub enough_turns : (m n : ℕ) (ts : List Token) → length ts ≤ m → length ts ≤ n → elements_from b missing value m ts ≡ elements_from b missing value n ts
+  pub enough_turns : (m n : ℕ) (ts : List Token) → length ts ≤ m → length ts ≤ n
+      → elements_from b missing value m ts ≡ elements_from b missing value n ts
   unfolding elements_from
   enough_turns zero zero ts l k = refl
   enough_turns zero (suc n) [] l k = rw takes.none refl
   enough_turns zero (suc n) (t ∷ ts) l k = absurd (omega arith)
   enough_turns (suc m) zero [] l k = rw takes.none refl
   enough_turns (suc m) zero (t ∷ ts) l k = absurd (omega arith)
-  enough_turns (suc m) (suc n) ts l k = turn_same (elements_from b missing value m) (elements_from b missing value n) ts (value ts) refl (λ us h. enough_turns m n us (omega arith) (omega arith))
+  enough_turns (suc m) (suc n) ts l k = turn_same (elements_from b missing value m) (elements_from b missing value n) ts
+      (value ts) refl (λ us h. enough_turns m n us (omega arith) (omega arith))
 
   -- One turn, with no bound in sight.
   pub elements_by-turn : (ts : List Token) → elements_by b missing value ts ≡ turn (value ts) (elements_by b missing value)
   unfolding elements_from
   elements_by-turn [] = rw takes.none refl
   elements_by-turn (t ∷ ts) =
-      turn_same (elements_from b missing value (length ts)) (elements_by b missing value) (t ∷ ts) (value (t ∷ ts)) refl (λ us h. enough_turns (length ts) (length us) us (omega arith) (omega arith))
+      turn_same (elements_from b missing value (length ts)) (elements_by b missing value) (t ∷ ts) (value (t ∷ ts)) refl
+      (λ us h. enough_turns (length ts) (length us) us (omega arith) (omega arith))

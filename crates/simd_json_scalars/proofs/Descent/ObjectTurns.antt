@@ -11,7 +11,8 @@ use Rattle.simd_json_scalars.proofs.Descent.ArrayTurns.{TakesTokens}
 use Rattle.simd_json_scalars.proofs.Descent.Shrinking.{name_from-leaves, name_end-leaves}
 
 -- what goes on alike from each answer goes on alike
-bind_same : {A B : Type 0} (r : Result A Error) (f g : A → Result B Error) (P : A → Type 0) → IfOk r P → ((x : A) → P x → f x ≡ g x) → (r >>= f) ≡ (r >>= g)
+bind_same : {A B : Type 0} (r : Result A Error) (f g : A → Result B Error) (P : A → Type 0) → IfOk r P
+    → ((x : A) → P x → f x ≡ g x) → (r >>= f) ≡ (r >>= g)
 bind_same (Ok x) f g P p same = same x p
 bind_same (Err e) f g P p same = refl
 
@@ -27,7 +28,8 @@ module _ (b : List ℕ) (missing : Error) (value : Reads Document) (takes : Take
   rest_after_name more name = name_end b missing name.1 >>= after_colon more name.0
 
   -- after a member only fewer tokens are read
-  after_same : (more more' : Reads Members) (ts : List Token) → ((us : List Token) → length us < length ts → more us ≡ more' us) → member_end b missing ts more ≡ member_end b missing ts more'
+  after_same : (more more' : Reads Members) (ts : List Token) → ((us : List Token) → length us < length ts → more us ≡ more' us)
+      → member_end b missing ts more ≡ member_end b missing ts more'
   after_same more more' [] same = refl
   after_same more more' (t ∷ ts) same = go t.form
     where
@@ -37,16 +39,20 @@ module _ (b : List ℕ) (missing : Error) (value : Reads Document) (takes : Take
       go _ = refl
 
   -- so a turn may go on with any reader that is the same on fewer tokens
-  turn_same : (more more' : Reads Members) (kind : ErrorType) (ts : List Token) → ((us : List Token) → length us < length ts → more us ≡ more' us)
+  turn_same : (more more' : Reads Members) (kind : ErrorType) (ts : List Token)
+      → ((us : List Token) → length us < length ts → more us ≡ more' us)
       → (name_from b missing kind ts >>= rest_after_name more) ≡ (name_from b missing kind ts >>= rest_after_name more')
   turn_same more more' kind ts same =
       bind_same (name_from b missing kind ts) _ _ (λ p. length p.1 < length ts) (name_from-leaves b missing value takes.some kind ts)
-      (λ name h. bind_same (name_end b missing name.1) _ _ (λ us. length us < length name.1) (name_end-leaves b missing value takes.some name.1)
+      (λ name h. bind_same (name_end b missing name.1) _ _ (λ us. length us < length name.1)
+      (name_end-leaves b missing value takes.some name.1)
       (λ colon i. bind_same (value colon) _ _ (λ p. length p.1 < length colon) (takes.some colon)
-      (λ first j. ap (λ r. r >>= λ rest. Ok (member name.0 first.0 rest.0, rest.1)) (after_same more more' first.1 (λ us k. same us (omega arith))))))
+      (λ first j. ap (λ r. r >>= λ rest. Ok (member name.0 first.0 rest.0, rest.1))
+      (after_same more more' first.1 (λ us k. same us (omega arith))))))
 
   -- as many turns as tokens are enough
-  enough_turns : (m n : ℕ) (kind : ErrorType) (ts : List Token) → length ts ≤ m → length ts ≤ n → members_from b missing value m kind ts ≡ members_from b missing value n kind ts
+  enough_turns : (m n : ℕ) (kind : ErrorType) (ts : List Token) → length ts ≤ m → length ts ≤ n
+      → members_from b missing value m kind ts ≡ members_from b missing value n kind ts
   unfolding members_from
   enough_turns zero zero kind ts l k = refl
   enough_turns zero (suc n) kind [] l k = refl
@@ -58,7 +64,8 @@ module _ (b : List ℕ) (missing : Error) (value : Reads Document) (takes : Take
       (λ us h. enough_turns m n ExpectedObjectKey us (omega arith) (omega arith))
 
   -- One turn, with no bound in sight.
-  pub members_by-turn : (kind : ErrorType) (ts : List Token) → members_by b missing value kind ts ≡ (name_from b missing kind ts >>= rest_after_name (members_by b missing value ExpectedObjectKey))
+  pub members_by-turn : (kind : ErrorType) (ts : List Token) → members_by b missing value kind ts
+      ≡ (name_from b missing kind ts >>= rest_after_name (members_by b missing value ExpectedObjectKey))
   unfolding members_from
   members_by-turn kind [] = refl
   members_by-turn kind (t ∷ ts) =

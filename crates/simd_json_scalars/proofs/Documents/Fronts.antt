@@ -1,5 +1,6 @@
 -- A document at the front of nodes.
-use Rattle.std.proofs.Common.{◌≡◌, ◌∙◌, ap, sym, ◌<◌, ◌≤◌, ◌+◌, ℕ, List, [], ◌∷◌, ◌++◌, length, length-append, get_or, map, take, drop, arith}
+use Rattle.std.proofs.Common.{◌≡◌, ◌∙◌, ap, sym, ◌<◌, ◌≤◌, ◌+◌, ℕ, List, [], ◌∷◌, ◌++◌, length, length-append, get_or, map, take}
+use Rattle.std.proofs.Common.{drop, arith}
 use Rattle.std.proofs.Math.Seq.{take-append_seam, drop-append_seam}
 use Rattle.std.proofs.lemmas.List.{length-map, take-map, drop-map}
 use Rattle.simd_json_scalars.proofs.Documents.Listing.{IsHeaded-document}
@@ -14,7 +15,8 @@ pub positive : (d : Document) → 0 < length (listing d)
 positive d = let h = IsHeaded-document d in omega (arith, ap length h.whole)
 
 -- it has as many nodes as its first node says
-pub sized : (ns : List Node) (default x : Node) (d : Document) (rest : List Item) → map item_of ns ≡ listing d ++ rest → get_or ns 0 default ≡ x → count_of (item_of x) + 1 ≡ length (listing d)
+pub sized : (ns : List Node) (default x : Node) (d : Document) (rest : List Item) → map item_of ns ≡ listing d ++ rest
+    → get_or ns 0 default ≡ x → count_of (item_of x) + 1 ≡ length (listing d)
 sized [] default x d rest is at = absurd (omega (arith, positive d, ap length is, length-append (listing d) rest))
 sized (y ∷ ns) default x d rest is at =
     let h = IsHeaded-document d in

@@ -1,7 +1,8 @@
 -- Laws of listings.
 use Rattle.std.proofs.Common.{◌≡◌, refl, sym, ◌∙◌, ap, ℕ, Bool, List, [], ◌++◌, length, drop, append_assoc}
 use Rattle.std.specs.Prelude.{Some, None}
-use Rattle.simd_json_parts.specs.Document.{Document, null, boolean, integer, decimal, string, array, object, Elements, no_elements, element, elements, Members, no_members, member, members}
+use Rattle.simd_json_parts.specs.Document.{Document, null, boolean, integer, decimal, string, array, object, Elements, no_elements}
+use Rattle.simd_json_parts.specs.Document.{element, elements, Members, no_members, member, members}
 use Rattle.simd_json_scalars.specs.Headers.{IsHeaded}
 use Rattle.simd_json_parts.specs.Integers.{number_of, integer_node}
 use Rattle.simd_json_parts.specs.Listing.{listing, elements_listing, members_listing}
@@ -14,9 +15,12 @@ use Rattle.simd_json_scalars.proofs.Documents.Integers.{number_in-integer_node, 
 -- A listing is a first node and as many more as its `count` says, with as many members as its `len`.
 pub IsHeaded-document : (d : Document) → IsHeaded d
 IsHeaded-document null = record { first = static_item fixed.Null; rest = []; whole = refl; beneath = refl; len = refl; kind = refl }
-IsHeaded-document (boolean b) = record { first = static_item (fixed.Bool b); rest = []; whole = refl; beneath = refl; len = refl; kind = refl }
-IsHeaded-document (integer minus n) = record { first = static_item (integer_node minus n); rest = []; whole = refl; beneath = refl; len = refl; kind = refl }
-IsHeaded-document (decimal literal) = record { first = decimal_item literal; rest = []; whole = refl; beneath = refl; len = refl; kind = refl }
+IsHeaded-document (boolean b) =
+    record { first = static_item (fixed.Bool b); rest = []; whole = refl; beneath = refl; len = refl; kind = refl }
+IsHeaded-document (integer minus n) =
+    record { first = static_item (integer_node minus n); rest = []; whole = refl; beneath = refl; len = refl; kind = refl }
+IsHeaded-document (decimal literal) =
+    record { first = decimal_item literal; rest = []; whole = refl; beneath = refl; len = refl; kind = refl }
 IsHeaded-document (string t) = record { first = string_item t; rest = []; whole = refl; beneath = refl; len = refl; kind = refl }
 IsHeaded-document (array ds) = record {
   first = array_item (length (elements ds)) (length (elements_listing ds));
@@ -53,8 +57,12 @@ mutual
   listing_cancel (integer minus m) (integer minus' n) xs ys h = (integer_node_cancel minus minus' m n (cc), cc)
   listing_cancel (decimal a) (decimal b) xs ys h = (cc, cc)
   listing_cancel (string a) (string b) xs ys h = (cc, cc)
-  listing_cancel (array ds) (array es) xs ys h = let both : (ds ≡ es) × (xs ≡ ys) = elements_listing_cancel ds es xs ys (cc) (cc) in (ap array both.0, both.1)
-  listing_cancel (object ms) (object ns) xs ys h = let both : (ms ≡ ns) × (xs ≡ ys) = members_listing_cancel ms ns xs ys (cc) (cc) in (ap object both.0, both.1)
+  listing_cancel (array ds) (array es) xs ys h =
+      let both : (ds ≡ es) × (xs ≡ ys) = elements_listing_cancel ds es xs ys (cc) (cc) in
+      (ap array both.0, both.1)
+  listing_cancel (object ms) (object ns) xs ys h =
+      let both : (ms ≡ ns) × (xs ≡ ys) = members_listing_cancel ms ns xs ys (cc) (cc) in
+      (ap object both.0, both.1)
   listing_cancel _ _ xs ys h = cc
 
   elements_listing_cancel : (ds es : Elements) (xs ys : List Item) → length (elements ds) ≡ length (elements es)
@@ -70,7 +78,8 @@ mutual
       → members_listing ms ++ xs ≡ members_listing ns ++ ys → (ms ≡ ns) × (xs ≡ ys)
   members_listing_cancel no_members no_members xs ys k h = (refl, h)
   members_listing_cancel (member a d ms) (member b e ns) xs ys k h =
-      let first : (d ≡ e) × (members_listing ms ++ xs ≡ members_listing ns ++ ys) = listing_cancel d e _ _ (simp append_assoc at (ap (drop 1) h)) in
+      let first : (d ≡ e) × (members_listing ms ++ xs ≡ members_listing ns ++ ys) =
+      listing_cancel d e _ _ (simp append_assoc at (ap (drop 1) h)) in
       let rest : (ms ≡ ns) × (xs ≡ ys) = members_listing_cancel ms ns xs ys (cc) first.1 in
       (cc, rest.1)
   members_listing_cancel _ _ xs ys k h = cc

@@ -29,7 +29,8 @@ drop-through k b xs zs e = sym (drop-drop (length xs) k b) ∙ ap (drop (length 
 pub drop-further : (xs ys : List ℕ) (i j : ℕ) → i ≤ j → drop i xs ≡ drop i ys → drop j xs ≡ drop j ys
 drop-further xs ys i j l e =
     let there : i + (j - i) ≡ j = omega arith in
-    ap (λ n. drop n xs) (sym there) ∙ sym (drop-drop (j - i) i xs) ∙ ap (drop (j - i)) e ∙ drop-drop (j - i) i ys ∙ ap (λ n. drop n ys) there
+    ap (λ n. drop n xs) (sym there) ∙ sym (drop-drop (j - i) i xs) ∙ ap (drop (j - i)) e ∙ drop-drop (j - i) i ys
+    ∙ ap (λ n. drop n ys) there
 
 -- and so is the byte there.
 pub drop-byte : (xs ys : List ℕ) (i : ℕ) → drop i xs ≡ drop i ys → byte_at xs i ≡ byte_at ys i

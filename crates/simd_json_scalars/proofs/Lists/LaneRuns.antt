@@ -1,7 +1,9 @@
 -- A run of bytes, seen a vector at a time by the mask of the bytes that end it.
-use Rattle.std.proofs.Common.{◌≡◌, refl, sym, ◌∙◌, ap, ap₂, ℕ, ◌+◌, ◌*◌, ◌%◌, ◌^◌, ◌<◌, ◌≤◌, List, [], ◌∷◌, length, drop, map, replicate, Bool, true, false, not, cond, eqb, ◌||◌, inl, inr, arith}
+use Rattle.std.proofs.Common.{◌≡◌, refl, sym, ◌∙◌, ap, ap₂, ℕ, ◌+◌, ◌*◌, ◌%◌, ◌^◌, ◌<◌, ◌≤◌, List, [], ◌∷◌, length, drop, map}
+use Rattle.std.proofs.Common.{replicate, Bool, true, false, not, cond, eqb, ◌||◌, inl, inr, arith}
 use Rattle.std.specs.List.{prefix_len}
-use Rattle.std.proofs.lemmas.Simd.{chunk-drop, length-chunk, leading_from_mask_l, trailing_mask_l, zip2_splat, zip2_of_maps, map-map, mask_l-mod}
+use Rattle.std.proofs.lemmas.Simd.{chunk-drop, length-chunk, leading_from_mask_l, trailing_mask_l, zip2_splat, zip2_of_maps}
+use Rattle.std.proofs.lemmas.Simd.{map-map, mask_l-mod}
 use Rattle.std.proofs.lemmas.List.{length-map}
 use Rattle.std.proofs.lemmas.List.Folds.{prefix_len-append}
 use Rattle.std.proofs.lemmas.List.Sums.{prefix_len-le-length}
@@ -21,7 +23,8 @@ pub run-through : (p : ℕ → Bool) (d : List ℕ) (i n : ℕ) → i + n ≤ le
 run-through p d i n enough none =
     let c : List ℕ = chunk i n d in
     let run : List ℕ → ℕ = prefix_len (λ x. not (p x)) in
-    split p d i n ∙ ap (λ b. cond b (length c + run (drop (i + n) d)) (run c)) (eq-eqb _ _ (leading_from_mask_l p c none)) ∙ ap (λ k. k + run (drop (i + n) d)) (length-chunk i n d enough)
+    split p d i n ∙ ap (λ b. cond b (length c + run (drop (i + n) d)) (run c)) (eq-eqb _ _ (leading_from_mask_l p c none))
+    ∙ ap (λ k. k + run (drop (i + n) d)) (length-chunk i n d enough)
 
 -- a run through all bytes sets no bit
 none-set : (p : ℕ → Bool) (xs : List ℕ) → prefix_len (λ x. not (p x)) xs ≡ length xs → mask_l (map p xs) ≡ 0
@@ -74,10 +77,12 @@ map-same f g same (x ∷ xs) = ap₂ (λ y ys. y ∷ ys) (same x) (map-same f g 
 
 -- The mask of the lanes that are either byte.
 pub mask-either : (a b n : ℕ) (v : List ℕ) → length v ≡ n → n ≤ 64
-    → mask_l (map (top 7) (zip2 bit_or (zip2 hit v (replicate n a)) (zip2 hit v (replicate n b)))) % 2 ^ 64 ≡ mask_l (map (λ x. eqb x a || eqb x b) v)
+    → mask_l (map (top 7) (zip2 bit_or (zip2 hit v (replicate n a)) (zip2 hit v (replicate n b)))) % 2 ^ 64
+    ≡ mask_l (map (λ x. eqb x a || eqb x b) v)
 mask-either a b n v long short =
     let lanes : zip2 bit_or (zip2 hit v (replicate n a)) (zip2 hit v (replicate n b)) ≡ map (λ x. bit_or (hit x a) (hit x b)) v =
     zip2_of_maps bit_or (λ x. hit x a) (λ x. hit x b) v (zip2_splat hit v n a long) (zip2_splat hit v n b long) in
     let tops : map (top 7) (map (λ x. bit_or (hit x a) (hit x b)) v) ≡ map (λ x. eqb x a || eqb x b) v =
     map-map (top 7) (λ x. bit_or (hit x a) (hit x b)) v ∙ map-same _ _ (λ x. hit-either (eqb x a) (eqb x b)) v in
-    ap (λ us. mask_l us % 2 ^ 64) (ap (map (top 7)) lanes ∙ tops) ∙ mask_l-mod (map (λ x. eqb x a || eqb x b) v) 64 (omega (arith, length-map v (λ x. eqb x a || eqb x b)))
+    ap (λ us. mask_l us % 2 ^ 64) (ap (map (top 7)) lanes ∙ tops)
+    ∙ mask_l-mod (map (λ x. eqb x a || eqb x b) v) 64 (omega (arith, length-map v (λ x. eqb x a || eqb x b)))

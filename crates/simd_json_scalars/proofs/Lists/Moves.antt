@@ -14,7 +14,8 @@ pub record Moved (old new : List ℕ) (from to done : ℕ) : Type 0 where
   pub same_length : length new ≡ length old
 
 -- a stored vector is a pasted part
-pub put_chunk-paste : (xs : List ℕ) (i j n : ℕ) → j + n ≤ length xs → i + n ≤ length xs → put_chunk i xs (chunk j n xs) ≡ paste xs i (drop j xs) n
+pub put_chunk-paste : (xs : List ℕ) (i j n : ℕ) → j + n ≤ length xs → i + n ≤ length xs
+    → put_chunk i xs (chunk j n xs) ≡ paste xs i (drop j xs) n
 put_chunk-paste xs i j n from to =
     let size : length (chunk j n xs) ≡ n = length-chunk j n xs from in
     put_chunk_is i xs (chunk j n xs) (omega arith)
@@ -23,11 +24,13 @@ put_chunk-paste xs i j n from to =
     ∙ sym (append_assoc (take i xs) (chunk j n xs) (drop (i + n) xs))
 
 -- With a part that is pasted after them, so many more are moved,
-pub moved-more : (old cur new : List ℕ) (from to done n : ℕ) → to ≤ from → from + done + n ≤ length old → Moved old cur from to done → new ≡ paste cur (to + done) (drop (from + done) cur) n → Moved old new from to (done + n)
+pub moved-more : (old cur new : List ℕ) (from to done n : ℕ) → to ≤ from → from + done + n ≤ length old → Moved old cur from to done
+    → new ≡ paste cur (to + done) (drop (from + done) cur) n → Moved old new from to (done + n)
 moved-more old cur new from to done n down fits m e =
     let whole : to + done + n ≡ to + (done + n) = omega arith in
     let enough : n ≤ length (drop (from + done) cur) = omega (arith, length-drop (from + done) cur, m.same_length) in
-    let rest : drop (from + done) cur ≡ drop done (drop from old) = drop-further cur old (to + done) (from + done) (omega arith) m.unread ∙ sym (drop-drop done from old) in
+    let rest : drop (from + done) cur ≡ drop done (drop from old) =
+    drop-further cur old (to + done) (from + done) (omega arith) m.unread ∙ sym (drop-drop done from old) in
     record {
       written =
           ap (take (to + (done + n))) e
@@ -43,22 +46,26 @@ moved-more old cur new from to done n down fits m e =
           ∙ drop-paste cur (to + done) (drop (from + done) cur) n (omega (arith, m.same_length)) enough
           ∙ ap (λ k. drop k cur) whole
           ∙ drop-further cur old (to + done) (to + (done + n)) (omega arith) m.unread;
-      same_length = ap length e ∙ length-paste cur (to + done) (drop (from + done) cur) n (omega (arith, m.same_length)) enough ∙ m.same_length;
+      same_length = ap length e
+          ∙ length-paste cur (to + done) (drop (from + done) cur) n (omega (arith, m.same_length)) enough ∙ m.same_length;
     }
 
 -- and with the rest of them, all
-pub moved-rest : (old cur new : List ℕ) (from to done end : ℕ) → to ≤ from → from + done ≤ end → end ≤ length old → Moved old cur from to done
+pub moved-rest : (old cur new : List ℕ) (from to done end : ℕ) → to ≤ from → from + done ≤ end → end ≤ length old
+    → Moved old cur from to done
     → new ≡ paste cur (to + done) (drop (from + done) cur) (end - (from + done)) → Moved old new from to (end - from)
 moved-rest old cur new from to done end down short inside m e =
     let all : done + (end - (from + done)) ≡ end - from = omega arith in
     subst (Moved old new from to) all (moved-more old cur new from to done (end - (from + done)) down (omega arith) m e)
 
 -- What is still to be moved is as it stood.
-pub moved-ahead : (old cur : List ℕ) (from to done : ℕ) → to ≤ from → Moved old cur from to done → drop (from + done) cur ≡ drop (from + done) old
+pub moved-ahead : (old cur : List ℕ) (from to done : ℕ) → to ≤ from → Moved old cur from to done
+    → drop (from + done) cur ≡ drop (from + done) old
 moved-ahead old cur from to done down m = drop-further cur old (to + done) (from + done) (omega arith) m.unread
 
 -- the first part of what was pasted, and more after it
-take-pasted : (xs zs : List ℕ) (to k m : ℕ) → m ≤ k → to + k ≤ length xs → k ≤ length zs → take (to + m) (paste xs to zs k) ≡ take to xs ++ take m zs
+take-pasted : (xs zs : List ℕ) (to k m : ℕ) → m ≤ k → to + k ≤ length xs → k ≤ length zs
+    → take (to + m) (paste xs to zs k) ≡ take to xs ++ take m zs
 take-pasted xs zs to k m l fits enough =
     let pasted : List ℕ = paste xs to zs k in
     let prefix : List ℕ = take to xs in
@@ -83,10 +90,12 @@ two-stored xs from to n k last down most twice fits place =
     let long : length first ≡ length xs = length-put_chunk to xs (chunk from k xs) in
     let size : length (chunk last k xs) ≡ k = length-chunk last k xs (omega arith) in
     let second : chunk last k xs ≡ take k (drop m zs) = ap (λ i. take k (drop i xs)) place ∙ ap (take k) (sym (drop-drop m from xs)) in
-    let prefix : take (to + m) first ≡ take to xs ++ take m zs = ap (take (to + m)) pasted ∙ take-pasted xs zs to k m (omega arith) (omega arith) enough in
+    let prefix : take (to + m) first ≡ take to xs ++ take m zs =
+    ap (take (to + m)) pasted ∙ take-pasted xs zs to k m (omega arith) (omega arith) enough in
     let kept : drop (to + k) first ≡ drop (to + k) xs = ap (drop (to + k)) pasted ∙ drop-paste xs to zs k (omega arith) enough in
     let end : to + m + k ≡ to + n = omega arith in
-    let rest : drop k (drop (to + m) first) ≡ drop (to + n) xs = drop-drop k (to + m) first ∙ ap (λ i. drop i first) end ∙ drop-further first xs (to + k) (to + n) (omega arith) kept in
+    let rest : drop k (drop (to + m) first) ≡ drop (to + n) xs =
+    drop-drop k (to + m) first ∙ ap (λ i. drop i first) end ∙ drop-further first xs (to + k) (to + n) (omega arith) kept in
     let all : m + k ≡ n = omega arith in
     let run : take m zs ++ take k (drop m zs) ≡ take n zs = sym (take-add m k zs) ∙ ap (λ i. take i zs) all in
     put_chunk_is (to + m) first (chunk last k xs) (omega arith)

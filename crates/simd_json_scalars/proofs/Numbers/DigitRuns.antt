@@ -1,5 +1,6 @@
 -- Runs of digits among 32 bytes, seen by the mask of those that are no digits.
-use Rattle.std.proofs.Common.{◌≡◌, refl, sym, ◌∙◌, ap, ap₂, ℕ, zero, suc, ◌+◌, ◌-◌, ◌*◌, ◌/◌, ◌%◌, ◌^◌, ◌<◌, ◌≤◌, List, [], ◌∷◌, length, take, drop, map, replicate, Bool, true, false, not, cond, leb, Fits, w8, arith}
+use Rattle.std.proofs.Common.{◌≡◌, refl, sym, ◌∙◌, ap, ap₂, ℕ, zero, suc, ◌+◌, ◌-◌, ◌*◌, ◌/◌, ◌%◌, ◌^◌, ◌<◌, ◌≤◌, List, [], ◌∷◌}
+use Rattle.std.proofs.Common.{length, take, drop, map, replicate, Bool, true, false, not, cond, leb, Fits, w8, arith}
 use Rattle.std.specs.Char.{is_ascii_digit}
 use Rattle.std.specs.List.{prefix_len}
 use Rattle.std.proofs.Math.Nat.{zero-div, div-one, pow-suc, mul_comm}
@@ -41,8 +42,10 @@ mask-non_digits v long fits =
     ∙ zip2_splat_left at_most 10 32 less (length-map v (λ x. less_zero x 48) ∙ long)
     ∙ map-map (at_most 10) (λ x. less_zero x 48) v in
     let tops : map (top 7) (map (λ x. at_most 10 (less_zero x 48)) v) ≡ map is_no_digit v =
-    map-map (top 7) (λ x. at_most 10 (less_zero x 48)) v ∙ map-same _ _ (λ x. top-cond (leb 10 (less_zero x 48))) v ∙ no_digit-lanes v fits in
-    ap (λ us. mask_l us % 2 ^ 64) (ap (map (top 7)) lanes ∙ tops) ∙ mask_l-mod (map is_no_digit v) 64 (omega (arith, length-map v is_no_digit))
+    map-map (top 7) (λ x. at_most 10 (less_zero x 48)) v ∙ map-same _ _ (λ x. top-cond (leb 10 (less_zero x 48))) v
+    ∙ no_digit-lanes v fits in
+    ap (λ us. mask_l us % 2 ^ 64) (ap (map (top 7)) lanes ∙ tops)
+    ∙ mask_l-mod (map is_no_digit v) 64 (omega (arith, length-map v is_no_digit))
 
 -- ---- a run in it
 
@@ -70,7 +73,8 @@ same-run (x ∷ xs) = ap₂ (λ t n. cond t (1 + n) 0) (not-not (is_ascii_digit 
 
 -- The digits from an index on end at the first bit from there on, where it is one of the 32.
 pub run_end-is : (stops from : ℕ) (b : List ℕ) → from ≤ 32 → 32 ≤ length b → stops ≡ mask_l (map is_no_digit (take 32 b))
-    → from + count_trailing_zeros 64 (stops / 2 ^ from) < 32 → from + count_trailing_zeros 64 (stops / 2 ^ from) ≡ from + prefix_len is_ascii_digit (drop from b)
+    → from + count_trailing_zeros 64 (stops / 2 ^ from) < 32
+    → from + count_trailing_zeros 64 (stops / 2 ^ from) ≡ from + prefix_len is_ascii_digit (drop from b)
 run_end-is stops from b l long e inside =
     let whole : from + (32 - from) ≡ 32 = omega arith in
     let seen : List ℕ = chunk from (32 - from) b in

@@ -1,5 +1,7 @@
 -- Eight bytes as a word: their lanes, and how many digits come first.
-use Rattle.std.proofs.Common.{◌≡◌, refl, sym, ◌∙◌, ap, ap₂, ℕ, zero, suc, ◌+◌, ◌*◌, ◌/◌, ◌%◌, ◌^◌, ◌<◌, ◌≤◌, lit<, List, [], ◌∷◌, length, take, drop, get_or, Bool, true, false, cond, eqb, bit_and, bit_or, bit_xor, drop-cons, length-drop, add-zero, add-suc, arith}
+use Rattle.std.proofs.Common.{◌≡◌, refl, sym, ◌∙◌, ap, ap₂, ℕ, zero, suc, ◌+◌, ◌*◌, ◌/◌, ◌%◌, ◌^◌, ◌<◌, ◌≤◌, lit<, List, [], ◌∷◌}
+use Rattle.std.proofs.Common.{length, take, drop, get_or, Bool, true, false, cond, eqb, bit_and, bit_or, bit_xor, drop-cons}
+use Rattle.std.proofs.Common.{length-drop, add-zero, add-suc, arith}
 use Rattle.std.specs.Char.{is_ascii_digit}
 use Rattle.std.specs.Int.Digits.{AllBelowBase}
 use Rattle.std.specs.List.{prefix_len}

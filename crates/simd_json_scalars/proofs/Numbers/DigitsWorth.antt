@@ -1,5 +1,7 @@
 -- The number that the first digits of a word spell: they move up behind zeros, and two multiplications add the pairs.
-use Rattle.std.proofs.Common.{◌≡◌, refl, sym, ◌∙◌, ap, ap₂, ℕ, zero, suc, ◌+◌, ◌-◌, ◌*◌, ◌/◌, ◌%◌, ◌^◌, ◌<◌, ◌≤◌, lit<, List, [], ◌∷◌, ◌++◌, length, length-append, length-drop, take, drop, map, replicate, Bool, true, false, cond, eqb, leb, bit_and, arith}
+use Rattle.std.proofs.Common.{◌≡◌, refl, sym, ◌∙◌, ap, ap₂, ℕ, zero, suc, ◌+◌, ◌-◌, ◌*◌, ◌/◌, ◌%◌, ◌^◌, ◌<◌, ◌≤◌, lit<, List, []}
+use Rattle.std.proofs.Common.{◌∷◌, ◌++◌, length, length-append, length-drop, take, drop, map, replicate, Bool, true, false, cond}
+use Rattle.std.proofs.Common.{eqb, leb, bit_and, arith}
 use Rattle.std.specs.Char.{is_ascii_digit, digit_value}
 use Rattle.std.specs.Int.Digits.{AllBelowBase, number_from_digits}
 use Rattle.std.specs.List.{prefix_len}

@@ -1,5 +1,7 @@
 -- A number literal is an integer's or a decimal's and never both, and one that stands at an index is read whole.
-use Rattle.std.proofs.Common.{◌≡◌, refl, sym, ◌∙◌, ap, ℕ, zero, suc, ◌+◌, ◌≤◌, lit<, lit≤, ◌⊎◌, inl, inr, List, [], ◌∷◌, ◌++◌, length, take, drop, map, get_or, Bool, true, false, cond, ◌||◌, ◌==◌, nat_lt, IsTrue, if◌then◌else◌, find, Some, None, Ok, add-zero, arith}
+use Rattle.std.proofs.Common.{◌≡◌, refl, sym, ◌∙◌, ap, ℕ, zero, suc, ◌+◌, ◌≤◌, lit<, lit≤, ◌⊎◌, inl, inr, List, [], ◌∷◌, ◌++◌}
+use Rattle.std.proofs.Common.{length, take, drop, map, get_or, Bool, true, false, cond, ◌||◌, ◌==◌, nat_lt, IsTrue, if◌then◌else◌}
+use Rattle.std.proofs.Common.{find, Some, None, Ok, add-zero, arith}
 use Rattle.std.specs.Char.{digit_value}
 use Rattle.std.specs.Int.Digits.{number_from_digits, number_from_digits_after}
 use Rattle.std.proofs.lemmas.Bool.{and_from, le-ltb, cond-true, cond-false, false_from_ne_true}
@@ -20,9 +22,12 @@ use Rattle.simd_json_scalars.proofs.Patterns.Bytes.{byte_at-append, avoids-needs
 -- ---- integers and decimals
 
 pub number-integer_or_decimal : (bs : List ℕ) → Matches number_literal bs → Matches integer_literal bs ⊎ Matches decimal_literal bs
-number-integer_or_decimal bs (xs, ys, e, ms, (zs, ws, f, mi, (us, vs, g, inl mf, inl me))) = inl (xs, zs, simp (e, f, g, mf, me, append-nil), ms, mi)
-number-integer_or_decimal bs (xs, ys, e, ms, (zs, ws, f, mi, (us, vs, g, inl mf, inr me))) = inr (xs, ys, e, ms, (zs, vs, simp (f, g, mf), mi, inr me))
-number-integer_or_decimal bs (xs, ys, e, ms, (zs, ws, f, mi, (us, vs, g, inr mf, me))) = inr (xs, ys, e, ms, (zs, ws, f, mi, inl (us, vs, g, mf, me)))
+number-integer_or_decimal bs (xs, ys, e, ms, (zs, ws, f, mi, (us, vs, g, inl mf, inl me))) =
+    inl (xs, zs, simp (e, f, g, mf, me, append-nil), ms, mi)
+number-integer_or_decimal bs (xs, ys, e, ms, (zs, ws, f, mi, (us, vs, g, inl mf, inr me))) =
+    inr (xs, ys, e, ms, (zs, vs, simp (f, g, mf), mi, inr me))
+number-integer_or_decimal bs (xs, ys, e, ms, (zs, ws, f, mi, (us, vs, g, inr mf, me))) =
+    inr (xs, ys, e, ms, (zs, ws, f, mi, inl (us, vs, g, mf, me)))
 
 pub integer-number : (bs : List ℕ) → Matches integer_literal bs → Matches number_literal bs
 integer-number bs (xs, ys, e, ms, mi) = (xs, ys, e, ms, (ys, [], sym (append-nil ys), mi, ([], [], refl, inl refl, inl refl)))
@@ -82,8 +87,10 @@ byte_at-front b i l e =
     let here : byte_at (drop i b) 0 ≡ byte_at b i = simp add-zero at (get_or-drop i b 0 32) in
     sym here ∙ ap (λ bs. byte_at bs 0) e
 
-pub number_at-literal : (b : List ℕ) (i : ℕ) (xs rest : List ℕ) → drop i b ≡ xs ++ rest → IsTrue (is_terminator (byte_at rest 0)) → Matches number_literal xs
-    → number_at b i ≡ (if matches integer_literal xs then integer_or b i xs (i + length xs) (first_excess xs) else Ok (decimal xs, i + length xs))
+pub number_at-literal : (b : List ℕ) (i : ℕ) (xs rest : List ℕ) → drop i b ≡ xs ++ rest → IsTrue (is_terminator (byte_at rest 0))
+    → Matches number_literal xs
+    → number_at b i ≡ (if matches integer_literal xs then integer_or b i xs (i + length xs) (first_excess xs)
+    else Ok (decimal xs, i + length xs))
 unfolding number_at
 number_at-literal b i xs rest e t m =
     let prefix : longest_prefix number_literal (drop i b) ≡ length xs =
@@ -95,7 +102,8 @@ number_at-literal b i xs rest e t m =
     ∙ cond-true _ _ _ (and_from _ _ (Matches-matches number_literal xs m) (ap is_terminator after ∙ t))
 
 pub number_at-integer : (b : List ℕ) (i : ℕ) (xs rest : List ℕ) → drop i b ≡ xs ++ rest → IsTrue (is_terminator (byte_at rest 0))
-    → Matches integer_literal xs → magnitude xs ≤ max_magnitude (has_minus xs) → number_at b i ≡ Ok (integer (has_minus xs) (magnitude xs), i + length xs)
+    → Matches integer_literal xs → magnitude xs ≤ max_magnitude (has_minus xs)
+    → number_at b i ≡ Ok (integer (has_minus xs) (magnitude xs), i + length xs)
 number_at-integer b i xs rest e t m fits =
     let most : max_magnitude (has_minus xs) ≤ max_magnitude false = max_magnitude-le (has_minus xs) in
     number_at-literal b i xs rest e t (integer-number xs m)

@@ -1,10 +1,12 @@
 -- What one look at the digits tells of a literal: the end of its integer part, and that of its fraction.
-use Rattle.std.proofs.Common.{◌≡◌, ◌≢◌, refl, sym, ap, subst, ◌∙◌, ℕ, ◌+◌, ◌<◌, ◌≤◌, ◌⊎◌, inl, inr, List, length, take, drop, Bool, true, false, ◌&&◌, ◌==◌, leb, if◌then◌else◌, Result, Ok, Err, arith}
+use Rattle.std.proofs.Common.{◌≡◌, ◌≢◌, refl, sym, ap, subst, ◌∙◌, ℕ, ◌+◌, ◌<◌, ◌≤◌, ◌⊎◌, inl, inr, List, length, take, drop, Bool}
+use Rattle.std.proofs.Common.{true, false, ◌&&◌, ◌==◌, leb, if◌then◌else◌, Result, Ok, Err, arith}
 use mir.Val.{bool_byte}
 use Rattle.std.specs.Char.{is_ascii_digit}
 use Rattle.std.specs.List.{prefix_len}
 use Rattle.std.specs.Str.Parse.{digits_value}
-use Rattle.std.proofs.lemmas.Bool.{cases_Bool, both_ways, cond-true, cond-false, eqb-true, eq-eqb, ne_eqb, leb-true, agree_below_at, and_parts, and_from, false_from_ne_true}
+use Rattle.std.proofs.lemmas.Bool.{cases_Bool, both_ways, cond-true, cond-false, eqb-true, eq-eqb, ne_eqb, leb-true, agree_below_at}
+use Rattle.std.proofs.lemmas.Bool.{and_parts, and_from, false_from_ne_true}
 use Rattle.std.proofs.lemmas.List.{drop-take, get_or-take, length-take-le}
 use Rattle.simd_json_parts.specs.Bytes.{byte_at, is_terminator}
 use Rattle.simd_json_parts.specs.Integers.{max_magnitude_64}
@@ -15,7 +17,8 @@ use Rattle.simd_json_scalars.specs.declared.numberparse.Numeral.{Numeral}
 use Rattle.simd_json_scalars.specs.declared.numberparse.Numeral.TheVariants.{Integer, Decimal, Invalid}
 use Rattle.simd_json_parts.specs.Numbers.{number_literal, integer_literal, has_minus, exp}
 use Rattle.simd_json_scalars.proofs.Numbers.Prefixes.{reported, Reads, Leads-Reads}
-use Rattle.simd_json_scalars.proofs.Numbers.Reader.{read-onward, number_at-part, number_at-after, number_at-longer, integer-literal, read-split, read-after}
+use Rattle.simd_json_scalars.proofs.Numbers.Reader.{read-onward, number_at-part, number_at-after, number_at-longer, integer-literal}
+use Rattle.simd_json_scalars.proofs.Numbers.Reader.{read-split, read-after}
 use Rattle.simd_json_scalars.proofs.Numbers.Values.{after_start, after_start-is, short-in_range, number_at-numeral}
 use Rattle.simd_json_scalars.proofs.Numbers.Steps.{SignEnd, IsWhole, int-whole, after_int, no-fraction, fraction-exponent, no-exponent}
 
@@ -33,7 +36,8 @@ run-whole b start whole sign run some zero = int-whole b start whole sign end so
 
 -- no fraction, or a point and digits
 abbrev pub IsFraction : List ℕ → ℕ → ℕ → Type 0
-IsFraction b whole end = (byte_at b whole ≢ 46) × (end ≡ whole) ⊎ (byte_at b whole ≡ 46) × (end ≡ whole + 1 + prefix_len is_ascii_digit (drop (whole + 1) b)) × (whole + 1 < end)
+IsFraction b whole end = (byte_at b whole ≢ 46) × (end ≡ whole) ⊎ (byte_at b whole ≡ 46)
+    × (end ≡ whole + 1 + prefix_len is_ascii_digit (drop (whole + 1) b)) × (whole + 1 < end)
 
 module _ (b : List ℕ) (whole end : ℕ) (w : IsWhole b whole) (f : IsFraction b whole end) where
   -- What is read of an exponent is read of the number.
@@ -49,7 +53,8 @@ module _ (b : List ℕ) (whole end : ℕ) (w : IsWhole b whole) (f : IsFraction 
   seen-end inside t = seen-number (Ok end) (no-exponent b end (omega arith) t)
 
   -- An exponent makes it longer than its integer part.
-  pub seen-longer : (k : ℕ) → Reads (optional exp) b end (Ok k) → is_terminator (byte_at b end) ≡ false → is_terminator (byte_at b k) ≡ true → k ≢ whole
+  pub seen-longer : (k : ℕ) → Reads (optional exp) b end (Ok k) → is_terminator (byte_at b end) ≡ false
+      → is_terminator (byte_at b k) ≡ true → k ≢ whole
   seen-longer k r other t e =
       let far : end ≤ k = read-onward (optional exp) b end k r in
       let near : whole ≤ end = grind arith in
@@ -64,7 +69,8 @@ module _ (b : List ℕ) (whole end : ℕ) (w : IsWhole b whole) (f : IsFraction 
     abbrev ended : Bool → Bool → Numeral
     ended exponent ends = if exponent && ends then Decimal (end + far) else Invalid (end + far)
 
-    at-tests : (exponent ends : Bool) → matches (optional exp) (take far (drop end b)) ≡ exponent → is_terminator (byte_at b (end + far)) ≡ ends
+    at-tests : (exponent ends : Bool) → matches (optional exp) (take far (drop end b)) ≡ exponent
+        → is_terminator (byte_at b (end + far)) ≡ ends
         → IsNumeralAt bs i (ended exponent ends)
     at-tests true true x t =
         let r : Reads (optional exp) b end (Ok (end + far)) = sym (ap (λ y. reported y (end + far)) x) in
@@ -91,7 +97,8 @@ terminator-no_digit c t =
     false_from_ne_true _ (λ d.
     let range : (leb 48 c ≡ true) × (leb c 57 ≡ true) = and_parts _ _ d in
     let near : c < 58 = omega (arith, leb-true c 57 range.1) in
-    let never : (is_terminator c && is_ascii_digit c) ≡ false = agree_below_at (λ x. is_terminator x && is_ascii_digit x) (λ _. false) 58 c refl near in
+    let never : (is_terminator c && is_ascii_digit c) ≡ false =
+    agree_below_at (λ x. is_terminator x && is_ascii_digit x) (λ _. false) 58 c refl near in
     both_ways (is_terminator c && is_ascii_digit c) never (and_from _ _ t d))
 
 sign-start : (l : List ℕ) (start whole : ℕ) → SignEnd l start → 0 < whole → bool_byte (has_minus (take whole l)) ≡ start

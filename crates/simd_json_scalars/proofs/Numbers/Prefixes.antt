@@ -1,5 +1,7 @@
 -- From byte to byte of a number: the pattern of what may stand after each prefix of a literal.
-use Rattle.std.proofs.Common.{◌≡◌, refl, sym, ◌∙◌, ap, subst, ℕ, zero, suc, ◌+◌, ◌-◌, ◌≤◌, ◌<◌, inl, inr, List, [], ◌∷◌, length, take, drop, Bool, true, false, ◌==◌, if◌then◌else◌, Result, Ok, Err, drop-cons, length-drop, add-one, add-suc, add-zero, arith}
+use Rattle.std.proofs.Common.{◌≡◌, refl, sym, ◌∙◌, ap, subst, ℕ, zero, suc, ◌+◌, ◌-◌, ◌≤◌, ◌<◌, inl, inr, List, [], ◌∷◌, length}
+use Rattle.std.proofs.Common.{take, drop, Bool, true, false, ◌==◌, if◌then◌else◌, Result, Ok, Err, drop-cons, length-drop, add-one}
+use Rattle.std.proofs.Common.{add-suc, add-zero, arith}
 use Rattle.std.specs.Char.{is_ascii_digit}
 use Rattle.std.specs.List.{prefix_len}
 use Rattle.std.proofs.lemmas.Bool.{cases_lt, eqb-false}
@@ -32,11 +34,13 @@ Leads-Leads b p q r i j k x y =
 pub Leads-to : (b : List ℕ) (p q : Pattern) (i j k : ℕ) → k ≡ j → Leads b p i q j → Leads b p i q k
 Leads-to b p q i j k e x = subst (λ n. Leads b p i q n) (sym e) x
 
-longest_prefix-cons : (p q : Pattern) (c : ℕ) (bs : List ℕ) → derivative c p ≡ q → is_possible q ≡ true → longest_prefix p (c ∷ bs) ≡ suc (longest_prefix q bs)
+longest_prefix-cons : (p q : Pattern) (c : ℕ) (bs : List ℕ) → derivative c p ≡ q → is_possible q ≡ true
+    → longest_prefix p (c ∷ bs) ≡ suc (longest_prefix q bs)
 longest_prefix-cons p q c bs e h = rw e (rw h refl)
 
 -- over a byte
-pub over : (b : List ℕ) (p q : Pattern) (i : ℕ) → i < length b → derivative (byte_at b i) p ≡ q → is_possible q ≡ true → Leads b p i q (suc i)
+pub over : (b : List ℕ) (p q : Pattern) (i : ℕ) → i < length b → derivative (byte_at b i) p ≡ q
+    → is_possible q ≡ true → Leads b p i q (suc i)
 over b p q i l e h =
     record {
       onward = omega arith;
@@ -53,7 +57,8 @@ over b p q i l e h =
           ∙ ap (λ r. matches r rest) e;
     }
 
-same_prefix : (p q : Pattern) (c : ℕ) (bs : List ℕ) → derivative c p ≡ derivative c q → (0 < length bs → byte_at bs 0 ≡ c) → longest_prefix p bs ≡ longest_prefix q bs
+same_prefix : (p q : Pattern) (c : ℕ) (bs : List ℕ) → derivative c p ≡ derivative c q → (0 < length bs → byte_at bs 0 ≡ c)
+    → longest_prefix p bs ≡ longest_prefix q bs
 same_prefix p q c [] e at = refl
 same_prefix p q c (x ∷ bs) e at = rw (at (omega arith), e) refl
 
@@ -63,7 +68,8 @@ same_member p q c [] t e at = t
 same_member p q c (x ∷ bs) t e at = rw (at (omega arith), e) refl
 
 -- at a byte that both patterns take alike
-pub stay : (b : List ℕ) (p q : Pattern) (i : ℕ) → i ≤ length b → takes_empty p ≡ takes_empty q → derivative (byte_at b i) p ≡ derivative (byte_at b i) q → Leads b p i q i
+pub stay : (b : List ℕ) (p q : Pattern) (i : ℕ) → i ≤ length b → takes_empty p ≡ takes_empty q
+    → derivative (byte_at b i) p ≡ derivative (byte_at b i) q → Leads b p i q i
 stay b p q i l t e =
     let here : (bs : List ℕ) → byte_at (drop i bs) 0 ≡ byte_at bs i = λ bs. simp add-zero at (get_or-drop i bs 0 32) in
     record {
@@ -75,7 +81,8 @@ stay b p q i l t e =
     }
 
 -- over the byte c
-pub over_byte : (b : List ℕ) (p q : Pattern) (i c : ℕ) → byte_at b i ≡ c → (c == 32) ≡ false → derivative c p ≡ q → is_possible q ≡ true → Leads b p i q (i + 1)
+pub over_byte : (b : List ℕ) (p q : Pattern) (i c : ℕ) → byte_at b i ≡ c → (c == 32) ≡ false → derivative c p ≡ q
+    → is_possible q ≡ true → Leads b p i q (i + 1)
 over_byte b p q i c e s a h =
     elim (cases_lt i (length b)) [
       | inl l ↦ rw add-one (over b p q i l (ap (λ d. derivative d p) e ∙ a) h)
@@ -131,7 +138,8 @@ module _ (b : List ℕ) (i end : ℕ) (here : i ≤ length b) (run : end ≡ i +
   run-ends : is_ascii_digit (byte_at b end) ≡ false
   run-ends =
       elim (cases_lt end (length b)) [
-        | inl l ↦ ap (λ j. is_ascii_digit (byte_at b j)) run ∙ ap is_ascii_digit (sym (get_or-drop i b (prefix_len is_ascii_digit (drop i b)) 32))
+        | inl l ↦ ap (λ j. is_ascii_digit (byte_at b j)) run
+            ∙ ap is_ascii_digit (sym (get_or-drop i b (prefix_len is_ascii_digit (drop i b)) 32))
             ∙ prefix_len_stops is_ascii_digit (drop i b) 32 (omega (arith, length-drop i b))
         | inr l ↦ ap is_ascii_digit (get_or_past b end 32 l)
       ]
@@ -160,7 +168,8 @@ over_digits b p more q i end here run some first takes =
     λ k low high. takes.each (byte_at b k) (run-digit b i end here run k (omega arith) (omega arith)) in
     Leads-Leads b p more q i (suc i) end (over b p more i (omega arith) first takes.possible)
     (Leads-Leads b more more q (suc i) end end
-    (Leads-to b more more (suc i) (suc i + (end - suc i)) end (sym whole) (passes b more (suc i) (end - suc i) (omega arith) each takes.possible))
+    (Leads-to b more more (suc i) (suc i + (end - suc i)) end (sym whole)
+    (passes b more (suc i) (end - suc i) (omega arith) each takes.possible))
     (stay b more q end inside takes.ends (takes.after (byte_at b end) (run-ends b i end here run))))
 
 -- where a digit must stand and none does

@@ -1,5 +1,7 @@
 -- The number at an index, from how its literal was read: where it breaks off, where something else follows, and a decimal.
-use Rattle.std.proofs.Common.{◌≡◌, ◌≢◌, refl, sym, ◌∙◌, ap, ℕ, ◌+◌, ◌≤◌, ◌<◌, inl, inr, List, [], ◌∷◌, ◌++◌, length, take, drop, Bool, true, false, ◌&&◌, ◌==◌, nat_lt, IsTrue, if◌then◌else◌, Option, Some, None, Result, Ok, Err, length-drop, arith}
+use Rattle.std.proofs.Common.{◌≡◌, ◌≢◌, refl, sym, ◌∙◌, ap, ℕ, ◌+◌, ◌≤◌, ◌<◌, inl, inr, List, [], ◌∷◌, ◌++◌, length, take, drop}
+use Rattle.std.proofs.Common.{Bool, true, false, ◌&&◌, ◌==◌, nat_lt, IsTrue, if◌then◌else◌, Option, Some, None, Result, Ok, Err}
+use Rattle.std.proofs.Common.{length-drop, arith}
 use mir.Val.{bool_byte}
 use Rattle.std.specs.Char.{is_ascii_digit}
 use Rattle.std.specs.List.{prefix_len}
@@ -73,7 +75,8 @@ module _ (b : List ℕ) (i : ℕ) (l : List ℕ) (e : drop i b ≡ l) where
     read-literal : Matches number_literal (take k l)
     read-literal =
         matches-Matches number_literal (take k l)
-        (ap (λ m. matches number_literal (take m l)) (sym read-end) ∙ (reported-Ok (matches number_literal (take (longest_prefix number_literal l) l)) _ _ r).0)
+        (ap (λ m. matches number_literal (take m l)) (sym read-end)
+        ∙ (reported-Ok (matches number_literal (take (longest_prefix number_literal l) l)) _ _ r).0)
 
     pub read-inside : k ≤ length l
     read-inside = omega (arith, read-end, longest_prefix-le number_literal l)
@@ -90,7 +93,8 @@ module _ (b : List ℕ) (i : ℕ) (l : List ℕ) (e : drop i b ≡ l) where
       decimal-literal =
           let more : whole < k = omega (arith, read-end, w.number.prefix) in
           let after : 0 < length (drop whole (take k l)) = omega (arith, length-drop whole (take k l), length-take-le k l read-inside) in
-          let no : matches integer_literal (take k l) ≡ false = w.integer.member k (omega arith) ∙ matches-empty (drop whole (take k l)) after in
+          let no : matches integer_literal (take k l) ≡ false =
+          w.integer.member k (omega arith) ∙ matches-empty (drop whole (take k l)) after in
           elim (number-integer_or_decimal (take k l) read-literal) [
             | inl m ↦ absurd (both_ways (matches integer_literal (take k l)) no (Matches-matches integer_literal (take k l) m))
             | inr m ↦ m
@@ -105,7 +109,8 @@ module _ (b : List ℕ) (i : ℕ) (l : List ℕ) (e : drop i b ≡ l) where
 pub integer-literal : (l : List ℕ) (whole : ℕ) → IsWhole l whole → Matches integer_literal (take whole l)
 integer-literal l whole w =
     matches-Matches integer_literal (take whole l)
-    (w.integer.member whole (omega arith) ∙ ap (matches empty) (drop_all whole (take whole l) (omega (arith, length-take-le whole l w.integer.inside))))
+    (w.integer.member whole (omega arith)
+    ∙ ap (matches empty) (drop_all whole (take whole l) (omega (arith, length-take-le whole l w.integer.inside))))
 
 -- ---- the end of an integer
 
@@ -144,7 +149,8 @@ module _ (b : List ℕ) (i : ℕ) (literal : List ℕ) (end : ℕ) (minus : Bool
   at-tests true false whole e = cc
   at-tests false ends whole e = cc
 
-  integer-between : number_between b i literal end ≡ Ok (integer minus n, k) → (matches number_literal literal ≡ true) × (matches integer_literal literal ≡ true) × (k ≡ end)
+  integer-between : number_between b i literal end ≡ Ok (integer minus n, k)
+      → (matches number_literal literal ≡ true) × (matches integer_literal literal ≡ true) × (k ≡ end)
   integer-between e = at-tests (matches number_literal literal) (is_terminator (byte_at b end)) (matches integer_literal literal) e
 
 matches-never-false : (bs : List ℕ) → matches never bs ≡ false
@@ -170,7 +176,8 @@ integer-end b i l e start whole sign run minus n k r =
     let size : length (take far l) ≡ far = length-take-le far l within in
     let some : whole ≢ start = λ none.
     let x : Leads l number_literal 0 never whole = int-none l start whole sign run none in
-    both_ways (matches number_literal (take far l)) (x.member far (omega (arith, x.prefix)) ∙ matches-never-false (drop whole (take far l))) read.0 in
+    both_ways (matches number_literal (take far l))
+    (x.member far (omega (arith, x.prefix)) ∙ matches-never-false (drop whole (take far l))) read.0 in
     let w : IsWhole l whole = int-whole l start whole sign run some in
     let near : whole ≤ far = omega (arith, w.number.prefix) in
     let rest : List ℕ = drop whole (take far l) in

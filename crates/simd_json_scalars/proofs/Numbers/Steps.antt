@@ -1,13 +1,16 @@
 -- What stands after each part of a number's literal: the derivatives of its pattern, byte by byte.
-use Rattle.std.proofs.Common.{◌≡◌, ◌≢◌, refl, sym, ◌∙◌, ap, subst, ℕ, ◌+◌, ◌≤◌, ◌<◌, ◌⊎◌, inl, inr, List, length, drop, true, false, ◌&&◌, ◌==◌, nat_le, if◌then◌else◌, Result, Ok, Err, arith}
+use Rattle.std.proofs.Common.{◌≡◌, ◌≢◌, refl, sym, ◌∙◌, ap, subst, ℕ, ◌+◌, ◌≤◌, ◌<◌, ◌⊎◌, inl, inr, List, length, drop, true, false}
+use Rattle.std.proofs.Common.{◌&&◌, ◌==◌, nat_le, if◌then◌else◌, Result, Ok, Err, arith}
 use Rattle.std.specs.Char.{is_ascii_digit}
 use Rattle.std.specs.List.{prefix_len}
-use Rattle.std.proofs.lemmas.Bool.{cases_Bool, cond-true, cond-false, both_ways, and_parts, and_from, le-leb, leb-true, eqb-true, eqb-false, false_from_ne_true}
+use Rattle.std.proofs.lemmas.Bool.{cases_Bool, cond-true, cond-false, both_ways, and_parts, and_from, le-leb, leb-true, eqb-true}
+use Rattle.std.proofs.lemmas.Bool.{eqb-false, false_from_ne_true}
 use Rattle.simd_json_parts.specs.Bytes.{byte_at, is_terminator}
 use Rattle.simd_json_parts.specs.Patterns.{Pattern, never, empty, ◌then◌, ◌or◌, many, optional, at_least_one}
 use Rattle.simd_json_parts.specs.Numbers.{number_literal, integer_literal, int, frac, exp, digit, minus, plus}
 use Rattle.simd_json_parts.specs.Derivatives.{derivative}
-use Rattle.simd_json_scalars.proofs.Numbers.Prefixes.{Leads, Leads-Leads, Leads-to, stay, over_byte, Reads, Leads-Reads, Reads-whole, Reads-part, run-digit, TakesDigits, over_digits, no_digits}
+use Rattle.simd_json_scalars.proofs.Numbers.Prefixes.{Leads, Leads-Leads, Leads-to, stay, over_byte, Reads, Leads-Reads}
+use Rattle.simd_json_scalars.proofs.Numbers.Prefixes.{Reads-whole, Reads-part, run-digit, TakesDigits, over_digits, no_digits}
 
 -- ---- what the tests of a pattern give at a byte
 
@@ -74,11 +77,15 @@ over_mark : (b : List ℕ) (i : ℕ) → (byte_at b i ≡ 69) ⊎ (byte_at b i �
 over_mark b i (inl e) = over_byte b (optional exp) after_mark i 69 e refl refl refl
 over_mark b i (inr e) = over_byte b (optional exp) after_mark i 101 e refl refl refl
 
-over_sign : (b : List ℕ) (i j : ℕ) → i ≤ length b → ((byte_at b i ≡ 43) ⊎ (byte_at b i ≡ 45)) × (j ≡ i + 1) ⊎ (byte_at b i ≢ 43) × (byte_at b i ≢ 45) × (j ≡ i)
+over_sign : (b : List ℕ) (i j : ℕ) → i ≤ length b
+    → ((byte_at b i ≡ 43) ⊎ (byte_at b i ≡ 45)) × (j ≡ i + 1) ⊎ (byte_at b i ≢ 43) × (byte_at b i ≢ 45) × (j ≡ i)
     → Leads b after_mark i exp_digits j
-over_sign b i j l (inl (inl e, at)) = Leads-to b after_mark exp_digits i (i + 1) j at (over_byte b after_mark exp_digits i 43 e refl refl refl)
-over_sign b i j l (inl (inr e, at)) = Leads-to b after_mark exp_digits i (i + 1) j at (over_byte b after_mark exp_digits i 45 e refl refl refl)
-over_sign b i j l (inr (p, m, at)) = Leads-to b after_mark exp_digits i i j at (stay b after_mark exp_digits i l refl (no_sign (byte_at b i) m p))
+over_sign b i j l (inl (inl e, at)) =
+    Leads-to b after_mark exp_digits i (i + 1) j at (over_byte b after_mark exp_digits i 43 e refl refl refl)
+over_sign b i j l (inl (inr e, at)) =
+    Leads-to b after_mark exp_digits i (i + 1) j at (over_byte b after_mark exp_digits i 45 e refl refl refl)
+over_sign b i j l (inr (p, m, at)) =
+    Leads-to b after_mark exp_digits i i j at (stay b after_mark exp_digits i l refl (no_sign (byte_at b i) m p))
 
 IsMarked-Leads : (b : List ℕ) (i j : ℕ) → IsMarked b i j → Leads b (optional exp) i exp_digits j
 IsMarked-Leads b i j m =
@@ -98,13 +105,16 @@ pub exponent-part : (b : List ℕ) (i j end : ℕ) → IsMarked b i j → end �
     → end ≡ j → Reads (optional exp) b i (Err end)
 exponent-part b i j end m run none =
     let x : Leads b (optional exp) i exp_digits j = IsMarked-Leads b i j m in
-    Leads-Reads b (optional exp) exp_digits i j (Err end) x (Reads-part b exp_digits j end (no_digits b exp_digits j end x.inside run none refl no_exp_digit))
+    Leads-Reads b (optional exp) exp_digits i j (Err end) x
+    (Reads-part b exp_digits j end (no_digits b exp_digits j end x.inside run none refl no_exp_digit))
 
 -- Nothing of it stands before a terminator.
 pub no-exponent : (b : List ℕ) (i : ℕ) → i ≤ length b → is_terminator (byte_at b i) ≡ true → Reads (optional exp) b i (Ok i)
 no-exponent b i inside t =
-    let other : (d : ℕ) → is_terminator d ≡ false → byte_at b i ≢ d = λ d f e. both_ways (is_terminator d) f (ap is_terminator (sym e) ∙ t) in
-    Reads-whole b (optional exp) i i (stay b (optional exp) empty i inside refl (rw (no_byte 101 _ (other 101 refl), no_byte 69 _ (other 69 refl)) refl))
+    let other : (d : ℕ) → is_terminator d ≡ false → byte_at b i ≢ d =
+    λ d f e. both_ways (is_terminator d) f (ap is_terminator (sym e) ∙ t) in
+    Reads-whole b (optional exp) i i
+    (stay b (optional exp) empty i inside refl (rw (no_byte 101 _ (other 101 refl), no_byte 69 _ (other 69 refl)) refl))
 
 -- ---- the fraction
 
@@ -139,8 +149,10 @@ fraction-part b i end e run none =
     (Reads-part b after_point (i + 1) end (no_digits b after_point (i + 1) end x.inside run none refl no_fraction_digit))
 
 -- at another byte than the point
-pub no-fraction : (b : List ℕ) (i : ℕ) (result : Result ℕ ℕ) → i ≤ length b → byte_at b i ≢ 46 → Reads (optional exp) b i result → Reads after_int b i result
-no-fraction b i result inside n r = Leads-Reads b after_int (optional exp) i i result (stay b after_int (optional exp) i inside refl (rw (no_byte 46 _ n) refl)) r
+pub no-fraction : (b : List ℕ) (i : ℕ) (result : Result ℕ ℕ) → i ≤ length b → byte_at b i ≢ 46 → Reads (optional exp) b i result
+    → Reads after_int b i result
+no-fraction b i result inside n r =
+    Leads-Reads b after_int (optional exp) i i result (stay b after_int (optional exp) i inside refl (rw (no_byte 46 _ n) refl)) r
 
 pub fraction-exponent : (b : List ℕ) (i end : ℕ) (result : Result ℕ ℕ) → byte_at b i ≡ 46
     → end ≡ i + 1 + prefix_len is_ascii_digit (drop (i + 1) b) → i + 1 < end
@@ -182,11 +194,13 @@ SignEnd b j = (byte_at b 0 ≡ 45) × (j ≡ 1) ⊎ (byte_at b 0 ≢ 45) × (j �
 
 sign-number : (b : List ℕ) (j : ℕ) → SignEnd b j → Leads b number_literal 0 after_sign j
 sign-number b j (inl (e, at)) = Leads-to b number_literal after_sign 0 1 j at (over_byte b number_literal after_sign 0 45 e refl refl refl)
-sign-number b j (inr (n, at)) = Leads-to b number_literal after_sign 0 0 j at (stay b number_literal after_sign 0 (omega arith) refl (rw (no_byte 45 (byte_at b 0) n) refl))
+sign-number b j (inr (n, at)) = Leads-to b number_literal after_sign 0 0 j at
+    (stay b number_literal after_sign 0 (omega arith) refl (rw (no_byte 45 (byte_at b 0) n) refl))
 
 sign-integer : (b : List ℕ) (j : ℕ) → SignEnd b j → Leads b integer_literal 0 int j
 sign-integer b j (inl (e, at)) = Leads-to b integer_literal int 0 1 j at (over_byte b integer_literal int 0 45 e refl refl refl)
-sign-integer b j (inr (n, at)) = Leads-to b integer_literal int 0 0 j at (stay b integer_literal int 0 (omega arith) refl (rw (no_byte 45 (byte_at b 0) n) refl))
+sign-integer b j (inr (n, at)) =
+    Leads-to b integer_literal int 0 0 j at (stay b integer_literal int 0 (omega arith) refl (rw (no_byte 45 (byte_at b 0) n) refl))
 
 -- an integer's literal, up to whole
 pub record IsWhole (b : List ℕ) (whole : ℕ) : Type 0 where
@@ -197,7 +211,8 @@ module _ (b : List ℕ) (j whole : ℕ) (sign : SignEnd b j) where
   over_zero : byte_at b j ≡ 48 → whole ≡ j + 1 → IsWhole b whole
   over_zero e w =
       subst (IsWhole b) (sym w) (record {
-        number = Leads-Leads b number_literal after_sign after_int 0 j (j + 1) (sign-number b j sign) (over_byte b after_sign after_int j 48 e refl refl refl);
+        number = Leads-Leads b number_literal after_sign after_int 0 j (j + 1) (sign-number b j sign)
+            (over_byte b after_sign after_int j 48 e refl refl refl);
         integer = Leads-Leads b integer_literal int empty 0 j (j + 1) (sign-integer b j sign) (over_byte b int empty j 48 e refl refl refl);
       })
 
@@ -232,5 +247,6 @@ module _ (b : List ℕ) (j whole : ℕ) (sign : SignEnd b j) where
           | inl t ↦ let zero : whole ≡ j + 1 = end ∙ cond-true _ _ _ t in absurd (omega arith)
           | inr f ↦
               let run : whole ≡ j + prefix_len is_ascii_digit (drop j b) = end ∙ cond-false _ _ _ f in
-              Leads-Leads b number_literal after_sign never 0 j whole number (no_digits b after_sign j whole number.inside run e refl no_int)
+              Leads-Leads b number_literal after_sign never 0 j whole number
+              (no_digits b after_sign j whole number.inside run e refl no_int)
         ]

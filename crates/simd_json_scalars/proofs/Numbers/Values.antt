@@ -1,5 +1,7 @@
 -- What the digits of an integer are worth, and what number stands where its literal was found.
-use Rattle.std.proofs.Common.{◌≡◌, refl, sym, ◌∙◌, ap, ap₂, subst, ℕ, zero, suc, ◌+◌, ◌-◌, ◌*◌, ◌^◌, ◌≤◌, ◌<◌, lit≤, lit<, inl, inr, List, [], ◌∷◌, ◌++◌, length, length-drop, zero-add, take, drop, get_or, map, Bool, true, false, cond, ◌==◌, nat_lt, IsTrue, find, Some, None, Ok, Err, add_assoc, arith}
+use Rattle.std.proofs.Common.{◌≡◌, refl, sym, ◌∙◌, ap, ap₂, subst, ℕ, zero, suc, ◌+◌, ◌-◌, ◌*◌, ◌^◌, ◌≤◌, ◌<◌, lit≤, lit<, inl, inr}
+use Rattle.std.proofs.Common.{List, [], ◌∷◌, ◌++◌, length, length-drop, zero-add, take, drop, get_or, map, Bool, true, false, cond}
+use Rattle.std.proofs.Common.{◌==◌, nat_lt, IsTrue, find, Some, None, Ok, Err, add_assoc, arith}
 use mir.Val.{bool_byte}
 use Rattle.std.specs.Char.{digit_value}
 use Rattle.std.specs.List.{concat, AllByRecursion}
@@ -25,7 +27,8 @@ use Rattle.simd_json_parts.specs.Faults.{fault_at}
 use Rattle.simd_json_parts.specs.declared.error.ErrorType.TheVariants.{InvalidNumber}
 use Rattle.simd_json_scalars.specs.declared.numberparse.Numeral.TheVariants.{Integer}
 use Rattle.simd_json_scalars.proofs.Patterns.Sets.{Matches-matches}
-use Rattle.simd_json_scalars.proofs.Numbers.Literals.{byte_at-front, integer-number, number_at-integer, number_at-literal, magnitude-take, first_excess-none}
+use Rattle.simd_json_scalars.proofs.Numbers.Literals.{byte_at-front, integer-number, number_at-integer, number_at-literal}
+use Rattle.simd_json_scalars.proofs.Numbers.Literals.{magnitude-take, first_excess-none}
 
 -- ---- digits
 
@@ -76,9 +79,11 @@ after_append : (n : ℕ) (xs ys : List ℕ) → digits_value_after 10 n (xs ++ y
 after_append n [] ys = refl
 after_append n (x ∷ xs) ys = after_append (n * 10 + digit_value x) xs ys
 
-pub digits_value-join : (n : ℕ) (ds : List ℕ) → digits_value 10 ds ≡ digits_value 10 (take n ds) * 10 ^ length (drop n ds) + digits_value 10 (drop n ds)
+pub digits_value-join : (n : ℕ) (ds : List ℕ)
+    → digits_value 10 ds ≡ digits_value 10 (take n ds) * 10 ^ length (drop n ds) + digits_value 10 (drop n ds)
 digits_value-join n ds =
-    ap (digits_value 10) (sym (take-append-drop n ds)) ∙ after_append 0 (take n ds) (drop n ds) ∙ value_after (digits_value 10 (take n ds)) (drop n ds)
+    ap (digits_value 10) (sym (take-append-drop n ds)) ∙ after_append 0 (take n ds) (drop n ds)
+    ∙ value_after (digits_value 10 (take n ds)) (drop n ds)
 
 -- ---- the digits of an integer's literal
 
@@ -87,7 +92,8 @@ digit_value-lt c low high = omega (arith, digit_value_digit c (low, high))
 
 many_digits : (parts : List (List ℕ)) → AllByRecursion (Matches digit) parts → AllDigits 10 (concat parts)
 many_digits [] all = tt
-many_digits (x ∷ parts) ((c, e, low, high), all) = subst (λ bs. AllDigits 10 (bs ++ concat parts)) (sym e) (digit_value-lt c low high, many_digits parts all)
+many_digits (x ∷ parts) ((c, e, low, high), all) =
+    subst (λ bs. AllDigits 10 (bs ++ concat parts)) (sym e) (digit_value-lt c low high, many_digits parts all)
 
 -- digits, of which the first is no sign
 pub record AreUnsigned (bs : List ℕ) : Type 0 where
@@ -99,7 +105,8 @@ int-digits bs (inl (c, e, low, high)) =
     subst AreUnsigned (sym e) (record { digits = (digit_value-lt c low (omega arith), tt); sign = ne_eqb c 45 (λ h. omega arith) })
 int-digits bs (inr (xs, ys, e, (c, f, low, high), (parts, g, all))) =
     let whole : bs ≡ c ∷ concat parts = simp (e, f, g) in
-    subst AreUnsigned (sym whole) (record { digits = (digit_value-lt c (omega arith) high, many_digits parts all); sign = ne_eqb c 45 (λ h. omega arith) })
+    subst AreUnsigned (sym whole)
+    (record { digits = (digit_value-lt c (omega arith) high, many_digits parts all); sign = ne_eqb c 45 (λ h. omega arith) })
 
 -- where the digits begin
 abbrev pub start : List ℕ → ℕ
@@ -136,10 +143,12 @@ magnitude-is xs =
     ∙ sym (ap (digits_value 10) (after_start-is xs) ∙ digits_value_is 10 (drop (start xs) xs))
 
 -- Nineteen bytes fit 64 bits: with a sign, eighteen digits.
-pub short-in_range : (xs : List ℕ) → Matches integer_literal xs → length xs ≤ 19 → digits_value 10 (after_start xs) ≤ max_magnitude_64 (has_minus xs)
+pub short-in_range : (xs : List ℕ) → Matches integer_literal xs → length xs ≤ 19
+    → digits_value 10 (after_start xs) ≤ max_magnitude_64 (has_minus xs)
 short-in_range xs m short =
     let size : length (after_start xs) ≡ length xs - start xs = ap length (after_start-is xs) ∙ length-drop (start xs) xs in
-    let below : digits_value 10 (after_start xs) < 10 ^ length (after_start xs) = digits_value-lt 10 (after_start xs) (integer-AllDigits xs m) in
+    let below : digits_value 10 (after_start xs) < 10 ^ length (after_start xs) =
+    digits_value-lt 10 (after_start xs) (integer-AllDigits xs m) in
     at-sign (has_minus xs) refl size below
   where
     at-sign : (minus : Bool) → has_minus xs ≡ minus → length (after_start xs) ≡ length xs - start xs
@@ -156,7 +165,8 @@ short-in_range xs m short =
         let fits : 10 ^ 19 < 2 ^ 64 = lit< tt in
         omega arith
 
-magnitude-prefix : (xs : List ℕ) (n : ℕ) → 0 < start xs + n → magnitude (take (start xs + n) xs) ≡ digits_value 10 (take n (drop (start xs) xs))
+magnitude-prefix : (xs : List ℕ) (n : ℕ) → 0 < start xs + n
+    → magnitude (take (start xs + n) xs) ≡ digits_value 10 (take n (drop (start xs) xs))
 magnitude-prefix xs n some =
     let prefix : List ℕ = take (start xs + n) xs in
     let sign : has_minus prefix ≡ has_minus xs = ap (λ c. c == 45) (get_or-take (start xs + n) xs 0 32 some) in
@@ -168,7 +178,8 @@ magnitude-prefix xs n some =
 
 -- the digit with which the value does so
 abbrev pub IsFirstExcess : List ℕ → ℕ → Type 0
-IsFirstExcess ds at = (at < length ds) × (digits_value 10 (take at ds) ≤ max_magnitude false) × (max_magnitude false < digits_value 10 (take (at + 1) ds))
+IsFirstExcess ds at = (at < length ds) × (digits_value 10 (take at ds) ≤ max_magnitude false)
+    × (max_magnitude false < digits_value 10 (take (at + 1) ds))
 
 first_excess-some : (xs : List ℕ) (at : ℕ) → IsFirstExcess (drop (start xs) xs) at → first_excess xs ≡ Some (start xs + at)
 first_excess-some xs at (inside, before, excess) =
@@ -177,7 +188,12 @@ first_excess-some xs at (inside, before, excess) =
     let within : k < length xs = omega (arith, length-drop (start xs) xs) in
     let index : (n : ℕ) → n < length xs → get_or (indices xs) n 0 ≡ n = λ n l. get_or-range_with_len 0 (length xs) n 0 l ∙ zero-add n in
     let fits : (n : ℕ) → n < k → magnitude (take (n + 1) xs) ≤ max_magnitude false =
-    λ n l. omega (arith, magnitude-prefix xs at (omega arith), magnitude-take (n + 1) (take k xs), ap magnitude (take-take (n + 1) k xs (omega arith))) in
+    λ n l. omega (
+      arith,
+      magnitude-prefix xs at (omega arith),
+      magnitude-take (n + 1) (take k xs),
+      ap magnitude (take-take (n + 1) k xs (omega arith)),
+    ) in
     found_at (find too_great) too_great Some None refl (λ _ _. refl) (indices xs) k 0
     (omega (arith, length-range_with_len 0 (length xs)))
     (λ n l. ap too_great (index n (omega arith)) ∙ le-ltb _ _ (fits n l))
@@ -204,9 +220,11 @@ module _ (b : List ℕ) (i : ℕ) (xs rest : List ℕ) (e : drop i b ≡ xs ++ r
       → number_at b i ≡ Ok (integer (has_minus xs) value, i + length xs)
   number_at-value value v fits =
       let same : value ≡ magnitude xs = v ∙ sym (magnitude-is xs) in
-      number_at-integer b i xs rest e t m (subst (λ k. k ≤ max_magnitude (has_minus xs)) same fits) ∙ ap (λ n. Ok (integer (has_minus xs) n, i + length xs)) (sym same)
+      number_at-integer b i xs rest e t m (subst (λ k. k ≤ max_magnitude (has_minus xs)) same fits)
+      ∙ ap (λ n. Ok (integer (has_minus xs) n, i + length xs)) (sym same)
 
-  pub number_at-numeral : (value : ℕ) → value ≡ digits_value 10 (after_start xs) → value ≤ max_magnitude_64 (has_minus xs) → IsNumeralAt b i (Integer value)
+  pub number_at-numeral : (value : ℕ) → value ≡ digits_value 10 (after_start xs) → value ≤ max_magnitude_64 (has_minus xs)
+      → IsNumeralAt b i (Integer value)
   number_at-numeral value v fits =
       let most : max_magnitude_64 (has_minus xs) ≤ max_magnitude (has_minus xs) = max_magnitude_64-le (has_minus xs) in (
         i + length xs,
@@ -214,7 +232,8 @@ module _ (b : List ℕ) (i : ℕ) (xs rest : List ℕ) (e : drop i b ≡ xs ++ r
         subst (λ minus. value ≤ max_magnitude_64 minus) (sym sign-at) fits,
       )
 
-  pub number_at-below : (value : ℕ) → value ≡ digits_value 10 (after_start xs) → value ≤ max_magnitude false → max_magnitude (has_minus xs) < value
+  pub number_at-below : (value : ℕ) → value ≡ digits_value 10 (after_start xs) → value ≤ max_magnitude false
+      → max_magnitude (has_minus xs) < value
       → number_at b i ≡ Err (fault_at b InvalidNumber (i + length xs))
   number_at-below value v fits below =
       let same : value ≡ magnitude xs = v ∙ sym (magnitude-is xs) in
@@ -224,4 +243,5 @@ module _ (b : List ℕ) (i : ℕ) (xs rest : List ℕ) (e : drop i b ≡ xs ++ r
 
   pub number_at-excess : (at : ℕ) → IsFirstExcess (after_start xs) at → number_at b i ≡ Err (fault_at b InvalidNumber (i + (start xs + at)))
   number_at-excess at x =
-      number_at-range ∙ ap (integer_or b i xs (i + length xs)) (first_excess-some xs at (subst (λ ds. IsFirstExcess ds at) (after_start-is xs) x))
+      number_at-range ∙ ap (integer_or b i xs (i + length xs))
+      (first_excess-some xs at (subst (λ ds. IsFirstExcess ds at) (after_start-is xs) x))

@@ -1,9 +1,11 @@
 -- Which bytes the lists of a pattern have, and so where a longest prefix ends.
-use Rattle.std.proofs.Common.{◌≡◌, refl, sym, ◌∙◌, ap, subst, ℕ, suc, ◌<◌, ◌≤◌, inl, inr, List, [], ◌∷◌, ◌++◌, length, take, Bool, true, false, cond, ◌&&◌, ◌||◌, nat_le, arith}
+use Rattle.std.proofs.Common.{◌≡◌, refl, sym, ◌∙◌, ap, subst, ℕ, suc, ◌<◌, ◌≤◌, inl, inr, List, [], ◌∷◌, ◌++◌, length, take, Bool}
+use Rattle.std.proofs.Common.{true, false, cond, ◌&&◌, ◌||◌, nat_le, arith}
 use Rattle.std.specs.List.{concat, All, AllByRecursion, Contains}
 use Rattle.std.proofs.lemmas.Bool.{cases_lt, both_ways, agree_below, agree_below_at, and_parts, or_cases, le-leb, cond-true}
 use Rattle.std.proofs.lemmas.List.{append-nil, length-append, length-take-le, get_or-take, get_or_append_left}
-use Rattle.std.proofs.lemmas.List.Elements.{All-nil, All-cons, All-append, All-same, All-contains, Contains-append_left, Contains-append_right}
+use Rattle.std.proofs.lemmas.List.Elements.{All-nil, All-cons, All-append, All-same, All-contains, Contains-append_left}
+use Rattle.std.proofs.lemmas.List.Elements.{Contains-append_right}
 use Rattle.std.proofs.Math.Seq.{take-append_seam}
 use Rattle.simd_json_parts.specs.Bytes.{byte_at}
 use Rattle.simd_json_parts.specs.Patterns.{Pattern, never, empty, range, ◌then◌, ◌or◌, many, Matches, Begins}
@@ -69,7 +71,8 @@ module _ (test : ℕ → Bool) where
   Passing-Matches : (p : Pattern) (bs : List ℕ) → needs p ≡ true → Matches p bs → Passing bs
   Passing-Matches never bs n m = absurd m
   Passing-Matches empty bs n m = cc
-  Passing-Matches (range low high) bs n (c, e, below, above) = subst Passing (sym e) (c, (0, omega arith, refl), gives-at true low high c n below above)
+  Passing-Matches (range low high) bs n (c, e, below, above) =
+      subst Passing (sym e) (c, (0, omega arith, refl), gives-at true low high c n below above)
   Passing-Matches (p then q) bs n (xs, ys, e, mp, mq) =
       elim (or_cases _ _ n) [
         | inl h ↦ let w : Passing xs = Passing-Matches p xs h mp in subst Passing (sym e) (w.0, Contains-append_left xs ys w.0 w.1, w.2)
@@ -92,7 +95,8 @@ module _ (test : ℕ → Bool) where
       let bs : List ℕ = xs ++ rest in
       let n : ℕ = longest_prefix p bs in
       let whole : take (length xs) bs ++ [] ≡ xs = append-nil (take (length xs) bs) ∙ take-append_seam xs rest in
-      let least : length xs ≤ n = longest_prefix-longest p bs (length xs) (omega (arith, length-append xs rest)) ([], subst (Matches p) (sym whole) m) in
+      let least : length xs ≤ n =
+      longest_prefix-longest p bs (length xs) (omega (arith, length-append xs rest)) ([], subst (Matches p) (sym whole) m) in
       let most : n ≤ length bs = longest_prefix-le p bs in
       elim (cases_lt (length xs) n) [
         | inl l ↦

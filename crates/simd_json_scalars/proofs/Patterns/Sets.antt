@@ -1,5 +1,6 @@
 -- The tests on patterns agree with the sets that the patterns are, and the longest prefix is longest.
-use Rattle.std.proofs.Common.{◌≡◌, refl, sym, ◌∙◌, ap, subst, ℕ, zero, suc, ◌≤◌, ◌⊎◌, inl, inr, List, [], ◌∷◌, ◌++◌, length, take, Bool, true, false, cond, ◌&&◌, nat_le, arith}
+use Rattle.std.proofs.Common.{◌≡◌, refl, sym, ◌∙◌, ap, subst, ℕ, zero, suc, ◌≤◌, ◌⊎◌, inl, inr, List, [], ◌∷◌, ◌++◌, length, take}
+use Rattle.std.proofs.Common.{Bool, true, false, cond, ◌&&◌, nat_le, arith}
 use Rattle.std.specs.List.{concat, AllByRecursion}
 use Rattle.std.proofs.lemmas.Bool.{and_parts, and_from, or_cases, or_left, or_right, le-leb, leb-true, cond-true, cond_both}
 use Rattle.simd_json_parts.specs.Patterns.{Pattern, never, empty, range, ◌then◌, ◌or◌, many, Matches, Begins}
@@ -48,7 +49,8 @@ Matches-takes_empty : (p : Pattern) → Matches p [] → takes_empty p ≡ true
 Matches-takes_empty never m = absurd m
 Matches-takes_empty empty m = refl
 Matches-takes_empty (range low high) (c, e, below, above) = cc
-Matches-takes_empty (p then q) ([], ys, e, mp, mq) = and_from _ _ (Matches-takes_empty p mp) (Matches-takes_empty q (subst (Matches q) (sym e) mq))
+Matches-takes_empty (p then q) ([], ys, e, mp, mq) =
+    and_from _ _ (Matches-takes_empty p mp) (Matches-takes_empty q (subst (Matches q) (sym e) mq))
 Matches-takes_empty (p then q) (x ∷ xs, ys, e, mp, mq) = cc
 Matches-takes_empty (p or q) (inl m) = or_left _ _ (Matches-takes_empty p m)
 Matches-takes_empty (p or q) (inr m) = or_right _ _ (Matches-takes_empty q m)
@@ -82,7 +84,8 @@ Matches-after c (range low high) bs (d, e, below, above) =
     let same : c ≡ d = cc in
     Matches-cond _ empty bs (and_from _ _ (le-leb low c (omega arith)) (le-leb c high (omega arith))) cc
 Matches-after c (p then q) bs ([], ys, e, mp, mq) =
-    or-either _ _ bs (inr (Matches-cond _ (derivative c q) bs (Matches-takes_empty p mp) (Matches-after c q bs (subst (Matches q) (sym e) mq))))
+    or-either _ _ bs
+    (inr (Matches-cond _ (derivative c q) bs (Matches-takes_empty p mp) (Matches-after c q bs (subst (Matches q) (sym e) mq))))
 Matches-after c (p then q) bs (x ∷ xs, ys, e, mp, mq) =
     let same : x ≡ c = cc in
     or-either _ _ bs (inl (then-follow _ q bs (xs, ys, cc, Matches-after c p xs (subst (λ n. Matches p (n ∷ xs)) same mp), mq)))
@@ -177,7 +180,8 @@ pub longest_prefix-le : (p : Pattern) (bs : List ℕ) → longest_prefix p bs �
 longest_prefix-le p [] = omega arith
 longest_prefix-le p (c ∷ bs) =
     let more : longest_prefix (derivative c p) bs ≤ length bs = longest_prefix-le (derivative c p) bs in
-    cond_both (is_possible (derivative c p)) (suc (longest_prefix (derivative c p) bs)) 0 (λ k. k ≤ length (c ∷ bs)) (λ _. omega arith) (λ _. omega arith)
+    cond_both (is_possible (derivative c p)) (suc (longest_prefix (derivative c p) bs)) 0 (λ k. k ≤ length (c ∷ bs))
+    (λ _. omega arith) (λ _. omega arith)
 
 -- No list is in the empty set.
 pub matches-never : (bs : List ℕ) → matches never bs ≡ false

@@ -1,6 +1,7 @@
 -- What stands at positions and between them: at a position a token that is read, unless reading has stopped before; after a
 -- token's end only whitespace, up to the next position.
-use Rattle.std.proofs.Common.{◌≡◌, refl, sym, ◌∙◌, ap, subst, ℕ, zero, suc, ◌+◌, ◌-◌, ◌<◌, ◌≤◌, ◌⊎◌, inl, inr, List, [], ◌∷◌, length, drop, get_or, Bool, true, false, cond, ◌==◌, IsTrue, IsFalse, Contains, arith}
+use Rattle.std.proofs.Common.{◌≡◌, refl, sym, ◌∙◌, ap, subst, ℕ, zero, suc, ◌+◌, ◌-◌, ◌<◌, ◌≤◌, ◌⊎◌, inl, inr, List, [], ◌∷◌}
+use Rattle.std.proofs.Common.{length, drop, get_or, Bool, true, false, cond, ◌==◌, IsTrue, IsFalse, Contains, arith}
 use Rattle.std.specs.Prelude.{Some, None, Ok, Err}
 use Rattle.std.specs.List.{All}
 use Rattle.std.specs.List.Sorted.{IsStrictlyIncreasing}
@@ -10,12 +11,14 @@ use Rattle.std.proofs.lemmas.List.Elements.{All-cons, All-contains}
 use Rattle.simd_json_parts.specs.Bytes.{quote, is_whitespace, byte_at}
 use Rattle.simd_json_parts.specs.Positions.{real_quotes, is_position, positions}
 use Rattle.simd_json_parts.specs.StringAt.{closing_quote}
-use Rattle.simd_json_parts.specs.Tokens.{Form, string_token, scalar, stray, Token, form_at, form_end, token_end, after_token, tokens_from, tokens}
+use Rattle.simd_json_parts.specs.Tokens.{Form, string_token, scalar, stray, Token, form_at, form_end, token_end, after_token}
+use Rattle.simd_json_parts.specs.Tokens.{tokens_from, tokens}
 use Rattle.simd_json_scalars.specs.TokensAlong.{goes_on, tokens_along}
 use Rattle.simd_json_scalars.proofs.Positions.Scan.{NoneBetween}
 use Rattle.simd_json_scalars.proofs.Positions.Boundaries.{Boundary, EndsBefore, is_position-token, boundary-space, ends-string}
 use Rattle.simd_json_scalars.proofs.Positions.Order.{IsStrictlyIncreasing-positions, Contains-positions}
-use Rattle.simd_json_scalars.proofs.Positions.TokensAtPositions.{tokens_at, tokens_at-end, tokens_at-space, tokens_at-token, tokens_from-skip, IsEnded, IsEnded-form, tokens-positions}
+use Rattle.simd_json_scalars.proofs.Positions.TokensAtPositions.{tokens_at, tokens_at-end, tokens_at-space, tokens_at-token}
+use Rattle.simd_json_scalars.proofs.Positions.TokensAtPositions.{tokens_from-skip, IsEnded, IsEnded-form, tokens-positions}
 
 -- ---- where a token is read
 
@@ -52,24 +55,32 @@ module _ (b : List ℕ) where
   all-stand (suc n) k l at =
       elim (cases_lt k (length b)) [
         | inl h ↦ elim (cases_Bool (is_whitespace (byte_at b k))) [
-          | inl space ↦ subst AllStand (sym (tokens_at-space b k h space)) (all-stand n (suc k) (omega arith) (λ _. boundary-space b k (at h) space))
+          | inl space ↦ subst AllStand (sym (tokens_at-space b k h space))
+              (all-stand n (suc k) (omega arith) (λ _. boundary-space b k (at h) space))
           | inr token ↦
-              let later = all-after k (form_at b k) (IsEnded-form b k (at h)) (λ end ends. all-stand n end (omega (arith, ends.after)) ends.boundary) in
-              let here : Standing b (record { index = k; form = form_at b k }) = record { within = h; at = at h; token = token; is = refl } in
-              subst AllStand (sym (tokens_at-token b k h token)) (All-cons (Standing b) (record { index = k; form = form_at b k }) (after_token k (form_at b k) (λ n. tokens_from b (suc k) n (drop (suc k) b))) here later)
+              let later = all-after k (form_at b k) (IsEnded-form b k (at h))
+              (λ end ends. all-stand n end (omega (arith, ends.after)) ends.boundary) in
+              let here : Standing b (record { index = k; form = form_at b k }) =
+              record { within = h; at = at h; token = token; is = refl } in
+              subst AllStand (sym (tokens_at-token b k h token)) (All-cons (Standing b) (record { index = k; form = form_at b k })
+              (after_token k (form_at b k) (λ n. tokens_from b (suc k) n (drop (suc k) b))) here later)
         ]
         | inr h ↦ subst AllStand (sym (tokens_at-end b k h)) none-stand
       ]
 
   token-stands : (t : Token) → Contains (tokens b) t → Standing b t
   unfolding real_quotes
-  token-stands t c = All-contains (Standing b) (tokens b) t (all-stand (length b) 0 (omega arith) (λ _. record { closed = refl; free = inr refl })) c
+  token-stands t c = All-contains (Standing b) (tokens b) t
+      (all-stand (length b) 0 (omega arith) (λ _. record { closed = refl; free = inr refl })) c
 
   -- ---- between tokens
 
   -- After a token's end there is only whitespace where there is no position.
-  space-after : (k end j : ℕ) → EndsBefore b k end → end ≤ j → j < length b → NoneBetween (is_position b) end (suc j) → is_whitespace (byte_at b j) ≡ true
-  space-after k end j ends g l none = let there : end + (j - end) ≡ j = omega arith in subst (λ i. is_whitespace (byte_at b i) ≡ true) there (white (j - end) (omega arith) (reach (j - end) (omega arith)))
+  space-after : (k end j : ℕ) → EndsBefore b k end → end ≤ j → j < length b → NoneBetween (is_position b) end (suc j)
+      → is_whitespace (byte_at b j) ≡ true
+  space-after k end j ends g l none =
+      let there : end + (j - end) ≡ j = omega arith in
+      subst (λ i. is_whitespace (byte_at b i) ≡ true) there (white (j - end) (omega arith) (reach (j - end) (omega arith)))
     where
       white : (n : ℕ) → end + n ≤ j → Boundary b (end + n) → is_whitespace (byte_at b (end + n)) ≡ true
       white n h at =
@@ -102,10 +113,13 @@ module _ (b : List ℕ) where
 
   -- A token's first byte is a position,
   pub position-first : (t : Token) → Contains (tokens b) t → Contains (positions b) t.index
-  position-first t c = let s : Standing b t = token-stands t c in (Contains-positions b t.index).1 (s.within, is_position-token b t.index s.at s.token)
+  position-first t c =
+      let s : Standing b t = token-stands t c in
+      (Contains-positions b t.index).1 (s.within, is_position-token b t.index s.at s.token)
 
   -- no other byte of it is one,
-  pub no_position-within : (t : Token) (end k : ℕ) → Contains (tokens b) t → token_end t ≡ Some end → t.index < k → k < end → IsFalse (is_position b k)
+  pub no_position-within : (t : Token) (end k : ℕ) → Contains (tokens b) t → token_end t ≡ Some end → t.index < k → k < end
+      → IsFalse (is_position b k)
   no_position-within t end k c is g h = (token-ends t end c is).none k g h
 
   -- and only whitespace stands after its end, up to the next position.
@@ -114,9 +128,11 @@ module _ (b : List ℕ) where
   whitespace-after t end k c is g l none = space-after t.index end k (token-ends t end c is) g l (λ j i h. none j i (omega arith))
 
   -- So a string that is closed ends before the next position, or before the end, and no quote stands between.
-  pub string-ends : (t : Token) (next : ℕ) → Contains (tokens b) t → byte_at b t.index ≡ quote → closing_quote b t.index < length b → t.index + 1 < next
+  pub string-ends : (t : Token) (next : ℕ) → Contains (tokens b) t → byte_at b t.index ≡ quote
+      → closing_quote b t.index < length b → t.index + 1 < next
       → Contains (positions b) next ⊎ (next ≡ length b) → ((j : ℕ) → t.index < j → j < next → IsFalse (is_position b j))
-      → (closing_quote b t.index < next) × ((k : ℕ) → closing_quote b t.index ≤ k → k < next → byte_at b k ≡ quote → closing_quote b t.index ≡ k)
+      → (closing_quote b t.index < next)
+      × ((k : ℕ) → closing_quote b t.index ≤ k → k < next → byte_at b k ≡ quote → closing_quote b t.index ≡ k)
   string-ends t next c e closed l there none = (omega (arith, not_within), last)
     where
       close : ℕ
@@ -142,7 +158,9 @@ module _ (b : List ℕ) where
       last k from below quoted =
           elim (cases_lt close k) [
             | inl before ↦
-                let white : is_whitespace (byte_at b k) ≡ true = space-after t.index (suc close) k ends (omega arith) (omega (arith, inside)) (λ j g h. none j (omega (arith, ends.after)) (omega arith)) in
+                let white : is_whitespace (byte_at b k) ≡ true =
+                space-after t.index (suc close) k ends (omega arith) (omega (arith, inside))
+                (λ j g h. none j (omega (arith, ends.after)) (omega arith)) in
                 absurd (false≢true (ap is_whitespace (sym quoted) ∙ white))
             | inr after ↦ omega arith
           ]
@@ -181,13 +199,20 @@ reached b (p ∷ ps) i rise (zero, l, e) = inl (record { index = p; form = form_
 reached b (p ∷ ps) i rise (suc k, l, e) =
     go (goes_on (form_at b p)) refl (reached b ps i (IsStrictlyIncreasing-tail p ps rise) (k, omega arith, e))
   where
-    go : (u : Bool) → goes_on (form_at b p) ≡ u → IsReached (tokens_along b ps) i → IsReached (record { index = p; form = form_at b p } ∷ cond u (tokens_along b ps) []) i
+    go : (u : Bool) → goes_on (form_at b p) ≡ u → IsReached (tokens_along b ps) i
+        → IsReached (record { index = p; form = form_at b p } ∷ cond u (tokens_along b ps) []) i
     go true is (inl (t, c, same)) = inl (t, (suc c.0, omega (arith, c.1), c.2), same)
     go true is (inr (t, c, stopped, before)) = inr (t, (suc c.0, omega (arith, c.1), c.2), stopped, before)
     go false is _ =
         let least : p < get_or ps k 0 = first-least p ps rise k (omega arith) in
-        inr (record { index = p; form = form_at b p }, (0, omega arith, refl), no_end p (form_at b p) is, omega (arith, least, e, get_or_default ps k 0 i))
+        inr (
+          record { index = p; form = form_at b p },
+          (0, omega arith, refl),
+          no_end p (form_at b p) is,
+          omega (arith, least, e, get_or_default ps k 0 i),
+        )
 
 -- At each position a token is read, unless one before it has no end.
 pub position-reached : (b : List ℕ) (i : ℕ) → Contains (positions b) i → IsReached (tokens b) i
-position-reached b i c = subst (λ ts. IsReached ts i) (sym (tokens-positions b)) (reached b (positions b) i (IsStrictlyIncreasing-positions b) c)
+position-reached b i c =
+    subst (λ ts. IsReached ts i) (sym (tokens-positions b)) (reached b (positions b) i (IsStrictlyIncreasing-positions b) c)

@@ -1,6 +1,8 @@
 -- Where tokens can begin and end: what a position is there, and that no position lies within a token.
-use Rattle.std.proofs.Common.{◌≡◌, refl, sym, ◌∙◌, ap, subst, ℕ, zero, suc, ◌+◌, ◌-◌, ◌<◌, ◌≤◌, ◌⊎◌, inl, inr, List, ◌++◌, length, drop, get_or, Bool, true, false, not, ◌&&◌, ◌||◌, ◌==◌, arith}
-use Rattle.std.proofs.lemmas.Bool.{cases_Bool, cases_lt, eqb-true, false≢true, and_from, and_parts, and_left, or_from, or_parts, or_left, or_right, or_cases, cond-false}
+use Rattle.std.proofs.Common.{◌≡◌, refl, sym, ◌∙◌, ap, subst, ℕ, zero, suc, ◌+◌, ◌-◌, ◌<◌, ◌≤◌, ◌⊎◌, inl, inr, List, ◌++◌, length}
+use Rattle.std.proofs.Common.{drop, get_or, Bool, true, false, not, ◌&&◌, ◌||◌, ◌==◌, arith}
+use Rattle.std.proofs.lemmas.Bool.{cases_Bool, cases_lt, eqb-true, false≢true, and_from, and_parts, and_left, or_from, or_parts}
+use Rattle.std.proofs.lemmas.Bool.{or_left, or_right, or_cases, cond-false}
 use Rattle.std.proofs.lemmas.Bool.Decides.{nat_tests}
 use Rattle.std.proofs.lemmas.List.{get_or-drop, get_or_append_left}
 use Rattle.std.proofs.lemmas.List.FromFn.{get_or-range_with_len, length-range_with_len}
@@ -10,7 +12,8 @@ use Rattle.std.specs.List.{All, position_or_len, range_with_len}
 use Rattle.simd_json_parts.specs.StringAt.{closing_quote}
 use Rattle.simd_json_parts.specs.Bytes.{quote, backslash, is_whitespace, is_structural, is_terminator, byte_at}
 use Rattle.simd_json_parts.specs.Positions.{is_even, backslashes_before, is_real_quote, is_inside, is_fresh, is_position}
-use Rattle.simd_json_scalars.proofs.Positions.Scan.{NoneBetween, is_closed, is_closed-quote, is_closed-other, is_closed-through, is_inside-at, is_position-picks}
+use Rattle.simd_json_scalars.proofs.Positions.Scan.{NoneBetween, is_closed, is_closed-quote, is_closed-other, is_closed-through}
+use Rattle.simd_json_scalars.proofs.Positions.Scan.{is_inside-at, is_position-picks}
 
 -- no string is open before index k, and a token can begin there
 pub record Boundary (b : List ℕ) (k : ℕ) : Type 0 where
@@ -31,7 +34,8 @@ is_special c = is_terminator c || (c == quote)
 
 -- a byte that passes a test is not one that fails it
 pub apart : (test : ℕ → Bool) (x n : ℕ) → test x ≡ true → test n ≡ false → (x == n) ≡ false
-apart test x n good bad = elim (cases_Bool (x == n)) [ inl h ↦ absurd (false≢true (sym bad ∙ ap test (sym (eqb-true x n h)) ∙ good)) | inr h ↦ h ]
+apart test x n good bad =
+    elim (cases_Bool (x == n)) [ inl h ↦ absurd (false≢true (sym bad ∙ ap test (sym (eqb-true x n h)) ∙ good)) | inr h ↦ h ]
 
 -- so a digit is no byte that is none
 pub no_digit : (x n : ℕ) → is_digit x 16 ≡ true → is_digit n 16 ≡ false → (x == n) ≡ false
@@ -114,7 +118,8 @@ module _ (b : List ℕ) (k : ℕ) (at : Boundary b k) where
   pub is_position-space : is_whitespace (byte_at b k) ≡ true → is_position b k ≡ false
   is_position-space space =
       let other : (byte_at b k == quote) ≡ false = apart is_whitespace (byte_at b k) quote space refl in
-      is_position-picks b k false false false true _ (real-other other) (inside-other other) (is_structural-space (byte_at b k) space) space refl
+      is_position-picks b k false false false true _ (real-other other) (inside-other other)
+      (is_structural-space (byte_at b k) space) space refl
 
   pub boundary-space : is_whitespace (byte_at b k) ≡ true → Boundary b (suc k)
   boundary-space space =
@@ -128,7 +133,10 @@ module _ (b : List ℕ) (k : ℕ) (at : Boundary b k) where
       record {
         after = omega arith;
         none = λ j g h. absurd (omega arith);
-        boundary = λ _. record { closed = closed-other other; free = inr (or_left _ _ (or_right _ _ (and_from _ _ structural (ap not (inside-other other))))) };
+        boundary = λ _. record {
+          closed = closed-other other;
+          free = inr (or_left _ _ (or_right _ _ (and_from _ _ structural (ap not (inside-other other)))));
+        };
       }
 
   -- Where neither a structural character nor whitespace stands, the index is fresh, and so a quote there is real.
@@ -147,7 +155,8 @@ module _ (b : List ℕ) (k : ℕ) (at : Boundary b k) where
     is_position-plain =
         elim (cases_Bool (byte_at b k == quote)) [
           | inl e ↦ is_position-picks b k true true _ _ _ (real-quote e) (is_inside-at b k false (open-quote e)) refl refl refl
-          | inr other ↦ is_position-picks b k false false false false true (real-other other) (inside-other other) (or_parts _ _ plain).0 (or_parts _ _ plain).1 fresh-plain
+          | inr other ↦ is_position-picks b k false false false false true (real-other other) (inside-other other)
+              (or_parts _ _ plain).0 (or_parts _ _ plain).1 fresh-plain
         ]
 
   is_position-structural : is_structural (byte_at b k) ≡ true → is_position b k ≡ true
@@ -158,7 +167,10 @@ module _ (b : List ℕ) (k : ℕ) (at : Boundary b k) where
   -- All but whitespace is a position.
   pub is_position-token : is_whitespace (byte_at b k) ≡ false → is_position b k ≡ true
   is_position-token token =
-      elim (cases_Bool (is_structural (byte_at b k))) [ inl structural ↦ is_position-structural structural | inr h ↦ is_position-plain (or_from _ _ h token) ]
+      elim (cases_Bool (is_structural (byte_at b k))) [
+        | inl structural ↦ is_position-structural structural
+        | inr h ↦ is_position-plain (or_from _ _ h token)
+      ]
 
   -- A string ends after its closing quote.
   module _ (e : (byte_at b k == quote) ≡ true) where
@@ -178,7 +190,8 @@ module _ (b : List ℕ) (k : ℕ) (at : Boundary b k) where
     closed-after real = is_closed-quote b close real ∙ ap not (closed-inside close next.0 (omega arith))
 
     none-inside : (j : ℕ) → k < j → j ≤ close → is_real_quote b j ≡ false → is_position b j ≡ false
-    none-inside j g h other = is_position-picks b j false true _ _ _ other (is_inside-at b j false (is_closed-other b j other ∙ closed-inside j g h)) refl refl refl
+    none-inside j g h other = is_position-picks b j false true _ _ _ other
+        (is_inside-at b j false (is_closed-other b j other ∙ closed-inside j g h)) refl refl refl
 
     -- also where there is none, and so at the end
     none-close : is_position b close ≡ false
@@ -196,7 +209,9 @@ module _ (b : List ℕ) (k : ℕ) (at : Boundary b k) where
         ]
 
     after-string : suc close < length b → Boundary b (suc close)
-    after-string h = let real : is_real_quote b close ≡ true = next.2 (omega arith) in record { closed = closed-after real; free = inr (or_right _ _ real) }
+    after-string h =
+        let real : is_real_quote b close ≡ true = next.2 (omega arith) in
+        record { closed = closed-after real; free = inr (or_right _ _ real) }
 
     pub ends-string : EndsBefore b k (suc (closing_quote b k))
     ends-string = record { after = omega (arith, next.0); none = none-string; boundary = after-string }
@@ -215,14 +230,21 @@ module _ (b : List ℕ) (k : ℕ) (at : Boundary b k) where
     none-plain : NoneBetween (is_position b) (suc k) end
     none-plain zero g h = absurd (omega arith)
     none-plain (suc i) g h =
-        let here : (is_structural (byte_at b (suc i)) ≡ false) × (is_whitespace (byte_at b (suc i)) ≡ false) = none_of (suc i) (omega arith) h in
-        let before : (is_structural (byte_at b i) ≡ false) × (is_whitespace (byte_at b i) ≡ false) = none_of i (omega arith) (omega arith) in
-        let stale : is_fresh b (suc i) ≡ false = or_from _ _ (or_from _ _ before.1 (and_left _ _ before.0)) (real-none i (omega arith) (omega arith)) in
+        let here : (is_structural (byte_at b (suc i)) ≡ false) × (is_whitespace (byte_at b (suc i)) ≡ false) =
+        none_of (suc i) (omega arith) h in
+        let before : (is_structural (byte_at b i) ≡ false) × (is_whitespace (byte_at b i) ≡ false) =
+        none_of i (omega arith) (omega arith) in
+        let stale : is_fresh b (suc i) ≡ false =
+        or_from _ _ (or_from _ _ before.1 (and_left _ _ before.0)) (real-none i (omega arith) (omega arith)) in
         let outside : is_inside b (suc i) ≡ false = is_inside-at b (suc i) true (closed-through (suc (suc i)) (omega arith) h) in
         is_position-picks b (suc i) false false false false false (real-none (suc i) (omega arith) h) outside here.0 here.1 stale
 
     ends-plain : is_terminator (byte_at b end) ≡ true → EndsBefore b k end
-    ends-plain t = record { after = l; none = none-plain; boundary = λ _. record { closed = closed-through end (omega arith) (omega arith); free = inl t } }
+    ends-plain t = record {
+      after = l;
+      none = none-plain;
+      boundary = λ _. record { closed = closed-through end (omega arith) (omega arith); free = inl t };
+    }
 
   -- So does a list of such bytes that stands at k.
   pub ends-run : (n : ℕ) (xs rest : List ℕ) → drop k b ≡ xs ++ rest → length xs ≡ n → 0 < n → All (λ c. is_special c ≡ false) xs

@@ -1,5 +1,6 @@
 -- What holds of an input that has no fault of the whole.
-use Rattle.std.proofs.Common.{◌≡◌, refl, ◌∙◌, ap, ℕ, ◌<◌, ◌≤◌, List, length, get_or, Bool, true, false, not, cond, ◌&&◌, nat_lt, IsUtf8, arith}
+use Rattle.std.proofs.Common.{◌≡◌, refl, ◌∙◌, ap, ℕ, ◌<◌, ◌≤◌, List, length, get_or, Bool, true, false, not, cond, ◌&&◌, nat_lt}
+use Rattle.std.proofs.Common.{IsUtf8, arith}
 use Rattle.std.specs.Prelude.{Option, Some, None}
 use Rattle.std.specs.Str.{is_utf8}
 use Rattle.std.proofs.lemmas.Bool.{and_from, or_parts, ltb-false, not-false}
@@ -30,14 +31,17 @@ not_asked false e o h = (refl, h)
 pub IsClean-input : (b : List ℕ) → input_fault b ≡ None → IsClean b
 unfolding input_fault
 IsClean-input b none =
-    let size : (nat_lt max_length (length b) ≡ false) × (cond (not (is_utf8 b)) (Some (whole_fault InvalidUtf8)) (scan_fault b) ≡ None) = not_asked _ _ _ none in
+    let size : (nat_lt max_length (length b) ≡ false)
+    × (cond (not (is_utf8 b)) (Some (whole_fault InvalidUtf8)) (scan_fault b) ≡ None) =
+    not_asked _ _ _ none in
     let utf8 : (not (is_utf8 b) ≡ false) × (scan_fault b ≡ None) = not_asked _ _ _ size.1 in
     let strings : (has_bad_string b ≡ false) × (_ ≡ None) = not_asked _ _ _ utf8.1 in
     let parts : (not (is_even (real_quotes b (length b))) ≡ false) × (has_control_inside b ≡ false) = or_parts _ _ strings.0 in
     record { size = ltb-false _ _ size.0; utf8 = IsUtf8-from_is_utf8 b (not-false _ utf8.0); even = not-false _ parts.0; plain = parts.1 }
 
 -- A control byte inside is found.
-pub control-inside : (b : List ℕ) (j : ℕ) → j < length b → is_inside b j ≡ true → is_control (byte_at b j) ≡ true → has_control_inside b ≡ true
+pub control-inside : (b : List ℕ) (j : ℕ) → j < length b → is_inside b j ≡ true → is_control (byte_at b j) ≡ true
+    → has_control_inside b ≡ true
 unfolding has_control_inside
 control-inside b j l inside control =
     let bad : ℕ → Bool = λ i. is_inside b i && is_control (byte_at b i) in

@@ -1,5 +1,6 @@
 -- Laws of structural positions.
-use Rattle.std.proofs.Common.{◌≢◌, ◌↔◌, ◌∙◌, ap, ℕ, zero, suc, ◌+◌, ◌<◌, ◌≤◌, inl, inr, List, [], ◌∷◌, length, Bool, not, IsTrue, Contains, filter, arith}
+use Rattle.std.proofs.Common.{◌≢◌, ◌↔◌, ◌∙◌, ap, ℕ, zero, suc, ◌+◌, ◌<◌, ◌≤◌, inl, inr, List, [], ◌∷◌, length, Bool, not, IsTrue}
+use Rattle.std.proofs.Common.{Contains, filter, arith}
 use Rattle.std.specs.List.{range_with_len}
 use Rattle.std.specs.List.Sorted.{IsStrictlyIncreasing}
 use Rattle.std.proofs.lemmas.Bool.{cases_Bool, cond_both, or_cases, or_left, and_from, and_parts}
@@ -12,12 +13,14 @@ use Rattle.simd_json_parts.specs.Positions.{is_even, is_real_quote, real_quotes,
 use Rattle.simd_json_parts.specs.InputFaults.{has_bad_string}
 
 IsStrictlyIncreasing-range_with_len : (a n : ℕ) → IsStrictlyIncreasing (range_with_len a n)
-IsStrictlyIncreasing-range_with_len a n k l = omega (arith, get_or-range_with_len a n k 0, get_or-range_with_len a n (k + 1) 0, length-range_with_len a n)
+IsStrictlyIncreasing-range_with_len a n k l =
+    omega (arith, get_or-range_with_len a n k 0, get_or-range_with_len a n (k + 1) 0, length-range_with_len a n)
 
 -- Positions rise.
 pub IsStrictlyIncreasing-positions : (b : List ℕ) → IsStrictlyIncreasing (positions b)
 unfolding positions
-IsStrictlyIncreasing-positions b = IsStrictlyIncreasing-filter (is_position b) (indices b) (IsStrictlyIncreasing-range_with_len 0 (length b))
+IsStrictlyIncreasing-positions b =
+    IsStrictlyIncreasing-filter (is_position b) (indices b) (IsStrictlyIncreasing-range_with_len 0 (length b))
 
 pub Contains-range_with_len : (n i : ℕ) → Contains (range_with_len 0 n) i ↔ (i < n)
 Contains-range_with_len n i = (
@@ -30,7 +33,8 @@ Contains-filter_from p [] x c passes = absurd (omega arith)
 Contains-filter_from p (y ∷ ys) x (zero, l, e) passes = rw (ap p e ∙ passes) (0, omega arith, e)
 Contains-filter_from p (y ∷ ys) x (suc k, l, e) passes =
     let later : Contains (filter p ys) x = Contains-filter_from p ys x (k, omega arith, e) passes in
-    cond_both (p y) (y ∷ filter p ys) (filter p ys) (λ zs. Contains zs x) (λ h. Contains-append_right (y ∷ []) (filter p ys) x later) (λ h. later)
+    cond_both (p y) (y ∷ filter p ys) (filter p ys) (λ zs. Contains zs x)
+    (λ h. Contains-append_right (y ∷ []) (filter p ys) x later) (λ h. later)
 
 -- A filter keeps the elements that pass.
 Contains-filter : (p : ℕ → Bool) (xs : List ℕ) (x : ℕ) → Contains (filter p xs) x ↔ (Contains xs x × IsTrue (p x))
@@ -47,11 +51,13 @@ pub Contains-positions : (b : List ℕ) (i : ℕ) → Contains (positions b) i �
 unfolding positions
 Contains-positions b i =
     let index : Contains (indices b) i ↔ (i < length b) = Contains-range_with_len (length b) i in
-    let kept : Contains (filter (is_position b) (indices b)) i ↔ (Contains (indices b) i × IsTrue (is_position b i)) = Contains-filter (is_position b) (indices b) i in
+    let kept : Contains (filter (is_position b) (indices b)) i ↔ (Contains (indices b) i × IsTrue (is_position b i)) =
+    Contains-filter (is_position b) (indices b) i in
     (λ c. (index.0 (kept.0 c).0, (kept.0 c).1), λ h. kept.1 (index.1 h.0, h.1))
 
 -- Where the number of real quotes so far is odd, one of them opens.
-real_quotes-odd : (b : List ℕ) (n : ℕ) → IsTrue (not (is_even (real_quotes b n))) → (j : ℕ) × (j < n) × IsTrue (is_real_quote b j) × IsTrue (is_inside b j)
+real_quotes-odd : (b : List ℕ) (n : ℕ) → IsTrue (not (is_even (real_quotes b n)))
+    → (j : ℕ) × (j < n) × IsTrue (is_real_quote b j) × IsTrue (is_inside b j)
 unfolding real_quotes is_inside
 real_quotes-odd b zero h = cc
 real_quotes-odd b (suc n) h =

@@ -1,5 +1,6 @@
 -- Real quotes and positions, from one index to the next.
-use Rattle.std.proofs.Common.{◌≡◌, sym, ◌∙◌, ap, subst, ℕ, zero, suc, ◌+◌, ◌-◌, ◌<◌, ◌≤◌, inl, inr, List, [], ◌∷◌, length, Bool, true, false, not, ◌&&◌, ◌||◌, add-zero, filter, arith}
+use Rattle.std.proofs.Common.{◌≡◌, sym, ◌∙◌, ap, subst, ℕ, zero, suc, ◌+◌, ◌-◌, ◌<◌, ◌≤◌, inl, inr, List, [], ◌∷◌, length, Bool}
+use Rattle.std.proofs.Common.{true, false, not, ◌&&◌, ◌||◌, add-zero, filter, arith}
 use Rattle.std.specs.List.{range_with_len}
 use Rattle.std.proofs.lemmas.Bool.{cases_lt, cond-true, cond-false}
 use Rattle.simd_json_parts.specs.Bytes.{is_whitespace, is_structural, byte_at}
@@ -16,7 +17,9 @@ steady f k m l same = let there : k + (m - k) ≡ m = omega arith in subst (λ i
   where
     go : (n : ℕ) → k + n ≤ m → f (k + n) ≡ f k
     go zero h = ap f (add-zero k)
-    go (suc n) h = let last : k + suc n ≡ suc (k + n) = omega arith in ap f last ∙ same (k + n) (omega arith) (omega arith) ∙ go n (omega arith)
+    go (suc n) h =
+        let last : k + suc n ≡ suc (k + n) = omega arith in
+        ap f last ∙ same (k + n) (omega arith) (omega arith) ∙ go n (omega arith)
 
 -- ---- real quotes
 
@@ -26,7 +29,8 @@ is_closed b k = is_even (real_quotes b k)
 
 pub is_closed-quote : (b : List ℕ) (i : ℕ) → is_real_quote b i ≡ true → is_closed b (suc i) ≡ not (is_closed b i)
 unfolding real_quotes
-is_closed-quote b i is = ap is_even (cond-true (is_real_quote b i) (suc (real_quotes b i)) (real_quotes b i) is) ∙ is_even-suc (real_quotes b i)
+is_closed-quote b i is =
+    ap is_even (cond-true (is_real_quote b i) (suc (real_quotes b i)) (real_quotes b i) is) ∙ is_even-suc (real_quotes b i)
 
 pub is_closed-other : (b : List ℕ) (i : ℕ) → is_real_quote b i ≡ false → is_closed b (suc i) ≡ is_closed b i
 unfolding real_quotes
@@ -49,12 +53,14 @@ picks real inside structural white fresh = (real && inside) || (not inside && no
 
 -- A position is determined by these five parts.
 pub is_position-picks : (b : List ℕ) (i : ℕ) (real inside structural white fresh : Bool) → is_real_quote b i ≡ real → is_inside b i ≡ inside
-    → is_structural (byte_at b i) ≡ structural → is_whitespace (byte_at b i) ≡ white → is_fresh b i ≡ fresh → is_position b i ≡ picks real inside structural white fresh
+    → is_structural (byte_at b i) ≡ structural → is_whitespace (byte_at b i) ≡ white → is_fresh b i ≡ fresh
+    → is_position b i ≡ picks real inside structural white fresh
 unfolding is_position
 is_position-picks b i real inside structural white fresh r n s w f = same picks
   where
     same : (pick : Bool → Bool → Bool → Bool → Bool → Bool)
-        → pick (is_real_quote b i) (is_inside b i) (is_structural (byte_at b i)) (is_whitespace (byte_at b i)) (is_fresh b i) ≡ pick real inside structural white fresh
+        → pick (is_real_quote b i) (is_inside b i) (is_structural (byte_at b i)) (is_whitespace (byte_at b i)) (is_fresh b i)
+        ≡ pick real inside structural white fresh
     same pick = cc
 
 -- the positions from index k on
@@ -70,14 +76,17 @@ range-step k n l =
     let next : k + 1 ≡ suc k = omega arith in
     ap (range_with_len k) less ∙ ap (λ m. k ∷ range_with_len m (n - suc k)) next
 
-pub positions_from-position : (b : List ℕ) (k : ℕ) → k < length b → is_position b k ≡ true → positions_from b k ≡ k ∷ positions_from b (suc k)
+pub positions_from-position : (b : List ℕ) (k : ℕ) → k < length b → is_position b k ≡ true
+    → positions_from b k ≡ k ∷ positions_from b (suc k)
 positions_from-position b k l is =
-    ap (filter (is_position b)) (range-step k (length b) l) ∙ cond-true (is_position b k) (k ∷ positions_from b (suc k)) (positions_from b (suc k)) is
+    ap (filter (is_position b)) (range-step k (length b) l)
+    ∙ cond-true (is_position b k) (k ∷ positions_from b (suc k)) (positions_from b (suc k)) is
 
 pub positions_from-other : (b : List ℕ) (k : ℕ) → is_position b k ≡ false → positions_from b k ≡ positions_from b (suc k)
 positions_from-other b k is_none =
     elim (cases_lt k (length b)) [
-      | inl l ↦ ap (filter (is_position b)) (range-step k (length b) l) ∙ cond-false (is_position b k) (k ∷ positions_from b (suc k)) (positions_from b (suc k)) is_none
+      | inl l ↦ ap (filter (is_position b)) (range-step k (length b) l)
+          ∙ cond-false (is_position b k) (k ∷ positions_from b (suc k)) (positions_from b (suc k)) is_none
       | inr l ↦ positions_from-end b k l ∙ sym (positions_from-end b (suc k) (omega arith))
     ]
 

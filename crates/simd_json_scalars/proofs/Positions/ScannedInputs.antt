@@ -10,7 +10,8 @@ use Rattle.simd_json_parts.specs.declared.error.Error.{Error}
 use Rattle.simd_json_parts.specs.declared.error.ErrorType.TheVariants.{InputTooLarge, InvalidUtf8}
 
 abbrev pub by_size : Bool → Bool → Option Error → Option Error
-by_size is_large is_string scanned = cond is_large (Some (whole_fault InputTooLarge)) (cond (not is_string) (Some (whole_fault InvalidUtf8)) scanned)
+by_size is_large is_string scanned =
+    cond is_large (Some (whole_fault InputTooLarge)) (cond (not is_string) (Some (whole_fault InvalidUtf8)) scanned)
 
 pub fault-by_size : (b : List ℕ) → input_fault b ≡ by_size (nat_lt max_length (length b)) (is_utf8 b) (scan_fault b)
 unfolding input_fault
@@ -29,9 +30,11 @@ no_string b none = by_cases (is_utf8 b) refl where
 -- no UTF-8
 pub bad_encoding : (b : List ℕ) → length b ≤ max_length → (IsUtf8 b → ⊥) → input_fault b ≡ Some (whole_fault InvalidUtf8)
 bad_encoding b l none =
-    fault-by_size b ∙ ap (λ t. by_size t (is_utf8 b) (scan_fault b)) (le-ltb max_length (length b) l) ∙ ap (λ t. by_size false t (scan_fault b)) (no_string b none)
+    fault-by_size b ∙ ap (λ t. by_size t (is_utf8 b) (scan_fault b)) (le-ltb max_length (length b) l)
+    ∙ ap (λ t. by_size false t (scan_fault b)) (no_string b none)
 
 -- neither
 pub scanned : (b : List ℕ) → length b ≤ max_length → IsUtf8 b → input_fault b ≡ scan_fault b
 scanned b l string =
-    fault-by_size b ∙ ap (λ t. by_size t (is_utf8 b) (scan_fault b)) (le-ltb max_length (length b) l) ∙ ap (λ t. by_size false t (scan_fault b)) (is_utf8-from_IsUtf8 b string)
+    fault-by_size b ∙ ap (λ t. by_size t (is_utf8 b) (scan_fault b)) (le-ltb max_length (length b) l)
+    ∙ ap (λ t. by_size false t (scan_fault b)) (is_utf8-from_IsUtf8 b string)

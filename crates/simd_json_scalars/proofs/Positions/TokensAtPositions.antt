@@ -1,5 +1,6 @@
 -- The tokens that are read are those at the positions, one after another.
-use Rattle.std.proofs.Common.{◌≡◌, refl, sym, ◌∙◌, ap, ℕ, zero, suc, ◌+◌, ◌-◌, ◌<◌, ◌≤◌, inl, inr, List, [], ◌∷◌, length, take, drop, add-zero, true, false, not, cond, filter, ◌&&◌, ◌||◌, ◌==◌, nat_eq, nat_lt, nat_le, arith}
+use Rattle.std.proofs.Common.{◌≡◌, refl, sym, ◌∙◌, ap, ℕ, zero, suc, ◌+◌, ◌-◌, ◌<◌, ◌≤◌, inl, inr, List, [], ◌∷◌, length, take}
+use Rattle.std.proofs.Common.{drop, add-zero, true, false, not, cond, filter, ◌&&◌, ◌||◌, ◌==◌, nat_eq, nat_lt, nat_le, arith}
 use Rattle.std.specs.Prelude.{Ok, Err, Option, Some, None, if◌then◌else◌, codes}
 use Rattle.std.specs.List.{starts_with, list_all, range_with_len}
 use Rattle.std.proofs.lemmas.Bool.{cases_Bool, cases_lt, and_parts, cond_both, cond-true, cond-false, eqb-true, false≢true, not-true}
@@ -17,14 +18,18 @@ use Rattle.simd_json_parts.specs.Numbers.{number_literal, integer_literal, has_m
 use Rattle.simd_json_parts.specs.Integers.{max_magnitude}
 use Rattle.simd_json_parts.specs.NumberAt.{number_at, integer_or, first_excess}
 use Rattle.simd_json_parts.specs.StringAt.{string_at, string_read, closing_quote}
-use Rattle.simd_json_parts.specs.Tokens.{Form, begin_array, end_array, begin_object, end_object, name_separator, value_separator, string_token, scalar, stray, Token, form_at, after_token, token_or_space, tokens_from, tokens}
+use Rattle.simd_json_parts.specs.Tokens.{Form, begin_array, end_array, begin_object, end_object, name_separator, value_separator}
+use Rattle.simd_json_parts.specs.Tokens.{string_token, scalar, stray, Token, form_at, after_token}
+use Rattle.simd_json_parts.specs.Tokens.{token_or_space, tokens_from, tokens}
 use Rattle.simd_json_scalars.specs.TokensAlong.{goes_on, tokens_along}
 use Rattle.simd_json_parts.specs.declared.error.ErrorType.{ErrorType}
 use Rattle.simd_json_parts.specs.declared.error.ErrorType.TheVariants.{ExpectedTrue, ExpectedFalse, ExpectedNull}
 use Rattle.simd_json_scalars.proofs.Patterns.Sets.{matches-Matches, longest_prefix-le}
 use Rattle.simd_json_scalars.proofs.Patterns.Bytes.{All-Matches}
-use Rattle.simd_json_scalars.proofs.Positions.Scan.{positions_from, positions_from-end, positions_from-position, positions_from-other, positions_from-through}
-use Rattle.simd_json_scalars.proofs.Positions.Boundaries.{Boundary, EndsBefore, is_position-space, boundary-space, is_position-token, ends-structural, ends-string, ends-run, is_special}
+use Rattle.simd_json_scalars.proofs.Positions.Scan.{positions_from, positions_from-end, positions_from-position}
+use Rattle.simd_json_scalars.proofs.Positions.Scan.{positions_from-other, positions_from-through}
+use Rattle.simd_json_scalars.proofs.Positions.Boundaries.{Boundary, EndsBefore, is_position-space, boundary-space}
+use Rattle.simd_json_scalars.proofs.Positions.Boundaries.{is_position-token, ends-structural, ends-string, ends-run, is_special}
 
 -- ---- the tokens from index i on
 
@@ -47,7 +52,8 @@ tokens_from-skip b i (suc n) =
     ]
 
 -- what the descent reads at index i
-tokens_at-step : (b : List ℕ) (i : ℕ) → i < length b → tokens_at b i ≡ token_or_space b i (byte_at b i) (λ n. tokens_from b (suc i) n (drop (suc i) b))
+tokens_at-step : (b : List ℕ) (i : ℕ) → i < length b
+    → tokens_at b i ≡ token_or_space b i (byte_at b i) (λ n. tokens_from b (suc i) n (drop (suc i) b))
 unfolding tokens_from
 tokens_at-step b i l = ap (tokens_from b i 0) (drop-cons b i 32 l)
 
@@ -77,19 +83,25 @@ IsEnded-string b k end (t, x ∷ left) h = tt
 IsEnded-letters : (b : List ℕ) (k : ℕ) (letters : List ℕ) (d : Document) (kind : ErrorType) → Boundary b k → 0 < length letters
     → list_all (λ c. not (is_special c)) letters ≡ true → IsEnded b k (scalar (atom_or letters d kind b k))
 IsEnded-letters b k letters d kind at some plain =
-    cond_both (starts_with nat_eq (drop k b) letters && is_terminator (byte_at b (k + length letters))) _ _ (λ r. IsEnded b k (scalar r)) ends (λ _. tt)
+    cond_both (starts_with nat_eq (drop k b) letters && is_terminator (byte_at b (k + length letters))) _ _
+    (λ r. IsEnded b k (scalar r)) ends (λ _. tt)
   where
-    ends : (starts_with nat_eq (drop k b) letters && is_terminator (byte_at b (k + length letters))) ≡ true → EndsBefore b k (k + length letters)
+    ends : (starts_with nat_eq (drop k b) letters && is_terminator (byte_at b (k + length letters))) ≡ true
+        → EndsBefore b k (k + length letters)
     ends h =
-        let both : (starts_with nat_eq (drop k b) letters ≡ true) × (is_terminator (byte_at b (k + length letters)) ≡ true) = and_parts _ _ h in
-        ends-run b k at (length letters) letters (drop (length letters) (drop k b)) ((starts_is Decides-eqb (drop k b) letters _ refl).0 both.0) refl some
+        let both : (starts_with nat_eq (drop k b) letters ≡ true) × (is_terminator (byte_at b (k + length letters)) ≡ true) =
+        and_parts _ _ h in
+        ends-run b k at (length letters) letters (drop (length letters) (drop k b))
+        ((starts_is Decides-eqb (drop k b) letters _ refl).0 both.0) refl some
         (λ i c l. not-true _ (AllPass-from_list_all (λ c. not (is_special c)) letters plain i c l)) both.1
 
 IsEnded-atom : (b : List ℕ) (k : ℕ) → Boundary b k → IsEnded b k (scalar (atom_at b k))
 unfolding atom_at
 IsEnded-atom b k at =
-    cond_both (byte_at b k == 116) _ _ (λ r. IsEnded b k (scalar r)) (λ _. IsEnded-letters b k (codes "true") (boolean true) ExpectedTrue at (omega arith) refl)
-    (λ _. cond_both (byte_at b k == 102) _ _ (λ r. IsEnded b k (scalar r)) (λ _. IsEnded-letters b k (codes "false") (boolean false) ExpectedFalse at (omega arith) refl)
+    cond_both (byte_at b k == 116) _ _ (λ r. IsEnded b k (scalar r))
+    (λ _. IsEnded-letters b k (codes "true") (boolean true) ExpectedTrue at (omega arith) refl)
+    (λ _. cond_both (byte_at b k == 102) _ _ (λ r. IsEnded b k (scalar r))
+    (λ _. IsEnded-letters b k (codes "false") (boolean false) ExpectedFalse at (omega arith) refl)
     (λ _. IsEnded-letters b k (codes "null") null ExpectedNull at (omega arith) refl))
 
 -- no number is empty
@@ -97,7 +109,8 @@ pub some_byte : (n : ℕ) (xs : List ℕ) → matches number_literal (take n xs)
 some_byte zero xs h = absurd (false≢true h)
 some_byte (suc n) xs h = omega arith
 
-IsEnded-integer : (b : List ℕ) (k end : ℕ) (literal : List ℕ) (o : Option ℕ) → EndsBefore b k end → IsEnded b k (scalar (integer_or b k literal end o))
+IsEnded-integer : (b : List ℕ) (k end : ℕ) (literal : List ℕ) (o : Option ℕ) → EndsBefore b k end
+    → IsEnded b k (scalar (integer_or b k literal end o))
 IsEnded-integer b k end literal None ends =
     cond_both (nat_lt (max_magnitude (has_minus literal)) (magnitude literal)) _ _ (λ r. IsEnded b k (scalar r)) (λ _. tt) (λ _. ends)
 IsEnded-integer b k end literal (Some i) ends = tt
@@ -122,8 +135,10 @@ IsEnded-number b k at =
     ends : (matches number_literal literal && is_terminator (byte_at b end)) ≡ true → EndsBefore b k end
     ends h =
         let both : (matches number_literal literal ≡ true) × (is_terminator (byte_at b end) ≡ true) = and_parts _ _ h in
-        ends-run b k at n literal (drop n (drop k b)) (sym (take-append-drop n (drop k b))) (length-take-le n (drop k b) (longest_prefix-le number_literal (drop k b)))
-        (some_byte n (drop k b) both.0) (All-Matches is_special number_literal literal refl (matches-Matches number_literal literal both.0)) both.1
+        ends-run b k at n literal (drop n (drop k b)) (sym (take-append-drop n (drop k b)))
+        (length-take-le n (drop k b) (longest_prefix-le number_literal (drop k b)))
+        (some_byte n (drop k b) both.0)
+        (All-Matches is_special number_literal literal refl (matches-Matches number_literal literal both.0)) both.1
 
 module _ (b : List ℕ) where
   -- Every form at a boundary ends where it says.
@@ -131,7 +146,8 @@ module _ (b : List ℕ) where
   unfolding form_at string_at
   IsEnded-form k at =
       structural 91 begin_array _ refl (λ h. h) (structural 93 end_array _ refl (λ h. h) (structural 123 begin_object _ refl (λ h. h)
-      (structural 125 end_object _ refl (λ h. h) (structural 58 name_separator _ refl (λ h. h) (structural 44 value_separator _ refl (λ h. h)
+      (structural 125 end_object _ refl (λ h. h)
+      (structural 58 name_separator _ refl (λ h. h) (structural 44 value_separator _ refl (λ h. h)
       (cond_both (x == quote) _ _ (IsEnded b k) (λ e. IsEnded-string b k (closing_quote b k) _ (ends-string b k at e))
       (λ _. cond_both ((x == 116) || (x == 102) || (x == 110)) _ _ (IsEnded b k) (λ _. IsEnded-atom b k at)
       (λ _. cond_both ((x == 45) || (nat_le 48 x && nat_le x 57)) _ _ (IsEnded b k) (λ _. IsEnded-number b k at) (λ _. tt)))))))))
@@ -142,7 +158,8 @@ module _ (b : List ℕ) where
       structural : (c : ℕ) (form other : Form) → is_structural c ≡ true → (EndsBefore b k (suc k) → IsEnded b k form) → IsEnded b k other
           → IsEnded b k (if byte_at b k == c then form else other)
       structural c form other is ended after =
-          cond_both (byte_at b k == c) form other (IsEnded b k) (λ e. ended (ends-structural b k at (ap is_structural (eqb-true (byte_at b k) c e) ∙ is))) (λ _. after)
+          cond_both (byte_at b k == c) form other (IsEnded b k)
+          (λ e. ended (ends-structural b k at (ap is_structural (eqb-true (byte_at b k) c e) ∙ is))) (λ _. after)
 
   -- ---- the tokens from a boundary on
 
@@ -150,13 +167,16 @@ module _ (b : List ℕ) where
   AtPositions k = tokens_at b k ≡ tokens_along b (positions_from b k)
 
   -- after a token that goes on
-  after : (k end n : ℕ) → suc k + n ≡ end → EndsBefore b k end → AtPositions end → tokens_from b (suc k) n (drop (suc k) b) ≡ tokens_along b (positions_from b (suc k))
+  after : (k end n : ℕ) → suc k + n ≡ end → EndsBefore b k end → AtPositions end
+      → tokens_from b (suc k) n (drop (suc k) b) ≡ tokens_along b (positions_from b (suc k))
   after k end n e ends more =
-      tokens_from-skip b (suc k) n ∙ ap (tokens_at b) e ∙ more ∙ ap (tokens_along b) (sym (positions_from-through b (suc k) end ends.after ends.none))
+      tokens_from-skip b (suc k) n ∙ ap (tokens_at b) e ∙ more
+      ∙ ap (tokens_along b) (sym (positions_from-through b (suc k) end ends.after ends.none))
 
   -- after a token of each form
   along-after : (k : ℕ) (form : Form) → IsEnded b k form → ((end : ℕ) → EndsBefore b k end → AtPositions end)
-      → after_token k form (λ n. tokens_from b (suc k) n (drop (suc k) b)) ≡ cond (goes_on form) (tokens_along b (positions_from b (suc k))) []
+      → after_token k form (λ n. tokens_from b (suc k) n (drop (suc k) b))
+      ≡ cond (goes_on form) (tokens_along b (positions_from b (suc k))) []
   along-after k (string_token (Ok r)) ends more = after k r.1 (r.1 - suc k) (omega (arith, ends.after)) ends (more r.1 ends)
   along-after k (string_token (Err e)) ends more = refl
   along-after k (scalar (Ok r)) ends more = after k r.1 (r.1 - suc k) (omega (arith, ends.after)) ends (more r.1 ends)
@@ -187,4 +207,5 @@ pub tokens-positions : (b : List ℕ) → tokens b ≡ tokens_along b (positions
 unfolding positions real_quotes
 tokens-positions b =
     let whole : length b - 0 ≡ length b = omega arith in
-    stands b (length b) 0 (omega arith) (λ _. record { closed = refl; free = inr refl }) ∙ ap (λ n. tokens_along b (filter (is_position b) (range_with_len 0 n))) whole
+    stands b (length b) 0 (omega arith) (λ _. record { closed = refl; free = inr refl })
+    ∙ ap (λ n. tokens_along b (filter (is_position b) (range_with_len 0 n))) whole

@@ -1,5 +1,6 @@
 -- The code unit of a \u escape is the same in the content of a string as in all the bytes after it: no digit is a quote.
-use Rattle.std.proofs.Common.{◌≡◌, refl, sym, ◌∙◌, ap, subst, ℕ, zero, suc, ◌<◌, ◌⊎◌, inl, inr, List, [], ◌∷◌, ◌++◌, take, drop, Bool, true, false, cond, ◌&&◌, nat_eq, arith}
+use Rattle.std.proofs.Common.{◌≡◌, refl, sym, ◌∙◌, ap, subst, ℕ, zero, suc, ◌<◌, ◌⊎◌, inl, inr, List, [], ◌∷◌, ◌++◌, take, drop}
+use Rattle.std.proofs.Common.{Bool, true, false, cond, ◌&&◌, nat_eq, arith}
 use Rattle.std.specs.Prelude.{Option, Some, None, if◌then◌else◌}
 use Rattle.std.specs.Char.{is_digit}
 use Rattle.std.proofs.lemmas.Bool.{cases_Bool, cond-true, cond-false, eqb-true, false≢true, and_parts}
@@ -44,17 +45,24 @@ no_digits n y bs (none e) h = ap (begins_with_digits (suc n)) e
 no_digits n y bs (first r e) h = ap (begins_with_digits (suc n)) e ∙ ap (λ t. t && begins_with_digits n r) h
 
 -- The digits at the front are all in the content.
-digits-content : (n : ℕ) (ys : List ℕ) → (begins_with_digits n (content ys) ≡ begins_with_digits n ys) × (begins_with_digits n ys ≡ true → content ys ≡ take n ys ++ content (drop n ys))
+digits-content : (n : ℕ) (ys : List ℕ) → (begins_with_digits n (content ys) ≡ begins_with_digits n ys)
+    × (begins_with_digits n ys ≡ true → content ys ≡ take n ys ++ content (drop n ys))
 unfolding content_from
 digits-content zero ys = (refl, λ e. refl)
 digits-content (suc n) [] = (refl, λ e. refl)
 digits-content (suc n) (y ∷ ys) = pair (digits-content n ys) (cases_Bool (is_digit y 16))
   where
-    pair : (begins_with_digits n (content ys) ≡ begins_with_digits n ys) × (begins_with_digits n ys ≡ true → content ys ≡ take n ys ++ content (drop n ys)) → (is_digit y 16 ≡ true) ⊎ (is_digit y 16 ≡ false)
-        → (begins_with_digits (suc n) (content (y ∷ ys)) ≡ begins_with_digits (suc n) (y ∷ ys)) × (begins_with_digits (suc n) (y ∷ ys) ≡ true → content (y ∷ ys) ≡ take (suc n) (y ∷ ys) ++ content (drop (suc n) (y ∷ ys)))
+    pair : (begins_with_digits n (content ys) ≡ begins_with_digits n ys)
+        × (begins_with_digits n ys ≡ true → content ys ≡ take n ys ++ content (drop n ys))
+        → (is_digit y 16 ≡ true) ⊎ (is_digit y 16 ≡ false)
+        → (begins_with_digits (suc n) (content (y ∷ ys)) ≡ begins_with_digits (suc n) (y ∷ ys))
+        × (begins_with_digits (suc n) (y ∷ ys) ≡ true
+        → content (y ∷ ys) ≡ take (suc n) (y ∷ ys) ++ content (drop (suc n) (y ∷ ys)))
     pair more (inl h) =
-        let prefix : content (y ∷ ys) ≡ y ∷ content ys = content-digit y ys h in
-        (ap (begins_with_digits (suc n)) prefix ∙ ap (λ t. is_digit y 16 && t) more.0, λ e. prefix ∙ ap (λ us. y ∷ us) (more.1 (and_parts _ _ e).1))
+        let prefix : content (y ∷ ys) ≡ y ∷ content ys = content-digit y ys h in (
+          ap (begins_with_digits (suc n)) prefix ∙ ap (λ t. is_digit y 16 && t) more.0,
+          λ e. prefix ∙ ap (λ us. y ∷ us) (more.1 (and_parts _ _ e).1),
+        )
     pair more (inr h) =
         let bad : begins_with_digits (suc n) (y ∷ ys) ≡ false = ap (λ t. t && begins_with_digits n ys) h in
         (no_digits n y (content (y ∷ ys)) (content-prefix y ys) h ∙ sym bad, λ e. absurd (false≢true (sym bad ∙ e)))
@@ -74,7 +82,8 @@ pub record FourDigits (ys : List ℕ) (u : ℕ) : Type 0 where
   pub inside : content ys ≡ a ∷ b ∷ c ∷ d ∷ content rest
 
 abbrev None-or-FourDigits : List ℕ → Type 0
-None-or-FourDigits ys = (begins_with_digits 4 ys ≡ false) ⊎ ((a : ℕ) × (b : ℕ) × (c : ℕ) × (d : ℕ) × (rest : List ℕ) × (ys ≡ a ∷ b ∷ c ∷ d ∷ rest) × (begins_with_digits 4 ys ≡ true))
+None-or-FourDigits ys = (begins_with_digits 4 ys ≡ false)
+    ⊎ ((a : ℕ) × (b : ℕ) × (c : ℕ) × (d : ℕ) × (rest : List ℕ) × (ys ≡ a ∷ b ∷ c ∷ d ∷ rest) × (begins_with_digits 4 ys ≡ true))
 
 -- a list that ends too soon
 ends_short : (t : Bool) → (t && false) ≡ false
@@ -86,7 +95,8 @@ shape : (ys : List ℕ) → None-or-FourDigits ys
 shape [] = inl refl
 shape (a ∷ []) = inl (ends_short (is_digit a 16))
 shape (a ∷ b ∷ []) = inl (ap (λ t. is_digit a 16 && t) (ends_short (is_digit b 16)) ∙ ends_short (is_digit a 16))
-shape (a ∷ b ∷ c ∷ []) = inl (ap (λ t. is_digit a 16 && (is_digit b 16 && t)) (ends_short (is_digit c 16)) ∙ ap (λ t. is_digit a 16 && t) (ends_short (is_digit b 16)) ∙ ends_short (is_digit a 16))
+shape (a ∷ b ∷ c ∷ []) = inl (ap (λ t. is_digit a 16 && (is_digit b 16 && t)) (ends_short (is_digit c 16))
+    ∙ ap (λ t. is_digit a 16 && t) (ends_short (is_digit b 16)) ∙ ends_short (is_digit a 16))
 shape (a ∷ b ∷ c ∷ d ∷ rest) =
     elim (cases_Bool (begins_with_digits 4 (a ∷ b ∷ c ∷ d ∷ rest))) [
       | inl h ↦ inr (a, b, c, d, rest, refl, h)
@@ -148,7 +158,8 @@ code_unit-content ys = from (shape ys)
     from : None-or-FourDigits ys → code_unit_at (92 ∷ 117 ∷ content ys) ≡ code_unit_at (92 ∷ 117 ∷ ys)
     from (inl h) = code_unit-none (content ys) ((digits-content 4 ys).0 ∙ h) ∙ sym (code_unit-none ys h)
     from (inr (a, b, c, d, rest, is, h)) =
-        ap (λ us. code_unit_at (92 ∷ 117 ∷ us)) ((digits-content 4 ys).1 h ∙ ap (λ us. take 4 us ++ content (drop 4 us)) is) ∙ ap (λ us. code_unit_at (92 ∷ 117 ∷ us)) (sym is)
+        ap (λ us. code_unit_at (92 ∷ 117 ∷ us)) ((digits-content 4 ys).1 h ∙ ap (λ us. take 4 us ++ content (drop 4 us)) is)
+        ∙ ap (λ us. code_unit_at (92 ∷ 117 ∷ us)) (sym is)
 
 -- ---- where no \u stands
 
@@ -172,7 +183,10 @@ no_u u (a ∷ b ∷ c ∷ d ∷ r) e = ap (λ t. if t then hex_value a b c d els
 -- The same at any bytes.
 pub code_unit-anywhere : (zs : List ℕ) → code_unit_at (content zs) ≡ code_unit_at zs
 code_unit-anywhere [] = ap code_unit_at content-nil
-code_unit-anywhere (x ∷ r) = elim (cases_Bool (nat_eq x 92)) [ inl h ↦ subst (λ y. code_unit_at (content (y ∷ r)) ≡ code_unit_at (y ∷ r)) (sym (eqb-true x 92 h)) (backslashed r) | inr h ↦ other (content-prefix x r) h ∙ sym (no_backslash x r h) ]
+code_unit-anywhere (x ∷ r) = elim (cases_Bool (nat_eq x 92)) [
+  | inl h ↦ subst (λ y. code_unit_at (content (y ∷ r)) ≡ code_unit_at (y ∷ r)) (sym (eqb-true x 92 h)) (backslashed r)
+  | inr h ↦ other (content-prefix x r) h ∙ sym (no_backslash x r h)
+]
   where
     other : FirstByte x (content (x ∷ r)) → nat_eq x 92 ≡ false → code_unit_at (content (x ∷ r)) ≡ None
     other (none e) h = ap code_unit_at e
@@ -182,7 +196,8 @@ code_unit-anywhere (x ∷ r) = elim (cases_Bool (nat_eq x 92)) [ inl h ↦ subst
     backslashed [] = ap code_unit_at content-dangling
     backslashed (u ∷ ys) =
         elim (cases_Bool (nat_eq u 117)) [
-          | inl h ↦ subst (λ v. code_unit_at (content (92 ∷ v ∷ ys)) ≡ code_unit_at (92 ∷ v ∷ ys)) (sym (eqb-true u 117 h)) (ap code_unit_at (content-escape 117 ys) ∙ code_unit-content ys)
+          | inl h ↦ subst (λ v. code_unit_at (content (92 ∷ v ∷ ys)) ≡ code_unit_at (92 ∷ v ∷ ys)) (sym (eqb-true u 117 h))
+              (ap code_unit_at (content-escape 117 ys) ∙ code_unit-content ys)
           | inr h ↦ ap code_unit_at (content-escape u ys) ∙ no_u u (content ys) h ∙ sym (no_u u ys h)
         ]
 

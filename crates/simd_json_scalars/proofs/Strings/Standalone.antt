@@ -1,5 +1,6 @@
 -- A string is determined by the bytes from its opening quote on.
-use Rattle.std.proofs.Common.{◌≡◌, refl, sym, ◌∙◌, ap, ℕ, zero, suc, ◌+◌, ◌-◌, ◌<◌, ◌≤◌, inl, inr, List, [], ◌∷◌, length, drop, get_or, Bool, true, false, not, ◌||◌, IsTrue, IsFalse, arith}
+use Rattle.std.proofs.Common.{◌≡◌, refl, sym, ◌∙◌, ap, ℕ, zero, suc, ◌+◌, ◌-◌, ◌<◌, ◌≤◌, inl, inr, List, [], ◌∷◌, length, drop}
+use Rattle.std.proofs.Common.{get_or, Bool, true, false, not, ◌||◌, IsTrue, IsFalse, arith}
 use Rattle.std.specs.Prelude.{Option, Some, None, Ok, Err, IsUtf8}
 use Rattle.std.proofs.lemmas.Bool.{cases_Bool, cases_lt, false≢true}
 use Rattle.std.proofs.lemmas.List.{drop-drop, get_or-drop, get_or_default}
@@ -21,7 +22,8 @@ left-le skip [] = omega arith
 left-le (suc skip) (x ∷ xs) = let h : length (read_pieces skip xs).1 ≤ length xs = left-le skip xs in omega arith
 left-le zero (x ∷ xs) = piece (piece_at (x ∷ xs)) (λ n. left-le n xs)
   where
-    piece : (o : Option (List ℕ × ℕ)) → ((n : ℕ) → length (read_pieces n xs).1 ≤ length xs) → length (with_piece o (x ∷ xs) (λ n. read_pieces n xs)).1 ≤ length (x ∷ xs)
+    piece : (o : Option (List ℕ × ℕ)) → ((n : ℕ) → length (read_pieces n xs).1 ≤ length xs)
+        → length (with_piece o (x ∷ xs) (λ n. read_pieces n xs)).1 ≤ length (x ∷ xs)
     piece None more = omega arith
     piece (Some p) more = let h : length (read_pieces p.1 xs).1 ≤ length xs = more p.1 in omega arith
 
@@ -29,7 +31,8 @@ left-le zero (x ∷ xs) = piece (piece_at (x ∷ xs)) (λ n. left-le n xs)
 further-read : (i n : ℕ) (read : List ℕ × List ℕ) → length read.1 ≤ n → string_read read (suc i + n) ≡ further i (string_read read (1 + n))
 further-read i n (string, []) l = let end : suc (suc i + n) ≡ i + suc (1 + n) = omega arith in ap (λ m. Ok (string, m)) end
 further-read i n (string, x ∷ left) l =
-    let place : suc i + n - suc (length left) ≡ i + (1 + n - suc (length left)) = omega arith in ap (λ m. Err (escape_fault m (byte_at left 0))) place
+    let place : suc i + n - suc (length left) ≡ i + (1 + n - suc (length left)) = omega arith in
+    ap (λ m. Err (escape_fault m (byte_at left 0))) place
 
 -- the bytes after an opening quote
 after-opening : (b : List ℕ) (i : ℕ) → drop (suc i) b ≡ drop 1 (drop i b)
@@ -53,7 +56,8 @@ pub closing_quote-further : (b : List ℕ) (i : ℕ) → byte_at b i ≡ quote �
 closing_quote-further b i e =
     let bs : List ℕ = content (drop 1 (drop i b)) in
     let sum : suc i + length bs ≡ i + (1 + length bs) = omega arith in
-    closing_quote-content b i e ∙ ap (λ us. suc i + length (content us)) (after-opening b i) ∙ sum ∙ ap (λ n. i + n) (sym (closing_quote-content (drop i b) 0 (opening b i e)))
+    closing_quote-content b i e ∙ ap (λ us. suc i + length (content us)) (after-opening b i) ∙ sum
+    ∙ ap (λ n. i + n) (sym (closing_quote-content (drop i b) 0 (opening b i e)))
 
 -- A character may begin at a quote.
 pub utf8-opening : (b : List ℕ) (i : ℕ) → i < length b → byte_at b i ≡ quote → IsUtf8 b → IsUtf8 (drop i b)
@@ -70,10 +74,12 @@ all-closed false u e = absurd (false≢true (sym e))
 
 -- inside, a string is open
 is-open : (b : List ℕ) (i : ℕ) → is_inside b i ≡ true → is_closed b (suc i) ≡ false
-is-open b i inside = elim (cases_Bool (is_closed b (suc i))) [ inl h ↦ absurd (false≢true (sym (is_inside-at b i true h) ∙ inside)) | inr h ↦ h ]
+is-open b i inside =
+    elim (cases_Bool (is_closed b (suc i))) [ inl h ↦ absurd (false≢true (sym (is_inside-at b i true h) ∙ inside)) | inr h ↦ h ]
 
 -- Where no string is bad, a string that is opened is closed.
-pub closing_quote-inside : (b : List ℕ) (i : ℕ) → i < length b → IsTrue (is_inside b i) → IsFalse (has_bad_string b) → closing_quote b i < length b
+pub closing_quote-inside : (b : List ℕ) (i : ℕ) → i < length b → IsTrue (is_inside b i) → IsFalse (has_bad_string b)
+    → closing_quote b i < length b
 closing_quote-inside b i l inside good =
     elim (cases_lt (closing_quote b i) (length b)) [
       | inl within ↦ within

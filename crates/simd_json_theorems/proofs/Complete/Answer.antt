@@ -28,7 +28,9 @@ unfolding descent
 positions-descent b d limit is none =
     let missing : Error = fault_at b Syntax (last_index (tokens b)) in
     let no_token : tokens b ≡ [] = tokens-positions b ∙ ap (tokens_along b) none in
-    let refused : descent b limit ≡ Err missing = ap (λ r. r >>= root_end b (tokens b)) (ap (value_from b missing limit) no_token ∙ (value_from-takes b missing limit).none) in
+    let refused : descent b limit ≡ Err missing =
+    ap (λ r. r >>= root_end b (tokens b))
+    (ap (value_from b missing limit) no_token ∙ (value_from-takes b missing limit).none) in
     cc
 
 -- The whole input has no fault.
@@ -38,8 +40,10 @@ input_fault-Denotes b d limit h within =
     cond-false _ _ _ (le-ltb max_length (length b) within.size)
     ∙ cond-false _ _ _ (ap not (is_utf8-from_IsUtf8 b (IsUtf8-Denotes b d h)))
     ∙ cond-false _ _ _ (has_bad_string-Denotes b d h)
-    ∙ cond-false _ _ _ (ne_eqb (length (positions b)) 0 (λ none. positions-descent b d limit (descent-Denotes b d limit h within.integers within.nesting) (nil_from_length (positions b) none)))
+    ∙ cond-false _ _ _ (ne_eqb (length (positions b)) 0 (λ none. positions-descent b d limit
+    (descent-Denotes b d limit h within.integers within.nesting) (nil_from_length (positions b) none)))
 
 pub answer-Denotes : (b : List ℕ) (d : Document) (limit : ℕ) → Denotes b d → WithinLimits b d limit → answer b limit ≡ Ok d
 unfolding answer
-answer-Denotes b d limit h within = ap (λ o. fault_or o (descent b limit)) (input_fault-Denotes b d limit h within) ∙ descent-Denotes b d limit h within.integers within.nesting
+answer-Denotes b d limit h within = ap (λ o. fault_or o (descent b limit)) (input_fault-Denotes b d limit h within)
+    ∙ descent-Denotes b d limit h within.integers within.nesting

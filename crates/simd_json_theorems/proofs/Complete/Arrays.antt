@@ -34,15 +34,18 @@ module _ (b : List ℕ) (missing : Error) (levels : ℕ) where
   joined : (d : Document) (ds : Elements) → ReadsHere b value d (IsValue d) → ReadsUpTo b 93 more ds (AreMoreElements ds)
       → ReadsUpTo b 93 (elements_by b missing value) (element d ds) (Joined (Spaced (IsValue d)) (AreMoreElements ds))
   joined d ds first after k xs rest j e =
-      let regrouped : drop k b ≡ j.left ++ (j.right ++ 93 ∷ rest) = e ∙ ap (λ us. us ++ 93 ∷ rest) j.whole ∙ append_assoc j.left j.right (93 ∷ rest) in
+      let regrouped : drop k b ≡ j.left ++ (j.right ++ 93 ∷ rest) =
+      e ∙ ap (λ us. us ++ 93 ∷ rest) j.whole ∙ append_assoc j.left j.right (93 ∷ rest) in
       let g : Got b (value (tokens_at b k)) d (j.right ++ 93 ∷ rest) =
-      spaced b value d (IsValue d) first k j.left (j.right ++ 93 ∷ rest) j.left_holds regrouped (ended-elements ds j.right rest j.right_holds) in
+      spaced b value d (IsValue d) first k j.left (j.right ++ 93 ∷ rest) j.left_holds regrouped
+      (ended-elements ds j.right rest j.right_holds) in
       let h : Got b (more (tokens_at b g.end)) ds rest = after g.end j.right rest j.right_holds g.there in
       record {
         end = h.end;
         there = h.there;
         is = elements_by-turn b missing value (value_from-takes b missing levels) (tokens_at b k)
-            ∙ ap (λ r. turn b missing value (value_from-takes b missing levels) r (elements_by b missing value)) g.is ∙ ap (λ r. r >>= λ rest. Ok (element d rest.0, rest.1)) h.is;
+            ∙ ap (λ r. turn b missing value (value_from-takes b missing levels) r (elements_by b missing value)) g.is
+            ∙ ap (λ r. r >>= λ rest. Ok (element d rest.0, rest.1)) h.is;
       }
 
   -- the elements after the first
@@ -57,7 +60,8 @@ module _ (b : List ℕ) (missing : Error) (levels : ℕ) where
       record { end = g.end; there = g.there; is = ap more (byte_here b k 44 (h.0 ++ 93 ∷ rest) value_separator refl f refl refl) ∙ g.is }
 
   -- where elements are read no closing bracket stands
-  not_empty : (ds : Elements) (us ts : List Token) → elements_by b missing value ts ≡ Ok (ds, us) → array_from b missing value ts ≡ elements_by b missing value ts
+  not_empty : (ds : Elements) (us ts : List Token) → elements_by b missing value ts ≡ Ok (ds, us)
+      → array_from b missing value ts ≡ elements_by b missing value ts
   unfolding elements_from value_from
   not_empty ds us [] e = cc
   not_empty ds us (t ∷ ts) e = go t.form refl
@@ -66,7 +70,8 @@ module _ (b : List ℕ) (missing : Error) (levels : ℕ) where
       no_value zero h f = cc
       no_value (suc n) h f = cc
 
-      go : (form : Form) → t.form ≡ form → first_element b missing form (t ∷ ts) ts (elements_by b missing value) ≡ elements_by b missing value (t ∷ ts)
+      go : (form : Form) → t.form ≡ form
+          → first_element b missing form (t ∷ ts) ts (elements_by b missing value) ≡ elements_by b missing value (t ∷ ts)
       go end_array h = absurd (no_value levels h e)
       go _ h = refl
 
@@ -80,17 +85,21 @@ module _ (b : List ℕ) (missing : Error) (levels : ℕ) where
         is = ap (array_from b missing value) (p.same ∙ byte_here b p.end 93 rest end_array refl p.there refl refl);
       }
   elements_read (element d ds) reads k xs rest h e =
-      let g : Got b (elements_by b missing value (tokens_at b k)) (element d ds) rest = joined d ds reads.0 (more_read ds reads.1) k xs rest h e in
+      let g : Got b (elements_by b missing value (tokens_at b k)) (element d ds) rest =
+      joined d ds reads.0 (more_read ds reads.1) k xs rest h e in
       record { end = g.end; there = g.there; is = not_empty (element d ds) (tokens_at b g.end) (tokens_at b k) g.is ∙ g.is }
 
   -- An array, where one more container may be open.
   pub array_reads : (ds : Elements) → ElementsRead ds → ReadsHere b (value_from b missing (suc levels)) (array ds) (IsValue (array ds))
   unfolding value_from
   array_reads ds reads k xs rest (inner, same, h) e t =
-      let f : drop k b ≡ 91 ∷ (inner ++ 93 ∷ rest) = e ∙ ap (λ us. us ++ rest) same ∙ ap (λ us. 91 ∷ us) (append_assoc inner (93 ∷ []) rest) in
-      let g : Got b (array_from b missing value (tokens_at b (suc k))) ds rest = elements_read ds reads (suc k) inner rest h (drop-tail k b 91 (inner ++ 93 ∷ rest) f) in
+      let f : drop k b ≡ 91 ∷ (inner ++ 93 ∷ rest) =
+      e ∙ ap (λ us. us ++ rest) same ∙ ap (λ us. 91 ∷ us) (append_assoc inner (93 ∷ []) rest) in
+      let g : Got b (array_from b missing value (tokens_at b (suc k))) ds rest =
+      elements_read ds reads (suc k) inner rest h (drop-tail k b 91 (inner ++ 93 ∷ rest) f) in
       record {
         end = g.end;
         there = g.there;
-        is = ap (value_from b missing (suc levels)) (byte_here b k 91 (inner ++ 93 ∷ rest) begin_array refl f refl refl) ∙ ap (λ r. r >>= λ inner. Ok (array inner.0, inner.1)) g.is;
+        is = ap (value_from b missing (suc levels)) (byte_here b k 91 (inner ++ 93 ∷ rest) begin_array refl f refl refl)
+            ∙ ap (λ r. r >>= λ inner. Ok (array inner.0, inner.1)) g.is;
       }

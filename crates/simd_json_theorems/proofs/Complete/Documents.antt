@@ -1,7 +1,8 @@
 -- What the bytes denote by the grammar, the descent reads, within the depth and the ranges of integers.
 use Rattle.std.proofs.Common.{◌≡◌, refl, sym, ◌∙◌, ap, ℕ, zero, suc, ◌≤◌, List, [], append-nil, arith}
 use Rattle.std.specs.Prelude.{Ok}
-use Rattle.simd_json_parts.specs.Document.{Document, null, boolean, integer, decimal, string, array, object, Elements, no_elements, element, Members, no_members, member}
+use Rattle.simd_json_parts.specs.Document.{Document, null, boolean, integer, decimal, string, array, object, Elements, no_elements}
+use Rattle.simd_json_parts.specs.Document.{element, Members, no_members, member}
 use Rattle.simd_json_parts.specs.Limits.{depth, elements_depth, members_depth, IntegersFit, ElementsFit, MembersFit}
 use Rattle.simd_json_parts.specs.Grammar.{IsValue, Denotes}
 use Rattle.simd_json_parts.specs.Tokens.{tokens, tokens_from}
@@ -18,7 +19,8 @@ use Rattle.simd_json_theorems.proofs.Complete.Objects.{MembersRead, object_reads
 module _ (b : List ℕ) (missing : Error) where
   mutual
     -- Each document is read wherever it stands.
-    pub value_reads : (d : Document) (levels : ℕ) → IntegersFit d → depth d ≤ levels → ReadsHere b (value_from b missing levels) d (IsValue d)
+    pub value_reads : (d : Document) (levels : ℕ) → IntegersFit d → depth d ≤ levels
+        → ReadsHere b (value_from b missing levels) d (IsValue d)
     value_reads null levels fits l = null_reads b missing levels
     value_reads (boolean x) levels fits l = boolean_reads b missing levels x
     value_reads (integer minus n) levels fits l = integer_reads b missing levels minus n fits

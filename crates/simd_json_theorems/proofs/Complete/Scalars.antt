@@ -1,5 +1,6 @@
 -- Atoms, numbers, strings and names of the grammar are read where they stand.
-use Rattle.std.proofs.Common.{◌≡◌, refl, sym, ◌∙◌, ap, ℕ, zero, suc, ◌+◌, ◌≤◌, inl, inr, List, [], ◌∷◌, ◌++◌, length, drop, append_assoc, Bool, true, false, ◌||◌, ◌&&◌, ◌==◌, nat_eq, nat_le, if◌then◌else◌, arith}
+use Rattle.std.proofs.Common.{◌≡◌, refl, sym, ◌∙◌, ap, ℕ, zero, suc, ◌+◌, ◌≤◌, inl, inr, List, [], ◌∷◌, ◌++◌, length, drop}
+use Rattle.std.proofs.Common.{append_assoc, Bool, true, false, ◌||◌, ◌&&◌, ◌==◌, nat_eq, nat_le, if◌then◌else◌, arith}
 use Rattle.std.specs.Prelude.{Result, Ok, codes}
 use Rattle.std.specs.List.{starts_with}
 use Rattle.std.proofs.lemmas.Bool.{and_from, or_left, or_right, eq-eqb, le-leb, cond-true}
@@ -45,8 +46,10 @@ begins_number-digit : (c : ℕ) → 48 ≤ c → c ≤ 57 → begins_number c �
 begins_number-digit c low high = or_right _ _ (and_from _ _ (le-leb 48 c low) (le-leb c 57 high))
 
 number_begins : (xs : List ℕ) → Matches number_literal xs → BeginsNumber xs
-number_begins xs (ss, ys, e, inr (c, g, low, high), more) = record { first = c; rest = ys; whole = simp (e, g); fits = or_left _ _ (eq-eqb c 45 (omega arith)) }
-number_begins xs (ss, ys, e, inl none, (zs, ws, f, inl (c, g, low, high), more)) = record { first = c; rest = ws; whole = simp (e, none, f, g); fits = begins_number-digit c low (omega arith) }
+number_begins xs (ss, ys, e, inr (c, g, low, high), more) =
+    record { first = c; rest = ys; whole = simp (e, g); fits = or_left _ _ (eq-eqb c 45 (omega arith)) }
+number_begins xs (ss, ys, e, inl none, (zs, ws, f, inl (c, g, low, high), more)) =
+    record { first = c; rest = ws; whole = simp (e, none, f, g); fits = begins_number-digit c low (omega arith) }
 number_begins xs (ss, ys, e, inl none, (zs, ws, f, inr (us, vs, g, (c, h, low, high), many), more)) =
     record { first = c; rest = vs ++ ws; whole = simp (e, none, f, g, h); fits = begins_number-digit c (omega arith) high }
 
@@ -93,7 +96,8 @@ module _ (b : List ℕ) where
   literal_here k xs rest t (content, cs, same, pieces, spells) e =
       record {
         end = suc (suc k + length content);
-        there = drop-tail (suc k + length content) b 34 rest (drop-through (suc k) b content (34 ∷ rest) (drop-tail k b 34 (content ++ 34 ∷ rest) whole));
+        there = drop-tail (suc k + length content) b 34 rest
+            (drop-through (suc k) b content (34 ∷ rest) (drop-tail k b 34 (content ++ 34 ∷ rest) whole));
         is = string_here b k (suc (suc k + length content)) (content ++ 34 ∷ rest) (omega arith) t whole
             (string_at-literal b k content rest cs whole pieces ∙ ap (λ us. Ok (us, suc (suc k + length content))) (sym spells));
       }
@@ -110,12 +114,14 @@ module _ (b : List ℕ) where
 
     module _ (levels : ℕ) where
       -- what was read at a string or a scalar is a value, however many containers may be open
-      value_from-string : (n k : ℕ) (r : List ℕ × ℕ) (ts : List Token) → value_from b missing n (record { index = k; form = string_token (Ok r) } ∷ ts) ≡ Ok (string r.0, ts)
+      value_from-string : (n k : ℕ) (r : List ℕ × ℕ) (ts : List Token)
+          → value_from b missing n (record { index = k; form = string_token (Ok r) } ∷ ts) ≡ Ok (string r.0, ts)
       unfolding value_from
       value_from-string zero k r ts = refl
       value_from-string (suc n) k r ts = refl
 
-      value_from-scalar : (n k : ℕ) (r : Document × ℕ) (ts : List Token) → value_from b missing n (record { index = k; form = scalar (Ok r) } ∷ ts) ≡ Ok (r.0, ts)
+      value_from-scalar : (n k : ℕ) (r : Document × ℕ) (ts : List Token)
+          → value_from b missing n (record { index = k; form = scalar (Ok r) } ∷ ts) ≡ Ok (r.0, ts)
       unfolding value_from
       value_from-scalar zero k r ts = refl
       value_from-scalar (suc n) k r ts = refl
@@ -124,26 +130,34 @@ module _ (b : List ℕ) where
       pub string_reads : (t : List ℕ) → ReadsHere b (value_from b missing levels) (string t) (IsValue (string t))
       string_reads t k xs rest h e ended =
           let p : StringHere k t rest = literal_here k xs rest t h e in
-          record { end = p.end; there = p.there; is = ap (value_from b missing levels) p.is ∙ value_from-string levels k (t, p.end) (tokens_at b p.end) }
+          record {
+            end = p.end;
+            there = p.there;
+            is = ap (value_from b missing levels) p.is ∙ value_from-string levels k (t, p.end) (tokens_at b p.end);
+          }
 
       -- a scalar that is read, by its first byte
-      scalar_reads : (k c : ℕ) (cs xs rest : List ℕ) (d : Document) → xs ≡ c ∷ cs → drop k b ≡ xs ++ rest → is_whitespace c ≡ false → form_of b k c ≡ scalar (Ok (d, k + length xs))
+      scalar_reads : (k c : ℕ) (cs xs rest : List ℕ) (d : Document) → xs ≡ c ∷ cs → drop k b ≡ xs ++ rest → is_whitespace c ≡ false
+          → form_of b k c ≡ scalar (Ok (d, k + length xs))
           → Got b (value_from b missing levels (tokens_at b k)) d rest
       scalar_reads k c cs xs rest d same e token is =
           record {
             end = k + length xs;
             there = drop-through k b xs rest e;
-            is = ap (value_from b missing levels) (scalar_here b k (k + length xs) (cs ++ rest) (omega (arith, ap length same)) c d (e ∙ ap (λ us. us ++ rest) same) token is)
+            is = ap (value_from b missing levels) (scalar_here b k (k + length xs) (cs ++ rest) (omega (arith, ap length same)) c d
+                (e ∙ ap (λ us. us ++ rest) same) token is)
                 ∙ value_from-scalar levels k (d, k + length xs) (tokens_at b (k + length xs));
           }
 
       -- an atom, by its first letter
       atom_reads : (k c : ℕ) (cs xs rest : List ℕ) (d : Document) (kind : ErrorType) → xs ≡ c ∷ cs → drop k b ≡ xs ++ rest → Ended rest
-          → is_whitespace c ≡ false → form_of b k c ≡ scalar (atom_at b k) → atom_for c k ≡ atom_or (c ∷ cs) d kind b k → starts_with nat_eq ((c ∷ cs) ++ rest) (c ∷ cs) ≡ true
+          → is_whitespace c ≡ false → form_of b k c ≡ scalar (atom_at b k) → atom_for c k ≡ atom_or (c ∷ cs) d kind b k
+          → starts_with nat_eq ((c ∷ cs) ++ rest) (c ∷ cs) ≡ true
           → Got b (value_from b missing levels (tokens_at b k)) d rest
       atom_reads k c cs xs rest d kind same e t token form is begins =
           let f : drop k b ≡ (c ∷ cs) ++ rest = e ∙ ap (λ us. us ++ rest) same in
-          scalar_reads k c cs (c ∷ cs) rest d refl f token (form ∙ ap scalar (atom_at-for k c (cs ++ rest) f ∙ is ∙ letters_read (c ∷ cs) d kind k rest f begins t))
+          scalar_reads k c cs (c ∷ cs) rest d refl f token
+          (form ∙ ap scalar (atom_at-for k c (cs ++ rest) f ∙ is ∙ letters_read (c ∷ cs) d kind k rest f begins t))
 
       -- Atoms are read.
       pub null_reads : ReadsHere b (value_from b missing levels) null (IsValue null)
@@ -156,17 +170,22 @@ module _ (b : List ℕ) where
       boolean_reads false k xs rest h e t = atom_reads k 102 (codes "alse") xs rest (boolean false) ExpectedFalse h e t refl refl refl refl
 
       -- a number that is read
-      number_reads : (k : ℕ) (xs rest : List ℕ) (d : Document) → BeginsNumber xs → drop k b ≡ xs ++ rest → number_at b k ≡ Ok (d, k + length xs) → Got b (value_from b missing levels (tokens_at b k)) d rest
+      number_reads : (k : ℕ) (xs rest : List ℕ) (d : Document) → BeginsNumber xs → drop k b ≡ xs ++ rest
+          → number_at b k ≡ Ok (d, k + length xs) → Got b (value_from b missing levels (tokens_at b k)) d rest
       number_reads k xs rest d h e is =
-          scalar_reads k h.first h.rest xs rest d h.whole e (begins_number-space h.first h.fits) (form_of-number b k h.first h.fits ∙ ap scalar is)
+          scalar_reads k h.first h.rest xs rest d h.whole e (begins_number-space h.first h.fits)
+          (form_of-number b k h.first h.fits ∙ ap scalar is)
 
       -- Numbers are read.
-      pub integer_reads : (minus : Bool) (n : ℕ) → IntegersFit (integer minus n) → ReadsHere b (value_from b missing levels) (integer minus n) (IsValue (integer minus n))
+      pub integer_reads : (minus : Bool) (n : ℕ) → IntegersFit (integer minus n)
+          → ReadsHere b (value_from b missing levels) (integer minus n) (IsValue (integer minus n))
       integer_reads minus n fits k xs rest (m, sign, size) e t =
           let small : magnitude xs ≤ max_magnitude (has_minus xs) = rw (size, sign) fits in
           number_reads k xs rest (integer minus n) (number_begins xs (integer-number xs m)) e
-          (number_at-integer b k xs rest e t m small ∙ ap (λ s. Ok (integer s (magnitude xs), k + length xs)) sign ∙ ap (λ u. Ok (integer minus u, k + length xs)) size)
+          (number_at-integer b k xs rest e t m small ∙ ap (λ s. Ok (integer s (magnitude xs), k + length xs)) sign
+          ∙ ap (λ u. Ok (integer minus u, k + length xs)) size)
 
       pub decimal_reads : (literal : List ℕ) → ReadsHere b (value_from b missing levels) (decimal literal) (IsValue (decimal literal))
       decimal_reads literal k xs rest (m, same) e t =
-          number_reads k xs rest (decimal literal) (number_begins xs (decimal-number xs m)) e (number_at-decimal b k xs rest e t m ∙ ap (λ us. Ok (decimal us, k + length xs)) same)
+          number_reads k xs rest (decimal literal) (number_begins xs (decimal-number xs m)) e
+          (number_at-decimal b k xs rest e t m ∙ ap (λ us. Ok (decimal us, k + length xs)) same)

@@ -1,5 +1,6 @@
 -- The bytes of a string literal: those of escapes are ASCII, the others spell characters, and none is a control byte.
-use Rattle.std.proofs.Common.{◌≡◌, refl, sym, ◌∙◌, ap, subst, ℕ, ◌≤◌, ◌⊎◌, inl, inr, List, [], ◌∷◌, ◌++◌, ◌+◌, ◌/◌, cond, Bool, true, false, not, ◌&&◌, ◌==◌, nat_le, nat_lt, IsTrue, arith}
+use Rattle.std.proofs.Common.{◌≡◌, refl, sym, ◌∙◌, ap, subst, ℕ, ◌≤◌, ◌⊎◌, inl, inr, List, [], ◌∷◌, ◌++◌, ◌+◌, ◌/◌, cond, Bool}
+use Rattle.std.proofs.Common.{true, false, not, ◌&&◌, ◌==◌, nat_le, nat_lt, IsTrue, arith}
 use Rattle.std.specs.Prelude.{Some, None}
 use Rattle.std.specs.Char.{encode_utf8, is_digit, IsScalar}
 use Rattle.std.specs.List.{list_all, All}
@@ -34,8 +35,10 @@ ascii-letter x c e =
   where
     none : is_noncontrol_ascii x ≡ false → ⊥
     none bad =
-        let no : (n : ℕ) → is_noncontrol_ascii n ≡ true → (x == n) ≡ false = λ n good. apart (λ y. not (is_noncontrol_ascii y)) x n (not_from_false _ bad) (ap not good) in
-        let unknown : escaped_character x ≡ None = rw (no 34 refl, no 92 refl, no 47 refl, no 98 refl, no 102 refl, no 110 refl, no 114 refl, no 116 refl) refl in
+        let no : (n : ℕ) → is_noncontrol_ascii n ≡ true → (x == n) ≡ false =
+        λ n good. apart (λ y. not (is_noncontrol_ascii y)) x n (not_from_false _ bad) (ap not good) in
+        let unknown : escaped_character x ≡ None =
+        rw (no 34 refl, no 92 refl, no 47 refl, no 98 refl, no 102 refl, no 110 refl, no 114 refl, no 116 refl) refl in
         cc
 
 ascii-code_unit : (xs : List ℕ) (u : ℕ) → IsCodeUnit xs u → AreAscii xs
@@ -49,19 +52,25 @@ piece_cases xs c (inl (scalar, low, no_quote, no_backslash, e)) = inr (scalar, l
 piece_cases xs c (inr (inl (letter, e, f))) = inl (subst AreAscii (sym e) (rw (ascii-letter letter c f) refl))
 piece_cases xs c (inr (inr (inl (code_unit, high, low)))) = inl (ascii-code_unit xs c code_unit)
 piece_cases xs c (inr (inr (inr (us, vs, high, low, e, first, second, is_high, is_low, f)))) =
-    inl (subst AreAscii (sym e) (list_all-append is_noncontrol_ascii us vs ∙ and_from _ _ (ascii-code_unit us high first) (ascii-code_unit vs low second)))
+    inl (subst AreAscii (sym e)
+    (list_all-append is_noncontrol_ascii us vs ∙ and_from _ _ (ascii-code_unit us high first) (ascii-code_unit vs low second)))
 
-module _ (P : List ℕ → Type 0) (closed : IsClosed P) (ascii : (c : ℕ) → is_noncontrol_ascii c ≡ true → P (c ∷ [])) (characters : (c : ℕ) → IsScalar c → 32 ≤ c → P (encode_utf8 c)) where
+module _ (P : List ℕ → Type 0) (closed : IsClosed P) (ascii : (c : ℕ) → is_noncontrol_ascii c ≡ true → P (c ∷ []))
+    (characters : (c : ℕ) → IsScalar c → 32 ≤ c → P (encode_utf8 c)) where
   -- of pieces
   of_pieces : (bs cs : List ℕ) → ArePieces bs cs → P bs
   of_pieces bs [] e = subst P (sym e) closed.nil
   of_pieces bs (c ∷ cs) (xs, ys, e, piece, more) =
-      subst P (sym e) (closed.append xs ys (elim (piece_cases xs c piece) [ inl h ↦ of_bytes P closed is_noncontrol_ascii ascii xs h | inr h ↦ subst P (sym h.2) (characters c h.0 h.1) ]) (of_pieces ys cs more))
+      subst P (sym e) (closed.append xs ys (elim (piece_cases xs c piece) [
+        | inl h ↦ of_bytes P closed is_noncontrol_ascii ascii xs h
+        | inr h ↦ subst P (sym h.2) (characters c h.0 h.1)
+      ]) (of_pieces ys cs more))
 
   -- What holds of each byte of ASCII, of characters and of concatenations holds of strings.
   pub of_string : (bs t : List ℕ) → IsStringLiteral bs t → P bs
   of_string bs t (content, cs, e, pieces, spells) =
-      subst P (sym e) (closed.append (quote ∷ []) (content ++ quote ∷ []) (ascii quote refl) (closed.append content (quote ∷ []) (of_pieces content cs pieces) (ascii quote refl)))
+      subst P (sym e) (closed.append (quote ∷ []) (content ++ quote ∷ []) (ascii quote refl)
+      (closed.append content (quote ∷ []) (of_pieces content cs pieces) (ascii quote refl)))
 
 -- ---- no byte of a string literal is a control byte
 
@@ -83,14 +92,18 @@ NoControl-character c l = go (nat_lt c 128) (nat_lt c 2048) (nat_lt c 65536)
     also : (x : ℕ) (xs : List ℕ) → 128 ≤ x → NoControl xs → NoControl (x ∷ xs)
     also x xs h more = All-cons (λ c. is_control c ≡ false) x xs (le-ltb x 32 (omega arith)) more
 
-    go : (x y z : Bool) → NoControl (cond x (c ∷ []) (cond y ((192 + c / 64) ∷ next c ∷ []) (cond z ((224 + c / 4096) ∷ next (c / 64) ∷ next c ∷ []) ((240 + c / 262144) ∷ next (c / 4096) ∷ next (c / 64) ∷ next c ∷ []))))
+    go : (x y z : Bool) → NoControl (cond x (c ∷ []) (cond y ((192 + c / 64) ∷ next c ∷ []) (cond z
+        ((224 + c / 4096) ∷ next (c / 64) ∷ next c ∷ []) ((240 + c / 262144) ∷ next (c / 4096) ∷ next (c / 64) ∷ next c ∷ []))))
     go true y z = NoControl-byte c l
     go false true z = also (192 + c / 64) (next c ∷ []) (omega arith) (NoControl-byte (next c) (omega arith))
-    go false false true = also (224 + c / 4096) (next (c / 64) ∷ next c ∷ []) (omega arith) (also (next (c / 64)) (next c ∷ []) (omega arith) (NoControl-byte (next c) (omega arith)))
+    go false false true = also (224 + c / 4096) (next (c / 64) ∷ next c ∷ []) (omega arith)
+        (also (next (c / 64)) (next c ∷ []) (omega arith) (NoControl-byte (next c) (omega arith)))
     go false false false =
         also (240 + c / 262144) (next (c / 4096) ∷ next (c / 64) ∷ next c ∷ []) (omega arith)
-        (also (next (c / 4096)) (next (c / 64) ∷ next c ∷ []) (omega arith) (also (next (c / 64)) (next c ∷ []) (omega arith) (NoControl-byte (next c) (omega arith))))
+        (also (next (c / 4096)) (next (c / 64) ∷ next c ∷ []) (omega arith)
+        (also (next (c / 64)) (next c ∷ []) (omega arith) (NoControl-byte (next c) (omega arith))))
 
 -- So none of a string literal is.
 pub NoControl-string : (xs t : List ℕ) → IsStringLiteral xs t → NoControl xs
-NoControl-string = of_string NoControl IsClosed-NoControl (λ c h. NoControl-byte c (leb-true 32 c (and_parts _ _ h).0)) (λ c scalar low. NoControl-character c low)
+NoControl-string = of_string NoControl IsClosed-NoControl (λ c h. NoControl-byte c (leb-true 32 c (and_parts _ _ h).0))
+    (λ c scalar low. NoControl-character c low)

@@ -57,8 +57,10 @@ module _ (b : List ℕ) where
   spaced read x P reads k xs rest s e t =
       let regrouped : xs ++ rest ≡ s.before ++ (s.inner ++ (s.after ++ rest)) =
       ap (λ us. us ++ rest) s.whole ∙ append_assoc (s.before ++ s.inner) s.after rest ∙ append_assoc s.before s.inner (s.after ++ rest) in
-      let p : AfterSpace k (s.inner ++ (s.after ++ rest)) = past_space k s.before (s.inner ++ (s.after ++ rest)) s.before_space (e ∙ regrouped) in
-      let g : Got (read (tokens_at b p.end)) x (s.after ++ rest) = reads p.end s.inner (s.after ++ rest) s.holds p.there (ended-space s.after rest s.after_space t) in
+      let p : AfterSpace k (s.inner ++ (s.after ++ rest)) =
+      past_space k s.before (s.inner ++ (s.after ++ rest)) s.before_space (e ∙ regrouped) in
+      let g : Got (read (tokens_at b p.end)) x (s.after ++ rest) =
+      reads p.end s.inner (s.after ++ rest) s.holds p.there (ended-space s.after rest s.after_space t) in
       let q : AfterSpace g.end rest = past_space g.end s.after rest s.after_space g.there in
       record { end = q.end; there = q.there; is = ap read p.same ∙ g.is ∙ ap (λ ts. Ok (x, ts)) q.same }
 
@@ -77,7 +79,8 @@ module _ (b : List ℕ) where
       tokens_at-token b k (drop-inside k b c rest e) (ap is_whitespace first ∙ token) ∙ ap (after k) (ap (form_of b k) first ∙ is)
 
   -- A token that has an end has the tokens from there on after it:
-  ended_here : (k end c : ℕ) (rest : List ℕ) (form : Form) → suc k ≤ end → form_end k form ≡ Some end → drop k b ≡ c ∷ rest → is_whitespace c ≡ false → form_of b k c ≡ form
+  ended_here : (k end c : ℕ) (rest : List ℕ) (form : Form) → suc k ≤ end → form_end k form ≡ Some end → drop k b ≡ c ∷ rest
+      → is_whitespace c ≡ false → form_of b k c ≡ form
       → tokens_at b k ≡ record { index = k; form = form } ∷ tokens_at b end
   ended_here k end c rest form l ends e token is =
       let there : suc k + (end - suc k) ≡ end = omega arith in
@@ -86,7 +89,8 @@ module _ (b : List ℕ) where
       ∙ ap (λ ts. record { index = k; form = form } ∷ ts) (tokens_from-skip b (suc k) (end - suc k) ∙ ap (tokens_at b) there)
 
   -- a structural character,
-  pub byte_here : (k c : ℕ) (rest : List ℕ) (form : Form) → form_end k form ≡ Some (suc k) → drop k b ≡ c ∷ rest → is_whitespace c ≡ false → form_of b k c ≡ form
+  pub byte_here : (k c : ℕ) (rest : List ℕ) (form : Form) → form_end k form ≡ Some (suc k) → drop k b ≡ c ∷ rest
+      → is_whitespace c ≡ false → form_of b k c ≡ form
       → tokens_at b k ≡ record { index = k; form = form } ∷ tokens_at b (suc k)
   byte_here k c rest form ends e token is = ended_here k (suc k) c rest form (omega arith) ends e token is
 

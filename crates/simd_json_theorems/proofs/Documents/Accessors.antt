@@ -21,7 +21,8 @@ module _ {A : Type 0} where
   pub refused : (t : Accessor A) (d : Document) → as_t t d ≡ None → try_as_t t d ≡ Err (mismatch t.expected d)
   refused t d none = rw none
 
-  at_first : (t : Accessor A) (found : Option Document) (x : A) → (try_at (try_as_t t) found ≡ Ok (Some x)) ↔ (option_and_then t.answer found ≡ Some x)
+  at_first : (t : Accessor A) (found : Option Document) (x : A) → (try_at (try_as_t t) found ≡ Ok (Some x))
+      ↔ (option_and_then t.answer found ≡ Some x)
   at_first t (Some d) x = some-or (t.answer d) (mismatch t.expected d) x
   at_first t None x = (λ h. cc, λ h. cc)
 

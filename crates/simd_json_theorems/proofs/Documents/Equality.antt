@@ -3,12 +3,14 @@ use Rattle.std.proofs.Common.{◌≡◌, refl, sym, ◌∙◌, ℕ, Bool, true, 
 use Rattle.std.specs.Cmp.{IsEquivalence, booleans_Decides}
 use Rattle.std.proofs.lemmas.Bool.Decides.{Decides-and, Decides-like, same_from_decides}
 use Rattle.std.proofs.lemmas.Slice.Eq.{bytes_eq-Decides}
-use Rattle.simd_json_parts.specs.Document.{Document, null, boolean, integer, decimal, string, array, object, Elements, no_elements, element, Members, no_members, member}
+use Rattle.simd_json_parts.specs.Document.{Document, null, boolean, integer, decimal, string, array, object, Elements, no_elements}
+use Rattle.simd_json_parts.specs.Document.{element, Members, no_members, member}
 use Rattle.simd_json_parts.specs.Equality.{same_number, equal, equal_elements, equal_members}
 use Rattle.simd_json_theorems.specs.Normalized.{normalized, normalized_elements, normalized_members}
 
 -- Two integers are the same number exactly if they are the same but for the sign of a zero.
-Decides-same_number : (minus minus' : Bool) (m n : ℕ) → Decides (same_number minus m minus' n) (normalized (integer minus m) ≡ normalized (integer minus' n))
+Decides-same_number : (minus minus' : Bool) (m n : ℕ)
+    → Decides (same_number minus m minus' n) (normalized (integer minus m) ≡ normalized (integer minus' n))
 Decides-same_number true true m n = (λ h. grind arith, λ h. grind arith)
 Decides-same_number true false m n = (λ h. grind arith, λ h. grind arith)
 Decides-same_number false true m n = (λ h. grind arith, λ h. grind arith)
@@ -35,7 +37,8 @@ mutual
   Decides-equal_members : (ms ns : Members) → Decides (equal_members ms ns) (normalized_members ms ≡ normalized_members ns)
   Decides-equal_members no_members no_members = (λ h. refl, λ h. refl)
   Decides-equal_members (member k d ms) (member l e ns) =
-      Decides-like _ (λ h. cc) (λ h. ((cc, cc), cc)) (Decides-and _ _ (Decides-and _ _ (bytes_eq-Decides k l) (Decides-equal d e)) (Decides-equal_members ms ns))
+      Decides-like _ (λ h. cc) (λ h. ((cc, cc), cc))
+      (Decides-and _ _ (Decides-and _ _ (bytes_eq-Decides k l) (Decides-equal d e)) (Decides-equal_members ms ns))
   Decides-equal_members _ _ = (λ h. cc, λ h. cc)
 
 -- So equality is an equivalence.

@@ -1,12 +1,14 @@
 -- Documents are equal exactly if their nodes are, one by one.
-use Rattle.std.proofs.Common.{◌≡◌, refl, sym, ◌∙◌, ap, ap₂, Bool, true, false, not, ◌&&◌, ◌==◌, ℕ, ℤ, pos, negsuc, suc, zero, List, [], ◌∷◌, ◌++◌, map, length, Decides, arith}
+use Rattle.std.proofs.Common.{◌≡◌, refl, sym, ◌∙◌, ap, ap₂, Bool, true, false, not, ◌&&◌, ◌==◌, ℕ, ℤ, pos, negsuc, suc, zero, List}
+use Rattle.std.proofs.Common.{[], ◌∷◌, ◌++◌, map, length, Decides, arith}
 use Rattle.std.specs.Cmp.{booleans_Decides}
 use Rattle.std.specs.Option.{option_eq}
 use Rattle.std.specs.Prelude.{Option, Some, None}
 use Rattle.std.proofs.lemmas.Bool.Decides.{Decides-and, Decides-int_eq, Decides-like, same_from_decides}
 use Rattle.std.proofs.lemmas.List.{length-map, map-append}
 use Rattle.std.proofs.lemmas.Slice.Eq.{bytes_eq-Decides}
-use Rattle.simd_json_parts.specs.Document.{Document, null, boolean, integer, decimal, string, array, object, Elements, no_elements, element, elements, Members, no_members, member, members}
+use Rattle.simd_json_parts.specs.Document.{Document, null, boolean, integer, decimal, string, array, object, Elements, no_elements}
+use Rattle.simd_json_parts.specs.Document.{element, elements, Members, no_members, member, members}
 use Rattle.simd_json_parts.specs.Equality.{equal}
 use Rattle.simd_json_theorems.specs.Normalized.{normalized, normalized_elements, normalized_members}
 use Rattle.simd_json_parts.specs.Integers.{number_of, integer_node}
@@ -42,7 +44,8 @@ normalized_item x = x
 abbrev key : StaticNode → Option Bool × Option ℤ
 key s = (truth_of s, number_in s)
 
-Decides-option : {A : Type 0} {E : A → A → Bool} → ((a b : A) → Decides (E a b) (a ≡ b)) → (x y : Option A) → Decides (option_eq E x y) (x ≡ y)
+Decides-option : {A : Type 0} {E : A → A → Bool} → ((a b : A) → Decides (E a b) (a ≡ b)) → (x y : Option A)
+    → Decides (option_eq E x y) (x ≡ y)
 Decides-option d None None = (λ h. refl, λ h. refl)
 Decides-option d (Some a) (Some b) = Decides-like _ (λ h. cc) (λ h. cc) (d a b)
 Decides-option d _ _ = (λ h. cc, λ h. cc)
@@ -50,7 +53,8 @@ Decides-option d _ _ = (λ h. cc, λ h. cc)
 Decides-key : (a b : StaticNode) → Decides (same_static a b) (key a ≡ key b)
 Decides-key a b =
     Decides-like _ (λ h. ap₂ (λ t n. (t, n)) h.0 h.1) (λ h. (ap (λ k. k.0) h, ap (λ k. k.1) h))
-    (Decides-and _ _ (Decides-option booleans_Decides (truth_of a) (truth_of b)) (Decides-option Decides-int_eq (number_in a) (number_in b)))
+    (Decides-and _ _ (Decides-option booleans_Decides (truth_of a) (truth_of b))
+    (Decides-option Decides-int_eq (number_in a) (number_in b)))
 
 key-node_of : (z : ℤ) → key (node_of z) ≡ (None, Some z)
 key-node_of (pos n) = ap₂ (λ t n. (t, n)) (truth_of-integer_node false n) (number_in-integer_node false n)
@@ -78,7 +82,8 @@ Decides-same_item _ _ = (λ h. cc, λ h. cc)
 
 Decides-same_items : (xs ys : List Item) → Decides (same_items xs ys) (map normalized_item xs ≡ map normalized_item ys)
 Decides-same_items [] [] = (λ h. refl, λ h. refl)
-Decides-same_items (x ∷ xs) (y ∷ ys) = Decides-like _ (λ h. cc) (λ h. (cc, cc)) (Decides-and _ _ (Decides-same_item x y) (Decides-same_items xs ys))
+Decides-same_items (x ∷ xs) (y ∷ ys) =
+    Decides-like _ (λ h. cc) (λ h. (cc, cc)) (Decides-and _ _ (Decides-same_item x y) (Decides-same_items xs ys))
 Decides-same_items _ _ = (λ h. cc, λ h. cc)
 
 -- ---- the nodes of a document
@@ -109,11 +114,13 @@ mutual
   listing-normalized (string t) = refl
   listing-normalized (array ds) =
       let beneath = elements_listing-normalized ds in
-      let counted : length (elements_listing (normalized_elements ds)) ≡ length (elements_listing ds) = ap length (sym beneath) ∙ length-map (elements_listing ds) normalized_item in
+      let counted : length (elements_listing (normalized_elements ds)) ≡ length (elements_listing ds) =
+      ap length (sym beneath) ∙ length-map (elements_listing ds) normalized_item in
       rw (beneath, length-normalized_elements ds, counted)
   listing-normalized (object ms) =
       let beneath = members_listing-normalized ms in
-      let counted : length (members_listing (normalized_members ms)) ≡ length (members_listing ms) = ap length (sym beneath) ∙ length-map (members_listing ms) normalized_item in
+      let counted : length (members_listing (normalized_members ms)) ≡ length (members_listing ms) =
+      ap length (sym beneath) ∙ length-map (members_listing ms) normalized_item in
       rw (beneath, length-normalized_members ms, counted)
 
   elements_listing-normalized : (ds : Elements) → map normalized_item (elements_listing ds) ≡ elements_listing (normalized_elements ds)
@@ -122,7 +129,8 @@ mutual
 
   members_listing-normalized : (ms : Members) → map normalized_item (members_listing ms) ≡ members_listing (normalized_members ms)
   members_listing-normalized no_members = refl
-  members_listing-normalized (member k d ms) = rw (map-append normalized_item (listing d) (members_listing ms), listing-normalized d, members_listing-normalized ms)
+  members_listing-normalized (member k d ms) =
+      rw (map-append normalized_item (listing d) (members_listing ms), listing-normalized d, members_listing-normalized ms)
 
 -- ---- both
 

@@ -4,7 +4,8 @@ use Rattle.std.specs.Char.{IsScalar, InScalarRange}
 use Rattle.std.proofs.lemmas.Bool.{and_parts, and_from, ltb-true}
 use Rattle.std.proofs.lemmas.Bool.Decides.{nat_tests}
 use Rattle.std.proofs.Math.Utf8.{scalars}
-use Rattle.simd_json_parts.specs.Document.{Document, null, boolean, integer, decimal, string, array, object, Elements, no_elements, element, Members, no_members, member}
+use Rattle.simd_json_parts.specs.Document.{Document, null, boolean, integer, decimal, string, array, object, Elements, no_elements}
+use Rattle.simd_json_parts.specs.Document.{element, Members, no_members, member}
 use Rattle.simd_json_parts.specs.Strings.{is_high_surrogate, is_low_surrogate, paired, IsPiece, ArePieces, IsStringLiteral}
 use Rattle.simd_json_theorems.specs.Spellable.{IsSpellable, ElementsSpellable, MembersSpellable}
 use Rattle.simd_json_parts.specs.Grammar.{Denotes, IsValue, AreElements, AreMoreElements, AreMembers, AreMoreMembers}
@@ -33,9 +34,13 @@ IsScalar-pair high low h l =
 -- A piece is for a character.
 pub IsScalar-piece : (bs : List ℕ) (c : ℕ) → IsPiece bs c → IsScalar c
 IsScalar-piece bs c (inl (scalar, control, no_quote, no_backslash, e)) = scalar
-IsScalar-piece bs c (inr (inl (letter, e, f))) = let small : (letter < 128) × (c < 128) = escaped_character-small letter c f in IsScalar-range c (inl (omega arith))
-IsScalar-piece bs c (inr (inr (inl (code_unit, high, low)))) = IsScalar-code_unit c (hex_value-small code_unit.0 code_unit.1 code_unit.2 code_unit.3 c code_unit.5) high low
-IsScalar-piece bs c (inr (inr (inr (us, vs, high, low, e, first, second, is_high, is_low, f)))) = subst IsScalar (sym f) (IsScalar-pair high low is_high is_low)
+IsScalar-piece bs c (inr (inl (letter, e, f))) =
+    let small : (letter < 128) × (c < 128) = escaped_character-small letter c f in
+    IsScalar-range c (inl (omega arith))
+IsScalar-piece bs c (inr (inr (inl (code_unit, high, low)))) =
+    IsScalar-code_unit c (hex_value-small code_unit.0 code_unit.1 code_unit.2 code_unit.3 c code_unit.5) high low
+IsScalar-piece bs c (inr (inr (inr (us, vs, high, low, e, first, second, is_high, is_low, f)))) =
+    subst IsScalar (sym f) (IsScalar-pair high low is_high is_low)
 
 -- So pieces are for characters.
 scalars-pieces : (bs cs : List ℕ) → ArePieces bs cs → scalars cs ≡ true
@@ -60,11 +65,13 @@ mutual
 
   elements-spellable : (ds : Elements) (bs : List ℕ) → AreElements ds bs → ElementsSpellable ds
   elements-spellable no_elements bs h = tt
-  elements-spellable (element d ds) bs h = (value-spellable d h.left_holds.inner h.left_holds.holds, more_elements-spellable ds h.right h.right_holds)
+  elements-spellable (element d ds) bs h =
+      (value-spellable d h.left_holds.inner h.left_holds.holds, more_elements-spellable ds h.right h.right_holds)
 
   more_elements-spellable : (ds : Elements) (bs : List ℕ) → AreMoreElements ds bs → ElementsSpellable ds
   more_elements-spellable no_elements bs h = tt
-  more_elements-spellable (element d ds) bs (rest, e, h) = (value-spellable d h.left_holds.inner h.left_holds.holds, more_elements-spellable ds h.right h.right_holds)
+  more_elements-spellable (element d ds) bs (rest, e, h) =
+      (value-spellable d h.left_holds.inner h.left_holds.holds, more_elements-spellable ds h.right h.right_holds)
 
   members-spellable : (ms : Members) (bs : List ℕ) → AreMembers ms bs → MembersSpellable ms
   members-spellable no_members bs h = tt

@@ -1,6 +1,7 @@
 -- What the fault of a reader reports, at a token and within one: the bytes before it are a beginning of a document, and with
 -- the first byte of a token that an array or an object does not expect they are none.
-use Rattle.std.proofs.Common.{◌≡◌, refl, sym, ◌∙◌, ap, subst, ℕ, suc, ◌<◌, List, [], ◌∷◌, ◌++◌, length, take, drop, append_assoc, length-append, true, false, arith}
+use Rattle.std.proofs.Common.{◌≡◌, refl, sym, ◌∙◌, ap, subst, ℕ, suc, ◌<◌, List, [], ◌∷◌, ◌++◌, length, take, drop, append_assoc}
+use Rattle.std.proofs.Common.{length-append, true, false, arith}
 use Rattle.std.specs.Prelude.{Result, Ok, Err}
 use Rattle.std.proofs.lemmas.Bool.{both_ways}
 use Rattle.std.proofs.lemmas.List.{take-append-drop}
@@ -15,7 +16,8 @@ use Rattle.simd_json_parts.specs.Tokens.{Token, Form, form_of, form_at}
 use Rattle.simd_json_parts.specs.declared.error.Error.{Error}
 use Rattle.simd_json_parts.specs.declared.error.ErrorType.{ErrorType}
 use Rattle.simd_json_scalars.proofs.Lists.Drops.{drop-head}
-use Rattle.simd_json_theorems.proofs.Faults.Expectations.{IsDocument, IsBeginning-document, IsBeginning-prefix, take-through, Expects, ExpectsAt, expects-at, expects-after}
+use Rattle.simd_json_theorems.proofs.Faults.Expectations.{IsDocument, IsBeginning-document, IsBeginning-prefix, take-through}
+use Rattle.simd_json_theorems.proofs.Faults.Expectations.{Expects, ExpectsAt, expects-at, expects-after}
 use Rattle.simd_json_theorems.proofs.Sound.FaultsWithin.{FaultWithin}
 use Rattle.simd_json_theorems.proofs.Faults.Follows.{LeadsTo}
 use Rattle.simd_json_theorems.proofs.Unique.LeadingBytes.{NoSpace}
@@ -31,7 +33,11 @@ pub record Took (ts rest : List Token) : Type 0 where
 -- More tokens are read.
 pub took-more : (ts us rest : List Token) → Took ts us → Took us rest → Took ts rest
 took-more ts us rest x y =
-    record { read = x.read ++ y.read; whole = x.whole ∙ ap (λ vs. x.read ++ vs) y.whole ∙ sym (append_assoc x.read y.read rest); some = omega (arith, x.some, length-append x.read y.read) }
+    record {
+      read = x.read ++ y.read;
+      whole = x.whole ∙ ap (λ vs. x.read ++ vs) y.whole ∙ sym (append_assoc x.read y.read rest);
+      some = omega (arith, x.some, length-append x.read y.read);
+    }
 
 -- One is read.
 pub took-one : (t : Token) (ts : List Token) → Took (t ∷ ts) ts
@@ -53,12 +59,14 @@ module _ (b : List ℕ) where
   OkOrReported (Err e) P = Reported e
 
   -- What the first reader owes is known to the second.
-  pub bind-OkOrReported : {A B : Type 0} (r : Result A Error) (f : A → Result B Error) (P : A → Type 0) (Q : B → Type 0) → OkOrReported r P → ((x : A) → P x → OkOrReported (f x) Q) → OkOrReported (r >>= f) Q
+  pub bind-OkOrReported : {A B : Type 0} (r : Result A Error) (f : A → Result B Error) (P : A → Type 0) (Q : B → Type 0)
+      → OkOrReported r P → ((x : A) → P x → OkOrReported (f x) Q) → OkOrReported (r >>= f) Q
   bind-OkOrReported (Ok x) f P Q p step = step x p
   bind-OkOrReported (Err e) f P Q reported step = reported
 
   -- What is read has any weaker property too.
-  pub weaken-OkOrReported : {A : Type 0} (r : Result A Error) (P Q : A → Type 0) → ((x : A) → P x → Q x) → OkOrReported r P → OkOrReported r Q
+  pub weaken-OkOrReported : {A : Type 0} (r : Result A Error) (P Q : A → Type 0) → ((x : A) → P x → Q x)
+      → OkOrReported r P → OkOrReported r Q
   weaken-OkOrReported (Ok x) P Q step p = step x p
   weaken-OkOrReported (Err e) P Q step reported = reported
 
@@ -77,7 +85,8 @@ module _ (b : List ℕ) where
   pub IsBeginning-whole : (Q : List ℕ → Type 0) (k : ℕ) → Expects b Q k → (bs : List ℕ) × Q bs → IsWhitespace (drop k b) → IsBeginning b
   IsBeginning-whole Q k x (bs, q) w =
       let h : IsDocument (take k b ++ (drop k b ++ bs)) = x.goes (drop k b) bs w q in
-      IsBeginning-document b bs (subst IsDocument (sym (append_assoc (take k b) (drop k b) bs) ∙ ap (λ us. us ++ bs) (take-append-drop k b)) h)
+      IsBeginning-document b bs
+      (subst IsDocument (sym (append_assoc (take k b) (drop k b) bs) ∙ ap (λ us. us ++ bs) (take-append-drop k b)) h)
 
   -- So is each prefix of it.
   pub IsBeginning-take : IsBeginning b → (i : ℕ) → IsBeginning (take i b)
@@ -91,47 +100,58 @@ module _ (b : List ℕ) where
     IsBeginning-before j x = IsBeginning-document (take j b) some.0 (x.goes some.0 some.1)
 
     -- A fault at a token, which is not expected or is none of these kinds.
-    pub token-reported : (j : ℕ) (kind : ErrorType) → ExpectsAt b Q j → j < length b → (is_unexpected_token kind ≡ true → (rest : List ℕ) → Q (byte_at b j ∷ rest) → ⊥) → Reported (fault_at b kind j)
+    pub token-reported : (j : ℕ) (kind : ErrorType) → ExpectsAt b Q j → j < length b
+        → (is_unexpected_token kind ≡ true → (rest : List ℕ) → Q (byte_at b j ∷ rest) → ⊥) → Reported (fault_at b kind j)
     token-reported j kind x l none = record {
       not_late = IsBeginning-before j x;
       not_early = λ is (h : IsBeginning (take (suc j) b)).
           let whole : take (suc j) b ++ h.0 ≡ take j b ++ byte_at b j ∷ h.0 =
-          ap (λ us. us ++ h.0) (take-through b j (suc j) (byte_at b j ∷ []) (drop-cons b j 32 l)) ∙ append_assoc (take j b) (byte_at b j ∷ []) h.0 in
+          ap (λ us. us ++ h.0) (take-through b j (suc j) (byte_at b j ∷ []) (drop-cons b j 32 l))
+          ∙ append_assoc (take j b) (byte_at b j ∷ []) h.0 in
           none is h.0 (x.comes h.0 (subst IsDocument whole (h.1, h.2)));
     }
 
   -- A fault within a token, where its set goes on to what is expected.
-  pub within-reported : (Q P : List ℕ → Type 0) (j : ℕ) (e : Error) → ExpectsAt b Q j → ((xs : List ℕ) → P xs → (rest : List ℕ) × Q (xs ++ rest)) → FaultWithin b j P e → Reported e
+  pub within-reported : (Q P : List ℕ → Type 0) (j : ℕ) (e : Error) → ExpectsAt b Q j
+      → ((xs : List ℕ) → P xs → (rest : List ℕ) × Q (xs ++ rest)) → FaultWithin b j P e → Reported e
   within-reported Q P j e x more f =
       let m : (rest : List ℕ) × Q ((f.prefix ++ f.rest) ++ rest) = more (f.prefix ++ f.rest) f.goes_on in
       let h : IsDocument (take j b ++ ((f.prefix ++ f.rest) ++ m.0)) = x.goes ((f.prefix ++ f.rest) ++ m.0) m.1 in
       let whole : take j b ++ ((f.prefix ++ f.rest) ++ m.0) ≡ take e.index b ++ (f.rest ++ m.0) =
       ap (λ us. take j b ++ us) (append_assoc f.prefix f.rest m.0) ∙ sym (append_assoc (take j b) f.prefix (f.rest ++ m.0))
       ∙ ap (λ us. us ++ (f.rest ++ m.0)) (sym (take-through b j e.index f.prefix f.split)) in
-      record { not_late = IsBeginning-document (take e.index b) (f.rest ++ m.0) (subst IsDocument whole h); not_early = λ is _. both_ways _ f.kind is }
+      record {
+        not_late = IsBeginning-document (take e.index b) (f.rest ++ m.0) (subst IsDocument whole h);
+        not_early = λ is _. both_ways _ f.kind is;
+      }
 
   -- ---- tokens
 
   -- At a token space is passed.
-  pub expects-token : (Q : List ℕ → Type 0) (t : Token) (More : ℕ → Type 0) (k : ℕ) → Expects b Q k → TokenHere b t More k → ExpectsAt b Q t.index
+  pub expects-token : (Q : List ℕ → Type 0) (t : Token) (More : ℕ → Type 0) (k : ℕ) → Expects b Q k
+      → TokenHere b t More k → ExpectsAt b Q t.index
   expects-token Q t More k x h = expects-at b Q k t.index h.space x h.is_space h.split h.within h.no_space
 
   -- Its own bytes lead from what is expected at it to what is expected after it.
-  pub expects-own : (Q R : List ℕ → Type 0) (j end : ℕ) (own tail : List ℕ) (c : ℕ) → ExpectsAt b Q j → drop j b ≡ own ++ drop end b → own ≡ c ∷ tail
+  pub expects-own : (Q R : List ℕ → Type 0) (j end : ℕ) (own tail : List ℕ) (c : ℕ) → ExpectsAt b Q j
+      → drop j b ≡ own ++ drop end b → own ≡ c ∷ tail
       → LeadsTo Q (c ∷ tail) R (byte_at b end) → ((bs : List ℕ) → R bs → NoSpace bs) → Expects b R end
   expects-own Q R j end own tail c x e same leads plain =
       let split : drop j b ≡ (c ∷ tail) ++ drop end b = e ∙ ap (λ us. us ++ drop end b) same in
       let first : c ≡ byte_at b j = sym (drop-head j b c (tail ++ drop end b) split) in
-      expects-after b Q R j end tail x (split ∙ ap (λ y. (y ∷ tail) ++ drop end b) first) (subst (λ y. LeadsTo Q (y ∷ tail) R (byte_at b end)) first leads) plain
+      expects-after b Q R j end tail x (split ∙ ap (λ y. (y ∷ tail) ++ drop end b) first)
+      (subst (λ y. LeadsTo Q (y ∷ tail) R (byte_at b end)) first leads) plain
 
   -- The byte after space is the token's, so only with that byte one set need be part of the other.
   pub expects-narrow : (Q R : List ℕ → Type 0) (t : Token) (More : ℕ → Type 0) (k : ℕ) → Expects b Q k → TokenHere b t More k
-      → ((rest : List ℕ) → R rest → Q rest) → ((rest : List ℕ) → Q (byte_at b t.index ∷ rest) → R (byte_at b t.index ∷ rest)) → Expects b R k
+      → ((rest : List ℕ) → R rest → Q rest)
+      → ((rest : List ℕ) → Q (byte_at b t.index ∷ rest) → R (byte_at b t.index ∷ rest)) → Expects b R k
   expects-narrow Q R t More k x h into from = record {
     goes = λ space rest w r. x.goes space rest w (into rest r);
     comes = λ j space rest w e l token doc.
         let same : drop t.index b ≡ drop j b =
-        space-one h.space space (drop t.index b) (drop j b) h.is_space w (first t.index h.within h.no_space) (first j l token) (sym h.split ∙ e) in
+        space-one h.space space (drop t.index b) (drop j b) h.is_space w (first t.index h.within h.no_space)
+        (first j l token) (sym h.split ∙ e) in
         let byte : byte_at b t.index ≡ byte_at b j = drop-head t.index b (byte_at b j) (drop (suc j) b) (same ∙ drop-cons b j 32 l) in
         subst (λ c. R (c ∷ rest)) byte (from rest (subst (λ c. Q (c ∷ rest)) (sym byte) (x.comes j space rest w e l token doc)));
   }

@@ -34,7 +34,8 @@ module _ (b : List ℕ) where
   -- byte that is no space lets the whole be a document only if it is of the set, with that byte.
   pub record Expects (Q : List ℕ → Type 0) (k : ℕ) : Type 0 where
     pub goes : (space rest : List ℕ) → IsWhitespace space → Q rest → IsDocument (take k b ++ (space ++ rest))
-    pub comes : (j : ℕ) (space rest : List ℕ) → IsWhitespace space → drop k b ≡ space ++ drop j b → j < length b → is_whitespace (byte_at b j) ≡ false
+    pub comes : (j : ℕ) (space rest : List ℕ) → IsWhitespace space → drop k b ≡ space ++ drop j b → j < length b
+        → is_whitespace (byte_at b j) ≡ false
         → IsDocument (take j b ++ byte_at b j ∷ rest) → Q (byte_at b j ∷ rest)
 
   -- the same at that byte
@@ -46,12 +47,14 @@ module _ (b : List ℕ) where
   pub expects-at : (Q : List ℕ → Type 0) (k j : ℕ) (space : List ℕ) → Expects Q k → IsWhitespace space → drop k b ≡ space ++ drop j b
       → j < length b → is_whitespace (byte_at b j) ≡ false → ExpectsAt Q j
   expects-at Q k j space x w e l token = record {
-    goes = λ rest h. subst IsDocument (sym (append_assoc (take k b) space rest) ∙ ap (λ us. us ++ rest) (sym (take-through k j space e))) (x.goes space rest w h);
+    goes = λ rest h. subst IsDocument
+        (sym (append_assoc (take k b) space rest) ∙ ap (λ us. us ++ rest) (sym (take-through k j space e))) (x.goes space rest w h);
     comes = λ rest. x.comes j space rest w e l token;
   }
 
   -- the byte at an index, where space and then a byte stand there
-  first-byte : (k j : ℕ) (space rest : List ℕ) → drop k b ≡ space ++ drop j b → j < length b → byte_at (space ++ byte_at b j ∷ rest) 0 ≡ byte_at b k
+  first-byte : (k j : ℕ) (space rest : List ℕ) → drop k b ≡ space ++ drop j b → j < length b
+      → byte_at (space ++ byte_at b j ∷ rest) 0 ≡ byte_at b k
   first-byte k j [] rest e l = sym (drop-head k b (byte_at b j) (drop (suc j) b) (e ∙ drop-cons b j 32 l))
   first-byte k j (x ∷ space) rest e l = sym (drop-head k b x (space ++ drop j b) e)
 
@@ -69,13 +72,18 @@ module _ (b : List ℕ) where
       goes : (space rest : List ℕ) → IsWhitespace space → R rest → IsDocument (take end b ++ (space ++ rest))
       goes space rest w h =
           let s : SpaceThen R (space ++ rest) = record { left = space; right = rest; whole = refl; left_holds = w; right_holds = h } in
-          subst IsDocument (sym (append_assoc (take j b) own (space ++ rest)) ∙ ap (λ us. us ++ (space ++ rest)) (sym through)) (x.goes (own ++ (space ++ rest)) (leads.goes (space ++ rest) s))
+          subst IsDocument (sym (append_assoc (take j b) own (space ++ rest)) ∙ ap (λ us. us ++ (space ++ rest)) (sym through))
+          (x.goes (own ++ (space ++ rest)) (leads.goes (space ++ rest) s))
 
-      comes : (i : ℕ) (space rest : List ℕ) → IsWhitespace space → drop end b ≡ space ++ drop i b → i < length b → is_whitespace (byte_at b i) ≡ false
+      comes : (i : ℕ) (space rest : List ℕ) → IsWhitespace space → drop end b ≡ space ++ drop i b → i < length b
+          → is_whitespace (byte_at b i) ≡ false
           → IsDocument (take i b ++ byte_at b i ∷ rest) → R (byte_at b i ∷ rest)
       comes i space rest w f l token h =
           let more : List ℕ = byte_at b i ∷ rest in
           let whole : take i b ++ more ≡ take j b ++ (own ++ (space ++ more)) =
-          ap (λ us. us ++ more) (take-through end i space f ∙ ap (λ us. us ++ space) through) ∙ append_assoc (take j b ++ own) space more ∙ append_assoc (take j b) own (space ++ more) in
-          let s : SpaceThen R (space ++ more) = leads.comes (space ++ more) (first-byte end i space rest f l) (x.comes (tail ++ (space ++ more)) (subst IsDocument whole h)) in
+          ap (λ us. us ++ more) (take-through end i space f ∙ ap (λ us. us ++ space) through)
+          ∙ append_assoc (take j b ++ own) space more ∙ append_assoc (take j b) own (space ++ more) in
+          let s : SpaceThen R (space ++ more) =
+          leads.comes (space ++ more) (first-byte end i space rest f l)
+          (x.comes (tail ++ (space ++ more)) (subst IsDocument whole h)) in
           subst R (sym (space-one space s.left more s.right w s.left_holds token (plain s.right s.right_holds) s.whole)) s.right_holds

@@ -37,8 +37,10 @@ pub SpaceThen-nil : (A : List ℕ → Type 0) (bs : List ℕ) → A bs → Space
 SpaceThen-nil A bs h = record { left = []; right = bs; whole = refl; left_holds = refl; right_holds = h }
 
 -- An item goes on with what may follow it,
-pub item_then-some : (I : Type 0) (P : I → List ℕ → Type 0) (A : List ℕ → Type 0) → (bs : List ℕ) × A bs → (i : I) (xs : List ℕ) → P i xs → (rest : List ℕ) × ItemThen I P A (xs ++ rest)
-item_then-some I P A (bs, h) i xs is = (bs, (i, record { left = xs; right = bs; whole = refl; left_holds = is; right_holds = SpaceThen-nil A bs h }))
+pub item_then-some : (I : Type 0) (P : I → List ℕ → Type 0) (A : List ℕ → Type 0) → (bs : List ℕ) × A bs → (i : I) (xs : List ℕ)
+    → P i xs → (rest : List ℕ) × ItemThen I P A (xs ++ rest)
+item_then-some I P A (bs, h) i xs is =
+    (bs, (i, record { left = xs; right = bs; whole = refl; left_holds = is; right_holds = SpaceThen-nil A bs h }))
 
 -- and some value does.
 pub value_then-some : (A : List ℕ → Type 0) → (bs : List ℕ) × A bs → (bs : List ℕ) × ValueThen A bs
@@ -85,7 +87,16 @@ module _ (I B : Type 0) (P : I → List ℕ → Type 0) (More : B → List ℕ �
               right = more;
               whole = refl;
               left_holds = s.after_space;
-              right_holds = (r.more, record { left = (r.holds).right; right = close ∷ r.after; whole = refl; left_holds = (r.holds).right_holds; right_holds = (r.after, refl, r.follows) });
+              right_holds = (
+                r.more,
+                record {
+                  left = (r.holds).right;
+                  right = close ∷ r.after;
+                  whole = refl;
+                  left_holds = (r.holds).right_holds;
+                  right_holds = (r.after, refl, r.follows);
+                },
+              );
             };
           },
         );
@@ -103,13 +114,22 @@ module _ (I B : Type 0) (P : I → List ℕ → Type 0) (More : B → List ℕ �
         inner = ((s.left ++ j.left) ++ t.left) ++ r.left;
         after = r.right_holds.0;
         whole =
-            s.whole ∙ ap (λ us. s.left ++ us) (j.whole ∙ ap (λ us. j.left ++ us) (t.whole ∙ ap (λ us. t.left ++ us) (r.whole ∙ ap (λ us. r.left ++ us) r.right_holds.1)))
+            s.whole ∙ ap (λ us. s.left ++ us) (j.whole
+            ∙ ap (λ us. j.left ++ us) (t.whole ∙ ap (λ us. t.left ++ us) (r.whole ∙ ap (λ us. r.left ++ us) r.right_holds.1)))
             ∙ simp append_assoc;
         holds = record {
           left = (s.left ++ j.left) ++ t.left;
           right = r.left;
           whole = refl;
-          left_holds = record { before = s.left; inner = j.left; after = t.left; whole = refl; before_space = s.left_holds; after_space = t.left_holds; holds = j.left_holds };
+          left_holds = record {
+            before = s.left;
+            inner = j.left;
+            after = t.left;
+            whole = refl;
+            before_space = s.left_holds;
+            after_space = t.left_holds;
+            holds = j.left_holds;
+          };
           right_holds = r.left_holds;
         };
         follows = r.right_holds.2;

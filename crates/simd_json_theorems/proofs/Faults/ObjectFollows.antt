@@ -8,7 +8,8 @@ use Rattle.simd_json_parts.specs.Strings.{IsStringLiteral}
 use Rattle.simd_json_theorems.proofs.Unique.LeadingBytes.{class, leading, NoSpace, value-leads, string-NoSpace, Leads-one}
 use Rattle.simd_json_theorems.proofs.Unique.SpacedPrefixes.{Delimited}
 use Rattle.simd_json_theorems.proofs.Unique.OneDocument.{IsName, AreValueRow, more_members-Delimited}
-use Rattle.simd_json_theorems.proofs.Faults.Follows.{SpaceThen, ItemThen, ValueThen, RowThen, CanFollow, LeadsTo, IsRow, row-item, item-row, SpaceThen-nil, value_then-some}
+use Rattle.simd_json_theorems.proofs.Faults.Follows.{SpaceThen, ItemThen, ValueThen, RowThen, CanFollow, LeadsTo, IsRow, row-item}
+use Rattle.simd_json_theorems.proofs.Faults.Follows.{item-row, SpaceThen-nil, value_then-some}
 
 -- after a member: the other members and the closing brace
 abbrev pub MembersThen : (List ℕ → Type 0) → List ℕ → Type 0
@@ -37,10 +38,20 @@ module _ (A : List ℕ → Type 0) where
   -- What stands after a member can follow it.
   pub members_then-CanFollow : CanFollow A → CanFollow (MembersThen A)
   members_then-CanFollow a = record {
-    delimited = λ bs (h : MembersThen A bs). subst Delimited (sym (h.1.whole ∙ ap (λ us. h.1.left ++ us) h.1.right_holds.1)) (more_members-Delimited h.0 h.1.left h.1.right_holds.0 h.1.left_holds);
+    delimited = λ bs (h : MembersThen A bs). subst Delimited (sym (h.1.whole ∙ ap (λ us. h.1.left ++ us) h.1.right_holds.1))
+        (more_members-Delimited h.0 h.1.left h.1.right_holds.0 h.1.left_holds);
     some = (
       right_brace ∷ a.some.0,
-      (no_members, record { left = []; right = right_brace ∷ a.some.0; whole = refl; left_holds = refl; right_holds = (a.some.0, refl, SpaceThen-nil A a.some.0 a.some.1) }),
+      (
+        no_members,
+        record {
+          left = [];
+          right = right_brace ∷ a.some.0;
+          whole = refl;
+          left_holds = refl;
+          right_holds = (a.some.0, refl, SpaceThen-nil A a.some.0 a.some.1);
+        },
+      ),
     );
   }
 
@@ -50,20 +61,38 @@ module _ (A : List ℕ → Type 0) where
   colon-goes : (rest : List ℕ) → IsValueRow A rest → NamedThen A (colon ∷ rest)
   colon-goes rest r = (
     (r.item, r.more),
-    record { left = colon ∷ r.inner; right = right_brace ∷ r.after; whole = ap (λ zs. colon ∷ zs) r.whole; left_holds = (r.inner, refl, r.holds); right_holds = (r.after, refl, r.follows) },
+    record {
+      left = colon ∷ r.inner;
+      right = right_brace ∷ r.after;
+      whole = ap (λ zs. colon ∷ zs) r.whole;
+      left_holds = (r.inner, refl, r.holds);
+      right_holds = (r.after, refl, r.follows);
+    },
   )
 
   colon-comes : (c : ℕ) (rest : List ℕ) → NamedThen A (c ∷ rest) → (c ≡ colon) × IsValueRow A rest
   colon-comes c rest (p, j) =
       let h : (inner : List ℕ) × (j.left ≡ colon ∷ inner) × Joined (Spaced (IsValue p.0)) (AreMoreMembers p.1) inner = j.left_holds in
-      let e : c ∷ rest ≡ colon ∷ (h.0 ++ right_brace ∷ j.right_holds.0) = j.whole ∙ ap (λ us. us ++ j.right) h.1 ∙ ap (λ us. colon ∷ (h.0 ++ us)) j.right_holds.1 in
-      (cc, record { item = p.0; more = p.1; inner = h.0; after = j.right_holds.0; whole = ap (drop 1) e; holds = h.2; follows = j.right_holds.2 })
+      let e : c ∷ rest ≡ colon ∷ (h.0 ++ right_brace ∷ j.right_holds.0) =
+      j.whole ∙ ap (λ us. us ++ j.right) h.1 ∙ ap (λ us. colon ∷ (h.0 ++ us)) j.right_holds.1 in (
+        cc,
+        record {
+          item = p.0;
+          more = p.1;
+          inner = h.0;
+          after = j.right_holds.0;
+          whole = ap (drop 1) e;
+          holds = h.2;
+          follows = j.right_holds.2;
+        },
+      )
 
   -- After a name a colon leads to a value.
   pub name_goes_on : (n : ℕ) → LeadsTo (NamedThen A) (colon ∷ []) (ValueThen (MembersThen A)) n
   name_goes_on n = record {
     goes = λ rest h. colon-goes rest (item-row Document Members IsValue AreMoreMembers right_brace A rest h);
-    comes = λ rest _ (v : NamedThen A (colon ∷ rest)). row-item Document Members IsValue AreMoreMembers right_brace A rest (colon-comes colon rest v).1;
+    comes = λ rest _ (v : NamedThen A (colon ∷ rest)).
+        row-item Document Members IsValue AreMoreMembers right_brace A rest (colon-comes colon rest v).1;
   }
 
   -- So something stands after a name,
@@ -89,7 +118,9 @@ module _ (A : List ℕ → Type 0) where
   name_then-byte c rest (k, j) = quote-first j.left_holds
     where
       quote-first : IsStringLiteral j.left k → c ≡ quote
-      quote-first (content, cs, e, pieces, spells) = let f : c ∷ rest ≡ quote ∷ ((content ++ quote ∷ []) ++ j.right) = j.whole ∙ ap (λ us. us ++ j.right) e in cc
+      quote-first (content, cs, e, pieces, spells) =
+          let f : c ∷ rest ≡ quote ∷ ((content ++ quote ∷ []) ++ j.right) = j.whole ∙ ap (λ us. us ++ j.right) e in
+          cc
 
   -- What stands first in an object begins with no space.
   pub first_member-NoSpace : (bs : List ℕ) → FirstMemberThen A bs → NoSpace bs
@@ -102,7 +133,13 @@ module _ (A : List ℕ → Type 0) where
   empty-goes : (rest s us : List ℕ) → IsWhitespace s → rest ≡ s ++ right_brace ∷ us → SpaceThen A us → ValueThen A (left_brace ∷ rest)
   empty-goes rest s us w e h = (
     object no_members,
-    record { left = left_brace ∷ (s ++ right_brace ∷ []); right = us; whole = ap (λ zs. left_brace ∷ zs) e ∙ simp append_assoc; left_holds = (s, refl, w); right_holds = h },
+    record {
+      left = left_brace ∷ (s ++ right_brace ∷ []);
+      right = us;
+      whole = ap (λ zs. left_brace ∷ zs) e ∙ simp append_assoc;
+      left_holds = (s, refl, w);
+      right_holds = h;
+    },
   )
 
   row-goes : (rest : List ℕ) → IsMemberRow A rest → ValueThen A (left_brace ∷ rest)
@@ -127,18 +164,22 @@ module _ (A : List ℕ → Type 0) where
       ]
 
   -- what stands between braces, up to what follows them
-  members-comes : (ms : Members) (inner rest us : List ℕ) → AreMembers ms inner → rest ≡ inner ++ right_brace ∷ us → SpaceThen A us → SpaceThen (FirstMemberThen A) rest
-  members-comes no_members inner rest us h e a = record { left = inner; right = right_brace ∷ us; whole = e; left_holds = h; right_holds = inl (us, refl, a) }
+  members-comes : (ms : Members) (inner rest us : List ℕ) → AreMembers ms inner → rest ≡ inner ++ right_brace ∷ us → SpaceThen A us
+      → SpaceThen (FirstMemberThen A) rest
+  members-comes no_members inner rest us h e a =
+      record { left = inner; right = right_brace ∷ us; whole = e; left_holds = h; right_holds = inl (us, refl, a) }
   members-comes (member k d ms) inner rest us h e a =
       let s : SpaceThen (NameThen A) rest =
-      row-item (List ℕ) (Document × Members) IsName AreValueRow right_brace A rest (record { item = k; more = (d, ms); inner = inner; after = us; whole = e; holds = h; follows = a }) in
+      row-item (List ℕ) (Document × Members) IsName AreValueRow right_brace A rest
+      (record { item = k; more = (d, ms); inner = inner; after = us; whole = e; holds = h; follows = a }) in
       record { left = s.left; right = s.right; whole = s.whole; left_holds = s.left_holds; right_holds = inr s.right_holds }
 
   -- a value after an opening brace is an object
   open-comes : (d : Document) (rest : List ℕ) → Joined (IsValue d) (SpaceThen A) (left_brace ∷ rest) → SpaceThen (FirstMemberThen A) rest
   open-comes (object ms) rest j =
       let h : (inner : List ℕ) × (j.left ≡ left_brace ∷ (inner ++ right_brace ∷ [])) × AreMembers ms inner = j.left_holds in
-      let e : left_brace ∷ rest ≡ left_brace ∷ (h.0 ++ right_brace ∷ j.right) = j.whole ∙ ap (λ us. us ++ j.right) h.1 ∙ simp append_assoc in
+      let e : left_brace ∷ rest ≡ left_brace ∷ (h.0 ++ right_brace ∷ j.right) =
+      j.whole ∙ ap (λ us. us ++ j.right) h.1 ∙ simp append_assoc in
       members-comes ms h.0 rest j.right h.2 (ap (drop 1) e) j.right_holds
   open-comes d rest j =
       absurd (eqb-false (class left_brace) (leading d) refl
@@ -185,8 +226,20 @@ module _ (A : List ℕ → Type 0) where
       inl (cc, subst (SpaceThen A) (sym (ap (drop 1) e)) j.right_holds.2)
   rest_after_member (member k d ms) c rest j =
       let h : (inner : List ℕ) × (j.left ≡ comma ∷ inner) × Joined (Spaced (IsName k)) (AreValueRow (d, ms)) inner = j.left_holds in
-      let e : c ∷ rest ≡ comma ∷ (h.0 ++ right_brace ∷ j.right_holds.0) = j.whole ∙ ap (λ us. us ++ j.right) h.1 ∙ ap (λ us. comma ∷ (h.0 ++ us)) j.right_holds.1 in
-      inr (cc, record { item = k; more = (d, ms); inner = h.0; after = j.right_holds.0; whole = ap (drop 1) e; holds = h.2; follows = j.right_holds.2 })
+      let e : c ∷ rest ≡ comma ∷ (h.0 ++ right_brace ∷ j.right_holds.0) =
+      j.whole ∙ ap (λ us. us ++ j.right) h.1 ∙ ap (λ us. comma ∷ (h.0 ++ us)) j.right_holds.1 in
+      inr (
+        cc,
+        record {
+          item = k;
+          more = (d, ms);
+          inner = h.0;
+          after = j.right_holds.0;
+          whole = ap (drop 1) e;
+          holds = h.2;
+          follows = j.right_holds.2;
+        },
+      )
 
   -- It is a closing brace or a comma.
   pub members_then-byte : (c : ℕ) (rest : List ℕ) → MembersThen A (c ∷ rest) → (c ≡ right_brace) ⊎ (c ≡ comma)
@@ -195,8 +248,14 @@ module _ (A : List ℕ → Type 0) where
   -- A closing brace leads to what follows the object,
   pub object_closes : (n : ℕ) → LeadsTo (MembersThen A) (right_brace ∷ []) A n
   object_closes n = record {
-    goes = λ rest h. (no_members, record { left = []; right = right_brace ∷ rest; whole = refl; left_holds = refl; right_holds = (rest, refl, h) });
-    comes = λ rest _ (v : MembersThen A (right_brace ∷ rest)). elim (rest_after_member v.0 right_brace rest v.1) [ inl h ↦ h.1 | inr h ↦ absurd (eqb-false right_brace comma refl h.0) ];
+    goes = λ rest h. (
+      no_members,
+      record { left = []; right = right_brace ∷ rest; whole = refl; left_holds = refl; right_holds = (rest, refl, h) },
+    );
+    comes = λ rest _ (v : MembersThen A (right_brace ∷ rest)). elim (rest_after_member v.0 right_brace rest v.1) [
+      | inl h ↦ h.1
+      | inr h ↦ absurd (eqb-false right_brace comma refl h.0)
+    ];
   }
 
   -- and a comma to a name.

@@ -7,12 +7,17 @@ use Rattle.simd_json_parts.specs.FaultKinds.{IsBeginning}
 use Rattle.simd_json_parts.specs.Strings.{IsStringLiteral}
 use Rattle.simd_json_parts.specs.StringAt.{string_at}
 use Rattle.simd_json_parts.specs.Tokens.{Token, Form, form_at, end_object, name_separator, value_separator, string_token}
-use Rattle.simd_json_parts.specs.Descent.{◌>>=◌, Reads, name_of, name_from, after_name, name_end, after_member, member_end, members_from, members_by, first_member, object_from}
+use Rattle.simd_json_parts.specs.Descent.{◌>>=◌, Reads, name_of, name_from, after_name, name_end, after_member, member_end}
+use Rattle.simd_json_parts.specs.Descent.{members_from, members_by, first_member, object_from}
 use Rattle.simd_json_parts.specs.declared.error.Error.{Error}
 use Rattle.simd_json_parts.specs.declared.error.ErrorType.{ErrorType}
 use Rattle.simd_json_parts.specs.declared.error.ErrorType.TheVariants.{ExpectedObjectKey, ExpectedObjectContent, ExpectedObjectColon}
 use Rattle.simd_json_theorems.proofs.Faults.Follows.{ValueThen, CanFollow, value_then-NoSpace, item_then-some}
-use Rattle.simd_json_theorems.proofs.Faults.ObjectFollows.{MembersThen, NamedThen, NameThen, FirstMemberThen, members_then-CanFollow, members_then-byte, named_then-some, named_then-byte, named_then-NoSpace, name_then-byte, name_then-NoSpace, name_goes_on, object_closes, object_goes_on, empty_object_closes, first_member-name}
+use Rattle.simd_json_theorems.proofs.Faults.ObjectFollows.{MembersThen, NamedThen, NameThen, FirstMemberThen}
+use Rattle.simd_json_theorems.proofs.Faults.ObjectFollows.{members_then-CanFollow, members_then-byte, named_then-some}
+use Rattle.simd_json_theorems.proofs.Faults.ObjectFollows.{named_then-byte, named_then-NoSpace, name_then-byte, name_then-NoSpace}
+use Rattle.simd_json_theorems.proofs.Faults.ObjectFollows.{name_goes_on, object_closes, object_goes_on, empty_object_closes}
+use Rattle.simd_json_theorems.proofs.Faults.ObjectFollows.{first_member-name}
 use Rattle.simd_json_theorems.proofs.Faults.ScalarFollows.{LeadsTo-name}
 use Rattle.simd_json_theorems.proofs.Unique.OneDocument.{IsName}
 use Rattle.simd_json_theorems.proofs.Faults.Expectations.{Expects, ExpectsAt}
@@ -20,7 +25,10 @@ use Rattle.simd_json_theorems.proofs.Sound.FaultsWithin.{IsString}
 use Rattle.simd_json_theorems.proofs.Sound.SpelledTokens.{Owned}
 use Rattle.simd_json_theorems.proofs.Sound.TokensInPlace.{FormInPlace, AreHere}
 use Rattle.simd_json_theorems.proofs.Faults.Arrays.{ValueReported}
-use Rattle.simd_json_theorems.proofs.Faults.AtTokens.{Took, took-one, took-more, took-fewer, Reported, OkOrReported, bind-OkOrReported, weaken-OkOrReported, Next, next-more, IsBeginning-whole, token-reported, within-reported, expects-token, expects-own, expects-narrow, form-byte}
+use Rattle.simd_json_theorems.proofs.Faults.AtTokens.{Took, took-one, took-more, took-fewer, Reported, OkOrReported}
+use Rattle.simd_json_theorems.proofs.Faults.AtTokens.{bind-OkOrReported, weaken-OkOrReported, Next, next-more, IsBeginning-whole}
+use Rattle.simd_json_theorems.proofs.Faults.AtTokens.{token-reported, within-reported, expects-token, expects-own}
+use Rattle.simd_json_theorems.proofs.Faults.AtTokens.{expects-narrow, form-byte}
 
 -- Given that the fault of a missing token is so where the whole input is a beginning.
 module _ (b : List ℕ) (missing : Error) (missed : IsBeginning b → Reported b missing) where
@@ -38,14 +46,17 @@ module _ (b : List ℕ) (missing : Error) (missed : IsBeginning b → Reported b
         ((quote ∷ quote ∷ []) ++ h.0, h.1)
 
     -- After the bytes of a name its value is expected.
-    expects-named : (j end : ℕ) (name : List ℕ) → ExpectsAt b (NameThen A) j → Owned b j (λ xs. IsStringLiteral xs name) end → Expects b (NamedThen A) end
+    expects-named : (j end : ℕ) (name : List ℕ) → ExpectsAt b (NameThen A) j → Owned b j (λ xs. IsStringLiteral xs name) end
+        → Expects b (NamedThen A) end
     expects-named j end name x o =
         let same : o.own ≡ quote ∷ (o.holds.0 ++ quote ∷ []) = o.holds.2 in
         expects-own b (NameThen A) (NamedThen A) j end o.own (o.holds.0 ++ quote ∷ []) quote x o.split same
-        (LeadsTo-name (NamedThen A) name (quote ∷ (o.holds.0 ++ quote ∷ [])) (byte_at b end) (subst (λ xs. IsStringLiteral xs name) same o.holds)) (named_then-NoSpace A)
+        (LeadsTo-name (NamedThen A) name (quote ∷ (o.holds.0 ++ quote ∷ [])) (byte_at b end)
+        (subst (λ xs. IsStringLiteral xs name) same o.holds)) (named_then-NoSpace A)
 
     -- At a name,
-    name_from-reported : (kind : ErrorType) (k : ℕ) (ts : List Token) → Expects b (NameThen A) k → AreHere b ts k → OkOrReported b (name_from b missing kind ts) (λ p. Next b (NamedThen A) ts p.1)
+    name_from-reported : (kind : ErrorType) (k : ℕ) (ts : List Token) → Expects b (NameThen A) k → AreHere b ts k
+        → OkOrReported b (name_from b missing kind ts) (λ p. Next b (NamedThen A) ts p.1)
     name_from-reported kind k [] x h = missed (IsBeginning-whole b (NameThen A) k x some-name h)
     name_from-reported kind k (t ∷ ts) x h = go t.form h.form h.stands
       where
@@ -53,22 +64,27 @@ module _ (b : List ℕ) (missing : Error) (missed : IsBeginning b → Reported b
         at = expects-token b (NameThen A) t (AreHere b ts) k x h
 
         go : (form : Form) → form_at b t.index ≡ form → FormInPlace b form (AreHere b ts) t.index
-            → OkOrReported b {A = List ℕ × List Token} (name_of b missing kind t form >>= λ name. Ok (name.0, ts)) (λ p. Next b (NamedThen A) (t ∷ ts) p.1)
-        go (string_token (Ok r)) is (o, after) = record { at = r.1; expects = expects-named t.index r.1 r.0 at o; here = after; took = took-one t ts }
+            → OkOrReported b {A = List ℕ × List Token} (name_of b missing kind t form >>= λ name. Ok (name.0, ts))
+            (λ p. Next b (NamedThen A) (t ∷ ts) p.1)
+        go (string_token (Ok r)) is (o, after) =
+            record { at = r.1; expects = expects-named t.index r.1 r.0 at o; here = after; took = took-one t ts }
         go (string_token (Err e)) is f = within-reported b (NameThen A) IsString t.index e at name-some f
         go _ is _ =
             token-reported b (NameThen A) some-name t.index kind at h.within
-            (λ _ rest q. let f : form_at b t.index ≡ string_token (string_at b t.index) = form-byte b t.index quote (string_token (string_at b t.index)) refl (name_then-byte A (byte_at b t.index) rest q) in cc)
+            (λ _ rest q. let f : form_at b t.index ≡ string_token (string_at b t.index) = form-byte b t.index quote
+            (string_token (string_at b t.index)) refl (name_then-byte A (byte_at b t.index) rest q) in cc)
 
     -- and after it.
-    name_end-reported : (k : ℕ) (ts : List Token) → Expects b (NamedThen A) k → AreHere b ts k → OkOrReported b (name_end b missing ts) (λ us. Next b (ValueThen (MembersThen A)) ts us)
+    name_end-reported : (k : ℕ) (ts : List Token) → Expects b (NamedThen A) k → AreHere b ts k
+        → OkOrReported b (name_end b missing ts) (λ us. Next b (ValueThen (MembersThen A)) ts us)
     name_end-reported k [] x h = missed (IsBeginning-whole b (NamedThen A) k x (named_then-some A a) h)
     name_end-reported k (t ∷ ts) x h = go t.form h.form h.stands
       where
         at : ExpectsAt b (NamedThen A) t.index
         at = expects-token b (NamedThen A) t (AreHere b ts) k x h
 
-        go : (form : Form) → form_at b t.index ≡ form → FormInPlace b form (AreHere b ts) t.index → OkOrReported b (after_name b missing t form ts) (λ us. Next b (ValueThen (MembersThen A)) (t ∷ ts) us)
+        go : (form : Form) → form_at b t.index ≡ form → FormInPlace b form (AreHere b ts) t.index
+            → OkOrReported b (after_name b missing t form ts) (λ us. Next b (ValueThen (MembersThen A)) (t ∷ ts) us)
         go name_separator is (o, after) = record {
           at = suc t.index;
           expects = expects-own b (NamedThen A) (ValueThen (MembersThen A)) t.index (suc t.index) o.own [] colon at o.split o.holds
@@ -78,29 +94,36 @@ module _ (b : List ℕ) (missing : Error) (missed : IsBeginning b → Reported b
         }
         go _ is _ =
             token-reported b (NamedThen A) (named_then-some A a) t.index ExpectedObjectColon at h.within
-            (λ _ rest q. let f : form_at b t.index ≡ name_separator = form-byte b t.index colon name_separator refl (named_then-byte A (byte_at b t.index) rest q) in cc)
+            (λ _ rest q. let f : form_at b t.index ≡ name_separator = form-byte b t.index colon name_separator refl
+            (named_then-byte A (byte_at b t.index) rest q) in cc)
 
   -- ---- members
 
   module _ (value : Reads Document) (reported : ValueReported b value) (A : List ℕ → Type 0) (a : CanFollow A) where
     -- After a member,
     member_end-reported : (more : Reads Members) (turns : ℕ)
-        → ((k : ℕ) (us : List Token) → length us ≤ turns → Expects b (NameThen A) k → AreHere b us k → OkOrReported b (more us) (λ p. Next b A us p.1))
-        → (k : ℕ) (ts : List Token) → length ts ≤ suc turns → Expects b (MembersThen A) k → AreHere b ts k → OkOrReported b (member_end b missing ts more) (λ p. Next b A ts p.1)
+        → ((k : ℕ) (us : List Token) → length us ≤ turns → Expects b (NameThen A) k → AreHere b us k
+        → OkOrReported b (more us) (λ p. Next b A us p.1))
+        → (k : ℕ) (ts : List Token) → length ts ≤ suc turns → Expects b (MembersThen A) k → AreHere b ts k
+        → OkOrReported b (member_end b missing ts more) (λ p. Next b A ts p.1)
     member_end-reported more turns row k [] l x h = missed (IsBeginning-whole b (MembersThen A) k x (members_then-CanFollow A a).some h)
     member_end-reported more turns row k (t ∷ ts) l x h = go t.form h.form h.stands
       where
         at : ExpectsAt b (MembersThen A) t.index
         at = expects-token b (MembersThen A) t (AreHere b ts) k x h
 
-        go : (form : Form) → form_at b t.index ≡ form → FormInPlace b form (AreHere b ts) t.index → OkOrReported b (after_member b missing t form ts more) (λ p. Next b A (t ∷ ts) p.1)
+        go : (form : Form) → form_at b t.index ≡ form → FormInPlace b form (AreHere b ts) t.index
+            → OkOrReported b (after_member b missing t form ts more) (λ p. Next b A (t ∷ ts) p.1)
         go value_separator is (o, after) =
-            weaken-OkOrReported b (more ts) (λ p. Next b A ts p.1) (λ p. Next b A (t ∷ ts) p.1) (λ p n. next-more b A (t ∷ ts) ts p.1 (took-one t ts) n)
+            weaken-OkOrReported b (more ts) (λ p. Next b A ts p.1) (λ p. Next b A (t ∷ ts) p.1)
+            (λ p n. next-more b A (t ∷ ts) ts p.1 (took-one t ts) n)
             (row (suc t.index) ts (omega arith)
-            (expects-own b (MembersThen A) (NameThen A) t.index (suc t.index) o.own [] comma at o.split o.holds (object_goes_on A (byte_at b (suc t.index))) (name_then-NoSpace A)) after)
+            (expects-own b (MembersThen A) (NameThen A) t.index (suc t.index) o.own [] comma at o.split o.holds
+            (object_goes_on A (byte_at b (suc t.index))) (name_then-NoSpace A)) after)
         go end_object is (o, after) = record {
           at = suc t.index;
-          expects = expects-own b (MembersThen A) A t.index (suc t.index) o.own [] right_brace at o.split o.holds (object_closes A (byte_at b (suc t.index))) (λ bs h. (a.delimited bs h).1);
+          expects = expects-own b (MembersThen A) A t.index (suc t.index) o.own [] right_brace at o.split o.holds
+              (object_closes A (byte_at b (suc t.index))) (λ bs h. (a.delimited bs h).1);
           here = after;
           took = took-one t ts;
         }
@@ -112,37 +135,49 @@ module _ (b : List ℕ) (missing : Error) (missed : IsBeginning b → Reported b
             ])
 
     -- in a row of members,
-    members_from-reported : (turns : ℕ) (kind : ErrorType) (k : ℕ) (ts : List Token) → length ts ≤ turns → Expects b (NameThen A) k → AreHere b ts k
+    members_from-reported : (turns : ℕ) (kind : ErrorType) (k : ℕ) (ts : List Token) → length ts ≤ turns
+        → Expects b (NameThen A) k → AreHere b ts k
         → OkOrReported b (members_from b missing value turns kind ts) (λ p. Next b A ts p.1)
     unfolding members_from
     members_from-reported zero kind k [] l x h = missed (IsBeginning-whole b (NameThen A) k x (some-name A a) h)
     members_from-reported zero kind k (t ∷ ts) l x h = absurd (omega (arith, l))
     members_from-reported (suc turns) kind k ts l x h =
-        bind-OkOrReported b (name_from b missing kind ts) _ (λ p. Next b (NamedThen A) ts p.1) (λ p. Next b A ts p.1) (name_from-reported A a kind k ts x h)
-        (λ name n. bind-OkOrReported b (name_end b missing name.1) _ (λ us. Next b (ValueThen (MembersThen A)) name.1 us) (λ p. Next b A ts p.1) (name_end-reported A a n.at name.1 n.expects n.here)
-        (λ us c. bind-OkOrReported b (value us) _ (λ p. Next b (MembersThen A) us p.1) (λ p. Next b A ts p.1) (reported (MembersThen A) (members_then-CanFollow A a) c.at us c.expects c.here)
+        bind-OkOrReported b (name_from b missing kind ts) _ (λ p. Next b (NamedThen A) ts p.1) (λ p. Next b A ts p.1)
+        (name_from-reported A a kind k ts x h)
+        (λ name n. bind-OkOrReported b (name_end b missing name.1) _ (λ us. Next b (ValueThen (MembersThen A)) name.1 us)
+        (λ p. Next b A ts p.1) (name_end-reported A a n.at name.1 n.expects n.here)
+        (λ us c. bind-OkOrReported b (value us) _ (λ p. Next b (MembersThen A) us p.1) (λ p. Next b A ts p.1)
+        (reported (MembersThen A) (members_then-CanFollow A a) c.at us c.expects c.here)
         (λ first v.
         let took : Took ts first.1 = took-more ts name.1 first.1 n.took (took-more name.1 us first.1 c.took v.took) in
-        bind-OkOrReported b (member_end b missing first.1 (members_from b missing value turns ExpectedObjectKey)) _ (λ p. Next b A first.1 p.1) (λ p. Next b A ts p.1)
-        (member_end-reported (members_from b missing value turns ExpectedObjectKey) turns (members_from-reported turns ExpectedObjectKey) v.at first.1 (omega (arith, l, took-fewer ts first.1 took)) v.expects v.here)
+        bind-OkOrReported b (member_end b missing first.1 (members_from b missing value turns ExpectedObjectKey)) _
+        (λ p. Next b A first.1 p.1) (λ p. Next b A ts p.1)
+        (member_end-reported (members_from b missing value turns ExpectedObjectKey) turns
+        (members_from-reported turns ExpectedObjectKey) v.at first.1
+        (omega (arith, l, took-fewer ts first.1 took)) v.expects v.here)
         (λ rest m. next-more b A ts first.1 rest.1 took m))))
 
     -- and after an opening brace.
-    pub object_from-reported : (k : ℕ) (ts : List Token) → Expects b (FirstMemberThen A) k → AreHere b ts k → OkOrReported b (object_from b missing value ts) (λ p. Next b A ts p.1)
+    pub object_from-reported : (k : ℕ) (ts : List Token) → Expects b (FirstMemberThen A) k → AreHere b ts k
+        → OkOrReported b (object_from b missing value ts) (λ p. Next b A ts p.1)
     object_from-reported k [] x h = missed (IsBeginning-whole b (FirstMemberThen A) k x ((some-name A a).0, inr (some-name A a).1) h)
     object_from-reported k (t ∷ ts) x h = go t.form h.form h.stands
       where
         -- members, where no closing brace stands
-        row : byte_at b t.index ≢ right_brace → OkOrReported b (members_from b missing value (length (t ∷ ts)) ExpectedObjectContent (t ∷ ts)) (λ p. Next b A (t ∷ ts) p.1)
+        row : byte_at b t.index ≢ right_brace → OkOrReported b
+            (members_from b missing value (length (t ∷ ts)) ExpectedObjectContent (t ∷ ts)) (λ p. Next b A (t ∷ ts) p.1)
         row other =
             members_from-reported (length (t ∷ ts)) ExpectedObjectContent k (t ∷ ts) (omega arith)
-            (expects-narrow b (FirstMemberThen A) (NameThen A) t (AreHere b ts) k x h (λ rest v. inr v) (λ rest. first_member-name A (byte_at b t.index) rest other)) h
+            (expects-narrow b (FirstMemberThen A) (NameThen A) t (AreHere b ts) k x h (λ rest v. inr v)
+            (λ rest. first_member-name A (byte_at b t.index) rest other)) h
 
         go : (form : Form) → form_at b t.index ≡ form → FormInPlace b form (AreHere b ts) t.index
-            → OkOrReported b (first_member b missing form (t ∷ ts) ts (members_by b missing value ExpectedObjectContent)) (λ p. Next b A (t ∷ ts) p.1)
+            → OkOrReported b (first_member b missing form (t ∷ ts) ts (members_by b missing value ExpectedObjectContent))
+            (λ p. Next b A (t ∷ ts) p.1)
         go end_object is (o, after) = record {
           at = suc t.index;
-          expects = expects-own b (FirstMemberThen A) A t.index (suc t.index) o.own [] right_brace (expects-token b (FirstMemberThen A) t (AreHere b ts) k x h) o.split o.holds
+          expects = expects-own b (FirstMemberThen A) A t.index (suc t.index) o.own [] right_brace
+              (expects-token b (FirstMemberThen A) t (AreHere b ts) k x h) o.split o.holds
               (empty_object_closes A (byte_at b (suc t.index))) (λ bs h. (a.delimited bs h).1);
           here = after;
           took = took-one t ts;

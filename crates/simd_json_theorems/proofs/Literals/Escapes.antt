@@ -33,14 +33,17 @@ hex_small p q r s hp hq hr hs = omega arith
 pub hex_value-small : (a b c d u : ℕ) → hex_value a b c d ≡ Some u → u < 65536
 hex_value-small a b c d u e =
     let h : AreHexDigits a b c d u = hex_value-digits a b c d u e in
-    subst (λ n. n < 65536) h.value (hex_small _ _ _ _ (ltb-true _ _ h.first) (ltb-true _ _ h.second) (ltb-true _ _ h.third) (ltb-true _ _ h.fourth))
+    subst (λ n. n < 65536) h.value
+    (hex_small _ _ _ _ (ltb-true _ _ h.first) (ltb-true _ _ h.second) (ltb-true _ _ h.third) (ltb-true _ _ h.fourth))
 
 -- A hexadecimal digit is ASCII.
 pub hex_digit-small : (x : ℕ) → is_digit x 16 ≡ true → x < 128
 hex_digit-small x h =
     cond_both (nat_lt x 48) _ _ Small (λ e _. omega (arith, ltb-true x 48 e))
-    (λ _. cond_both (nat_lt x 58) _ _ Small (λ e _. omega (arith, ltb-true x 58 e)) (λ _. cond_both (nat_lt x 65) _ _ Small (λ e _. omega (arith, ltb-true x 65 e))
-    (λ _. cond_both (nat_lt x 91) _ _ Small (λ e _. omega (arith, ltb-true x 91 e)) (λ _. cond_both (nat_lt x 97) _ _ Small (λ e _. omega (arith, ltb-true x 97 e))
+    (λ _. cond_both (nat_lt x 58) _ _ Small (λ e _. omega (arith, ltb-true x 58 e))
+    (λ _. cond_both (nat_lt x 65) _ _ Small (λ e _. omega (arith, ltb-true x 65 e))
+    (λ _. cond_both (nat_lt x 91) _ _ Small (λ e _. omega (arith, ltb-true x 91 e))
+    (λ _. cond_both (nat_lt x 97) _ _ Small (λ e _. omega (arith, ltb-true x 97 e))
     (λ _. cond_both (nat_lt x 123) _ _ Small (λ e _. omega (arith, ltb-true x 123 e)) (λ _ l. absurd (omega (arith, l))))))))
     (ltb-true (digit_value x) 16 h)
   where
@@ -51,8 +54,10 @@ hex_digit-small x h =
 pub escaped_character-small : (x c : ℕ) → escaped_character x ≡ Some c → (x < 128) × (c < 128)
 escaped_character-small x c =
     cond_both ((x == quote) || (x == backslash) || (x == 47)) _ _ Small itself
-    (λ _. cond_both (x == 98) _ _ Small (λ h. known 98 8 h (omega arith) (omega arith)) (λ _. cond_both (x == 102) _ _ Small (λ h. known 102 12 h (omega arith) (omega arith))
-    (λ _. cond_both (x == 110) _ _ Small (λ h. known 110 10 h (omega arith) (omega arith)) (λ _. cond_both (x == 114) _ _ Small (λ h. known 114 13 h (omega arith) (omega arith))
+    (λ _. cond_both (x == 98) _ _ Small (λ h. known 98 8 h (omega arith) (omega arith))
+    (λ _. cond_both (x == 102) _ _ Small (λ h. known 102 12 h (omega arith) (omega arith))
+    (λ _. cond_both (x == 110) _ _ Small (λ h. known 110 10 h (omega arith) (omega arith))
+    (λ _. cond_both (x == 114) _ _ Small (λ h. known 114 13 h (omega arith) (omega arith))
     (λ _. cond_both (x == 116) _ _ Small (λ h. known 116 9 h (omega arith) (omega arith)) (λ _ e. cc))))))
   where
     Small : Option ℕ → Type 0
@@ -67,6 +72,9 @@ escaped_character-small x c =
     itself : ((x == quote) || (x == backslash) || (x == 47)) ≡ true → Some x ≡ Some c → (x < 128) × (c < 128)
     itself h =
         elim (or_cases ((x == quote) || (x == backslash)) (x == 47) h) [
-          | inl g ↦ elim (or_cases (x == quote) (x == backslash) g) [ inl e ↦ same_letter quote e (omega arith) | inr e ↦ same_letter backslash e (omega arith) ]
+          | inl g ↦ elim (or_cases (x == quote) (x == backslash) g) [
+            | inl e ↦ same_letter quote e (omega arith)
+            | inr e ↦ same_letter backslash e (omega arith)
+          ]
           | inr e ↦ same_letter 47 e (omega arith)
         ]

@@ -16,8 +16,10 @@ no_more-signed : (x : ℕ) → is_ascii_digit x ≡ true → derivative x (deriv
 no_more-signed x h = rw (no_digit 46 x h refl, no_digit 69 x h refl, no_digit 101 x h refl) refl
 
 pub zero-alone : (x : ℕ) (bs : List ℕ) → is_ascii_digit x ≡ true → Matches number_literal (48 ∷ x ∷ bs) → ⊥
-zero-alone x bs h m = both_ways (matches number_literal (48 ∷ x ∷ bs)) (ap (λ p. matches p bs) (no_more x h) ∙ matches-never bs) (Matches-matches number_literal (48 ∷ x ∷ bs) m)
+zero-alone x bs h m = both_ways (matches number_literal (48 ∷ x ∷ bs)) (ap (λ p. matches p bs) (no_more x h) ∙ matches-never bs)
+    (Matches-matches number_literal (48 ∷ x ∷ bs) m)
 
 pub zero-alone-signed : (x : ℕ) (bs : List ℕ) → is_ascii_digit x ≡ true → Matches number_literal (45 ∷ 48 ∷ x ∷ bs) → ⊥
 zero-alone-signed x bs h m =
-    both_ways (matches number_literal (45 ∷ 48 ∷ x ∷ bs)) (ap (λ p. matches p bs) (no_more-signed x h) ∙ matches-never bs) (Matches-matches number_literal (45 ∷ 48 ∷ x ∷ bs) m)
+    both_ways (matches number_literal (45 ∷ 48 ∷ x ∷ bs)) (ap (λ p. matches p bs) (no_more-signed x h) ∙ matches-never bs)
+    (Matches-matches number_literal (45 ∷ 48 ∷ x ∷ bs) m)

@@ -25,19 +25,27 @@ module _ (print : Document → List ℕ) (denotes : (d : Document) → IsSpellab
   utf8-printed d spelled fits = IsUtf8-Denotes (print d) (normalized d) (denotes d spelled fits)
 
   -- it is of one document but for the sign of a zero,
-  pub equal-printed : (d e : Document) → IsSpellable d → IntegersFit d → IsSpellable e → IntegersFit e → print d ≡ print e → equal d e ≡ true
+  pub equal-printed : (d e : Document) → IsSpellable d → IntegersFit d → IsSpellable e → IntegersFit e
+      → print d ≡ print e → equal d e ≡ true
   equal-printed d e spelled fits spelled' fits' same =
-      (Decides-equal d e).1 (document-one (print d) (normalized d) (normalized e) (denotes d spelled fits) (subst (λ bs. Denotes bs (normalized e)) (sym same) (denotes e spelled' fits')))
+      (Decides-equal d e).1 (document-one (print d) (normalized d) (normalized e) (denotes d spelled fits)
+      (subst (λ bs. Denotes bs (normalized e)) (sym same) (denotes e spelled' fits')))
 
   -- it is read again,
-  pub answer-printed : (d : Document) (limit : ℕ) → IsSpellable d → IntegersFit d → length (print d) ≤ max_length → depth d ≤ limit → answer (print d) limit ≡ Ok (normalized d)
+  pub answer-printed : (d : Document) (limit : ℕ) → IsSpellable d → IntegersFit d → length (print d) ≤ max_length → depth d ≤ limit
+      → answer (print d) limit ≡ Ok (normalized d)
   answer-printed d limit spelled fits size nesting =
       let within : WithinLimits (print d) (normalized d) limit =
-      record { size = size; nesting = subst (λ n. n ≤ limit) (sym (depth-normalized d)) nesting; integers = IntegersFit-normalized d fits } in
+      record {
+        size = size;
+        nesting = subst (λ n. n ≤ limit) (sym (depth-normalized d)) nesting;
+        integers = IntegersFit-normalized d fits;
+      } in
       answer-Denotes (print d) (normalized d) limit (denotes d spelled fits) within
 
   -- also where the document itself was read.
-  pub answer-again : (b : List ℕ) (limit : ℕ) (d : Document) → answer b limit ≡ Ok d → length (print d) ≤ max_length → answer (print d) limit ≡ Ok (normalized d)
+  pub answer-again : (b : List ℕ) (limit : ℕ) (d : Document) → answer b limit ≡ Ok d → length (print d) ≤ max_length
+      → answer (print d) limit ≡ Ok (normalized d)
   answer-again b limit d is size =
       let sound : Denotes b d × WithinLimits b d limit = answer-sound b limit d is in
       answer-printed d limit (IsSpellable-denoted b d sound.0) sound.1.integers size sound.1.nesting

@@ -1,5 +1,6 @@
 -- An integer's decimal digits, with a sign or without, are a literal of that integer.
-use Rattle.std.proofs.Common.{◌≡◌, refl, sym, ◌∙◌, ap, subst, drop, map, cond, ℕ, zero, suc, ◌+◌, ◌/◌, ◌%◌, ◌^◌, ◌≤◌, ◌<◌, lit<, inl, inr, List, [], ◌∷◌, ◌++◌, length, get_or, Bool, true, false, not, ◌==◌, arith}
+use Rattle.std.proofs.Common.{◌≡◌, refl, sym, ◌∙◌, ap, subst, drop, map, cond, ℕ, zero, suc, ◌+◌, ◌/◌, ◌%◌, ◌^◌, ◌≤◌, ◌<◌, lit<}
+use Rattle.std.proofs.Common.{inl, inr, List, [], ◌∷◌, ◌++◌, length, get_or, Bool, true, false, not, ◌==◌, arith}
 use Rattle.std.specs.Char.{digit_value}
 use Rattle.std.specs.Fmt.{decimal, signed_decimal, digits}
 use Rattle.std.specs.Int.Digits.{number_from_digits}
@@ -57,10 +58,16 @@ first_decimal n some small = (decimal_by_steps_wide Leads (λ m l k. (omega arit
 -- what is printed of a number
 Spells-decimal : (n : ℕ) → n < 10 ^ 64 → Spells n (decimal n)
 unfolding digits
-Spells-decimal zero small = record { some = omega arith; all = (omega arith, tt); is_int = inl (48, refl, omega arith, omega arith); value = refl }
+Spells-decimal zero small =
+    record { some = omega arith; all = (omega arith, tt); is_int = inl (48, refl, omega arith, omega arith); value = refl }
 Spells-decimal (suc n) small =
     let numeral = decimal_is_IsNumeral_wide (suc n) small in
-    record { some = numeral.0.0; all = numeral.0.1; is_int = int-digits (decimal (suc n)) numeral.0.1 numeral.0.0 (first_decimal (suc n) (omega arith) small); value = numeral.1 }
+    record {
+      some = numeral.0.0;
+      all = numeral.0.1;
+      is_int = int-digits (decimal (suc n)) numeral.0.1 numeral.0.0 (first_decimal (suc n) (omega arith) small);
+      value = numeral.1;
+    }
 
 -- ---- integers
 
@@ -69,16 +76,20 @@ value-unsigned n [] s = absurd (omega (arith, s.some))
 value-unsigned n (c ∷ ds) s =
     let first : (48 ≤ c) × (c ≤ 57) = digit_at (c ∷ ds) 0 s.all s.some in
     let sign : (c == 45) ≡ false = ne_eqb c 45 (λ e. omega arith) in
-    let value : magnitude (c ∷ ds) ≡ n = ap (λ t. number_from_digits 10 (map digit_value (drop (cond t 1 0) (c ∷ ds)))) sign ∙ sym (digits_value_is 10 (c ∷ ds)) ∙ s.value in
+    let value : magnitude (c ∷ ds) ≡ n =
+    ap (λ t. number_from_digits 10 (map digit_value (drop (cond t 1 0) (c ∷ ds)))) sign
+    ∙ sym (digits_value_is 10 (c ∷ ds)) ∙ s.value in
     (([], c ∷ ds, refl, inl refl, s.is_int), sign, value)
 
 value-signed : (n : ℕ) (ds : List ℕ) → Spells n ds → IsValue (integer true n) (45 ∷ ds)
 value-signed n ds s = ((45 ∷ [], ds, refl, inr (45, refl, omega arith, omega arith), s.is_int), refl, sym (digits_value_is 10 ds) ∙ s.value)
 
 -- What is printed of an integer is a literal of it, and no zero has a sign.
-pub value-integer : (minus : Bool) (n : ℕ) → n ≤ max_magnitude minus → IsValue (normalized (integer minus n)) (signed_decimal (number_of minus n))
+pub value-integer : (minus : Bool) (n : ℕ) → n ≤ max_magnitude minus
+    → IsValue (normalized (integer minus n)) (signed_decimal (number_of minus n))
 value-integer false n fits = value-unsigned n (decimal n) (Spells-decimal n (below-printed false n fits))
 value-integer true zero fits = value-unsigned 0 (decimal 0) (Spells-decimal 0 (omega arith))
 value-integer true (suc n) fits =
     let sign : (suc n == 0) ≡ false = ne_eqb (suc n) 0 (λ e. omega arith) in
-    subst (λ t. IsValue (integer (not t) (suc n)) (45 ∷ decimal (suc n))) (sym sign) (value-signed (suc n) (decimal (suc n)) (Spells-decimal (suc n) (below-printed true (suc n) fits)))
+    subst (λ t. IsValue (integer (not t) (suc n)) (45 ∷ decimal (suc n))) (sym sign)
+    (value-signed (suc n) (decimal (suc n)) (Spells-decimal (suc n) (below-printed true (suc n) fits)))

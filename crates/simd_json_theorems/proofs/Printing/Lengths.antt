@@ -1,5 +1,6 @@
 -- No literal of an integer or a string is shorter than what is printed of it.
-use Rattle.std.proofs.Common.{◌≡◌, ◌≢◌, sym, ◌∙◌, ap, subst, ℕ, zero, suc, ◌+◌, ◌-◌, ◌^◌, ◌<◌, ◌≤◌, inl, inr, List, [], ◌∷◌, length, append-nil, length-append, length-drop, flat_map, Bool, true, false, cond, ◌==◌, ◌||◌, nat_lt, arith}
+use Rattle.std.proofs.Common.{◌≡◌, ◌≢◌, sym, ◌∙◌, ap, subst, ℕ, zero, suc, ◌+◌, ◌-◌, ◌^◌, ◌<◌, ◌≤◌, inl, inr, List, [], ◌∷◌, length}
+use Rattle.std.proofs.Common.{append-nil, length-append, length-drop, flat_map, Bool, true, false, cond, ◌==◌, ◌||◌, nat_lt, arith}
 use mir.Val.{bool_byte}
 use Rattle.std.specs.Prelude.{Option, Some, encode_utf8_all}
 use Rattle.std.specs.Char.{encode_utf8}
@@ -39,15 +40,18 @@ integer-some bs (us, vs, e, inr (c, h, low, high), m) =
     subst (λ ds. start ds < length ds) (sym same) (omega (arith, int-some vs m))
 
 -- as many digits as the literal has after its sign, at most
-decimal-length : (bs : List ℕ) (minus : Bool) (n : ℕ) → IsValue (integer minus n) bs → n < 10 ^ 64 → length (decimal n) + start bs ≤ length bs
+decimal-length : (bs : List ℕ) (minus : Bool) (n : ℕ) → IsValue (integer minus n) bs → n < 10 ^ 64
+    → length (decimal n) + start bs ≤ length bs
 decimal-length bs minus n (m, has, value) small =
     let ds : List ℕ = after_start bs in
     let size : length ds ≡ length bs - start bs = ap length (after_start-is bs) ∙ length-drop (start bs) bs in
     let some : start bs < length bs = integer-some bs m in
-    let below : n < 10 ^ length ds = subst (λ v. v < 10 ^ length ds) (sym (magnitude-is bs) ∙ value) (digits_value-lt 10 ds (integer-AllDigits bs m)) in
+    let below : n < 10 ^ length ds =
+    subst (λ v. v < 10 ^ length ds) (sym (magnitude-is bs) ∙ value) (digits_value-lt 10 ds (integer-AllDigits bs m)) in
     omega (arith, length-decimal-le_wide (length ds) n (omega arith) below small)
 
-pub integer-length : (minus : Bool) (n : ℕ) (bs : List ℕ) → IsValue (integer minus n) bs → n ≤ max_magnitude minus → length (signed_decimal (number_of minus n)) ≤ length bs
+pub integer-length : (minus : Bool) (n : ℕ) (bs : List ℕ) → IsValue (integer minus n) bs → n ≤ max_magnitude minus
+    → length (signed_decimal (number_of minus n)) ≤ length bs
 integer-length false n bs h fits = omega (arith, decimal-length bs false n h (below-printed false n fits))
 integer-length true zero bs h fits = omega (arith, decimal-length bs true 0 h (omega arith))
 integer-length true (suc n) bs h fits = omega (arith, decimal-length bs true (suc n) h (below-printed true (suc n) fits), ap bool_byte h.1)
@@ -56,9 +60,12 @@ integer-length true (suc n) bs h fits = omega (arith, decimal-length bs true (su
 
 escaped_byte-length : (c : ℕ) → length (escaped_byte c) ≤ 6
 escaped_byte-length c =
-    cond_both (c == 34) _ _ Short (λ _. omega arith) (λ _. cond_both (c == 92) _ _ Short (λ _. omega arith) (λ _. cond_both (c == 8) _ _ Short (λ _. omega arith)
-    (λ _. cond_both (c == 9) _ _ Short (λ _. omega arith) (λ _. cond_both (c == 10) _ _ Short (λ _. omega arith) (λ _. cond_both (c == 12) _ _ Short (λ _. omega arith)
-    (λ _. cond_both (c == 13) _ _ Short (λ _. omega arith) (λ _. cond_both (nat_lt c 32) _ _ Short (λ _. omega arith) (λ _. omega arith))))))))
+    cond_both (c == 34) _ _ Short (λ _. omega arith)
+    (λ _. cond_both (c == 92) _ _ Short (λ _. omega arith) (λ _. cond_both (c == 8) _ _ Short (λ _. omega arith)
+    (λ _. cond_both (c == 9) _ _ Short (λ _. omega arith)
+    (λ _. cond_both (c == 10) _ _ Short (λ _. omega arith) (λ _. cond_both (c == 12) _ _ Short (λ _. omega arith)
+    (λ _. cond_both (c == 13) _ _ Short (λ _. omega arith)
+    (λ _. cond_both (nat_lt c 32) _ _ Short (λ _. omega arith) (λ _. omega arith))))))))
   where
     Short : List ℕ → Type 0
     Short bs = length bs ≤ 6
@@ -71,7 +78,12 @@ escaped-length : (c : ℕ) → length (flat_map escaped_byte (encode_utf8 c)) �
 escaped-length c =
     elim (cases_lt c 128) [
       | inl l ↦ omega (arith, ap length (escaped-ascii c l), escaped_byte-length c)
-      | inr l ↦ omega (arith, ap length (escaped-encoded c l), length-encode c, at_most_four (nat_lt c 0x80) (nat_lt c 0x800) (nat_lt c 0x1_0000))
+      | inr l ↦ omega (
+        arith,
+        ap length (escaped-encoded c l),
+        length-encode c,
+        at_most_four (nat_lt c 0x80) (nat_lt c 0x800) (nat_lt c 0x1_0000),
+      )
     ]
   where
     at_most_four : (x y z : Bool) → cond x 1 (cond y 2 (cond z 3 4)) ≤ 4
@@ -108,19 +120,24 @@ simple-length x c =
     itself : ((x == quote) || (x == backslash) || (x == 47)) ≡ true → Some x ≡ Some c → length (escaped_byte c) ≤ 2
     itself h =
         elim (or_cases ((x == quote) || (x == backslash)) (x == 47) h) [
-          | inl g ↦ elim (or_cases (x == quote) (x == backslash) g) [ inl e ↦ letter 34 (omega arith) e | inr e ↦ letter 92 (omega arith) e ]
+          | inl g ↦ elim (or_cases (x == quote) (x == backslash) g) [
+            | inl e ↦ letter 34 (omega arith) e
+            | inr e ↦ letter 92 (omega arith) e
+          ]
           | inr e ↦ letter 47 (omega arith) e
         ]
 
 -- ---- strings
 
 piece-length : (xs : List ℕ) (c : ℕ) → IsPiece xs c → length (flat_map escaped_byte (encode_utf8 c)) ≤ length xs
-piece-length xs c (inl (scalar, control, no_quote, no_backslash, e)) = omega (arith, plain-length c control no_quote no_backslash, ap length e)
+piece-length xs c (inl (scalar, control, no_quote, no_backslash, e)) =
+    omega (arith, plain-length c control no_quote no_backslash, ap length e)
 piece-length xs c (inr (inl (letter, e, f))) =
     let small : (letter < 128) × (c < 128) = escaped_character-small letter c f in
     omega (arith, ap length (escaped-ascii c small.1), simple-length letter c f, ap length e)
 piece-length xs c (inr (inr (inl (code_unit, high, low)))) = omega (arith, escaped-length c, ap length code_unit.4)
-piece-length xs c (inr (inr (inr (us, vs, high, low, e, first, second, is_high, is_low, f)))) = omega (arith, escaped-length c, ap length e, length-append us vs, ap length first.4)
+piece-length xs c (inr (inr (inr (us, vs, high, low, e, first, second, is_high, is_low, f)))) =
+    omega (arith, escaped-length c, ap length e, length-append us vs, ap length first.4)
 
 pieces-length : (bs cs : List ℕ) → ArePieces bs cs → length (flat_map escaped_byte (encode_utf8_all cs)) ≤ length bs
 pieces-length bs [] e = omega arith
@@ -138,5 +155,6 @@ pieces-length bs (c ∷ cs) (xs, ys, e, piece, more) =
 pub quoted-length : (bs t : List ℕ) → IsStringLiteral bs t → length (quoted t) ≤ length bs
 unfolding quoted
 quoted-length bs t (content, cs, e, pieces, same) =
-    let within : length (flat_map escaped_byte t) ≤ length content = subst (λ us. length (flat_map escaped_byte us) ≤ length content) (sym same) (pieces-length content cs pieces) in
+    let within : length (flat_map escaped_byte t) ≤ length content =
+    subst (λ us. length (flat_map escaped_byte us) ≤ length content) (sym same) (pieces-length content cs pieces) in
     omega (arith, ap length e, length-append content (34 ∷ []), length-append (flat_map escaped_byte t) (34 ∷ []))

@@ -1,7 +1,8 @@
 -- Compact text is the shortest: no text that denotes the document is shorter.
 use Rattle.std.proofs.Common.{ap, ℕ, suc, ◌+◌, ◌≤◌, List, [], ◌∷◌, ◌++◌, length, length-append, true, false, codes, arith}
 use Rattle.simd_json_parts.specs.Bytes.{comma, colon, right_bracket, right_brace}
-use Rattle.simd_json_parts.specs.Document.{Document, null, boolean, integer, decimal, string, array, object, Elements, no_elements, element, Members, no_members, member}
+use Rattle.simd_json_parts.specs.Document.{Document, null, boolean, integer, decimal, string, array, object, Elements, no_elements}
+use Rattle.simd_json_parts.specs.Document.{element, Members, no_members, member}
 use Rattle.simd_json_parts.specs.Grammar.{Spaced, Joined, After, IsValue, AreElements, AreMoreElements, AreMembers, AreMoreMembers, Denotes}
 use Rattle.simd_json_parts.specs.Limits.{IntegersFit, ElementsFit, MembersFit}
 use Rattle.simd_json_parts.specs.Printed.{quoted, text, elements_text, members_text, compact}

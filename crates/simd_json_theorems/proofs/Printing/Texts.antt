@@ -1,8 +1,11 @@
 -- A printed text denotes its document, with no sign on a zero.
-use Rattle.std.proofs.Common.{◌≡◌, refl, sym, ◌∙◌, ap, subst, ℕ, suc, ◌*◌, ◌⊎◌, inl, inr, List, [], ◌∷◌, ◌++◌, append_assoc, Bool, true, false, codes, IsUtf8}
+use Rattle.std.proofs.Common.{◌≡◌, refl, sym, ◌∙◌, ap, subst, ℕ, suc, ◌*◌, ◌⊎◌, inl, inr, List, [], ◌∷◌, ◌++◌, append_assoc, Bool}
+use Rattle.std.proofs.Common.{true, false, codes, IsUtf8}
 use Rattle.simd_json_parts.specs.Bytes.{comma, colon, left_bracket, right_bracket, left_brace, right_brace}
-use Rattle.simd_json_parts.specs.Document.{Document, null, boolean, integer, decimal, string, array, object, Elements, no_elements, element, Members, no_members, member}
-use Rattle.simd_json_parts.specs.Grammar.{IsWhitespace, Spaced, Joined, After, IsValue, AreElements, AreMoreElements, AreMembers, AreMoreMembers, Denotes}
+use Rattle.simd_json_parts.specs.Document.{Document, null, boolean, integer, decimal, string, array, object, Elements, no_elements}
+use Rattle.simd_json_parts.specs.Document.{element, Members, no_members, member}
+use Rattle.simd_json_parts.specs.Grammar.{IsWhitespace, Spaced, Joined, After, IsValue, AreElements, AreMoreElements, AreMembers}
+use Rattle.simd_json_parts.specs.Grammar.{AreMoreMembers, Denotes}
 use Rattle.simd_json_parts.specs.Limits.{IntegersFit, ElementsFit, MembersFit}
 use Rattle.simd_json_parts.specs.Printed.{quoted, truth_text, line, after_name, text, elements_text, members_text, compact, pretty}
 use Rattle.simd_json_parts.specs.Strings.{IsStringLiteral}

@@ -7,7 +7,11 @@ use Rattle.simd_json_parts.specs.Document.{Document, null, boolean, integer, dec
 use Rattle.simd_json_parts.specs.Faults.{whole_fault, fault_with}
 use Rattle.simd_json_parts.specs.declared.error.Error.{Error}
 use Rattle.simd_json_parts.specs.declared.error.ErrorType.{ErrorType}
-use Rattle.simd_json_parts.specs.declared.error.ErrorType.TheVariants.{DepthLimitExceeded, Eof, ExpectedArrayContent, ExpectedFalse, ExpectedNull, ExpectedObjectColon, ExpectedObjectContent, ExpectedObjectKey, ExpectedTrue, InternalError, InvalidEscape, InvalidNumber, InvalidUnicodeCodepoint, InvalidUtf8, Syntax, TrailingData}
+use Rattle.simd_json_parts.specs.declared.error.ErrorType.TheVariants.{DepthLimitExceeded, Eof, ExpectedArrayContent, ExpectedFalse}
+use Rattle.simd_json_parts.specs.declared.error.ErrorType.TheVariants.{ExpectedNull, ExpectedObjectColon, ExpectedObjectContent}
+use Rattle.simd_json_parts.specs.declared.error.ErrorType.TheVariants.{ExpectedObjectKey, ExpectedTrue, InternalError}
+use Rattle.simd_json_parts.specs.declared.error.ErrorType.TheVariants.{InvalidEscape, InvalidNumber, InvalidUnicodeCodepoint}
+use Rattle.simd_json_parts.specs.declared.error.ErrorType.TheVariants.{InvalidUtf8, Syntax, TrailingData}
 use Rattle.simd_json_scalars.proofs.Computes.{computes}
 use Rattle.simd_json_theorems.proofs.Rows.Samples.{list, pairs, spaces}
 
@@ -50,7 +54,8 @@ numbers =
     ∷ reads (codes "340282366920938463463374607431768211455") (integer false 340282366920938463463374607431768211455)
     ∷ refuses (codes "340282366920938463463374607431768211456") InvalidNumber 38 (codes "6")
     ∷ refuses (codes "-340282366920938463463374607431768211456") InvalidNumber 39 (codes "6")
-    ∷ reads (codes "[-0,0,1e309,1.50]") (list ((integer true 0) ∷ (integer false 0) ∷ (decimal (codes "1e309")) ∷ (decimal (codes "1.50")) ∷ []))
+    ∷ reads (codes "[-0,0,1e309,1.50]")
+    (list ((integer true 0) ∷ (integer false 0) ∷ (decimal (codes "1e309")) ∷ (decimal (codes "1.50")) ∷ []))
     ∷ refuses (codes "1\"a\"") InvalidNumber 1 (codes "\"")
     ∷ reads (codes "-0") (integer true 0)
     ∷ refuses (codes "01") InvalidNumber 1 (codes "1")
@@ -130,7 +135,8 @@ strings =
     ∷ refuses (codes "\"\\ud800\"") InvalidUnicodeCodepoint 1 (codes "u")
     ∷ refuses (codes "\"\\q\"") InvalidEscape 1 (codes "q")
     ∷ refuses (codes "\"\\u12\"") InvalidUnicodeCodepoint 1 (codes "u")
-    ∷ reads (codes "{\"content\":\"hello\\nworld\"}") (pairs (((codes "content"), (string (0x68 ∷ 0x65 ∷ 0x6c ∷ 0x6c ∷ 0x6f ∷ 0x0a ∷ 0x77 ∷ 0x6f ∷ 0x72 ∷ 0x6c ∷ 0x64 ∷ []))) ∷ []))
+    ∷ reads (codes "{\"content\":\"hello\\nworld\"}") (pairs
+    (((codes "content"), (string (0x68 ∷ 0x65 ∷ 0x6c ∷ 0x6c ∷ 0x6f ∷ 0x0a ∷ 0x77 ∷ 0x6f ∷ 0x72 ∷ 0x6c ∷ 0x64 ∷ []))) ∷ []))
     ∷ reads (codes "\"snot\"") (string (codes "snot"))
     ∷ reads (codes "\"{\\\"arg\\\":\\\"test\\\"}\"") (string (codes "{\"arg\":\"test\"}"))
     ∷ reads (codes "\"\\u000e\"") (string (0x0e ∷ []))
@@ -143,9 +149,11 @@ strings =
     ∷ refuses (codes "{\"a\":\"\\ud83d\",\"b\":01}") InvalidUnicodeCodepoint 6 (codes "u")
     ∷ refuses (codes "[\"a\",tru,\"\\q\"]") ExpectedTrue 5 (codes "t")
     ∷ refuses (0x22 ∷ 0x5c ∷ 0xc3 ∷ 0xa9 ∷ 0x22 ∷ []) InvalidEscape 1 (0xc3 ∷ [])
-    ∷ reads (codes "[\"\\u00e9\\\\\",\"\\n\",\"end\"]") (list ((string (0xc3 ∷ 0xa9 ∷ 0x5c ∷ [])) ∷ (string (0x0a ∷ [])) ∷ (string (codes "end")) ∷ []))
+    ∷ reads (codes "[\"\\u00e9\\\\\",\"\\n\",\"end\"]")
+    (list ((string (0xc3 ∷ 0xa9 ∷ 0x5c ∷ [])) ∷ (string (0x0a ∷ [])) ∷ (string (codes "end")) ∷ []))
     ∷ reads (codes "\"\\ud83d\\ude00\\ud83d\\ude00\"") (string (0xf0 ∷ 0x9f ∷ 0x98 ∷ 0x80 ∷ 0xf0 ∷ 0x9f ∷ 0x98 ∷ 0x80 ∷ []))
-    ∷ reads (codes "{\"\\u0061\":\"b\",\"c\":\"\\\"d\\\"\"}") (pairs (((codes "a"), (string (codes "b"))) ∷ ((codes "c"), (string (codes "\"d\""))) ∷ []))
+    ∷ reads (codes "{\"\\u0061\":\"b\",\"c\":\"\\\"d\\\"\"}")
+    (pairs (((codes "a"), (string (codes "b"))) ∷ ((codes "c"), (string (codes "\"d\""))) ∷ []))
     ∷ reads (spaces 62 ++ codes "\"\\\"\"") (string (codes "\""))
     ∷ reads (quote ∷ (replicate 64 backslash ++ quote ∷ [])) (string (replicate 32 backslash))
     ∷ refuses_whole (quote ∷ (replicate 65 backslash ++ quote ∷ [])) Syntax
@@ -183,11 +191,13 @@ tokens =
     ∷ reads (codes "{\"a\":1,\"a\":2}") (pairs (((codes "a"), (integer false 1)) ∷ ((codes "a"), (integer false 2)) ∷ []))
     ∷ reads (codes "{\"a\":1,\"a\":[2]}") (pairs (((codes "a"), (integer false 1)) ∷ ((codes "a"), (list ((integer false 2) ∷ []))) ∷ []))
     ∷ reads (codes "[1,2]") (list ((integer false 1) ∷ (integer false 2) ∷ []))
-    ∷ reads (codes "{\"a\\n\":[true,null,-1,1.5]}") (pairs (((0x61 ∷ 0x0a ∷ []), (list ((boolean true) ∷ null ∷ (integer true 1) ∷ (decimal (codes "1.5")) ∷ []))) ∷ []))
+    ∷ reads (codes "{\"a\\n\":[true,null,-1,1.5]}")
+    (pairs (((0x61 ∷ 0x0a ∷ []), (list ((boolean true) ∷ null ∷ (integer true 1) ∷ (decimal (codes "1.5")) ∷ []))) ∷ []))
     ∷ reads (codes "[]") (list [])
     ∷ reads (codes "{}") (pairs [])
     ∷ reads (codes "{\"\":\"\"}") (pairs (((codes ""), (string (codes ""))) ∷ []))
-    ∷ reads (codes "{\"a\":[true,1.5e3,\"x\\u0041\"]}") (pairs (((codes "a"), (list ((boolean true) ∷ (decimal (codes "1.5e3")) ∷ (string (codes "xA")) ∷ []))) ∷ []))
+    ∷ reads (codes "{\"a\":[true,1.5e3,\"x\\u0041\"]}")
+    (pairs (((codes "a"), (list ((boolean true) ∷ (decimal (codes "1.5e3")) ∷ (string (codes "xA")) ∷ []))) ∷ []))
     ∷ refuses (codes "]") InternalError 0 (codes "]")
     ∷ refuses (codes "[,1]") InternalError 1 (codes ",")
     ∷ refuses (codes "[1}") ExpectedArrayContent 2 (codes "}")

@@ -23,7 +23,8 @@ one n = integer false n
 one_digit : (n : ℕ) (bs : List ℕ) → IsValue (one n) bs → bs ≡ [] ++ bs ++ [] → Spaced (IsValue (one n)) bs
 one_digit n bs h e = bare bs h e
 
-nested_list-denoted : Denotes (codes "[1,[2,3],4]") (array (element (one 1) (element (array (element (one 2) (element (one 3) no_elements))) (element (one 4) no_elements))))
+nested_list-denoted : Denotes (codes "[1,[2,3],4]")
+    (array (element (one 1) (element (array (element (one 2) (element (one 3) no_elements))) (element (one 4) no_elements))))
 nested_list-denoted =
     bare (codes "[1,[2,3],4]") (
       codes "1,[2,3],4",
@@ -35,11 +36,20 @@ nested_list-denoted =
             (bare (codes "[2,3]") (
               codes "2,3",
               refl,
-              joined (codes "2") (codes ",3") (one_digit 2 (codes "2") (matches-Matches integer_literal (codes "2") refl, refl, refl) refl)
-                  (codes "3", refl, joined (codes "3") [] (one_digit 3 (codes "3") (matches-Matches integer_literal (codes "3") refl, refl, refl) refl) refl),
+              joined (codes "2") (codes ",3")
+                  (one_digit 2 (codes "2") (matches-Matches integer_literal (codes "2") refl, refl, refl) refl) (
+                    codes "3",
+                    refl,
+                    joined (codes "3") []
+                        (one_digit 3 (codes "3") (matches-Matches integer_literal (codes "3") refl, refl, refl) refl) refl,
+                  ),
             )
-            refl)
-            (codes "4", refl, joined (codes "4") [] (one_digit 4 (codes "4") (matches-Matches integer_literal (codes "4") refl, refl, refl) refl) refl),
+            refl) (
+              codes "4",
+              refl,
+              joined (codes "4") []
+                  (one_digit 4 (codes "4") (matches-Matches integer_literal (codes "4") refl, refl, refl) refl) refl,
+            ),
       ),
     )
     refl
@@ -75,8 +85,10 @@ first_same e = ap (λ zs. get_or zs 0 0) e
 rest_same : {c d : ℕ} {xs ys : List ℕ} → c ∷ xs ≡ d ∷ ys → xs ≡ ys
 rest_same e = ap (drop 1) e
 
-whole_is_inner : (before inner after : List ℕ) → codes "1a" ≡ before ++ inner ++ after → IsWhitespace before → IsWhitespace after → inner ≡ codes "1a"
-whole_is_inner (x ∷ xs) inner after e w v = absurd (false≢true (subst (λ c. is_whitespace c ≡ true) (sym (first_same e)) (and_parts (is_whitespace x) _ w).0))
+whole_is_inner : (before inner after : List ℕ) → codes "1a" ≡ before ++ inner ++ after → IsWhitespace before
+    → IsWhitespace after → inner ≡ codes "1a"
+whole_is_inner (x ∷ xs) inner after e w v =
+    absurd (false≢true (subst (λ c. is_whitespace c ≡ true) (sym (first_same e)) (and_parts (is_whitespace x) _ w).0))
 whole_is_inner [] [] after e w v = absurd (false≢true (subst IsWhitespace (sym e) v))
 whole_is_inner [] (x ∷ []) after e w v = absurd (false≢true (subst IsWhitespace (sym (rest_same e)) v))
 whole_is_inner [] (x ∷ y ∷ []) [] e w v = sym e

@@ -33,10 +33,25 @@ rows =
     ∷ (codes "{}", object_item 0 0 ∷ [])
     ∷ (codes "{\"\":\"\"}", object_item 1 2 ∷ string_item [] ∷ string_item [] ∷ [])
     ∷ (codes "[1e309,-0.0]", array_item 2 2 ∷ decimal_item (codes "1e309") ∷ decimal_item (codes "-0.0") ∷ [])
-    ∷ (codes "[-0,0,1e309,1.50]", array_item 4 4 ∷ static_item (I64 (pos 0)) ∷ unsigned 0 ∷ decimal_item (codes "1e309") ∷ decimal_item (codes "1.50") ∷ [])
-    ∷ (codes "{\"a\":[true,1.5e3,\"x\\u0041\"]}", object_item 1 5 ∷ string_item (codes "a") ∷ array_item 3 3 ∷ static_item (Bool true) ∷ decimal_item (codes "1.5e3") ∷ string_item (codes "xA") ∷ [])
-    ∷ (codes "{\"a\\n\":[true,null,-1,1.5]}", object_item 1 6 ∷ string_item (codes "a\n") ∷ array_item 4 4 ∷ static_item (Bool true) ∷ static_item Null ∷ static_item (I64 (negsuc 0)) ∷ decimal_item (codes "1.5") ∷ [])
-    ∷ (codes "{\"a\":{\"b\":[[],{}]},\"a\":2}", object_item 2 8 ∷ string_item (codes "a") ∷ object_item 1 4 ∷ string_item (codes "b") ∷ array_item 2 2 ∷ array_item 0 0 ∷ object_item 0 0 ∷ string_item (codes "a") ∷ unsigned 2 ∷ [])
+    ∷ (
+      codes "[-0,0,1e309,1.50]",
+      array_item 4 4 ∷ static_item (I64 (pos 0)) ∷ unsigned 0 ∷ decimal_item (codes "1e309") ∷ decimal_item (codes "1.50") ∷ [],
+    )
+    ∷ (
+      codes "{\"a\":[true,1.5e3,\"x\\u0041\"]}",
+      object_item 1 5 ∷ string_item (codes "a") ∷ array_item 3 3
+          ∷ static_item (Bool true) ∷ decimal_item (codes "1.5e3") ∷ string_item (codes "xA") ∷ [],
+    )
+    ∷ (
+      codes "{\"a\\n\":[true,null,-1,1.5]}",
+      object_item 1 6 ∷ string_item (codes "a\n") ∷ array_item 4 4 ∷ static_item (Bool true)
+          ∷ static_item Null ∷ static_item (I64 (negsuc 0)) ∷ decimal_item (codes "1.5") ∷ [],
+    )
+    ∷ (
+      codes "{\"a\":{\"b\":[[],{}]},\"a\":2}",
+      object_item 2 8 ∷ string_item (codes "a") ∷ object_item 1 4
+          ∷ string_item (codes "b") ∷ array_item 2 2 ∷ array_item 0 0 ∷ object_item 0 0 ∷ string_item (codes "a") ∷ unsigned 2 ∷ [],
+    )
     ∷ []
 
 rows-listed : map (λ (row : Row). listing (parsed row.0)) rows ≡ map (λ (row : Row). row.1) rows

@@ -22,7 +22,11 @@ rows =
       codes "{\n  \"k\\t\": [\n    0,\n    1E5,\n    \"" ++ e_acute ++ codes "\"\n  ],\n  \"\": {}\n}",
     )
     ∷ (codes "{\"the_answer\": 42}", codes "{\"the_answer\":42}", codes "{\n  \"the_answer\": 42\n}")
-    ∷ (codes "[null,true,false,-12,[],\"a\"]", codes "[null,true,false,-12,[],\"a\"]", codes "[\n  null,\n  true,\n  false,\n  -12,\n  [],\n  \"a\"\n]")
+    ∷ (
+      codes "[null,true,false,-12,[],\"a\"]",
+      codes "[null,true,false,-12,[],\"a\"]",
+      codes "[\n  null,\n  true,\n  false,\n  -12,\n  [],\n  \"a\"\n]",
+    )
     ∷ (codes " {\"a\": 1}", codes "{\"a\":1}", codes "{\n  \"a\": 1\n}")
     ∷ (codes " 2 ", codes "2", codes "2")
     ∷ (codes "[ ]", codes "[]", codes "[]")
@@ -43,7 +47,8 @@ unfolding computes quoted digits
 rows-pretty = refl
 
 -- each escape of a byte, the slash and DEL, which need none
-escapes-quoted : quoted (0x22 ∷ 0x5c ∷ 0x2f ∷ 0x08 ∷ 0x0c ∷ 0x0a ∷ 0x0d ∷ 0x09 ∷ 0x01 ∷ 0x7f ∷ []) ≡ codes "\"\\\"\\\\/\\b\\f\\n\\r\\t\\u0001\u{7f}\""
+escapes-quoted : quoted (0x22 ∷ 0x5c ∷ 0x2f ∷ 0x08 ∷ 0x0c ∷ 0x0a ∷ 0x0d ∷ 0x09 ∷ 0x01 ∷ 0x7f ∷ [])
+    ≡ codes "\"\\\"\\\\/\\b\\f\\n\\r\\t\\u0001\u{7f}\""
 unfolding quoted
 escapes-quoted = refl
 

@@ -43,7 +43,8 @@ the_answer-index = refl
 abbrev nested_list : Document
 nested_list = parsed (codes "[1,[2,3],4]")
 
-nested_list-items : map (λ i. views.get_idx i nested_list) (1 ∷ 2 ∷ 3 ∷ []) ≡ Some (list (number 2 ∷ number 3 ∷ [])) ∷ Some (number 4) ∷ None ∷ []
+nested_list-items : map (λ i. views.get_idx i nested_list) (1 ∷ 2 ∷ 3 ∷ [])
+    ≡ Some (list (number 2 ∷ number 3 ∷ [])) ∷ Some (number 4) ∷ None ∷ []
 unfolding computes
 nested_list-items = refl
 
@@ -54,7 +55,8 @@ nested_list-bytes = refl
 abbrev four : Document
 four = parsed (codes "[1,2,3,4]")
 
-four-items : map (λ i. views.get_idx i four) (0 ∷ 1 ∷ 2 ∷ 3 ∷ 4 ∷ []) ≡ Some (number 1) ∷ Some (number 2) ∷ Some (number 3) ∷ Some (number 4) ∷ None ∷ []
+four-items : map (λ i. views.get_idx i four) (0 ∷ 1 ∷ 2 ∷ 3 ∷ 4 ∷ [])
+    ≡ Some (number 1) ∷ Some (number 2) ∷ Some (number 3) ∷ Some (number 4) ∷ None ∷ []
 unfolding computes
 four-items = refl
 
@@ -67,7 +69,8 @@ four-iter = refl
 abbrev snot : Document
 snot = parsed (codes "{\"snot\": 1, \"badger\":2, \"cake\":3, \"cookie\":4}")
 
-snot-pairs : views.as_object snot ≡ Some ((codes "snot", number 1) ∷ (codes "badger", number 2) ∷ (codes "cake", number 3) ∷ (codes "cookie", number 4) ∷ [])
+snot-pairs : views.as_object snot
+    ≡ Some ((codes "snot", number 1) ∷ (codes "badger", number 2) ∷ (codes "cake", number 3) ∷ (codes "cookie", number 4) ∷ [])
 unfolding computes
 snot-pairs = refl
 
@@ -78,22 +81,26 @@ snot-missing = refl
 abbrev mixed : Document
 mixed = parsed (codes "{\"snot\": 1, \"badger\":[2, 2.5], \"cake\":{\"frosting\": 3}, \"cookie\":4}")
 
-mixed-values : option_map (map (λ (m : List ℕ × Document). as_t accessors.u64 m.1)) (views.as_object mixed) ≡ Some (Some 1 ∷ None ∷ None ∷ Some 4 ∷ [])
+mixed-values : option_map (map (λ (m : List ℕ × Document). as_t accessors.u64 m.1)) (views.as_object mixed)
+    ≡ Some (Some 1 ∷ None ∷ None ∷ Some 4 ∷ [])
 unfolding computes
 mixed-values = refl
 
-mixed-decimal : option_and_then (as_t accessors.decimal) (option_and_then (views.get_idx 1) (views.get (codes "badger") mixed)) ≡ Some (codes "2.5")
+mixed-decimal : option_and_then (as_t accessors.decimal) (option_and_then (views.get_idx 1) (views.get (codes "badger") mixed))
+    ≡ Some (codes "2.5")
 unfolding computes
 mixed-decimal = refl
 
 abbrev containers : Document
 containers = parsed (codes "{\"array\":[\"a\",\"b\",\"c\"],\"object\":{\"x\":1,\"y\":2,\"z\":3}}")
 
-containers-array : option_map (map (as_t accessors.str)) (get_t accessors.array (codes "array") containers) ≡ Some (Some (codes "a") ∷ Some (codes "b") ∷ Some (codes "c") ∷ [])
+containers-array : option_map (map (as_t accessors.str)) (get_t accessors.array (codes "array") containers)
+    ≡ Some (Some (codes "a") ∷ Some (codes "b") ∷ Some (codes "c") ∷ [])
 unfolding computes
 containers-array = refl
 
-containers-object : option_map (map (λ (m : List ℕ × Document). m.0)) (get_t accessors.object (codes "object") containers) ≡ Some (codes "x" ∷ codes "y" ∷ codes "z" ∷ [])
+containers-object : option_map (map (λ (m : List ℕ × Document). m.0)) (get_t accessors.object (codes "object") containers)
+    ≡ Some (codes "x" ∷ codes "y" ∷ codes "z" ∷ [])
 unfolding computes
 containers-object = refl
 
@@ -223,25 +230,36 @@ greatest-refused = refl
 
 -- the first and the last number that fit, and those next to them that do not
 abbrev signed_ends : Accessor ℤ → ℕ → List Bool
-signed_ends t end = map (λ d. is_some (as_t t d)) (integer true (suc end) ∷ integer true end ∷ integer false (end - 1) ∷ integer false end ∷ [])
+signed_ends t end = map (λ d. is_some (as_t t d))
+    (integer true (suc end) ∷ integer true end ∷ integer false (end - 1) ∷ integer false end ∷ [])
 
 abbrev fit_within : List Bool
 fit_within = false ∷ true ∷ true ∷ false ∷ []
 
-signed-ends : map (λ (p : Accessor ℤ × ℕ). signed_ends p.0 p.1) ((accessors.i8, 128) ∷ (accessors.i16, 32768) ∷ (accessors.i32, 2147483648) ∷ (accessors.i64, 9223372036854775808) ∷ (accessors.i128, 170141183460469231731687303715884105728) ∷ []) ≡ fit_within ∷ fit_within ∷ fit_within ∷ fit_within ∷ fit_within ∷ []
+signed-ends : map (λ (p : Accessor ℤ × ℕ). signed_ends p.0 p.1)
+    ((accessors.i8, 128) ∷ (accessors.i16, 32768) ∷ (accessors.i32, 2147483648) ∷ (accessors.i64, 9223372036854775808)
+    ∷ (accessors.i128, 170141183460469231731687303715884105728) ∷ [])
+    ≡ fit_within ∷ fit_within ∷ fit_within ∷ fit_within ∷ fit_within ∷ []
 signed-ends = refl
 
 abbrev unsigned_ends : Accessor ℕ → ℕ → List Bool
 unsigned_ends t max = map (λ d. is_some (as_t t d)) (integer true 1 ∷ integer true 0 ∷ integer false max ∷ integer false (suc max) ∷ [])
 
-unsigned-ends : map (λ (p : Accessor ℕ × ℕ). unsigned_ends p.0 p.1) ((accessors.u8, 255) ∷ (accessors.u16, 65535) ∷ (accessors.u32, 4294967295) ∷ (accessors.u64, 18446744073709551615) ∷ (accessors.usize, 18446744073709551615) ∷ (accessors.u128, 340282366920938463463374607431768211455) ∷ []) ≡ fit_within ∷ fit_within ∷ fit_within ∷ fit_within ∷ fit_within ∷ fit_within ∷ []
+unsigned-ends : map (λ (p : Accessor ℕ × ℕ). unsigned_ends p.0 p.1)
+    ((accessors.u8, 255) ∷ (accessors.u16, 65535) ∷ (accessors.u32, 4294967295) ∷ (accessors.u64, 18446744073709551615)
+    ∷ (accessors.usize, 18446744073709551615) ∷ (accessors.u128, 340282366920938463463374607431768211455) ∷ [])
+    ≡ fit_within ∷ fit_within ∷ fit_within ∷ fit_within ∷ fit_within ∷ fit_within ∷ []
 unsigned-ends = refl
 
 -- the kinds that refusals expect
-signed-expected : map (λ (t : Accessor ℤ). t.expected) (accessors.i8 ∷ accessors.i16 ∷ accessors.i32 ∷ accessors.i64 ∷ accessors.i128 ∷ []) ≡ kinds.I64 ∷ kinds.I64 ∷ kinds.I64 ∷ kinds.I64 ∷ kinds.I128 ∷ []
+signed-expected : map (λ (t : Accessor ℤ). t.expected)
+    (accessors.i8 ∷ accessors.i16 ∷ accessors.i32 ∷ accessors.i64 ∷ accessors.i128 ∷ [])
+    ≡ kinds.I64 ∷ kinds.I64 ∷ kinds.I64 ∷ kinds.I64 ∷ kinds.I128 ∷ []
 signed-expected = refl
 
-unsigned-expected : map (λ (t : Accessor ℕ). t.expected) (accessors.u8 ∷ accessors.u16 ∷ accessors.u32 ∷ accessors.u64 ∷ accessors.usize ∷ accessors.u128 ∷ []) ≡ kinds.U64 ∷ kinds.U64 ∷ kinds.U64 ∷ kinds.U64 ∷ kinds.U64 ∷ kinds.U128 ∷ []
+unsigned-expected : map (λ (t : Accessor ℕ). t.expected)
+    (accessors.u8 ∷ accessors.u16 ∷ accessors.u32 ∷ accessors.u64 ∷ accessors.usize ∷ accessors.u128 ∷ [])
+    ≡ kinds.U64 ∷ kinds.U64 ∷ kinds.U64 ∷ kinds.U64 ∷ kinds.U64 ∷ kinds.U128 ∷ []
 unsigned-expected = refl
 
 string-expected : map (λ (t : Accessor (List ℕ)). t.expected) (accessors.str ∷ accessors.decimal ∷ []) ≡ kinds.String ∷ kinds.Decimal ∷ []

@@ -1,5 +1,6 @@
 -- An escape that is read is a piece of the grammar.
-use Rattle.std.proofs.Common.{◌≡◌, refl, sym, ◌∙◌, ap, subst, ℕ, ◌<◌, ◌⊎◌, inl, inr, List, [], ◌∷◌, ◌++◌, true, ◌&&◌, ◌==◌, length, length-append, drop, append_assoc, IsUtf8, arith}
+use Rattle.std.proofs.Common.{◌≡◌, refl, sym, ◌∙◌, ap, subst, ℕ, ◌<◌, ◌⊎◌, inl, inr, List, [], ◌∷◌, ◌++◌, true, ◌&&◌, ◌==◌, length}
+use Rattle.std.proofs.Common.{length-append, drop, append_assoc, IsUtf8, arith}
 use Rattle.std.specs.Prelude.{Option, Some, None}
 use Rattle.std.proofs.lemmas.Bool.{cases_Bool, and_parts, eqb-true, cond-true, cond-false}
 use Rattle.std.proofs.lemmas.Str.{encode_ascii, IsUtf8-past_char}
@@ -41,7 +42,8 @@ after_code_unit : (a b c d u : ℕ) (bs : List ℕ) → hex_value a b c d ≡ So
 after_code_unit a b c d u bs value h =
     let are : AreHexDigits a b c d u = hex_value-digits a b c d u value in
     let digits : IsUtf8 (a ∷ b ∷ c ∷ d ∷ bs) = rest_after_ascii 117 _ (omega arith) (rest_after_ascii 92 _ (omega arith) h) in
-    let last : IsUtf8 (c ∷ d ∷ bs) = rest_after_ascii b _ (hex_digit-small b are.second) (rest_after_ascii a _ (hex_digit-small a are.first) digits) in
+    let last : IsUtf8 (c ∷ d ∷ bs) =
+    rest_after_ascii b _ (hex_digit-small b are.second) (rest_after_ascii a _ (hex_digit-small a are.first) digits) in
     rest_after_ascii d bs (hex_digit-small d are.fourth) (rest_after_ascii c _ (hex_digit-small c are.third) last)
 
 -- A code unit stands at the front, or none is read.
@@ -71,7 +73,8 @@ code_unit-cases (s ∷ t ∷ a ∷ b ∷ c ∷ d ∷ bs) =
           whole = refl;
           some = omega arith;
           is = (a, b, c, d, cc, value);
-          utf8 = λ g. let same : s ∷ t ∷ a ∷ b ∷ c ∷ d ∷ bs ≡ 92 ∷ 117 ∷ a ∷ b ∷ c ∷ d ∷ bs = cc in after_code_unit a b c d u bs value (subst (λ xs. IsUtf8 xs) same g);
+          utf8 = λ g. let same : s ∷ t ∷ a ∷ b ∷ c ∷ d ∷ bs ≡ 92 ∷ 117 ∷ a ∷ b ∷ c ∷ d ∷ bs = cc in
+              after_code_unit a b c d u bs value (subst (λ xs. IsUtf8 xs) same g);
           read = cond-true _ _ _ h ∙ value;
           rest = refl;
         })
@@ -79,7 +82,8 @@ code_unit-cases (s ∷ t ∷ a ∷ b ∷ c ∷ d ∷ bs) =
 -- ---- escapes
 
 -- The letter is that of an escape, or none is read.
-letter-cases : (letter : ℕ) (bs : List ℕ) (o : Option ℕ) → escaped_character letter ≡ o → (simple_piece o ≡ None) ⊎ HasPiece (92 ∷ letter ∷ bs)
+letter-cases : (letter : ℕ) (bs : List ℕ) (o : Option ℕ) → escaped_character letter ≡ o
+    → (simple_piece o ≡ None) ⊎ HasPiece (92 ∷ letter ∷ bs)
 letter-cases letter bs None e = inl refl
 letter-cases letter bs (Some c) e =
     inr (record {
@@ -113,7 +117,15 @@ unicode-cases bs h =
       ]
       | inr single ↦ elim (cases_Bool (is_low_surrogate h.number)) [
         | inl low ↦ inl (cond-false _ _ _ single ∙ cond-true _ _ _ low)
-        | inr other ↦ inr (record { character = h.number; piece = h.piece; after = h.after; whole = h.whole; some = h.some; is = inr (inr (inl (h.is, single, other))); utf8 = h.utf8 })
+        | inr other ↦ inr (record {
+          character = h.number;
+          piece = h.piece;
+          after = h.after;
+          whole = h.whole;
+          some = h.some;
+          is = inr (inr (inl (h.is, single, other)));
+          utf8 = h.utf8;
+        })
       ]
     ]
 
@@ -125,9 +137,13 @@ escape-cases (letter ∷ bs) =
       | inl is ↦ elim (code_unit-cases (92 ∷ letter ∷ bs)) [
         | inl none ↦ inl (cond-true _ _ _ is ∙ ap (λ o. unicode_piece o (code_unit_at (drop 6 (92 ∷ letter ∷ bs)))) none)
         | inr h ↦ elim (unicode-cases (92 ∷ letter ∷ bs) h) [
-          | inl none ↦ inl (cond-true _ _ _ is ∙ ap (λ o. unicode_piece o (code_unit_at (drop 6 (92 ∷ letter ∷ bs)))) h.read ∙ ap (λ xs. unicode_piece (Some h.number) (code_unit_at xs)) h.rest ∙ none)
+          | inl none ↦ inl (cond-true _ _ _ is ∙ ap (λ o. unicode_piece o (code_unit_at (drop 6 (92 ∷ letter ∷ bs)))) h.read
+              ∙ ap (λ xs. unicode_piece (Some h.number) (code_unit_at xs)) h.rest ∙ none)
           | inr g ↦ inr g
         ]
       ]
-      | inr other ↦ elim (letter-cases letter bs (escaped_character letter) refl) [ inl none ↦ inl (cond-false _ _ _ other ∙ none) | inr h ↦ inr h ]
+      | inr other ↦ elim (letter-cases letter bs (escaped_character letter) refl) [
+        | inl none ↦ inl (cond-false _ _ _ other ∙ none)
+        | inr h ↦ inr h
+      ]
     ]

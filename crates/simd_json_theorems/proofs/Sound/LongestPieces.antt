@@ -1,5 +1,6 @@
 -- What is read of a string's content is the longest prefix of it that is pieces.
-use Rattle.std.proofs.Common.{◌≡◌, refl, sym, ◌∙◌, ap, ℕ, zero, suc, ◌+◌, ◌≤◌, ◌<◌, List, [], ◌∷◌, ◌++◌, length, take, drop, append-nil, append_assoc, length-drop, arith, IsUtf8}
+use Rattle.std.proofs.Common.{◌≡◌, refl, sym, ◌∙◌, ap, ℕ, zero, suc, ◌+◌, ◌≤◌, ◌<◌, List, [], ◌∷◌, ◌++◌, length, take, drop}
+use Rattle.std.proofs.Common.{append-nil, append_assoc, length-drop, arith, IsUtf8}
 use Rattle.std.specs.Prelude.{Option, Some, None, IsFalse, encode_utf8_all}
 use Rattle.std.proofs.lemmas.List.{take-append-drop}
 use Rattle.simd_json_parts.specs.Bytes.{byte_at}
@@ -17,7 +18,8 @@ left-after xs ys (c ∷ cs) (us, vs, e, piece, more) =
     ∙ ap (λ (r : Read). r.1) (read_piece us (vs ++ ys) c piece) ∙ left-after vs ys cs more
 
 -- No more is left than was there.
-left-with : (o : Option (List ℕ × ℕ)) (content : List ℕ) (more : ℕ → Read) (n : ℕ) → length content ≤ n → ((k : ℕ) → length (more k).1 ≤ n) → length (with_piece o content more).1 ≤ n
+left-with : (o : Option (List ℕ × ℕ)) (content : List ℕ) (more : ℕ → Read) (n : ℕ) → length content ≤ n
+    → ((k : ℕ) → length (more k).1 ≤ n) → length (with_piece o content more).1 ≤ n
 left-with None content more n l h = l
 left-with (Some p) content more n l h = h p.1
 
@@ -25,17 +27,20 @@ left-le : (skip : ℕ) (bs : List ℕ) → length (read_pieces skip bs).1 ≤ le
 unfolding read_pieces
 left-le skip [] = omega arith
 left-le (suc skip) (x ∷ bs) = omega (arith, left-le skip bs)
-left-le zero (x ∷ bs) = left-with (piece_at (x ∷ bs)) (x ∷ bs) (λ n. read_pieces n bs) (suc (length bs)) (omega arith) (λ k. omega (arith, left-le k bs))
+left-le zero (x ∷ bs) = left-with (piece_at (x ∷ bs)) (x ∷ bs) (λ n. read_pieces n bs) (suc (length bs)) (omega arith)
+    (λ k. omega (arith, left-le k bs))
 
 -- No longer prefix is pieces.
-pub pieces-longest : (bs : List ℕ) (n : ℕ) (cs : List ℕ) → n ≤ length bs → ArePieces (take n bs) cs → n + length (read_pieces 0 bs).1 ≤ length bs
+pub pieces-longest : (bs : List ℕ) (n : ℕ) (cs : List ℕ) → n ≤ length bs → ArePieces (take n bs) cs
+    → n + length (read_pieces 0 bs).1 ≤ length bs
 pieces-longest bs n cs l p =
     let same : (read_pieces 0 bs).1 ≡ (read_pieces 0 (drop n bs)).1 =
     ap (λ us. (read_pieces 0 us).1) (sym (take-append-drop n bs)) ∙ left-after (take n bs) (drop n bs) cs p in
     omega (arith, ap length same, left-le 0 (drop n bs), length-drop n bs, l)
 
 -- What is read is pieces, where no byte is a control byte or a quote that ends the string.
-pub pieces-prefix : (bs : List ℕ) → IsUtf8 bs → ((i : ℕ) → i < length bs → 32 ≤ byte_at bs i) → ((i : ℕ) → i < length bs → IsFalse (is_real_quote bs i))
+pub pieces-prefix : (bs : List ℕ) → IsUtf8 bs → ((i : ℕ) → i < length bs → 32 ≤ byte_at bs i)
+    → ((i : ℕ) → i < length bs → IsFalse (is_real_quote bs i))
     → (own : List ℕ) × (cs : List ℕ) × (bs ≡ own ++ (read_pieces 0 bs).1) × ArePieces own cs × ((read_pieces 0 bs).0 ≡ encode_utf8_all cs)
 unfolding backslashes_before
 pieces-prefix bs utf8 printed none =

@@ -1,5 +1,6 @@
 -- An atom or a number that has a fault begins a value before it, and one that is read has a terminator or the end after it.
-use Rattle.std.proofs.Common.{◌≡◌, refl, sym, ◌∙◌, ap, subst, ℕ, zero, suc, ◌+◌, ◌<◌, ◌≤◌, inl, inr, List, [], ◌++◌, length, take, drop, append_assoc, true, false, ◌&&◌, ◌==◌, nat_eq, nat_lt, arith}
+use Rattle.std.proofs.Common.{◌≡◌, refl, sym, ◌∙◌, ap, subst, ℕ, zero, suc, ◌+◌, ◌<◌, ◌≤◌, inl, inr, List, [], ◌++◌, length, take}
+use Rattle.std.proofs.Common.{drop, append_assoc, true, false, ◌&&◌, ◌==◌, nat_eq, nat_lt, arith}
 use Rattle.std.specs.Prelude.{Option, Some, None, Result, Ok, Err, codes, find, Bool}
 use Rattle.std.specs.List.{starts_with, range_with_len}
 use Rattle.std.proofs.lemmas.Bool.{cond_both, cases_Bool, and_parts, cond-true, cond-false}
@@ -33,7 +34,8 @@ ScalarReported b k (Err e) = FaultWithin b k IsSomeValue e
 -- ---- atoms
 
 -- Letters that are not found are reported at the first.
-letters-reported : (b : List ℕ) (k : ℕ) (letters : List ℕ) (d : Document) (kind : ErrorType) → IsValue d letters → is_unexpected_token kind ≡ false → ScalarReported b k (atom_or letters d kind b k)
+letters-reported : (b : List ℕ) (k : ℕ) (letters : List ℕ) (d : Document) (kind : ErrorType) → IsValue d letters
+    → is_unexpected_token kind ≡ false → ScalarReported b k (atom_or letters d kind b k)
 letters-reported b k letters d kind is other =
     cond_both (starts_with nat_eq (drop k b) letters && is_terminator (byte_at b (k + length letters))) _ _ (ScalarReported b k)
     (λ h. (and_parts _ _ h).1) (λ _. record { prefix = []; rest = letters; split = refl; goes_on = (d, is); kind = other })
@@ -42,15 +44,21 @@ pub atom-reported : (b : List ℕ) (k : ℕ) → ScalarReported b k (atom_at b k
 unfolding atom_at
 atom-reported b k =
     cond_both (byte_at b k == 116) _ _ (ScalarReported b k) (λ _. letters-reported b k (codes "true") (boolean true) ExpectedTrue refl refl)
-    (λ _. cond_both (byte_at b k == 102) _ _ (ScalarReported b k) (λ _. letters-reported b k (codes "false") (boolean false) ExpectedFalse refl refl)
+    (λ _. cond_both (byte_at b k == 102) _ _ (ScalarReported b k)
+    (λ _. letters-reported b k (codes "false") (boolean false) ExpectedFalse refl refl)
     (λ _. letters-reported b k (codes "null") null ExpectedNull refl refl))
 
 -- ---- numbers
 
 -- Bytes that begin a number literal begin a value.
 begins-value : (xs : List ℕ) → Begins number_literal xs → (rest : List ℕ) × IsSomeValue (xs ++ rest)
-begins-value xs (rest, m) =
-    (rest, elim (number-integer_or_decimal (xs ++ rest) m) [ inl h ↦ (integer (has_minus (xs ++ rest)) (magnitude (xs ++ rest)), (h, refl, refl)) | inr h ↦ (decimal (xs ++ rest), (h, refl)) ])
+begins-value xs (rest, m) = (
+  rest,
+  elim (number-integer_or_decimal (xs ++ rest) m) [
+    | inl h ↦ (integer (has_minus (xs ++ rest)) (magnitude (xs ++ rest)), (h, refl, refl))
+    | inr h ↦ (decimal (xs ++ rest), (h, refl))
+  ],
+)
 
 -- What is found among numbers in a row is one of them.
 found-less : (test : ℕ → Bool) (n start k : ℕ) → find test (range_with_len start n) ≡ Some k → k < start + n
@@ -70,12 +78,14 @@ module _ (b : List ℕ) (k : ℕ) where
   literal = take longest (drop k b)
 
   -- Each front of it begins a value.
-  prefix-reported : (n : ℕ) → n ≤ longest → (e : Error) → e.index ≡ k + n → is_unexpected_token e.error ≡ false → FaultWithin b k IsSomeValue e
+  prefix-reported : (n : ℕ) → n ≤ longest → (e : Error) → e.index ≡ k + n → is_unexpected_token e.error ≡ false
+      → FaultWithin b k IsSomeValue e
   prefix-reported n l e at other =
       let begins : Begins number_literal literal = Begins-longest_prefix number_literal (drop k b) refl in
       let more : (rest : List ℕ) × IsSomeValue (literal ++ rest) = begins-value literal begins in
       let prefix : List ℕ = take n (drop k b) in
-      let between : prefix ++ drop n literal ≡ literal = ap (λ us. us ++ drop n literal) (sym (take-take n longest (drop k b) l)) ∙ take-append-drop n literal in
+      let between : prefix ++ drop n literal ≡ literal =
+      ap (λ us. us ++ drop n literal) (sym (take-take n longest (drop k b) l)) ∙ take-append-drop n literal in
       record {
         prefix = prefix;
         rest = drop n literal ++ more.0;
@@ -85,9 +95,11 @@ module _ (b : List ℕ) (k : ℕ) where
       }
 
   -- An integer that is too great is reported at a digit of it, or after it.
-  integer-reported : (o : Option ℕ) → first_excess literal ≡ o → is_terminator (byte_at b (k + longest)) ≡ true → ScalarReported b k (integer_or b k literal (k + longest) o)
+  integer-reported : (o : Option ℕ) → first_excess literal ≡ o → is_terminator (byte_at b (k + longest)) ≡ true
+      → ScalarReported b k (integer_or b k literal (k + longest) o)
   integer-reported None none ended =
-      cond_both (nat_lt (max_magnitude (has_minus literal)) (magnitude literal)) _ _ (ScalarReported b k) (λ _. prefix-reported longest (omega arith) _ refl refl) (λ _. ended)
+      cond_both (nat_lt (max_magnitude (has_minus literal)) (magnitude literal)) _ _ (ScalarReported b k)
+      (λ _. prefix-reported longest (omega arith) _ refl refl) (λ _. ended)
   integer-reported (Some i) some ended =
       let less : i < 0 + length literal = found-less _ (length literal) 0 i some in
       prefix-reported i (omega (arith, less, length-take-le longest (drop k b) (longest_prefix-le number_literal (drop k b)))) _ refl refl
@@ -96,5 +108,6 @@ module _ (b : List ℕ) (k : ℕ) where
   unfolding number_at
   number-reported =
       cond_both (matches number_literal literal && is_terminator (byte_at b (k + longest))) _ _ (ScalarReported b k)
-      (λ h. cond_both (matches integer_literal literal) _ _ (ScalarReported b k) (λ _. integer-reported (first_excess literal) refl (and_parts _ _ h).1) (λ _. (and_parts _ _ h).1))
+      (λ h. cond_both (matches integer_literal literal) _ _ (ScalarReported b k)
+      (λ _. integer-reported (first_excess literal) refl (and_parts _ _ h).1) (λ _. (and_parts _ _ h).1))
       (λ _. prefix-reported longest (omega arith) _ refl refl)

@@ -6,7 +6,8 @@ use Rattle.simd_json_parts.specs.Document.{Document}
 use Rattle.simd_json_parts.specs.Limits.{depth, IntegersFit}
 use Rattle.simd_json_parts.specs.Grammar.{IsWhitespace, IsValue}
 use Rattle.simd_json_parts.specs.Strings.{IsStringLiteral}
-use Rattle.simd_json_parts.specs.Tokens.{Token, Form, begin_array, end_array, begin_object, end_object, name_separator, value_separator, string_token, scalar}
+use Rattle.simd_json_parts.specs.Tokens.{Token, Form, begin_array, end_array, begin_object, end_object, name_separator}
+use Rattle.simd_json_parts.specs.Tokens.{value_separator, string_token, scalar}
 use Rattle.simd_json_scalars.specs.TokensAlong.{goes_on}
 use Rattle.simd_json_parts.specs.Descent.{◌>>=◌}
 use Rattle.simd_json_parts.specs.declared.error.Error.{Error}
@@ -51,7 +52,8 @@ FormSpelled form ts bs = goes_on form ≡ true → Prefix (IsOwn form) (AreToken
 -- ---- what a reader answers of them
 
 -- What the first reader owes is known to the second.
-pub bind-IfOk : {A B : Type 0} (r : Result A Error) (f : A → Result B Error) (P : A → Type 0) (Q : B → Type 0) → IfOk r P → ((x : A) → P x → IfOk (f x) Q) → IfOk (r >>= f) Q
+pub bind-IfOk : {A B : Type 0} (r : Result A Error) (f : A → Result B Error) (P : A → Type 0) (Q : B → Type 0) → IfOk r P
+    → ((x : A) → P x → IfOk (f x) Q) → IfOk (r >>= f) Q
 bind-IfOk (Ok x) f P Q p step = step x p
 bind-IfOk (Err e) f P Q p step = tt
 
@@ -76,7 +78,8 @@ pub record SpaceClosed (P : List ℕ → Type 0) (c : ℕ) (ts : List Token) (bs
 -- At a comma, what is read after it goes on with the comma.
 pub after_comma : {A : Type 0} (P Q : A → List ℕ → Type 0) (c : ℕ) → ((x : A) (bs : List ℕ) → P x bs → Q x (comma ∷ bs))
     → (ts : List Token) (bs : List ℕ) → Prefix (λ xs. xs ≡ comma ∷ []) (AreTokens ts) bs
-    → (r : Result (A × List Token) Error) → ((cs : List ℕ) → AreTokens ts cs → IfOk r (λ p. Closed (P p.0) c p.1 cs)) → IfOk r (λ p. SpaceClosed (Q p.0) c p.1 bs)
+    → (r : Result (A × List Token) Error) → ((cs : List ℕ) → AreTokens ts cs → IfOk r (λ p. Closed (P p.0) c p.1 cs))
+    → IfOk r (λ p. SpaceClosed (Q p.0) c p.1 bs)
 after_comma P Q c step ts bs f (Ok p) row =
     let g : Closed (P p.0) c p.1 f.left = row f.left f.more in
     record {
@@ -91,9 +94,18 @@ after_comma P Q c step ts bs f (Ok p) row =
 after_comma P Q c step ts bs f (Err e) row = tt
 
 -- At the closing byte nothing stands before it.
-pub at_close : (P : List ℕ → Type 0) (c : ℕ) (ts : List Token) (bs : List ℕ) → P [] → Prefix (λ xs. xs ≡ c ∷ []) (AreTokens ts) bs → SpaceClosed P c ts bs
+pub at_close : (P : List ℕ → Type 0) (c : ℕ) (ts : List Token) (bs : List ℕ) → P []
+    → Prefix (λ xs. xs ≡ c ∷ []) (AreTokens ts) bs → SpaceClosed P c ts bs
 at_close P c ts bs nothing f =
-    record { after = f.before; inner = []; left = f.left; whole = f.whole ∙ ap (λ xs. f.before ++ (xs ++ f.left)) f.holds; space = f.space; holds = nothing; more = f.more }
+    record {
+      after = f.before;
+      inner = [];
+      left = f.left;
+      whole = f.whole ∙ ap (λ xs. f.before ++ (xs ++ f.left)) f.holds;
+      space = f.space;
+      holds = nothing;
+      more = f.more;
+    }
 
 -- a list of the set stands at index k of b, up to `end`
 pub record Owned (b : List ℕ) (k : ℕ) (P : List ℕ → Type 0) (end : ℕ) : Type 0 where

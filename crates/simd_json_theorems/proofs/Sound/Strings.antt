@@ -1,5 +1,6 @@
 -- What is read of a string are pieces for its characters, up to where none stands.
-use Rattle.std.proofs.Common.{◌≡◌, ◌≢◌, refl, sym, ◌∙◌, ap, subst, ℕ, zero, suc, ◌+◌, ◌<◌, ◌≤◌, ◌⊎◌, inl, inr, List, [], ◌∷◌, ◌++◌, length, drop, true, false, nat_eq, length-append, append_assoc, IsUtf8, arith}
+use Rattle.std.proofs.Common.{◌≡◌, ◌≢◌, refl, sym, ◌∙◌, ap, subst, ℕ, zero, suc, ◌+◌, ◌<◌, ◌≤◌, ◌⊎◌, inl, inr, List, [], ◌∷◌, ◌++◌}
+use Rattle.std.proofs.Common.{length, drop, true, false, nat_eq, length-append, append_assoc, IsUtf8, arith}
 use Rattle.std.specs.Prelude.{None, encode_utf8_all}
 use Rattle.std.specs.Char.{encode_utf8}
 use Rattle.std.proofs.lemmas.Bool.{cases_Bool, cases_lt, and_parts, eqb-true, eqb-false, both_ways}
@@ -20,9 +21,11 @@ unfolding read_pieces piece_at
 read_pieces-refused bs none = ap (λ o. with_piece o (92 ∷ bs) (λ n. read_pieces n bs)) none
 
 -- From start up to stop there is no real quote and no control byte; zs stands after.
-module _ (b : List ℕ) (start stop : ℕ) (zs : List ℕ) (none : NoneBetween (is_real_quote b) start stop) (plain : (j : ℕ) → start ≤ j → j < stop → 32 ≤ byte_at b j) where
+module _ (b : List ℕ) (start stop : ℕ) (zs : List ℕ) (none : NoneBetween (is_real_quote b) start stop)
+    (plain : (j : ℕ) → start ≤ j → j < stop → 32 ≤ byte_at b j) where
   -- A character that is no backslash is a piece.
-  plain-piece : (m x : ℕ) (bs : List ℕ) → start ≤ m → m < stop → drop m b ≡ x ∷ (bs ++ zs) → is_even (backslashes_before b m) ≡ true → nat_eq x 92 ≡ false
+  plain-piece : (m x : ℕ) (bs : List ℕ) → start ≤ m → m < stop → drop m b ≡ x ∷ (bs ++ zs)
+      → is_even (backslashes_before b m) ≡ true → nat_eq x 92 ≡ false
       → IsUtf8 (x ∷ bs) → HasPiece (x ∷ bs)
   plain-piece m x bs l h e even other ([], (s, f)) = cc
   plain-piece m x bs l h e even other (c ∷ cs, (s, f)) = record {
@@ -39,7 +42,10 @@ module _ (b : List ℕ) (start stop : ℕ) (zs : List ℕ) (none : NoneBetween (
       first small = byte_from_char (x ∷ bs) (encode_utf8_all cs) c (sym f) small
 
       printed : 32 ≤ c
-      printed = elim (cases_lt c 128) [ inl small ↦ omega (arith, first small, plain m l h, drop-head m b x (bs ++ zs) e) | inr big ↦ omega arith ]
+      printed = elim (cases_lt c 128) [
+        | inl small ↦ omega (arith, first small, plain m l h, drop-head m b x (bs ++ zs) e)
+        | inr big ↦ omega arith
+      ]
 
       no_quote : c ≢ quote
       no_quote is =
@@ -50,13 +56,15 @@ module _ (b : List ℕ) (start stop : ℕ) (zs : List ℕ) (none : NoneBetween (
       no_backslash is = eqb-false x 92 other (first (omega arith) ∙ is)
 
   -- What begins with no piece is left.
-  first-piece : (m x : ℕ) (bs : List ℕ) → start ≤ m → m < stop → drop m b ≡ x ∷ (bs ++ zs) → is_even (backslashes_before b m) ≡ true → IsUtf8 (x ∷ bs)
+  first-piece : (m x : ℕ) (bs : List ℕ) → start ≤ m → m < stop → drop m b ≡ x ∷ (bs ++ zs)
+      → is_even (backslashes_before b m) ≡ true → IsUtf8 (x ∷ bs)
       → (read_pieces 0 (x ∷ bs) ≡ ([], x ∷ bs)) ⊎ HasPiece (x ∷ bs)
   first-piece m x bs l h e even u =
       elim (cases_Bool (nat_eq x 92)) [
         | inl is ↦
             let same : 92 ≡ x = sym (eqb-true x 92 is) in
-            subst (λ y. (read_pieces 0 (y ∷ bs) ≡ ([], y ∷ bs)) ⊎ HasPiece (y ∷ bs)) same (elim (escape-cases bs) [ inl none ↦ inl (read_pieces-refused bs none) | inr p ↦ inr p ])
+            subst (λ y. (read_pieces 0 (y ∷ bs) ≡ ([], y ∷ bs)) ⊎ HasPiece (y ∷ bs)) same
+            (elim (escape-cases bs) [ inl none ↦ inl (read_pieces-refused bs none) | inr p ↦ inr p ])
         | inr other ↦ inr (plain-piece m x bs l h e even other u)
       ]
 
@@ -78,7 +86,8 @@ module _ (b : List ℕ) (start stop : ℕ) (zs : List ℕ) (none : NoneBetween (
     pub string : r.0 ≡ encode_utf8_all characters
 
   -- A piece and those after it are pieces.
-  pieces-step : (n m : ℕ) (bs : List ℕ) → ((k : ℕ) (us : List ℕ) → IsContent n k us → ArePiecesRead us (read_pieces 0 us)) → IsContent (suc n) m bs → HasPiece bs → ArePiecesRead bs (read_pieces 0 bs)
+  pieces-step : (n m : ℕ) (bs : List ℕ) → ((k : ℕ) (us : List ℕ) → IsContent n k us → ArePiecesRead us (read_pieces 0 us))
+      → IsContent (suc n) m bs → HasPiece bs → ArePiecesRead bs (read_pieces 0 bs)
   pieces-step n m bs after h p = subst (ArePiecesRead bs) (sym same) (record {
     own = p.piece ++ more.own;
     characters = p.character ∷ more.characters;
@@ -94,7 +103,8 @@ module _ (b : List ℕ) (start stop : ℕ) (zs : List ℕ) (none : NoneBetween (
       same = ap (read_pieces 0) p.whole ∙ read_piece p.piece p.after p.character p.is
 
       passed : Passed b m p.piece (p.after ++ zs)
-      passed = pass_piece b m p.piece (p.after ++ zs) p.character p.is (h.at ∙ ap (λ us. us ++ zs) p.whole ∙ append_assoc p.piece p.after zs) h.even
+      passed = pass_piece b m p.piece (p.after ++ zs) p.character p.is
+          (h.at ∙ ap (λ us. us ++ zs) p.whole ∙ append_assoc p.piece p.after zs) h.even
 
       whole : length bs ≡ length p.piece + length p.after
       whole = ap length p.whole ∙ length-append p.piece p.after

@@ -1,6 +1,8 @@
 -- A string that is read at a boundary of an input without a fault stands there, from its opening quote to its closing one, and
 -- where it has a fault, the bytes before that are the beginning of a string.
-use Rattle.std.proofs.Common.{◌≡◌, refl, sym, ◌∙◌, ap, subst, ℕ, suc, ◌+◌, ◌-◌, ◌<◌, ◌≤◌, inl, inr, List, [], ◌∷◌, ◌++◌, length, take, drop, get_or, true, false, ◌==◌, append_assoc, length-append, length-drop, append-nil, false, IsUtf8, arith}
+use Rattle.std.proofs.Common.{◌≡◌, refl, sym, ◌∙◌, ap, subst, ℕ, suc, ◌+◌, ◌-◌, ◌<◌, ◌≤◌, inl, inr, List, [], ◌∷◌, ◌++◌, length}
+use Rattle.std.proofs.Common.{take, drop, get_or, true, false, ◌==◌, append_assoc, length-append, length-drop, append-nil, false}
+use Rattle.std.proofs.Common.{IsUtf8, arith}
 use Rattle.std.specs.Str.{IsCharBoundary}
 use Rattle.std.proofs.lemmas.Bool.{cases_Bool, cond_both, cases_lt, and_parts, eqb-true, ltb-false, both_ways}
 use Rattle.std.proofs.lemmas.List.{take-append-drop, drop-drop, length-take-le}
@@ -57,19 +59,22 @@ module _ (b : List ℕ) (fine : IsClean b) (k : ℕ) (l : k < length b) (at : Bo
 
   at_close : drop close b ≡ quote ∷ drop (suc close) b
   unfolding is_real_quote
-  at_close = drop-cons b close 32 closes ∙ ap (λ y. y ∷ drop (suc close) b) (eqb-true (byte_at b close) quote (and_parts _ _ (next.2 closes)).0)
+  at_close = drop-cons b close 32 closes
+      ∙ ap (λ y. y ∷ drop (suc close) b) (eqb-true (byte_at b close) quote (and_parts _ _ (next.2 closes)).0)
 
   at_content : drop (suc k) b ≡ content ++ after
   at_content =
       let there : suc k + (close - suc k) ≡ close = omega (arith, next.0) in
-      sym (take-append-drop (close - suc k) (drop (suc k) b)) ∙ ap (λ us. content ++ us) (drop-drop (close - suc k) (suc k) b ∙ ap (λ i. drop i b) there)
+      sym (take-append-drop (close - suc k) (drop (suc k) b))
+      ∙ ap (λ us. content ++ us) (drop-drop (close - suc k) (suc k) b ∙ ap (λ i. drop i b) there)
 
   size : suc k + length content ≡ close
   size = omega (arith, next.0, closes, length-take-le (close - suc k) (drop (suc k) b) (omega (arith, closes, length-drop (suc k) b)))
 
   -- The content lies between two bytes of ASCII, so it is UTF-8.
   quote-ascii : (i : ℕ) → i < length b → drop i b ≡ quote ∷ drop (suc i) b → get_or b i 0 < 128
-  quote-ascii i h is = omega (arith, drop-head i b (get_or b i 0) (drop (suc i) b) (drop-cons b i 0 h), drop-head i b quote (drop (suc i) b) is)
+  quote-ascii i h is =
+      omega (arith, drop-head i b (get_or b i 0) (drop (suc i) b) (drop-cons b i 0 h), drop-head i b quote (drop (suc i) b) is)
 
   content-utf8 : IsUtf8 content
   content-utf8 =
@@ -90,12 +95,14 @@ module _ (b : List ℕ) (fine : IsClean b) (k : ℕ) (l : k < length b) (at : Bo
   })
 
   -- So the string stands there, unless something is left.
-  read-stands : (r : List ℕ × List ℕ) → ArePiecesRead b (suc k) close after next.1 printed content r → StringStands b k (string_read r close)
+  read-stands : (r : List ℕ × List ℕ) → ArePiecesRead b (suc k) close after next.1 printed content r
+      → StringStands b k (string_read r close)
   read-stands (t, []) h =
       let whole : h.own ≡ content = sym (h.whole ∙ append-nil h.own) in
       record {
         own = quote ∷ (content ++ quote ∷ []);
-        split = at_open ∙ ap (λ us. quote ∷ us) (at_content ∙ ap (λ us. content ++ us) at_close ∙ sym (append_assoc content (quote ∷ []) (drop (suc close) b)));
+        split = at_open ∙ ap (λ us. quote ∷ us)
+            (at_content ∙ ap (λ us. content ++ us) at_close ∙ sym (append_assoc content (quote ∷ []) (drop (suc close) b)));
         holds = (content, h.characters, refl, subst (λ us. ArePieces us h.characters) whole h.pieces, h.string);
       }
   read-stands (t, x ∷ left) h = tt
@@ -109,14 +116,18 @@ module _ (b : List ℕ) (fine : IsClean b) (k : ℕ) (l : k < length b) (at : Bo
   read-fault : (r : List ℕ × List ℕ) → ArePiecesRead b (suc k) close after next.1 printed content r → StringFault b k (string_read r close)
   read-fault (t, []) h = tt
   read-fault (t, x ∷ left) h =
-      let there : suc k + length h.own ≡ close - length (x ∷ left) = omega (arith, size, ap length h.whole, length-append h.own (x ∷ left)) in
-      let split : drop (suc k) b ≡ h.own ++ ((x ∷ left) ++ after) = at_content ∙ ap (λ us. us ++ after) h.whole ∙ append_assoc h.own (x ∷ left) after in
+      let there : suc k + length h.own ≡ close - length (x ∷ left) =
+      omega (arith, size, ap length h.whole, length-append h.own (x ∷ left)) in
+      let split : drop (suc k) b ≡ h.own ++ ((x ∷ left) ++ after) =
+      at_content ∙ ap (λ us. us ++ after) h.whole ∙ append_assoc h.own (x ∷ left) after in
       record {
         prefix = quote ∷ h.own;
         rest = quote ∷ [];
-        split = at_open ∙ ap (λ us. quote ∷ us) (split ∙ ap (λ us. h.own ++ us) (sym (drop-through (suc k) b h.own ((x ∷ left) ++ after) split) ∙ ap (λ i. drop i b) there));
+        split = at_open ∙ ap (λ us. quote ∷ us) (split
+            ∙ ap (λ us. h.own ++ us) (sym (drop-through (suc k) b h.own ((x ∷ left) ++ after) split) ∙ ap (λ i. drop i b) there));
         goes_on = (encode_utf8_all h.characters, (h.own, h.characters, refl, h.pieces, refl));
-        kind = cond_both (byte_at left 0 == lower_u) InvalidUnicodeCodepoint InvalidEscape (λ kind. is_unexpected_token kind ≡ false) (λ _. refl) (λ _. refl);
+        kind = cond_both (byte_at left 0 == lower_u) InvalidUnicodeCodepoint InvalidEscape
+            (λ kind. is_unexpected_token kind ≡ false) (λ _. refl) (λ _. refl);
       }
 
   pub string-fault : StringFault b k (string_at b k)

@@ -6,7 +6,8 @@ use Rattle.std.proofs.Math.Seq.{drop-cons}
 use Rattle.simd_json_parts.specs.Bytes.{quote, byte_at}
 use Rattle.simd_json_parts.specs.Strings.{IsStringLiteral}
 use Rattle.simd_json_parts.specs.StringAt.{string_at}
-use Rattle.simd_json_parts.specs.Tokens.{Form, begin_array, end_array, begin_object, end_object, name_separator, value_separator, string_token, scalar, stray, form_at}
+use Rattle.simd_json_parts.specs.Tokens.{Form, begin_array, end_array, begin_object, end_object, name_separator, value_separator}
+use Rattle.simd_json_parts.specs.Tokens.{string_token, scalar, stray, form_at}
 use Rattle.simd_json_parts.specs.declared.error.Error.{Error}
 use Rattle.simd_json_scalars.proofs.Positions.Boundaries.{Boundary}
 use Rattle.simd_json_theorems.proofs.Sound.SpelledTokens.{IsOwn, Owned}
@@ -24,7 +25,8 @@ FormStands b k stray = Unit {0}
 FormStands b k form = Owned b k (IsOwn form) (suc k)
 
 -- That strings stand where they are read is given.
-module _ (b : List ℕ) (strings : (k : ℕ) → k < length b → Boundary b k → (byte_at b k == quote) ≡ true → StringStands b k (string_at b k)) where
+module _ (b : List ℕ)
+    (strings : (k : ℕ) → k < length b → Boundary b k → (byte_at b k == quote) ≡ true → StringStands b k (string_at b k)) where
   -- A token of each form stands at a boundary.
   pub form-stands : (k : ℕ) → k < length b → Boundary b k → FormStands b k (form_at b k)
   unfolding form_at
@@ -42,5 +44,9 @@ module _ (b : List ℕ) (strings : (k : ℕ) → k < length b → Boundary b k �
           → FormStands b k (if byte_at b k == c then form else other)
       structural c form other stands after =
           cond_both (byte_at b k == c) form other (FormStands b k)
-          (λ e. stands (record { own = c ∷ []; split = drop-cons b k 32 l ∙ ap (λ y. y ∷ drop (suc k) b) (eqb-true (byte_at b k) c e); holds = refl }))
+          (λ e. stands (record {
+            own = c ∷ [];
+            split = drop-cons b k 32 l ∙ ap (λ y. y ∷ drop (suc k) b) (eqb-true (byte_at b k) c e);
+            holds = refl;
+          }))
           (λ _. after)

@@ -1,6 +1,7 @@
 -- Where tokens stand in an input: after space, each at its index and up to where the next is looked for. So the bytes of the
 -- input are its tokens.
-use Rattle.std.proofs.Common.{◌≡◌, refl, sym, ◌∙◌, ap, subst, ℕ, zero, suc, ◌+◌, ◌-◌, ◌<◌, ◌≤◌, inl, inr, List, [], ◌∷◌, ◌++◌, length, drop, true, false, ◌||◌, ◌&&◌, ◌==◌, nat_le, arith}
+use Rattle.std.proofs.Common.{◌≡◌, refl, sym, ◌∙◌, ap, subst, ℕ, zero, suc, ◌+◌, ◌-◌, ◌<◌, ◌≤◌, inl, inr, List, [], ◌∷◌, ◌++◌}
+use Rattle.std.proofs.Common.{length, drop, true, false, ◌||◌, ◌&&◌, ◌==◌, nat_le, arith}
 use Rattle.std.specs.Prelude.{Ok, Err, if◌then◌else◌}
 use Rattle.std.proofs.lemmas.Bool.{cases_Bool, cases_lt, cond_both, and_from}
 use Rattle.std.proofs.lemmas.List.{drop_all}
@@ -9,11 +10,13 @@ use Rattle.simd_json_parts.specs.Bytes.{quote, is_whitespace, is_terminator, byt
 use Rattle.simd_json_parts.specs.Grammar.{IsWhitespace}
 use Rattle.simd_json_parts.specs.Positions.{real_quotes}
 use Rattle.simd_json_parts.specs.Strings.{IsStringLiteral}
-use Rattle.simd_json_parts.specs.Tokens.{Form, begin_array, end_array, begin_object, end_object, name_separator, value_separator, string_token, scalar, stray, Token, form_at, after_token, tokens_from, tokens}
+use Rattle.simd_json_parts.specs.Tokens.{Form, begin_array, end_array, begin_object, end_object, name_separator, value_separator}
+use Rattle.simd_json_parts.specs.Tokens.{string_token, scalar, stray, Token, form_at, after_token, tokens_from, tokens}
 use Rattle.simd_json_scalars.specs.TokensAlong.{goes_on}
 use Rattle.simd_json_scalars.proofs.Positions.Boundaries.{Boundary, EndsBefore, boundary-space}
 use Rattle.simd_json_scalars.proofs.Positions.CleanInputs.{IsClean}
-use Rattle.simd_json_scalars.proofs.Positions.TokensAtPositions.{tokens_at, tokens_at-end, tokens_from-skip, tokens_at-space, tokens_at-token, IsEnded, IsEnded-form}
+use Rattle.simd_json_scalars.proofs.Positions.TokensAtPositions.{tokens_at, tokens_at-end, tokens_from-skip, tokens_at-space}
+use Rattle.simd_json_scalars.proofs.Positions.TokensAtPositions.{tokens_at-token, IsEnded, IsEnded-form}
 use Rattle.simd_json_theorems.proofs.Sound.SpelledTokens.{Accepted, Prefix, IsOwn, AreTokens, Owned}
 use Rattle.simd_json_theorems.proofs.Sound.Tokens.{FormStands, form-stands}
 use Rattle.simd_json_theorems.proofs.Sound.StringsInPlace.{string-stands, string-fault}
@@ -82,7 +85,8 @@ module _ (b : List ℕ) where
         x : ℕ
         x = byte_at b k
 
-        structural : (c : ℕ) (form other : Form) → FormReported k form → FormReported k other → FormReported k (if byte_at b k == c then form else other)
+        structural : (c : ℕ) (form other : Form) → FormReported k form → FormReported k other
+            → FormReported k (if byte_at b k == c then form else other)
         structural c form other reported after = cond_both (byte_at b k == c) form other (FormReported k) (λ _. reported) (λ _. after)
 
     abbrev Here : ℕ → Type 0
@@ -93,7 +97,8 @@ module _ (b : List ℕ) where
     after k end n e h = subst (λ ts. AreHere ts end) (sym (tokens_from-skip b (suc k) n ∙ ap (tokens_at b) e)) h
 
     -- A token of each form stands where it is read.
-    token-here : (k : ℕ) (form : Form) → FormStands b k form → FormReported k form → IsEnded b k form → ((end : ℕ) → EndsBefore b k end → Here end)
+    token-here : (k : ℕ) (form : Form) → FormStands b k form → FormReported k form → IsEnded b k form
+        → ((end : ℕ) → EndsBefore b k end → Here end)
         → FormInPlace form (AreHere (after_token k form (λ n. tokens_from b (suc k) n (drop (suc k) b)))) k
     token-here k (string_token (Ok r)) o reported ends more = (o, after k r.1 (r.1 - suc k) (omega (arith, ends.after)) (more r.1 ends))
     token-here k (string_token (Err e)) o reported ends more = reported
@@ -126,7 +131,8 @@ module _ (b : List ℕ) where
                   within = h;
                   no_space = token;
                   form = refl;
-                  stands = token-here k (form_at b k) (form-stands b (string-stands b fine) k h (at h)) (form-reported k h (at h)) (IsEnded-form b k (at h)) (λ end ends. here n end (omega (arith, ends.after)) ends.boundary);
+                  stands = token-here k (form_at b k) (form-stands b (string-stands b fine) k h (at h)) (form-reported k h (at h))
+                      (IsEnded-form b k (at h)) (λ end ends. here n end (omega (arith, ends.after)) ends.boundary);
                 })
           ]
           | inr h ↦ end-here k h
@@ -140,12 +146,21 @@ module _ (b : List ℕ) where
   -- ---- tokens that stand are what their bytes are
 
   -- A token, where those after it are theirs.
-  own-spelled : (ts : List Token) → ((k : ℕ) → AreHere ts k → AreTokens ts (drop k b)) → (k j : ℕ) (space : List ℕ) → IsWhitespace space → drop k b ≡ space ++ drop j b
+  own-spelled : (ts : List Token) → ((k : ℕ) → AreHere ts k → AreTokens ts (drop k b)) → (k j : ℕ) (space : List ℕ)
+      → IsWhitespace space → drop k b ≡ space ++ drop j b
       → (form : Form) → FormInPlace form (AreHere ts) j → goes_on form ≡ true → Prefix (IsOwn form) (AreTokens ts) (drop k b)
   own-spelled ts more k j space w e = go
     where
       prefix : (P : List ℕ → Type 0) (end : ℕ) → Owned b j P end → AreHere ts end → Prefix P (AreTokens ts) (drop k b)
-      prefix P end o h = record { before = space; inner = o.own; left = drop end b; whole = e ∙ ap (λ us. space ++ us) o.split; space = w; holds = o.holds; more = more end h }
+      prefix P end o h = record {
+        before = space;
+        inner = o.own;
+        left = drop end b;
+        whole = e ∙ ap (λ us. space ++ us) o.split;
+        space = w;
+        holds = o.holds;
+        more = more end h;
+      }
 
       go : (form : Form) → FormInPlace form (AreHere ts) j → goes_on form ≡ true → Prefix (IsOwn form) (AreTokens ts) (drop k b)
       go (string_token (Ok r)) h goes = prefix _ r.1 h.0 h.1

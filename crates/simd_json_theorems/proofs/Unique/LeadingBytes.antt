@@ -1,5 +1,6 @@
 -- The first byte of a value tells which kind of document it is, and it is no whitespace and no closing bracket.
-use Rattle.std.proofs.Common.{◌≡◌, refl, sym, ◌∙◌, ap, subst, ℕ, ◌≤◌, inl, inr, List, [], ◌∷◌, ◌++◌, true, false, cond, ◌&&◌, ◌==◌, nat_le, arith}
+use Rattle.std.proofs.Common.{◌≡◌, refl, sym, ◌∙◌, ap, subst, ℕ, ◌≤◌, inl, inr, List, [], ◌∷◌, ◌++◌, true, false, cond, ◌&&◌, ◌==◌}
+use Rattle.std.proofs.Common.{nat_le, arith}
 use Rattle.std.proofs.lemmas.Bool.{and_from, le-leb, cond-true, cond_both}
 use Rattle.std.proofs.lemmas.Bool.Decides.{nat_tests}
 use Rattle.simd_json_parts.specs.Bytes.{is_whitespace, quote, left_bracket, right_bracket, left_brace}
@@ -10,7 +11,8 @@ use Rattle.simd_json_parts.specs.Patterns.{Matches}
 use Rattle.simd_json_parts.specs.Strings.{IsStringLiteral}
 use Rattle.simd_json_scalars.proofs.Numbers.Literals.{integer-number, decimal-number}
 
--- one byte for all with which a kind of value begins: `-` for those up to `9`, among which are a number's, `t` for `f` too, and else the byte itself
+-- one byte for all with which a kind of value begins: `-` for those up to `9`, among which are a number's, `t` for `f` too, and
+-- else the byte itself
 abbrev pub class : ℕ → ℕ
 class c = cond (nat_le 45 c && nat_le c 57) 45 (cond (c == 102) 116 c)
 
@@ -36,8 +38,10 @@ byte-leads c bs rest below above e = subst (Leads 45) (sym e) (cond-true _ 45 _ 
 -- A number begins with a sign or a digit.
 number-leads : (bs : List ℕ) → Matches number_literal bs → Leads 45 bs
 number-leads bs (xs, ys, e, inr (c, f, low, high), _) = byte-leads c bs ys (omega arith) (omega arith) (e ∙ ap (λ us. us ++ ys) f)
-number-leads bs (xs, ys, e, inl none, (zs, ws, f, inl (c, g, low, high), _)) = byte-leads c bs ws (omega arith) (omega arith) (simp (e, none, f, g))
-number-leads bs (xs, ys, e, inl none, (zs, ws, f, inr (us, vs, g, (c, k, low, high), _), _)) = byte-leads c bs (vs ++ ws) (omega arith) (omega arith) (simp (e, none, f, g, k))
+number-leads bs (xs, ys, e, inl none, (zs, ws, f, inl (c, g, low, high), _)) =
+    byte-leads c bs ws (omega arith) (omega arith) (simp (e, none, f, g))
+number-leads bs (xs, ys, e, inl none, (zs, ws, f, inr (us, vs, g, (c, k, low, high), _), _)) =
+    byte-leads c bs (vs ++ ws) (omega arith) (omega arith) (simp (e, none, f, g, k))
 
 -- A string begins with its quote.
 pub string-leads : (bs t : List ℕ) → IsStringLiteral bs t → Leads quote bs
@@ -63,7 +67,8 @@ Leads-one m n (x ∷ xs) (y ∷ ys) r s h g e = let same : x ≡ y = cc in cc
 -- No class takes whitespace in, or leaves it.
 class-whitespace : (c : ℕ) → is_whitespace (class c) ≡ is_whitespace c
 class-whitespace c =
-    cond_both (nat_le 45 c && nat_le c 57) 45 (cond (c == 102) 116 c) (λ n. is_whitespace n ≡ is_whitespace c) (λ h. grind (arith, nat_tests))
+    cond_both (nat_le 45 c && nat_le c 57) 45 (cond (c == 102) 116 c) (λ n. is_whitespace n ≡ is_whitespace c)
+    (λ h. grind (arith, nat_tests))
     (λ _. cond_both (c == 102) 116 c (λ n. is_whitespace n ≡ is_whitespace c) (λ h. grind (arith, nat_tests)) (λ _. refl))
 
 -- no whitespace stands first

@@ -3,12 +3,16 @@ use Rattle.std.proofs.Common.{◌≡◌, refl, sym, ◌∙◌, ap, subst, ℕ, L
 use Rattle.std.specs.Prelude.{codes}
 use Rattle.std.proofs.lemmas.Bool.{eqb-false}
 use Rattle.simd_json_parts.specs.Bytes.{quote, comma, colon, right_bracket, right_brace, byte_at}
-use Rattle.simd_json_parts.specs.Document.{Document, null, boolean, integer, decimal, string, array, object, Elements, no_elements, element, Members, no_members, member}
-use Rattle.simd_json_parts.specs.Grammar.{IsWhitespace, Spaced, Joined, After, IsValue, AreElements, AreMoreElements, AreMembers, AreMoreMembers, Denotes}
+use Rattle.simd_json_parts.specs.Document.{Document, null, boolean, integer, decimal, string, array, object, Elements, no_elements}
+use Rattle.simd_json_parts.specs.Document.{element, Members, no_members, member}
+use Rattle.simd_json_parts.specs.Grammar.{IsWhitespace, Spaced, Joined, After, IsValue, AreElements, AreMoreElements, AreMembers}
+use Rattle.simd_json_parts.specs.Grammar.{AreMoreMembers, Denotes}
 use Rattle.simd_json_parts.specs.Strings.{IsStringLiteral}
-use Rattle.simd_json_theorems.proofs.Unique.LeadingBytes.{leading, leading-right_bracket, value-leads, value-NoSpace, string-leads, string-NoSpace, Leads-one}
+use Rattle.simd_json_theorems.proofs.Unique.LeadingBytes.{leading, leading-right_bracket, value-leads, value-NoSpace, string-leads}
+use Rattle.simd_json_theorems.proofs.Unique.LeadingBytes.{string-NoSpace, Leads-one}
 use Rattle.simd_json_theorems.proofs.Unique.ScalarPrefixes.{boolean-one, integer-one, decimal-one, integer-decimal, string-one}
-use Rattle.simd_json_theorems.proofs.Unique.SpacedPrefixes.{Ended, Delimited, OnePrefix, OneUpTo, append-replace, space-one, spaced-one, space-nothing, joined-one, after-one}
+use Rattle.simd_json_theorems.proofs.Unique.SpacedPrefixes.{Ended, Delimited, OnePrefix, OneUpTo, append-replace, space-one}
+use Rattle.simd_json_theorems.proofs.Unique.SpacedPrefixes.{spaced-one, space-nothing, joined-one, after-one}
 
 -- Values at the front of the same bytes begin with the same class of byte.
 same-leading : (d e : Document) (xs ys r s : List ℕ) → IsValue d xs → IsValue e ys → xs ++ r ≡ ys ++ s → leading d ≡ leading e
@@ -60,7 +64,8 @@ abbrev AreMemberRow : List ℕ × (Document × Members) → List ℕ → Type 0
 AreMemberRow p bs = Joined (Spaced (IsName p.0)) (AreValueRow p.1) bs
 
 -- A member is determined, and so are those after it.
-member_row-one : (k : List ℕ) (d : Document) (ms : Members) → OnePrefix Document IsValue Ended d → OneUpTo Members right_brace AreMoreMembers ms
+member_row-one : (k : List ℕ) (d : Document) (ms : Members) → OnePrefix Document IsValue Ended d
+    → OneUpTo Members right_brace AreMoreMembers ms
     → OneUpTo (List ℕ × (Document × Members)) right_brace AreMemberRow (k, (d, ms))
 member_row-one k d ms value more =
     joined-one (List ℕ) (Document × Members) right_brace (λ l. Spaced (IsName l)) AreValueRow
@@ -72,18 +77,23 @@ member_row-one k d ms value more =
 
 -- A closing byte is no comma, so no more stands before it where it stands first.
 no_comma : (c : ℕ) (xs ys zs r s : List ℕ) → (c == comma) ≡ false → xs ≡ [] → ys ≡ comma ∷ zs → xs ++ c ∷ r ≡ ys ++ s → ⊥
-no_comma c xs ys zs r s other h g e = eqb-false c comma other (ap (λ us. byte_at us 0) (append-replace xs ys [] (comma ∷ zs) (c ∷ r) s h g e))
+no_comma c xs ys zs r s other h g e =
+    eqb-false c comma other (ap (λ us. byte_at us 0) (append-replace xs ys [] (comma ∷ zs) (c ∷ r) s h g e))
 
 -- Nothing but whitespace up to a closing bracket is no element,
-not_empty : (d : Document) (ds : Elements) (xs ys r s : List ℕ) → IsWhitespace xs → AreElements (element d ds) ys → xs ++ right_bracket ∷ r ≡ ys ++ right_bracket ∷ s → ⊥
+not_empty : (d : Document) (ds : Elements) (xs ys r s : List ℕ) → IsWhitespace xs → AreElements (element d ds) ys
+    → xs ++ right_bracket ∷ r ≡ ys ++ right_bracket ∷ s → ⊥
 not_empty d ds xs ys r s w h e =
-    space-nothing right_bracket (leading d) (IsValue d) refl (leading-right_bracket d) (value-NoSpace d) (value-leads d) xs h.left r (h.right ++ right_bracket ∷ s) w h.left_holds
+    space-nothing right_bracket (leading d) (IsValue d) refl (leading-right_bracket d) (value-NoSpace d) (value-leads d) xs h.left r
+    (h.right ++ right_bracket ∷ s) w h.left_holds
     (e ∙ ap (λ us. us ++ right_bracket ∷ s) h.whole ∙ append_assoc h.left h.right (right_bracket ∷ s))
 
 -- and up to a closing brace no member.
-no_names : (k : List ℕ) (d : Document) (ms : Members) (xs ys r s : List ℕ) → IsWhitespace xs → AreMembers (member k d ms) ys → xs ++ right_brace ∷ r ≡ ys ++ right_brace ∷ s → ⊥
+no_names : (k : List ℕ) (d : Document) (ms : Members) (xs ys r s : List ℕ) → IsWhitespace xs → AreMembers (member k d ms) ys
+    → xs ++ right_brace ∷ r ≡ ys ++ right_brace ∷ s → ⊥
 no_names k d ms xs ys r s w h e =
-    space-nothing right_brace quote (IsName k) refl refl (string-NoSpace k) (λ bs. string-leads bs k) xs h.left r (h.right ++ right_brace ∷ s) w h.left_holds
+    space-nothing right_brace quote (IsName k) refl refl (string-NoSpace k) (λ bs. string-leads bs k) xs h.left r
+    (h.right ++ right_brace ∷ s) w h.left_holds
     (e ∙ ap (λ us. us ++ right_brace ∷ s) h.whole ∙ append_assoc h.left h.right (right_brace ∷ s))
 
 -- ---- by induction on the first document
@@ -97,18 +107,23 @@ mutual
   value-one (integer minus m) (decimal literal) xs ys r s h g f t u = absurd (integer-decimal minus m literal xs ys r s h g f t u)
   value-one (decimal literal) (integer minus n) xs ys r s h g f t u = absurd (integer-decimal minus n literal ys xs s r g h (sym f) u t)
   value-one (decimal literal) (decimal literal') xs ys r s h g f t u = decimal-one literal literal' xs ys r s h g f t u
-  value-one (string a) (string b) xs ys r s h g f t u = let same : (a ≡ b) × (r ≡ s) = string-one a b xs ys r s h g f in (ap string same.0, same.1)
+  value-one (string a) (string b) xs ys r s h g f t u =
+      let same : (a ≡ b) × (r ≡ s) = string-one a b xs ys r s h g f in
+      (ap string same.0, same.1)
   value-one (array ds) (array es) xs ys r s (inner, e, h) (inner', e', g) f t u =
-      let same : (ds ≡ es) × (r ≡ s) = elements-one ds es inner inner' r s h g (ap (drop 1) (simp append_assoc at (append-replace xs ys _ _ r s e e' f))) in
+      let same : (ds ≡ es) × (r ≡ s) =
+      elements-one ds es inner inner' r s h g (ap (drop 1) (simp append_assoc at (append-replace xs ys _ _ r s e e' f))) in
       (ap array same.0, same.1)
   value-one (object ms) (object ns) xs ys r s (inner, e, h) (inner', e', g) f t u =
-      let same : (ms ≡ ns) × (r ≡ s) = members-one ms ns inner inner' r s h g (ap (drop 1) (simp append_assoc at (append-replace xs ys _ _ r s e e' f))) in
+      let same : (ms ≡ ns) × (r ≡ s) =
+      members-one ms ns inner inner' r s h g (ap (drop 1) (simp append_assoc at (append-replace xs ys _ _ r s e e' f))) in
       (ap object same.0, same.1)
   value-one d e xs ys r s h g f t u = absurd (eqb-false (leading d) (leading e) refl (same-leading d e xs ys r s h g f))
 
   -- What stands between brackets is determined.
   elements-one : (ds : Elements) → OneUpTo Elements right_bracket AreElements ds
-  elements-one no_elements no_elements xs ys r s h g f = (refl, ap (drop 1) (space-one xs ys (right_bracket ∷ r) (right_bracket ∷ s) h g refl refl f))
+  elements-one no_elements no_elements xs ys r s h g f =
+      (refl, ap (drop 1) (space-one xs ys (right_bracket ∷ r) (right_bracket ∷ s) h g refl refl f))
   elements-one no_elements (element e es) xs ys r s h g f = absurd (not_empty e es xs ys r s h g f)
   elements-one (element d ds) no_elements xs ys r s h g f = absurd (not_empty d ds ys xs s r g h (sym f))
   elements-one (element d ds) (element e es) xs ys r s h g f =
@@ -117,31 +132,40 @@ mutual
 
   -- More elements are determined.
   more_elements-one : (ds : Elements) → OneUpTo Elements right_bracket AreMoreElements ds
-  more_elements-one no_elements no_elements xs ys r s h g f = (refl, ap (drop 1) (append-replace xs ys [] [] (right_bracket ∷ r) (right_bracket ∷ s) h g f))
-  more_elements-one no_elements (element e es) xs ys r s h g f = absurd (no_comma right_bracket xs ys g.0 r (right_bracket ∷ s) refl h g.1 f)
-  more_elements-one (element d ds) no_elements xs ys r s h g f = absurd (no_comma right_bracket ys xs h.0 s (right_bracket ∷ r) refl g h.1 (sym f))
+  more_elements-one no_elements no_elements xs ys r s h g f =
+      (refl, ap (drop 1) (append-replace xs ys [] [] (right_bracket ∷ r) (right_bracket ∷ s) h g f))
+  more_elements-one no_elements (element e es) xs ys r s h g f =
+      absurd (no_comma right_bracket xs ys g.0 r (right_bracket ∷ s) refl h g.1 f)
+  more_elements-one (element d ds) no_elements xs ys r s h g f =
+      absurd (no_comma right_bracket ys xs h.0 s (right_bracket ∷ r) refl g h.1 (sym f))
   more_elements-one (element d ds) (element e es) xs ys r s h g f =
       let same : ((d, ds) ≡ (e, es)) × (r ≡ s) =
-      after-one (Document × Elements) comma right_bracket AreRow (d, ds) (row-one d ds (value-one d) (more_elements-one ds)) (e, es) xs ys r s h g f in
+      after-one (Document × Elements) comma right_bracket AreRow (d, ds) (row-one d ds (value-one d) (more_elements-one ds))
+      (e, es) xs ys r s h g f in
       (ap (λ (p : Document × Elements). element p.0 p.1) same.0, same.1)
 
   -- What stands between braces is determined.
   members-one : (ms : Members) → OneUpTo Members right_brace AreMembers ms
-  members-one no_members no_members xs ys r s h g f = (refl, ap (drop 1) (space-one xs ys (right_brace ∷ r) (right_brace ∷ s) h g refl refl f))
+  members-one no_members no_members xs ys r s h g f =
+      (refl, ap (drop 1) (space-one xs ys (right_brace ∷ r) (right_brace ∷ s) h g refl refl f))
   members-one no_members (member k e ns) xs ys r s h g f = absurd (no_names k e ns xs ys r s h g f)
   members-one (member k d ms) no_members xs ys r s h g f = absurd (no_names k d ms ys xs s r g h (sym f))
   members-one (member k d ms) (member l e ns) xs ys r s h g f =
-      let same : ((k, (d, ms)) ≡ (l, (e, ns))) × (r ≡ s) = member_row-one k d ms (value-one d) (more_members-one ms) (l, (e, ns)) xs ys r s h g f in
+      let same : ((k, (d, ms)) ≡ (l, (e, ns))) × (r ≡ s) =
+      member_row-one k d ms (value-one d) (more_members-one ms) (l, (e, ns)) xs ys r s h g f in
       (ap (λ (p : List ℕ × (Document × Members)). member p.0 p.1.0 p.1.1) same.0, same.1)
 
   -- More members are determined.
   more_members-one : (ms : Members) → OneUpTo Members right_brace AreMoreMembers ms
-  more_members-one no_members no_members xs ys r s h g f = (refl, ap (drop 1) (append-replace xs ys [] [] (right_brace ∷ r) (right_brace ∷ s) h g f))
+  more_members-one no_members no_members xs ys r s h g f =
+      (refl, ap (drop 1) (append-replace xs ys [] [] (right_brace ∷ r) (right_brace ∷ s) h g f))
   more_members-one no_members (member k e ns) xs ys r s h g f = absurd (no_comma right_brace xs ys g.0 r (right_brace ∷ s) refl h g.1 f)
-  more_members-one (member k d ms) no_members xs ys r s h g f = absurd (no_comma right_brace ys xs h.0 s (right_brace ∷ r) refl g h.1 (sym f))
+  more_members-one (member k d ms) no_members xs ys r s h g f =
+      absurd (no_comma right_brace ys xs h.0 s (right_brace ∷ r) refl g h.1 (sym f))
   more_members-one (member k d ms) (member l e ns) xs ys r s h g f =
       let same : ((k, (d, ms)) ≡ (l, (e, ns))) × (r ≡ s) =
-      after-one (List ℕ × (Document × Members)) comma right_brace AreMemberRow (k, (d, ms)) (member_row-one k d ms (value-one d) (more_members-one ms)) (l, (e, ns)) xs ys r s h g f in
+      after-one (List ℕ × (Document × Members)) comma right_brace AreMemberRow (k, (d, ms))
+      (member_row-one k d ms (value-one d) (more_members-one ms)) (l, (e, ns)) xs ys r s h g f in
       (ap (λ (p : List ℕ × (Document × Members)). member p.0 p.1.0 p.1.1) same.0, same.1)
 
 -- Bytes denote one document at most.

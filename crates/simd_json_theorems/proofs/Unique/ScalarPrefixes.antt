@@ -1,5 +1,6 @@
 -- A number before a terminator or the end, and an atom or a string before anything, are determined by the bytes alone.
-use Rattle.std.proofs.Common.{◌≡◌, refl, sym, ◌∙◌, ap, subst, ℕ, suc, ◌+◌, List, ◌∷◌, ◌++◌, length, take, drop, append_assoc, Bool, true, false, arith}
+use Rattle.std.proofs.Common.{◌≡◌, refl, sym, ◌∙◌, ap, subst, ℕ, suc, ◌+◌, List, ◌∷◌, ◌++◌, length, take, drop, append_assoc, Bool}
+use Rattle.std.proofs.Common.{true, false, arith}
 use Rattle.std.specs.Prelude.{codes, encode_utf8_all, Ok}
 use Rattle.std.proofs.lemmas.Bool.{eqb-false}
 use Rattle.std.proofs.Math.Seq.{take-append_seam, drop-append_seam}
@@ -26,16 +27,20 @@ append-same xs ys r s e l = (
 -- ---- atoms
 
 -- `true` and `false` are determined.
-pub boolean-one : (a b : Bool) (xs ys r s : List ℕ) → IsValue (boolean a) xs → IsValue (boolean b) ys → xs ++ r ≡ ys ++ s → (boolean a ≡ boolean b) × (r ≡ s)
+pub boolean-one : (a b : Bool) (xs ys r s : List ℕ) → IsValue (boolean a) xs → IsValue (boolean b) ys → xs ++ r ≡ ys ++ s
+    → (boolean a ≡ boolean b) × (r ≡ s)
 boolean-one true true xs ys r s h g e = (refl, ap (drop 4) (append-replace xs ys (codes "true") (codes "true") r s h g e))
 boolean-one false false xs ys r s h g e = (refl, ap (drop 5) (append-replace xs ys (codes "false") (codes "false") r s h g e))
-boolean-one true false xs ys r s h g e = absurd (eqb-false 116 102 refl (ap (λ us. byte_at us 0) (append-replace xs ys (codes "true") (codes "false") r s h g e)))
-boolean-one false true xs ys r s h g e = absurd (eqb-false 102 116 refl (ap (λ us. byte_at us 0) (append-replace xs ys (codes "false") (codes "true") r s h g e)))
+boolean-one true false xs ys r s h g e =
+    absurd (eqb-false 116 102 refl (ap (λ us. byte_at us 0) (append-replace xs ys (codes "true") (codes "false") r s h g e)))
+boolean-one false true xs ys r s h g e =
+    absurd (eqb-false 102 116 refl (ap (λ us. byte_at us 0) (append-replace xs ys (codes "false") (codes "true") r s h g e)))
 
 -- ---- numbers
 
 -- Two numbers at the front of the same bytes, each with a terminator or the end after it, are the same.
-literal-one : (xs ys r s : List ℕ) → Matches number_literal xs → Matches number_literal ys → xs ++ r ≡ ys ++ s → Ended r → Ended s → (xs ≡ ys) × (r ≡ s)
+literal-one : (xs ys r s : List ℕ) → Matches number_literal xs → Matches number_literal ys → xs ++ r ≡ ys ++ s → Ended r
+    → Ended s → (xs ≡ ys) × (r ≡ s)
 literal-one xs ys r s m n e t u =
     append-same xs ys r s e
     (sym (longest_prefix-append is_terminator number_literal xs r refl m t)
@@ -81,6 +86,8 @@ pub string-one : (t t' xs ys r s : List ℕ) → IsStringLiteral xs t → IsStri
 string-one t t' xs ys r s (content, cs, f, pieces, string) (content', cs', f', pieces', string') e =
     let first : xs ++ r ≡ quote ∷ (content ++ quote ∷ r) = ap (λ us. us ++ r) f ∙ simp append_assoc in
     let second : xs ++ r ≡ quote ∷ (content' ++ quote ∷ s) = e ∙ ap (λ us. us ++ s) f' ∙ simp append_assoc in
-    let same : (encode_utf8_all cs ≡ encode_utf8_all cs') × (length content ≡ length content') = content-one (xs ++ r) content content' r s cs cs' first second pieces pieces' in
-    let rest : (content ≡ content') × (quote ∷ r ≡ quote ∷ s) = append-same content content' (quote ∷ r) (quote ∷ s) (ap (drop 1) (sym first ∙ second)) same.1 in
+    let same : (encode_utf8_all cs ≡ encode_utf8_all cs') × (length content ≡ length content') =
+    content-one (xs ++ r) content content' r s cs cs' first second pieces pieces' in
+    let rest : (content ≡ content') × (quote ∷ r ≡ quote ∷ s) =
+    append-same content content' (quote ∷ r) (quote ∷ s) (ap (drop 1) (sym first ∙ second)) same.1 in
     (string ∙ same.0 ∙ sym string', ap (drop 1) rest.1)

@@ -1,4 +1,5 @@
--- Where bytes tell how far a prefix of them goes and what it is, so do they with whitespace round it, and with another such prefix after it.
+-- Where bytes tell how far a prefix of them goes and what it is, so do they with whitespace round it, and with another such prefix
+-- after it.
 use Rattle.std.proofs.Common.{◌≡◌, refl, sym, ◌∙◌, ap, subst, ℕ, List, [], ◌∷◌, ◌++◌, drop, append_assoc, true, false, ◌==◌}
 use Rattle.std.specs.List.{list_all}
 use Rattle.std.proofs.lemmas.Bool.{and_parts, or_right, both_ways, eqb-false}
@@ -41,9 +42,11 @@ spaced-one A P begins x one y xs ys r s g h e t u =
     let regrouped : g.before ++ (g.inner ++ (g.after ++ r)) ≡ h.before ++ (h.inner ++ (h.after ++ s)) =
     simp append_assoc at (append-replace xs ys _ _ r s g.whole h.whole e) in
     let inside : g.inner ++ (g.after ++ r) ≡ h.inner ++ (h.after ++ s) =
-    space-one g.before h.before _ _ g.before_space h.before_space (begins x g.inner (g.after ++ r) g.holds) (begins y h.inner (h.after ++ s) h.holds) regrouped in
+    space-one g.before h.before _ _ g.before_space h.before_space (begins x g.inner (g.after ++ r) g.holds)
+    (begins y h.inner (h.after ++ s) h.holds) regrouped in
     let same : (x ≡ y) × (g.after ++ r ≡ h.after ++ s) =
-    one y g.inner h.inner (g.after ++ r) (h.after ++ s) g.holds h.holds inside (Ended-space g.after r g.after_space t.0) (Ended-space h.after s h.after_space u.0) in
+    one y g.inner h.inner (g.after ++ r) (h.after ++ s) g.holds h.holds inside (Ended-space g.after r g.after_space t.0)
+    (Ended-space h.after s h.after_space u.0) in
     (same.0, space-one g.after h.after r s g.after_space h.after_space t.1 u.1 same.1)
 
 -- Whitespace up to a byte is nothing of a set whose lists begin with another class.

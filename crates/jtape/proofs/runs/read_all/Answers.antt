@@ -5,7 +5,13 @@ use Rattle.jtape.proofs.runs.read_all.Goals as goal
 
 pub loop-input-init : goal.loop-input-init
 loop-input-init g c =
-    record { capacity = omega arith; read = subst (Consumes (g.R.Read.remaining c.args.reader.now.inner) (g.R.Read.remaining c.args.reader.now.inner)) (sym c.new-input.ensures.items) (Consumes-nil _); sound = c.requires.0; going = c.requires.1 }
+    record {
+      capacity = omega arith;
+      read = subst (Consumes (g.R.Read.remaining c.args.reader.now.inner) (g.R.Read.remaining c.args.reader.now.inner))
+          (sym c.new-input.ensures.items) (Consumes-nil _);
+      sound = c.requires.0;
+      going = c.requires.1;
+    }
 
 pub read_more-requires-clause-reader : goal.read_more-requires-clause-reader
 read_more-requires-clause-reader g c = (c.loop-input.invariant.sound, c.loop-input.invariant.going)
@@ -16,7 +22,12 @@ loop-input-smaller g c =
     omega arith
 
 pub loop-input-preserved : goal.loop-input-preserved
-loop-input-preserved g c = record { capacity = omega arith; read = c.in_ok-read_more.ensures.read _ c.loop-input.invariant.read; sound = c.in_ok-read_more.ensures.sound; going = (c.in_ok-read_more.ensures.more c.if-branch.true).1 }
+loop-input-preserved g c = record {
+  capacity = omega arith;
+  read = c.in_ok-read_more.ensures.read _ c.loop-input.invariant.read;
+  sound = c.in_ok-read_more.ensures.sound;
+  going = (c.in_ok-read_more.ensures.more c.if-branch.true).1;
+}
 
 pub returns-clause-all : goal.returns-clause-all
 returns-clause-all g c =

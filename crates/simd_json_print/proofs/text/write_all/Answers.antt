@@ -10,9 +10,11 @@ returns-in-Err g c =
 pub returns-in-Ok-eq0 : goal.returns-in-Ok-eq0
 returns-in-Ok-eq0 g c =
     let i = c.loop-left.invariant in
-    write-zero c.in-Ok-eq0.field-0 _ _ _ i.0 c.loop-left.left.now c.args.bytes.now (search rules) c.in-Ok-eq0.ensures (search (rules, arith)) i.1 i.2 i.3
+    write-zero c.in-Ok-eq0.field-0 _ _ _ i.0 c.loop-left.left.now c.args.bytes.now (search rules) c.in-Ok-eq0.ensures
+    (search (rules, arith)) i.1 i.2 i.3
 
 pub loop-left-preserved : goal.loop-left-preserved
 loop-left-preserved g c =
     let i = c.loop-left.invariant in
-    write-more c.in-Ok.taken _ _ _ i.0 c.loop-left.left.now c.split_at.result.1.now c.args.bytes.now c.in-Ok.ensures (search (rules, arith)) c.split_at.ensures.back i.1 i.2 i.3
+    write-more c.in-Ok.taken _ _ _ i.0 c.loop-left.left.now c.split_at.result.1.now c.args.bytes.now c.in-Ok.ensures
+    (search (rules, arith)) c.split_at.ensures.back i.1 i.2 i.3

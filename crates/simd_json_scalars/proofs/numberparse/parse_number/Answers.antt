@@ -23,7 +23,9 @@ returns-in-Integer c b i e =
     let n = c.in-Integer.magnitude in
     let read = c.in-Integer.ensures b i e in
     let first : byte_at b i ≡ c.byte_or_space-minus.result = byte_at-front b i l e ∙ sym c.byte_or_space-minus.ensures in
-    let sign : SignEnd l (bool_byte minus) = subst (λ x. SignEnd l (bool_byte (x == 45))) (sym c.byte_or_space-minus.ensures) (sign-end l) in
+    let sign : SignEnd l (bool_byte minus) =
+    subst (λ x. SignEnd l (bool_byte (x == 45))) (sym c.byte_or_space-minus.ensures) (sign-end l) in
     let at : number_at b i ≡ Ok (integer minus n, read.0) = read.1 ∙ ap (λ x. Ok (integer (x == 45) n, read.0)) first in
-    let end : read.0 ≡ i + c.int_end-len.result = integer-end b i l e (bool_byte minus) c.int_end-len.result sign c.int_end-len.ensures.value minus n read.0 at in
+    let end : read.0 ≡ i + c.int_end-len.result =
+    integer-end b i l e (bool_byte minus) c.int_end-len.result sign c.int_end-len.ensures.value minus n read.0 at in
     (minus, n, at ∙ ap (λ k. Ok (integer minus n, k)) end, c.integer.ensures)

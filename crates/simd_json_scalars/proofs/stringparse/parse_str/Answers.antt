@@ -7,7 +7,9 @@ use Rattle.simd_json_scalars.proofs.Strings.Reader.{opened, decoded-first, decod
 use Rattle.simd_json_scalars.proofs.stringparse.parse_str.Goals as goal
 
 pub plain_end-plain-requires : goal.plain_end-plain-requires
-plain_end-plain-requires c = let goes_on : IsOpen c.args.unread.now 1 = opened c.args.unread.now c.requires.opening c.requires.closing c.requires.utf8 in goes_on.closed
+plain_end-plain-requires c =
+    let goes_on : IsOpen c.args.unread.now 1 = opened c.args.unread.now c.requires.opening c.requires.closing c.requires.utf8 in
+    goes_on.closed
 
 pub share-requires-clause-utf8 : goal.share-requires-clause-utf8
 share-requires-clause-utf8 c =
@@ -17,14 +19,19 @@ share-requires-clause-utf8 c =
 pub returns-then-unread-plain-eq34 : goal.returns-then-unread-plain-eq34
 returns-then-unread-plain-eq34 c b i e =
     let goes_on : IsOpen c.args.unread.now 1 = opened c.args.unread.now c.requires.opening c.requires.closing c.requires.utf8 in
-    let d : IsDecoded c.args.unread.now 1 1 c.args.unread.now c.plain_end-plain.result c.plain_end-plain.result = decoded-first _ _ goes_on c.plain_end-plain.ensures.value in
-    let closing : byte_at c.args.unread.now c.plain_end-plain.result ≡ quote = get_or_default c.args.unread.now c.plain_end-plain.result 32 0 c.plain_end-plain.ensures.bound ∙ c.if-unread-plain-eq34.true in
-    string_at-shared b c.args.unread.now c.args.unread.now _ _ i _ _ _ e c.requires.opening d closing c.share.ensures.string c.share.ensures.remaining c.share.ensures.len
+    let d : IsDecoded c.args.unread.now 1 1 c.args.unread.now c.plain_end-plain.result c.plain_end-plain.result =
+    decoded-first _ _ goes_on c.plain_end-plain.ensures.value in
+    let closing : byte_at c.args.unread.now c.plain_end-plain.result ≡ quote =
+    get_or_default c.args.unread.now c.plain_end-plain.result 32 0 c.plain_end-plain.ensures.bound
+    ∙ c.if-unread-plain-eq34.true in
+    string_at-shared b c.args.unread.now c.args.unread.now _ _ i _ _ _ e c.requires.opening d closing c.share.ensures.string
+    c.share.ensures.remaining c.share.ensures.len
 
 pub unescape-requires-clause-goes_on : goal.unescape-requires-clause-goes_on
 unescape-requires-clause-goes_on c =
     let goes_on : IsOpen c.args.unread.now 1 = opened c.args.unread.now c.requires.opening c.requires.closing c.requires.utf8 in
-    let d : IsDecoded c.args.unread.now 1 1 c.args.unread.now c.plain_end-plain.result c.plain_end-plain.result = decoded-first _ _ goes_on c.plain_end-plain.ensures.value in
+    let d : IsDecoded c.args.unread.now 1 1 c.args.unread.now c.plain_end-plain.result c.plain_end-plain.result =
+    decoded-first _ _ goes_on c.plain_end-plain.ensures.value in
     d.goes_on
 
 pub unescape-requires-clause-stops : goal.unescape-requires-clause-stops
@@ -35,19 +42,24 @@ unescape-requires-clause-stops c =
 pub share-requires-in-Ok-clause-utf8 : goal.share-requires-in-Ok-clause-utf8
 share-requires-in-Ok-clause-utf8 c =
     let goes_on : IsOpen c.args.unread.now 1 = opened c.args.unread.now c.requires.opening c.requires.closing c.requires.utf8 in
-    let first : IsDecoded c.args.unread.now 1 1 c.args.unread.now c.plain_end-plain.result c.plain_end-plain.result = decoded-first _ _ goes_on c.plain_end-plain.ensures.value in
+    let first : IsDecoded c.args.unread.now 1 1 c.args.unread.now c.plain_end-plain.result c.plain_end-plain.result =
+    decoded-first _ _ goes_on c.plain_end-plain.ensures.value in
     decoded-string _ _ _ _ (decoded-further _ _ _ _ _ _ _ _ _ first c.in-Ok.ensures.0)
 
 pub returns-in-Ok : goal.returns-in-Ok
 returns-in-Ok c b i e =
     let goes_on : IsOpen c.args.unread.now 1 = opened c.args.unread.now c.requires.opening c.requires.closing c.requires.utf8 in
-    let first : IsDecoded c.args.unread.now 1 1 c.args.unread.now c.plain_end-plain.result c.plain_end-plain.result = decoded-first _ _ goes_on c.plain_end-plain.ensures.value in
-    let d : IsDecoded c.args.unread.now 1 1 c.unescape.new.unread c.in-Ok.ends.read c.in-Ok.ends.written = decoded-further _ _ _ _ _ _ _ _ _ first c.in-Ok.ensures.0 in
+    let first : IsDecoded c.args.unread.now 1 1 c.args.unread.now c.plain_end-plain.result c.plain_end-plain.result =
+    decoded-first _ _ goes_on c.plain_end-plain.ensures.value in
+    let d : IsDecoded c.args.unread.now 1 1 c.unescape.new.unread c.in-Ok.ends.read c.in-Ok.ends.written =
+    decoded-further _ _ _ _ _ _ _ _ _ first c.in-Ok.ensures.0 in
     let shared = c.share-in-Ok.ensures in
-    string_at-shared b c.args.unread.now c.unescape.new.unread _ _ i _ _ _ e c.requires.opening d c.in-Ok.ensures.1 shared.string shared.remaining shared.len
+    string_at-shared b c.args.unread.now c.unescape.new.unread _ _ i _ _ _ e c.requires.opening d c.in-Ok.ensures.1 shared.string
+    shared.remaining shared.len
 
 pub returns-in-Err : goal.returns-in-Err
 returns-in-Err c b i e =
     let goes_on : IsOpen c.args.unread.now 1 = opened c.args.unread.now c.requires.opening c.requires.closing c.requires.utf8 in
-    let d : IsDecoded c.args.unread.now 1 1 c.args.unread.now c.plain_end-plain.result c.plain_end-plain.result = decoded-first _ _ goes_on c.plain_end-plain.ensures.value in
+    let d : IsDecoded c.args.unread.now 1 1 c.args.unread.now c.plain_end-plain.result c.plain_end-plain.result =
+    decoded-first _ _ goes_on c.plain_end-plain.ensures.value in
     string_at-left b c.args.unread.now c.args.unread.now i _ _ c.in-Err.bad e c.requires.opening d c.in-Err.ensures

@@ -5,7 +5,8 @@ use Rattle.std.proofs.lemmas.List.{take_rest, length-drop, get_or_default}
 use Rattle.simd_json_parts.specs.Bytes.{backslash, byte_at}
 use Rattle.simd_json_parts.specs.StringAt.{escape_at}
 use Rattle.simd_json_scalars.specs.StringContent.{is_plain}
-use Rattle.simd_json_scalars.proofs.Strings.Passing.{IsPassed, passed-first, passed-run, passed-stops, passed-byte, passed-fits, passed-escape, string_at-bad, string_at-passed}
+use Rattle.simd_json_scalars.proofs.Strings.Passing.{IsPassed, passed-first, passed-run, passed-stops, passed-byte, passed-fits}
+use Rattle.simd_json_scalars.proofs.Strings.Passing.{passed-escape, string_at-bad, string_at-passed}
 use Rattle.simd_json_scalars.proofs.stringparse.string_len.Goals as goal
 
 -- a byte that is not plain is a quote or a backslash
@@ -13,7 +14,9 @@ stop-quote : (x : ℕ) → is_plain x ≡ false → x ≢ 92 → x ≡ 34
 stop-quote x e other = grind (arith, nat_tests)
 
 pub plain_end-read-requires : goal.plain_end-read-requires
-plain_end-read-requires c = let d : IsPassed c.args.bytes.now 1 = passed-first c.args.bytes.now c.requires.opening c.requires.closing in d.closed
+plain_end-read-requires c =
+    let d : IsPassed c.args.bytes.now 1 = passed-first c.args.bytes.now c.requires.opening c.requires.closing in
+    d.closed
 
 pub loop-read-init : goal.loop-read-init
 loop-read-init c =

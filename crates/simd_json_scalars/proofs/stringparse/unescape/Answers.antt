@@ -1,7 +1,8 @@
 use Rattle.std.proofs.Common.{refl, ap, length, arith}
 use Rattle.simd_json_scalars.specs.StringContent.{is_plain}
 use Rattle.simd_json_scalars.specs.StringDecoded.{IsDecoded}
-use Rattle.simd_json_scalars.proofs.Strings.Decoding.{run-stops, decoded-run, decoded-open, decoded-further, decoded-stops, was-backslash, decoded-fits, decoded-bad}
+use Rattle.simd_json_scalars.proofs.Strings.Decoding.{run-stops, decoded-run, decoded-open, decoded-further, decoded-stops}
+use Rattle.simd_json_scalars.proofs.Strings.Decoding.{was-backslash, decoded-fits, decoded-bad}
 use Rattle.simd_json_scalars.proofs.stringparse.unescape.Goals as goal
 
 pub loop-unread-preserved-then-unread-ends-ne92 : goal.loop-unread-preserved-then-unread-ends-ne92
@@ -34,4 +35,5 @@ bounds-unread-ends-in-None c =
 
 pub returns-in-None : goal.returns-in-None
 returns-in-None c =
-    decoded-bad _ c.loop-unread.unread c.unescape_one.new.unread _ c.loop-unread.ends.read _ _ c.loop-unread.invariant.decoded c.loop-unread-test.true c.in-None.ensures.0 c.in-None.ensures.1 refl refl
+    decoded-bad _ c.loop-unread.unread c.unescape_one.new.unread _ c.loop-unread.ends.read _ _ c.loop-unread.invariant.decoded
+    c.loop-unread-test.true c.in-None.ensures.0 c.in-None.ensures.1 refl refl

@@ -5,7 +5,9 @@ use Rattle.simd_json_scalars.proofs.Descent.Shrinking.{value_from-takes}
 use Rattle.simd_json_theorems.proofs.laws.turns_are_enough.Goals as goal
 
 pub returns-clause-elements : goal.returns-clause-elements
-returns-clause-elements c b missing levels ts = elements_by-turn b missing (value_from b missing levels) (value_from-takes b missing levels) ts
+returns-clause-elements c b missing levels ts =
+    elements_by-turn b missing (value_from b missing levels) (value_from-takes b missing levels) ts
 
 pub returns-clause-members : goal.returns-clause-members
-returns-clause-members c b missing levels kind ts = members_by-turn b missing (value_from b missing levels) (value_from-takes b missing levels) kind ts
+returns-clause-members c b missing levels kind ts =
+    members_by-turn b missing (value_from b missing levels) (value_from-takes b missing levels) kind ts

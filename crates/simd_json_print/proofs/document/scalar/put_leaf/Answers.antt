@@ -6,4 +6,5 @@ use Rattle.simd_json_print.proofs.Texts.{adds-is}
 use Rattle.simd_json_print.proofs.document.scalar.put_leaf.Goals as goal
 
 pub returns-in-String : goal.returns-in-String
-returns-in-String g c = adds-is _ _ _ _ _ (quoted-whole c.in-String.string.now ∙ ap (λ x. leaf_text (item_of x)) (sym c.in-String.is)) c.put_string.ensures
+returns-in-String g c = adds-is _ _ _ _ _
+    (quoted-whole c.in-String.string.now ∙ ap (λ x. leaf_text (item_of x)) (sym c.in-String.is)) c.put_string.ensures

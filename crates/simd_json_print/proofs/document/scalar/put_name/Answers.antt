@@ -10,7 +10,8 @@ returns-then-this-ne0 g c =
     let name = c.in-String.name.now in
     let string = adds-is _ _ _ _ _ (quoted-then name (codes ": ")) c.put_string.ensures in
     let front = adds-front _ _ _ _ c.front_of-front.result.now c.front_of-front.ensures c.put.ensures in
-    let all = adds-then _ _ _ _ _ _ front (adds-then _ _ _ _ (new_line c.args.depth) (quoted name ++ codes ": ") c.put_new_line.ensures string) in
+    let all = adds-then _ _ _ _ _ _ front
+    (adds-then _ _ _ _ (new_line c.args.depth) (quoted name ++ codes ": ") c.put_new_line.ensures string) in
     record {
       kept = adds-some _ _ _ _ all;
       given = λ k is. adds-pretty-name _ _ _ _ _ _ name k c.if-this-ne0.true (ap item_of (sym c.in-String.is) ∙ is) all;
@@ -19,7 +20,8 @@ returns-then-this-ne0 g c =
 pub returns-else-this-ne0 : goal.returns-else-this-ne0
 returns-else-this-ne0 g c =
     let name = c.in-String.name.now in
-    let all = adds-string _ _ _ _ c.front_of-front.result.now name (codes ":") c.front_of-front.ensures c.put_string-else-this-ne0.ensures in
+    let all = adds-string _ _ _ _ c.front_of-front.result.now name
+    (codes ":") c.front_of-front.ensures c.put_string-else-this-ne0.ensures in
     record {
       kept = adds-some _ _ _ _ all;
       given = λ k is. adds-compact-name _ _ _ _ _ _ name k c.if-this-ne0.false (ap item_of (sym c.in-String.is) ∙ is) all;

@@ -1,4 +1,5 @@
-use Rattle.std.proofs.Common.{◌≡◌, ◌∙◌, ◌+◌, ◌-◌, ◌++◌, ◌∷◌, [], ap, cond, get_or, refl, set, true, false, sym, subst, append-nil, map, not, nat_eq, arith, rules}
+use Rattle.std.proofs.Common.{◌≡◌, ◌∙◌, ◌+◌, ◌-◌, ◌++◌, ◌∷◌, [], ap, cond, get_or, refl, set, true, false, sym, subst, append-nil}
+use Rattle.std.proofs.Common.{map, not, nat_eq, arith, rules}
 use Rattle.std.proofs.lemmas.List.{length-map}
 use Rattle.simd_json_parts.specs.Bytes.{right_brace, right_bracket}
 use Rattle.simd_json_parts.specs.Nodes.{item_of}
@@ -6,12 +7,15 @@ use Rattle.simd_json_print.specs.Frames.{frame_text}
 use Rattle.simd_json_parts.specs.Printed.{line}
 use Rattle.simd_json_print.specs.Texts.{Adds}
 use Rattle.simd_json_print.proofs.Lines.{adds-a-line, adds-no-line}
-use Rattle.simd_json_print.proofs.Nestings.{begins, no-object, after-end, no-value, leaf-step, open-step, deep-step, no-document, value-leaf, value-opened}
+use Rattle.simd_json_print.proofs.Nestings.{begins, no-object, after-end, no-value, leaf-step, open-step, deep-step, no-document}
+use Rattle.simd_json_print.proofs.Nestings.{value-leaf, value-opened}
 use Rattle.simd_json_print.proofs.Texts.{adds-none, adds-is, adds-then, adds-lost, adds-some, some-none, some-then}
 use Rattle.simd_json_print.proofs.Walk.{is_object_item}
 use Rattle.simd_json_print.proofs.document.walk.+value.Goals as goal
-use Rattle.simd_json_print.proofs.document.walk.+value.Goals.{put_container-then-this-ne0, put_container-else-this-ne0, put_container-then-ends_object, put_container-else-ends_object}
-use Rattle.simd_json_print.proofs.document.walk.+value.Goals.{put_next-in-Object, put_next-in_default, put_value-in-Object, put_value-in_default}
+use Rattle.simd_json_print.proofs.document.walk.+value.Goals.{put_container-then-this-ne0, put_container-else-this-ne0}
+use Rattle.simd_json_print.proofs.document.walk.+value.Goals.{put_container-then-ends_object, put_container-else-ends_object}
+use Rattle.simd_json_print.proofs.document.walk.+value.Goals.{put_next-in-Object, put_next-in_default, put_value-in-Object}
+use Rattle.simd_json_print.proofs.document.walk.+value.Goals.{put_value-in_default}
 
 -- ---- a container
 
@@ -20,7 +24,11 @@ put_container-loop-nesting-init g t c = (
   omega arith,
   omega arith,
   some-none _ _,
-  λ f kind is. ([], adds-none _ _, begins (not (nat_eq g.row.PRETTY 0)) c.args.depth _ f (map item_of c.args.nodes.now) refl refl (sym kind) is),
+  λ f kind is. (
+    [],
+    adds-none _ _,
+    begins (not (nat_eq g.row.PRETTY 0)) c.args.depth _ f (map item_of c.args.nodes.now) refl refl (sym kind) is,
+  ),
 )
 
 pub put_container-returns-then-has_failed-clause-given : goal.put_container-returns-then-has_failed-clause-given
@@ -58,14 +66,16 @@ put_container-loop-nesting-preserved-then-left-nesting g t c =
           let at = m.ensures.given so_far.0 whole so_far.2 in (
             (so_far.0 ++ at.0) ++ (line pretty (c.args.depth + outer) ++ bracket),
             adds-then _ _ _ _ (so_far.0 ++ at.0) _ (adds-then _ _ _ _ so_far.0 at.0 so_far.1 at.1) end,
-            after-end pretty c.args.depth l.nesting _ m.result.1 (map item_of m.result.0.nodes.now) (so_far.0 ++ at.0) whole (search (rules, arith)) (search (rules, arith, length-map))
+            after-end pretty c.args.depth l.nesting _ m.result.1 (map item_of m.result.0.nodes.now) (so_far.0 ++ at.0) whole
+                (search (rules, arith)) (search (rules, arith, length-map))
                 refl refl refl at.2,
           ),
     )
 
 pub put_container-returns-then-is_empty-clause-kept : goal.put_container-returns-then-is_empty-clause-kept
 put_container-returns-then-is_empty-clause-kept g t c =
-    some-then _ _ _ _ c.loop-nesting.invariant.2 (some-then _ _ _ _ c.put_elements-is_still_first.ensures.kept c.put_before-value.ensures.kept)
+    some-then _ _ _ _ c.loop-nesting.invariant.2
+    (some-then _ _ _ _ c.put_elements-is_still_first.ensures.kept c.put_before-value.ensures.kept)
 
 pub put_container-returns-then-is_empty-clause-given : goal.put_container-returns-then-is_empty-clause-given
 put_container-returns-then-is_empty-clause-given g t c f kind is =
@@ -74,7 +84,8 @@ put_container-returns-then-is_empty-clause-given g t c f kind is =
     let whole = frame_text pretty c.args.depth true f in
     let next = c.put_elements-is_still_first.ensures.given so_far.0 whole so_far.2 in
     let at = c.put_before-value.ensures.given (so_far.0 ++ next.0) whole (search (rules, arith)) next.2 in
-    absurd (no-value pretty c.args.depth c.loop-nesting.nesting (map item_of c.put_before-value.result.nodes.now) _ _ (search (rules, arith, length-map)) at.2)
+    absurd (no-value pretty c.args.depth c.loop-nesting.nesting (map item_of c.put_before-value.result.nodes.now) _ _
+    (search (rules, arith, length-map)) at.2)
 
 pub put_container-loop-nesting-preserved : goal.put_container-loop-nesting-preserved
 put_container-loop-nesting-preserved g t c =
@@ -105,7 +116,8 @@ pub put_next-returns-then-count-eq0-clause-given : goal.put_next-returns-then-co
 put_next-returns-then-count-eq0-clause-given g t c done whole is = (
   _,
   c.put_leaf.ensures,
-  leaf-step (not (nat_eq g.row.PRETTY 0)) c.args.depth c.args.nesting.now c.args.left.nodes.now c.split_at.result.0.now c.split_at.result.1.now _ _ _ done whole c.requires.some
+  leaf-step (not (nat_eq g.row.PRETTY 0)) c.args.depth c.args.nesting.now c.args.left.nodes.now c.split_at.result.0.now
+      c.split_at.result.1.now _ _ _ done whole c.requires.some
       c.split_at.ensures.front c.split_at.ensures.back c.beneath.ensures c.min-count.ensures (search (rules, arith)) is,
 )
 
@@ -120,16 +132,20 @@ put_next-returns-then-nesting-lt-OPEN-clause-given g t c done whole is =
     ] in (
       [],
       adds-none _ _,
-      open-step (not (nat_eq g.row.PRETTY 0)) c.args.depth c.args.nesting.now _ c.args.left.nodes.now c.split_at.result.0.now c.split_at.result.1.now _ _ _ _ done whole c.requires.some
-          c.split_at.ensures.front c.split_at.ensures.back c.beneath.ensures c.min-count.ensures (search (rules, arith)) refl (search (rules, arith)) (search (rules, arith))
+      open-step (not (nat_eq g.row.PRETTY 0)) c.args.depth c.args.nesting.now _ c.args.left.nodes.now c.split_at.result.0.now
+          c.split_at.result.1.now _ _ _ _ done whole c.requires.some
+          c.split_at.ensures.front c.split_at.ensures.back c.beneath.ensures c.min-count.ensures (search (rules, arith)) refl
+          (search (rules, arith)) (search (rules, arith))
           refl (ap (λ b. set c.args.nesting.now.are_objects c.args.nesting.now.count b) object) refl is,
     )
 
 pub put_next-returns-clause-given : goal.put_next-returns-clause-given
 put_next-returns-clause-given g t c done whole is =
     let v = c.split_at-2 in
-    let deep = deep-step (not (nat_eq g.row.PRETTY 0)) c.args.depth c.args.nesting.now c.args.left.nodes.now c.split_at.result.0.now c.split_at.result.1.now v.result.0.now v.result.1.now _ _ _
-    done whole c.requires.some c.split_at.ensures.front c.split_at.ensures.back c.beneath.ensures c.min-count.ensures (search (rules, arith)) v.ensures.front v.ensures.back is in
+    let deep = deep-step (not (nat_eq g.row.PRETTY 0)) c.args.depth c.args.nesting.now c.args.left.nodes.now c.split_at.result.0.now
+    c.split_at.result.1.now v.result.0.now v.result.1.now _ _ _
+    done whole c.requires.some c.split_at.ensures.front c.split_at.ensures.back c.beneath.ensures c.min-count.ensures
+    (search (rules, arith)) v.ensures.front v.ensures.back is in
     (_, c.put_value.ensures.given deep.document deep.listed, deep.after)
 
 -- ---- a value
@@ -142,12 +158,14 @@ put_value-returns-then-is_empty-clause-given g t c d is = absurd (no-document c.
 
 pub put_value-returns-then-is_empty-2-clause-given : goal.put_value-returns-then-is_empty-2-clause-given
 put_value-returns-then-is_empty-2-clause-given g t c d is =
-    adds-is _ _ _ _ _ (value-leaf (not (nat_eq g.row.PRETTY 0)) c.args.depth c.args.nodes.now c.split_at.result.0.now c.split_at.result.1.now _ d (search (rules, arith))
+    adds-is _ _ _ _ _ (value-leaf (not (nat_eq g.row.PRETTY 0))
+    c.args.depth c.args.nodes.now c.split_at.result.0.now c.split_at.result.1.now _ d (search (rules, arith))
     c.split_at.ensures.front c.split_at.ensures.back (search (rules, arith)) is) c.put_leaf.ensures
 
 pub put_value-returns-after-matches-clause-given : goal.put_value-returns-after-matches-clause-given
 put_value-returns-after-matches-clause-given g t c d is =
-    let o = value-opened (not (nat_eq g.row.PRETTY 0)) c.args.depth c.args.nodes.now c.split_at.result.0.now c.split_at.result.1.now _ d (search (rules, arith))
+    let o = value-opened (not (nat_eq g.row.PRETTY 0))
+    c.args.depth c.args.nodes.now c.split_at.result.0.now c.split_at.result.1.now _ d (search (rules, arith))
     c.split_at.ensures.front c.split_at.ensures.back (search (rules, arith)) is in
     let object : c.match-matches.matches ≡ is_object_item (item_of (get_or c.split_at.result.0.now 0 _)) = elim c.match-matches.branch [
       | put_value-in-Object w ↦ w.matches-is ∙ ap (λ x. is_object_item (item_of x)) (sym w.in-Object.is)

@@ -9,7 +9,9 @@ pub returns-then-letter-eq117 : goal.returns-then-letter-eq117
 returns-then-letter-eq117 g c =
     let tens : c.args.byte / 16 < 16 = omega arith in
     let ones : c.args.byte % 16 < 16 = omega arith in
-    by-number _ _ _ c.args.byte _ _ _ c.put-then-letter-eq117.ensures c.if-letter-eq117.true (search (rules, letters-table)) (search (rules, digits-table)) (search (rules, digits-table))
+    by-number _ _ _ c.args.byte _ _ _ c.put-then-letter-eq117.ensures c.if-letter-eq117.true (search (rules, letters-table))
+    (search (rules, digits-table)) (search (rules, digits-table))
 
 pub returns-else-letter-eq117 : goal.returns-else-letter-eq117
-returns-else-letter-eq117 g c = by-letter _ _ _ c.args.byte _ c.put-else-letter-eq117.ensures c.if-letter-eq0.false c.if-letter-eq117.false (search (rules, letters-table))
+returns-else-letter-eq117 g c = by-letter _ _ _ c.args.byte _ c.put-else-letter-eq117.ensures c.if-letter-eq0.false
+    c.if-letter-eq117.false (search (rules, letters-table))

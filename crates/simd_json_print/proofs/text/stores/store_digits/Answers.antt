@@ -28,4 +28,5 @@ returns-clause-stored c =
     let w = c.write_digits in
     let digits = digits-count c.ilog10.result c.args.number c.ilog10.ensures.power_le c.ilog10.ensures.next_power_gt c.ranges.number.fits in
     let count : c.args.at + c.ilog10.result + 1 ≡ c.args.at + length (decimal c.args.number) = omega (arith, digits) in
-    stored-digits c.args.all.now w.new.buf (decimal c.args.number) c.args.at w.result _ w.ensures.start count w.ensures.written w.ensures.before
+    stored-digits c.args.all.now w.new.buf
+    (decimal c.args.number) c.args.at w.result _ w.ensures.start count w.ensures.written w.ensures.before

@@ -6,7 +6,8 @@ use Rattle.simd_json_print.proofs.text.stores.store_ends.Goals as goal
 
 pub returns-then-front-eq0-clause-stored : goal.returns-then-front-eq0-clause-stored
 returns-then-front-eq0-clause-stored g c =
-    stored-ends c.args.all.now c.store_marked-front.new.all c.store_marked-back.new.all c.args.bytes.now c.args.at g.row.N c.requires.ends.0 c.requires.ends.1
+    stored-ends c.args.all.now c.store_marked-front.new.all c.store_marked-back.new.all c.args.bytes.now c.args.at g.row.N
+    c.requires.ends.0 c.requires.ends.1
     (omega arith) c.store_marked-front.ensures.stored c.store_marked-back.ensures.stored
 
 pub returns-then-front-eq0-clause-plain : goal.returns-then-front-eq0-clause-plain
@@ -18,5 +19,6 @@ returns-then-front-eq0-clause-plain g c is =
 
 pub returns-else-front-eq0-clause-stored : goal.returns-else-front-eq0-clause-stored
 returns-else-front-eq0-clause-stored g c =
-    stored-ends c.args.all.now c.store_marked-front.new.all c.store_marked-back.new.all c.args.bytes.now c.args.at g.row.N c.requires.ends.0 c.requires.ends.1
+    stored-ends c.args.all.now c.store_marked-front.new.all c.store_marked-back.new.all c.args.bytes.now c.args.at g.row.N
+    c.requires.ends.0 c.requires.ends.1
     (omega arith) c.store_marked-front.ensures.stored c.store_marked-back.ensures.stored

@@ -25,7 +25,8 @@ pub returns-in-Ok-2 : goal.returns-in-Ok-2
 returns-in-Ok-2 c b i rest e t =
     let value = rw c.byte_or_space-minus.ensures at (c.in-Ok.ensures) in
     let below = rw c.byte_or_space-minus.ensures at (c.is_in_range.ensures) in
-    number_at-below b i c.args.literal.now rest e t c.requires c.in-Ok.value value (omega arith) (leb-false _ _ (sym below ∙ c.if-is_in_range.false))
+    number_at-below b i c.args.literal.now rest e t c.requires c.in-Ok.value value (omega arith)
+    (leb-false _ _ (sym below ∙ c.if-is_in_range.false))
 
 pub returns-in-Err : goal.returns-in-Err
 returns-in-Err c b i rest e t =

@@ -12,6 +12,7 @@ returns c b i e =
     let l = c.args.bytes.now in
     let len = c.args.len in
     let size : length (take len l) ≡ len = length-take-le len l c.requires.0 in
-    subst (λ k. MatchResult c.long_integer.result (λ node. IsNumberAt b i (Integer node k)) (λ offset. IsNumberAt b i (Invalid offset))) size
+    subst (λ k. MatchResult c.long_integer.result (λ node. IsNumberAt b i (Integer node k))
+    (λ offset. IsNumberAt b i (Invalid offset))) size
     (c.long_integer.ensures b i (drop len l) (e ∙ sym (take-append-drop len l))
     (ap is_terminator (sym (byte_at-front l len (drop len l) refl)) ∙ c.requires.2))

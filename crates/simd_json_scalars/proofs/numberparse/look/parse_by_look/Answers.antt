@@ -17,7 +17,8 @@ integer-requires c =
     let sign : SignEnd l c.if-bytes-eq45.start = grind (arith, first) in
     let run = c.run_end-whole.ensures l (omega arith) c.non_digits-stops.ensures (omega arith) in
     let digit = get_or_default l c.if-bytes-eq45.start 32 0 (omega arith) in
-    let whole : IsWhole l c.run_end-whole.result = run-whole l _ _ sign run c.if-whole-start.false (λ e. grind (arith, e, digit, nat_tests)) in
+    let whole : IsWhole l c.run_end-whole.result =
+    run-whole l _ _ sign run c.if-whole-start.false (λ e. grind (arith, e, digit, nat_tests)) in
     rw c.if-end-whole-2.true (integer-literal _ _ whole)
 
 pub returns-then-end-whole-2 : goal.returns-then-end-whole-2
@@ -27,11 +28,13 @@ returns-then-end-whole-2 c b i e =
     let sign : SignEnd l c.if-bytes-eq45.start = grind (arith, first) in
     let run = c.run_end-whole.ensures l (omega arith) c.non_digits-stops.ensures (omega arith) in
     let digit = get_or_default l c.if-bytes-eq45.start 32 0 (omega arith) in
-    let whole : IsWhole l c.run_end-whole.result = run-whole l _ _ sign run c.if-whole-start.false (λ e. grind (arith, e, digit, nat_tests)) in
+    let whole : IsWhole l c.run_end-whole.result =
+    run-whole l _ _ sign run c.if-whole-start.false (λ e. grind (arith, e, digit, nat_tests)) in
     let point = get_or_default l c.run_end-whole.result 32 0 (omega arith) in
     let fraction : IsFraction l c.run_end-whole.result c.if-bytes-whole-eq46.end = grind (arith, point, c.non_digits-stops.ensures) in
     let after : is_terminator (byte_at l c.if-bytes-whole-eq46.end) ≡ true =
-    ap is_terminator (get_or_default l c.if-bytes-whole-eq46.end 32 0 (omega arith)) ∙ sym c.is_structural_or_whitespace.ensures ∙ c.if-is_structural_or_whitespace.true in
+    ap is_terminator (get_or_default l c.if-bytes-whole-eq46.end 32 0 (omega arith)) ∙ sym c.is_structural_or_whitespace.ensures
+    ∙ c.if-is_structural_or_whitespace.true in
     let reads : Reads number_literal l 0 (Ok c.if-bytes-whole-eq46.end) = seen-end l _ _ whole fraction (omega arith) after in
     c.integer.ensures b i (drop c.if-bytes-whole-eq46.end l) (read-split b i l e _ reads) (read-after b i l e _ reads after)
 
@@ -42,11 +45,13 @@ returns-else-end-whole-2 c b i e =
     let sign : SignEnd l c.if-bytes-eq45.start = grind (arith, first) in
     let run = c.run_end-whole.ensures l (omega arith) c.non_digits-stops.ensures (omega arith) in
     let digit = get_or_default l c.if-bytes-eq45.start 32 0 (omega arith) in
-    let whole : IsWhole l c.run_end-whole.result = run-whole l _ _ sign run c.if-whole-start.false (λ e. grind (arith, e, digit, nat_tests)) in
+    let whole : IsWhole l c.run_end-whole.result =
+    run-whole l _ _ sign run c.if-whole-start.false (λ e. grind (arith, e, digit, nat_tests)) in
     let point = get_or_default l c.run_end-whole.result 32 0 (omega arith) in
     let fraction : IsFraction l c.run_end-whole.result c.if-bytes-whole-eq46.end = grind (arith, point, c.non_digits-stops.ensures) in
     let after : is_terminator (byte_at l c.if-bytes-whole-eq46.end) ≡ true =
-    ap is_terminator (get_or_default l c.if-bytes-whole-eq46.end 32 0 (omega arith)) ∙ sym c.is_structural_or_whitespace.ensures ∙ c.if-is_structural_or_whitespace.true in
+    ap is_terminator (get_or_default l c.if-bytes-whole-eq46.end 32 0 (omega arith)) ∙ sym c.is_structural_or_whitespace.ensures
+    ∙ c.if-is_structural_or_whitespace.true in
     let reads : Reads number_literal l 0 (Ok c.if-bytes-whole-eq46.end) = seen-end l _ _ whole fraction (omega arith) after in
     number_at-longer b i l e _ reads _ whole c.if-end-whole-2.false after
 
@@ -57,9 +62,11 @@ returns c b i e =
     let sign : SignEnd l c.if-bytes-eq45.start = grind (arith, first) in
     let run = c.run_end-whole.ensures l (omega arith) c.non_digits-stops.ensures (omega arith) in
     let digit = get_or_default l c.if-bytes-eq45.start 32 0 (omega arith) in
-    let whole : IsWhole l c.run_end-whole.result = run-whole l _ _ sign run c.if-whole-start.false (λ e. grind (arith, e, digit, nat_tests)) in
+    let whole : IsWhole l c.run_end-whole.result =
+    run-whole l _ _ sign run c.if-whole-start.false (λ e. grind (arith, e, digit, nat_tests)) in
     let point = get_or_default l c.run_end-whole.result 32 0 (omega arith) in
     let fraction : IsFraction l c.run_end-whole.result c.if-bytes-whole-eq46.end = grind (arith, point, c.non_digits-stops.ensures) in
     let other : is_terminator (byte_at l c.if-bytes-whole-eq46.end) ≡ false =
-    ap is_terminator (get_or_default l c.if-bytes-whole-eq46.end 32 0 (omega arith)) ∙ sym c.is_structural_or_whitespace.ensures ∙ c.if-is_structural_or_whitespace.false in
+    ap is_terminator (get_or_default l c.if-bytes-whole-eq46.end 32 0 (omega arith)) ∙ sym c.is_structural_or_whitespace.ensures
+    ∙ c.if-is_structural_or_whitespace.false in
     subst (IsNumeralAt b i) (sym c.parse_exponent.ensures) (seen-exponent l _ _ whole fraction i b e other)

@@ -8,4 +8,5 @@ returns-then-end-digits c =
 
 pub returns-else-end-digits : goal.returns-else-end-digits
 returns-else-end-digits c =
-    fraction-exponent _ _ _ _ (sym c.byte_or_space.ensures ∙ c.if-byte_or_space-ne46.false) c.digits_end-end.ensures.value (omega arith) c.exponent_end-else-end-digits.ensures
+    fraction-exponent _ _ _ _ (sym c.byte_or_space.ensures ∙ c.if-byte_or_space-ne46.false) c.digits_end-end.ensures.value
+    (omega arith) c.exponent_end-else-end-digits.ensures

@@ -15,7 +15,8 @@ escape-requires c = rw take_rest (backslash-fits c.args.unread.now c.args.ends.r
 pub overflow_add-read-2 : goal.overflow_add-read-2
 overflow_add-read-2 c =
     let read = c.args.ends.read in
-    let escape : escape_at (drop read c.args.unread.now) ≡ Some (encode_utf8 c.in_ok-character.character, c.in_ok-character.more) = ap escape_at (sym (take_rest c.args.unread.now read)) ∙ c.in_ok-character.ensures.value in
+    let escape : escape_at (drop read c.args.unread.now) ≡ Some (encode_utf8 c.in_ok-character.character, c.in_ok-character.more) =
+    ap escape_at (sym (take_rest c.args.unread.now read)) ∙ c.in_ok-character.ensures.value in
     omega (arith, escape-fits c.args.unread.now _ read c.in_ok-character.more c.requires.goes_on c.requires.backslash escape)
 
 pub returns : goal.returns

@@ -11,13 +11,15 @@ loop-end-init c = record { value = refl; bound = run-inside c.args.bytes.now c.a
 pub returns-then-stops-ne0-clause-value : goal.returns-then-stops-ne0-clause-value
 returns-then-stops-ne0-clause-value c =
     let found = c.stops-stops in
-    let run = run-ends is_stop c.args.bytes.now c.loop-end.end 32 (omega arith) (omega arith) (omega (arith, found.ensures)) ∙ ap (count_trailing_zeros 64) (sym found.ensures) in
+    let run = run-ends is_stop c.args.bytes.now c.loop-end.end 32 (omega arith) (omega arith) (omega (arith, found.ensures))
+    ∙ ap (count_trailing_zeros 64) (sym found.ensures) in
     omega (arith, run, c.loop-end.invariant.value)
 
 pub returns-then-stops-ne0-clause-bound : goal.returns-then-stops-ne0-clause-bound
 returns-then-stops-ne0-clause-bound c =
     let found = c.stops-stops in
-    let run = run-ends is_stop c.args.bytes.now c.loop-end.end 32 (omega arith) (omega arith) (omega (arith, found.ensures)) ∙ ap (count_trailing_zeros 64) (sym found.ensures) in
+    let run = run-ends is_stop c.args.bytes.now c.loop-end.end 32 (omega arith) (omega arith) (omega (arith, found.ensures))
+    ∙ ap (count_trailing_zeros 64) (sym found.ensures) in
     omega (arith, run, c.loop-end.invariant.value, c.loop-end.invariant.bound)
 
 pub loop-end-preserved : goal.loop-end-preserved
