@@ -15,7 +15,8 @@ use Rattle.simd_json_parts.specs.Document.{Document, array, object, elements, El
 use Rattle.simd_json_parts.specs.Views.{first_with, is_array, is_object, value_type}
 use Rattle.simd_json_parts.specs.declared.node.ValueType.{ValueType}
 use Rattle.simd_json.specs.Pointed.{with_first, tokens, unescaped, is_array_index, array_index, element_at, member_at, named, stop, go_on, followed, pointed_from}
-use Rattle.simd_json.specs.Followed.{AreAlike, AreSame, IsPlain, IsWritten, tokens_after, first_of, first_step, fits_64}
+use Rattle.simd_json.specs.Followed.{AreAlike, AreSame, IsKey, IsPlain, IsWritten, tokens_after, first_of, first_step, fits_64}
+use Rattle.simd_json.specs.declared.value.pointer.token.Key.{Key}
 use Rattle.simd_json.specs.declared.value.pointer.PointerError.{PointerError}
 use Rattle.simd_json.specs.declared.value.pointer.PointerExpected.{PointerExpected}
 use Rattle.simd_json.specs.declared.value.pointer.PointerExpected.TheVariants as lacking
@@ -231,15 +232,14 @@ held-len o (Some key) held n is long =
     let same : n ≡ length key = cc in
     ap Some (ap (λ m. length held + m) same ∙ sym (length-append held key)) ∙ sym (ap (option_map (λ k. length k)) is)
 
-pub same-front : (bytes key : List ℕ) (n : ℕ) → n ≤ length bytes → n ≤ length key
-    → (take n key ≡ take n bytes) ↔ AreSame (take n bytes) key 0 n
-same-front bytes key n few short = (
-  λ same k from less. sym (ap (λ l. get_or l k 0) same) ∙ get_or-take n key k 0 less,
-  λ same.
-      same_number_lists (take n key) (take n bytes) (length-take-le n key short ∙ sym (length-take-le n bytes few))
-      (λ k less. get_or-take n key k 0 (omega (arith, length-take-le n key short))
-      ∙ sym (same k (omega arith) (omega (arith, length-take-le n key short)))),
-)
+pub same-front : (held key : List ℕ) → length held ≤ length key → (take (length held) key ≡ held) ↔ AreSame held key 0 (length held)
+same-front held key short =
+    let long : length (take (length held) key) ≡ length held = length-take-le (length held) key short in (
+      λ same k from less. ap (λ l. get_or l k 0) (sym same) ∙ get_or-take (length held) key k 0 less,
+      λ same.
+          same_number_lists (take (length held) key) held long
+          (λ k less. get_or-take (length held) key k 0 (omega (arith, long)) ∙ sym (same k (omega arith) (omega (arith, long)))),
+    )
 
 pub held-is : (held key : List ℕ) (n : ℕ) (rest : Option (List ℕ)) → length held ≡ n
     → (option_map (λ others. held ++ others) rest ≡ Some key) ↔ ((take n key ≡ held) × (rest ≡ Some (drop n key)))
@@ -317,6 +317,24 @@ further p i t d e at leads =
     ∙ ap (λ n. followed n (tokens_after rest) e) number
     ∙ followed-rest (i + (1 + length t)) rest e (λ some. rest-begins p i t at rest there some)
     ∙ ap (λ q. pointed_from (i + (1 + length t)) q e) (sym there)
+
+-- ---- the key that a token is, by its parts
+
+abbrev joined : List ℕ → Key → Option (List ℕ)
+joined t k = option_map (λ others. take k.held k.bytes ++ others) (unescaped (take (length t - k.rest) (drop k.rest t)))
+
+joined-is : (t : List ℕ) (k : Key) → IsKey t k → joined t k ≡ unescaped t
+joined-is t k is = ap (λ r. option_map (λ others. take k.held k.bytes ++ others) (unescaped r)) (rest t k.rest) ∙ sym is.decoded
+
+length-of : (u : Option (List ℕ)) (key : List ℕ) (n : ℕ) → Some n ≡ option_map (λ k. length k) u → u ≡ Some key → n ≡ length key
+length-of None key n counted is = cc
+length-of (Some k) key n counted is = let long : n ≡ length k = cc in let same : k ≡ key = cc in long ∙ ap length same
+
+pub key-is : (t key : List ℕ) (k : Key) → IsKey t k → ((k.len ≡ length key) × (joined t k ≡ Some key)) ↔ (unescaped t ≡ Some key)
+key-is t key k is = (
+  λ both. sym (joined-is t k is) ∙ both.1,
+  λ has. (length-of (unescaped t) key k.len is.counted has, joined-is t k is ∙ has),
+)
 
 -- ---- where a pointer stops
 

@@ -1,5 +1,5 @@
 //! Keys that are compared with bytes, N at a time.
-ghost use Rattle.std.specs.Prelude.{◌≤◌, ◌<◌, ◌+◌, ◌↔◌, IsTrue, length};
+ghost use Rattle.std.specs.Prelude.{◌≤◌, ◌<◌, ◌+◌, ◌*◌, ◌↔◌, IsTrue, length};
 ghost use Rattle.simd_json.specs.Followed.{AreAlike, AreSame};
 
 use std::simd::prelude::*;
@@ -57,19 +57,18 @@ fn are_lanes_alike<const N: usize>(bytes: &[u8], key: &[u8], from: usize) -> boo
     others.to_bitmask() == 0
 }
 
-// Whether the key begins with the bytes.
+// Whether the key begins with the bytes, which are 64 at most.
 #[inline(always)]
 pub(super) fn are_same(bytes: &[u8], key: &[u8]) -> bool
-    requires { length bytes.now ≤ length key.now }
+    requires few { length bytes.now ≤ 64 }
+    requires within { length bytes.now ≤ length key.now }
     ensures { IsTrue result ↔ AreSame bytes.now key.now 0 (length bytes.now) }
 {
     let len = bytes.len();
-    if len >= 16 {
+    if len > 32 {
         are_same_by::<16>(bytes, key)
     } else if len >= 8 {
         are_same_by::<8>(bytes, key)
-    } else if len >= 4 {
-        are_same_by::<4>(bytes, key)
     } else if len >= 2 {
         are_same_by::<2>(bytes, key)
     } else if len == 1 {
@@ -79,21 +78,19 @@ pub(super) fn are_same(bytes: &[u8], key: &[u8]) -> bool
     }
 }
 
-// The same, N bytes at a time, and then the last N, which overlap those before.
+// The same, four times N bytes, which may overlap. No branch depends on the length.
 #[inline(always)]
 fn are_same_by<const N: usize>(bytes: &[u8], key: &[u8]) -> bool
-    requires vector { (0 < N) × (N ≤ 16) }
+    requires vector { N ≤ 16 }
     requires within { (N ≤ length bytes.now) × (length bytes.now ≤ length key.now) }
+    requires few { length bytes.now ≤ 4 * N }
     ensures { IsTrue result ↔ AreSame bytes.now key.now 0 (length bytes.now) }
 {
-    let mut done = 0;
-    while bytes.len() - done > N {
-        if !are_lanes_same::<N>(bytes, key, done) {
-            return false;
-        }
-        done += N;
-    }
-    are_lanes_same::<N>(bytes, key, bytes.len() - N)
+    let last = bytes.len() - N;
+    are_lanes_same::<N>(bytes, key, 0)
+        & are_lanes_same::<N>(bytes, key, last.min(N))
+        & are_lanes_same::<N>(bytes, key, last.min(2 * N))
+        & are_lanes_same::<N>(bytes, key, last)
 }
 
 // The same of N bytes from an index on.

@@ -7,7 +7,7 @@ ghost use Rattle.simd_json.specs.Splitting.{IsToken, part_of};
 
 use crate::value::pointer::index::read_index;
 use crate::value::pointer::token::{Key, first_token, is_plain};
-use crate::value::tape::{Array, Object, Value};
+use crate::value::tape::{Array, Value};
 
 // A reference token, as a part of a pointer's text, and what it names.
 #[derive(Clone, Copy, Debug)]
@@ -25,9 +25,9 @@ impl Part {
     ghost use Rattle.std.specs.Prelude.{◌≡◌, ◌+◌, ◌<◌, ◌^◌, ℕ, MatchOption, None, Option, length, option_and_then, option_map};
     ghost use Rattle.std.specs.Result.{result_ok};
     ghost use Rattle.simd_json.specs.Followed.{fits_64};
-    ghost use Rattle.simd_json.specs.Pointed.{element_at, member_at, named, unescaped};
+    ghost use Rattle.simd_json.specs.Pointed.{element_at, named, unescaped};
     ghost use Rattle.simd_json.specs.Splitting.{IsKept, IsToken, part_of};
-    ghost use Rattle.simd_json.specs.Viewed.{doc, docs, pairs};
+    ghost use Rattle.simd_json.specs.Viewed.{doc, docs};
 
     // What the empty token names.
     const EMPTY: Part = Part {
@@ -55,7 +55,8 @@ impl Part {
         })
     }
 
-    // The value that it names in another.
+    // The value that it names in another. A plain token is looked up by `get`, of which LLVM makes a loop for each
+    // range of lengths.
     #[inline(always)]
     fn find<'tape, 'input>(
         &self,
@@ -65,26 +66,14 @@ impl Part {
         requires { IsToken text.now self.now }
         ensures { option_map doc result ≡ result_ok (named (part_of text.now self.now) (doc value.entry)) }
     {
-        if let Some(object) = value.as_object() {
-            return self.member(&text[self.start..self.start + self.len], object);
+        if let Some(array) = value.as_array() {
+            return self.element(array);
         }
-        self.element(value.as_array()?)
-    }
-
-    // The value of the first pair whose key the token is.
-    #[inline(always)]
-    fn member<'tape, 'input>(
-        &self,
-        token: &str,
-        object: Object<'tape, 'input>,
-    ) -> Option<Value<'tape, 'input>>
-        requires { IsKept token.now self.now }
-        ensures { option_map doc result ≡ result_ok (member_at (pairs object.entry) (unescaped token.now)) }
-    {
+        let token = &text[self.start..self.start + self.len];
         if self.is_plain {
-            return object.find(token);
+            return value.get(token);
         }
-        self.key.find(token.as_bytes(), object)
+        self.key.find(token.as_bytes(), value.as_object()?)
     }
 
     // The element with the index that the token is.

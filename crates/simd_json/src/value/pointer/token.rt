@@ -1,5 +1,5 @@
 //! A reference token, and the key that it is when its escapes are decoded (RFC 6901, section 3).
-ghost use Rattle.std.specs.Prelude.{◌≡◌, ◌<◌, ◌≤◌, ◌↔◌, ◌∷◌, IsTrue, IfSome, Some, None, drop, length, slice_index, option_map, MatchOption};
+ghost use Rattle.std.specs.Prelude.{◌≡◌, ◌<◌, ◌≤◌, ◌↔◌, ◌∷◌, ◌++◌, IsTrue, IfSome, Some, None, drop, length, slice_index, option_map, MatchOption};
 ghost use Rattle.simd_json.specs.Followed.{IsPlain, IsWritten, tokens_after};
 ghost use Rattle.simd_json.specs.Pointed.{tokens, unescaped};
 ghost use Rattle.simd_json_parts.specs.Bytes.{slash};
@@ -82,7 +82,7 @@ impl Key {
         })
     }
 
-    // The value of the first pair with the key.
+    // The value of the first pair with the key. What is compared with each other key is read once.
     #[inline(always)]
     pub(super) fn find<'tape, 'input>(
         &self,
@@ -92,26 +92,31 @@ impl Key {
         requires { IsKey token.now self.now }
         ensures { option_map doc result ≡ result_ok (member_at (pairs object.entry) (unescaped token.now)) }
     {
+        let len = self.len;
+        let held = &self.bytes[..self.held];
+        let rest = &token[self.rest..];
         for (key, value) in object.iter() {
-            if self.is(token, key.as_bytes()) {
+            if is_key(len, held, rest, key.as_bytes()) {
                 return Some(value);
             }
         }
         None
     }
+}
 
-    // Whether another key is the same. It is compared byte by byte only past what is held.
-    #[inline(always)]
-    fn is(&self, token: &[u8], key: &[u8]) -> bool
-        requires { IsKey token.now self.now }
-        ensures { IsTrue result ↔ (unescaped token.now ≡ Some key.now) }
-    {
-        if key.len() != self.len {
-            return false;
-        }
-        are_same(&self.bytes[..self.held], key)
-            && is_unescaped(&token[self.rest..], &key[self.held..])
+// Whether the key has this length, begins with what is held of it, and goes on with what the rest is, decoded. It is
+// compared byte by byte only past what is held.
+#[inline(always)]
+fn is_key(len: usize, held: &[u8], rest: &[u8], key: &[u8]) -> bool
+    requires few { length held.now ≤ 64 }
+    requires within { length held.now ≤ len }
+    ensures { IsTrue result ↔ ((len ≡ length key.now)
+        × (option_map (λ others. held.now ++ others) (unescaped rest.now) ≡ Some key.now)) }
+{
+    if key.len() != len {
+        return false;
     }
+    are_same(held, key) && is_unescaped(rest, &key[held.len()..])
 }
 
 // Whether the token, decoded, is the key.

@@ -33,14 +33,6 @@ impl<'tape, 'input> Object<'tape, 'input> {
     pub fn get(&self, k: &str) -> Option<Value<'tape, 'input>>
         ensures { option_map doc result ≡ first_with k.now (pairs self.now) }
     {
-        self.find(k)
-    }
-
-    // The same without a call, for who looks up one key after the other.
-    #[inline(always)]
-    pub(crate) fn find(&self, k: &str) -> Option<Value<'tape, 'input>>
-        ensures { option_map doc result ≡ first_with k.now (pairs self.now) }
-    {
         for (key, value) in self.iter() {
             if key == k {
                 return Some(value);

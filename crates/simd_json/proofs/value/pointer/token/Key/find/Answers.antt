@@ -2,7 +2,7 @@ use Rattle.std.proofs.Common.{◌∙◌, ap, sym, refl, Some, true≢false}
 use Rattle.simd_json.specs.Pointed.{unescaped}
 use Rattle.simd_json.specs.Viewed.{doc, pairs}
 use Rattle.simd_json.proofs.Split.{members_cancel}
-use Rattle.simd_json.proofs.Pointed.{found, member-here, member-later, member-none}
+use Rattle.simd_json.proofs.Pointed.{found, key-is, member-here, member-later, member-none}
 use Rattle.simd_json.proofs.value.pointer.token.Key.find.Goals as goal
 
 pub loop-key-init : goal.loop-key-init
@@ -10,15 +10,19 @@ loop-key-init c =
     ap (λ it. found c.args.token.now (pairs it.left)) c.into_iter-key-iterator.ensures.into_iter_gives
     ∙ ap (found c.args.token.now) (members_cancel _ (pairs c.args.object) c.iter-key-items.ensures)
 
-pub returns-then-is : goal.returns-then-is
-returns-then-is c =
-    let name = c.if-is.ensures.0 refl ∙ ap Some c.as_bytes.ensures.value in
-    sym (member-here (unescaped c.args.token.now) c.in-Some.key.now (doc c.in-Some.value) _ (pairs c.next.new.self.left) c.in-Some.ensures.steps name) ∙ c.loop-key.invariant
+pub returns-then-is_key : goal.returns-then-is_key
+returns-then-is_key c =
+    let t = c.args.token.now in
+    let name = (key-is t _ c.args.self.now c.requires).0 (c.if-is_key.ensures.0 refl) ∙ ap Some c.as_bytes.ensures.value in
+    sym (member-here (unescaped t) c.in-Some.key.now (doc c.in-Some.value) _ (pairs c.next.new.self.left) c.in-Some.ensures.steps name)
+    ∙ c.loop-key.invariant
 
 pub loop-key-preserved : goal.loop-key-preserved
 loop-key-preserved c =
-    sym (member-later (unescaped c.args.token.now) c.in-Some.key.now (doc c.in-Some.value) _ (pairs c.next.new.self.left) c.in-Some.ensures.steps
-    (λ is. true≢false (sym (c.if-is.ensures.1 (is ∙ ap Some (sym c.as_bytes.ensures.value))))))
+    let t = c.args.token.now in
+    let key = key-is t _ c.args.self.now c.requires in
+    sym (member-later (unescaped t) c.in-Some.key.now (doc c.in-Some.value) _ (pairs c.next.new.self.left) c.in-Some.ensures.steps
+    (λ is. true≢false (sym (c.if-is_key.ensures.1 (key.1 (is ∙ ap Some (sym c.as_bytes.ensures.value)))))))
     ∙ c.loop-key.invariant
 
 pub returns : goal.returns
