@@ -1,5 +1,7 @@
 -- Lines that end in a block.
-use Rattle.std.proofs.Common.{◌≡◌, ◌∙◌, refl, ap, sym, arith, ℕ, zero, suc, ◌+◌, ◌-◌, ◌<◌, ◌≤◌, List, [], ◌∷◌, ◌++◌, append_assoc, append-nil, take, drop, length, Bool, true, false, not, ◌&&◌, ◌==◌, cond, min, nat_lt, Some, None, Result, Ok, Err}
+use Rattle.std.proofs.Common.{◌≡◌, ◌∙◌, refl, ap, sym, arith, ℕ, zero, suc, ◌+◌, ◌-◌, ◌<◌, ◌≤◌, List, [], ◌∷◌, ◌++◌, append_assoc}
+use Rattle.std.proofs.Common.{append-nil, take, drop, length, Bool, true, false, not, ◌&&◌, ◌==◌, cond, min, nat_lt, Some, None, Result, Ok}
+use Rattle.std.proofs.Common.{Err}
 use Rattle.std.specs.Prelude.{slice_index, is_ok, OnOk}
 use Rattle.std.proofs.Math.Seq.{take-append-add, take-length}
 use Rattle.std.proofs.lemmas.Bool.{ltb-false, ltb-true}
@@ -12,7 +14,8 @@ use Rattle.log_report.specs.Report.{Report, with_line, with_lines}
 use Rattle.log_report.specs.Runs.{State, after}
 use Rattle.log_report.proofs.Shown.{long-line}
 
-pub after-append : (key : List ℕ) (longest : ℕ) (s : State) (a b : List ℕ) → after key longest s (a ++ b) ≡ after key longest (after key longest s a) b
+pub after-append : (key : List ℕ) (longest : ℕ) (s : State) (a b : List ℕ)
+    → after key longest s (a ++ b) ≡ after key longest (after key longest s a) b
 after-append key longest s [] b = refl
 after-append key longest s (x ∷ a) b =
     after-append key longest (cond (x == line_feed) (with_line key longest s.0 s.1, []) (s.0, s.1 ++ x ∷ [])) a b
@@ -67,9 +70,12 @@ none-more (y ∷ p) x none is =
 abbrev ended : List ℕ → ℕ → State → Report
 ended key longest s = with_line key longest s.0 s.1
 
-ends-step : (key : List ℕ) (longest : ℕ) (r : Report) (p : List ℕ) (x : ℕ) (b : List ℕ) (feed : Bool) → has_none p ≡ true → (x == line_feed) ≡ feed
-    → ((r : Report) (p : List ℕ) → has_none p ≡ true → with_lines key longest r (pieces (p ++ b)) ≡ ended key longest (after key longest (r, p) b))
-    → with_lines key longest r (pieces (p ++ x ∷ b)) ≡ ended key longest (after key longest (cond feed (with_line key longest r p, []) (r, p ++ x ∷ [])) b)
+ends-step : (key : List ℕ) (longest : ℕ) (r : Report) (p : List ℕ) (x : ℕ) (b : List ℕ) (feed : Bool) → has_none p ≡ true
+    → (x == line_feed) ≡ feed
+    → ((r : Report) (p : List ℕ) → has_none p ≡ true → with_lines key longest r (pieces (p ++ b)) ≡ ended key longest
+    (after key longest (r, p) b))
+    → with_lines key longest r (pieces (p ++ x ∷ b)) ≡ ended key longest
+    (after key longest (cond feed (with_line key longest r p, []) (r, p ++ x ∷ [])) b)
 ends-step key longest r p x b true none is more =
     ap (λ y. with_lines key longest r (pieces (p ++ y ∷ b))) (is-equal x is)
     ∙ ap (with_lines key longest r) (pieces-cut p b none) ∙ more (with_line key longest r p) [] refl
@@ -96,7 +102,8 @@ least-step n k b false some is =
     let few : length b ≤ k = ltb-false k (length b) some in
     take-all n b (omega (arith, few, is)) ∙ sym (take-all k b few)
 
-kept-long : (longest : ℕ) (line begun bytes : List ℕ) → line ≡ take (longest + 1) begun → longest < length line → line ≡ take (longest + 1) (begun ++ bytes)
+kept-long : (longest : ℕ) (line begun bytes : List ℕ) → line ≡ take (longest + 1) begun → longest < length line
+    → line ≡ take (longest + 1) (begun ++ bytes)
 kept-long longest line begun bytes is long =
     is ∙ sym (take-append-le (longest + 1) begun bytes (omega (arith, long, ap length is, length-take (longest + 1) begun)))
 
@@ -106,7 +113,8 @@ kept-short longest n line begun bytes is short same =
     let few : length begun ≤ longest + 1 = omega (arith, short, ap length is, length-take (longest + 1) begun) in
     let whole : line ≡ begun = is ∙ take-all (longest + 1) begun few in
     let room : length line + (longest - length line + 1) ≡ longest + 1 = omega (arith, short) in
-    ap (λ u. line ++ u) (least-step n _ bytes (nat_lt (longest - length line + 1) (length bytes)) refl same) ∙ sym (take-append-add line bytes (longest - length line + 1))
+    ap (λ u. line ++ u) (least-step n _ bytes (nat_lt (longest - length line + 1) (length bytes)) refl same)
+    ∙ sym (take-append-add line bytes (longest - length line + 1))
     ∙ ap (λ k. take k (line ++ bytes)) room ∙ ap (λ u. take (longest + 1) (u ++ bytes)) whole
 
 kept-step : (longest room n : ℕ) (line begun bytes : List ℕ) (t : Bool) → nat_lt longest (length line) ≡ t → line ≡ take (longest + 1) begun
@@ -128,11 +136,13 @@ cut-step : (key : List ℕ) (longest : ℕ) (r : Report) (line : List ℕ) (t : 
     → with_line key longest r (take (longest + 1) line) ≡ with_line key longest r line
 cut-step key longest r line true is =
     let long = ltb-true longest (length line) is in
-    sym (long-line key longest r (take (longest + 1) line) (omega (arith, long, length-take (longest + 1) line))) ∙ long-line key longest r line long
+    sym (long-line key longest r (take (longest + 1) line) (omega (arith, long, length-take (longest + 1) line)))
+    ∙ long-line key longest r line long
 cut-step key longest r line false is =
     ap (with_line key longest r) (take-all (longest + 1) line (omega (arith, ltb-false longest (length line) is)))
 
-pub cut-line : (key : List ℕ) (longest : ℕ) (r : Report) (line : List ℕ) → with_line key longest r (take (longest + 1) line) ≡ with_line key longest r line
+pub cut-line : (key : List ℕ) (longest : ℕ) (r : Report) (line : List ℕ)
+    → with_line key longest r (take (longest + 1) line) ≡ with_line key longest r line
 cut-line key longest r line = cut-step key longest r line (nat_lt longest (length line)) refl
 
 pub none-kept : (n : ℕ) → [] ≡ take {A = ℕ} n []
