@@ -1,8 +1,8 @@
 -- Lines that end in a block.
 use Rattle.std.proofs.Common.{◌≡◌, ◌∙◌, refl, ap, sym, arith, ℕ, zero, suc, ◌+◌, ◌-◌, ◌<◌, ◌≤◌, List, [], ◌∷◌, ◌++◌, append_assoc}
-use Rattle.std.proofs.Common.{append-nil, take, drop, length, Bool, true, false, not, ◌&&◌, ◌==◌, cond, min, nat_lt, Some, None, Result, Ok}
-use Rattle.std.proofs.Common.{Err}
-use Rattle.std.specs.Prelude.{slice_index, is_ok, OnOk}
+use Rattle.std.proofs.Common.{append-nil, take, drop, length, length-drop, Bool, true, false, not, ◌&&◌, ◌==◌, cond, min, nat_lt}
+use Rattle.std.proofs.Common.{Option, Some, None}
+use Rattle.std.specs.Prelude.{slice_index, unwrap_or}
 use Rattle.std.proofs.Math.Seq.{take-append-add, take-length}
 use Rattle.std.proofs.lemmas.Bool.{ltb-false, ltb-true}
 use Rattle.std.proofs.lemmas.List.{drop-drop, length-take, take-append-le}
@@ -27,7 +27,7 @@ none-step key longest r p x b true rest none more = cc
 none-step key longest r p x b false rest none more = more none ∙ ap (λ u. (r, u)) (append_assoc p (x ∷ []) b)
 
 -- no line ends in these bytes
-pub after-none : (key : List ℕ) (longest : ℕ) (r : Report) (p b : List ℕ) → has_none b ≡ true → after key longest (r, p) b ≡ (r, p ++ b)
+after-none : (key : List ℕ) (longest : ℕ) (r : Report) (p b : List ℕ) → has_none b ≡ true → after key longest (r, p) b ≡ (r, p ++ b)
 after-none key longest r p [] _ = ap (λ u. (r, u)) (sym (append-nil p))
 after-none key longest r p (x ∷ b) none =
     none-step key longest r p x b (x == line_feed) (has_none b) none (λ rest. after-none key longest r (p ++ x ∷ []) b rest)
@@ -38,7 +38,7 @@ split-at (x ∷ hay) zero l = refl
 split-at (x ∷ hay) (suc k) l = ap (λ ys. x ∷ ys) (split-at hay k (omega (arith, l)))
 
 -- the first line ends
-pub after-line : (key : List ℕ) (longest : ℕ) (r : Report) (p hay : List ℕ) (k : ℕ) → IsFirstByte (is_byte line_feed) hay (Some k)
+after-line : (key : List ℕ) (longest : ℕ) (r : Report) (p hay : List ℕ) (k : ℕ) → IsFirstByte (is_byte line_feed) hay (Some k)
     → after key longest (r, p) hay ≡ after key longest (with_line key longest r (p ++ take k hay), []) (drop 1 (drop k hay))
 after-line key longest r p hay k found =
     let front = take k hay in
@@ -51,10 +51,33 @@ after-line key longest r p hay k found =
     ∙ ap (λ s. after key longest s (line_feed ∷ drop (suc k) hay)) (after-none key longest r p front (none-before hay k found.0.before))
     ∙ ap (after key longest (with_line key longest r (p ++ front), [])) place
 
-pub after-last : (key : List ℕ) (longest : ℕ) (r : Report) (p hay : List ℕ) → IsFirstByte (is_byte line_feed) hay None
+after-last : (key : List ℕ) (longest : ℕ) (r : Report) (p hay : List ℕ) → IsFirstByte (is_byte line_feed) hay None
     → after key longest (r, p) hay ≡ (r, p ++ hay)
 after-last key longest r p hay none =
     after-none key longest r p hay (ap has_none (sym (take-length hay)) ∙ none-before hay (length hay) none)
+
+-- a piece of the bytes: up to the first line feed, and what comes after it
+pub after-piece : (key : List ℕ) (longest : ℕ) (r : Report) (p hay front back next : List ℕ) (found : Option ℕ) (k x : ℕ)
+    → IsFirstByte (is_byte line_feed) hay found → k ≡ unwrap_or found (length hay) → front ≡ take k hay → back ≡ drop k hay
+    → back ≡ x ∷ next → after key longest (r, p) hay ≡ after key longest (with_line key longest r (p ++ front), []) next
+after-piece key longest r p hay front back next (Some feed) k x is place fronts backs begins =
+    after-line key longest r p hay feed is
+    ∙ ap (λ u. after key longest (with_line key longest r (p ++ u), []) (drop 1 (drop feed hay)))
+    (sym (fronts ∙ ap (λ n. take n hay) place))
+    ∙ ap (after key longest (with_line key longest r (p ++ front), []))
+    (ap (drop 1) (ap (λ n. drop n hay) (sym place) ∙ sym backs ∙ begins))
+after-piece key longest r p hay front back next None k x is place fronts backs begins =
+    absurd (omega (arith, ap length begins, ap length backs, length-drop k hay, place))
+
+-- all of them, where there is no line feed
+pub after-rest : (key : List ℕ) (longest : ℕ) (r : Report) (p hay front back : List ℕ) (found : Option ℕ) (k : ℕ)
+    → IsFirstByte (is_byte line_feed) hay found → k ≡ unwrap_or found (length hay) → front ≡ take k hay → back ≡ drop k hay
+    → length back ≡ 0 → after key longest (r, p) hay ≡ (r, p ++ front)
+after-rest key longest r p hay front back (Some feed) k is place fronts backs ends =
+    absurd (omega (arith, ends, ap length backs, length-drop k hay, place, is.0.high))
+after-rest key longest r p hay front back None k is place fronts backs ends =
+    after-last key longest r p hay is
+    ∙ ap (λ u. (r, p ++ u)) (sym (fronts ∙ ap (λ n. take n hay) place ∙ take-length hay))
 
 -- ---- the report of all lines
 
@@ -90,7 +113,7 @@ ends key longest (x ∷ b) r p none = ends-step key longest r p x b (x == line_f
 
 -- ---- the line that is kept
 
-pub take-all : (n : ℕ) (b : List ℕ) → length b ≤ n → take n b ≡ b
+take-all : (n : ℕ) (b : List ℕ) → length b ≤ n → take n b ≡ b
 take-all zero [] _ = refl
 take-all (suc n) [] _ = refl
 take-all zero (x ∷ b) le = absurd (omega (arith, le))
@@ -147,7 +170,3 @@ cut-line key longest r line = cut-step key longest r line (nat_lt longest (lengt
 
 pub none-kept : (n : ℕ) → [] ≡ take {A = ℕ} n []
 none-kept n = sym (take-all n [] (omega arith))
-
-pub on_ok-if : {T E X : Type 0} (r : Result T E) (x y z : X) → x ≡ cond (is_ok r) y z → OnOk r (x ≡ y)
-on_ok-if (Ok v) x y z is = is
-on_ok-if (Err e) x y z is = tt

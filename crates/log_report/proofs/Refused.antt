@@ -7,7 +7,8 @@ use Rattle.simd_json_parts.specs.declared.error.Error.{Error}
 use Rattle.log_report.specs.Report.{refusal_line, refusal_text}
 
 nested : (longest number : ℕ) (error : Option Error)
-    → refusal_line longest number error ≡ codes "line " ++ (decimal number ++ (codes ": " ++ (refusal_text longest error ++ line_feed ∷ [])))
+    → refusal_line longest number error
+    ≡ codes "line " ++ (decimal number ++ (codes ": " ++ (refusal_text longest error ++ line_feed ∷ [])))
 nested longest number error =
     append_assoc (codes "line " ++ decimal number ++ codes ": ") (refusal_text longest error) (line_feed ∷ [])
     ∙ append_assoc (codes "line " ++ decimal number) (codes ": ") (refusal_text longest error ++ line_feed ∷ [])
@@ -27,9 +28,12 @@ long-text longest =
     ∙ append_assoc (codes "longer than ") (decimal longest) (codes " bytes" ++ line_feed ∷ [])
 
 pub for-length : (longest number : ℕ) (error : Option Error) (before bytes : List ℕ) → before ≡ [] → error ≡ None
-    → bytes ≡ before ++ (codes "line " ++ (decimal number ++ (codes ": longer than " ++ (decimal longest ++ (codes " bytes" ++ line_feed ∷ [])))))
+    → bytes ≡ before ++ (codes "line " ++ (decimal number ++ (codes ": longer than "
+    ++ (decimal longest ++ (codes " bytes" ++ line_feed ∷ [])))))
     → bytes ≡ refusal_line longest number error
 for-length longest number error before bytes none is written =
-    written ∙ ap (λ b. b ++ (codes "line " ++ (decimal number ++ (codes ": longer than " ++ (decimal longest ++ (codes " bytes" ++ line_feed ∷ [])))))) none
+    written
+    ∙ ap (λ b. b ++ (codes "line " ++ (decimal number ++ (codes ": longer than "
+    ++ (decimal longest ++ (codes " bytes" ++ line_feed ∷ [])))))) none
     ∙ ap (λ t. codes "line " ++ (decimal number ++ (codes ": " ++ t))) (sym (long-text longest))
     ∙ sym (nested longest number None) ∙ ap (refusal_line longest number) (sym is)

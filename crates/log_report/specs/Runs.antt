@@ -119,7 +119,3 @@ After naming old new refusals refuses line kept block =
     (held : Option (List ℕ)) (key : List ℕ) (longest : ℕ) (s : State)
     → IsAt old line held (naming refusals.inner) key longest s → IsAt new kept held (naming refuses.inner) key longest
     (after key longest s block)
-
--- a line that has begun has become that with these bytes
-abbrev pub IsKept : ℕ → List ℕ → List ℕ → List ℕ → Type 0
-IsKept longest line kept bytes = (begun : List ℕ) → line ≡ take (longest + 1) begun → kept ≡ take (longest + 1) (begun ++ bytes)

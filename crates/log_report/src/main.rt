@@ -5,7 +5,7 @@
 ghost use Rattle.std.specs.Prelude.{◌≡◌, false, IfOk, OnOk, map, option_map, string_bytes};
 ghost use Rattle.log_report.specs.Failures.{settings_of, line_of, status_of};
 ghost use Rattle.log_report.specs.declared.Failure.TheVariants.{Resources};
-ghost use Rattle.log_report.specs.Runs.{Adds, AddsValue, After, Ends, IsKept, IsRefused, IsStart, Prints, Reports, TakesLine};
+ghost use Rattle.log_report.specs.Runs.{Adds, AddsValue, After, Ends, IsRefused, IsStart, Prints, Reports, TakesLine};
 
 use arrayvec::ArrayVec;
 use bumpalo::Bump;
@@ -161,20 +161,23 @@ impl<'k, A: Allocator + Copy> Lines<'k, A> {
         Ok(lines)
     }
 
-    // Counts the lines that end in the block, and keeps the one that begins.
+    // Counts the lines that end in the block, and keeps the one that begins, up to one byte more than it may have.
     fn take<E: Write>(&mut self, block: &[u8], line: &mut Vec<u8, A>, err: &mut Port<E>) -> Ended
         ensures { Ends err.old err.new (After E.contents self.old self.new err.old err.new
             line.old.items line.new.items block.now) result }
     {
         let mut rest = block;
-        while let Some(feed) = memchr(b'\n', rest) {
-            let (end, more) = rest.split_at(feed);
-            keep(line, self.longest, end)?;
+        loop {
+            let (end, more) = rest.split_at(memchr(b'\n', rest).unwrap_or(rest.len()));
+            let room = self.longest.saturating_add(1).saturating_sub(line.len());
+            line.extend_from_slice(&end[..end.len().min(room)])?;
+            let Some((_, next)) = more.split_first() else {
+                return Ok(());
+            };
             self.count(line.as_mut_slice(), err)?;
             line.clear();
-            rest = &more[1..];
+            rest = next;
         }
-        Ok(keep(line, self.longest, rest)?)
     }
 
     // Counts a line. Of one that is too long, its first bytes are enough, one more than it may have.
@@ -259,14 +262,6 @@ impl<'k, A: Allocator + Copy> Lines<'k, A> {
         }
         text.finish().map_err(|_| Failure::Write)
     }
-}
-
-// Adds the bytes to the line, up to one more than it may have, so that a line that is too long shows.
-fn keep<A: Allocator>(line: &mut Vec<u8, A>, longest: usize, bytes: &[u8]) -> Result<(), AllocError>
-    ensures { OnOk result (IsKept longest line.old.items line.new.items bytes.now) }
-{
-    let room = longest.saturating_add(1).saturating_sub(line.len());
-    line.extend_from_slice(&bytes[..bytes.len().min(room)])
 }
 
 #[cfg(test)]

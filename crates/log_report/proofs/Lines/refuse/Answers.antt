@@ -38,7 +38,8 @@ returns g c = λ sound.
     (λ _. (c.finish.new.self.0.failed ≡ false) × IsRefused g.E.Write.contents c.args.self.now c.add.new.self c.args.err.now
     c.finish.new.self.0 c.args.error)
     (λ failure. failure ≡ fault_of c.finish.new.self.0.failed) =
-    ended c.finish.result c.map_err-2.result _ _ _ _ _ _ _ (c.finish.ensures start _ (c.put.ensures.given start [] c.new-text.ensures.empty))
+    ended c.finish.result c.map_err-2.result _ _ _ _ _ _ _
+    (c.finish.ensures start _ (c.put.ensures.given start [] c.new-text.ensures.empty))
     c.map_err-2.ensures.cases (λ e d h. search rules) (λ named. record {
       counts = added.counts;
       same = added.same;
