@@ -1,6 +1,8 @@
 -- Lines that end in a block.
-use Rattle.std.proofs.Common.{◌≡◌, ◌∙◌, refl, ap, sym, arith, ℕ, zero, suc, ◌+◌, ◌-◌, ◌<◌, ◌≤◌, List, [], ◌∷◌, ◌++◌, append_assoc, append-nil, take, drop, length, Bool, true, false, not, ◌&&◌, ◌==◌, cond, min, nat_lt, Some, None, Result, Ok, Err}
-use Rattle.std.specs.Prelude.{slice_index, is_ok, OnOk}
+use Rattle.std.proofs.Common.{◌≡◌, ◌∙◌, refl, ap, sym, arith, ℕ, zero, suc, ◌+◌, ◌-◌, ◌<◌, ◌≤◌, List, [], ◌∷◌, ◌++◌, append_assoc}
+use Rattle.std.proofs.Common.{append-nil, take, drop, length, length-drop, Bool, true, false, not, ◌&&◌, ◌==◌, cond, min, nat_lt}
+use Rattle.std.proofs.Common.{Option, Some, None}
+use Rattle.std.specs.Prelude.{slice_index, unwrap_or}
 use Rattle.std.proofs.Math.Seq.{take-append-add, take-length}
 use Rattle.std.proofs.lemmas.Bool.{ltb-false, ltb-true}
 use Rattle.std.proofs.lemmas.List.{drop-drop, length-take, take-append-le}
@@ -12,7 +14,8 @@ use Rattle.log_report.specs.Report.{Report, with_line, with_lines}
 use Rattle.log_report.specs.Runs.{State, after}
 use Rattle.log_report.proofs.Shown.{long-line}
 
-pub after-append : (key : List ℕ) (longest : ℕ) (s : State) (a b : List ℕ) → after key longest s (a ++ b) ≡ after key longest (after key longest s a) b
+pub after-append : (key : List ℕ) (longest : ℕ) (s : State) (a b : List ℕ)
+    → after key longest s (a ++ b) ≡ after key longest (after key longest s a) b
 after-append key longest s [] b = refl
 after-append key longest s (x ∷ a) b =
     after-append key longest (cond (x == line_feed) (with_line key longest s.0 s.1, []) (s.0, s.1 ++ x ∷ [])) a b
@@ -24,7 +27,7 @@ none-step key longest r p x b true rest none more = cc
 none-step key longest r p x b false rest none more = more none ∙ ap (λ u. (r, u)) (append_assoc p (x ∷ []) b)
 
 -- no line ends in these bytes
-pub after-none : (key : List ℕ) (longest : ℕ) (r : Report) (p b : List ℕ) → has_none b ≡ true → after key longest (r, p) b ≡ (r, p ++ b)
+after-none : (key : List ℕ) (longest : ℕ) (r : Report) (p b : List ℕ) → has_none b ≡ true → after key longest (r, p) b ≡ (r, p ++ b)
 after-none key longest r p [] _ = ap (λ u. (r, u)) (sym (append-nil p))
 after-none key longest r p (x ∷ b) none =
     none-step key longest r p x b (x == line_feed) (has_none b) none (λ rest. after-none key longest r (p ++ x ∷ []) b rest)
@@ -35,7 +38,7 @@ split-at (x ∷ hay) zero l = refl
 split-at (x ∷ hay) (suc k) l = ap (λ ys. x ∷ ys) (split-at hay k (omega (arith, l)))
 
 -- the first line ends
-pub after-line : (key : List ℕ) (longest : ℕ) (r : Report) (p hay : List ℕ) (k : ℕ) → IsFirstByte (is_byte line_feed) hay (Some k)
+after-line : (key : List ℕ) (longest : ℕ) (r : Report) (p hay : List ℕ) (k : ℕ) → IsFirstByte (is_byte line_feed) hay (Some k)
     → after key longest (r, p) hay ≡ after key longest (with_line key longest r (p ++ take k hay), []) (drop 1 (drop k hay))
 after-line key longest r p hay k found =
     let front = take k hay in
@@ -48,10 +51,33 @@ after-line key longest r p hay k found =
     ∙ ap (λ s. after key longest s (line_feed ∷ drop (suc k) hay)) (after-none key longest r p front (none-before hay k found.0.before))
     ∙ ap (after key longest (with_line key longest r (p ++ front), [])) place
 
-pub after-last : (key : List ℕ) (longest : ℕ) (r : Report) (p hay : List ℕ) → IsFirstByte (is_byte line_feed) hay None
+after-last : (key : List ℕ) (longest : ℕ) (r : Report) (p hay : List ℕ) → IsFirstByte (is_byte line_feed) hay None
     → after key longest (r, p) hay ≡ (r, p ++ hay)
 after-last key longest r p hay none =
     after-none key longest r p hay (ap has_none (sym (take-length hay)) ∙ none-before hay (length hay) none)
+
+-- a piece of the bytes: up to the first line feed, and what comes after it
+pub after-piece : (key : List ℕ) (longest : ℕ) (r : Report) (p hay front back next : List ℕ) (found : Option ℕ) (k x : ℕ)
+    → IsFirstByte (is_byte line_feed) hay found → k ≡ unwrap_or found (length hay) → front ≡ take k hay → back ≡ drop k hay
+    → back ≡ x ∷ next → after key longest (r, p) hay ≡ after key longest (with_line key longest r (p ++ front), []) next
+after-piece key longest r p hay front back next (Some feed) k x is place fronts backs begins =
+    after-line key longest r p hay feed is
+    ∙ ap (λ u. after key longest (with_line key longest r (p ++ u), []) (drop 1 (drop feed hay)))
+    (sym (fronts ∙ ap (λ n. take n hay) place))
+    ∙ ap (after key longest (with_line key longest r (p ++ front), []))
+    (ap (drop 1) (ap (λ n. drop n hay) (sym place) ∙ sym backs ∙ begins))
+after-piece key longest r p hay front back next None k x is place fronts backs begins =
+    absurd (omega (arith, ap length begins, ap length backs, length-drop k hay, place))
+
+-- all of them, where there is no line feed
+pub after-rest : (key : List ℕ) (longest : ℕ) (r : Report) (p hay front back : List ℕ) (found : Option ℕ) (k : ℕ)
+    → IsFirstByte (is_byte line_feed) hay found → k ≡ unwrap_or found (length hay) → front ≡ take k hay → back ≡ drop k hay
+    → length back ≡ 0 → after key longest (r, p) hay ≡ (r, p ++ front)
+after-rest key longest r p hay front back (Some feed) k is place fronts backs ends =
+    absurd (omega (arith, ends, ap length backs, length-drop k hay, place, is.0.high))
+after-rest key longest r p hay front back None k is place fronts backs ends =
+    after-last key longest r p hay is
+    ∙ ap (λ u. (r, p ++ u)) (sym (fronts ∙ ap (λ n. take n hay) place ∙ take-length hay))
 
 -- ---- the report of all lines
 
@@ -67,9 +93,12 @@ none-more (y ∷ p) x none is =
 abbrev ended : List ℕ → ℕ → State → Report
 ended key longest s = with_line key longest s.0 s.1
 
-ends-step : (key : List ℕ) (longest : ℕ) (r : Report) (p : List ℕ) (x : ℕ) (b : List ℕ) (feed : Bool) → has_none p ≡ true → (x == line_feed) ≡ feed
-    → ((r : Report) (p : List ℕ) → has_none p ≡ true → with_lines key longest r (pieces (p ++ b)) ≡ ended key longest (after key longest (r, p) b))
-    → with_lines key longest r (pieces (p ++ x ∷ b)) ≡ ended key longest (after key longest (cond feed (with_line key longest r p, []) (r, p ++ x ∷ [])) b)
+ends-step : (key : List ℕ) (longest : ℕ) (r : Report) (p : List ℕ) (x : ℕ) (b : List ℕ) (feed : Bool) → has_none p ≡ true
+    → (x == line_feed) ≡ feed
+    → ((r : Report) (p : List ℕ) → has_none p ≡ true → with_lines key longest r (pieces (p ++ b)) ≡ ended key longest
+    (after key longest (r, p) b))
+    → with_lines key longest r (pieces (p ++ x ∷ b)) ≡ ended key longest
+    (after key longest (cond feed (with_line key longest r p, []) (r, p ++ x ∷ [])) b)
 ends-step key longest r p x b true none is more =
     ap (λ y. with_lines key longest r (pieces (p ++ y ∷ b))) (is-equal x is)
     ∙ ap (with_lines key longest r) (pieces-cut p b none) ∙ more (with_line key longest r p) [] refl
@@ -84,7 +113,7 @@ ends key longest (x ∷ b) r p none = ends-step key longest r p x b (x == line_f
 
 -- ---- the line that is kept
 
-pub take-all : (n : ℕ) (b : List ℕ) → length b ≤ n → take n b ≡ b
+take-all : (n : ℕ) (b : List ℕ) → length b ≤ n → take n b ≡ b
 take-all zero [] _ = refl
 take-all (suc n) [] _ = refl
 take-all zero (x ∷ b) le = absurd (omega (arith, le))
@@ -96,7 +125,8 @@ least-step n k b false some is =
     let few : length b ≤ k = ltb-false k (length b) some in
     take-all n b (omega (arith, few, is)) ∙ sym (take-all k b few)
 
-kept-long : (longest : ℕ) (line begun bytes : List ℕ) → line ≡ take (longest + 1) begun → longest < length line → line ≡ take (longest + 1) (begun ++ bytes)
+kept-long : (longest : ℕ) (line begun bytes : List ℕ) → line ≡ take (longest + 1) begun → longest < length line
+    → line ≡ take (longest + 1) (begun ++ bytes)
 kept-long longest line begun bytes is long =
     is ∙ sym (take-append-le (longest + 1) begun bytes (omega (arith, long, ap length is, length-take (longest + 1) begun)))
 
@@ -106,7 +136,8 @@ kept-short longest n line begun bytes is short same =
     let few : length begun ≤ longest + 1 = omega (arith, short, ap length is, length-take (longest + 1) begun) in
     let whole : line ≡ begun = is ∙ take-all (longest + 1) begun few in
     let room : length line + (longest - length line + 1) ≡ longest + 1 = omega (arith, short) in
-    ap (λ u. line ++ u) (least-step n _ bytes (nat_lt (longest - length line + 1) (length bytes)) refl same) ∙ sym (take-append-add line bytes (longest - length line + 1))
+    ap (λ u. line ++ u) (least-step n _ bytes (nat_lt (longest - length line + 1) (length bytes)) refl same)
+    ∙ sym (take-append-add line bytes (longest - length line + 1))
     ∙ ap (λ k. take k (line ++ bytes)) room ∙ ap (λ u. take (longest + 1) (u ++ bytes)) whole
 
 kept-step : (longest room n : ℕ) (line begun bytes : List ℕ) (t : Bool) → nat_lt longest (length line) ≡ t → line ≡ take (longest + 1) begun
@@ -128,16 +159,14 @@ cut-step : (key : List ℕ) (longest : ℕ) (r : Report) (line : List ℕ) (t : 
     → with_line key longest r (take (longest + 1) line) ≡ with_line key longest r line
 cut-step key longest r line true is =
     let long = ltb-true longest (length line) is in
-    sym (long-line key longest r (take (longest + 1) line) (omega (arith, long, length-take (longest + 1) line))) ∙ long-line key longest r line long
+    sym (long-line key longest r (take (longest + 1) line) (omega (arith, long, length-take (longest + 1) line)))
+    ∙ long-line key longest r line long
 cut-step key longest r line false is =
     ap (with_line key longest r) (take-all (longest + 1) line (omega (arith, ltb-false longest (length line) is)))
 
-pub cut-line : (key : List ℕ) (longest : ℕ) (r : Report) (line : List ℕ) → with_line key longest r (take (longest + 1) line) ≡ with_line key longest r line
+pub cut-line : (key : List ℕ) (longest : ℕ) (r : Report) (line : List ℕ)
+    → with_line key longest r (take (longest + 1) line) ≡ with_line key longest r line
 cut-line key longest r line = cut-step key longest r line (nat_lt longest (length line)) refl
 
 pub none-kept : (n : ℕ) → [] ≡ take {A = ℕ} n []
 none-kept n = sym (take-all n [] (omega arith))
-
-pub on_ok-if : {T E X : Type 0} (r : Result T E) (x y z : X) → x ≡ cond (is_ok r) y z → OnOk r (x ≡ y)
-on_ok-if (Ok v) x y z is = is
-on_ok-if (Err e) x y z is = tt

@@ -1,5 +1,6 @@
 -- The place of a text in a table, and more lines there.
-use Rattle.std.proofs.Common.{◌≡◌, ◌∙◌, refl, ap, sym, subst, arith, zero-add, ℕ, suc, ◌+◌, ◌<◌, ◌≤◌, List, [], ◌∷◌, ◌++◌, length, map, Bool, true, false, ◌||◌, cond, nat_lt, Option, Some, None, Vec}
+use Rattle.std.proofs.Common.{◌≡◌, ◌∙◌, refl, ap, sym, subst, arith, zero-add, ℕ, suc, ◌+◌, ◌<◌, ◌≤◌, List, [], ◌∷◌, ◌++◌, length, map}
+use Rattle.std.proofs.Common.{Bool, true, false, ◌||◌, cond, nat_lt, Option, Some, None, Vec}
 use Rattle.std.specs.Prelude.{bytes_eq, slice_get, MatchOption}
 use Rattle.std.specs.List.{position, position_from}
 use Rattle.std.specs.Map.{keys_of, values_of}
@@ -47,7 +48,8 @@ first-at n t e es is = record {
   more = sym (at-first n t e es true is);
 }
 
-later-at : {A : Type 0} (n : ℕ) (t : List ℕ) (e : Entry A) (es : List (Entry A)) (j : ℕ) → bytes_eq t e.0.items ≡ false → IsAt n t es j → IsAt n t (e ∷ es) (suc j)
+later-at : {A : Type 0} (n : ℕ) (t : List ℕ) (e : Entry A) (es : List (Entry A)) (j : ℕ) → bytes_eq t e.0.items ≡ false → IsAt n t es j
+    → IsAt n t (e ∷ es) (suc j)
 later-at n t e es j is at = record {
   has = ap (λ b. b || has_text t (counts es)) is ∙ at.has;
   count = at.count;
@@ -55,14 +57,16 @@ later-at n t e es j is at = record {
   more = ap (λ cs. shown e ∷ cs) at.more ∙ sym (at-first n t e es false is);
 }
 
-later : {A : Type 0} (n : ℕ) (t : List ℕ) (e : Entry A) (es : List (Entry A)) (i : ℕ) (r : Option ℕ) → bytes_eq t e.0.items ≡ false → IsPlace n t es (i + 1) r → IsPlace n t (e ∷ es) i r
+later : {A : Type 0} (n : ℕ) (t : List ℕ) (e : Entry A) (es : List (Entry A)) (i : ℕ) (r : Option ℕ) → bytes_eq t e.0.items ≡ false
+    → IsPlace n t es (i + 1) r → IsPlace n t (e ∷ es) i r
 later n t e es i None is absent = record {
   lacks = ap (λ b. b || has_text t (counts es)) is ∙ absent.lacks;
   same = at-first n t e es false is ∙ ap (λ cs. shown e ∷ cs) absent.same;
 }
 later n t e es i (Some k) is (j, at_k, at) = (suc j, shift i j k at_k, later-at n t e es j is at)
 
-place-step : {A : Type 0} (n : ℕ) (t : List ℕ) (e : Entry A) (es : List (Entry A)) (i : ℕ) (r : Option ℕ) (b : Bool) → bytes_eq t e.0.items ≡ b → IsPlace n t es (i + 1) r
+place-step : {A : Type 0} (n : ℕ) (t : List ℕ) (e : Entry A) (es : List (Entry A)) (i : ℕ) (r : Option ℕ) (b : Bool)
+    → bytes_eq t e.0.items ≡ b → IsPlace n t es (i + 1) r
     → IsPlace n t (e ∷ es) i (cond b (Some i) r)
 place-step n t e es i r true is _ = (0, omega arith, first-at n t e es is)
 place-step n t e es i r false is rest = later n t e es i r is rest
@@ -71,7 +75,8 @@ place-of : {A : Type 0} (n : ℕ) (t : List ℕ) (es : List (Entry A)) (i : ℕ)
 place-of n t [] i = record { lacks = refl; same = refl }
 place-of n t (e ∷ es) i = place-step n t e es i _ (bytes_eq t e.0.items) refl (place-of n t es (i + 1))
 
-at-zero : {A : Type 0} (n : ℕ) (t : List ℕ) (es : List (Entry A)) (r : Option ℕ) → r ≡ position (is_text t) (keys_of es) → IsPlace n t es 0 r
+at-zero : {A : Type 0} (n : ℕ) (t : List ℕ) (es : List (Entry A)) (r : Option ℕ) → r ≡ position (is_text t) (keys_of es)
+    → IsPlace n t es 0 r
 at-zero n t es r is = subst (IsPlace n t es 0) (sym (is ∙ position_from-zero (is_text t) (keys_of es))) (place-of n t es 0)
 
 pub found-at : {A : Type 0} (n : ℕ) (t : List ℕ) (es : List (Entry A)) (k : ℕ) → Some k ≡ position (is_text t) (keys_of es) → IsAt n t es k
@@ -86,7 +91,8 @@ some-is : {a b : ℕ} → Some a ≡ Some b → a ≡ b
 some-is is = cc
 
 -- the count that is there is this one
-pub more-at : {A : Type 0} (n : ℕ) (t : List ℕ) (es : List (Entry A)) (k count new : ℕ) → IsAt n t es k → slice_get (values_of es) k ≡ Some count
+pub more-at : {A : Type 0} (n : ℕ) (t : List ℕ) (es : List (Entry A)) (k count new : ℕ) → IsAt n t es k
+    → slice_get (values_of es) k ≡ Some count
     → new ≡ plus n count → counts (set_value_at es k new) ≡ added n t (counts es)
 more-at n t es k count new at is more =
     ap (λ m. counts (set_value_at es k m)) (more ∙ ap (plus n) (some-is (sym is ∙ at.is_there))) ∙ at.more
@@ -113,10 +119,12 @@ if-has n t cs b is = ap (λ x. cond x (added n t cs) (cond (nat_lt (length cs) m
 pub counted-known : (n : ℕ) (t : List ℕ) (cs : List Count) → has_text t cs ≡ true → added n t cs ≡ counted n t cs
 counted-known n t cs is = sym (if-has n t cs true is)
 
-pub counted-new : (n : ℕ) (t : List ℕ) (cs : List Count) → has_text t cs ≡ false → length cs < most_texts → cs ++ (t, n) ∷ [] ≡ counted n t cs
+pub counted-new : (n : ℕ) (t : List ℕ) (cs : List Count) → has_text t cs ≡ false → length cs < most_texts
+    → cs ++ (t, n) ∷ [] ≡ counted n t cs
 counted-new n t cs lacks few =
     sym (if-has n t cs false lacks ∙ ap (λ x. cond x (cs ++ (t, n) ∷ []) (added n others cs)) (lt-ltb (length cs) most_texts few))
 
-pub counted-other : (n : ℕ) (t : List ℕ) (cs : List Count) → has_text t cs ≡ false → most_texts ≤ length cs → added n others cs ≡ counted n t cs
+pub counted-other : (n : ℕ) (t : List ℕ) (cs : List Count) → has_text t cs ≡ false → most_texts ≤ length cs
+    → added n others cs ≡ counted n t cs
 counted-other n t cs lacks many =
     sym (if-has n t cs false lacks ∙ ap (λ x. cond x (cs ++ (t, n) ∷ []) (added n others cs)) (le-ltb (length cs) most_texts many))

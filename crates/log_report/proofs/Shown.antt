@@ -14,7 +14,7 @@ use Rattle.jtape.specs.declared.port.Port.{Port}
 use Rattle.simd_json.specs.Capacities.{Capacities}
 use Rattle.simd_json.specs.Reserved.{IsReserved}
 use Rattle.simd_json.specs.Tapes.{Listed}
-use Rattle.log_report.specs.declared.run.Lines.{Lines}
+use Rattle.log_report.specs.declared.Lines.{Lines}
 
 abbrev rest_of : List ℕ → ℕ → Report → List ℕ → Bool → Report
 rest_of key longest r line blank = cond blank (next r) (with_answer key longest (next r) (answer line default_max_depth))
@@ -22,16 +22,19 @@ rest_of key longest r line blank = cond blank (next r) (with_answer key longest 
 pub long-line : (key : List ℕ) (longest : ℕ) (r : Report) (line : List ℕ) → longest < length line
     → with_refusal longest (next r) None ≡ with_line key longest r line
 long-line key longest r line more =
-    sym (ap (λ t. cond t (with_refusal longest (next r) None) (rest_of key longest r line (is_blank line))) (lt-ltb longest (length line) more))
+    sym (ap (λ t. cond t (with_refusal longest (next r) None) (rest_of key longest r line (is_blank line)))
+    (lt-ltb longest (length line) more))
 
 pub short-line : (key : List ℕ) (longest : ℕ) (r : Report) (line : List ℕ) (blank : Bool) → length line ≤ longest → is_blank line ≡ blank
     → rest_of key longest r line blank ≡ with_line key longest r line
 short-line key longest r line blank fits is =
-    sym (ap (λ t. cond t (with_refusal longest (next r) None) (rest_of key longest r line (is_blank line))) (le-ltb longest (length line) fits)
+    sym (ap (λ t. cond t (with_refusal longest (next r) None) (rest_of key longest r line (is_blank line)))
+    (le-ltb longest (length line) fits)
     ∙ ap (rest_of key longest r line) is)
 
 pub shows-next : {A : Type 0} (old : Lines A) (number : ℕ) (held holds : Option (List ℕ)) (key : List ℕ) (longest : ℕ) (r : Report)
-    → number ≡ one_more old.number → Shows old held holds key longest r → Shows (record old { number = number }) held holds key longest (next r)
+    → number ≡ one_more old.number → Shows old held holds key longest r
+    → Shows (record old { number = number }) held holds key longest (next r)
 shows-next old number held holds key longest r is shown = record {
   by_key = shown.by_key;
   most = shown.most;
@@ -44,7 +47,8 @@ shows-next old number held holds key longest r is shown = record {
 }
 
 -- after a parse
-pub shows-parsed : {A : Type 0} (lines : Lines A) (buffers : Capacities) (tape : Listed) (held holds : Option (List ℕ)) (key : List ℕ) (longest : ℕ) (r : Report)
+pub shows-parsed : {A : Type 0} (lines : Lines A) (buffers : Capacities) (tape : Listed) (held holds : Option (List ℕ)) (key : List ℕ)
+    (longest : ℕ) (r : Report)
     → buffers.limit ≡ lines.buffers.limit → IsReserved lines.longest buffers tape → Shows lines held holds key longest r
     → Shows (record lines { buffers = buffers; tape = tape }) held holds key longest r
 shows-parsed lines buffers tape held holds key longest r limited reserved shown = record {
@@ -58,8 +62,10 @@ shows-parsed lines buffers tape held holds key longest r limited reserved shown 
   refusals = shown.refusals;
 }
 
-pub shows-added : {A : Type 0} (old new : Lines A) (held holds : Option (List ℕ)) (key : List ℕ) (longest : ℕ) (r : Report) (text : List ℕ) (more : ℕ)
-    → Shows old held holds key longest r → Adds old new text more → Shows new held holds key longest (record r { counts = counted more text r.counts })
+pub shows-added : {A : Type 0} (old new : Lines A) (held holds : Option (List ℕ)) (key : List ℕ) (longest : ℕ) (r : Report)
+    (text : List ℕ) (more : ℕ)
+    → Shows old held holds key longest r → Adds old new text more → Shows new held holds key longest
+    (record r { counts = counted more text r.counts })
 shows-added old new held holds key longest r text more shown h = record {
   by_key = ap (λ l. l.key.now) h.same ∙ shown.by_key;
   most = ap (λ l. l.longest) h.same ∙ shown.most;
@@ -73,9 +79,11 @@ shows-added old new held holds key longest r text more shown h = record {
 
 pub added-over : {A : Type 0} (old new : Lines A) (tape : Listed) (text : List ℕ) (more : ℕ) → Adds old new text more
     → Adds (record old { tape = tape }) (record new { tape = tape }) text more
-added-over {A} old new tape text more h = record { counts = h.counts; same = ap {A = Lines A} (λ (l : Lines A). record l { tape = tape }) h.same }
+added-over {A} old new tape text more h = record
+    { counts = h.counts; same = ap {A = Lines A} (λ (l : Lines A). record l { tape = tape }) h.same }
 
-pub shows-refused : {A E : Type 0} (naming : E → Option (List ℕ)) (old new : Lines A) (refusals refuses : Port E) (held : Option (List ℕ)) (key : List ℕ) (longest : ℕ) (r : Report)
+pub shows-refused : {A E : Type 0} (naming : E → Option (List ℕ)) (old new : Lines A) (refusals refuses : Port E) (held : Option (List ℕ))
+    (key : List ℕ) (longest : ℕ) (r : Report)
     (error : Option Error) → Shows old held (naming refusals.inner) key longest r → IsRefused naming old new refusals refuses error
     → Shows new held (naming refuses.inner) key longest (with_refusal longest r error)
 shows-refused naming old new refusals refuses held key longest r error shown h = record {
@@ -92,9 +100,12 @@ shows-refused naming old new refusals refuses held key longest r error shown h =
       (subst (λ n. Appends (naming refusals.inner) (naming refuses.inner) (refusal_line old.longest n error)) shown.number h.named));
 }
 
-pub refused-over : {A E : Type 0} (naming : E → Option (List ℕ)) (old new : Lines A) (tape : Listed) (refusals refuses : Port E) (error : Option Error)
-    → IsRefused naming old new refusals refuses error → IsRefused naming (record old { tape = tape }) (record new { tape = tape }) refusals refuses error
-refused-over {A} naming old new tape refusals refuses error h = record { counts = h.counts; same = ap {A = Lines A} (λ (l : Lines A). record l { tape = tape }) h.same; named = h.named }
+pub refused-over : {A E : Type 0} (naming : E → Option (List ℕ)) (old new : Lines A) (tape : Listed) (refusals refuses : Port E)
+    (error : Option Error)
+    → IsRefused naming old new refusals refuses error → IsRefused naming (record old { tape = tape }) (record new { tape = tape })
+    refusals refuses error
+refused-over {A} naming old new tape refusals refuses error h = record
+    { counts = h.counts; same = ap {A = Lines A} (λ (l : Lines A). record l { tape = tape }) h.same; named = h.named }
 
 pub reserved-as : (len : ℕ) (b c : Capacities) (t u : Listed) → c ≡ b → u ≡ t → IsReserved len b t → IsReserved len c u
 reserved-as len b c t u is same reserved = subst (λ x. IsReserved len x u) (sym is) (subst (IsReserved len b) (sym same) reserved)

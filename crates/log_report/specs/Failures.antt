@@ -1,8 +1,9 @@
 -- What the arguments ask for, and what is said of how a run ended: a line on standard error, and a status.
-use Rattle.std.specs.Prelude.{ℕ, ◌^◌, List, [], ◌∷◌, codes, Option, Some, None, option_and_then, nat_lt, Bool, true, false, Result, Ok, Err, if◌then◌else◌}
+use Rattle.std.specs.Prelude.{ℕ, ◌^◌, List, [], ◌∷◌, codes, Option, Some, None, option_and_then, nat_lt, Bool, true, false, Result, Ok, Err}
+use Rattle.std.specs.Prelude.{if◌then◌else◌}
 use Rattle.jtape.specs.Settings.{number_of}
-use Rattle.log_report.specs.declared.run.Failure.{Failure}
-use Rattle.log_report.specs.declared.run.Failure.TheVariants.{Usage, Read, Write, Resources}
+use Rattle.log_report.specs.declared.Failure.{Failure}
+use Rattle.log_report.specs.declared.Failure.TheVariants.{Usage, Read, Write, Resources}
 
 -- the line, without its line feed
 abbrev pub failure_text : Failure → List ℕ

@@ -1,5 +1,6 @@
 -- What a run leaves.
-use Rattle.std.specs.Prelude.{◌≡◌, ◌↔◌, ◌||◌, ◌+◌, ◌++◌, ℕ, List, [], ◌∷◌, take, map, Bool, true, false, ◌==◌, Option, option_map, OnOk, Result, Ok, Err, MatchResult, Vec, if◌then◌else◌}
+use Rattle.std.specs.Prelude.{◌≡◌, ◌↔◌, ◌||◌, ◌+◌, ◌++◌, ℕ, List, [], ◌∷◌, take, map, Bool, true, false, ◌==◌, Option, option_map, OnOk}
+use Rattle.std.specs.Prelude.{Result, Ok, Err, MatchResult, Vec, if◌then◌else◌}
 use Rattle.std.specs.Io.KnownBytes.{Appends, Consumes, IsAtEnd, Keeps}
 use Rattle.jtape.specs.declared.port.Port.{Port}
 use Rattle.simd_json.specs.MaxDepth.{default_max_depth}
@@ -10,13 +11,14 @@ use Rattle.simd_json.specs.Viewed.{doc}
 use Rattle.simd_json.specs.declared.value.tape.value.Value.{Value}
 use Rattle.log_report.specs.Report.{Report, no_line, refusal_line, report_of, value_label, with_line}
 use Rattle.log_report.specs.Table.{Count, counted, refused, report_text}
-use Rattle.log_report.specs.declared.run.Failure.{Failure}
-use Rattle.log_report.specs.declared.run.Failure.TheVariants.{Read, Write, Resources}
-use Rattle.log_report.specs.declared.run.Lines.{Lines}
+use Rattle.log_report.specs.declared.Failure.{Failure}
+use Rattle.log_report.specs.declared.Failure.TheVariants.{Read, Write, Resources}
+use Rattle.log_report.specs.declared.Lines.{Lines}
 
 -- Of a reader with these bytes left before and after, a writer of the report and one that names refused lines, which held and
 -- hold these: the reader was read to its end, and the report of its lines was written, and its refused lines were named.
-pub record HasRun (key : List ℕ) (longest : ℕ) (before after held holds named names : Option (List ℕ)) (result : Result Bool Failure) : Type 0 where
+pub record HasRun (key : List ℕ) (longest : ℕ) (before after held holds named names : Option (List ℕ))
+    (result : Result Bool Failure) : Type 0 where
   pub input : List ℕ
   pub read : Consumes before after input
   pub end : IsAtEnd after
@@ -26,7 +28,8 @@ pub record HasRun (key : List ℕ) (longest : ℕ) (before after held holds name
 
 -- Of a run over ports, of what is known of their bytes: a report is that of what was read, and reading failed exactly where the
 -- reader did, writing exactly where one of the writers did; where reading failed no byte of the report was written.
-pub record Reports {R W E : Type 0} (remaining : R → Option (List ℕ)) (written : W → Option (List ℕ)) (naming : E → Option (List ℕ)) (key : List ℕ) (longest : ℕ)
+pub record Reports {R W E : Type 0} (remaining : R → Option (List ℕ)) (written : W → Option (List ℕ)) (naming : E → Option (List ℕ))
+    (key : List ℕ) (longest : ℕ)
     (reader reads : Port R) (report reports : Port W) (refusals refuses : Port E) (result : Result Bool Failure) : Type 0 where
   pub run : OnOk result (HasRun key longest (remaining reader.inner) (remaining reads.inner) (written report.inner) (written reports.inner)
       (naming refusals.inner) (naming refuses.inner) result)
@@ -66,7 +69,8 @@ abbrev pub Prints : {A W : Type 0} → (W → Option (List ℕ)) → Lines A →
 Prints written lines out outs = Appends (written out.inner) (written outs.inner) (report_text (counts_of lines))
 
 -- of a writer of what is known: the last line counts as refused, and is named
-pub record IsRefused {A E : Type 0} (naming : E → Option (List ℕ)) (old new : Lines A) (refusals refuses : Port E) (error : Option Error) : Type 0 where
+pub record IsRefused {A E : Type 0} (naming : E → Option (List ℕ)) (old new : Lines A) (refusals refuses : Port E)
+    (error : Option Error) : Type 0 where
   pub counts : counts_of new ≡ counted 1 refused (counts_of old)
   pub same : new ≡ record old { all_taken = false; counts = new.counts }
   pub named : Appends (naming refusals.inner) (naming refuses.inner) (refusal_line old.longest old.number error)
@@ -90,7 +94,8 @@ IsStart key longest lines = (held : Option (List ℕ)) → Shows lines held held
 abbrev pub TakesLine : {A E : Type 0} → (E → Option (List ℕ)) → Lines A → Lines A → Port E → Port E → List ℕ → Type 0
 TakesLine naming old new refusals refuses line =
     (held : Option (List ℕ)) (key : List ℕ) (longest : ℕ) (r : Report)
-    → Shows old held (naming refusals.inner) key longest r → Shows new held (naming refuses.inner) key longest (with_line key longest r line)
+    → Shows old held (naming refusals.inner) key longest r → Shows new held (naming refuses.inner) key longest
+    (with_line key longest r line)
 
 -- a report, and the line that has begun
 abbrev pub State : Type 0
@@ -103,7 +108,8 @@ after key longest s (x ∷ bytes) =
     after key longest (if x == line_feed then (with_line key longest s.0 s.1, []) else (s.0, s.1 ++ x ∷ [])) bytes
 
 -- the counts are those of the report, and the line is kept, up to one byte more than it may have
-pub record IsAt {A : Type 0} (lines : Lines A) (kept : List ℕ) (held holds : Option (List ℕ)) (key : List ℕ) (longest : ℕ) (s : State) : Type 0 where
+pub record IsAt {A : Type 0} (lines : Lines A) (kept : List ℕ) (held holds : Option (List ℕ)) (key : List ℕ) (longest : ℕ)
+    (s : State) : Type 0 where
   pub shown : Shows lines held holds key longest s.0
   pub line : kept ≡ take (longest + 1) s.1
 
@@ -111,8 +117,5 @@ pub record IsAt {A : Type 0} (lines : Lines A) (kept : List ℕ) (held holds : O
 abbrev pub After : {A E : Type 0} → (E → Option (List ℕ)) → Lines A → Lines A → Port E → Port E → List ℕ → List ℕ → List ℕ → Type 0
 After naming old new refusals refuses line kept block =
     (held : Option (List ℕ)) (key : List ℕ) (longest : ℕ) (s : State)
-    → IsAt old line held (naming refusals.inner) key longest s → IsAt new kept held (naming refuses.inner) key longest (after key longest s block)
-
--- a line that has begun has become that with these bytes
-abbrev pub IsKept : ℕ → List ℕ → List ℕ → List ℕ → Type 0
-IsKept longest line kept bytes = (begun : List ℕ) → line ≡ take (longest + 1) begun → kept ≡ take (longest + 1) (begun ++ bytes)
+    → IsAt old line held (naming refusals.inner) key longest s → IsAt new kept held (naming refuses.inner) key longest
+    (after key longest s block)
