@@ -1,5 +1,6 @@
 -- Bytes that are compared with a key a vector at a time.
-use Rattle.std.proofs.Common.{◌≡◌, ◌≢◌, ◌∙◌, ap, ap₂, sym, refl, ◌<◌, ◌≤◌, ◌+◌, ◌-◌, ◌*◌, ◌%◌, ◌^◌, ◌↔◌, ℕ, zero, suc, Bool, true, false, not, ◌||◌, cond, eqb, List, [], ◌∷◌, length, map, replicate, get_or, arith}
+use Rattle.std.proofs.Common.{◌≡◌, ◌≢◌, ◌∙◌, ap, ap₂, sym, refl, ◌<◌, ◌≤◌, ◌+◌, ◌-◌, ◌*◌, ◌%◌, ◌^◌, ◌↔◌, ℕ, zero, suc, Bool, true}
+use Rattle.std.proofs.Common.{false, not, ◌||◌, cond, eqb, List, [], ◌∷◌, length, map, replicate, get_or, arith}
 use Rattle.std.proofs.lemmas.Bool.{eqb-true, eq-eqb, ne_eqb}
 use Rattle.std.proofs.lemmas.Simd.{length-chunk, length-zip2, get_or-chunk, mask_l-mod}
 use lib.Bits.{bit_or}
@@ -111,11 +112,13 @@ lanes-alike i n p t few in-t in-p =
     let a : length xs ≡ n = length-chunk i n t in-t in
     let b : length ys ≡ n = length-chunk i n p in-p in
     let same : length xs ≡ length ys = omega arith in
-    let mask = ap (λ l. mask_l l % 2 ^ 64) (lanes n xs ys a b) ∙ mask_l-mod (others xs ys) 64 (omega (arith, length-zip2 is_other xs ys same)) in (
+    let mask = ap (λ l. mask_l l % 2 ^ 64) (lanes n xs ys a b)
+    ∙ mask_l-mod (others xs ys) 64 (omega (arith, length-zip2 is_other xs ys same)) in (
       λ none k from to.
           (let j = k - i in
           let number : i + j ≡ k = omega arith in
-          let lane : IsAlike (get_or xs j 0) (get_or ys j 0) = alike-of _ _ (none-of is_other xs ys same (sym mask ∙ none) j (omega arith)) in
+          let lane : IsAlike (get_or xs j 0) (get_or ys j 0) =
+          alike-of _ _ (none-of is_other xs ys same (sym mask ∙ none) j (omega arith)) in
           let in-xs : get_or xs j 0 ≡ get_or t k 0 = get_or-chunk i n t j 0 (omega arith) ∙ ap (λ m. get_or t m 0) number in
           let in-ys : get_or ys j 0 ≡ get_or p k 0 = get_or-chunk i n p j 0 (omega arith) ∙ ap (λ m. get_or p m 0) number in
           (sym in-ys ∙ lane.0 ∙ in-xs, λ e. lane.1 (in-xs ∙ e), λ e. lane.2 (in-xs ∙ e))),
@@ -138,7 +141,8 @@ lanes-same i n p t few in-p in-t =
     let a : length xs ≡ n = length-chunk i n p in-p in
     let b : length ys ≡ n = length-chunk i n t in-t in
     let same : length xs ≡ length ys = omega arith in
-    let mask = ap (λ l. mask_l l % 2 ^ 64) (unlike xs ys) ∙ mask_l-mod (zip2 is_unlike xs ys) 64 (omega (arith, length-zip2 is_unlike xs ys same)) in (
+    let mask = ap (λ l. mask_l l % 2 ^ 64) (unlike xs ys)
+    ∙ mask_l-mod (zip2 is_unlike xs ys) 64 (omega (arith, length-zip2 is_unlike xs ys same)) in (
       λ none k from to.
           (let j = k - i in
           let number : i + j ≡ k = omega arith in

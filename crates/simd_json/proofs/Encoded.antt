@@ -26,10 +26,15 @@ module _ (print : Document → List ℕ) (denotes : (d : Document) → IsSpellab
 
   pub denoted-encoded : (v : Value) (bs : List ℕ) → bs ≡ print (doc v) → DenotesEqual bs (doc v)
   denoted-encoded v bs is =
-      let s = listed-spelled v.nodes.now v.listed v.printable in
-      (normalized (doc v), subst (λ xs. Denotes xs (normalized (doc v))) (sym is) (denotes (doc v) s.0 s.1), equal-normalized (doc v), depth-normalized (doc v))
+      let s = listed-spelled v.nodes.now v.listed v.printable in (
+        normalized (doc v),
+        subst (λ xs. Denotes xs (normalized (doc v))) (sym is) (denotes (doc v) s.0 s.1),
+        equal-normalized (doc v),
+        depth-normalized (doc v),
+      )
 
-  pub parsed-again : (v : Value) (limit capacity : ℕ) (fault : Option Error) (nodes : List Item) (listed : List ℕ) → length (print (doc v)) ≤ max_length → depth (doc v) ≤ limit
+  pub parsed-again : (v : Value) (limit capacity : ℕ) (fault : Option Error) (nodes : List Item) (listed : List ℕ)
+      → length (print (doc v)) ≤ max_length → depth (doc v) ≤ limit
       → IsParse (print (doc v)) limit capacity fault nodes listed → HasMemory fault → IsParsedAgain (doc v) fault nodes
   parsed-again v limit capacity fault nodes listed size nesting parse memory =
       let s = listed-spelled v.nodes.now v.listed v.printable in

@@ -1,10 +1,12 @@
 -- A listing read backwards is its document.
-use Rattle.std.proofs.Common.{◌≡◌, ◌≢◌, ◌∙◌, ap, sym, refl, ℕ, zero, suc, pos, neg_ℤ, Bool, true, List, [], ◌∷◌, ◌++◌, length, get_or, map, drop, append_assoc, arith, inl, inr}
+use Rattle.std.proofs.Common.{◌≡◌, ◌≢◌, ◌∙◌, ap, sym, refl, ℕ, zero, suc, pos, neg_ℤ, Bool, true, List, [], ◌∷◌, ◌++◌, length}
+use Rattle.std.proofs.Common.{get_or, map, drop, append_assoc, arith, inl, inr}
 use Rattle.std.proofs.lemmas.List.{append-nil}
 use Rattle.simd_json_scalars.proofs.Documents.Listing.{IsHeaded-document}
 use Rattle.simd_json_scalars.proofs.Documents.Fronts.{sized}
 use Rattle.simd_json_scalars.proofs.Documents.Integers.{of-integer_node}
-use Rattle.simd_json_parts.specs.Document.{Document, null, boolean, integer, decimal, string, array, object, Elements, no_elements, element, elements, Members, no_members, member, members}
+use Rattle.simd_json_parts.specs.Document.{Document, null, boolean, integer, decimal, string, array, object, Elements, no_elements}
+use Rattle.simd_json_parts.specs.Document.{element, elements, Members, no_members, member, members}
 use Rattle.simd_json_parts.specs.Integers.{integer_node}
 use Rattle.simd_json_parts.specs.Listing.{listing, elements_listing, members_listing}
 use Rattle.simd_json.specs.Tapes.{IsTape}
@@ -14,7 +16,8 @@ use Rattle.simd_json_scalars.specs.Headers.{count_of, len_of}
 use Rattle.simd_json_parts.specs.declared.node.Node.{Node}
 use Rattle.simd_json_parts.specs.declared.node.Node.TheVariants as nodes
 use Rattle.simd_json.specs.Descending.{joined, flat}
-use Rattle.simd_json.specs.Documents.{magnitude_below, static_document, first, front, others, in_pairs, front_pairs, other_pairs, elements_of, document_of, members_of, IsListing, AreElements, AreMembers}
+use Rattle.simd_json.specs.Documents.{magnitude_below, static_document, first, front, others, in_pairs, front_pairs, other_pairs}
+use Rattle.simd_json.specs.Documents.{elements_of, document_of, members_of, IsListing, AreElements, AreMembers}
 
 pub magnitude-below : (n : ℕ) → magnitude_below (neg_ℤ (pos n)) ≡ n
 magnitude-below zero = refl
@@ -76,7 +79,8 @@ mutual
   elements_of-members no_members ns = refl
   elements_of-members (member k d ms) ns =
       ap (element (string k))
-      (ap elements_of (append_assoc (listing d) (members_listing ms) ns) ∙ elements_of-listing d (members_listing ms ++ ns) ∙ ap (element d) (elements_of-members ms ns))
+      (ap elements_of (append_assoc (listing d) (members_listing ms) ns) ∙ elements_of-listing d (members_listing ms ++ ns)
+      ∙ ap (element d) (elements_of-members ms ns))
 
 pub document_of-listing : (d : Document) → document_of (listing d) ≡ d
 document_of-listing d = ap document_of (sym (append-nil (listing d))) ∙ ap first (elements_of-listing d [])
@@ -127,20 +131,25 @@ object-of xs ns len count is headed =
       whole = whole ∙ ap object (sym back);
     }
 
-pub array-at : (xs ns : List Node) (x : Node) (len count : ℕ) → IsListing (map item_of xs) → map item_of xs ≡ item_of x ∷ map item_of (drop 1 xs)
+pub array-at : (xs ns : List Node) (x : Node) (len count : ℕ) → IsListing (map item_of xs)
+    → map item_of xs ≡ item_of x ∷ map item_of (drop 1 xs)
     → x ≡ nodes.Array len count → ns ≡ drop 1 xs → IsArrayOf (map item_of xs) len (map item_of ns)
 array-at xs ns x len count is headed kind beneath =
-    array-of (map item_of xs) (map item_of ns) len count is (headed ∙ ap (λ y. item_of y ∷ map item_of (drop 1 xs)) kind ∙ ap (λ ys. array_item len count ∷ map item_of ys) (sym beneath))
+    array-of (map item_of xs) (map item_of ns) len count is (headed ∙ ap (λ y. item_of y ∷ map item_of (drop 1 xs)) kind
+    ∙ ap (λ ys. array_item len count ∷ map item_of ys) (sym beneath))
 
-pub object-at : (xs ns : List Node) (x : Node) (len count : ℕ) → IsListing (map item_of xs) → map item_of xs ≡ item_of x ∷ map item_of (drop 1 xs)
+pub object-at : (xs ns : List Node) (x : Node) (len count : ℕ) → IsListing (map item_of xs)
+    → map item_of xs ≡ item_of x ∷ map item_of (drop 1 xs)
     → x ≡ nodes.Object len count → ns ≡ drop 1 xs → IsObjectOf (map item_of xs) len (map item_of ns)
 object-at xs ns x len count is headed kind beneath =
-    object-of (map item_of xs) (map item_of ns) len count is (headed ∙ ap (λ y. item_of y ∷ map item_of (drop 1 xs)) kind ∙ ap (λ ys. object_item len count ∷ map item_of ys) (sym beneath))
+    object-of (map item_of xs) (map item_of ns) len count is (headed ∙ ap (λ y. item_of y ∷ map item_of (drop 1 xs)) kind
+    ∙ ap (λ ys. object_item len count ∷ map item_of ys) (sym beneath))
 
 -- ---- a scalar at the front of nodes
 
 -- a node that is no header has none beneath
-scalar-count : (x : Node) → ((len count : ℕ) → x ≡ nodes.Array len count → ⊥) → ((len count : ℕ) → x ≡ nodes.Object len count → ⊥) → count_of (item_of x) ≡ 0
+scalar-count : (x : Node) → ((len count : ℕ) → x ≡ nodes.Array len count → ⊥) → ((len count : ℕ) → x ≡ nodes.Object len count → ⊥)
+    → count_of (item_of x) ≡ 0
 scalar-count (nodes.String s) no_array no_object = refl
 scalar-count (nodes.Decimal s) no_array no_object = refl
 scalar-count (nodes.Static s) no_array no_object = refl
@@ -148,7 +157,8 @@ scalar-count (nodes.Array len count) no_array no_object = absurd (no_array len c
 scalar-count (nodes.Object len count) no_array no_object = absurd (no_object len count refl)
 
 pub sized-scalar : (ns : List Node) (default : Node) (d : Document) (rest : List Item) → map item_of ns ≡ listing d ++ rest
-    → ((len count : ℕ) → get_or ns 0 default ≡ nodes.Array len count → ⊥) → ((len count : ℕ) → get_or ns 0 default ≡ nodes.Object len count → ⊥) → 1 ≡ length (listing d)
+    → ((len count : ℕ) → get_or ns 0 default ≡ nodes.Array len count → ⊥)
+    → ((len count : ℕ) → get_or ns 0 default ≡ nodes.Object len count → ⊥) → 1 ≡ length (listing d)
 sized-scalar ns default d rest is no_array no_object =
     omega (arith, sized ns default (get_or ns 0 default) d rest is refl, scalar-count (get_or ns 0 default) no_array no_object)
 
@@ -166,7 +176,8 @@ tape-listed xs (inr (d, spelled, fit, is)) some = listing-listed xs d is
 pub known : (d e : Document) → listing d ≡ listing e → d ≡ e
 known d e is = sym (document_of-listing d) ∙ ap document_of is ∙ document_of-listing e
 
-pub counted : (d : Document) (header : Item) (beneath : List Item) → listing d ≡ header ∷ beneath → (length beneath ≡ count_of header) × (len_of header ≡ member_count d)
+pub counted : (d : Document) (header : Item) (beneath : List Item) → listing d ≡ header ∷ beneath
+    → (length beneath ≡ count_of header) × (len_of header ≡ member_count d)
 counted d header beneath is =
     let h = IsHeaded-document d in
     let same : h.first ∷ h.rest ≡ header ∷ beneath = sym h.whole ∙ is in

@@ -16,12 +16,15 @@ module _ (ms others : Members) (k : List ℕ) (d : Document) (headed : ms ≡ me
   pub others-are-among : (e : Document) → IsAmong (values others) e → IsAmong (values ms) e
   others-are-among e at = subst (λ x. IsAmong (values x) e) (sym headed) (suc at.0, (omega (arith, at.1.0), at.1.1))
 
-  pub may-compare-others : {F T : Type 0} (g : Shared F (Bor T × (Bor Value × Unit {0})) Bool) (same : F) (wanted : List T) → MayCompare g same wanted ms → MayCompare g same wanted others
+  pub may-compare-others : {F T : Type 0} (g : Shared F (Bor T × (Bor Value × Unit {0})) Bool) (same : F) (wanted : List T)
+      → MayCompare g same wanted ms → MayCompare g same wanted others
   may-compare-others g same wanted may x v in_map in_others = may x v in_map (others-are-among _ in_others)
 
   -- where the first pair says the same, the others decide
-  pub are_in-others : {A : Type 0} (look_up : List ℕ → Option A) (says : A → Document → Bool) (x : A) → look_up k ≡ Some x → says x d ≡ true → are_in look_up says others ≡ are_in look_up says ms
-  are_in-others look_up says x found same = ap (λ b. b && are_in look_up says others) (sym same) ∙ ap (λ o. is_same says d o && are_in look_up says others) (sym found) ∙ ap (are_in look_up says) (sym headed)
+  pub are_in-others : {A : Type 0} (look_up : List ℕ → Option A) (says : A → Document → Bool) (x : A) → look_up k ≡ Some x
+      → says x d ≡ true → are_in look_up says others ≡ are_in look_up says ms
+  are_in-others look_up says x found same = ap (λ b. b && are_in look_up says others) (sym same)
+      ∙ ap (λ o. is_same says d o && are_in look_up says others) (sym found) ∙ ap (are_in look_up says) (sym headed)
 
 -- ---- what tells an object and a map apart
 
@@ -30,9 +33,11 @@ and-false true true = refl
 and-false true false = refl
 and-false false b = refl
 
-module _ {A : Type 0} (look_up : List ℕ → Option A) (size : ℕ) (says : A → Document → Bool) (d : Document) (ms : Members) (is : d ≡ object ms) where
+module _ {A : Type 0} (look_up : List ℕ → Option A) (size : ℕ) (says : A → Document → Bool) (d : Document) (ms : Members)
+    (is : d ≡ object ms) where
   pub differs-in-size : (length (members ms) == size) ≡ false → false ≡ equals_map look_up size says d
-  differs-in-size other = ap (λ b. b && has_distinct_names ms && are_in look_up says ms) (sym other) ∙ ap (equals_map look_up size says) (sym is)
+  differs-in-size other =
+      ap (λ b. b && has_distinct_names ms && are_in look_up says ms) (sym other) ∙ ap (equals_map look_up size says) (sym is)
 
   pub differs-in-a-pair : are_in look_up says ms ≡ false → false ≡ equals_map look_up size says d
   differs-in-a-pair other = and-false (length (members ms) == size) (has_distinct_names ms)

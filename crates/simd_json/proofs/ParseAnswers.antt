@@ -1,5 +1,6 @@
 -- What a parse leaves is what the definitions answer.
-use Rattle.std.proofs.Common.{◌≡◌, ◌∙◌, ap, sym, subst, ◌<◌, ◌≤◌, ℕ, List, [], length, take, Some, None, Option, arith, ◌⊎◌, inl, inr, ◌↔◌, IsSome, MatchOption}
+use Rattle.std.proofs.Common.{◌≡◌, ◌∙◌, ap, sym, subst, ◌<◌, ◌≤◌, ℕ, List, [], length, take, Some, None, Option, arith, ◌⊎◌, inl}
+use Rattle.std.proofs.Common.{inr, ◌↔◌, IsSome, MatchOption}
 use Rattle.std.specs.Result.{result_err}
 use Rattle.std.proofs.lemmas.Bool.{false≢true}
 use Rattle.std.proofs.lemmas.Option.{none-some}
@@ -17,9 +18,11 @@ use Rattle.simd_json.proofs.ParseEnds.{input-character, input-memory, token-memo
 
 abbrev AsAnswered : List ℕ → ℕ → Option Error → List Item → List ℕ → Type 0
 AsAnswered b limit fault nodes listed =
-    (fault ≡ result_err (answer b limit)) × (nodes ≡ answered_nodes (answer b limit)) × (listed ≡ positions_after b (result_err (answer b limit)))
+    (fault ≡ result_err (answer b limit)) × (nodes ≡ answered_nodes (answer b limit))
+    × (listed ≡ positions_after b (result_err (answer b limit)))
 
-pub as-answered : (b : List ℕ) (limit capacity : ℕ) (fault : Option Error) (nodes : List Item) (listed : List ℕ) → IsParse b limit capacity fault nodes listed → HasMemory fault → AsAnswered b limit fault nodes listed
+pub as-answered : (b : List ℕ) (limit capacity : ℕ) (fault : Option Error) (nodes : List Item) (listed : List ℕ)
+    → IsParse b limit capacity fault nodes listed → HasMemory fault → AsAnswered b limit fault nodes listed
 as-answered b limit capacity None nodes listed p memory =
     let is = p.parsed.answered in
     (ap result_err (sym is), p.parsed.listed ∙ ap answered_nodes (sym is), p.found ∙ ap (λ r. positions_after b (result_err r)) (sym is))
@@ -30,7 +33,8 @@ as-answered b limit capacity (Some e) nodes listed p memory = by_cause p.refused
       (ap result_err (sym is), p.empty ∙ ap answered_nodes (sym is), p.found ∙ ap (λ r. positions_after b (result_err r)) (sym is))
   by_cause (inr (lacks, short)) = absurd (memory (ap Some lacks.0))
 
-pub agreed : (b : List ℕ) (limit capacity capacity2 : ℕ) (fault fault2 : Option Error) (nodes nodes2 : List Item) (listed listed2 : List ℕ) → IsParse b limit capacity fault nodes listed → IsParse b limit capacity2 fault2 nodes2 listed2
+pub agreed : (b : List ℕ) (limit capacity capacity2 : ℕ) (fault fault2 : Option Error) (nodes nodes2 : List Item)
+    (listed listed2 : List ℕ) → IsParse b limit capacity fault nodes listed → IsParse b limit capacity2 fault2 nodes2 listed2
     → HasMemory fault → HasMemory fault2 → (fault ≡ fault2) × (nodes ≡ nodes2) × (listed ≡ listed2)
 agreed b limit capacity capacity2 fault fault2 nodes nodes2 listed listed2 p q memory memory2 =
     let a = as-answered b limit capacity fault nodes listed p memory in
@@ -38,9 +42,12 @@ agreed b limit capacity capacity2 fault fault2 nodes nodes2 listed listed2 p q m
     (a.0 ∙ sym z.0, a.1 ∙ sym z.1, a.2 ∙ sym z.2)
 
 -- where enough bytes follow the document, they do not matter
-pub unpadded : (s : List ℕ) (len limit capacity : ℕ) (fault : Option Error) (nodes : List Item) (listed : List ℕ) → padding_fault s len ≡ None → IsPaddedParse s len limit capacity fault nodes listed → IsParse (take len s) limit capacity fault nodes listed
+pub unpadded : (s : List ℕ) (len limit capacity : ℕ) (fault : Option Error) (nodes : List Item) (listed : List ℕ)
+    → padding_fault s len ≡ None → IsPaddedParse s len limit capacity fault nodes listed
+    → IsParse (take len s) limit capacity fault nodes listed
 unpadded s len limit capacity fault nodes listed none p =
-    subst (λ o. MatchOption o (IsParse (take len s) limit capacity fault nodes listed) (λ e. (fault ≡ Some e) × (nodes ≡ []) × (listed ≡ []))) none p
+    subst (λ o. MatchOption o (IsParse (take len s) limit capacity fault nodes listed)
+    (λ e. (fault ≡ Some e) × (nodes ≡ []) × (listed ≡ []))) none p
 
 some-same : (e f : Error) → Some e ≡ Some f → e ≡ f
 some-same e f is = ap error_in is where
@@ -48,7 +55,8 @@ some-same e f is = ap error_in is where
   error_in None = e
   error_in (Some x) = x
 
-refused-memory : (b : List ℕ) (e : Error) → IsOutOfMemory e → ((input_fault b ≡ Some e) × IsOfInput e) ⊎ ((input_fault b ≡ None) × IsOfToken e) → ⊥
+refused-memory : (b : List ℕ) (e : Error) → IsOutOfMemory e
+    → ((input_fault b ≡ Some e) × IsOfInput e) ⊎ ((input_fault b ≡ None) × IsOfToken e) → ⊥
 refused-memory b e lacks (inl (is, named)) = input-memory e named lacks
 refused-memory b e lacks (inr (none, named)) = token-memory e named lacks
 
@@ -66,6 +74,8 @@ pub has-memory : (b : List ℕ) (limit capacity : ℕ) (fault : Option Error) (n
 has-memory b limit capacity fault nodes listed p enough = has-capped-memory b limit capacity fault nodes listed p (λ _. enough)
 
 -- a character is a token's
-pub tokens-have-characters : (b : List ℕ) (e : Error) → ((input_fault b ≡ Some e) × IsOfInput e) ⊎ ((input_fault b ≡ None) × IsOfToken e) → IsSome e.character ↔ (input_fault b ≡ None)
-tokens-have-characters b e (inl (is, named)) = (λ some. absurd (false≢true (sym (input-character e named) ∙ some)), λ none. absurd (none-some e (sym none ∙ is)))
+pub tokens-have-characters : (b : List ℕ) (e : Error) → ((input_fault b ≡ Some e) × IsOfInput e)
+    ⊎ ((input_fault b ≡ None) × IsOfToken e) → IsSome e.character ↔ (input_fault b ≡ None)
+tokens-have-characters b e (inl (is, named)) =
+    (λ some. absurd (false≢true (sym (input-character e named) ∙ some)), λ none. absurd (none-some e (sym none ∙ is)))
 tokens-have-characters b e (inr (none, named)) = (λ _. none, λ _. named.1)

@@ -1,5 +1,6 @@
 -- How a parse ends: with a tape, with the fault of a token or of the whole input, or for want of memory.
-use Rattle.std.proofs.Common.{◌≡◌, ◌≢◌, ◌∙◌, ap, sym, subst, ◌<◌, ◌≤◌, ℕ, List, [], length, Bool, true, false, not, Some, None, Option, Ok, Err, refl, arith, cond, Result, min, ◌*◌, ◌⊎◌, inl, inr, IsUtf8, is_some, nat_lt, take}
+use Rattle.std.proofs.Common.{◌≡◌, ◌≢◌, ◌∙◌, ap, sym, subst, ◌<◌, ◌≤◌, ℕ, List, [], length, Bool, true, false, not, Some, None}
+use Rattle.std.proofs.Common.{Option, Ok, Err, refl, arith, cond, Result, min, ◌*◌, ◌⊎◌, inl, inr, IsUtf8, is_some, nat_lt, take}
 use Rattle.std.specs.Result.{IsErrAnd, IfErr, IfOk, OnOk, OnErr, result_err}
 use Rattle.std.specs.Str.{is_utf8}
 use Rattle.simd_json_theorems.proofs.Faults.Kinds.{input-fault}
@@ -53,10 +54,12 @@ parsed-some b limit nodes p none = listing-some p.document (sym p.listed ∙ non
 
 -- ---- the four ends
 
-pub parse-done : (b : List ℕ) (limit capacity : ℕ) (nodes : List Item) → IsParsed b limit nodes → length nodes ≤ length (positions b) → IsParse b limit capacity None nodes (positions b)
+pub parse-done : (b : List ℕ) (limit capacity : ℕ) (nodes : List Item) → IsParsed b limit nodes
+    → length nodes ≤ length (positions b) → IsParse b limit capacity None nodes (positions b)
 parse-done b limit capacity nodes p l = record { parsed = p; refused = tt; empty = tt; found = refl; few = (l, few-positions b) }
 
-pub parse-token : (b : List ℕ) (limit capacity : ℕ) (e : Error) → IsRefused b limit e → IsOfToken e → IsParse b limit capacity (Some e) [] (positions b)
+pub parse-token : (b : List ℕ) (limit capacity : ℕ) (e : Error) → IsRefused b limit e → IsOfToken e
+    → IsParse b limit capacity (Some e) [] (positions b)
 parse-token b limit capacity e refused token = record {
   parsed = tt;
   refused = inl refused;
@@ -74,7 +77,8 @@ parse-whole b limit capacity e is = record {
   few = (omega arith, few-positions b);
 }
 
-pub parse-lacking : (b : List ℕ) (limit capacity : ℕ) (e : Error) → LacksMemory b e → capacity < length b → IsParse b limit capacity (Some e) [] []
+pub parse-lacking : (b : List ℕ) (limit capacity : ℕ) (e : Error) → LacksMemory b e → capacity < length b
+    → IsParse b limit capacity (Some e) [] []
 parse-lacking b limit capacity e lacks l = record {
   parsed = tt;
   refused = inr (lacks, l);
@@ -86,9 +90,11 @@ parse-lacking b limit capacity e lacks l = record {
 -- ---- as code leaves them
 
 pub parse-at : {b : List ℕ} {limit capacity : ℕ} (fault fault' : Option Error) (nodes nodes' : List Item) (listed listed' : List ℕ)
-    → fault' ≡ fault → nodes' ≡ nodes → listed' ≡ listed → IsParse b limit capacity fault nodes listed → IsParse b limit capacity fault' nodes' listed'
+    → fault' ≡ fault → nodes' ≡ nodes → listed' ≡ listed → IsParse b limit capacity fault nodes listed
+    → IsParse b limit capacity fault' nodes' listed'
 parse-at {b} {limit} {capacity} fault fault' nodes nodes' listed listed' f n l p =
-    subst (λ f. IsParse b limit capacity f nodes' listed') (sym f) (subst (λ n. IsParse b limit capacity fault n listed') (sym n) (subst (λ l. IsParse b limit capacity fault nodes l) (sym l) p))
+    subst (λ f. IsParse b limit capacity f nodes' listed') (sym f) (subst (λ n. IsParse b limit capacity fault n listed') (sym n)
+    (subst (λ l. IsParse b limit capacity fault nodes l) (sym l) p))
 
 pub err-of : {A : Type 0} (r : Result A Error) (e : Error) → IsErrAnd r (λ x. x ≡ e) → result_err r ≡ Some e
 err-of (Ok x) e is = absurd is
@@ -105,11 +111,15 @@ less-min-right : (a b n : ℕ) → b < n → min a b < n
 less-min-right a b n l = omega (arith, l)
 
 -- nothing is listed, and there is no node, where the first stage refuses
-pub parse-unlisted : {A : Type 0} (r : Result A Error) (b : List ℕ) (limit tape_capacity capacity : ℕ) (e : Error) (nodes : List Item) (listed : List ℕ) → IsErrAnd r (λ x. x ≡ e) → nodes ≡ [] → listed ≡ []
-    → (input_fault b ≡ Some e) ⊎ (LacksMemory b e × (capacity < length b)) → IsParse b limit (min tape_capacity capacity) (result_err r) nodes listed
-parse-unlisted r b limit tape_capacity capacity e nodes listed err n l (inl whole) = parse-at (Some e) (result_err r) [] nodes [] listed (err-of r e err) n l (parse-whole b limit (min tape_capacity capacity) e whole)
+pub parse-unlisted : {A : Type 0} (r : Result A Error) (b : List ℕ) (limit tape_capacity capacity : ℕ) (e : Error)
+    (nodes : List Item) (listed : List ℕ) → IsErrAnd r (λ x. x ≡ e) → nodes ≡ [] → listed ≡ []
+    → (input_fault b ≡ Some e) ⊎ (LacksMemory b e × (capacity < length b))
+    → IsParse b limit (min tape_capacity capacity) (result_err r) nodes listed
+parse-unlisted r b limit tape_capacity capacity e nodes listed err n l (inl whole) = parse-at (Some e)
+    (result_err r) [] nodes [] listed (err-of r e err) n l (parse-whole b limit (min tape_capacity capacity) e whole)
 parse-unlisted r b limit tape_capacity capacity e nodes listed err n l (inr (lacks, short)) =
-    parse-at (Some e) (result_err r) [] nodes [] listed (err-of r e err) n l (parse-lacking b limit (min tape_capacity capacity) e lacks (less-min-right tape_capacity capacity (length b) short))
+    parse-at (Some e) (result_err r) [] nodes [] listed (err-of r e err) n l
+    (parse-lacking b limit (min tape_capacity capacity) e lacks (less-min-right tape_capacity capacity (length b) short))
 
 -- ---- size and encoding
 
@@ -121,15 +131,18 @@ right-in false false o e f is = absurd (none-some f (sym is))
 -- where nothing is wrong with the whole, size and encoding are right
 pub right-input : (b : List ℕ) → input_fault b ≡ None → (length b ≤ max_length) × IsUtf8 b
 right-input b none =
-    let right = right-in (nat_lt max_length (length b)) (is_utf8 b) (scan_fault b) (whole_fault _) (whole_fault _) (sym (fault-by_size b) ∙ none) in
+    let right = right-in (nat_lt max_length (length b)) (is_utf8 b) (scan_fault b) (whole_fault _) (whole_fault _)
+    (sym (fault-by_size b) ∙ none) in
     (ltb-false max_length (length b) right.0, IsUtf8-from_is_utf8 b right.1)
 
 -- ---- the second stage
 
 -- the second stage's end
-pub parse-built : {A : Type 0} (r : Result A Error) (b : List ℕ) (limit capacity : ℕ) (nodes : List Item) (listed : List ℕ) → OnOk r (IsParsed b limit nodes) → length nodes ≤ length (positions b) → OnErr r (nodes ≡ [])
+pub parse-built : {A : Type 0} (r : Result A Error) (b : List ℕ) (limit capacity : ℕ) (nodes : List Item) (listed : List ℕ)
+    → OnOk r (IsParsed b limit nodes) → length nodes ≤ length (positions b) → OnErr r (nodes ≡ [])
     → IfErr r (λ e. IsRefused b limit e × IsOfToken e) → listed ≡ positions b → IsParse b limit capacity (result_err r) nodes listed
-parse-built (Ok x) b limit capacity nodes listed p few empty refused l = parse-at None None nodes nodes (positions b) listed refl refl l (parse-done b limit capacity nodes p few)
+parse-built (Ok x) b limit capacity nodes listed p few empty refused l =
+    parse-at None None nodes nodes (positions b) listed refl refl l (parse-done b limit capacity nodes p few)
 parse-built (Err e) b limit capacity nodes listed p few empty refused l =
     parse-at (Some e) (Some e) [] nodes (positions b) listed refl empty l (parse-token b limit capacity e refused.0 refused.1)
 
@@ -146,12 +159,16 @@ pub bytes-kept : (limit nodes more : ℕ) → nodes ≤ more → bytes_listed li
 bytes-kept limit nodes more l = omega (arith, l)
 
 -- the tape has no capacity for a node at each position
-pub parse-short : {A : Type 0} (r : Result A Error) (b : List ℕ) (limit tape_capacity capacity count : ℕ) (e : Error) (nodes : List Item) (listed : List ℕ) → r ≡ Err e → input_fault b ≡ None → e ≡ whole_fault OutOfMemory → tape_capacity < count → count ≡ length (positions b) → nodes ≡ [] → listed ≡ []
+pub parse-short : {A : Type 0} (r : Result A Error) (b : List ℕ) (limit tape_capacity capacity count : ℕ) (e : Error)
+    (nodes : List Item) (listed : List ℕ)
+    → r ≡ Err e → input_fault b ≡ None → e ≡ whole_fault OutOfMemory → tape_capacity < count → count ≡ length (positions b)
+    → nodes ≡ [] → listed ≡ []
     → IsParse b limit (min tape_capacity capacity) (result_err r) nodes listed
 parse-short r b limit tape_capacity capacity count e nodes listed err none is short same n l =
     let right = right-input b none in
     parse-at (Some e) (result_err r) [] nodes [] listed (ap result_err err) n l
-    (parse-lacking b limit (min tape_capacity capacity) e (is, right.0, right.1) (less-min-left tape_capacity capacity (length b) (omega (arith, short, same, few-positions b))))
+    (parse-lacking b limit (min tape_capacity capacity) e (is, right.0, right.1)
+    (less-min-left tape_capacity capacity (length b) (omega (arith, short, same, few-positions b))))
 
 -- ---- the first stage, after the test of both
 
@@ -161,7 +178,8 @@ scan-found (Ok x) b P Q l text (p, q, none) = (p, q, scanned b l text ∙ none)
 scan-found (Err e) b P Q l text h = h
 
 pub scan-refused : {T : Type 0} (r : Result T Error) (b : List ℕ) (P : Type 0) → length b ≤ max_length → IsUtf8 b
-    → IfErr r (λ e. (scan_fault b ≡ Some e) ⊎ ((e ≡ whole_fault OutOfMemory) × P)) → IfErr r (λ e. (input_fault b ≡ Some e) ⊎ (LacksMemory b e × P))
+    → IfErr r (λ e. (scan_fault b ≡ Some e) ⊎ ((e ≡ whole_fault OutOfMemory) × P))
+    → IfErr r (λ e. (input_fault b ≡ Some e) ⊎ (LacksMemory b e × P))
 scan-refused (Ok x) b P l text h = h
 scan-refused (Err e) b P l text (inl is) = inl (scanned b l text ∙ is)
 scan-refused (Err e) b P l text (inr (is, p)) = inr ((is, l, text), p)
@@ -171,7 +189,8 @@ scan-refused (Err e) b P l text (inr (is, p)) = inr ((is, l, text), p)
 -- a stack that is too short bounds the capacity
 pub short-stack : (r : Capacities) (count n : ℕ) → r.stack_capacity < min count r.limit → count ≤ n → capacity r < n
 short-stack r count n l m =
-    subst (λ t. min (cond t (min r.position_capacity r.stack_capacity) r.position_capacity) (64 * r.block_capacity) < n) (sym (lt-ltb r.stack_capacity r.limit (omega (arith, l))))
+    subst (λ t. min (cond t (min r.position_capacity r.stack_capacity) r.position_capacity) (64 * r.block_capacity) < n)
+    (sym (lt-ltb r.stack_capacity r.limit (omega (arith, l))))
     (omega (arith, l, m))
 
 -- ---- lists of which nothing is in use
@@ -180,7 +199,8 @@ pub unlisted : (used : ℕ) (xs ys : List ℕ) → used ≤ length xs → take u
 unlisted used xs ys l none =
     let zero_used : used ≡ 0 = omega (arith, ap length none, length-take-le used xs l) in ap (λ n. take n ys) zero_used
 
-open-kept : (t t2 : Bool) (p s l p2 s2 l2 : ℕ) → nat_lt s l ≡ t → nat_lt s2 l2 ≡ t2 → l2 ≡ l → p ≤ p2 → s ≤ s2 → cond t (min p s) p ≤ cond t2 (min p2 s2) p2
+open-kept : (t t2 : Bool) (p s l p2 s2 l2 : ℕ) → nat_lt s l ≡ t → nat_lt s2 l2 ≡ t2 → l2 ≡ l → p ≤ p2 → s ≤ s2
+    → cond t (min p s) p ≤ cond t2 (min p2 s2) p2
 open-kept true true p s l p2 s2 l2 a b same le_p le_s = omega (arith, le_p, le_s)
 open-kept true false p s l p2 s2 l2 a b same le_p le_s = omega (arith, le_p)
 open-kept false true p s l p2 s2 l2 a b same le_p le_s = absurd (omega (arith, ltb-false s l a, ltb-true s2 l2 b, same, le_s))
@@ -191,4 +211,5 @@ min-kept a b c d l m = omega (arith, l, m)
 
 pub capacity-kept : (old new : Capacities) → new.limit ≡ old.limit → KeepsCapacities old new → capacity old ≤ capacity new
 capacity-kept old new same kept =
-    min-kept _ _ _ _ (open-kept _ _ old.position_capacity old.stack_capacity old.limit new.position_capacity new.stack_capacity new.limit refl refl same kept.0 kept.2) (omega (arith, kept.1))
+    min-kept _ _ _ _ (open-kept _ _ old.position_capacity old.stack_capacity old.limit new.position_capacity new.stack_capacity
+    new.limit refl refl same kept.0 kept.2) (omega (arith, kept.1))

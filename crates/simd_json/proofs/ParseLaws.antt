@@ -1,5 +1,6 @@
 -- From what the steps of a parse find to what the definitions answer.
-use Rattle.std.proofs.Common.{◌≡◌, ◌∙◌, ap, sym, ◌≤◌, ℕ, List, length, true, Some, None, Ok, Err, arith, Result, map, inl, inr, false, refl, is_some}
+use Rattle.std.proofs.Common.{◌≡◌, ◌∙◌, ap, sym, ◌≤◌, ℕ, List, length, true, Some, None, Ok, Err, arith, Result, map, inl, inr}
+use Rattle.std.proofs.Common.{false, refl, is_some}
 use Rattle.std.specs.Result.{is_err, MatchResult}
 use Rattle.std.proofs.lemmas.Bool.{false≢true}
 use Rattle.std.proofs.lemmas.List.Sums.{length-filter, count_by-le-length}
@@ -43,7 +44,12 @@ none-answered b limit is = ap (λ o. fault_or o (descent b limit)) is
 -- no more than bytes
 pub few-positions : (b : List ℕ) → length (positions b) ≤ length b
 unfolding positions
-few-positions b = omega (arith, length-filter (is_position b) (indices b), count_by-le-length (is_position b) (indices b), length-range_with_len 0 (length b))
+few-positions b = omega (
+  arith,
+  length-filter (is_position b) (indices b),
+  count_by-le-length (is_position b) (indices b),
+  length-range_with_len 0 (length b),
+)
 
 -- ---- refusals
 
@@ -87,7 +93,8 @@ refused-whole b limit e is =
 
 -- ---- what the second stage lists
 
-pub parsed : (b : List ℕ) (limit : ℕ) (nodes : List Node) → input_fault b ≡ None → IsListed b limit nodes → IsParsed b limit (map item_of nodes)
+pub parsed : (b : List ℕ) (limit : ℕ) (nodes : List Node) → input_fault b ≡ None → IsListed b limit nodes
+    → IsParsed b limit (map item_of nodes)
 parsed b limit nodes none listed =
     let answered : answer b limit ≡ Ok listed.document = none-answered b limit none ∙ listed.same in
     let right = answer-sound b limit listed.document answered in

@@ -1,8 +1,11 @@
 -- A JSON Pointer a token at a time.
-use Rattle.std.proofs.Common.{◌≡◌, ◌≢◌, ◌∙◌, ap, sym, refl, ◌<◌, ◌≤◌, ◌+◌, ◌-◌, ◌*◌, ◌++◌, ◌↔◌, ℕ, zero, suc, Bool, true, false, cond, bytes_eq, List, [], ◌∷◌, length, map, take, drop, set, length-append, length-drop, append_assoc, get_or, Some, None, Option, option_map, Result, Ok, Err, arith, ne_eqb, lit<, subst, eqb}
+use Rattle.std.proofs.Common.{◌≡◌, ◌≢◌, ◌∙◌, ap, sym, refl, ◌<◌, ◌≤◌, ◌+◌, ◌-◌, ◌*◌, ◌++◌, ◌↔◌, ℕ, zero, suc, Bool, true, false}
+use Rattle.std.proofs.Common.{cond, bytes_eq, List, [], ◌∷◌, length, map, take, drop, set, length-append, length-drop, append_assoc}
+use Rattle.std.proofs.Common.{get_or, Some, None, Option, option_map, Result, Ok, Err, arith, ne_eqb, lit<, subst, eqb}
 use Rattle.std.proofs.lemmas.Bool.{eqb-true, eq-eqb, ltb-false, le-ltb}
 use Rattle.std.proofs.lemmas.Int.Digits.{number_more, number_after_append, number_after_ge}
-use Rattle.std.proofs.lemmas.List.{get_or-take, get_or-drop, get_or-map, length-take-le, length-map, take_all, take-append-drop, drop-drop, drop_more, drop_all, take_more_set}
+use Rattle.std.proofs.lemmas.List.{get_or-take, get_or-drop, get_or-map, length-take-le, length-map, take_all, take-append-drop}
+use Rattle.std.proofs.lemmas.List.{drop-drop, drop_more, drop_all, take_more_set}
 use Rattle.std.specs.Char.{digit_value}
 use Rattle.std.specs.Int.Digits.{number_from_digits, number_from_digits_after}
 use Rattle.std.proofs.Math.Seq.{take-append_seam, drop-append_seam}
@@ -14,7 +17,8 @@ use Rattle.std.specs.Result.{result_ok}
 use Rattle.simd_json_parts.specs.Document.{Document, array, object, elements, Elements, Members, members}
 use Rattle.simd_json_parts.specs.Views.{first_with, is_array, is_object, value_type}
 use Rattle.simd_json_parts.specs.declared.node.ValueType.{ValueType}
-use Rattle.simd_json.specs.Pointed.{with_first, tokens, unescaped, is_array_index, array_index, element_at, member_at, named, stop, go_on, followed, pointed_from}
+use Rattle.simd_json.specs.Pointed.{with_first, tokens, unescaped, is_array_index, array_index, element_at, member_at, named, stop}
+use Rattle.simd_json.specs.Pointed.{go_on, followed, pointed_from}
 use Rattle.simd_json.specs.Followed.{AreAlike, AreSame, IsKey, IsPlain, IsWritten, tokens_after, first_of, first_step, fits_64}
 use Rattle.simd_json.specs.declared.value.pointer.token.Key.{Key}
 use Rattle.simd_json.specs.declared.value.pointer.PointerError.{PointerError}
@@ -27,7 +31,8 @@ use Rattle.simd_json.proofs.Split.{first_with-pair, first_with-none}
 abbrev pub Lacks : ℕ → ℕ → List ℕ → Type 0
 Lacks c n p = (k : ℕ) → k < n → get_or p k 0 ≢ c
 
-tokens-first : (p : List ℕ) (n : ℕ) → n ≤ length p → Lacks 47 n p → (n < length p → get_or p n 0 ≡ 47) → tokens p ≡ take n p ∷ tokens_after (drop n p)
+tokens-first : (p : List ℕ) (n : ℕ) → n ≤ length p → Lacks 47 n p → (n < length p → get_or p n 0 ≡ 47)
+    → tokens p ≡ take n p ∷ tokens_after (drop n p)
 tokens-first [] zero within lacks ends = refl
 tokens-first [] (suc n) within lacks ends = absurd (omega arith)
 tokens-first (c ∷ p) zero within lacks ends = let is : c ≡ 47 = ends (omega arith) in rw is refl
@@ -35,7 +40,8 @@ tokens-first (c ∷ p) (suc n) within lacks ends =
     let rest = tokens-first p n (omega arith) (λ k less. lacks (suc k) (omega arith)) (λ less. ends (omega arith)) in
     rw (ne_eqb c 47 (lacks 0 (omega arith))) (ap (with_first c) rest)
 
-pub tokens-front : (p : List ℕ) (n : ℕ) → n < length p → Lacks 47 n p → get_or p n 0 ≡ 47 → tokens p ≡ take n p ∷ tokens_after (drop (length (take n p)) p)
+pub tokens-front : (p : List ℕ) (n : ℕ) → n < length p → Lacks 47 n p → get_or p n 0 ≡ 47
+    → tokens p ≡ take n p ∷ tokens_after (drop (length (take n p)) p)
 tokens-front p n inside lacks ends =
     tokens-first p n (omega arith) lacks (λ less. ends)
     ∙ ap (λ m. take n p ∷ tokens_after (drop m p)) (sym (length-take-le n p (omega arith)))
@@ -65,7 +71,8 @@ lacks-more : (c n : ℕ) (t : List ℕ) → c ≢ 47 → Lacks 47 n t → Lacks 
 lacks-more c n t other lacks zero less is = other is
 lacks-more c n t other lacks (suc k) less is = lacks k (omega arith) is
 
-first-more : (c : ℕ) (p : List ℕ) → IsFirst p (first_of (tokens p)) → (b : Bool) → eqb c 47 ≡ b → IsFirst (c ∷ p) (first_of (tokens (c ∷ p)))
+first-more : (c : ℕ) (p : List ℕ) → IsFirst p (first_of (tokens p)) → (b : Bool) → eqb c 47 ≡ b
+    → IsFirst (c ∷ p) (first_of (tokens (c ∷ p)))
 first-more c p rest true is =
     let all : tokens (c ∷ p) ≡ [] ∷ tokens p = ap (λ b. cond b ([] ∷ tokens p) (with_first c (tokens p))) is in
     let first : IsFirst (c ∷ p) [] = record {
@@ -138,16 +145,19 @@ two t i inside =
     let next : i + 1 + 1 ≡ i + 2 = omega arith in
     drop_more t i 0 (omega arith) ∙ ap (λ l. get_or t i 0 ∷ l) (drop_more t (i + 1) 0 inside ∙ ap (λ n. get_or t (i + 1) 0 ∷ drop n t) next)
 
-escaped-at : (t : List ℕ) (i e : ℕ) → i + 1 < length t → get_or t i 0 ≡ 126 → get_or t (i + 1) 0 ≡ e → unescaped (drop i t) ≡ unescaped (126 ∷ e ∷ drop (i + 2) t)
+escaped-at : (t : List ℕ) (i e : ℕ) → i + 1 < length t → get_or t i 0 ≡ 126 → get_or t (i + 1) 0 ≡ e
+    → unescaped (drop i t) ≡ unescaped (126 ∷ e ∷ drop (i + 2) t)
 escaped-at t i e inside begins is =
     ap unescaped (two t i inside)
     ∙ ap (λ c. unescaped (c ∷ get_or t (i + 1) 0 ∷ drop (i + 2) t)) begins
     ∙ ap (λ x. unescaped (126 ∷ x ∷ drop (i + 2) t)) is
 
-pub tilde-at : (t : List ℕ) (i : ℕ) → i + 1 < length t → get_or t i 0 ≡ 126 → get_or t (i + 1) 0 ≡ 48 → IsWritten t i (record { byte = 126; end = i + 2 })
+pub tilde-at : (t : List ℕ) (i : ℕ) → i + 1 < length t → get_or t i 0 ≡ 126 → get_or t (i + 1) 0 ≡ 48
+    → IsWritten t i (record { byte = 126; end = i + 2 })
 tilde-at t i inside begins is = record { decoded = escaped-at t i 48 inside begins is; later = omega arith; within = omega arith }
 
-pub slash-at : (t : List ℕ) (i : ℕ) → i + 1 < length t → get_or t i 0 ≡ 126 → get_or t (i + 1) 0 ≡ 49 → IsWritten t i (record { byte = 47; end = i + 2 })
+pub slash-at : (t : List ℕ) (i : ℕ) → i + 1 < length t → get_or t i 0 ≡ 126 → get_or t (i + 1) 0 ≡ 49
+    → IsWritten t i (record { byte = 47; end = i + 2 })
 slash-at t i inside begins is = record { decoded = escaped-at t i 49 inside begins is; later = omega arith; within = omega arith }
 
 -- ---- a key that is compared with what is written
@@ -162,7 +172,8 @@ key-ends o key m x past is =
     let empty : x ∷ r.0 ≡ [] = r.2 ∙ drop_all m key past in
     cc
 
-head-is : (o : Option (List ℕ)) (key : List ℕ) (m x : ℕ) → m < length key → option_map (λ k. x ∷ k) o ≡ Some (drop m key) → (get_or key m 0 ≡ x) × (o ≡ Some (drop (m + 1) key))
+head-is : (o : Option (List ℕ)) (key : List ℕ) (m x : ℕ) → m < length key → option_map (λ k. x ∷ k) o ≡ Some (drop m key)
+    → (get_or key m 0 ≡ x) × (o ≡ Some (drop (m + 1) key))
 head-is o key m x inside is =
     let r = mapped-some o x (drop m key) is in
     let both : x ∷ r.0 ≡ get_or key m 0 ∷ drop (m + 1) key = r.2 ∙ drop_more key m 0 inside in
@@ -170,10 +181,12 @@ head-is o key m x inside is =
     let tail : r.0 ≡ drop (m + 1) key = cc in
     (head, r.1 ∙ ap Some tail)
 
-pub key-differs : (o : Option (List ℕ)) (key : List ℕ) (m x : ℕ) → m < length key → get_or key m 0 ≢ x → option_map (λ k. x ∷ k) o ≡ Some (drop m key) → ⊥
+pub key-differs : (o : Option (List ℕ)) (key : List ℕ) (m x : ℕ) → m < length key → get_or key m 0 ≢ x
+    → option_map (λ k. x ∷ k) o ≡ Some (drop m key) → ⊥
 key-differs o key m x inside other is = other (head-is o key m x inside is).0
 
-pub key-goes-on : (o : Option (List ℕ)) (key : List ℕ) (m x : ℕ) → m < length key → get_or key m 0 ≡ x → (option_map (λ k. x ∷ k) o ≡ Some (drop m key)) ↔ (o ≡ Some (drop (m + 1) key))
+pub key-goes-on : (o : Option (List ℕ)) (key : List ℕ) (m x : ℕ) → m < length key → get_or key m 0 ≡ x
+    → (option_map (λ k. x ∷ k) o ≡ Some (drop m key)) ↔ (o ≡ Some (drop (m + 1) key))
 key-goes-on o key m x inside same = (
   λ is. (head-is o key m x inside is).1,
   λ is. ap (option_map (λ k. x ∷ k)) is ∙ ap Some (ap (λ c. c ∷ drop (m + 1) key) (sym same) ∙ sym (drop_more key m 0 inside)),
@@ -202,7 +215,10 @@ pub len-none : (o rest : Option (List ℕ)) (n : ℕ) → option_map (λ key. le
 len-none o rest n same none = sym (same ∙ ap (option_map (λ key. n + length key)) none)
 
 pub len-of : (o : Option (List ℕ)) (key : List ℕ) (n : ℕ) → Some n ≡ option_map (λ k. length k) o → o ≡ Some key → length key ≡ n
-len-of o key n is has = let both : Some n ≡ Some (length key) = is ∙ ap (option_map (λ k. length k)) has in let same : n ≡ length key = cc in sym same
+len-of o key n is has =
+    let both : Some n ≡ Some (length key) = is ∙ ap (option_map (λ k. length k)) has in
+    let same : n ≡ length key = cc in
+    sym same
 
 pub malformed : (o : Option (List ℕ)) → None ≡ option_map (λ k. length k) o → o ≡ None
 malformed None is = refl
@@ -265,13 +281,15 @@ pub err-of : {A E : Type 0} (r : Result A E) → result_ok r ≡ None → (e : E
 err-of (Ok y) is = cc
 err-of (Err e) is = (e, refl)
 
-go_on-same : (i : ℕ) (d : Document) (f g : Document → Result Document PointerError) (r : Result Document PointerExpected) → ((e : Document) → f e ≡ g e) → go_on i d f r ≡ go_on i d g r
+go_on-same : (i : ℕ) (d : Document) (f g : Document → Result Document PointerError) (r : Result Document PointerExpected)
+    → ((e : Document) → f e ≡ g e) → go_on i d f r ≡ go_on i d g r
 go_on-same i d f g (Ok e) same = same e
 go_on-same i d f g (Err e) same = refl
 
 -- ---- a token further
 
-followed-rest : (i : ℕ) (p : List ℕ) (d : Document) → (0 < length p → get_or p 0 0 ≡ 47) → followed i (tokens_after p) d ≡ pointed_from i p d
+followed-rest : (i : ℕ) (p : List ℕ) (d : Document) → (0 < length p → get_or p 0 0 ≡ 47)
+    → followed i (tokens_after p) d ≡ pointed_from i p d
 followed-rest i [] d begins = refl
 followed-rest i (c ∷ p) d begins = let is : c ≡ 47 = begins (omega arith) in rw is refl
 
@@ -284,29 +302,34 @@ pub record IsTokenAt (p : List ℕ) (i : ℕ) (t : List ℕ) : Type 0 where
 pub rest : (p : List ℕ) (n : ℕ) → take (length p - n) (drop n p) ≡ drop n p
 rest p n = take_all (length p - n) (drop n p) (omega (arith, length-drop n p))
 
-pub token-at : (p : List ℕ) (i : ℕ) (q t : List ℕ) → q ≡ drop (i + 1) p → i < length p → get_or p i 0 ≡ 47 → tokens q ≡ t ∷ tokens_after (drop (length t) q)
+pub token-at : (p : List ℕ) (i : ℕ) (q t : List ℕ) → q ≡ drop (i + 1) p → i < length p → get_or p i 0 ≡ 47
+    → tokens q ≡ t ∷ tokens_after (drop (length t) q)
     → (length t < length q → get_or q (length t) 0 ≡ 47) → IsTokenAt p i t
 token-at p i q t is inside begins split ended = record {
   slashed = (inside, begins);
   split = ap tokens (sym is) ∙ split ∙ ap (λ l. t ∷ tokens_after (drop (length t) l)) is;
   ended = λ less.
       (let number : i + (1 + length t) ≡ i + 1 + length t = omega arith in
-      ap (λ n. get_or p n 0) number ∙ sym (get_or-drop (i + 1) p (length t) 0) ∙ ap (λ l. get_or l (length t) 0) (sym is) ∙ ended (omega (arith, length-drop (i + 1) p, ap length is)));
+      ap (λ n. get_or p n 0) number ∙ sym (get_or-drop (i + 1) p (length t) 0) ∙ ap (λ l. get_or l (length t) 0) (sym is)
+      ∙ ended (omega (arith, length-drop (i + 1) p, ap length is)));
 }
 
-pub token-within : (p : List ℕ) (i : ℕ) (q t : List ℕ) → q ≡ drop (i + 1) p → i < length p → length t ≤ length q → i + (1 + length t) ≤ length p
+pub token-within : (p : List ℕ) (i : ℕ) (q t : List ℕ) → q ≡ drop (i + 1) p → i < length p → length t ≤ length q
+    → i + (1 + length t) ≤ length p
 token-within p i q t is inside within = omega (arith, length-drop (i + 1) p, ap length is)
 
 pub at-slash : (p : List ℕ) (i : ℕ) (t : List ℕ) → IsTokenAt p i t → drop i p ≡ 47 ∷ drop (i + 1) p
 at-slash p i t at = drop_more p i 0 at.slashed.0 ∙ ap (λ c. c ∷ drop (i + 1) p) at.slashed.1
 
-pub rest-begins : (p : List ℕ) (i : ℕ) (t : List ℕ) → IsTokenAt p i t → (rest : List ℕ) → drop (i + (1 + length t)) p ≡ rest → 0 < length rest → get_or rest 0 0 ≡ 47
+pub rest-begins : (p : List ℕ) (i : ℕ) (t : List ℕ) → IsTokenAt p i t → (rest : List ℕ) → drop (i + (1 + length t)) p ≡ rest
+    → 0 < length rest → get_or rest 0 0 ≡ 47
 rest-begins p i t at rest there some =
     let n = i + (1 + length t) in
     let inside : n < length p = omega (arith, length-drop n p, ap length there) in
     ap (λ q. get_or q 0 0) (sym there ∙ drop_more p n 0 inside) ∙ at.ended inside
 
-pub further : (p : List ℕ) (i : ℕ) (t : List ℕ) (d e : Document) → IsTokenAt p i t → result_ok (named t d) ≡ Some e → pointed_from i (drop i p) d ≡ pointed_from (i + (1 + length t)) (drop (i + (1 + length t)) p) e
+pub further : (p : List ℕ) (i : ℕ) (t : List ℕ) (d e : Document) → IsTokenAt p i t → result_ok (named t d) ≡ Some e
+    → pointed_from i (drop i p) d ≡ pointed_from (i + (1 + length t)) (drop (i + (1 + length t)) p) e
 further p i t d e at leads =
     let rest = drop (length t) (drop (i + 1) p) in
     let there : drop (i + (1 + length t)) p ≡ rest = ap (λ n. drop n p) (omega arith) ∙ sym (drop-drop (length t) (i + 1) p) in
@@ -338,15 +361,18 @@ key-is t key k is = (
 
 -- ---- where a pointer stops
 
-pub stuck-at-token : (p : List ℕ) (i : ℕ) (t : List ℕ) (d : Document) → IsTokenAt p i t → result_ok (named t d) ≡ None → result_ok (first_step (drop i p) d) ≡ None
+pub stuck-at-token : (p : List ℕ) (i : ℕ) (t : List ℕ) (d : Document) → IsTokenAt p i t → result_ok (named t d) ≡ None
+    → result_ok (first_step (drop i p) d) ≡ None
 stuck-at-token p i t d at nowhere =
     ap (λ q. result_ok (first_step q d)) (at-slash p i t at) ∙ ap (λ ts. result_ok (named (first_of ts) d)) at.split ∙ nowhere
 
-pub stuck-without-slash : (p : List ℕ) (i : ℕ) (d : Document) → i < length p → get_or p i 0 ≢ 47 → result_ok (first_step (drop i p) d) ≡ None
+pub stuck-without-slash : (p : List ℕ) (i : ℕ) (d : Document) → i < length p → get_or p i 0 ≢ 47
+    → result_ok (first_step (drop i p) d) ≡ None
 stuck-without-slash p i d inside other =
     ap (λ q. result_ok (first_step q d)) (drop_more p i 0 inside) ∙ rw (ne_eqb (get_or p i 0) 47 other) refl
 
-stop-in : (i : ℕ) (ts : List (List ℕ)) (d : Document) (e : PointerExpected) → 0 < length ts → named (first_of ts) d ≡ Err e → followed i ts d ≡ Err (stop i d e)
+stop-in : (i : ℕ) (ts : List (List ℕ)) (d : Document) (e : PointerExpected) → 0 < length ts → named (first_of ts) d ≡ Err e
+    → followed i ts d ≡ Err (stop i d e)
 stop-in i [] d e some is = absurd (omega arith)
 stop-in i (t ∷ ts) d e some is = ap (go_on i d (followed (i + 1 + length t) ts)) is
 
@@ -356,13 +382,19 @@ with_first-some c (t ∷ ts) = omega arith
 
 pub tokens-some : (p : List ℕ) → 0 < length (tokens p)
 tokens-some [] = omega arith
-tokens-some (c ∷ p) = elim (c == 47) as (λ b. 0 < length (cond b ([] ∷ tokens p) (with_first c (tokens p)))) [ true ↦ omega arith | false ↦ with_first-some c (tokens p) ]
+tokens-some (c ∷ p) = elim (c == 47) as (λ b. 0 < length (cond b ([] ∷ tokens p) (with_first c (tokens p)))) [
+  | true ↦ omega arith
+  | false ↦ with_first-some c (tokens p)
+]
 
-stop-by : (b : Bool) (i : ℕ) (p : List ℕ) (d : Document) (e : PointerExpected) → cond b (named (first_of (tokens p)) d) (Err lacking.Slash) ≡ Err e → cond b (followed i (tokens p) d) (Err (stop i d lacking.Slash)) ≡ Err (stop i d e)
+stop-by : (b : Bool) (i : ℕ) (p : List ℕ) (d : Document) (e : PointerExpected)
+    → cond b (named (first_of (tokens p)) d) (Err lacking.Slash) ≡ Err e
+    → cond b (followed i (tokens p) d) (Err (stop i d lacking.Slash)) ≡ Err (stop i d e)
 stop-by true i p d e is = stop-in i (tokens p) d e (tokens-some p) is
 stop-by false i p d e is = let same : lacking.Slash ≡ e = cc in ap (λ x. Err (stop i d x)) same
 
-pub stop-at : (i : ℕ) (p : List ℕ) (d : Document) (e : PointerExpected) → 0 < length p → first_step p d ≡ Err e → pointed_from i p d ≡ Err (stop i d e)
+pub stop-at : (i : ℕ) (p : List ℕ) (d : Document) (e : PointerExpected) → 0 < length p → first_step p d ≡ Err e
+    → pointed_from i p d ≡ Err (stop i d e)
 stop-at i [] d e some is = absurd (omega arith)
 stop-at i (c ∷ p) d e some is = stop-by (c == 47) i p d e is
 
@@ -388,12 +420,14 @@ not-true false never = refl
 other-bytes : (k l : List ℕ) → (k ≡ l → ⊥) → bytes_eq k l ≡ false
 other-bytes k l other = not-true (bytes_eq k l) (λ same. other ((bytes_eq-Decides k l).0 same))
 
-pub member-here : (u : Option (List ℕ)) (k : List ℕ) (d : Document) (ms ns : Members) → members ms ≡ (k, d) ∷ members ns → u ≡ Some k → result_ok (member_at ms u) ≡ Some d
+pub member-here : (u : Option (List ℕ)) (k : List ℕ) (d : Document) (ms ns : Members) → members ms ≡ (k, d) ∷ members ns
+    → u ≡ Some k → result_ok (member_at ms u) ≡ Some d
 member-here u k d ms ns pair is =
     ap (λ v. result_ok (member_at ms v)) is ∙ ap (λ o. result_ok (ok_or o lacking.Key)) (first_with-pair k k d ms ns pair)
     ∙ ap (λ b. result_ok (ok_or (cond b (Some d) (first_with k ns)) lacking.Key)) (same-bytes k)
 
-pub member-later : (u : Option (List ℕ)) (k : List ℕ) (d : Document) (ms ns : Members) → members ms ≡ (k, d) ∷ members ns → (u ≡ Some k → ⊥) → result_ok (member_at ms u) ≡ result_ok (member_at ns u)
+pub member-later : (u : Option (List ℕ)) (k : List ℕ) (d : Document) (ms ns : Members) → members ms ≡ (k, d) ∷ members ns
+    → (u ≡ Some k → ⊥) → result_ok (member_at ms u) ≡ result_ok (member_at ns u)
 member-later None k d ms ns pair other = refl
 member-later (Some key) k d ms ns pair other =
     ap (λ o. result_ok (ok_or o lacking.Key)) (first_with-pair key k d ms ns pair)
@@ -420,12 +454,14 @@ past-by : (b : Bool) (i : ℕ) → nat_lt i (2 ^ 64) ≡ b → cond b (Some i) N
 past-by true i test is = cc
 past-by false i test is = at-least i (2 ^ 64) test
 
-pub element-fits : (ds : Elements) (i : Option ℕ) (j : ℕ) → option_and_then fits_64 i ≡ Some j → result_ok (element_at ds i) ≡ slice_get (elements ds) j
+pub element-fits : (ds : Elements) (i : Option ℕ) (j : ℕ) → option_and_then fits_64 i ≡ Some j
+    → result_ok (element_at ds i) ≡ slice_get (elements ds) j
 element-fits ds None j is = cc
 element-fits ds (Some i) j is =
     ok-or (slice_get (elements ds) i) lacking.Element ∙ ap (slice_get (elements ds)) (fits-by (nat_lt i (2 ^ 64)) i j is)
 
-pub element-past : (ds : Elements) (i : Option ℕ) → length (elements ds) < 2 ^ 64 → option_and_then fits_64 i ≡ None → result_ok (element_at ds i) ≡ None
+pub element-past : (ds : Elements) (i : Option ℕ) → length (elements ds) < 2 ^ 64 → option_and_then fits_64 i ≡ None
+    → result_ok (element_at ds i) ≡ None
 element-past ds None few is = refl
 element-past ds (Some i) few is =
     let past : 2 ^ 64 ≤ i = past-by (nat_lt i (2 ^ 64)) i refl is in
@@ -441,10 +477,12 @@ fits-itself n m is =
 abbrev pub digits : List ℕ → List ℕ
 digits t = map digit_value t
 
-pub number-longer : (t : List ℕ) (i n : ℕ) → i < length t → n ≡ number_from_digits 10 (take i (digits t)) → n * 10 + digit_value (get_or t i 0) ≡ number_from_digits 10 (take (i + 1) (digits t))
+pub number-longer : (t : List ℕ) (i n : ℕ) → i < length t → n ≡ number_from_digits 10 (take i (digits t))
+    → n * 10 + digit_value (get_or t i 0) ≡ number_from_digits 10 (take (i + 1) (digits t))
 number-longer t i n inside is =
     let within : i < length (digits t) = omega (arith, length-map t digit_value) in
-    sym (number_more 10 (digits t) i within ∙ ap (λ d. number_from_digits 10 (take i (digits t)) * 10 + d) (get_or-map digit_value t i 0 0 inside)
+    sym (number_more 10 (digits t) i within
+    ∙ ap (λ d. number_from_digits 10 (take i (digits t)) * 10 + d) (get_or-map digit_value t i 0 0 inside)
     ∙ ap (λ m. m * 10 + digit_value (get_or t i 0)) (sym is))
 
 number-prefix : (ds : List ℕ) (i : ℕ) → number_from_digits 10 (take i ds) ≤ number_from_digits 10 ds
@@ -459,14 +497,16 @@ index-of t is = ap (λ b. cond b (Some (number_from_digits 10 (digits t))) None)
 past-none : (n : ℕ) → 2 ^ 64 ≤ n → fits_64 n ≡ None
 past-none n past = ap (λ b. cond b (Some n) None) (le-ltb n (2 ^ 64) past)
 
-pub index-too-long : (t : List ℕ) (i n : ℕ) → i < length t → n ≡ number_from_digits 10 (take i (digits t)) → None ≡ fits_64 (n * 10 + digit_value (get_or t i 0)) → is_array_index t ≡ true → option_and_then fits_64 (array_index t) ≡ None
+pub index-too-long : (t : List ℕ) (i n : ℕ) → i < length t → n ≡ number_from_digits 10 (take i (digits t)) → None
+    ≡ fits_64 (n * 10 + digit_value (get_or t i 0)) → is_array_index t ≡ true → option_and_then fits_64 (array_index t) ≡ None
 index-too-long t i n inside is long digits-all =
     let m = n * 10 + digit_value (get_or t i 0) in
     let past : 2 ^ 64 ≤ m = past-by (nat_lt m (2 ^ 64)) m refl (sym long) in
     ap (option_and_then fits_64) (index-of t digits-all)
     ∙ past-none _ (omega (arith, number-prefix (digits t) (i + 1), number-longer t i n inside is))
 
-pub index-read : (t : List ℕ) (i n : ℕ) → length t ≤ i → n ≡ number_from_digits 10 (take i (digits t)) → fits_64 n ≡ Some n → is_array_index t ≡ true → option_and_then fits_64 (array_index t) ≡ Some n
+pub index-read : (t : List ℕ) (i n : ℕ) → length t ≤ i → n ≡ number_from_digits 10 (take i (digits t)) → fits_64 n ≡ Some n
+    → is_array_index t ≡ true → option_and_then fits_64 (array_index t) ≡ Some n
 index-read t i n past is fits digits-all =
     let all : take i (digits t) ≡ digits t = take_all i (digits t) (omega (arith, length-map t digit_value)) in
     let number : n ≡ number_from_digits 10 (digits t) = is ∙ ap (number_from_digits 10) all in
@@ -481,7 +521,8 @@ lacks-of : {A E : Type 0} (o : Option A) (e : E) → result_ok (ok_or o e) ≡ N
 lacks-of None e nowhere = refl
 lacks-of (Some x) e nowhere = cc
 
-pub lacks-element : (t : List ℕ) (d : Document) → is_array d ≡ true → is_array_index t ≡ true → result_ok (named t d) ≡ None → named t d ≡ Err lacking.Element
+pub lacks-element : (t : List ℕ) (d : Document) → is_array d ≡ true → is_array_index t ≡ true → result_ok (named t d) ≡ None
+    → named t d ≡ Err lacking.Element
 lacks-element t (array ds) is index nowhere =
     let number = number_from_digits 10 (digits t) in
     let at : named t (array ds) ≡ ok_or (slice_get (elements ds) number) lacking.Element = ap (element_at ds) (index-of t index) in
@@ -500,7 +541,8 @@ escape-lacks : (ms : Members) (u : Option (List ℕ)) → is_some u ≡ false �
 escape-lacks ms None malformed = refl
 escape-lacks ms (Some key) malformed = cc
 
-pub lacks-key : (t : List ℕ) (d : Document) → is_object d ≡ true → is_some (unescaped t) ≡ true → result_ok (named t d) ≡ None → named t d ≡ Err lacking.Key
+pub lacks-key : (t : List ℕ) (d : Document) → is_object d ≡ true → is_some (unescaped t) ≡ true → result_ok (named t d) ≡ None
+    → named t d ≡ Err lacking.Key
 lacks-key t (object ms) is formed nowhere = key-lacks ms (unescaped t) formed nowhere
 lacks-key t _ is formed nowhere = cc
 
@@ -517,7 +559,8 @@ pub lacks-slash : (p : List ℕ) (d : Document) → 0 < length p → get_or p 0 
 lacks-slash [] d some other = absurd (omega arith)
 lacks-slash (c ∷ p) d some other = rw (ne_eqb c 47 other) refl
 
-pub token-step : (p q t : List ℕ) (ts : List (List ℕ)) (d : Document) → 0 < length p → get_or p 0 0 ≡ 47 → q ≡ drop 1 p → tokens q ≡ t ∷ ts → first_step p d ≡ named t d
+pub token-step : (p q t : List ℕ) (ts : List (List ℕ)) (d : Document) → 0 < length p → get_or p 0 0 ≡ 47 → q ≡ drop 1 p
+    → tokens q ≡ t ∷ ts → first_step p d ≡ named t d
 token-step [] q t ts d some begins is split = absurd (omega arith)
 token-step (c ∷ p) q t ts d some begins is split =
     ap (λ x. first_step (x ∷ p) d) begins ∙ ap (λ l. named (first_of (tokens l)) d) (sym is) ∙ ap (λ xs. named (first_of xs) d) split

@@ -1,12 +1,14 @@
 -- Nodes of which each can be printed list a document that can be spelled and whose integers fit, and such a document lists them.
-use Rattle.std.proofs.Common.{◌≡◌, refl, sym, ◌∙◌, ap, subst, ℕ, Bool, true, nat_le, List, [], ◌∷◌, ◌++◌, map, take, drop, length, All, inl, inr}
+use Rattle.std.proofs.Common.{◌≡◌, refl, sym, ◌∙◌, ap, subst, ℕ, Bool, true, nat_le, List, [], ◌∷◌, ◌++◌, map, take, drop, length}
+use Rattle.std.proofs.Common.{All, inl, inr}
 use Rattle.std.proofs.lemmas.Bool.{le-leb, leb-true}
 use Rattle.std.proofs.lemmas.Str.{IsUtf8-from_is_utf8, is_utf8-from_IsUtf8}
 use Rattle.std.proofs.Math.Seq.{take-append_seam, drop-append_seam}
 use Rattle.std.proofs.lemmas.List.Elements.{All-nil, All-cons, All-head, All-tail, All-append, All-take, All-drop, All-map}
 use Rattle.simd_json_scalars.proofs.Documents.Integers.{of-integer_node}
 use Rattle.simd_json_scalars.proofs.Patterns.Sets.{Matches-matches, matches-Matches}
-use Rattle.simd_json_parts.specs.Document.{Document, null, boolean, integer, decimal, string, array, object, Elements, no_elements, element, Members, no_members, member}
+use Rattle.simd_json_parts.specs.Document.{Document, null, boolean, integer, decimal, string, array, object, Elements, no_elements}
+use Rattle.simd_json_parts.specs.Document.{element, Members, no_members, member}
 use Rattle.simd_json_parts.specs.Integers.{max_magnitude, integer_node}
 use Rattle.simd_json_parts.specs.Limits.{IntegersFit, ElementsFit, MembersFit}
 use Rattle.simd_json_parts.specs.Listing.{listing, elements_listing, members_listing}
@@ -33,7 +35,8 @@ back xs ys all = subst (All IsPrintable) (drop-append_seam xs ys) (All-drop IsPr
 
 integer-printable : (minus : Bool) (n : ℕ) → is_printable (static_item (integer_node minus n)) ≡ nat_le n (max_magnitude minus)
 integer-printable =
-    of-integer_node (λ minus n s. is_printable (static_item s) ≡ nat_le n (max_magnitude minus)) (λ n. ap (λ m. nat_le m (max_magnitude true)) (magnitude-below n)) (λ n. refl)
+    of-integer_node (λ minus n s. is_printable (static_item s) ≡ nat_le n (max_magnitude minus))
+    (λ n. ap (λ m. nat_le m (max_magnitude true)) (magnitude-below n)) (λ n. refl)
     (λ n. ap (λ m. nat_le m (max_magnitude true)) (magnitude-below n)) (λ n. refl)
 
 -- ---- from documents to nodes
@@ -91,13 +94,15 @@ mutual
 from-items : (ns : List Node) → All IsPrintable (map item_of ns) → ArePrintable ns
 from-items [] all = All-nil (λ n. IsPrintable (item_of n))
 from-items (n ∷ ns) all =
-    All-cons (λ n. IsPrintable (item_of n)) n ns (All-head IsPrintable (item_of n) (map item_of ns) all) (from-items ns (All-tail IsPrintable (item_of n) (map item_of ns) all))
+    All-cons (λ n. IsPrintable (item_of n)) n ns (All-head IsPrintable (item_of n) (map item_of ns) all)
+    (from-items ns (All-tail IsPrintable (item_of n) (map item_of ns) all))
 
 pub tape-printable : (ns : List Node) → IsTape (map item_of ns) → ArePrintable ns
 tape-printable ns (inl none) = from-items ns (subst (All IsPrintable) (sym none) (All-nil IsPrintable))
 tape-printable ns (inr (d, spells, fits, is)) = from-items ns (subst (All IsPrintable) (sym is) (printable d spells fits))
 
-pub listed-spelled : (ns : List Node) → IsListing (map item_of ns) → ArePrintable ns → IsSpellable (document_of (map item_of ns)) × IntegersFit (document_of (map item_of ns))
+pub listed-spelled : (ns : List Node) → IsListing (map item_of ns) → ArePrintable ns
+    → IsSpellable (document_of (map item_of ns)) × IntegersFit (document_of (map item_of ns))
 listed-spelled ns is all =
     spelled (document_of (map item_of ns)) (subst (All IsPrintable) (sym is) (All-map IsPrintable item_of ns all))
 

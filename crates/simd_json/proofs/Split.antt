@@ -1,7 +1,9 @@
 -- The first of documents in a row, or of pairs, and the others.
-use Rattle.std.proofs.Common.{◌≡◌, ◌∙◌, ap, sym, refl, ◌<◌, ◌-◌, ℕ, false, cond, bytes_eq, List, [], ◌∷◌, ◌++◌, length, map, take, drop, get_or, Some, None, Bor, arith}
+use Rattle.std.proofs.Common.{◌≡◌, ◌∙◌, ap, sym, refl, ◌<◌, ◌-◌, ℕ, false, cond, bytes_eq, List, [], ◌∷◌, ◌++◌, length, map, take}
+use Rattle.std.proofs.Common.{drop, get_or, Some, None, Bor, arith}
 use Rattle.std.proofs.lemmas.List.{append_cancel_left}
-use Rattle.simd_json_parts.specs.Document.{Document, null, string, array, object, Elements, no_elements, element, elements, Members, no_members, member, members}
+use Rattle.simd_json_parts.specs.Document.{Document, null, string, array, object, Elements, no_elements, element, elements, Members}
+use Rattle.simd_json_parts.specs.Document.{no_members, member, members}
 use Rattle.simd_json_parts.specs.Listing.{listing, elements_listing, members_listing}
 use Rattle.simd_json.specs.Tapes.{StandsFor}
 use Rattle.simd_json_parts.specs.Nodes.{Item, string_item, item_of}
@@ -20,11 +22,13 @@ elements-empty (element d ds) none = cc
 pub no-elements : (ds : Elements) (len : ℕ) → len ≡ length (elements ds) → len ≡ 0 → ds ≡ no_elements
 no-elements ds len counted none = elements-empty ds (sym counted ∙ none)
 
-begins-with : (ns : List Node) (ds : Elements) → elements_listing ds ≡ map item_of ns → 0 < length (elements ds) → (d : Document) × StandsFor ns d
+begins-with : (ns : List Node) (ds : Elements) → elements_listing ds ≡ map item_of ns → 0 < length (elements ds)
+    → (d : Document) × StandsFor ns d
 begins-with ns no_elements is some = absurd (omega arith)
 begins-with ns (element d ds) is some = (d, (elements_listing ds, sym is))
 
-pub begins : (ns : List Node) (len : ℕ) → AreElements (map item_of ns) → len ≡ length (elements (elements_of (map item_of ns))) → 0 < len → (d : Document) × StandsFor ns d
+pub begins : (ns : List Node) (len : ℕ) → AreElements (map item_of ns) → len ≡ length (elements (elements_of (map item_of ns)))
+    → 0 < len → (d : Document) × StandsFor ns d
 begins ns len listed counted some = begins-with ns (elements_of (map item_of ns)) listed (omega arith)
 
 -- without the first of `len` documents
@@ -33,7 +37,8 @@ pub record IsWithoutFirst (xs : List Item) (len : ℕ) (d : Document) (ys : List
   pub counted : len - 1 ≡ length (elements (elements_of ys))
   pub whole : elements_of xs ≡ element d (elements_of ys)
 
-pub without-first : (xs ys : List Item) (len : ℕ) (d : Document) → AreElements xs → len ≡ length (elements (elements_of xs)) → xs ≡ listing d ++ ys → IsWithoutFirst xs len d ys
+pub without-first : (xs ys : List Item) (len : ℕ) (d : Document) → AreElements xs → len ≡ length (elements (elements_of xs))
+    → xs ≡ listing d ++ ys → IsWithoutFirst xs len d ys
 without-first xs ys len d listed counted is =
     let whole : elements_of xs ≡ element d (elements_of ys) = ap elements_of is ∙ elements_of-listing d ys in
     let same : listing d ++ elements_listing (elements_of ys) ≡ listing d ++ ys = ap elements_listing (sym whole) ∙ listed ∙ is in
@@ -51,10 +56,12 @@ pub record IsWithoutPair (xs : List Item) (len : ℕ) (k : List ℕ) (d : Docume
   pub counted : len - 1 ≡ length (members (members_of ys))
   pub whole : members_of xs ≡ member k d (members_of ys)
 
-pub without-pair : (xs zs ys : List Item) (len : ℕ) (k : List ℕ) (d : Document) → AreMembers xs → len ≡ length (members (members_of xs)) → xs ≡ string_item k ∷ zs → zs ≡ listing d ++ ys → IsWithoutPair xs len k d ys
+pub without-pair : (xs zs ys : List Item) (len : ℕ) (k : List ℕ) (d : Document) → AreMembers xs
+    → len ≡ length (members (members_of xs)) → xs ≡ string_item k ∷ zs → zs ≡ listing d ++ ys → IsWithoutPair xs len k d ys
 without-pair xs zs ys len k d listed counted headed is =
     let whole : members_of xs ≡ member k d (members_of ys) =
-    ap members_of headed ∙ ap (λ ns. in_pairs (element (string k) (elements_of ns))) is ∙ ap (λ ds. in_pairs (element (string k) ds)) (elements_of-listing d ys) in
+    ap members_of headed ∙ ap (λ ns. in_pairs (element (string k) (elements_of ns))) is
+    ∙ ap (λ ds. in_pairs (element (string k) ds)) (elements_of-listing d ys) in
     let same : string_item k ∷ (listing d ++ members_listing (members_of ys)) ≡ string_item k ∷ (listing d ++ ys) =
     ap members_listing (sym whole) ∙ listed ∙ headed ∙ ap (λ ns. string_item k ∷ ns) is in
     record {
@@ -69,14 +76,18 @@ some-nodes ns no_members is some = absurd (omega arith)
 some-nodes [] (member k d ms) is some = cc
 some-nodes (n ∷ ns) (member k d ms) is some = omega arith
 
-headed : (ns : List Node) (default : Node) (key : Bor (List ℕ)) → 0 < length ns → get_or (take 1 ns) 0 default ≡ nodes.String key → map item_of ns ≡ string_item key.now ∷ map item_of (drop 1 ns)
+headed : (ns : List Node) (default : Node) (key : Bor (List ℕ)) → 0 < length ns → get_or (take 1 ns) 0 default ≡ nodes.String key
+    → map item_of ns ≡ string_item key.now ∷ map item_of (drop 1 ns)
 headed [] default key some is = absurd (omega arith)
 headed (n ∷ ns) default key some is = ap (λ x. item_of x ∷ map item_of ns) is
 
-pub headed-by : (ns first others : List Node) (default : Node) (key : Bor (List ℕ)) (len : ℕ) → AreMembers (map item_of ns) → len ≡ length (members (members_of (map item_of ns))) → 0 < len
-    → first ≡ take 1 ns → others ≡ drop 1 ns → get_or first 0 default ≡ nodes.String key → map item_of ns ≡ string_item key.now ∷ map item_of others
+pub headed-by : (ns first others : List Node) (default : Node) (key : Bor (List ℕ)) (len : ℕ) → AreMembers (map item_of ns)
+    → len ≡ length (members (members_of (map item_of ns))) → 0 < len
+    → first ≡ take 1 ns → others ≡ drop 1 ns → get_or first 0 default ≡ nodes.String key
+    → map item_of ns ≡ string_item key.now ∷ map item_of others
 headed-by ns first others default key len listed counted some front back is =
-    headed ns default key (some-nodes ns (members_of (map item_of ns)) listed (omega arith)) (ap (λ xs. get_or xs 0 default) (sym front) ∙ is)
+    headed ns default key (some-nodes ns (members_of (map item_of ns)) listed (omega arith))
+    (ap (λ xs. get_or xs 0 default) (sym front) ∙ is)
     ∙ ap (λ xs. string_item key.now ∷ map item_of xs) (sym back)
 
 -- ---- look-up
@@ -103,7 +114,8 @@ members_cancel (member k d ms) (member l e ns) same =
 members_cancel _ _ same = cc
 
 -- the first pair has the key, or it is looked up among the others
-pub first_with-pair : (key k : List ℕ) (d : Document) (ms ns : Members) → members ms ≡ (k, d) ∷ members ns → first_with key ms ≡ cond (bytes_eq k key) (Some d) (first_with key ns)
+pub first_with-pair : (key k : List ℕ) (d : Document) (ms ns : Members) → members ms ≡ (k, d) ∷ members ns
+    → first_with key ms ≡ cond (bytes_eq k key) (Some d) (first_with key ns)
 first_with-pair key k d no_members ns is = cc
 first_with-pair key k d (member l e ms) ns is =
     let name : l ≡ k = ap first_name is in

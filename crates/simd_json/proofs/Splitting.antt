@@ -1,5 +1,7 @@
 -- A JSON Pointer that is split once.
-use Rattle.std.proofs.Common.{◌≡◌, ◌≢◌, ◌∙◌, ap, sym, refl, suc, subst, ◌<◌, ◌≤◌, ◌+◌, ℕ, Bool, true, false, cond, List, [], ◌∷◌, ◌++◌, length, map, take, drop, set, length-drop, length-append, get_or, Some, None, Option, Result, Ok, Err, arith, ne_eqb}
+use Rattle.std.proofs.Common.{◌≡◌, ◌≢◌, ◌∙◌, ap, sym, refl, suc, subst, ◌<◌, ◌≤◌, ◌+◌, ℕ, Bool, true, false, cond, List, [], ◌∷◌}
+use Rattle.std.proofs.Common.{◌++◌, length, map, take, drop, set, length-drop, length-append, get_or, Some, None, Option, Result}
+use Rattle.std.proofs.Common.{Ok, Err, arith, ne_eqb}
 use Rattle.std.specs.Prelude.{◌==◌, ◌&&◌, All, is_some, option_and_then}
 use Rattle.std.specs.List.{list_all}
 use Rattle.std.specs.Result.{result_ok}
@@ -111,7 +113,8 @@ tokens-more p i t ss n s at room start long so_far =
 
 pub tokens-kept : (p : List ℕ) (ss : List Part) (n : ℕ) (s : Part) → n < length ss → All (IsToken p) (take n ss) → IsToken p s
     → All (IsToken p) (take (n + 1) (set ss n s))
-tokens-kept p ss n s room so_far is = subst (All (IsToken p)) (sym (take_more_set ss n s room)) (All-push (IsToken p) (take n ss) s so_far is)
+tokens-kept p ss n s room so_far is =
+    subst (All (IsToken p)) (sym (take_more_set ss n s room)) (All-push (IsToken p) (take n ss) s so_far is)
 
 -- ---- whether the pointer is well formed
 

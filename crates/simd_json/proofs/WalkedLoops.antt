@@ -1,5 +1,6 @@
 -- The walk between values: through the containers that end, and through those that open.
-use Rattle.std.proofs.Common.{◌≡◌, refl, sym, ◌∙◌, ap, subst, ℕ, suc, ◌+◌, ◌-◌, ◌<◌, ◌≤◌, inl, inr, List, [], ◌∷◌, length, get_or, set, Bool, true, false, arith}
+use Rattle.std.proofs.Common.{◌≡◌, refl, sym, ◌∙◌, ap, subst, ℕ, suc, ◌+◌, ◌-◌, ◌<◌, ◌≤◌, inl, inr, List, [], ◌∷◌, length, get_or}
+use Rattle.std.proofs.Common.{set, Bool, true, false, arith}
 use Rattle.std.specs.Prelude.{Result, Ok, Err, MatchResult}
 use Rattle.std.proofs.lemmas.List.{get_or-set_other, get_or-set_same}
 use Rattle.simd_json_parts.specs.Bytes.{byte_at}
@@ -12,9 +13,12 @@ use Rattle.simd_json_parts.specs.declared.error.ErrorType.TheVariants.{DepthLimi
 use Rattle.simd_json_stages.specs.Building.{closed_with}
 use Rattle.simd_json_stages.specs.Continued.{Open, in_array, in_object, after_value, at_value}
 use Rattle.simd_json_stages.proofs.Places.{token}
-use Rattle.simd_json_stages.proofs.Steps.{at_value-root, at_value-open, at_value-too_deep, at_value-scalar, after_value-root, at_value-missing, at_value-fault, at_value-unexpected, at_value-open_object, at_value-object_too_deep, at_value-string, at_value-string_fault}
+use Rattle.simd_json_stages.proofs.Steps.{at_value-root, at_value-open, at_value-too_deep, at_value-scalar, after_value-root}
+use Rattle.simd_json_stages.proofs.Steps.{at_value-missing, at_value-fault, at_value-unexpected, at_value-open_object}
+use Rattle.simd_json_stages.proofs.Steps.{at_value-object_too_deep, at_value-string, at_value-string_fault}
 use Rattle.simd_json_stages.proofs.TokenForms.{opens, opens_object}
-use Rattle.simd_json.specs.Walked.{IsAfterValue, IsAlong, IsBeforeValue, IsLeaf, IsNext, IsNoLeaf, IsValue, AreKinds, at_inside, empty, is_object, missing, opened, opener, tokens_at, with_value}
+use Rattle.simd_json.specs.Walked.{IsAfterValue, IsAlong, IsBeforeValue, IsLeaf, IsNext, IsNoLeaf, IsValue, AreKinds, at_inside}
+use Rattle.simd_json.specs.Walked.{empty, is_object, missing, opened, opener, tokens_at, with_value}
 use Rattle.simd_json.specs.WalkedNext.{IsFollowed, IsInside, IsNotFollowed, IsNotInside}
 use Rattle.simd_json.specs.declared.location.tokens.Place.{Place}
 use Rattle.simd_json.specs.declared.location.walk.Nesting.{Nesting}

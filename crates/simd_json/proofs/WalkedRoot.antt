@@ -1,5 +1,6 @@
 -- The root of an input, what comes after it, and the errors of the input as a whole.
-use Rattle.std.proofs.Common.{◌≡◌, ◌≢◌, refl, sym, ◌∙◌, ap, ℕ, zero, suc, ◌-◌, ◌<◌, ◌≤◌, inl, inr, List, [], ◌∷◌, ◌++◌, length, take, Bool, true, false, not, ◌&&◌, ◌||◌, ◌==◌, length-append, arith}
+use Rattle.std.proofs.Common.{◌≡◌, ◌≢◌, refl, sym, ◌∙◌, ap, ℕ, zero, suc, ◌-◌, ◌<◌, ◌≤◌, inl, inr, List, [], ◌∷◌, ◌++◌, length}
+use Rattle.std.proofs.Common.{take, Bool, true, false, not, ◌&&◌, ◌||◌, ◌==◌, length-append, arith}
 use Rattle.std.specs.Prelude.{Option, Some, None, Result, Ok, Err, is_some, MatchOption, if◌then◌else◌}
 use Rattle.std.specs.Result.{result_err}
 use Rattle.std.proofs.lemmas.Bool.{and_parts, cases_Bool, eqb-true, eq-eqb, ne_eqb, false≢true, or_cases, or_from, or_left, or_right}
@@ -7,7 +8,8 @@ use Rattle.std.proofs.lemmas.List.Folds.{Any-from_list_any}
 use Rattle.std.proofs.lemmas.List.FromFn.{get_or-range_with_len, length-range_with_len}
 use Rattle.std.proofs.Math.Seq.{take-append_seam}
 use Rattle.simd_json_parts.specs.Bytes.{byte_at, indices, is_control}
-use Rattle.simd_json_parts.specs.Descent.{◌>>=◌, is_container, last_index, last_read, root_end, value_of, value_from, descent, too_deep, array_from, object_from}
+use Rattle.simd_json_parts.specs.Descent.{◌>>=◌, is_container, last_index, last_read, root_end, value_of, value_from, descent}
+use Rattle.simd_json_parts.specs.Descent.{too_deep, array_from, object_from}
 use Rattle.simd_json_parts.specs.Document.{Document, string, array, object, Elements, Members}
 use Rattle.simd_json_parts.specs.Faults.{fault_at, whole_fault}
 use Rattle.simd_json_parts.specs.InputFaults.{has_bad_string, scan_fault}

@@ -1,5 +1,6 @@
 -- The steps of the walk over tokens: none of them changes what the descent makes of the rest.
-use Rattle.std.proofs.Common.{◌≡◌, ◌≢◌, refl, sym, ◌∙◌, ap, subst, ℕ, suc, ◌+◌, ◌<◌, ◌≤◌, List, [], ◌∷◌, ◌++◌, length, Bool, true, false, drop, arith}
+use Rattle.std.proofs.Common.{◌≡◌, ◌≢◌, refl, sym, ◌∙◌, ap, subst, ℕ, suc, ◌+◌, ◌<◌, ◌≤◌, List, [], ◌∷◌, ◌++◌, length, Bool, true}
+use Rattle.std.proofs.Common.{false, drop, arith}
 use Rattle.std.specs.Prelude.{Some, Ok, Err}
 use Rattle.simd_json_parts.specs.Bytes.{byte_at}
 use Rattle.simd_json_parts.specs.Document.{Document}
@@ -12,8 +13,13 @@ use Rattle.simd_json_parts.specs.declared.error.ErrorType.TheVariants.{ExpectedO
 use Rattle.simd_json_scalars.proofs.Positions.TokensAtPositions.{tokens_at-token}
 use Rattle.simd_json_stages.specs.Continued.{Open, in_array, in_object, after_value, at_value, at_array, at_object, at_name}
 use Rattle.simd_json_stages.proofs.Places.{token}
-use Rattle.simd_json_stages.proofs.Steps.{after_value-comma, at_array-close, at_array-element, at_array-missing, after_value-closed, after_value-none, after_value-unexpected, at_object-close, at_object-missing, at_object-name, at_name-value, at_name-missing, at_name-other, at_name-fault, at_name-no_more, at_name-no_colon, after_value-member_comma, closing_form, content_error, ends_member_of}
-use Rattle.simd_json_stages.proofs.TokenForms.{closes, closes_object, colons, commas, quotes, no_end, no_end_object, no_string, no_colon, no_ending, no_member_ending}
+use Rattle.simd_json_stages.proofs.Steps.{after_value-comma, at_array-close, at_array-element, at_array-missing, after_value-closed}
+use Rattle.simd_json_stages.proofs.Steps.{after_value-none, after_value-unexpected, at_object-close, at_object-missing}
+use Rattle.simd_json_stages.proofs.Steps.{at_object-name, at_name-value, at_name-missing, at_name-other, at_name-fault}
+use Rattle.simd_json_stages.proofs.Steps.{at_name-no_more, at_name-no_colon, after_value-member_comma, closing_form, content_error}
+use Rattle.simd_json_stages.proofs.Steps.{ends_member_of}
+use Rattle.simd_json_stages.proofs.TokenForms.{closes, closes_object, colons, commas, quotes, no_end, no_end_object, no_string}
+use Rattle.simd_json_stages.proofs.TokenForms.{no_colon, no_ending, no_member_ending}
 use Rattle.simd_json.specs.Walked.{IsAlong, IsKey, IsNext, IsNoKey, closer, content_kind, is_object, missing, tokens_at, with_value}
 use Rattle.simd_json.specs.WalkedNext.{IsFollowed, IsInside, IsNotFollowed, IsNotInside}
 use Rattle.simd_json.specs.declared.location.tokens.Place.{Place}

@@ -1,5 +1,6 @@
 -- The tokens of an input, one after another: where each ends, and where the next begins.
-use Rattle.std.proofs.Common.{◌≡◌, refl, sym, ◌∙◌, ap, subst, ℕ, suc, ◌+◌, ◌-◌, ◌<◌, ◌≤◌, inl, inr, List, [], ◌∷◌, ◌++◌, length, take, drop, Contains, Bool, true, false, ◌&&◌, nat_eq, nat_lt, append_assoc, length-append, arith}
+use Rattle.std.proofs.Common.{◌≡◌, refl, sym, ◌∙◌, ap, subst, ℕ, suc, ◌+◌, ◌-◌, ◌<◌, ◌≤◌, inl, inr, List, [], ◌∷◌, ◌++◌, length}
+use Rattle.std.proofs.Common.{take, drop, Contains, Bool, true, false, ◌&&◌, nat_eq, nat_lt, append_assoc, length-append, arith}
 use Rattle.std.specs.Prelude.{Option, Some, None, Result, Ok, Err, IfOk, IsErrAnd, MatchResult, codes, if◌then◌else◌}
 use Rattle.std.specs.List.{starts_with}
 use Rattle.std.specs.Option.{option_map_or}
@@ -27,7 +28,8 @@ use Rattle.simd_json_scalars.proofs.Positions.Between.{position-first}
 use Rattle.simd_json_scalars.proofs.Positions.TokensAtPositions.{tokens_from-skip, tokens_at-token, some_byte}
 use Rattle.simd_json_stages.proofs.Places.{token, string-closed}
 use Rattle.simd_json_stages.proofs.TokenForms.{last_index-append, quotes}
-use Rattle.simd_json_stages.proofs.ScalarLaws.{form_at-true, form_at-false, form_at-null, form_at-no_true, form_at-no_false, form_at-no_null}
+use Rattle.simd_json_stages.proofs.ScalarLaws.{form_at-true, form_at-false, form_at-null, form_at-no_true, form_at-no_false}
+use Rattle.simd_json_stages.proofs.ScalarLaws.{form_at-no_null}
 use Rattle.simd_json.specs.Walked.{tokens_at, missing, IsAlong, IsLeaf, IsNext, IsNoLeaf}
 use Rattle.simd_json.specs.declared.location.tokens.Place.{Place}
 

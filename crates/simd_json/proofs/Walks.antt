@@ -1,6 +1,7 @@
 -- What a walk that recurses over values needs to be shown to end.
 use Rattle.std.proofs.Common.{◌≡◌, ap, ◌<◌, ◌+◌, List, ◌∷◌, ℕ, refl, arith}
-use Rattle.simd_json_parts.specs.Document.{Document, array, object, Elements, no_elements, element, elements, Members, no_members, member, members}
+use Rattle.simd_json_parts.specs.Document.{Document, array, object, Elements, no_elements, element, elements, Members, no_members}
+use Rattle.simd_json_parts.specs.Document.{member, members}
 use Rattle.simd_json_parts.specs.Views.{values}
 use Rattle.simd_json.specs.Sizes.{size, elements_size, members_size, sizes, pair_sizes}
 

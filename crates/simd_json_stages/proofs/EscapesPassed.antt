@@ -50,19 +50,19 @@ plain-ahead b rest hay blocks base at next start from upto is low p starts later
       | inl h ↦ p.plain j f (elim (cases_lt next (length blocks)) [
         | inl l ↦ omega (arith, h, up (omega arith), starts l, begins b blocks next p.blocks l)
         | inr l ↦
-          let past : get_or (backslash_blocks b) next (blocks_in (length b)) ≡ blocks_in (length b) =
-              get_or_past (backslash_blocks b) next (blocks_in (length b)) (omega (arith, ap length p.blocks)) in
-          omega (arith, h, past, within, ap length is, length-drop base b)
+            let past : get_or (backslash_blocks b) next (blocks_in (length b)) ≡ blocks_in (length b) =
+            get_or_past (backslash_blocks b) next (blocks_in (length b)) (omega (arith, ap length p.blocks)) in
+            omega (arith, h, past, within, ap length is, length-drop base b)
       ]) e
       | inr h ↦ elim (cases_lt j (length b)) [
         | inl l ↦
-          let there : base + (from - base) ≡ from = omega arith in
-          let further : from + (j - from) ≡ j = omega (arith, h) in
-          let tail : hay ≡ drop from b = cut ∙ ap (drop (from - base)) (sym is) ∙ drop-drop (from - base) base b
-              ∙ ap (λ n. drop n b) there in
-          let short : j - from < length hay = omega (arith, h, l, ap length tail, length-drop from b) in
-          absurd (none (j - from) (omega (arith, h)) short (get_or_default hay (j - from) 0 32 short
-          ∙ ap (λ us. get_or us (j - from) 32) tail ∙ get_or-drop from b (j - from) 32 ∙ ap (byte_at b) further ∙ e))
+            let there : base + (from - base) ≡ from = omega arith in
+            let further : from + (j - from) ≡ j = omega (arith, h) in
+            let tail : hay ≡ drop from b = cut ∙ ap (drop (from - base)) (sym is) ∙ drop-drop (from - base) base b
+            ∙ ap (λ n. drop n b) there in
+            let short : j - from < length hay = omega (arith, h, l, ap length tail, length-drop from b) in
+            absurd (none (j - from) (omega (arith, h)) short (get_or_default hay (j - from) 0 32 short
+            ∙ ap (λ us. get_or us (j - from) 32) tail ∙ get_or-drop from b (j - from) 32 ∙ ap (byte_at b) further ∙ e))
         | inr l ↦ let past : byte_at b j ≡ 32 = get_or_past b j 32 l in omega (arith, past, e)
       ]
     ]

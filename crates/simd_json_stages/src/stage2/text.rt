@@ -214,7 +214,13 @@ pub(crate) struct Escapes<'a> {
 // or past every input where there is none. `rest` is the input from index `base` on. It is out of line, and takes no
 // more than it reads, since whatever is lent to such a call stays in memory.
 #[inline(never)]
-fn next_backslash(blocks: &[u32], next: usize, at: usize, rest: &[u8], base: usize) -> (usize, usize)
+fn next_backslash(
+    blocks: &[u32],
+    next: usize,
+    at: usize,
+    rest: &[u8],
+    base: usize,
+) -> (usize, usize)
     requires { (base ≤ at) × (at ≤ base + length rest.now) × (base + length rest.now < 2 ^ 64) }
     ensures { (b : List ℕ) → drop base b ≡ rest.now → ArePassed b blocks.now next at
         → ArePassed b blocks.now result.0 at × PlainFrom b at result.1 }

@@ -15,7 +15,8 @@ use contract.BorrowLft.{◌⊑◌}
 use sound.WpLaws.{WpFn-mono}
 use types.Logic.{Logic, sem}
 use base.Fml.{ftrue}
-use types.Kit.{Goal, Seq, Item, ‵, raw, ◌⊛◌, prop, at_ret, ◌$◌, ◌∵◌, !, qed, move, drop, use1, split, fsplit, fjoin, fpick, fpack, regoal, rewrite, suffices, done}
+use types.Kit.{Goal, Seq, Item, ‵, raw, ◌⊛◌, prop, at_ret, ◌$◌, ◌∵◌, !, qed, move, drop, use1, split, fsplit, fjoin, fpick, fpack}
+use types.Kit.{regoal, rewrite, suffices, done}
 use types.Run.{enter, returns, of_opd, addr, from, load, stop, first, blocks, exec}
 use types.ByLocal.{alloc_all, pass_all, free_all, look_at, get, through, sets, sets_last, env}
 use denote.Exit.{no}
@@ -55,7 +56,8 @@ module _ {M : Type 1} {𝓤 : Ura M} {𝓛 : Logic 𝓤} {K : Type 0} {Γ : List
   -- what is owned is one machine value, of its type
   tells : K → (R : RattleType) → Laws R → (x : R.Denot) (vs : List Val)
       → ((v : Val) → vs ≡ v ∷ [] → Good R v → Seq K 𝓛 (‵ (R.own_val x (v ∷ [])) ∷ Γ) G) → Seq K 𝓛 (‵ (R.own_val x vs) ∷ Γ) G
-  tells t R L = handle_tells (record { row = R; laws = L; g = record { dealloc_token = λ a τ p. ftrue }; d = dict_at 0; drops = dict_at 0 }) t
+  tells t R L = handle_tells
+      (record { row = R; laws = L; g = record { dealloc_token = λ a τ p. ftrue }; d = dict_at 0; drops = dict_at 0 }) t
 
 none_of : {X : Type 0} (xs : List X) → length xs ≡ 0 → xs ≡ []
 none_of [] e = refl

@@ -22,6 +22,13 @@ returns-in_err-lengthen-clause-fault g c =
     passed-on c.from_residual-in_err-lengthen.result _ _ c.from_residual-in_err-lengthen.ensures.1
     (inr (
       (c.in_err-lengthen.ensures.refused.0, right.0, right.1),
-      short-stack c.args.self.now count (length c.args.input.now) (omega (arith, c.in_err-lengthen.ensures.refused.2, c.min-open.ensures, ap (λ r. r.stack_capacity) (c.self.view_is ∙ c.clear.ensures), ap (λ r. r.limit) (c.self.view_is ∙ c.clear.ensures)))
+      short-stack c.args.self.now count (length c.args.input.now)
+          (omega (
+            arith,
+            c.in_err-lengthen.ensures.refused.2,
+            c.min-open.ensures,
+            ap (λ r. r.stack_capacity) (c.self.view_is ∙ c.clear.ensures),
+            ap (λ r. r.limit) (c.self.view_is ∙ c.clear.ensures),
+          ))
           (omega (arith, few-positions c.args.input.now, ap length found.1, length-take-le count _ found.0)),
     ))

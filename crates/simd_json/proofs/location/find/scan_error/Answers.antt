@@ -22,4 +22,9 @@ returns c =
     let inside : c.space_end.result < length b = omega (arith, c.if-space_end-input.false, c.space_end.ensures.within) in
     scan-none b false (bad-none b (omega (arith, c.if-bad_string-input.false, c.bad_string.ensures)))
     (some-token b c.space_end.result
-    (record { forward = c.space_end.ensures.forward; inside = inside; same = c.space_end.ensures.same; some = c.space_end.ensures.some inside }))
+    (record {
+      forward = c.space_end.ensures.forward;
+      inside = inside;
+      same = c.space_end.ensures.same;
+      some = c.space_end.ensures.some inside;
+    }))

@@ -21,4 +21,9 @@ returns-else-space_end-input c =
     let inside : c.space_end.result < length b = omega (arith, c.if-space_end-input.false, c.space_end.ensures.within) in
     ap Some c.fault.ensures
     ∙ sym (descent-more b c.args.max_depth c.in-Ok.end c.in-Ok.kind c.in-Ok.ensures c.space_end.result
-    (record { forward = c.space_end.ensures.forward; inside = inside; same = c.space_end.ensures.same; some = c.space_end.ensures.some inside }))
+    (record {
+      forward = c.space_end.ensures.forward;
+      inside = inside;
+      same = c.space_end.ensures.same;
+      some = c.space_end.ensures.some inside;
+    }))

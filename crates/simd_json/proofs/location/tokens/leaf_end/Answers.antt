@@ -8,7 +8,8 @@ use Rattle.simd_json_stages.proofs.ScalarLaws.{form_at-number, form_at-no_scalar
 use Rattle.simd_json_stages.proofs.TokenForms.{no_value}
 use Rattle.simd_json.proofs.WalkedTokens.{number-leaf, string-leaf, true-leaf, false-leaf, null-leaf}
 use Rattle.simd_json.proofs.location.tokens.leaf_end.Goals as goal
-use Rattle.simd_json.proofs.location.tokens.leaf_end.Goals.{then-byte-eq45-via-then-byte-eq45, then-byte-eq45-via-else-byte-eq45+then-is_ascii_digit}
+use Rattle.simd_json.proofs.location.tokens.leaf_end.Goals.{then-byte-eq45-via-then-byte-eq45}
+use Rattle.simd_json.proofs.location.tokens.leaf_end.Goals.{then-byte-eq45-via-else-byte-eq45+then-is_ascii_digit}
 
 pub string_end-requires-clause-closed : goal.string_end-requires-clause-closed
 string_end-requires-clause-closed c =

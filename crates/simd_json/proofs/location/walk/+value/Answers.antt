@@ -4,7 +4,8 @@ use Rattle.simd_json_parts.specs.Descent.{value_from}
 use Rattle.simd_json.specs.Walked.{missing, tokens_at}
 use Rattle.simd_json.specs.WalkedNext.{GoesOn, IsInside, IsOnward}
 use Rattle.simd_json.proofs.WalkedTokens.{next-read, only-err}
-use Rattle.simd_json.proofs.WalkedLoops.{descend-none, descend-call, descend-leaf, descend-no_leaf, descend-deep, descend-empty, descend-not_inside, descend-open, leaf-along, container-along, value-begins}
+use Rattle.simd_json.proofs.WalkedLoops.{descend-none, descend-call, descend-leaf, descend-no_leaf, descend-deep, descend-empty}
+use Rattle.simd_json.proofs.WalkedLoops.{descend-not_inside, descend-open, leaf-along, container-along, value-begins}
 use Rattle.simd_json.proofs.location.walk.+value.Goals as goal
 
 -- ---- before a value
@@ -17,7 +18,8 @@ descend-returns-in_err-i-clause-read t c whole at =
     (o.invariant.read whole at) _ c.in_err-i.ensures.0 c.in_err-i.ensures.1)
 
 pub descend-leaf_end-requires-clause-token : goal.descend-leaf_end-requires-clause-token
-descend-leaf_end-requires-clause-token t c = next-read c.args.input.now c.openings.at c.in_ok-i.i c.openings.invariant.along c.in_ok-i.ensures
+descend-leaf_end-requires-clause-token t c =
+    next-read c.args.input.now c.openings.at c.in_ok-i.i c.openings.invariant.along c.in_ok-i.ensures
 
 pub descend-returns-in_err-next-clause-read : goal.descend-returns-in_err-next-clause-read
 descend-returns-in_err-next-clause-read t c whole at =

@@ -6,7 +6,8 @@ use Rattle.simd_json.specs.Walked.{closer}
 use Rattle.simd_json.specs.WalkedNext.{IsFollowed, IsNotFollowed}
 use Rattle.simd_json.specs.declared.location.walk.Next.TheVariants.{Value}
 use Rattle.simd_json.proofs.WalkedTokens.{only-err}
-use Rattle.simd_json.proofs.WalkedSteps.{not-followed-none, followed-end, not-followed-other, comma-along, followed-element, followed-member, not-followed-member}
+use Rattle.simd_json.proofs.WalkedSteps.{not-followed-none, followed-end, not-followed-other, comma-along, followed-element}
+use Rattle.simd_json.proofs.WalkedSteps.{followed-member, not-followed-member}
 use Rattle.simd_json.proofs.location.walk.after_value.Goals as goal
 
 pub returns-in_err-i : goal.returns-in_err-i

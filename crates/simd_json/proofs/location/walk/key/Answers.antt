@@ -52,7 +52,8 @@ returns-in_err-colon c =
     let quote : byte_at b i ≡ 34 = get_or_default b i 32 0 n.inside ∙ c.if-input-i-ne34.false in
     let read = c.in_ok-next.ensures in
     only-err _ _ _ _ c.from_residual-in_err-colon.ensures.1
-    (no-key-end b c.args.kind c.args.from i n quote read.2.0 c.in_ok-next.next read.2.1 read.0 _ c.in_err-colon.ensures.0 c.in_err-colon.ensures.1)
+    (no-key-end b c.args.kind c.args.from i n quote read.2.0 c.in_ok-next.next read.2.1 read.0 _ c.in_err-colon.ensures.0
+    c.in_err-colon.ensures.1)
 
 pub returns-then-input-colon-ne58 : goal.returns-then-input-colon-ne58
 returns-then-input-colon-ne58 c levels ms outer =

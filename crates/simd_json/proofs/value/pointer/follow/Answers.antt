@@ -30,7 +30,8 @@ overflow_add-followed-in-loop-reached c =
     let p = c.args.pointer.now in
     let i = c.loop-reached.followed in
     let q = drop (i + 1) p in
-    let len : c.in-Some.len ≡ length (first_of (tokens q)) = c.in-Some.ensures.len ∙ ap (λ l. length (first_of (tokens l))) (rest p (i + 1)) in
+    let len : c.in-Some.len ≡ length (first_of (tokens q)) =
+    c.in-Some.ensures.len ∙ ap (λ l. length (first_of (tokens l))) (rest p (i + 1)) in
     omega (arith, len, (first-is q).within, length-drop (i + 1) p)
 
 pub overflow_add-followed-in-loop-reached-2 : goal.overflow_add-followed-in-loop-reached-2
@@ -38,6 +39,7 @@ overflow_add-followed-in-loop-reached-2 c =
     let p = c.args.pointer.now in
     let i = c.loop-reached.followed in
     let q = drop (i + 1) p in
-    let len : c.in-Some.len ≡ length (first_of (tokens q)) = c.in-Some.ensures.len ∙ ap (λ l. length (first_of (tokens l))) (rest p (i + 1)) in
+    let len : c.in-Some.len ≡ length (first_of (tokens q)) =
+    c.in-Some.ensures.len ∙ ap (λ l. length (first_of (tokens l))) (rest p (i + 1)) in
     let begins = c.loop-reached-test.ensures.0 refl in
     omega (arith, len, begins.0, (first-is q).within, length-drop (i + 1) p)

@@ -5,7 +5,8 @@ use Rattle.simd_json.proofs.value.pointer.follow.Given as goal
 
 abbrev pub invariant-loop-reached : goal.invariant-loop-reached
 invariant-loop-reached l =
-    (l.followed ≤ length l.pointer) × (pointed l.pointer (doc l.fn.value) ≡ pointed_from l.followed (drop l.followed l.pointer) (doc l.reached))
+    (l.followed ≤ length l.pointer)
+    × (pointed l.pointer (doc l.fn.value) ≡ pointed_from l.followed (drop l.followed l.pointer) (doc l.reached))
 
 abbrev pub decreases-loop-reached : goal.decreases-loop-reached
 decreases-loop-reached l = length l.pointer - l.followed

@@ -6,7 +6,8 @@ use Rattle.simd_json.proofs.Pointed.{is_some-len, lacks-element, lacks-key, lack
 use Rattle.simd_json.proofs.value.pointer.lack_within.Goals as goal
 
 pub returns-then-is_index : goal.returns-then-is_index
-returns-then-is_index c = lacks-element c.args.token.now (doc c.args.value) (sym c.if-is_array.ensures) (sym c.if-is_index.ensures) c.requires
+returns-then-is_index c =
+    lacks-element c.args.token.now (doc c.args.value) (sym c.if-is_array.ensures) (sym c.if-is_index.ensures) c.requires
 
 pub returns-then-is_some : goal.returns-then-is_some
 returns-then-is_some c =

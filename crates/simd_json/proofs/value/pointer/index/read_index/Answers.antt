@@ -9,7 +9,9 @@ loop-byte-preserved c =
     (fits.0 ∙ number-longer c.args.token.now l.byte-index l.index (omega arith) l.invariant.0, fits.1)
 
 pub returns : goal.returns
-returns c = sym (index-read c.args.token.now c.loop-byte.byte-index c.loop-byte.index (omega arith) c.loop-byte.invariant.0 c.loop-byte.invariant.1 (sym c.if-not-is_index.ensures))
+returns c = sym (index-read c.args.token.now c.loop-byte.byte-index c.loop-byte.index
+    (omega arith) c.loop-byte.invariant.0 c.loop-byte.invariant.1 (sym c.if-not-is_index.ensures))
 
 pub returns-in_default : goal.returns-in_default
-returns-in_default c = sym (index-too-long c.args.token.now c.loop-byte.byte-index c.loop-byte.index (omega arith) c.loop-byte.invariant.0 c.in_default.ensures (sym c.if-not-is_index.ensures))
+returns-in_default c = sym (index-too-long c.args.token.now c.loop-byte.byte-index c.loop-byte.index
+    (omega arith) c.loop-byte.invariant.0 c.in_default.ensures (sym c.if-not-is_index.ensures))

@@ -19,7 +19,8 @@ pub returns-clause-len : goal.returns-clause-len
 returns-clause-len c =
     let l = c.loop-at in
     let none = ap unescaped (drop_all l.at c.args.token.now c.loop-at-test.false) in
-    let whole : option_map (λ key. length key) (unescaped c.args.token.now) ≡ Some (l.len + 0) = l.invariant.0 ∙ ap (option_map (λ key. l.len + length key)) none in
+    let whole : option_map (λ key. length key) (unescaped c.args.token.now) ≡ Some (l.len + 0) =
+    l.invariant.0 ∙ ap (option_map (λ key. l.len + length key)) none in
     let number : l.len ≡ l.len + 0 = omega arith in
     ap Some number ∙ sym whole
 

@@ -3,7 +3,8 @@ use Rattle.std.proofs.lemmas.List.{drop_all}
 use Rattle.simd_json.specs.Pointed.{unescaped}
 use Rattle.simd_json.proofs.Pointed.{key-ends, key-differs, key-goes-on, key-is-whole}
 use Rattle.simd_json.proofs.value.pointer.token.is_unescaped.Goals as goal
-use Rattle.simd_json.proofs.value.pointer.token.is_unescaped.Goals.{then-matched-key-via-then-matched-key, then-matched-key-via-else-matched-key+then-key-matched}
+use Rattle.simd_json.proofs.value.pointer.token.is_unescaped.Goals.{then-matched-key-via-then-matched-key}
+use Rattle.simd_json.proofs.value.pointer.token.is_unescaped.Goals.{then-matched-key-via-else-matched-key+then-key-matched}
 
 pub returns-then-matched-key : goal.returns-then-matched-key
 returns-then-matched-key c =
@@ -14,9 +15,11 @@ returns-then-matched-key c =
       λ h. cc,
       λ is. absurd
           (elim c.then-matched-key.branch [
-            | then-matched-key-via-then-matched-key w ↦ key-ends rest key l.matched written.byte (omega arith) (sym c.in-Some.ensures.decoded ∙ l.invariant.0.0 is)
+            | then-matched-key-via-then-matched-key w ↦
+                key-ends rest key l.matched written.byte (omega arith) (sym c.in-Some.ensures.decoded ∙ l.invariant.0.0 is)
             | then-matched-key-via-else-matched-key+then-key-matched w ↦
-                key-differs rest key l.matched written.byte (omega arith) w.if-key-matched.true (sym c.in-Some.ensures.decoded ∙ l.invariant.0.0 is)
+                key-differs rest key l.matched written.byte (omega arith) w.if-key-matched.true
+                (sym c.in-Some.ensures.decoded ∙ l.invariant.0.0 is)
           ]),
     )
 

@@ -4,7 +4,8 @@ use Rattle.simd_json.specs.Followed.{tokens_after}
 use Rattle.simd_json.specs.Pointed.{is_pointer, token_count, unescaped}
 use Rattle.simd_json.specs.Splitting.{part_of}
 use Rattle.simd_json.proofs.Pointed.{IsTokenAt, is_some-len, rest, token-at}
-use Rattle.simd_json.proofs.Splitting.{token-ends, token-is, tokens-more, tokens-kept, formed-further, malformed-begin, count-so-far, more-tokens}
+use Rattle.simd_json.proofs.Splitting.{token-ends, token-is, tokens-more, tokens-kept, formed-further, malformed-begin}
+use Rattle.simd_json.proofs.Splitting.{count-so-far, more-tokens}
 use Rattle.simd_json.proofs.value.pointer.split.Pointer.new.Goals as goal
 use Rattle.simd_json.proofs.value.pointer.split.Pointer.new.Goals.{then-len-via-then-len, then-len-via-else-len+then-bytes-at-ne47}
 
@@ -15,10 +16,15 @@ returns-then-len-clause-formed g c =
     let same = c.as_bytes-bytes.ensures.value in
     elim c.then-len.branch [
       | then-len-via-then-len w ↦
-          let count = count-so-far p l.at l.parts l.len (omega (arith, l.invariant.counted, l.invariant.room)) l.invariant.all in
-          (λ no. absurd (true≢false (sym no)), λ is. absurd (omega (arith, is.1, ap token_count same, count, more-tokens p l.at c.loop-at-test.true, w.if-len.true)))
-      | then-len-via-else-len+then-bytes-at-ne47 w ↦
-          (λ no. absurd (true≢false (sym no)), λ is. sym (l.invariant.formed ∙ malformed-begin p l.at c.loop-at-test.true w.if-bytes-at-ne47.true) ∙ ap is_pointer same ∙ is.0)
+          let count = count-so-far p l.at l.parts l.len (omega (arith, l.invariant.counted, l.invariant.room)) l.invariant.all in (
+            λ no. absurd (true≢false (sym no)),
+            λ is. absurd (omega (arith, is.1, ap token_count same, count, more-tokens p l.at c.loop-at-test.true, w.if-len.true)),
+          )
+      | then-len-via-else-len+then-bytes-at-ne47 w ↦ (
+        λ no. absurd (true≢false (sym no)),
+        λ is. sym (l.invariant.formed ∙ malformed-begin p l.at c.loop-at-test.true w.if-bytes-at-ne47.true)
+            ∙ ap is_pointer same ∙ is.0,
+      )
     ]
 
 pub loop-at-preserved : goal.loop-at-preserved
@@ -27,7 +33,8 @@ loop-at-preserved g c =
     let l = c.loop-at in
     let t = c.first_token.result.now in
     let at : IsTokenAt p l.at t =
-    token-at p l.at _ t (rest p (l.at + 1)) c.loop-at-test.true c.if-bytes-at-ne47.false c.first_token.ensures.token c.first_token.ensures.ended in
+    token-at p l.at _ t (rest p (l.at + 1))
+    c.loop-at-test.true c.if-bytes-at-ne47.false c.first_token.ensures.token c.first_token.ensures.ended in
     let part = c.in-Some.part in
     let start = c.in-Some.ensures.0 in
     let long = c.in-Some.ensures.1 in
@@ -40,7 +47,8 @@ loop-at-preserved g c =
       counted = omega (arith, c.if-len.false, l.invariant.counted);
       room = length-set l.parts l.len part ∙ l.invariant.room;
       formed = l.invariant.formed ∙ formed-further p l.at t at formed ∙ ap (λ n. is_pointer (drop n p)) ends;
-      tokens = tokens-kept p l.parts l.len part room l.invariant.tokens (token-is p l.at t part c.as_bytes-bytes.ensures.utf8 at start long kept);
+      tokens = tokens-kept p l.parts l.len part room l.invariant.tokens
+          (token-is p l.at t part c.as_bytes-bytes.ensures.utf8 at start long kept);
       all =
           tokens-more p l.at t l.parts l.len part at room start long l.invariant.all
           ∙ ap (λ n. map (part_of p) (take (l.len + 1) (set l.parts l.len part)) ++ tokens_after (drop n p)) ends;

@@ -23,14 +23,16 @@ loop-held-preserved c =
       within = c.in-Some.ensures.within;
       decoded =
           l.invariant.decoded
-          ∙ held-more (unescaped (drop l.rest t)) (unescaped (drop w.end t)) l.bytes l.held w.byte (omega (arith, l.invariant.room)) c.in-Some.ensures.decoded;
+          ∙ held-more (unescaped (drop l.rest t)) (unescaped (drop w.end t)) l.bytes l.held w.byte
+          (omega (arith, l.invariant.room)) c.in-Some.ensures.decoded;
     }
 
 pub returns-in_default-decoded_len : goal.returns-in_default-decoded_len
 returns-in_default-decoded_len c =
     let l = c.loop-held in
     l.invariant.decoded
-    ∙ ap (option_map (λ others. take l.held l.bytes ++ others)) (ap unescaped (sym (rest c.args.token.now l.rest)) ∙ malformed _ c.in_default-decoded_len.ensures.len)
+    ∙ ap (option_map (λ others. take l.held l.bytes ++ others))
+    (ap unescaped (sym (rest c.args.token.now l.rest)) ∙ malformed _ c.in_default-decoded_len.ensures.len)
 
 pub returns : goal.returns
 returns c =
@@ -42,7 +44,8 @@ returns c =
     let others = c.in-Some-decoded_len.ensures.len ∙ ap (λ s. option_map (λ key. length key) (unescaped s)) (rest t l.rest) in
     record {
       decoded = l.invariant.decoded;
-      counted = ap (λ m. Some (m + left)) (sym len) ∙ held-len (unescaped t) (unescaped (drop l.rest t)) held left l.invariant.decoded others;
+      counted = ap (λ m. Some (m + left)) (sym len)
+          ∙ held-len (unescaped t) (unescaped (drop l.rest t)) held left l.invariant.decoded others;
       held = (omega (arith, l.invariant.room), omega arith);
       within = l.invariant.within;
     }

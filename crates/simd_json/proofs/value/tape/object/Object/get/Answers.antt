@@ -14,7 +14,8 @@ returns-then-eq c =
     let k = c.args.k.now in
     let value = c.in-Some.value in
     let same : bytes_eq c.in-Some.key.now k ≡ true = sym c.eq.ensures ∙ c.if-eq.true in
-    let steps = first_with-pair k c.in-Some.key.now (doc value) (pairs c.loop-key.key-iterator.left) (pairs c.next.new.self.left) c.in-Some.ensures.steps in
+    let steps = first_with-pair k c.in-Some.key.now (doc value) (pairs c.loop-key.key-iterator.left)
+    (pairs c.next.new.self.left) c.in-Some.ensures.steps in
     ap (λ b. cond b (Some (doc value)) (first_with k (pairs c.next.new.self.left))) (sym same) ∙ sym steps ∙ c.loop-key.invariant
 
 pub loop-key-preserved : goal.loop-key-preserved
@@ -22,5 +23,6 @@ loop-key-preserved c =
     let k = c.args.k.now in
     let value = c.in-Some.value in
     let same : bytes_eq c.in-Some.key.now k ≡ false = sym c.eq.ensures ∙ c.if-eq.false in
-    let steps = first_with-pair k c.in-Some.key.now (doc value) (pairs c.loop-key.key-iterator.left) (pairs c.next.new.self.left) c.in-Some.ensures.steps in
+    let steps = first_with-pair k c.in-Some.key.now (doc value) (pairs c.loop-key.key-iterator.left)
+    (pairs c.next.new.self.left) c.in-Some.ensures.steps in
     ap (λ b. cond b (Some (doc value)) (first_with k (pairs c.next.new.self.left))) (sym same) ∙ sym steps ∙ c.loop-key.invariant

@@ -10,12 +10,15 @@ split-requires-clause-printable c = printable-drop 1 c.args.self.nodes.now _ c.s
 pub invariant_of-result : goal.invariant_of-result
 invariant_of-result c =
     let self = c.args.self in
-    let first = headed-by self.nodes.now _ _ _ c.in-String.key self.len self.listed self.counted (omega arith) c.split_at.ensures.front c.split_at.ensures.back c.in-String.is in
-    let others = without-pair _ _ _ self.len c.in-String.key.now (doc c.split.result.0) self.listed self.counted first c.split.ensures.whole in
+    let first = headed-by self.nodes.now _ _ _ c.in-String.key self.len self.listed self.counted
+    (omega arith) c.split_at.ensures.front c.split_at.ensures.back c.in-String.is in
+    let others = without-pair _ _ _ self.len c.in-String.key.now
+    (doc c.split.result.0) self.listed self.counted first c.split.ensures.whole in
     record { listed = others.listed; printable = c.split.ensures.printable; counted = others.counted }
 
 pub returns : goal.returns
 returns c =
     let self = c.args.self in
-    let first = headed-by self.nodes.now _ _ _ c.in-String.key self.len self.listed self.counted (omega arith) c.split_at.ensures.front c.split_at.ensures.back c.in-String.is in
+    let first = headed-by self.nodes.now _ _ _ c.in-String.key self.len self.listed self.counted
+    (omega arith) c.split_at.ensures.front c.split_at.ensures.back c.in-String.is in
     (without-pair _ _ _ self.len c.in-String.key.now (doc c.split.result.0) self.listed self.counted first c.split.ensures.whole).whole

@@ -13,11 +13,13 @@ returns-in_err-reached g c =
     ap (option_map doc) c.from_residual.ensures
     ∙ sym
     (pointed-led p.text.now d p.formed ∙ ap (λ ts. led ts d) (sym p.all) ∙ sym l.invariant.led
-    ∙ led-first (part_of p.text.now) l.left.now c.in-Some.part.now c.in-Some.others.now (doc l.reached) None c.in-Some.ensures.cases.0 c.in_err-reached.ensures)
+    ∙ led-first (part_of p.text.now) l.left.now c.in-Some.part.now c.in-Some.others.now
+    (doc l.reached) None c.in-Some.ensures.cases.0 c.in_err-reached.ensures)
 
 pub find-requires : goal.find-requires
 find-requires g c =
-    kept-first c.args.pointer.now.text.now c.loop-part.left.now c.in-Some.part.now c.in-Some.others.now c.in-Some.ensures.cases.0 c.loop-part.invariant.kept
+    kept-first c.args.pointer.now.text.now c.loop-part.left.now c.in-Some.part.now c.in-Some.others.now c.in-Some.ensures.cases.0
+    c.loop-part.invariant.kept
 
 pub loop-part-preserved : goal.loop-part-preserved
 loop-part-preserved g c =
@@ -28,7 +30,8 @@ loop-part-preserved g c =
     record {
       kept = kept-others p.text.now l.left.now c.in-Some.part.now c.in-Some.others.now first l.invariant.kept;
       led =
-          sym (led-first (part_of p.text.now) l.left.now c.in-Some.part.now c.in-Some.others.now (doc l.reached) next first c.in_ok-reached.ensures)
+          sym (led-first (part_of p.text.now) l.left.now c.in-Some.part.now c.in-Some.others.now
+          (doc l.reached) next first c.in_ok-reached.ensures)
           ∙ l.invariant.led;
     }
 

@@ -7,5 +7,6 @@ pub returns-then-len : goal.returns-then-len
 returns-then-len g c says exact =
     elim c.then-len.branch [
       | then-len-via-then-len w ↦ differs-in-size _ _ says _ _ c.in-Some.ensures.object (search rules)
-      | then-len-via-else-len+then-not-is_in w ↦ differs-in-a-pair _ _ says _ _ c.in-Some.ensures.object (sym (w.is_in.ensures says exact) ∙ w.if-not-is_in.true)
+      | then-len-via-else-len+then-not-is_in w ↦
+          differs-in-a-pair _ _ says _ _ c.in-Some.ensures.object (sym (w.is_in.ensures says exact) ∙ w.if-not-is_in.true)
     ]

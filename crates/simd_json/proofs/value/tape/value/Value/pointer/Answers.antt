@@ -10,5 +10,7 @@ returns-then-followed-bytes c =
     let p = c.as_bytes-bytes.result.now in
     let follow = c.follow-followed in
     let i = follow.result.1 in
-    let nowhere = stop-of i (drop i p) (doc follow.result.0) (some-left p i c.if-followed-bytes.true) (follow.ensures.stopped c.if-followed-bytes.true) in
-    sym (ap (λ q. result_ok (pointed q (doc c.args.self.now))) (sym c.as_bytes-bytes.ensures.value) ∙ ap result_ok follow.ensures.led ∙ nowhere)
+    let nowhere = stop-of i (drop i p) (doc follow.result.0) (some-left p i c.if-followed-bytes.true)
+    (follow.ensures.stopped c.if-followed-bytes.true) in
+    sym (ap (λ q. result_ok (pointed q (doc c.args.self.now))) (sym c.as_bytes-bytes.ensures.value)
+    ∙ ap result_ok follow.ensures.led ∙ nowhere)

@@ -14,4 +14,5 @@ returns-then-followed-bytes c =
     let lacks = ap (λ q. first_step q d) (sym (rest p i)) ∙ c.lack.ensures in
     sym
     (ap (λ q. pointed q (doc c.args.self.now)) (sym c.as_bytes-bytes.ensures.value) ∙ follow.ensures.led
-    ∙ stop-at i (drop i p) d c.lack.result (some-left p i c.if-followed-bytes.true) lacks ∙ stop-kind i d c.lack.result c.value_type.result c.value_type.ensures)
+    ∙ stop-at i (drop i p) d c.lack.result (some-left p i c.if-followed-bytes.true) lacks
+    ∙ stop-kind i d c.lack.result c.value_type.result c.value_type.ensures)
