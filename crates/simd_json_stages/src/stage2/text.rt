@@ -12,6 +12,7 @@ ghost use Rattle.simd_json_stages.specs.Texts.{Reads, IsStringBefore};
 use crate::stage1::BLOCK_LEN;
 use memchr::memchr;
 use simd_json_scalars::stringparse::{BadEscape, parse_str};
+use std::simd::prelude::*;
 
 // An input without a backslash is shared as a whole. Another one is lent for writing, since its strings are
 // decoded in the bytes they were written in: what is shared is split off from the front, for good.
@@ -138,9 +139,22 @@ impl<'m, 'de> Text<'m, 'de> {
             return false;
         }
         if self.escapes.mark < at {
+            if self.is_near_backslash(at) {
+                return true;
+            }
             self.escapes = self.escapes_from(at);
         }
         self.escapes.mark < end
+    }
+
+    // Whether one of the 32 bytes from index `at` on is a backslash, or may be. Where escapes are dense this finds the
+    // next one at less cost than a walk to it.
+    #[inline(always)]
+    fn is_near_backslash(&self, at: usize) -> bool
+        requires { (b : List ℕ) × Reads b self.now at × (at ≤ length b) }
+    {
+        let rest = self.from(at);
+        rest.len() < 32 || (u8x32::from_slice(rest).simd_eq(u8x32::splat(b'\\'))).to_bitmask() != 0
     }
 
     // The walk along the backslashes, its mark at the first from index `at` on.
