@@ -1,7 +1,7 @@
 #!/bin/sh
 # The benchmark: `make bench` calls it. From the top of the repository: sh bench/run.sh [FILE..]
 # Times the texts that bench/texts.py makes, each FILE, the shapes of bench/shapes.py, which are made to be slow, and a log of
-# 1,000,000 lines, and prints four tables. ROUNDS says how often, PLACEMENTS at how many places our code is timed. With SAVE=1 the
+# 1,000,000 lines, and prints five tables. ROUNDS says how often, PLACEMENTS at how many places our code is timed. With SAVE=1 the
 # tables are put into docs/SPEED.md, between its marks, and docs/speed.svg is drawn; without, build/bench has the chart.
 # It installs nothing: a parser whose package is absent is left out, and named.
 set -eu
@@ -76,6 +76,8 @@ say "timing"
 # shellcheck disable=SC2086
 "$OUT/harness" "$ROUNDS" "$OUT"/texts/kinds/*.json "$@" -- simdjson stage1 rapidjson yajl $serde $parses $calls $scans > "$OUT/kinds.tsv"
 # shellcheck disable=SC2086
+"$OUT/harness" "$ROUNDS" "$OUT"/texts/varied/*.jsonl -- simdjson stage1 $parses $scans > "$OUT/varied.tsv"
+# shellcheck disable=SC2086
 "$OUT/harness" "$ROUNDS" "$OUT"/texts/sizes/*.json -- simdjson $parses > "$OUT/sizes.tsv"
 # shellcheck disable=SC2086
 "$OUT/harness" "$ROUNDS" "$OUT/texts/lines/log.jsonl" -- simdjson many $stream $parses > "$OUT/lines.tsv"
@@ -83,11 +85,14 @@ say "timing"
 # shellcheck disable=SC2086
 sh bench/shapes.sh "$OUT" $(((ROUNDS + 3) / 4)) "$OUT/x86-64-v2-0.so" $parses $refusals
 
-python3 bench/tables.py "$OUT/kinds.tsv" "$OUT/sizes.tsv" "$OUT/shapes.tsv" "$OUT/memory.tsv" "$OUT/lines.tsv" > "$OUT/tables.md"
+results="$OUT/kinds.tsv $OUT/varied.tsv $OUT/sizes.tsv $OUT/shapes.tsv $OUT/memory.tsv $OUT/lines.tsv"
+# shellcheck disable=SC2086
+python3 bench/tables.py $results > "$OUT/tables.md"
 python3 bench/chart.py "$OUT/kinds.tsv" > "$OUT/speed.svg"
 cat "$OUT/tables.md"
 if [ "${SAVE:-}" = 1 ]; then
-    python3 bench/tables.py "$OUT/kinds.tsv" "$OUT/sizes.tsv" "$OUT/shapes.tsv" "$OUT/memory.tsv" "$OUT/lines.tsv" docs/SPEED.md
+    # shellcheck disable=SC2086
+    python3 bench/tables.py $results docs/SPEED.md
     cp "$OUT/speed.svg" docs/speed.svg
     say "docs/SPEED.md and docs/speed.svg have these results"
 else

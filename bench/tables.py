@@ -1,4 +1,4 @@
-"""tables.py KINDS.tsv SIZES.tsv SHAPES.tsv MEMORY.tsv LINES.tsv [DOCUMENT]: what the harness measured, as tables in Markdown.
+"""tables.py KINDS.tsv VARIED.tsv SIZES.tsv SHAPES.tsv MEMORY.tsv LINES.tsv [DOCUMENT]: what the harness measured, as tables in Markdown.
 
 With a document, all but that of shapes are put there between the marks `<!-- results -->` and `<!-- end of results -->`; else
 all are printed."""
@@ -85,6 +85,15 @@ def table_of_kinds(results):
     return rows(head, lines)
 
 
+def table_of_varied(results):
+    """A line for each kind, ours alone."""
+    ours = [c for part in ("parse", "scan") for c in results.contenders(part, ours=True)]
+    texts = sorted(results.sizes, key=lambda t: KINDS.index(Path(t).stem))
+    lines = [[Path(t).stem.replace("_", " "), *(shown(results.ratio(t, c)) for c in ours)] for t in texts]
+    lines.append(["**geometric mean**", *(shown(mean([results.ratio(t, c) for t in texts])) for c in ours)])
+    return rows(["text", *(c.removeprefix("simd_json ") for c in ours)], lines)
+
+
 def table_of_sizes(results):
     ours = results.contenders("parse", ours=True)
     base = "simdjson DOM" if results.has_simdjson() else "the fastest"
@@ -141,27 +150,29 @@ def table_of_lines(lines):
 
 
 def main():
-    kinds, sizes, log = Results(sys.argv[1]), Results(sys.argv[2]), Results(sys.argv[5])
+    kinds, varied, sizes, log = (Results(sys.argv[i]) for i in (1, 2, 3, 6))
     whole, scan = ("simdjson's best DOM parse", "its best stage 1") if kinds.has_simdjson() else ("the fastest", "the fastest")
     text = (
         f"Speed at the fastest round, ours at x86-64-v3 where the processor has it, as a multiple: of a whole parse over {whole}, "
         f"of a scan over {scan}.\n\n"
         f"{table_of_kinds(kinds)}\n\n"
+        f"The same over forty different texts of 24 kB, one after the other.\n\n"
+        f"{table_of_varied(varied)}\n\n"
         f"Cost against size, over tweets; in brackets the speed over {whole}.\n\n"
         f"{table_of_sizes(sizes)}\n\n"
-        f"Geometric mean of our speed over {whole}, over all {len(kinds.sizes) + len(sizes.sizes)} texts of both tables: "
+        f"Geometric mean of our speed over {whole}, over all {len(kinds.sizes) + len(sizes.sizes)} texts of the first table and of this: "
         f"{means(kinds, sizes)}.\n\n"
         f"A log of {sum(log.sizes.values()) // 200:,} lines of 200 bytes, each line parsed by itself or all as one stream; the speed is "
         f"over the fastest of {'simdjson' if log.has_simdjson() else 'all'}.\n\n"
         f"{table_of_lines(log)}\n"
     )
-    if len(sys.argv) == 6:
-        shapes, memory = Results(sys.argv[3]), sys.argv[4]
+    if len(sys.argv) == 7:
+        shapes, memory = Results(sys.argv[4]), sys.argv[5]
         print(text)
         print("Shapes that are made to be slow: nanoseconds of a byte at 1 MB, at 64 MB (and how many times as much that is).\n")
         print(table_of_shapes(shapes, memory))
         return
-    document = Path(sys.argv[6])
+    document = Path(sys.argv[7])
     marked = re.compile(r"(<!-- results -->\n).*(<!-- end of results -->)", re.DOTALL)
     if not marked.search(document.read_text()):
         sys.exit(f"{document} has no marks for the results")

@@ -1,7 +1,7 @@
 """texts.py FOLDER: writes the texts of the benchmark, the same on every machine.
 
-FOLDER/kinds has one text of each kind, FOLDER/sizes tweets of about 1 kB, 4 kB and so on to 64 MB, FOLDER/lines a log of
-LINES lines (1,000,000) of 200 bytes."""
+FOLDER/kinds has one text of each kind, FOLDER/varied forty short ones, FOLDER/sizes tweets of about 1 kB, 4 kB and so on to
+64 MB, FOLDER/lines a log of LINES lines (1,000,000) of 200 bytes."""
 import itertools
 import json
 import os
@@ -9,8 +9,8 @@ import random
 import sys
 from pathlib import Path
 
-# Bytes of a text of one kind: more than the caches near a core hold.
-KIND_BYTES = int(os.environ.get("KIND_BYTES", 1_000_000))
+# Bytes of a text of one kind: more than the caches near a core hold, and of one whose nodes they hold.
+KIND_BYTES, VARIED_BYTES = 1_000_000, 24_000
 SIZES = [n * unit for unit in (1000, 1_000_000) for n in (1, 4, 16, 64, 256)][:-1]
 
 LATIN = """about after answer before between bread bridge carry city cloud could every field first garden great harbour
@@ -127,28 +127,42 @@ def filled(size, elements):
     return "[" + ",".join(parts) + "]"
 
 
-def kinds():
-    def of(element, seed):
-        s = Source(seed)
-        return filled(KIND_BYTES, iter(lambda: element(s), None))
+# What each kind is a list of, and the seed of its source.
+ELEMENTS = {
+    "tweets": (lambda s: compact(tweet(s, 0.5)), 1),
+    "tweets_ascii": (lambda s: compact(tweet(s, 0.0)), 2),
+    "catalogue": (lambda s: json.dumps(product(s), indent=4), 3),
+    "numbers": (lambda s: compact([number(s) for _ in range(20)]), 4),
+    "escapes": (lambda s: compact(tweet(s, 0.5), ascii_only=True), 5),
+    "long_strings": (lambda s: compact(paragraph(s)), 6),
+    "deep": (lambda s: compact(chain(s)), 7),
+    "chains": (lambda s: compact(short_chain(s)), 10),
+    "literals": (lambda s: s.one_of(["true", "false", "null"]), 11),
+    "settings": (lambda s: json.dumps(settings(s), indent=4, separators=(",", " : ")), 12),
+    "rows": (lambda s: compact(row(s)), 13),
+    "integers": (lambda s: str(long_integer(s)), 14),
+}
 
-    yield "tweets", of(lambda s: compact(tweet(s, 0.5)), 1)
-    yield "tweets_ascii", of(lambda s: compact(tweet(s, 0.0)), 2)
-    yield "catalogue", of(lambda s: json.dumps(product(s), indent=4), 3)
-    yield "numbers", of(lambda s: compact([number(s) for _ in range(20)]), 4)
-    yield "escapes", of(lambda s: compact(tweet(s, 0.5), ascii_only=True), 5)
-    yield "long_strings", of(lambda s: compact(paragraph(s)), 6)
-    yield "deep", of(lambda s: compact(chain(s)), 7)
-    yield "chains", of(lambda s: compact(short_chain(s)), 10)
-    yield "literals", of(lambda s: s.one_of(["true", "false", "null"]), 11)
-    yield "settings", of(lambda s: json.dumps(settings(s), indent=4, separators=(",", " : ")), 12)
-    yield "rows", of(lambda s: compact(row(s)), 13)
-    yield "integers", of(lambda s: str(long_integer(s)), 14)
+
+def kinds():
+    for name, (element, seed) in ELEMENTS.items():
+        s = Source(seed)
+        yield name, filled(KIND_BYTES, iter(lambda: element(s), None))
     # Small enough that a text's own costs show: the harness parses each copy by itself.
     s = Source(8)
     short = {"id": s.below(10**6), "name": s.words(2), "tags": [s.one_of(LATIN) for _ in range(6)], "price": 12.5}
     short["text"] = s.words(20)[: 200 - len(compact(short | {"text": ""}))]
     yield "200_bytes", compact(short)
+
+
+def varied():
+    """Of each kind forty texts, a line each: with a blank for each line feed, and blanks up to one length. A text that is
+    parsed again and again is known to the branch predictor; of these none comes twice before all others."""
+    for name, (element, seed) in ELEMENTS.items():
+        s = Source(100 + seed)
+        texts = [filled(VARIED_BYTES, iter(lambda: element(s), None)).replace("\n", " ").encode() for _ in range(40)]
+        longest = max(map(len, texts))
+        yield name, b"".join(text.ljust(longest) + b"\n" for text in texts)
 
 
 def tweets_of(size):
@@ -191,10 +205,12 @@ def write_lines(path):
 
 def main():
     folder = Path(sys.argv[1])
-    for name in ("kinds", "sizes", "lines"):
+    for name in ("kinds", "varied", "sizes", "lines"):
         (folder / name).mkdir(parents=True, exist_ok=True)
     for name, text in kinds():
         (folder / "kinds" / f"{name}.json").write_bytes(text.encode())
+    for name, lines in varied():
+        (folder / "varied" / f"{name}.jsonl").write_bytes(lines)
     for i, size in enumerate(SIZES):
         (folder / "sizes" / f"{i}.json").write_bytes(tweets_of(size).encode())
     write_lines(folder / "lines" / "log.jsonl")
