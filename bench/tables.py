@@ -1,4 +1,5 @@
-"""tables.py KINDS.tsv VARIED.tsv SIZES.tsv SHAPES.tsv MEMORY.tsv LINES.tsv [DOCUMENT]: what the harness measured, as tables in Markdown.
+"""tables.py KINDS.tsv VARIED.tsv SIZES.tsv SHAPES.tsv MEMORY.tsv LINES.tsv [DOCUMENT]: what the harness measured, as
+tables in Markdown.
 
 With a document, all but that of shapes are put there between the marks `<!-- results -->` and `<!-- end of results -->`; else
 all are printed."""
