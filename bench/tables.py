@@ -70,7 +70,7 @@ def mean(ratios):
 
 def table_of_kinds(results):
     """A line for each text: ours at the highest level that was timed, then the others. Another level has its mean alone."""
-    kinds = {t: Path(t).stem for t in results.sizes if "/texts/kinds/" in t}
+    kinds = {t: Path(t).stem for t in results.sizes if "/texts/" in t}
     texts = sorted(results.sizes, key=lambda t: KINDS.index(kinds[t]) if t in kinds else len(KINDS))
     level = "v3" if any(c.endswith(", v3") for c in results.parts) else "v2"
     ours = [c for part in ("parse", "scan") for c in results.contenders(part, ours=True)]
@@ -84,15 +84,6 @@ def table_of_kinds(results):
     if level == "v3" and any(c in means for c in below):
         lines.append(["geometric mean, v2", *(means.get(c, "") for c in below)])
     return rows(head, lines)
-
-
-def table_of_varied(results):
-    """A line for each kind, ours alone."""
-    ours = [c for part in ("parse", "scan") for c in results.contenders(part, ours=True)]
-    texts = sorted(results.sizes, key=lambda t: KINDS.index(Path(t).stem))
-    lines = [[Path(t).stem.replace("_", " "), *(shown(results.ratio(t, c)) for c in ours)] for t in texts]
-    lines.append(["**geometric mean**", *(shown(mean([results.ratio(t, c) for t in texts])) for c in ours)])
-    return rows(["text", *(c.removeprefix("simd_json ") for c in ours)], lines)
 
 
 def table_of_sizes(results):
@@ -158,7 +149,7 @@ def main():
         f"of a scan over {scan}.\n\n"
         f"{table_of_kinds(kinds)}\n\n"
         f"The same over forty different texts of 24 kB, one after the other.\n\n"
-        f"{table_of_varied(varied)}\n\n"
+        f"{table_of_kinds(varied)}\n\n"
         f"Cost against size, over tweets; in brackets the speed over {whole}.\n\n"
         f"{table_of_sizes(sizes)}\n\n"
         f"Geometric mean of our speed over {whole}, over all {len(kinds.sizes) + len(sizes.sizes)} texts of the first table and of this: "
