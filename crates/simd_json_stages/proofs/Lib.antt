@@ -1,4 +1,5 @@
 pub mod Exits
+mod Premises
 mod CarryLaws
 pub mod Steps
 mod Holding

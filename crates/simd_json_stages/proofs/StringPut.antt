@@ -107,9 +107,10 @@ module _ (b : List ℕ) (r : Route) (t : Text) (capacity written : ℕ) (p : Pro
       ]
 
   -- its closing quote is the last one before that
-  pub string-before : (next : ℕ) → next ≡ get_or r.indexes.now p.read (length b) → IsStringBefore b p.at next
+  pub string-before : (next : ℕ) → next ≡ get_or r.indexes.now p.read t.end → IsStringBefore b p.at next
   string-before next is' =
-      let is : next ≡ get_or (positions b) p.read (length b) = is' ∙ ap (λ ps. get_or ps p.read (length b)) at.on_route.positions in
+      let is : next ≡ get_or (positions b) p.read (length b) = is' ∙ ap (get_or r.indexes.now p.read) at.text.end
+      ∙ ap (λ ps. get_or ps p.read (length b)) at.on_route.positions in
       let there : Contains (positions b) next ⊎ (next ≡ length b) = subst (λ n. Contains (positions b) n ⊎ (n ≡ length b))
       (sym is) (next-there b p) in
       let ends = string-ends b (token b p.at) next at.token opening closed (later next is there) there

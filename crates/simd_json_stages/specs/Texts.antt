@@ -1,5 +1,5 @@
 -- What the machine can read of an input, and where a string ends in it.
-use Rattle.std.specs.Prelude.{◌≡◌, ◌≤◌, ◌<◌, ◌^◌, ℕ, List, length, drop, IsTrue, IsFalse, IsUtf8}
+use Rattle.std.specs.Prelude.{◌≡◌, ◌≤◌, ◌<◌, ◌+◌, ◌^◌, ℕ, List, length, take, drop, IsTrue, IsFalse, IsUtf8}
 use Rattle.simd_json_parts.specs.Bytes.{quote, byte_at}
 use Rattle.simd_json_parts.specs.StringAt.{closing_quote}
 use Rattle.simd_json_stages.specs.EscapesAhead.{AreAhead, PlainFrom}
@@ -33,3 +33,32 @@ pub record IsStringBefore (b : List ℕ) (i next : ℕ) : Type 0 where
   pub within : next ≤ length b
   pub last : (j : ℕ) → closing_quote b i ≤ j → j < next → byte_at b j ≡ quote → closing_quote b i ≡ j
   pub utf8 : IsUtf8 (drop i b)
+
+-- ---- what a function that reads a text asks for
+
+-- Some input can be read from index i on, and so many bytes stand there.
+pub record HasBytes (t : Text) (i len : ℕ) : Type 0 where
+  pub b : List ℕ
+  pub reads : Reads b t i
+  pub within : i + len ≤ length b
+
+-- they are a string of their own
+pub record HasString (t : Text) (i len : ℕ) : Type 0 where
+  pub bytes : HasBytes t i len
+  pub utf8 : IsUtf8 (take len (drop i bytes.b))
+
+-- Some input can be read from index i on, where the opening quote of a string stands that is closed before an index.
+pub record HasQuoted (t : Text) (i next : ℕ) : Type 0 where
+  pub b : List ℕ
+  pub reads : Reads b t i
+  pub string : IsStringBefore b i next
+
+-- it has no escape
+pub record HasPlain (t : Text) (i next : ℕ) : Type 0 where
+  pub quoted : HasQuoted t i next
+  pub plain : PlainFrom quoted.b i next
+
+-- the same, whatever the index is
+pub record HasQuotedSomewhere (t : Text) (i : ℕ) : Type 0 where
+  pub next : ℕ
+  pub quoted : HasQuoted t i next

@@ -1,5 +1,6 @@
-// Three words that tell the classes of 64 bytes apart, by table look-ups on the halves of a byte: the vectorized
-// classification of G. Langdale and D. Lemire, "Parsing Gigabytes of JSON per Second", VLDB Journal 28 (2019).
+// Three words that tell the classes of 64 bytes apart, by table look-ups on the halves of a byte: the
+// vectorized classification of G. Langdale and D. Lemire, "Parsing Gigabytes of JSON per Second", VLDB
+// Journal 28 (2019).
 ghost use Rattle.std.specs.Prelude.{◌≡◌, ◌==◌, ◌<◌, ℕ, map, slice_index};
 ghost use Rattle.std.specs.List.{list_any};
 ghost use Rattle.std.specs.Simd.Lanes.{mask_l};
@@ -50,7 +51,8 @@ fn op_or_quote(v: u8x32) -> u64
 
 #[inline(always)]
 pub(super) fn classes(bytes: &[u8; 64]) -> ClassWords
-    ensures space_or_quote { HasBits result.space_or_quote (λ i. is_space_or_quote (slice_index bytes.now i)) }
+    ensures space_or_quote { HasBits result.space_or_quote
+        (λ i. is_space_or_quote (slice_index bytes.now i)) }
     ensures op_or_quote { HasBits result.op_or_quote (λ i. is_op_or_quote (slice_index bytes.now i)) }
     ensures control { HasBits result.control (λ i. is_control (slice_index bytes.now i)) }
     ensures ascii { result.high ≡ 0 → (i : ℕ) → i < 64 → slice_index bytes.now i < 128 }

@@ -1,6 +1,7 @@
 // How far an input is known to be UTF-8 (RFC 3629): a window at a time after the scan, and all of the rest
 // before any memory is taken. A window of ASCII alone needs no test. The test is `simdutf8`'s: J. Keiser and
-// D. Lemire, "Validating UTF-8 In Less Than One Instruction Per Byte", Software: Practice and Experience 51 (2021).
+// D. Lemire, "Validating UTF-8 In Less Than One Instruction Per Byte", Software: Practice and Experience 51
+// (2021).
 ghost use Rattle.std.specs.Prelude.{◌≡◌, ◌≤◌, ◌<◌, ℕ, List, length, take, true, IfOk, IfErr, IsUtf8};
 ghost use Rattle.simd_json_parts.specs.Bytes.{byte_at};
 ghost use Rattle.simd_json_stages.specs.Scans.{IsBadEncoding};
@@ -30,7 +31,8 @@ fn character_start(input: &[u8], end: usize) -> usize
 // All that is left to be tested. Returns the input's length.
 #[inline(never)]
 pub(super) fn check_rest(input: &[u8], checked: usize) -> Result<usize>
-    requires { (checked ≤ length input.now) × IsUtf8 (take checked input.now) }
+    requires within { checked ≤ length input.now }
+    requires utf8 { IsUtf8 (take checked input.now) }
     ensures utf8 { IfOk result (λ to. (to ≡ length input.now) × IsUtf8 input.now) }
     ensures fault { IfErr result (IsBadEncoding input.now) }
 {
@@ -44,8 +46,9 @@ pub(super) fn check_rest(input: &[u8], checked: usize) -> Result<usize>
 // What is not tested yet of the bytes before an index, which a character may go on past.
 #[inline(never)]
 fn check_up_to(input: &[u8], checked: usize, end: usize) -> Result<usize>
-    requires checked { (checked ≤ length input.now) × IsUtf8 (take checked input.now) }
-    requires within { end ≤ length input.now }
+    requires within { checked ≤ length input.now }
+    requires utf8 { IsUtf8 (take checked input.now) }
+    requires end_within { end ≤ length input.now }
     ensures utf8 { IfOk result (λ to. (to ≤ length input.now) × IsUtf8 (take to input.now)) }
     ensures whole { IfOk result (λ to. end ≡ length input.now → to ≡ length input.now) }
     ensures fault { IfErr result (IsBadEncoding input.now) }
@@ -68,8 +71,10 @@ pub(super) fn check_window(
     end: usize,
     is_ascii: bool,
 ) -> Result<usize>
-    requires checked { (checked ≤ length input.now) × IsUtf8 (take checked input.now) }
-    requires window { (start ≤ end) × (end ≤ length input.now) }
+    requires within { checked ≤ length input.now }
+    requires utf8 { IsUtf8 (take checked input.now) }
+    requires order { start ≤ end }
+    requires end_within { end ≤ length input.now }
     requires ascii { is_ascii ≡ true → (i : ℕ) → start ≤ i → i < end → byte_at input.now i < 128 }
     ensures utf8 { IfOk result (λ to. (to ≤ length input.now) × IsUtf8 (take to input.now)) }
     ensures whole { IfOk result (λ to. end ≡ length input.now → to ≡ length input.now) }

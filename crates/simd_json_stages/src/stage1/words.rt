@@ -1,5 +1,6 @@
-// The words of a block: from classes to positions, 64 bytes at a time, as in G. Langdale and D. Lemire, "Parsing
-// Gigabytes of JSON per Second", VLDB Journal 28 (2019): escapes, quoted strings and token starts by arithmetic.
+// The words of a block: from classes to positions, 64 bytes at a time, as in G. Langdale and D. Lemire,
+// "Parsing Gigabytes of JSON per Second", VLDB Journal 28 (2019): escapes, quoted strings and token starts by
+// arithmetic.
 ghost use Rattle.std.specs.Prelude.{◌≡◌, ◌==◌, ◌+◌, ℕ, List, Bool};
 ghost use Rattle.std.specs.List.{list_any};
 ghost use Rattle.simd_json_parts.specs.Bytes.{backslash};
@@ -119,7 +120,8 @@ pub(super) fn classify(bytes: &[u8; 64], before: u64) -> Classified
 // What the words of a block tell by themselves.
 #[inline(always)]
 pub(super) fn find_parts(space_or_quote: u64, op_or_quote: u64, control: u64, escaped: u64) -> Parts
-    ensures { (b : List ℕ) (i : ℕ) → HasClasses b i space_or_quote op_or_quote control escaped → AreParts b i result }
+    ensures { (b : List ℕ) (i : ℕ) → HasClasses b i space_or_quote op_or_quote control escaped
+        → AreParts b i result }
 {
     let quotes = space_or_quote & op_or_quote;
     let op = op_or_quote & !(control | space_or_quote);

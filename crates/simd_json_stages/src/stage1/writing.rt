@@ -1,5 +1,5 @@
-// The indexes of a block's positions, from the word of their bits to the list: several at a time whether they are
-// there or not, as simdjson's index extraction.
+// The indexes of a block's positions, from the word of their bits to the list: several at a time whether they
+// are there or not, as simdjson's index extraction.
 ghost use Rattle.std.specs.Prelude.{◌≡◌, ◌+◌, ◌^◌, ◌<◌, ◌≤◌, ◌++◌, [], ◌∷◌, ℕ, List, length, take};
 ghost use Rattle.std.specs.Prelude.{if◌then◌else◌, IsTrue};
 ghost use Rattle.std.specs.Int.{from_bool};

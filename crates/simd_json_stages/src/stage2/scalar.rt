@@ -1,6 +1,7 @@
 //! Scalars that are no strings become nodes.
 ghost use Rattle.std.specs.Prelude.{◌≡◌, ◌<◌, ◌≤◌, ◌+◌, ◌^◌, ◌==◌, ◌&&◌, ◌||◌, ℕ, List, length, drop};
-ghost use Rattle.std.specs.Prelude.{[], ◌∷◌, ◌++◌, nat_eq, codes, true, false, MatchOption, MatchResult, IfErr, OnOk, vec_capacity};
+ghost use Rattle.std.specs.Prelude.{[], ◌∷◌, ◌++◌, nat_eq, codes, true, false, MatchOption, MatchResult};
+ghost use Rattle.std.specs.Prelude.{IfErr, OnOk, vec_capacity};
 ghost use Rattle.std.specs.List.{starts_with};
 ghost use Rattle.simd_json_parts.specs.Bytes.{is_terminator, byte_at, minus_sign};
 ghost use Rattle.simd_json_parts.specs.Integers.{integer_node, max_magnitude_64};
@@ -50,8 +51,8 @@ fn ends_at(bytes: &[u8], at: usize) -> bool
     is_structural_or_whitespace(byte_or_space(bytes, at))
 }
 
-// The scalar at the last token, which is no string, becomes the next node. Each kind has a branch that stores its
-// own node, a constant but for a number: one that is joined from branches is copied piece by piece.
+// The scalar at the last token, which is no string, becomes the next node. Each kind has a branch that stores
+// its own node, a constant but for a number: one that is joined from branches is copied piece by piece.
 #[inline(always)]
 pub(super) fn put_scalar<'de, A: Allocator>(
     text: &mut Text<'_, 'de>,
@@ -82,8 +83,9 @@ pub(super) fn put_scalar<'de, A: Allocator>(
     Ok(())
 }
 
-// The boolean at the front, before a structural character, whitespace or the end. Which of the two it may be is
-// computed from the first letter: a branch on it would be guessed wrong in every other one of mixed booleans.
+// The boolean at the front, before a structural character, whitespace or the end. Which of the two it may be
+// is computed from the first letter: a branch on it would be guessed wrong in every other one of mixed
+// booleans.
 #[inline(always)]
 fn parse_boolean(bytes: &[u8]) -> Option<bool>
     ensures { MatchOption result ((is_boolean true bytes.now ≡ false) × (is_boolean false bytes.now ≡ false))
@@ -186,8 +188,8 @@ fn put_longer_number<'de, A: Allocator>(
     Ok(())
 }
 
-// The integer of this magnitude whose literal begins with this byte becomes the next node. Each kind is stored by
-// itself, as in `put_scalar`.
+// The integer of this magnitude whose literal begins with this byte becomes the next node. Each kind is
+// stored by itself, as in `put_scalar`.
 #[inline(always)]
 fn put_integer<'de, A: Allocator>(nodes: &mut Vec<Node<'de>, A>, first: u8, magnitude: u64)
     requires fits { magnitude ≤ max_magnitude_64 (first == minus_sign) }

@@ -1,13 +1,15 @@
-//! The text that the machine reads: the bytes of an input, and the strings and numbers that are shared from them.
+//! The text that the machine reads: the bytes of an input, and the strings and numbers that are shared from
+//! them.
 ghost use Rattle.std.specs.Prelude.{◌≡◌, ◌≤◌, ◌<◌, ◌+◌, ◌-◌, ◌*◌, ◌^◌};
-ghost use Rattle.std.specs.Prelude.{ℕ, List, suc, length, slice_index, take, drop, MatchResult, Ok, Err, IsUtf8};
+ghost use Rattle.std.specs.Prelude.{ℕ, List, suc, length, slice_index, take, drop, MatchResult, Ok, Err};
 ghost use Rattle.std.specs.Prelude.{IsTrue, IsFalse, true, false};
 ghost use Rattle.simd_json_parts.specs.Bytes.{quote, byte_at};
 ghost use Rattle.simd_json_parts.specs.StringAt.{closing_quote, string_at, escape_fault};
 ghost use Rattle.simd_json_scalars.specs.StringRead.{IsStringAt};
 ghost use Rattle.simd_json_stages.specs.EscapeBlocks.{backslash_blocks};
 ghost use Rattle.simd_json_stages.specs.EscapesAhead.{AreAhead, ArePassed, PlainFrom};
-ghost use Rattle.simd_json_stages.specs.Texts.{Reads, IsStringBefore};
+ghost use Rattle.simd_json_stages.specs.Texts.{HasBytes, HasPlain, HasQuoted, HasQuotedSomewhere, HasString};
+ghost use Rattle.simd_json_stages.specs.Texts.{IsStringBefore, Reads};
 
 use crate::stage1::BLOCK_LEN;
 use memchr::memchr;
@@ -72,7 +74,7 @@ impl<'m, 'de> Text<'m, 'de> {
 
     #[inline(always)]
     pub(crate) fn byte(&self, i: usize) -> u8
-        requires { (b : List ℕ) × Reads b self.now i × (i < length b) }
+        requires { HasBytes self.now i 1 }
         ensures { (b : List ℕ) → Reads b self.now i → result ≡ byte_at b i }
     {
         if self.is_shared {
@@ -84,7 +86,7 @@ impl<'m, 'de> Text<'m, 'de> {
     // All from index i on.
     #[inline(always)]
     pub(crate) fn from(&self, i: usize) -> &[u8]
-        requires { (b : List ℕ) × Reads b self.now i × (i ≤ length b) }
+        requires { HasBytes self.now i 0 }
         ensures { (b : List ℕ) → Reads b self.now i → result.now ≡ drop i b }
     {
         if self.is_shared {
@@ -96,8 +98,7 @@ impl<'m, 'de> Text<'m, 'de> {
     // So many bytes from index i on, as a string.
     #[inline(always)]
     pub(crate) fn share(&mut self, i: usize, len: usize) -> &'de str
-        requires { (b : List ℕ) × Reads b self.old i × (i + len ≤ length b)
-            × IsUtf8 (take len (drop i b)) }
+        requires { HasString self.old i len }
         ensures string { (b : List ℕ) → Reads b self.old i → result.now ≡ take len (drop i b) }
         ensures rest { (b : List ℕ) → Reads b self.old i → Reads b self.new (i + len) }
     {
@@ -113,7 +114,8 @@ impl<'m, 'de> Text<'m, 'de> {
     // The bytes up to an index, split off.
     #[inline(always)]
     fn split(&mut self, i: usize) -> &'de mut [u8]
-        requires { (self.old.at ≤ i) × (i ≤ self.old.at + length self.old.rest.now) }
+        requires ahead { self.old.at ≤ i }
+        requires within { i ≤ self.old.at + length self.old.rest.now }
         ensures prefix { result.now ≡ take (i - self.old.at) self.old.rest.now }
         ensures rest { self.new.rest.now ≡ drop (i - self.old.at) self.old.rest.now }
         ensures at { self.new.at ≡ i }
@@ -130,7 +132,7 @@ impl<'m, 'de> Text<'m, 'de> {
     // Whether the string from index `at` may have an escape before index `end`.
     #[inline(always)]
     pub(crate) fn may_have_escape(&mut self, at: usize, end: usize) -> bool
-        requires { (b : List ℕ) × Reads b self.old at × (at ≤ length b) }
+        requires { HasBytes self.old at 0 }
         ensures reads { (b : List ℕ) → Reads b self.old at → Reads b self.new at }
         ensures plain { IsFalse result → (b : List ℕ) → Reads b self.old at → PlainFrom b at end }
         ensures lent { IsTrue result → IsFalse self.new.is_shared }
@@ -147,11 +149,11 @@ impl<'m, 'de> Text<'m, 'de> {
         self.escapes.mark < end
     }
 
-    // Whether one of the 32 bytes from index `at` on is a backslash, or may be. Where escapes are dense this finds the
-    // next one at less cost than a walk to it.
+    // Whether one of the 32 bytes from index `at` on is a backslash, or may be. Where escapes are dense this
+    // finds the next one at less cost than a walk to it.
     #[inline(always)]
     fn is_near_backslash(&self, at: usize) -> bool
-        requires { (b : List ℕ) × Reads b self.now at × (at ≤ length b) }
+        requires { HasBytes self.now at 0 }
     {
         let rest = self.from(at);
         rest.len() < 32 || (u8x32::from_slice(rest).simd_eq(u8x32::splat(b'\\'))).to_bitmask() != 0
@@ -160,8 +162,9 @@ impl<'m, 'de> Text<'m, 'de> {
     // The walk along the backslashes, its mark at the first from index `at` on.
     #[inline(always)]
     fn escapes_from(&self, at: usize) -> Escapes<'m>
-        requires { (b : List ℕ) × IsFalse self.now.is_shared × Reads b self.now at × (at ≤ length b) }
-        ensures { (b : List ℕ) → IsFalse self.now.is_shared → Reads b self.now at → AreAhead b result at }
+        requires lent { IsFalse self.now.is_shared }
+        requires bytes { HasBytes self.now at 0 }
+        ensures { (b : List ℕ) → Reads b self.now at → AreAhead b result at }
     {
         let Escapes { blocks, next, .. } = self.escapes;
         let rest = &self.rest[..self.end - self.at];
@@ -169,10 +172,11 @@ impl<'m, 'de> Text<'m, 'de> {
         Escapes { blocks, next, mark }
     }
 
-    // The index of the last quote before index `end`: it closes the string whose opening quote has index `at`.
+    // The index of the last quote before index `end`: it closes the string whose opening quote has index
+    // `at`.
     #[inline(always)]
     fn last_quote(&self, at: usize, end: usize) -> usize
-        requires { (b : List ℕ) × Reads b self.now at × IsStringBefore b at end }
+        requires { HasQuoted self.now at end }
         ensures { (b : List ℕ) → Reads b self.now at → IsStringBefore b at end
             → result ≡ closing_quote b at }
     {
@@ -183,11 +187,11 @@ impl<'m, 'de> Text<'m, 'de> {
         last
     }
 
-    // The string whose opening quote has index `at`, where it has no escape. The last quote before index `end`
-    // closes it, so that none of its bytes is read.
+    // The string whose opening quote has index `at`, where it has no escape. The last quote before index
+    // `end` closes it, so that none of its bytes is read.
     #[inline(always)]
     pub(crate) fn share_string(&mut self, at: usize, end: usize) -> &'de str
-        requires { (b : List ℕ) × Reads b self.old at × IsStringBefore b at end × PlainFrom b at end }
+        requires { HasPlain self.old at end }
         ensures { (b : List ℕ) → Reads b self.old at → IsStringBefore b at end → PlainFrom b at end
             → (string_at b at ≡ Ok (result.now, suc (closing_quote b at)))
             × Reads b self.new (suc (closing_quote b at)) }
@@ -196,11 +200,13 @@ impl<'m, 'de> Text<'m, 'de> {
         self.share(at + 1, closing - (at + 1))
     }
 
-    // The string whose opening quote has index `at`, or its first invalid escape. It is decoded in the bytes it
-    // was written in, out of line. That call takes the bytes alone, since whatever is lent to it stays in memory.
+    // The string whose opening quote has index `at`, or its first invalid escape. It is decoded in the bytes
+    // it was written in, out of line. That call takes the bytes alone, since whatever is lent to it stays in
+    // memory.
     #[inline(always)]
     pub(crate) fn parse_string(&mut self, at: usize) -> Result<&'de str, BadEscape>
-        requires { (b : List ℕ) × (end : ℕ) × IsFalse self.old.is_shared × Reads b self.old at × IsStringBefore b at end }
+        requires lent { IsFalse self.old.is_shared }
+        requires quoted { HasQuotedSomewhere self.old at }
         ensures { (b : List ℕ) (end : ℕ) → Reads b self.old at → IsStringBefore b at end
             → MatchResult result
             (λ string. (string_at b at ≡ Ok (string.now, suc (closing_quote b at)))
@@ -216,7 +222,8 @@ impl<'m, 'de> Text<'m, 'de> {
     }
 }
 
-// A walk along the backslashes, beside the walk through the input: from where it is up to `mark` there is none.
+// A walk along the backslashes, beside the walk through the input: from where it is up to `mark` there is
+// none.
 #[derive(Clone, Copy, Debug, Drop)]
 pub(crate) struct Escapes<'a> {
     pub(crate) blocks: &'a [u32],
@@ -224,9 +231,9 @@ pub(crate) struct Escapes<'a> {
     pub(crate) mark: usize,
 }
 
-// The number of the first block that does not lie before an index, and where the first backslash from there on is,
-// or past every input where there is none. `rest` is the input from index `base` on. It is out of line, and takes no
-// more than it reads, since whatever is lent to such a call stays in memory.
+// The number of the first block that does not lie before an index, and where the first backslash from there
+// on is, or past every input where there is none. `rest` is the input from index `base` on. It is out of
+// line, and takes no more than it reads, since whatever is lent to such a call stays in memory.
 #[inline(never)]
 fn next_backslash(
     blocks: &[u32],
@@ -235,7 +242,9 @@ fn next_backslash(
     rest: &[u8],
     base: usize,
 ) -> (usize, usize)
-    requires { (base ≤ at) × (at ≤ base + length rest.now) × (base + length rest.now < 2 ^ 64) }
+    requires ahead { base ≤ at }
+    requires within { at ≤ base + length rest.now }
+    requires fits { base + length rest.now < 2 ^ 64 }
     ensures { (b : List ℕ) → drop base b ≡ rest.now → ArePassed b blocks.now next at
         → ArePassed b blocks.now result.0 at × PlainFrom b at result.1 }
 {

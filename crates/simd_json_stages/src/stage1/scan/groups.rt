@@ -2,7 +2,8 @@
 // same for each and needs no other, so that LLVM does several at once, and at last their positions in order.
 // A group, or its first half, that is all inside a string has none, and is passed over.
 ghost use Rattle.std.specs.Prelude.{◌≡◌, ◌≢◌, ◌+◌, ◌-◌, ◌*◌, ◌%◌, ◌^◌, ◌<◌, ◌≤◌, ℕ, List, length};
-ghost use Rattle.simd_json_stages.specs.Blocks.{AreBlocks, CanList, IsAscii, IsClassified, IsPlaced, IsScanned};
+ghost use Rattle.simd_json_stages.specs.Blocks.{AreBlocks, CanList, IsAscii};
+ghost use Rattle.simd_json_stages.specs.Blocks.{IsClassified, IsPlaced, IsScanned};
 ghost use Rattle.simd_json_stages.specs.Groups.{HaveClasses, HaveControl, HaveParts, HasNoQuotes};
 
 use super::windows::Window;
@@ -79,7 +80,8 @@ fn classify_group(
         → IsClassified b (first + 8) result listed.new }
     ensures few { result.listed ≤ before.listed + 8 }
     ensures classes { (b : List ℕ) → AreBlocks b blocks.now → IsClassified b first before listed.old
-        → HaveClasses b first 8 classes.new.space_or_quote classes.new.op_or_quote classes.new.control classes.new.escaped }
+        → HaveClasses b first 8 classes.new.space_or_quote classes.new.op_or_quote
+        classes.new.control classes.new.escaped }
     ensures ascii { (b : List ℕ) → AreBlocks b blocks.now → IsClassified b first before listed.old
         → result.high ≡ 0 → (before.high ≡ 0) × IsAscii b (64 * first) (64 * (first + 8)) }
 {
@@ -100,7 +102,8 @@ fn classify_group(
 // The arithmetic on their words.
 fn part_group(classes: &GroupClasses, parts: &mut GroupParts)
     ensures { (b : List ℕ) (first : ℕ)
-        → HaveClasses b first 8 classes.now.space_or_quote classes.now.op_or_quote classes.now.control classes.now.escaped
+        → HaveClasses b first 8 classes.now.space_or_quote classes.now.op_or_quote
+        classes.now.control classes.now.escaped
         → HaveParts b first 8 parts.new.parity parts.new.plain parts.new.space parts.new.quote }
 {
     let mut k = 0;
@@ -221,7 +224,8 @@ fn scan_group(
     requires within { first + 8 ≤ length blocks.now }
     requires short { 64 * (first + 8) ≤ 2 ^ 32 }
     requires capacity { before.placing.used + 512 ≤ length out.old }
-    requires block_capacity { CanList blocks.now first (first + 8) before.classifying.listed (length listed.old) }
+    requires block_capacity { CanList blocks.now first (first + 8) before.classifying.listed
+        (length listed.old) }
     ensures few { (result.placing.used ≤ before.placing.used + 512)
         × (result.classifying.listed ≤ before.classifying.listed + 8) }
     ensures scanned { (b : List ℕ) → AreBlocks b blocks.now → IsScanned b first before out.old listed.old
@@ -259,7 +263,8 @@ pub(super) fn scan_groups(
     requires groups { (window.end - window.first) % 8 ≡ 0 }
     requires short { 64 * window.end ≤ 2 ^ 32 }
     requires capacity { before.placing.used + 64 * (window.end - window.first) ≤ length out.old }
-    requires block_capacity { CanList blocks.now window.first window.end before.classifying.listed (length listed.old) }
+    requires block_capacity { CanList blocks.now window.first window.end before.classifying.listed
+        (length listed.old) }
     ensures few { (result.placing.used ≤ before.placing.used + 64 * (window.end - window.first))
         × (result.classifying.listed ≤ before.classifying.listed + (window.end - window.first)) }
     ensures scanned { (b : List ℕ) → AreBlocks b blocks.now

@@ -36,7 +36,8 @@ fn scan_few(
     requires within { (window.first ≤ window.end) × (window.end ≤ length blocks.now) }
     requires short { 64 * window.end ≤ 2 ^ 32 }
     requires capacity { before.placing.used + 64 * (window.end - window.first) ≤ length out.old }
-    requires block_capacity { CanList blocks.now window.first window.end before.classifying.listed (length listed.old) }
+    requires block_capacity { CanList blocks.now window.first window.end before.classifying.listed
+        (length listed.old) }
     ensures scanned { (b : List ℕ) → AreBlocks b blocks.now
         → IsScanned b window.first before out.old listed.old
         → IsScanned b window.end result out.new listed.new }
@@ -76,7 +77,8 @@ pub(super) fn scan_window(
     requires within { (window.first ≤ window.end) × (window.end ≤ length blocks.now) }
     requires short { 64 * window.end ≤ 2 ^ 32 }
     requires capacity { before.placing.used + 64 * (window.end - window.first) ≤ length out.old }
-    requires block_capacity { CanList blocks.now window.first window.end before.classifying.listed (length listed.old) }
+    requires block_capacity { CanList blocks.now window.first window.end before.classifying.listed
+        (length listed.old) }
     ensures scanned { (b : List ℕ) → AreBlocks b blocks.now
         → IsScanned b window.first before out.old listed.old
         → IsScanned b window.end result out.new listed.new }

@@ -113,7 +113,8 @@ fn scan<A: Allocator>(
     structural_indexes: &mut Vec<u32, A>,
     escape_blocks: &mut Vec<u32, A>,
 ) -> Result<(bool, Found)>
-    requires { (length input.now ≤ max_length) × IsUtf8 input.now }
+    requires within { length input.now ≤ max_length }
+    requires encoding { IsUtf8 input.now }
     ensures found { IfOk result (λ r. IsFound input.now r.0 r.1
         structural_indexes.new.items escape_blocks.new.items) }
     ensures fault { IfErr result (λ e. LacksMemory input.now e

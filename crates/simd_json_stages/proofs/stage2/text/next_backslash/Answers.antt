@@ -9,7 +9,7 @@ returns-in-Some c b is passed =
     let p = c.passed-next.ensures b passed in (
       p,
       plain-ahead b c.args.rest.now _ c.args.blocks.now c.args.base c.args.at c.passed-next.result c.start.result c.min-from.result
-          c.in-Some.plain is c.requires.0 p c.start.ensures (omega (arith, c.requires.1, c.max.ensures, c.min-from.ensures))
+          c.in-Some.plain is c.requires.ahead p c.start.ensures (omega (arith, c.requires.within, c.max.ensures, c.min-from.ensures))
           (omega (arith, c.min-from.ensures)) (λ l. omega (arith, l, c.max.ensures, c.min-from.ensures))
           (take_rest c.args.rest.now (c.min-from.result - c.args.base))
           (λ k l s e. c.in-Some.ensures.0.before k (omega arith) l (ap (is_byte 92) e)),
@@ -20,7 +20,8 @@ returns-in-None c b is passed =
     let p = c.passed-next.ensures b passed in (
       p,
       λ j f t. plain-ahead b c.args.rest.now _ c.args.blocks.now c.args.base c.args.at c.passed-next.result c.start.result
-          c.min-from.result (suc j) is c.requires.0 p c.start.ensures (omega (arith, c.requires.1, c.max.ensures, c.min-from.ensures))
+          c.min-from.result (suc j) is c.requires.ahead p c.start.ensures
+          (omega (arith, c.requires.within, c.max.ensures, c.min-from.ensures))
           (omega (arith, c.min-from.ensures)) (λ l. omega (arith, l, c.max.ensures, c.min-from.ensures))
           (take_rest c.args.rest.now (c.min-from.result - c.args.base))
           (λ k l s e. c.in-None.ensures k (omega arith) s (ap (is_byte 92) e)) j f (omega arith),

@@ -59,7 +59,7 @@ returns-clause-found g c =
     let done : c.loop-i.i ≡ length b = omega arith in
     let k = c.loop-i.invariant.carried in
     record {
-      encoding = c.requires.1;
+      encoding = c.requires.encoding;
       bad = ap₂ (λ s t. s || t) (k.inside ∙ ap (is_open_at b) done) (k.control ∙ ap (has_control_before b) done);
       within = c.loop-i.invariant.within;
       listed = c.loop-i.invariant.so_far ∙ ap (λ n. filter (is_position b) (range_with_len 0 n)) done;

@@ -3,25 +3,28 @@ use Rattle.simd_json_stages.proofs.Bounds.{inside}
 use Rattle.simd_json_stages.proofs.Following.{at-first}
 use Rattle.simd_json_stages.proofs.TextLaws.{reads-kept}
 use Rattle.simd_json_stages.proofs.WholeFaults.{some-listed}
+use Rattle.simd_json_stages.proofs.Premises.{premise}
 use Rattle.simd_json_stages.proofs.stage2.machine.Machine.build.Goals as goal
 
 pub bounds-route-0 : goal.bounds-route-0
 bounds-route-0 g c =
-    let route = c.requires.1.1.on_route in
+    let route = (premise (premise c.requires)).on_route in
     some-listed g.b c.args.route.indexes.now route.positions route.whole
 
 pub byte-requires : goal.byte-requires
 byte-requires g c =
-    let route = c.requires.1.1.on_route in
-    let some = some-listed g.b c.args.route.indexes.now route.positions route.whole in (
-      g.b,
-      reads-kept g.b c.args.self.now.text 0 _ c.requires.1.1.text (omega arith),
-      inside g.b c.args.route.indexes.now route.positions 0 some,
-    )
+    let start = premise (premise c.requires) in
+    let route = start.on_route in
+    let some = some-listed g.b c.args.route.indexes.now route.positions route.whole in
+    record {
+      b = g.b;
+      reads = reads-kept g.b c.args.self.now.text 0 _ start.text (omega arith);
+      within = omega (arith, inside g.b c.args.route.indexes.now route.positions 0 some);
+    }
 
 pub read_value-requires : goal.read_value-requires
 read_value-requires g c =
-    let start = c.requires.1.1 in
+    let start = premise (premise c.requires) in
     let some = some-listed g.b c.args.route.indexes.now start.on_route.positions start.on_route.whole in
     λ κs lives. (
       lives,

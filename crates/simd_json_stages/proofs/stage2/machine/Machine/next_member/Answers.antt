@@ -8,18 +8,21 @@ use Rattle.simd_json_stages.specs.Progresses.{IsWithinNext, AdvancesPastMember, 
 use Rattle.simd_json_stages.specs.Texts.{Reads}
 use Rattle.simd_json_stages.specs.declared.stage2.fault.FaultKind.TheVariants as kinds
 use Rattle.simd_json_stages.proofs.Following.{at-member, come-opened, come-read, end-built, end-refused, some-node}
+use Rattle.simd_json_stages.proofs.Premises.{premise}
 use Rattle.simd_json_stages.proofs.stage2.machine.Machine.next_member.Goals as goal
 
 pub returns-in-Opened-clause-member : goal.returns-in-Opened-clause-member
 returns-in-Opened-clause-member g c =
-    come-opened g.b c.args.route c.args.self.now _ c.args.nodes.now.items c.args.value c.in-Opened.p c.requires.1 c.in-Opened.is
+    let given = premise c.requires in
+    come-opened g.b c.args.route c.args.self.now _ c.args.nodes.now.items c.args.value c.in-Opened.p given c.in-Opened.is
 
 pub returns-in-Opened-clause-further : goal.returns-in-Opened-clause-further
 returns-in-Opened-clause-further g c = omega (arith, ap (λ v. (reached v).read) c.in-Opened.is)
 
 pub loop-p-init : goal.loop-p-init
 loop-p-init g c =
-    let last = come-read g.b c.args.route c.args.self.now _ c.args.nodes.now.items c.args.value c.in-Read.p c.requires.1 c.in-Read.is in
+    let given = premise c.requires in
+    let last = come-read g.b c.args.route c.args.self.now _ c.args.nodes.now.items c.args.value c.in-Read.p given c.in-Read.is in
     record {
       progress = last.progress;
       depth = last.depth;
@@ -29,14 +32,14 @@ loop-p-init g c =
     }
 
 pub after_member-requires : goal.after_member-requires
-after_member-requires g c = λ κs lives. (
+after_member-requires g c = let given = premise c.requires in λ κs lives. (
   lives,
   record {
     last = record {
-      on_route = c.requires.1.on_route;
+      on_route = given.on_route;
       capacities = record {
-        node_capacity = omega (arith, c.loop-p.invariant.capacity, c.requires.1.capacities.node_capacity);
-        frame_capacity = c.requires.1.capacities.frame_capacity;
+        node_capacity = omega (arith, c.loop-p.invariant.capacity, given.capacities.node_capacity);
+        frame_capacity = given.capacities.frame_capacity;
       };
       progress = c.loop-p.invariant.progress;
       depth = c.loop-p.invariant.depth;
@@ -49,14 +52,15 @@ after_member-requires g c = λ κs lives. (
 
 pub returns-in-Next-clause-member : goal.returns-in-Next-clause-member
 returns-in-Next-clause-member g c =
+    let given = premise c.requires in
     let ps = c.args.route.indexes.now in
     let along = subst (AdvancesPastMember c.loop-p.p) c.in-Next.is c.in_ok-next.ensures.advances in
     let progress = subst (IsWithinNext g.b ps (Reads g.b c.args.self.now.text) _) c.in-Next.is c.in_ok-next.ensures.progress in
     let step = subst (AtNextOrAfter g.b ps c.args.route.max_depth c.args.self.now.stack.now c.after_member.new.nodes.items)
     c.in-Next.is c.in_ok-next.ensures.step in
-    let capacities = c.requires.1.capacities in
+    let capacities = given.capacities in
     at-member g.b c.args.route c.args.self.now _ c.after_member.new.nodes.items c.in-Next.next kinds.ExpectedObjectKey
-    c.requires.1.on_route
+    given.on_route
     (record {
       node_capacity = omega (arith, c.in_ok-next.ensures.capacity, c.loop-p.invariant.capacity, capacities.node_capacity);
       frame_capacity = capacities.frame_capacity;
@@ -70,12 +74,13 @@ returns-in-Next-clause-further g c =
 
 pub returns-then-p-route-clause-refused : goal.returns-then-p-route-clause-refused
 returns-then-p-route-clause-refused g c =
+    let given = premise c.requires in
     let ps = c.args.route.indexes.now in
     let r = c.loop-p.invariant.progress in
     let none : c.loop-p.p.depth ≡ 0 = omega arith in
     let some : 0 < length c.loop-p.nodes.items = some-node g.b ps c.args.route.max_depth c.args.self.now.stack.now c.loop-p.nodes.items
     c.loop-p.p c.loop-p.invariant.after none in
-    end-refused g.b ps c.requires.1.on_route.positions c.args.route.max_depth c.args.self.now.stack.now c.loop-p.nodes.items c.loop-p.p _ _
+    end-refused g.b ps given.on_route.positions c.args.route.max_depth c.args.self.now.stack.now c.loop-p.nodes.items c.loop-p.p _ _
     c.loop-p.invariant.after r.read none some
     (c.index.ensures ∙ get_or_default c.loop-p.nodes.items 0 _ (Static Null) (omega arith))
     (omega (arith, c.if-p-route)) c.fault_after_root.ensures

@@ -9,22 +9,25 @@ use Rattle.simd_json_stages.proofs.BuildingSteps.{step-empty, step-open}
 use Rattle.simd_json_stages.specs.Texts.{Reads}
 use Rattle.simd_json_stages.proofs.TextLaws.{reads-kept}
 use Rattle.simd_json_stages.proofs.Refusing.{refuses-deep, refuses-open_end}
+use Rattle.simd_json_stages.proofs.Premises.{premise}
 use Rattle.simd_json_stages.proofs.stage2.machine.Machine.open.Goals as goal
 
 pub returns-then-p-route-clause-refused : goal.returns-then-p-route-clause-refused
 returns-then-p-route-clause-refused g c =
+    let given = premise c.requires in
     let p = c.args.p in
-    let first = c.requires.1.first.progress.read.first in
+    let first = given.first.progress.read.first in
     refused-at g.b c.args.route.indexes.now c.args.route.max_depth kinds.DepthLimitExceeded p c.fault.result c.fault.ensures first
     (refuses-deep g.b c.args.route.indexes.now c.args.route.max_depth c.args.container c.args.self.now.stack.now c.args.nodes.now.items p
-    c.requires.1.first.value (omega arith) (omega (arith, first, c.requires.1.bracket)))
+    given.first.value (omega arith) (omega (arith, first, given.bracket)))
 
 pub next_token-requires : goal.next_token-requires
 next_token-requires g c =
-    let r = c.requires.1.first.progress in
-    let positions = c.requires.1.first.on_route.positions in
+    let given = premise c.requires in
+    let r = given.first.progress in
+    let positions = given.first.on_route.positions in
     record {
-      on_route = c.requires.1.first.on_route;
+      on_route = given.first.on_route;
       read = r.read;
       text = λ more. reads-kept g.b c.args.self.now.text _ _ r.text
           (omega (arith, later g.b c.args.route.indexes.now positions c.args.p r.read more));
@@ -32,25 +35,28 @@ next_token-requires g c =
 
 pub returns-in_err-q-clause-refused : goal.returns-in_err-q-clause-refused
 returns-in_err-q-clause-refused g c =
+    let given = premise c.requires in
     let p = c.args.p in
     let none = c.in_err-q.ensures.none in
     refused-none g.b c.args.route.indexes.now c.args.route.max_depth p c.from_residual.result _ c.from_residual.ensures.1 none.1
     (refuses-open_end g.b c.args.route.indexes.now c.args.route.max_depth c.args.container c.args.self.now.stack.now
-    c.args.nodes.now.items p c.requires.1.first.value (omega arith)
-    (omega (arith, c.requires.1.first.progress.read.first, c.requires.1.bracket)) none.0)
+    c.args.nodes.now.items p given.first.value (omega arith)
+    (omega (arith, given.first.progress.read.first, given.bracket)) none.0)
 
 pub returns-then-q-closer-clause-progress : goal.returns-then-q-closer-clause-progress
 returns-then-q-closer-clause-progress g c =
+    let given = premise c.requires in
     subst (IsAfter g.b c.args.route.indexes.now (Reads g.b c.args.self.now.text) _) (sym c.with_value.ensures)
-    (after-first g.b c.args.route.indexes.now c.requires.1.first.on_route.positions _ (reads-kept g.b c.args.self.now.text) _ _
-    c.args.p c.in_ok-q.q (one-more c.args.nodes.now.items _ _ c.push_reserved.ensures.items) c.requires.1.first.progress
+    (after-first g.b c.args.route.indexes.now given.first.on_route.positions _ (reads-kept g.b c.args.self.now.text) _ _
+    c.args.p c.in_ok-q.q (one-more c.args.nodes.now.items _ _ c.push_reserved.ensures.items) given.first.progress
     c.in_ok-q.ensures.next)
 
 pub returns-then-q-closer-clause-advances : goal.returns-then-q-closer-clause-advances
 returns-then-q-closer-clause-advances g c =
+    let given = premise c.requires in
     let next = c.in_ok-q.ensures.next in
     let l : c.args.p.at < get_or c.args.route.indexes.now c.args.p.read 0 = later g.b c.args.route.indexes.now
-    c.requires.1.first.on_route.positions c.args.p c.requires.1.first.progress.read next.more in
+    given.first.on_route.positions c.args.p given.first.progress.read next.more in
     subst (λ (q : Progress). (c.args.p.read ≤ q.read) × (c.args.p.at ≤ q.at) × (q.depth ≡ c.args.p.depth)
     × (q.container ≡ c.args.p.container)) (sym c.with_value.ensures)
     (subst (λ (q : Progress). (c.args.p.read ≤ q.read) × (c.args.p.at ≤ q.at) × (q.depth ≡ c.args.p.depth)
@@ -58,9 +64,10 @@ returns-then-q-closer-clause-advances g c =
 
 pub returns-then-q-closer-clause-step : goal.returns-then-q-closer-clause-step
 returns-then-q-closer-clause-step g c =
+    let given = premise c.requires in
     let p = c.args.p in
     let ps = c.args.route.indexes.now in
-    let r = c.requires.1.first.progress in
+    let r = given.first.progress in
     let next = c.in_ok-q.ensures.next in
     let byte : byte_at g.b (get_or ps p.read 0) ≡ closer c.args.container = next-byte g.b ps p c.in_ok-q.q next
     ∙ c.if-q-closer.true ∙ c.closer.ensures in
@@ -68,27 +75,30 @@ returns-then-q-closer-clause-step g c =
     subst (AfterValue g.b ps c.args.route.max_depth c.args.self.now.stack.now _)
     (sym (c.with_value.ensures ∙ ap (λ (q : Progress). record q { len = q.len + 1 }) next.same))
     (step-empty g.b ps c.args.route.max_depth c.args.container c.args.self.now.stack.now c.args.nodes.now.items _ p
-    c.requires.1.first.value put (omega arith) (omega (arith, r.read.first, c.requires.1.bracket)) next.more byte)
+    given.first.value put (omega arith) (omega (arith, r.read.first, given.bracket)) next.more byte)
 
 pub returns-clause-progress : goal.returns-clause-progress
 returns-clause-progress g c =
-    before-first g.b c.args.route.indexes.now c.requires.1.first.on_route.positions _ (reads-kept g.b c.args.self.now.text) _ _
+    let given = premise c.requires in
+    before-first g.b c.args.route.indexes.now given.first.on_route.positions _ (reads-kept g.b c.args.self.now.text) _ _
     c.args.p c.in_ok-q.q c.args.container (one-more c.args.nodes.now.items _ _ c.push_reserved-2.ensures.items)
-    c.requires.1.first.progress c.in_ok-q.ensures.next
+    given.first.progress c.in_ok-q.ensures.next
 
 pub returns-clause-advances : goal.returns-clause-advances
 returns-clause-advances g c =
+    let given = premise c.requires in
     let next = c.in_ok-q.ensures.next in
     let l : c.args.p.at < get_or c.args.route.indexes.now c.args.p.read 0 = later g.b c.args.route.indexes.now
-    c.requires.1.first.on_route.positions c.args.p c.requires.1.first.progress.read next.more in
+    given.first.on_route.positions c.args.p given.first.progress.read next.more in
     subst (λ (q : Progress). (c.args.p.read < q.read) × (c.args.p.at ≤ q.at) × (c.args.p.depth + 1 ≤ c.args.route.max_depth)
     × (0 < c.args.p.depth + 1)) (sym next.same) (omega arith, omega arith, omega arith, omega arith)
 
 pub returns-clause-step : goal.returns-clause-step
 returns-clause-step g c =
+    let given = premise c.requires in
     let p = c.args.p in
     let ps = c.args.route.indexes.now in
-    let r = c.requires.1.first.progress in
+    let r = given.first.progress in
     let next = c.in_ok-q.ensures.next in
     let byte : byte_at g.b (get_or ps p.read 0) ≢ closer c.args.container = λ is. c.if-q-closer.false
     (sym (next-byte g.b ps p c.in_ok-q.q next) ∙ is ∙ sym c.closer.ensures) in
@@ -105,5 +115,5 @@ returns-clause-step g c =
       len = 0;
     })) (sym next.same)
     (step-open g.b ps c.args.route.max_depth c.args.container c.args.self.now.stack.now c.args.nodes.now.items _ _ _ p
-    c.requires.1.first.value c.push_reserved-2.ensures.items few (omega (arith, r.few, r.deep)) (omega arith)
-    (omega (arith, r.read.first, c.requires.1.bracket)) next.more byte)
+    given.first.value c.push_reserved-2.ensures.items few (omega (arith, r.few, r.deep)) (omega arith)
+    (omega (arith, r.read.first, given.bracket)) next.more byte)

@@ -1,4 +1,4 @@
-use Rattle.std.proofs.Common.{◌<◌, ◌+◌, ap, length, get_or}
+use Rattle.std.proofs.Common.{◌<◌, ◌+◌, ap, length, get_or, arith}
 use Rattle.simd_json_stages.proofs.Bounds.{some-left, inside, is-next}
 use Rattle.simd_json_stages.proofs.stage2.progress.Progress.next_token.Goals as goal
 
@@ -11,7 +11,11 @@ byte-requires g c =
     let p = c.args.self in
     let ps = c.args.route.indexes.now in
     let more : p.read < length ps = c.is_last.ensures.left c.if-is_last.false in
-    (g.b, c.requires.text more, inside g.b ps c.requires.on_route.positions p.read more)
+    record {
+      b = g.b;
+      reads = c.requires.text more;
+      within = omega (arith, inside g.b ps c.requires.on_route.positions p.read more);
+    }
 
 pub returns-clause-next : goal.returns-clause-next
 returns-clause-next g c =

@@ -7,18 +7,20 @@ use Rattle.simd_json_stages.proofs.TextLaws.{reads-kept}
 use Rattle.simd_json_stages.proofs.stage2.text.Text.last_quote.Goals as goal
 
 pub overflow_sub-last : goal.overflow_sub-last
-overflow_sub-last c = omega (arith, c.requires.2.closed)
+overflow_sub-last c = omega (arith, c.requires.string.closed)
 
 pub back-init : goal.back-init
-back-init c = record { below = omega (arith, c.requires.2.closed); upto = λ b reads string. omega (arith, string.closed) }
+back-init c = record { below = omega (arith, c.requires.string.closed); upto = λ b reads string. omega (arith, string.closed) }
 
 pub byte-requires : goal.byte-requires
 byte-requires c =
-    let upto = c.back.invariant.upto c.requires.0 c.requires.1 c.requires.2 in (
-      c.requires.0,
-      reads-kept c.requires.0 c.args.self.now c.args.at _ c.requires.1 (omega (arith, c.requires.2.later)),
-      omega (arith, c.requires.2.within, c.back.invariant.below),
-    )
+    let q = c.requires in
+    let upto = c.back.invariant.upto q.b q.reads q.string in
+    record {
+      b = q.b;
+      reads = reads-kept q.b c.args.self.now c.args.at _ q.reads (omega (arith, q.string.later));
+      within = omega (arith, q.string.within, c.back.invariant.below);
+    }
 
 -- where none stands at `last` either, it can go back
 before : (b : List ℕ) (at end last : ℕ) → IsStringBefore b at end → closing_quote b at ≤ last → (byte_at b last ≡ 34 → ⊥)
@@ -30,10 +32,10 @@ before b at end last string upto other = elim (cases_lt (closing_quote b at) las
 
 pub overflow_sub-last-in-back : goal.overflow_sub-last-in-back
 overflow_sub-last-in-back c =
-    let upto = c.back.invariant.upto c.requires.0 c.requires.1 c.requires.2 in
-    let here = c.byte.ensures c.requires.0 (reads-kept c.requires.0 c.args.self.now c.args.at _ c.requires.1
-    (omega (arith, c.requires.2.later))) in
-    omega (arith, before c.requires.0 c.args.at c.args.end c.back.last c.requires.2 upto (λ e. c.back-test.true (here ∙ e)))
+    let q = c.requires in
+    let upto = c.back.invariant.upto q.b q.reads q.string in
+    let here = c.byte.ensures q.b (reads-kept q.b c.args.self.now c.args.at _ q.reads (omega (arith, q.string.later))) in
+    omega (arith, before q.b c.args.at c.args.end c.back.last q.string upto (λ e. c.back-test.true (here ∙ e)))
 
 pub back-preserved : goal.back-preserved
 back-preserved c = record {
@@ -46,10 +48,10 @@ back-preserved c = record {
 
 pub back-smaller : goal.back-smaller
 back-smaller c =
-    let upto = c.back.invariant.upto c.requires.0 c.requires.1 c.requires.2 in
-    let here = c.byte.ensures c.requires.0 (reads-kept c.requires.0 c.args.self.now c.args.at _ c.requires.1
-    (omega (arith, c.requires.2.later))) in
-    omega (arith, before c.requires.0 c.args.at c.args.end c.back.last c.requires.2 upto (λ e. c.back-test.true (here ∙ e)))
+    let q = c.requires in
+    let upto = c.back.invariant.upto q.b q.reads q.string in
+    let here = c.byte.ensures q.b (reads-kept q.b c.args.self.now c.args.at _ q.reads (omega (arith, q.string.later))) in
+    omega (arith, before q.b c.args.at c.args.end c.back.last q.string upto (λ e. c.back-test.true (here ∙ e)))
 
 pub returns : goal.returns
 returns c b reads string =

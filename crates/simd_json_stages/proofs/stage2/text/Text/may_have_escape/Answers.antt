@@ -12,7 +12,7 @@ returns-clause-reads c b reads = elim c.if-self-at.branch [
     part = λ lent. record {
       rest = (reads.part lent).rest;
       before = (reads.part lent).before;
-      ahead = w.escapes_from-self.ensures b lent reads;
+      ahead = w.escapes_from-self.ensures b reads;
     };
   })
   | else-self-at w ↦ subst (λ t. Reads b t c.args.at) (sym w.self-is) reads

@@ -5,8 +5,9 @@ use Rattle.simd_json_stages.proofs.stage2.text.Text.share.Goals as goal
 
 pub from_utf8_unchecked-requires-2 : goal.from_utf8_unchecked-requires-2
 from_utf8_unchecked-requires-2 c =
-    subst IsUtf8 (sym (lent-slice c.requires.0 _ _ _ c.args.i c.args.len _ (c.requires.1.part c.if-self.false)
-    c.split-prefix.ensures.prefix)) c.requires.3
+    let reads = c.requires.bytes.reads in
+    subst IsUtf8 (sym (lent-slice c.requires.bytes.b _ _ _ c.args.i c.args.len _ (reads.part c.if-self.false)
+    c.split-prefix.ensures.prefix)) c.requires.utf8
 
 pub returns-clause-string : goal.returns-clause-string
 returns-clause-string c b reads =

@@ -5,14 +5,17 @@ use Rattle.simd_json_stages.proofs.stage2.text.Text.share_string.Goals as goal
 
 pub share-requires : goal.share-requires
 share-requires c =
-    let b = c.requires.0 in
-    let string = c.requires.2 in
-    let closing = c.last_quote-closing.ensures b c.requires.1 string in (
-      b,
-      reads-kept b c.args.self.now c.args.at _ c.requires.1 (omega arith),
-      omega (arith, closing, string.later, string.closed, string.within),
-      subst IsUtf8 (sym (shared-slice b b c.args.at c.args.end _ string refl closing)) (plain-utf8 b c.args.at c.args.end string c.requires.3),
-    )
+    let q = c.requires.quoted in
+    let closing = c.last_quote-closing.ensures q.b q.reads q.string in
+    record {
+      bytes = record {
+        b = q.b;
+        reads = reads-kept q.b c.args.self.now c.args.at _ q.reads (omega arith);
+        within = omega (arith, closing, q.string.later, q.string.closed, q.string.within);
+      };
+      utf8 = subst IsUtf8 (sym (shared-slice q.b q.b c.args.at c.args.end _ q.string refl closing))
+          (plain-utf8 q.b c.args.at c.args.end q.string c.requires.plain);
+    }
 
 pub returns : goal.returns
 returns c b reads string plain =

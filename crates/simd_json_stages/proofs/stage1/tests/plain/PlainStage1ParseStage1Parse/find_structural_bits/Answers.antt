@@ -15,7 +15,7 @@ returns-then-not-is_utf8-clause-fault g c =
     ∙ ap Some (sym c.generic-then-not-is_utf8.ensures))
 
 pub scan-requires : goal.scan-requires
-scan-requires g c = (omega arith, c.if-not-is_utf8.ensures.0 refl)
+scan-requires g c = record { within = omega arith; encoding = c.if-not-is_utf8.ensures.0 refl }
 
 pub returns-then-has_bad_string-clause-fault : goal.returns-then-has_bad_string-clause-fault
 returns-then-has_bad_string-clause-fault g c =
