@@ -152,7 +152,8 @@ const MORE: usize = 262_144;
 
 // Reads to the reader's end.
 fn read_all<R: Read, A: Allocator>(a: A, reader: &mut Port<R>) -> Result<Vec<u8, A>>
-    requires { (reader.old.failed ≡ false) × (reader.old.ended ≡ false) }
+    requires sound { reader.old.failed ≡ false }
+    requires going { reader.old.ended ≡ false }
     ensures all { IfOk result (λ input.
         Consumes (R.remaining reader.old.inner) (R.remaining reader.new.inner) input.items
         × IsAtEnd (R.remaining reader.new.inner) × (reader.new.ended ≡ true) × (reader.new.failed ≡ false)) }

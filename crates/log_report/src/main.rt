@@ -104,7 +104,9 @@ fn run<A: Allocator + Copy, R: Read, W: Write, E: Write>(
     report: &mut Port<W>,
     refusals: &mut Port<E>,
 ) -> Result<bool, Failure>
-    requires { (reader.old.failed ≡ false) × (report.old.failed ≡ false) × (refusals.old.failed ≡ false) }
+    requires reader { reader.old.failed ≡ false }
+    requires report { report.old.failed ≡ false }
+    requires refusals { refusals.old.failed ≡ false }
     ensures { Reports R.remaining W.contents E.contents key.now longest
         reader.old reader.new report.old report.new refusals.old refusals.new result }
 {

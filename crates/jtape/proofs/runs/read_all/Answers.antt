@@ -9,8 +9,8 @@ loop-input-init g c =
       capacity = omega arith;
       read = subst (Consumes (g.R.Read.remaining c.args.reader.now.inner) (g.R.Read.remaining c.args.reader.now.inner))
           (sym c.new-input.ensures.items) (Consumes-nil _);
-      sound = c.requires.0;
-      going = c.requires.1;
+      sound = c.requires.sound;
+      going = c.requires.going;
     }
 
 pub read_more-requires-clause-reader : goal.read_more-requires-clause-reader
