@@ -1,10 +1,11 @@
 -- The last block, which spaces fill up.
 use Rattle.std.proofs.Common.{◌≡◌, refl, sym, ◌∙◌, ap, ap₂, ℕ, zero, suc, ◌+◌, ◌-◌, ◌*◌, ◌/◌, ◌<◌, ◌≤◌, inl, inr, List, [], ◌∷◌, ◌++◌}
 use Rattle.std.proofs.Common.{length, get_or, take, drop, replicate, Bool, true, false, not, ◌&&◌, ◌||◌, ◌==◌, if◌then◌else◌, add-zero}
-use Rattle.std.proofs.Common.{add-suc, arith, length-drop, length-append}
+use Rattle.std.proofs.Common.{add-suc, arith, cond, subst, length-drop, length-append, ◌^◌}
 use Rattle.std.specs.List.{list_any, range_with_len, filter}
-use Rattle.std.proofs.lemmas.Bool.{cases_lt}
-use Rattle.std.proofs.lemmas.List.{get_or_past, get_or_default, get_or_append_left, get_or-append_right, get_or-replicate, get_or-drop}
+use Rattle.std.proofs.lemmas.Bool.{cases_lt, ne_eqb}
+use Rattle.std.proofs.lemmas.List.{get_or_past, get_or_default, get_or_append_left, get_or-append_right, get_or-replicate}
+use Rattle.std.proofs.lemmas.List.{get_or-drop, drop-drop}
 use Rattle.std.proofs.lemmas.List.{length-replicate, drop-replicate, length-take-le}
 use Rattle.std.proofs.lemmas.List.Sums.{length-filter, count_by-le-length}
 use Rattle.std.proofs.lemmas.List.Folds.{list_any-append}
@@ -17,7 +18,7 @@ use Rattle.simd_json_parts.specs.Positions.{positions, has_control_inside}
 use Rattle.simd_json_parts.specs.InputFaults.{has_bad_string}
 use Rattle.simd_json_stages.specs.Carries.{has_control_before}
 use Rattle.simd_json_stages.specs.EscapeBlocks.{blocks_in, holds_backslash, backslash_blocks}
-use Rattle.simd_json_stages.specs.Words.{set_bits}
+use Rattle.simd_json_stages.specs.Words.{is_set, set_bits, HasBits, HasLastBits}
 use Rattle.simd_json_stages.specs.Blocks.{all_bits, IsBlock, AreClassified, AreStarts, IsClassified, IsPlaced}
 use Rattle.simd_json_stages.specs.declared.stage1.words.BlockStarts.{BlockStarts}
 use Rattle.simd_json_stages.specs.declared.stage1.words.Classified.{Classified}
@@ -25,7 +26,9 @@ use Rattle.simd_json_stages.specs.declared.stage1.scan.Placing.{Placing}
 use Rattle.simd_json_stages.specs.declared.stage1.scan.Classifying.{Classifying}
 use Rattle.simd_json_stages.proofs.CarryLaws.{filter-next}
 use Rattle.simd_json_stages.proofs.EscapeBlockLaws.{filter-stays, list_any-none_between, holds_backslash-plain, byte_at-past}
-use Rattle.simd_json_stages.proofs.Bits.Places.{length-ones}
+use Rattle.simd_json_stages.proofs.Bits.Combined.{bits-all, bits-not, bits-or, bits-same}
+use Rattle.simd_json_stages.proofs.Bits.Operations.{flip, is_set-zero}
+use Rattle.simd_json_stages.proofs.Bits.Places.{length-ones, set_bits-filter, set_bits-first}
 use Rattle.simd_json_stages.proofs.ScanLaws.{range-add, positions-next, control-next}
 
 -- how many whole blocks there are
@@ -57,6 +60,94 @@ IsBlock-rest b rest front e copied =
       ];
     }
 
+or-false : (t : Bool) → (t || false) ≡ t
+or-false true = refl
+or-false false = refl
+
+-- the rest is at the end of the last 64 bytes
+pub IsBlock-last : (b rest last : List ℕ) → rest ≡ drop (length b / 64 * 64) b → 64 ≤ length b → last ≡ drop (length b - 64) b
+    → IsBlock b (64 * whole b) (drop (64 - length rest) last ++ replicate (64 - length rest) 32)
+IsBlock-last b rest last e long is =
+    let size = length-drop (length b / 64 * 64) b in
+    let from : length b - 64 + (64 - length rest) ≡ length b / 64 * 64 = omega (arith, ap length e) in
+    let front : drop (64 - length rest) last ≡ rest = ap (drop (64 - length rest)) is ∙ drop-drop (64 - length rest) (length b - 64) b
+    ∙ ap (λ n. drop n b) from ∙ sym e in
+    let same : rest ++ drop (length rest) (replicate 64 32) ≡ drop (64 - length rest) last ++ replicate (64 - length rest) 32 =
+    rw (front, drop-replicate) in
+    subst (IsBlock b (64 * whole b)) same (IsBlock-rest b rest rest e refl)
+
+-- ---- so many of the last of 64 bytes, and spaces after them
+
+abbrev pub filled : ℕ → List ℕ → List ℕ
+filled len xs = drop (64 - len) xs ++ replicate (64 - len) 32
+
+own : (w : ℕ) → w < 2 ^ 64 → HasBits w (is_set w)
+own w small = record { small = small; bits = λ i l. refl }
+
+module _ (xs : List ℕ) (len : ℕ) (long : length xs ≡ 64) (short : len < 64) where
+  size : length (drop (64 - len) xs) ≡ len
+  size = omega (arith, length-drop (64 - len) xs)
+
+  pub length-filled : length (filled len xs) ≡ 64
+  length-filled = omega (arith, length-append (drop (64 - len) xs) (replicate (64 - len) 32), size, length-replicate {A = ℕ} (64 - len) 32)
+
+  pub filled-front : (i : ℕ) → i < len → get_or (filled len xs) i 0 ≡ get_or xs (64 - len + i) 0
+  filled-front i l = get_or_append_left (drop (64 - len) xs) (replicate (64 - len) 32) 0 i (omega (arith, size))
+      ∙ get_or-drop (64 - len) xs i 0
+
+  pub filled-behind : (i : ℕ) → len ≤ i → i < 64 → get_or (filled len xs) i 0 ≡ 32
+  filled-behind i f l = get_or-append_right (drop (64 - len) xs) (replicate (64 - len) 32) len i 0 size f
+      ∙ get_or-replicate (64 - len) (i - len) 32 0 (omega arith)
+
+  -- what is true of each byte and of a space is of each of these
+  pub filled-each : (p : ℕ → Type 0) → p 32 → ((i : ℕ) → i < 64 → p (get_or xs i 0)) → (i : ℕ) → i < 64 → p (get_or (filled len xs) i 0)
+  filled-each p space each i l = elim (cases_lt i len) [
+    | inl h ↦ subst p (sym (filled-front i h)) (each (64 - len + i) (omega arith))
+    | inr h ↦ subst p (sym (filled-behind i h l)) space
+  ]
+
+  pub filled-bytes : ((i : ℕ) → get_or xs i 0 < 256) → (i : ℕ) → get_or (filled len xs) i 0 < 256
+  filled-bytes small i = elim (cases_lt i 64) [
+    | inl l ↦ filled-each (λ x. x < 256) (omega arith) (λ j m. small j) i l
+    | inr h ↦ omega (arith, get_or_past (filled len xs) i 0 (omega (arith, length-filled)))
+  ]
+
+  module _ (q : ℕ → Bool) (w w' : ℕ) (has : HasBits w (λ i. q (get_or xs i 0))) (is : HasLastBits len w w') where
+    here : (i : ℕ) → i < len → is_set w' i ≡ q (get_or (filled len xs) i 0)
+    here i h = is.front i h ∙ has.bits (64 - len + i) (omega arith) ∙ ap q (sym (filled-front i h))
+
+    -- a class that a space is not of
+    pub bits-moved : q 32 ≡ false → HasBits w' (λ i. q (get_or (filled len xs) i 0))
+    bits-moved space = bits-same (own w' is.small) (λ i l. elim (cases_lt i len) [
+      | inl h ↦ here i h
+      | inr h ↦ is.behind i h l ∙ sym (ap q (filled-behind i h l) ∙ space)
+    ])
+
+    -- one that it is of
+    pub bits-filled : (m : ℕ) → HasLastBits len (all_bits true) m → q 32 ≡ true
+        → HasBits (bit_or w' (flip m)) (λ i. q (get_or (filled len xs) i 0))
+    bits-filled m mask space = bits-same (bits-or (own w' is.small) (bits-not (own m mask.small))) (λ i l. elim (cases_lt i len) [
+      | inl h ↦ ap₂ (λ s t. s || not t) (here i h) (mask.front i h ∙ (bits-all true).bits (64 - len + i) (omega arith))
+          ∙ or-false (q (get_or (filled len xs) i 0))
+      | inr h ↦ ap₂ (λ s t. s || not t) (is.behind i h l) (mask.behind i h l) ∙ sym (ap q (filled-behind i h l) ∙ space)
+    ])
+
+-- a word of backslashes is 0 where there is none
+filter-some : (p : ℕ → Bool) (ks : List ℕ) (k : ℕ) (rest : List ℕ) → filter p ks ≡ k ∷ rest → list_any p ks ≡ true
+filter-some p [] k rest h = cc h
+filter-some p (j ∷ ks) k rest h = by (p j) (filter-some p ks k rest) h
+  where
+    by : (t : Bool) → (filter p ks ≡ k ∷ rest → list_any p ks ≡ true) → cond t (j ∷ filter p ks) (filter p ks) ≡ k ∷ rest
+        → (t || list_any p ks) ≡ true
+    by true later h = refl
+    by false later h = later h
+
+pub any-set : (p : ℕ → Bool) (at w : ℕ) → HasBits w (λ i. p (at + i)) → not (w == 0) ≡ list_any p (range_with_len at 64)
+any-set p at zero has = sym (list_any-none_between p at 64 (λ j f t. let there : at + (j - at) ≡ j = omega arith in
+    ap p (sym there) ∙ sym (has.bits (j - at) (omega arith)) ∙ is_set-zero (j - at)))
+any-set p at (suc w) has = ap not (ne_eqb (suc w) 0 (λ e. omega (arith, e))) ∙ sym (filter-some p (range_with_len at 64) _ _
+    (sym (set_bits-filter p 64 at (suc w) has.bits) ∙ set_bits-first 64 at (suc w) (omega arith) has.small))
+
 -- ---- past the end there are spaces
 
 space-past : (b : List ℕ) (i : ℕ) → length b ≤ i → byte_at b i ≡ 32
@@ -87,10 +178,6 @@ quotes-past b (suc n) =
 pub positions-all : (b : List ℕ) (n : ℕ) → length b ≤ n → filter (is_position b) (range_with_len 0 n) ≡ positions b
 unfolding positions
 positions-all b n l = filter-stays (is_position b) (length b) n l (λ k f t. position-past b k f)
-
-or-false : (t : Bool) → (t || false) ≡ t
-or-false true = refl
-or-false false = refl
 
 control-all : (b : List ℕ) (n : ℕ) → has_control_before b (length b + n) ≡ has_control_inside b
 unfolding has_control_inside

@@ -1,5 +1,5 @@
 -- Words of 64 bits, asked of one bit at a time. It serves proofs: only the crate's private clauses cite it.
-use Rattle.std.specs.Prelude.{◌≡◌, ℕ, zero, suc, ◌+◌, ◌^◌, ◌<◌, ◌==◌, List, map, filter, Bool, true, false, not, ◌&&◌}
+use Rattle.std.specs.Prelude.{◌≡◌, ℕ, zero, suc, ◌+◌, ◌-◌, ◌^◌, ◌<◌, ◌≤◌, ◌==◌, List, map, filter, Bool, true, false, not, ◌&&◌}
 use Rattle.std.specs.Int.{bit_at}
 use Rattle.std.specs.List.{range_with_len}
 
@@ -11,6 +11,12 @@ is_set x i = bit_at x i == 1
 pub record HasBits (x : ℕ) (p : ℕ → Bool) : Type 0 where
   pub small : x < 2 ^ 64
   pub bits : (i : ℕ) → i < 64 → is_set x i ≡ p i
+
+-- word y has at its front the bits at the end of word x, so many, and no other
+pub record HasLastBits (len x y : ℕ) : Type 0 where
+  pub small : y < 2 ^ 64
+  pub front : (i : ℕ) → i < len → is_set y i ≡ is_set x (64 - len + i)
+  pub behind : (i : ℕ) → len ≤ i → i < 64 → is_set y i ≡ false
 
 -- base + i for each bit i below n that is set, in increasing order
 unfoldable pub set_bits : ℕ → ℕ → ℕ → List ℕ

@@ -1,10 +1,12 @@
 // A scan of a whole input: its whole blocks in windows, and then what is left.
 ghost use Rattle.std.specs.Prelude.{◌≡◌, ◌+◌, ◌*◌, ◌/◌, ◌^◌, ◌<◌, ◌≤◌, ◌⊎◌, ℕ, List, length, take, drop};
 ghost use Rattle.std.specs.Prelude.{IfOk, IfErr, IsTrue, IsUtf8};
+ghost use Rattle.std.specs.Int.{from_bool};
 ghost use Rattle.std.specs.Simd.{first_chunks};
 ghost use Rattle.simd_json_parts.specs.Limits.{max_length};
 ghost use Rattle.simd_json_stages.specs.Blocks.{AreClassified, AreParts, IsClassified};
 ghost use Rattle.simd_json_stages.specs.Blocks.{IsControl, IsPlaced, IsScanned};
+ghost use Rattle.simd_json_stages.specs.Carries.{is_escaped_at};
 ghost use Rattle.simd_json_stages.specs.Scans.{IsBadEncoding, IsFound, LacksMemory};
 
 mod groups;
@@ -12,7 +14,7 @@ mod windows;
 
 use super::capacity::grow;
 use super::encoding::check_window;
-use super::words::{Carry, Classified, Parts, classify, find_parts, find_starts};
+use super::words::{Carry, Classified, Parts, classify, classify_last, find_parts, find_starts};
 use super::writing::{list_block, write, write_exactly};
 use super::{BLOCK_LEN, Found};
 use simd_json_parts::error::Result;
@@ -146,6 +148,24 @@ pub(super) fn scan_blocks<A: Allocator>(
     Ok((done, checked))
 }
 
+// The block that the rest after the whole blocks begins, and spaces fill up. Where the input has 64 bytes the
+// last of them are read in place, since vectors that read a copy wait until its pieces are stored.
+#[inline(always)]
+fn classify_rest(input: &[u8], rest: &[u8], before: u64) -> Classified
+    requires rest { rest.now ≡ drop (length input.now / 64 * 64) input.now }
+    requires before { before ≡ from_bool (is_escaped_at input.now (64 * (length input.now / 64))) }
+    ensures { AreClassified input.now (64 * (length input.now / 64)) result }
+{
+    match input.last_chunk::<64>() {
+        Some(last) => classify_last(last, rest.len(), before),
+        None => {
+            let mut block = [b' '; 64];
+            block[..rest.len()].copy_from_slice(rest);
+            classify(&block, before)
+        }
+    }
+}
+
 // What is after the whole blocks, as a block that spaces fill up. Returns whether some string is bad, and how
 // many positions and blocks with a backslash there are.
 pub(super) fn scan_rest<A: Allocator>(
@@ -170,9 +190,7 @@ pub(super) fn scan_rest<A: Allocator>(
         × (length escape_blocks.old.items ≤ length escape_blocks.new.items) }
 {
     let number = input.len() / BLOCK_LEN;
-    let mut block = [b' '; 64];
-    block[..rest.len()].copy_from_slice(rest);
-    let classified = classify(&block, done.classifying.escaped);
+    let classified = classify_rest(input, rest, done.classifying.escaped);
     let is_ascii = classified.high == 0;
     check_window(input, checked, BLOCK_LEN * number, input.len(), is_ascii)?;
     let parts = find_parts(

@@ -1,11 +1,11 @@
 // The words of a block: from classes to positions, 64 bytes at a time, as in G. Langdale and D. Lemire,
 // "Parsing Gigabytes of JSON per Second", VLDB Journal 28 (2019): escapes, quoted strings and token starts by
 // arithmetic.
-ghost use Rattle.std.specs.Prelude.{◌≡◌, ◌==◌, ◌+◌, ℕ, List, Bool};
+ghost use Rattle.std.specs.Prelude.{◌≡◌, ◌==◌, ◌+◌, ◌-◌, ◌<◌, ◌++◌, ℕ, List, drop, replicate, Bool};
 ghost use Rattle.std.specs.List.{list_any};
 ghost use Rattle.simd_json_parts.specs.Bytes.{backslash};
 ghost use Rattle.std.specs.Int.{from_bool};
-ghost use Rattle.simd_json_stages.specs.Words.{HasBits, escaped_in, parity};
+ghost use Rattle.simd_json_stages.specs.Words.{HasBits, HasLastBits, escaped_in, parity};
 ghost use Rattle.simd_json_stages.specs.Carries.{is_escaped_at};
 ghost use Rattle.simd_json_stages.specs.Blocks.{IsBlock, IsControl, IsCarried, HasClasses};
 ghost use Rattle.simd_json_stages.specs.Blocks.{AreStarts, AreParts, AreClassified};
@@ -114,6 +114,44 @@ pub(super) fn classify(bytes: &[u8; 64], before: u64) -> Classified
         next: e.next,
         high: m.high,
         has_backslash: m.has_backslash,
+    }
+}
+
+// The bits at the end of a word, so many, at its front.
+#[inline(always)]
+fn last_bits(word: u64, len: usize) -> u64
+    requires { len < 64 }
+    ensures { HasLastBits len word result }
+{
+    (word >> 1) >> (63 - len)
+}
+
+// As `classify`, of a block that the last of these bytes begin, so many, and spaces fill up: its words are
+// those of the bytes, moved. Only `high` is of all the bytes.
+#[inline(always)]
+pub(super) fn classify_last(bytes: &[u8; 64], len: usize, before: u64) -> Classified
+    requires { len < 64 }
+    ensures { (b : List ℕ) (i : ℕ) → IsBlock b i (drop (64 - len) bytes.now ++ replicate (64 - len) 32)
+        → before ≡ from_bool (is_escaped_at b i) → AreClassified b i result }
+{
+    let m = classes(bytes);
+    let backslash = last_bits(backslashes(bytes), len);
+    let Escaped { escaped, next } = if backslash != 0 {
+        find_escaped(backslash, before)
+    } else {
+        Escaped {
+            escaped: before,
+            next: 0,
+        }
+    };
+    Classified {
+        space_or_quote: last_bits(m.space_or_quote, len) | !last_bits(u64::MAX, len),
+        op_or_quote: last_bits(m.op_or_quote, len),
+        control: last_bits(m.control, len),
+        escaped,
+        next,
+        high: m.high,
+        has_backslash: backslash != 0,
     }
 }
 

@@ -5,7 +5,7 @@ use lib.Count.{ones}
 use Rattle.simd_json_stages.specs.EscapeBlocks.{blocks_in, backslash_blocks}
 use Rattle.simd_json_stages.specs.Words.{set_bits}
 use Rattle.simd_json_stages.proofs.EncodingLaws.{utf8-reached}
-use Rattle.simd_json_stages.proofs.RestLaws.{whole, IsBlock-rest, rest-bad, rest-positions, rest-few, rest-listed, rest-blocks}
+use Rattle.simd_json_stages.proofs.RestLaws.{whole, rest-bad, rest-positions, rest-few, rest-listed, rest-blocks}
 use Rattle.simd_json_stages.proofs.ScanLaws.{written-back, prefix, stored-next}
 use Rattle.simd_json_stages.proofs.stage1.scan.scan_rest.Goals as goal
 use Rattle.simd_json_stages.proofs.stage1.scan.scan_rest.Goals.{then-classified+in_ok-grow-2, else-classified}
@@ -15,16 +15,14 @@ pub check_window-requires-clause-ascii : goal.check_window-requires-clause-ascii
 check_window-requires-clause-ascii g c =
     let b = c.args.input.now in
     let s = c.requires.scanned.classified in
-    let padded = IsBlock-rest b c.args.rest.now _ c.requires.rest c.copy_from_slice.ensures.after in
-    let classified = c.classify-classified.ensures.classified b _ padded s.escaped in
+    let classified = c.classify_rest-classified.ensures in
     λ zero i from end. classified.ascii (eqb-true _ _ zero) i from (omega arith)
 
 pub grow-requires : goal.grow-requires
 grow-requires g c =
     let b = c.args.input.now in
     let s = c.requires.scanned in
-    let padded = IsBlock-rest b c.args.rest.now _ c.requires.rest c.copy_from_slice.ensures.after in
-    let classified = c.classify-classified.ensures.classified b _ padded s.classified.escaped in
+    let classified = c.classify_rest-classified.ensures in
     let placed = c.find_starts-placed.ensures b _ (c.find_parts-parts.ensures b _ classified.classes) classified.classes.control
     s.placed.carried in
     rest-few b c.args.done.placing _ c.find_starts-placed.result s.placed placed
@@ -33,20 +31,18 @@ pub grow-requires-then-classified : goal.grow-requires-then-classified
 grow-requires-then-classified g c =
     let b = c.args.input.now in
     let s = c.requires.scanned.classified in
-    let padded = IsBlock-rest b c.args.rest.now _ c.requires.rest c.copy_from_slice.ensures.after in
-    let classified = c.classify-classified.ensures.classified b _ padded s.escaped in
-    let l : c.args.done.classifying.listed < blocks_in (length b) = rest-listed b c.args.done.classifying _ c.classify-classified.result
-    s classified c.if-classified.true in
+    let classified = c.classify_rest-classified.ensures in
+    let l : c.args.done.classifying.listed < blocks_in (length b) = rest-listed b c.args.done.classifying _
+    c.classify_rest-classified.result s classified c.if-classified.true in
     omega (arith, c.div_ceil-max_blocks.ensures)
 
 pub returns-clause-found : goal.returns-clause-found
 returns-clause-found g c =
     let b = c.args.input.now in
     let s = c.requires.scanned in
-    let t = c.classify-classified.result in
+    let t = c.classify_rest-classified.result in
     let m = c.find_starts-placed.result in
-    let padded = IsBlock-rest b c.args.rest.now _ c.requires.rest c.copy_from_slice.ensures.after in
-    let classified = c.classify-classified.ensures.classified b _ padded s.classified.escaped in
+    let classified = c.classify_rest-classified.ensures in
     let placed = c.find_starts-placed.ensures b _ (c.find_parts-parts.ensures b _ classified.classes) classified.classes.control
     s.placed.carried in
     let a = c.grow in
