@@ -1,4 +1,4 @@
-mod Alike
+mod Fronts
 mod ParseLaws
 mod ParseEnds
 mod ParseAnswers
@@ -13,6 +13,7 @@ mod MapCompared
 mod Printable
 mod Encoded
 mod Pointed
+mod Keys
 mod Splitting
 mod StringScan
 mod ByteBefore

@@ -4,14 +4,12 @@ use Rattle.std.proofs.Common.{cond, bytes_eq, List, [], ◌∷◌, length, map, 
 use Rattle.std.proofs.Common.{get_or, Some, None, Option, option_map, Result, Ok, Err, arith, ne_eqb, lit<, subst, eqb}
 use Rattle.std.proofs.lemmas.Bool.{eqb-true, eq-eqb, ltb-false, le-ltb}
 use Rattle.std.proofs.lemmas.Int.Digits.{number_more, number_after_append, number_after_ge}
-use Rattle.std.proofs.lemmas.List.{get_or-take, get_or-drop, get_or-map, length-take-le, length-map, take_all, take-append-drop}
+use Rattle.std.proofs.lemmas.List.{get_or-drop, get_or-map, length-map, take_all, take-append-drop}
 use Rattle.std.proofs.lemmas.List.{drop-drop, drop_more, drop_all, take_more_set}
 use Rattle.std.specs.Char.{digit_value}
 use Rattle.std.specs.Int.Digits.{number_from_digits, number_from_digits_after}
-use Rattle.std.proofs.Math.Seq.{take-append_seam, drop-append_seam}
 use Rattle.std.proofs.lemmas.Option.{slice_get_past}
 use Rattle.std.proofs.lemmas.Slice.Eq.{bytes_eq-Decides}
-use Rattle.std.proofs.lemmas.Grind.{same_number_lists}
 use Rattle.std.specs.Prelude.{◌==◌, ◌^◌, nat_lt, slice_get, ok_or, is_some, option_and_then}
 use Rattle.std.specs.Result.{result_ok}
 use Rattle.simd_json_parts.specs.Document.{Document, array, object, elements, Elements, Members, members}
@@ -19,8 +17,7 @@ use Rattle.simd_json_parts.specs.Views.{first_with, is_array, is_object, value_t
 use Rattle.simd_json_parts.specs.declared.node.ValueType.{ValueType}
 use Rattle.simd_json.specs.Pointed.{with_first, tokens, unescaped, is_array_index, array_index, element_at, member_at, named, stop}
 use Rattle.simd_json.specs.Pointed.{go_on, followed, pointed_from}
-use Rattle.simd_json.specs.Followed.{AreAlike, AreSame, IsKey, IsPlain, IsWritten, tokens_after, first_of, first_step, fits_64}
-use Rattle.simd_json.specs.declared.value.pointer.token.Key.{Key}
+use Rattle.simd_json.specs.Followed.{IsWritten, tokens_after, first_of, first_step, fits_64}
 use Rattle.simd_json.specs.declared.value.pointer.PointerError.{PointerError}
 use Rattle.simd_json.specs.declared.value.pointer.PointerExpected.{PointerExpected}
 use Rattle.simd_json.specs.declared.value.pointer.PointerExpected.TheVariants as lacking
@@ -31,7 +28,7 @@ use Rattle.simd_json.proofs.Split.{first_with-pair, first_with-none}
 abbrev pub Lacks : ℕ → ℕ → List ℕ → Type 0
 Lacks c n p = (k : ℕ) → k < n → get_or p k 0 ≢ c
 
-tokens-first : (p : List ℕ) (n : ℕ) → n ≤ length p → Lacks 47 n p → (n < length p → get_or p n 0 ≡ 47)
+pub tokens-first : (p : List ℕ) (n : ℕ) → n ≤ length p → Lacks 47 n p → (n < length p → get_or p n 0 ≡ 47)
     → tokens p ≡ take n p ∷ tokens_after (drop n p)
 tokens-first [] zero within lacks ends = refl
 tokens-first [] (suc n) within lacks ends = absurd (omega arith)
@@ -39,17 +36,6 @@ tokens-first (c ∷ p) zero within lacks ends = let is : c ≡ 47 = ends (omega 
 tokens-first (c ∷ p) (suc n) within lacks ends =
     let rest = tokens-first p n (omega arith) (λ k less. lacks (suc k) (omega arith)) (λ less. ends (omega arith)) in
     rw (ne_eqb c 47 (lacks 0 (omega arith))) (ap (with_first c) rest)
-
-pub tokens-front : (p : List ℕ) (n : ℕ) → n < length p → Lacks 47 n p → get_or p n 0 ≡ 47
-    → tokens p ≡ take n p ∷ tokens_after (drop (length (take n p)) p)
-tokens-front p n inside lacks ends =
-    tokens-first p n (omega arith) lacks (λ less. ends)
-    ∙ ap (λ m. take n p ∷ tokens_after (drop m p)) (sym (length-take-le n p (omega arith)))
-
-pub tokens-whole : (p : List ℕ) (n : ℕ) → length p ≤ n → Lacks 47 n p → tokens p ≡ p ∷ tokens_after (drop (length p) p)
-tokens-whole p n past lacks =
-    tokens-first p (length p) (omega arith) (λ k less. lacks k (omega arith)) (λ less. absurd (omega arith))
-    ∙ ap (λ t. t ∷ tokens_after (drop (length p) p)) (take_all (length p) p (omega arith))
 
 pub unescaped-plain : (t : List ℕ) → Lacks 126 (length t) t → unescaped t ≡ Some t
 unescaped-plain [] lacks = refl
@@ -107,29 +93,9 @@ first-is [] = record {
 }
 first-is (c ∷ p) = first-more c p (first-is p) (eqb c 47) refl
 
--- a key that the bytes in front are
-pub first-alike : (p t : List ℕ) → length t ≤ length p → (length t < length p → get_or p (length t) 0 ≡ 47) → AreAlike p t 0 (length t)
-    → (first_of (tokens p) ≡ t) × IsPlain t
-first-alike p t within ended alike =
-    let n = length t in
-    let long : length (take n p) ≡ n = length-take-le n p within in
-    let front : take n p ≡ t =
-    same_number_lists (take n p) t long (λ k less. get_or-take n p k 0 (omega arith) ∙ (alike k (omega arith) (omega arith)).0) in
-    let lacks : Lacks 47 n p = λ k less e. (alike k (omega arith) less).1 (sym (alike k (omega arith) less).0 ∙ e) in
-    (ap first_of (tokens-first p n within lacks ended) ∙ front, λ k less. (alike k (omega arith) less).2)
-
-pub alike-first : (p t : List ℕ) → first_of (tokens p) ≡ t → IsPlain t
-    → (length t ≤ length p) × (length t < length p → get_or p (length t) 0 ≡ 47) × AreAlike p t 0 (length t)
-alike-first p t is plain =
-    let first : IsFirst p t = subst (IsFirst p) is (first-is p) in (
-      first.within,
-      first.ended,
-      λ k from less. (sym (get_or-take (length t) p k 0 less) ∙ ap (λ l. get_or l k 0) first.front, first.lacks k less, plain k less),
-    )
-
 -- ---- escapes
 
-plain-head : (c : ℕ) (t : List ℕ) → c ≢ 126 → unescaped (c ∷ t) ≡ option_map (λ k. c ∷ k) (unescaped t)
+pub plain-head : (c : ℕ) (t : List ℕ) → c ≢ 126 → unescaped (c ∷ t) ≡ option_map (λ k. c ∷ k) (unescaped t)
 plain-head c [] other = rw (ne_eqb c 126 other) refl
 plain-head c (e ∷ t) other = rw (ne_eqb c 126 other) refl
 
@@ -162,7 +128,8 @@ slash-at t i inside begins is = record { decoded = escaped-at t i 49 inside begi
 
 -- ---- a key that is compared with what is written
 
-mapped-some : (o : Option (List ℕ)) (x : ℕ) (l : List ℕ) → option_map (λ k. x ∷ k) o ≡ Some l → (r : List ℕ) × (o ≡ Some r) × (x ∷ r ≡ l)
+pub mapped-some : (o : Option (List ℕ)) (x : ℕ) (l : List ℕ)
+    → option_map (λ k. x ∷ k) o ≡ Some l → (r : List ℕ) × (o ≡ Some r) × (x ∷ r ≡ l)
 mapped-some None x l is = cc
 mapped-some (Some r) x l is = (r, refl, cc)
 
@@ -248,29 +215,6 @@ held-len o (Some key) held n is long =
     let same : n ≡ length key = cc in
     ap Some (ap (λ m. length held + m) same ∙ sym (length-append held key)) ∙ sym (ap (option_map (λ k. length k)) is)
 
-pub same-front : (held key : List ℕ) → length held ≤ length key → (take (length held) key ≡ held) ↔ AreSame held key 0 (length held)
-same-front held key short =
-    let long : length (take (length held) key) ≡ length held = length-take-le (length held) key short in (
-      λ same k from less. ap (λ l. get_or l k 0) (sym same) ∙ get_or-take (length held) key k 0 less,
-      λ same.
-          same_number_lists (take (length held) key) held long
-          (λ k less. get_or-take (length held) key k 0 (omega (arith, long)) ∙ sym (same k (omega arith) (omega (arith, long)))),
-    )
-
-pub held-is : (held key : List ℕ) (n : ℕ) (rest : Option (List ℕ)) → length held ≡ n
-    → (option_map (λ others. held ++ others) rest ≡ Some key) ↔ ((take n key ≡ held) × (rest ≡ Some (drop n key)))
-held-is held key n None long = (λ is. cc, λ is. cc)
-held-is held key n (Some others) long = (
-  λ is.
-      (let whole : held ++ others ≡ key = cc in (
-        ap (λ m. take m key) (sym long) ∙ ap (take (length held)) (sym whole) ∙ take-append_seam held others,
-        ap Some (sym (drop-append_seam held others) ∙ ap (drop (length held)) whole ∙ ap (λ m. drop m key) long),
-      )),
-  λ is.
-      (let tail : others ≡ drop n key = cc in
-      ap Some (ap (λ l. held ++ l) tail ∙ ap (λ l. l ++ drop n key) (sym is.0) ∙ take-append-drop n key)),
-)
-
 -- ---- results
 
 ok-of : {A E : Type 0} (r : Result A E) (x : A) → result_ok r ≡ Some x → r ≡ Ok x
@@ -340,24 +284,6 @@ further p i t d e at leads =
     ∙ ap (λ n. followed n (tokens_after rest) e) number
     ∙ followed-rest (i + (1 + length t)) rest e (λ some. rest-begins p i t at rest there some)
     ∙ ap (λ q. pointed_from (i + (1 + length t)) q e) (sym there)
-
--- ---- the key that a token is, by its parts
-
-abbrev joined : List ℕ → Key → Option (List ℕ)
-joined t k = option_map (λ others. take k.held k.bytes ++ others) (unescaped (take (length t - k.rest) (drop k.rest t)))
-
-joined-is : (t : List ℕ) (k : Key) → IsKey t k → joined t k ≡ unescaped t
-joined-is t k is = ap (λ r. option_map (λ others. take k.held k.bytes ++ others) (unescaped r)) (rest t k.rest) ∙ sym is.decoded
-
-length-of : (u : Option (List ℕ)) (key : List ℕ) (n : ℕ) → Some n ≡ option_map (λ k. length k) u → u ≡ Some key → n ≡ length key
-length-of None key n counted is = cc
-length-of (Some k) key n counted is = let long : n ≡ length k = cc in let same : k ≡ key = cc in long ∙ ap length same
-
-pub key-is : (t key : List ℕ) (k : Key) → IsKey t k → ((k.len ≡ length key) × (joined t k ≡ Some key)) ↔ (unescaped t ≡ Some key)
-key-is t key k is = (
-  λ both. sym (joined-is t k is) ∙ both.1,
-  λ has. (length-of (unescaped t) key k.len is.counted has, joined-is t k is ∙ has),
-)
 
 -- ---- where a pointer stops
 

@@ -9,8 +9,8 @@ use Rattle.std.specs.Str.{IsCharBoundary, IsUtf8}
 use Rattle.std.proofs.lemmas.List.{append_assoc, drop-drop, drop_more, length-map, length-take-le, map-append, take_more_set}
 use Rattle.std.proofs.lemmas.List.Elements.{All-push}
 use Rattle.std.proofs.lemmas.Str.{IsCharBoundary-after_ascii}
-use Rattle.simd_json_parts.specs.Document.{Document, Members, array, object}
-use Rattle.simd_json_parts.specs.Views.{first_with, get, is_array}
+use Rattle.simd_json_parts.specs.Document.{Document, Members}
+use Rattle.simd_json_parts.specs.Views.{first_with}
 use Rattle.simd_json.specs.Pointed.{tokens, token_count, unescaped, is_pointer, member_at, named, stop, go_on, followed, pointed}
 use Rattle.simd_json.specs.Followed.{IsPlain, first_of, tokens_after}
 use Rattle.simd_json.specs.Splitting.{IsKept, IsToken, part_of}
@@ -22,13 +22,8 @@ use Rattle.simd_json.proofs.Pointed.{IsFirst, IsTokenAt, at-slash, first-is, ok-
 
 -- ---- what a token names
 
-member-plain : (ms : Members) (t : List ℕ) → IsPlain t → result_ok (member_at ms (unescaped t)) ≡ first_with t ms
+pub member-plain : (ms : Members) (t : List ℕ) → IsPlain t → result_ok (member_at ms (unescaped t)) ≡ first_with t ms
 member-plain ms t plain = ap (λ u. result_ok (member_at ms u)) (unescaped-plain t plain) ∙ ok-or (first_with t ms) lacking.Key
-
-pub plain-named : (t : List ℕ) (d : Document) → is_array d ≡ false → IsPlain t → get t d ≡ result_ok (named t d)
-plain-named t (array ds) other plain = cc
-plain-named t (object ms) other plain = sym (member-plain ms t plain)
-plain-named t _ other plain = refl
 
 -- ---- where tokens lead
 

@@ -12,7 +12,7 @@ part_of p s = take s.len (drop s.start p)
 abbrev pub IsKept : List ℕ → Part → Type 0
 IsKept t s =
     (s.is_plain ≡ true → IsPlain t)
-    × IsKey t s.key
+    × IsKey t s.key s.key_len
     × (s.index ≡ option_and_then fits_64 (array_index t))
 
 abbrev pub IsToken : List ℕ → Part → Type 0

@@ -6,15 +6,15 @@ ghost use Rattle.simd_json.specs.Pointed.{tokens, unescaped, array_index, elemen
 ghost use Rattle.simd_json.specs.Viewed.{doc, docs, pairs};
 ghost use Rattle.simd_json_parts.specs.Bytes.{slash};
 
-mod alike;
 mod display;
+mod front;
 mod index;
 mod split;
 mod token;
 
-use crate::value::pointer::alike::are_alike;
+use crate::value::pointer::front::front_len;
 use crate::value::pointer::index::{is_index, read_index};
-use crate::value::pointer::token::{Key, decoded_len, first_token, is_plain};
+use crate::value::pointer::token::{decode, decoded_len, first_token, held};
 use crate::value::tape::{Array, Object, Value};
 use simd_json_parts::node::ValueType;
 pub use split::Pointer;
@@ -73,9 +73,8 @@ impl<'tape, 'input> Value<'tape, 'input> {
     pub fn pointer(&self, pointer: &str) -> Option<Value<'tape, 'input>>
         ensures { option_map doc result ≡ result_ok (pointed pointer.now (doc self.now)) }
     {
-        let bytes = pointer.as_bytes();
-        let (value, followed) = follow(*self, bytes);
-        if followed < bytes.len() {
+        let (value, followed) = follow(*self, pointer);
+        if followed < pointer.len() {
             return None;
         }
         Some(value)
@@ -87,12 +86,11 @@ impl<'tape, 'input> Value<'tape, 'input> {
     pub fn try_pointer(&self, pointer: &str) -> Result<Value<'tape, 'input>, PointerError>
         ensures { ok_map doc result ≡ pointed pointer.now (doc self.now) }
     {
-        let bytes = pointer.as_bytes();
-        let (value, followed) = follow(*self, bytes);
-        if followed < bytes.len() {
+        let (value, followed) = follow(*self, pointer);
+        if followed < pointer.len() {
             return Err(PointerError {
                 index: followed,
-                expected: lack(value, &bytes[followed..]),
+                expected: lack(value, &pointer.as_bytes()[followed..]),
                 got: value.value_type(),
             });
         }
@@ -103,7 +101,7 @@ impl<'tape, 'input> Value<'tape, 'input> {
 // As far as the pointer leads: the value there, and how many bytes of the pointer were followed.
 fn follow<'tape, 'input>(
     value: Value<'tape, 'input>,
-    pointer: &[u8],
+    pointer: &str,
 ) -> (Value<'tape, 'input>, usize)
     ensures within { result.1 ≤ length pointer.now }
     ensures led { pointed pointer.now (doc value.entry)
@@ -111,9 +109,10 @@ fn follow<'tape, 'input>(
     ensures stopped { result.1 < length pointer.now
         → result_ok (first_step (drop result.1 pointer.now) (doc result.0)) ≡ None }
 {
+    let bytes = pointer.as_bytes();
     let mut reached = value;
     let mut followed = 0;
-    while begins_token(pointer, followed) {
+    while stands_at(bytes, followed, b'/') {
         let Some((next, len)) = step(reached, &pointer[followed + 1..]) else {
             return (reached, followed);
         };
@@ -123,17 +122,17 @@ fn follow<'tape, 'input>(
     (reached, followed)
 }
 
-// Whether a token begins at an index of the pointer.
-fn begins_token(pointer: &[u8], at: usize) -> bool
-    ensures { IsTrue result ↔ ((at < length pointer.now) × (slice_index pointer.now at ≡ slash)) }
+// Whether this byte stands at an index.
+fn stands_at(bytes: &[u8], at: usize, byte: u8) -> bool
+    ensures { IsTrue result ↔ ((at < length bytes.now) × (slice_index bytes.now at ≡ byte)) }
 {
-    at < pointer.len() && pointer[at] == b'/'
+    at < bytes.len() && bytes[at] == byte
 }
 
 // The value that the first token of what is left of a pointer names in another, and how long the token is.
 fn step<'tape, 'input>(
     value: Value<'tape, 'input>,
-    left: &[u8],
+    left: &str,
 ) -> Option<(Value<'tape, 'input>, usize)>
     ensures named { option_map (λ r. doc r.0) result
         ≡ result_ok (named (first_of (tokens left.now)) (doc value.entry)) }
@@ -142,45 +141,45 @@ fn step<'tape, 'input>(
     if let Some(object) = value.as_object() {
         return member(object, left);
     }
-    element(value.as_array()?, left)
+    element(value.as_array()?, left.as_bytes())
 }
 
-// The value of the first pair whose key the first token names. A key is compared with what is left of the
-// pointer where a token would end with it, so that where the token ends is not looked for.
+// The value of the first pair with the key that the first token is.
 #[inline(always)]
 fn member<'tape, 'input>(
     object: Object<'tape, 'input>,
-    left: &[u8],
+    left: &str,
 ) -> Option<(Value<'tape, 'input>, usize)>
     ensures named { option_map (λ r. doc r.0) result
         ≡ result_ok (member_at (pairs object.entry) (unescaped (first_of (tokens left.now)))) }
     ensures len { IfSome result (λ r. r.1 ≡ length (first_of (tokens left.now))) }
 {
-    for (key, value) in object.iter() {
-        if is_first_token(left, key.as_bytes()) {
-            return Some((value, key.len()));
-        }
+    let bytes = left.as_bytes();
+    let len = front_len(bytes, b'/', b'~');
+    if stands_at(bytes, len, b'~') {
+        return escaped_member(object, left);
     }
-    let token = first_token(left);
-    if is_plain(token) {
-        return None;
-    }
-    let value = escaped_member(object, token)?;
-    Some((value, token.len()))
+    Some((object.find(&left[..len])?, len))
 }
 
-// The value of the first pair whose key the token is, its escapes decoded.
+// The same where the token has an escape.
 #[cold]
 fn escaped_member<'tape, 'input>(
     object: Object<'tape, 'input>,
-    token: &[u8],
-) -> Option<Value<'tape, 'input>>
-    ensures { option_map doc result ≡ result_ok (member_at (pairs object.entry) (unescaped token.now)) }
+    left: &str,
+) -> Option<(Value<'tape, 'input>, usize)>
+    ensures named { option_map (λ r. doc r.0) result
+        ≡ result_ok (member_at (pairs object.entry) (unescaped (first_of (tokens left.now)))) }
+    ensures len { IfSome result (λ r. r.1 ≡ length (first_of (tokens left.now))) }
 {
-    let Some(key) = Key::new(token) else {
+    let len = first_token(left.as_bytes()).len();
+    let token = &left[..len];
+    let mut key = [0; 128];
+    let Some(key_len) = decode(token.as_bytes(), &mut key) else {
         return None;
     };
-    key.find(token, object)
+    let key = held(token, &key, key_len);
+    Some((token::find(object, token, key)?, len))
 }
 
 // The value at the index that the first token is.
@@ -219,16 +218,7 @@ fn is_front_token(left: &[u8], len: usize) -> bool
     ensures { IsTrue result ↔ ((len ≤ length left.now)
         × (len < length left.now → slice_index left.now len ≡ slash)) }
 {
-    len == left.len() || (len < left.len() && left[len] == b'/')
-}
-
-// Whether the key, in which there is no `~`, is the first token.
-#[inline(always)]
-fn is_first_token(left: &[u8], key: &[u8]) -> bool
-    ensures found { IsTrue result → (first_of (tokens left.now) ≡ key.now) × IsPlain key.now }
-    ensures missed { first_of (tokens left.now) ≡ key.now → IsPlain key.now → IsTrue result }
-{
-    is_front_token(left, key.len()) && are_alike(left, key)
+    len == left.len() || stands_at(left, len, b'/')
 }
 
 // What the pointer, of which this is left, lacks at the value, from which it does not go on.

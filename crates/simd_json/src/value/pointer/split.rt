@@ -6,7 +6,7 @@ ghost use Rattle.simd_json.specs.Pointed.{is_pointer};
 ghost use Rattle.simd_json.specs.Splitting.{IsToken, part_of};
 
 use crate::value::pointer::index::read_index;
-use crate::value::pointer::token::{Key, first_token, is_plain};
+use crate::value::pointer::token::{self, decode, first_token, held, is_plain};
 use crate::value::tape::{Array, Value};
 
 // A reference token, as a part of a pointer's text, and what it names.
@@ -16,7 +16,9 @@ struct Part {
     len: usize,
     // It has no `~`.
     is_plain: bool,
-    key: Key,
+    // The key that it is, decoded, as far as 128 bytes reach, and how many it has.
+    key: [u8; 128],
+    key_len: usize,
     // The array index that it is, where 64 bits hold it.
     index: Option<usize>,
 }
@@ -34,7 +36,8 @@ impl Part {
         start: 0,
         len: 0,
         is_plain: true,
-        key: Key::EMPTY,
+        key: [0; 128],
+        key_len: 0,
         index: None,
     };
 
@@ -43,7 +46,8 @@ impl Part {
         ensures { MatchOption result (unescaped token.now ≡ None)
             (λ part. (part.start ≡ start) × (part.len ≡ length token.now) × IsKept token.now part) }
     {
-        let Some(key) = Key::new(token) else {
+        let mut key = [0; 128];
+        let Some(key_len) = decode(token, &mut key) else {
             return None;
         };
         Some(Part {
@@ -51,12 +55,12 @@ impl Part {
             len: token.len(),
             is_plain: is_plain(token),
             key,
+            key_len,
             index: read_index(token),
         })
     }
 
-    // The value that it names in another. A plain token is looked up by `get`, of which LLVM makes a loop for each
-    // range of lengths.
+    // The value that it names in another.
     #[inline(always)]
     fn find<'tape, 'input>(
         &self,
@@ -69,11 +73,14 @@ impl Part {
         if let Some(array) = value.as_array() {
             return self.element(array);
         }
+        let object = value.as_object()?;
         let token = &text[self.start..self.start + self.len];
-        if self.is_plain {
-            return value.get(token);
-        }
-        self.key.find(token.as_bytes(), value.as_object()?)
+        let key = if self.is_plain {
+            Some(token)
+        } else {
+            held(token, &self.key, self.key_len)
+        };
+        token::find(object, token, key)
     }
 
     // The element with the index that the token is.
@@ -92,8 +99,8 @@ impl Part {
 /// A JSON Pointer (RFC 6901), split into at most `N` reference tokens. Nothing is allocated.
 ///
 /// To look up the same place in many documents, split the pointer once: [`Value::at`] then costs about as much as
-/// a call of [`Object::get`](crate::tape::Object::get) or [`Array::get`](crate::tape::Array::get) for each token
-/// without an escape.
+/// a call of [`Object::get`](crate::tape::Object::get) or [`Array::get`](crate::tape::Array::get) for each token,
+/// but for one with an escape whose key has more than 128 bytes.
 ///
 /// ```
 /// use simd_json::Pointer;

@@ -1,10 +1,12 @@
 //! A reference token, and the key that it is when its escapes are decoded (RFC 6901, section 3).
-ghost use Rattle.std.specs.Prelude.{◌≡◌, ◌<◌, ◌≤◌, ◌↔◌, ◌∷◌, ◌++◌, IsTrue, IfSome, Some, None, drop, length, slice_index, option_map, MatchOption};
-ghost use Rattle.simd_json.specs.Followed.{IsPlain, IsWritten, tokens_after};
-ghost use Rattle.simd_json.specs.Pointed.{tokens, unescaped};
+ghost use Rattle.std.specs.Prelude.{◌≡◌, ◌<◌, ◌≤◌, ◌+◌, ◌↔◌, ◌∷◌, ◌++◌, IsTrue, IfSome, Some, None, take, drop, length, slice_index, option_map, MatchOption};
+ghost use Rattle.std.specs.Result.{result_ok};
+ghost use Rattle.simd_json.specs.Followed.{IsKey, IsPlain, IsWritten, tokens_after};
+ghost use Rattle.simd_json.specs.Pointed.{member_at, tokens, unescaped};
+ghost use Rattle.simd_json.specs.Viewed.{doc, pairs};
 ghost use Rattle.simd_json_parts.specs.Bytes.{slash};
 
-use crate::value::pointer::alike::are_same;
+use crate::value::pointer::front::front_len;
 use crate::value::tape::{Object, Value};
 
 // The token that follows a `/`, after which this is left of the pointer.
@@ -13,12 +15,7 @@ pub(super) fn first_token(left: &[u8]) -> &[u8]
     ensures token { tokens left.now ≡ result.now ∷ tokens_after (drop (length result.now) left.now) }
     ensures ended { length result.now < length left.now → slice_index left.now (length result.now) ≡ slash }
 {
-    for (len, byte) in left.iter().enumerate() {
-        if *byte == b'/' {
-            return &left[..len];
-        }
-    }
-    left
+    &left[..front_len(left, b'/', b'/')]
 }
 
 // Whether there is no `~` in the token.
@@ -28,95 +25,85 @@ pub(super) fn is_plain(token: &[u8]) -> bool
     token.iter().all(|byte| *byte != b'~')
 }
 
-// The key that a token is, its escapes decoded. Its first bytes are decoded once, so that they are compared with
-// those of each other key at once.
-#[derive(Clone, Copy, Debug)]
-pub(super) struct Key {
-    bytes: [u8; 64],
-    // How many of these bytes are decoded.
-    held: usize,
-    // Where in the token the others begin.
-    rest: usize,
-    // How many bytes it has.
-    len: usize,
-}
-
-impl Key {
-    ghost use Rattle.std.specs.Prelude.{◌≡◌, ◌↔◌, IsTrue, MatchOption, None, Some, option_map};
-    ghost use Rattle.std.specs.Result.{result_ok};
-    ghost use Rattle.simd_json.specs.Followed.{IsKey};
-    ghost use Rattle.simd_json.specs.Pointed.{member_at, unescaped};
-    ghost use Rattle.simd_json.specs.Viewed.{doc, pairs};
-
-    // The key that the empty token is.
-    pub(super) const EMPTY: Key = Key {
-        bytes: [0; 64],
-        held: 0,
-        rest: 0,
-        len: 0,
-    };
-
-    // The key that the token is, or `None` where a `~` of it begins no escape.
-    pub(super) fn new(token: &[u8]) -> Option<Key>
-        ensures { MatchOption result (unescaped token.now ≡ None) (IsKey token.now) }
-    {
-        let mut bytes = [0; 64];
-        let mut held = 0;
-        let mut rest = 0;
-        while held < 64 && rest < token.len() {
+// Decodes a token into 128 bytes, as far as these reach. Returns how many bytes the key has that it is, or `None`
+// where a `~` of it begins no escape.
+#[inline(always)]
+pub(super) fn decode(token: &[u8], key: &mut [u8]) -> Option<usize>
+    requires { length key.old ≡ 128 }
+    ensures { MatchOption result (unescaped token.now ≡ None) (IsKey token.now key.new) }
+{
+    let mut held = 0;
+    let mut rest = 0;
+    while held < 128 && rest < token.len() {
+        if token[rest] == b'~' {
             let Some(written) = unescaped_at(token, rest) else {
                 return None;
             };
-            bytes[held] = written.byte;
+            key[held] = written.byte;
             held += 1;
             rest = written.end;
+        } else {
+            let run = front_len(&token[rest..], b'~', b'~').min(128 - held);
+            store(key, held, &token[rest..rest + run]);
+            held += run;
+            rest += run;
         }
-        let Some(left) = decoded_len(&token[rest..]) else {
-            return None;
-        };
-        Some(Key {
-            bytes,
-            held,
-            rest,
-            len: held + left,
-        })
     }
-
-    // The value of the first pair with the key. What is compared with each other key is read once.
-    #[inline(always)]
-    pub(super) fn find<'tape, 'input>(
-        &self,
-        token: &[u8],
-        object: Object<'tape, 'input>,
-    ) -> Option<Value<'tape, 'input>>
-        requires { IsKey token.now self.now }
-        ensures { option_map doc result ≡ result_ok (member_at (pairs object.entry) (unescaped token.now)) }
-    {
-        let len = self.len;
-        let held = &self.bytes[..self.held];
-        let rest = &token[self.rest..];
-        for (key, value) in object.iter() {
-            if is_key(len, held, rest, key.as_bytes()) {
-                return Some(value);
-            }
-        }
-        None
-    }
+    Some(held + decoded_len(&token[rest..])?)
 }
 
-// Whether the key has this length, begins with what is held of it, and goes on with what the rest is, decoded. It is
-// compared byte by byte only past what is held.
+// Stores bytes at an index.
 #[inline(always)]
-fn is_key(len: usize, held: &[u8], rest: &[u8], key: &[u8]) -> bool
-    requires few { length held.now ≤ 64 }
-    requires within { length held.now ≤ len }
-    ensures { IsTrue result ↔ ((len ≡ length key.now)
-        × (option_map (λ others. held.now ++ others) (unescaped rest.now) ≡ Some key.now)) }
+fn store(all: &mut [u8], at: usize, bytes: &[u8])
+    requires { at + length bytes.now ≤ length all.old }
+    ensures stored { take (at + length bytes.now) all.new ≡ take at all.old ++ bytes.now }
+    ensures size { length all.new ≡ length all.old }
 {
-    if key.len() != len {
-        return false;
+    all[at..at + bytes.len()].copy_from_slice(bytes);
+}
+
+// The key that a token is, where all of it is held.
+#[inline(always)]
+pub(super) fn held<'key>(token: &str, key: &'key [u8], len: usize) -> Option<&'key str>
+    requires { IsKey token.now key.now len }
+    ensures { IfSome result (λ k. unescaped token.now ≡ Some k.now) }
+{
+    if len > 128 {
+        return None;
     }
-    are_same(held, key) && is_unescaped(rest, &key[held.len()..])
+    Some(unsafe { str::from_utf8_unchecked(&key[..len]) })
+}
+
+// The value of the first pair with the key that a token is.
+#[inline(always)]
+pub(super) fn find<'tape, 'input>(
+    object: Object<'tape, 'input>,
+    token: &str,
+    key: Option<&str>,
+) -> Option<Value<'tape, 'input>>
+    requires { IfSome key (λ k. unescaped token.now ≡ Some k.now) }
+    ensures { option_map doc result ≡ result_ok (member_at (pairs object.entry) (unescaped token.now)) }
+{
+    let Some(key) = key else {
+        return find_long(object, token.as_bytes());
+    };
+    object.find(key)
+}
+
+// The same where its key is not held: the token is decoded again, byte by byte, for each other key.
+#[cold]
+fn find_long<'tape, 'input>(
+    object: Object<'tape, 'input>,
+    token: &[u8],
+) -> Option<Value<'tape, 'input>>
+    ensures { option_map doc result ≡ result_ok (member_at (pairs object.entry) (unescaped token.now)) }
+{
+    for (key, value) in object.iter() {
+        if is_unescaped(token, key.as_bytes()) {
+            return Some(value);
+        }
+    }
+    None
 }
 
 // Whether the token, decoded, is the key.
@@ -163,6 +150,7 @@ struct Written {
 }
 
 // What is written at an index of the token, or `None` where a `~` stands there that begins no escape.
+#[inline(always)]
 fn unescaped_at(token: &[u8], at: usize) -> Option<Written>
     requires { at < length token.now }
     ensures { MatchOption result (unescaped (drop at token.now) ≡ None) (λ w. IsWritten token.now at w) }

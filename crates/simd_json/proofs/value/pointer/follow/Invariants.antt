@@ -3,10 +3,10 @@ use Rattle.simd_json.specs.Pointed.{pointed, pointed_from}
 use Rattle.simd_json.specs.Viewed.{doc}
 use Rattle.simd_json.proofs.value.pointer.follow.Given as goal
 
-abbrev pub invariant-loop-reached : goal.invariant-loop-reached
-invariant-loop-reached l =
+abbrev pub invariant-loop-bytes : goal.invariant-loop-bytes
+invariant-loop-bytes l =
     (l.followed ≤ length l.pointer)
     × (pointed l.pointer (doc l.fn.value) ≡ pointed_from l.followed (drop l.followed l.pointer) (doc l.reached))
 
-abbrev pub decreases-loop-reached : goal.decreases-loop-reached
-decreases-loop-reached l = length l.pointer - l.followed
+abbrev pub decreases-loop-bytes : goal.decreases-loop-bytes
+decreases-loop-bytes l = length l.pointer - l.followed

@@ -1,40 +1,32 @@
-use Rattle.std.proofs.Common.{◌≡◌, ◌∙◌, ap, sym, refl, subst, Some, true≢false}
-use Rattle.simd_json.specs.Followed.{IsPlain, first_of}
-use Rattle.simd_json.specs.Pointed.{tokens, unescaped}
+use Rattle.std.proofs.Common.{◌∙◌, ap, sym, option_map, true≢false}
+use Rattle.simd_json_parts.specs.Views.{first_with}
 use Rattle.simd_json.specs.Viewed.{doc, pairs}
-use Rattle.simd_json.proofs.Split.{members_cancel}
-use Rattle.simd_json.proofs.Pointed.{found, unescaped-plain, member-here, member-later, member-none}
+use Rattle.simd_json.proofs.Fronts.{plain-front, range-front}
+use Rattle.simd_json.proofs.Splitting.{member-plain}
 use Rattle.simd_json.proofs.value.pointer.member.Goals as goal
 
-pub loop-key-init : goal.loop-key-init
-loop-key-init c plain =
-    let t = first_of (tokens c.args.left.now) in
-    ap (λ it. found t (pairs it.left)) c.into_iter-key-iterator.ensures.into_iter_gives
-    ∙ ap (found t) (members_cancel _ (pairs c.args.object) c.iter-key-items.ensures)
+pub range-requires-clause-end_boundary : goal.range-requires-clause-end_boundary
+range-requires-clause-end_boundary c =
+    (plain-front c.args.left.now _ c.front_len-len.result c.as_bytes-bytes.ensures.value c.front_len-len.ensures
+    (λ less e. true≢false (sym (c.if-stands_at.ensures.1 (less, e))))).boundary
 
-pub returns-then-is_first_token-clause-named : goal.returns-then-is_first_token-clause-named
-returns-then-is_first_token-clause-named c =
-    let t = first_of (tokens c.args.left.now) in
-    let first = c.if-is_first_token.ensures.found refl in
-    let name = ap unescaped first.0 ∙ unescaped-plain _ first.1 ∙ ap Some c.as_bytes.ensures.value in
-    sym (member-here (unescaped t) _ (doc c.in-Some.value) _ (pairs c.next.new.self.left) c.in-Some.ensures.steps name)
-    ∙ c.loop-key.invariant (subst IsPlain (sym first.0) first.1)
+pub returns-in_err-find-clause-named : goal.returns-in_err-find-clause-named
+returns-in_err-find-clause-named c =
+    let front = plain-front c.args.left.now _ c.front_len-len.result c.as_bytes-bytes.ensures.value c.front_len-len.ensures
+    (λ less e. true≢false (sym (c.if-stands_at.ensures.1 (less, e)))) in
+    let ms = pairs c.args.object in
+    ap (option_map (λ r. doc r.0)) c.from_residual.ensures ∙ c.in_err-find.ensures
+    ∙ ap (λ t. first_with t ms) (c.range.ensures.value ∙ range-front _ _ ∙ sym front.token) ∙ sym (member-plain ms _ front.plain)
 
-pub loop-key-preserved : goal.loop-key-preserved
-loop-key-preserved c plain =
-    let t = first_of (tokens c.args.left.now) in
-    let key = c.in-Some.key.now in
-    let other : unescaped t ≡ Some key → ⊥ = λ is.
-    (let both : Some t ≡ Some key = sym (unescaped-plain t plain) ∙ is in
-    let bytes : t ≡ key = cc in
-    let same = bytes ∙ sym c.as_bytes.ensures.value in
-    true≢false (sym (c.if-is_first_token.ensures.missed same (subst IsPlain same plain)))) in
-    sym (member-later (unescaped t) key (doc c.in-Some.value) _ (pairs c.next.new.self.left) c.in-Some.ensures.steps other)
-    ∙ c.loop-key.invariant plain
+pub returns-clause-named : goal.returns-clause-named
+returns-clause-named c =
+    let front = plain-front c.args.left.now _ c.front_len-len.result c.as_bytes-bytes.ensures.value c.front_len-len.ensures
+    (λ less e. true≢false (sym (c.if-stands_at.ensures.1 (less, e)))) in
+    let ms = pairs c.args.object in
+    c.in_ok-find.ensures ∙ ap (λ t. first_with t ms) (c.range.ensures.value ∙ range-front _ _ ∙ sym front.token)
+    ∙ sym (member-plain ms _ front.plain)
 
-pub returns-then-is_plain-clause-named : goal.returns-then-is_plain-clause-named
-returns-then-is_plain-clause-named c =
-    let t = first_of (tokens c.args.left.now) in
-    let is : t ≡ c.first_token-token.result.now = ap first_of c.first_token-token.ensures.token in
-    let plain = subst IsPlain (sym is) (c.if-is_plain.ensures.0 refl) in
-    sym (member-none (unescaped t) _ c.in-None.ensures.steps.0) ∙ c.loop-key.invariant plain
+pub returns-clause-len : goal.returns-clause-len
+returns-clause-len c =
+    (plain-front c.args.left.now _ c.front_len-len.result c.as_bytes-bytes.ensures.value c.front_len-len.ensures
+    (λ less e. true≢false (sym (c.if-stands_at.ensures.1 (less, e))))).len

@@ -2,7 +2,7 @@ use Rattle.std.proofs.Common.{◌≡◌, ◌∙◌, ap, sym, bytes_eq, cond, tru
 use Rattle.simd_json_parts.specs.Views.{first_with}
 use Rattle.simd_json.specs.Viewed.{doc, pairs}
 use Rattle.simd_json.proofs.Split.{first_with-pair, members_cancel}
-use Rattle.simd_json.proofs.value.tape.object.Object.get.Goals as goal
+use Rattle.simd_json.proofs.value.tape.object.Object.find.Goals as goal
 
 pub loop-key-init : goal.loop-key-init
 loop-key-init c =

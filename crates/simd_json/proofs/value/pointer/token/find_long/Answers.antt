@@ -2,27 +2,26 @@ use Rattle.std.proofs.Common.{◌∙◌, ap, sym, refl, Some, true≢false}
 use Rattle.simd_json.specs.Pointed.{unescaped}
 use Rattle.simd_json.specs.Viewed.{doc, pairs}
 use Rattle.simd_json.proofs.Split.{members_cancel}
-use Rattle.simd_json.proofs.Pointed.{found, key-is, member-here, member-later, member-none}
-use Rattle.simd_json.proofs.value.pointer.token.Key.find.Goals as goal
+use Rattle.simd_json.proofs.Pointed.{found, member-here, member-later, member-none}
+use Rattle.simd_json.proofs.value.pointer.token.find_long.Goals as goal
 
 pub loop-key-init : goal.loop-key-init
 loop-key-init c =
     ap (λ it. found c.args.token.now (pairs it.left)) c.into_iter-key-iterator.ensures.into_iter_gives
     ∙ ap (found c.args.token.now) (members_cancel _ (pairs c.args.object) c.iter-key-items.ensures)
 
-pub returns-then-is_key : goal.returns-then-is_key
-returns-then-is_key c =
+pub returns-then-is_unescaped : goal.returns-then-is_unescaped
+returns-then-is_unescaped c =
     let t = c.args.token.now in
-    let name = (key-is t _ c.args.self.now c.requires).0 (c.if-is_key.ensures.0 refl) ∙ ap Some c.as_bytes.ensures.value in
+    let name = c.if-is_unescaped.ensures.0 refl ∙ ap Some c.as_bytes.ensures.value in
     sym (member-here (unescaped t) c.in-Some.key.now (doc c.in-Some.value) _ (pairs c.next.new.self.left) c.in-Some.ensures.steps name)
     ∙ c.loop-key.invariant
 
 pub loop-key-preserved : goal.loop-key-preserved
 loop-key-preserved c =
     let t = c.args.token.now in
-    let key = key-is t _ c.args.self.now c.requires in
     sym (member-later (unescaped t) c.in-Some.key.now (doc c.in-Some.value) _ (pairs c.next.new.self.left) c.in-Some.ensures.steps
-    (λ is. true≢false (sym (c.if-is_key.ensures.1 (key.1 (is ∙ ap Some (sym c.as_bytes.ensures.value)))))))
+    (λ is. true≢false (sym (c.if-is_unescaped.ensures.1 (is ∙ ap Some (sym c.as_bytes.ensures.value))))))
     ∙ c.loop-key.invariant
 
 pub returns : goal.returns
