@@ -7,8 +7,6 @@ use std::alloc::{AllocError, AllocFailed};
 
 mod classes;
 mod display;
-#[cfg(test)]
-mod tests;
 
 /// A result whose error is this crate's.
 pub type Result<T> = std::result::Result<T, Error>;

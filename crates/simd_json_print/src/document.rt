@@ -10,8 +10,6 @@ ghost use Rattle.simd_json_print.specs.Texts.{Adds, AddsSome, IsLonger};
 ghost use Rattle.simd_json_print.specs.Prefix.{IsPrefix};
 
 mod scalar;
-#[cfg(test)]
-mod tests;
 mod walk;
 
 use crate::document::walk::put_value;

@@ -7,8 +7,6 @@ ghost use Rattle.simd_json_print.specs.Texts.{HasEnded};
 mod pieces;
 mod stores;
 mod strings;
-#[cfg(test)]
-mod tests;
 
 use crate::text::pieces::Pieces;
 use itoa::{Buffer, Integer};

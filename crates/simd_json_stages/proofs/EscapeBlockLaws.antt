@@ -1,8 +1,8 @@
 -- The list of the blocks that hold a backslash, one byte further.
-use Rattle.std.proofs.Common.{◌≡◌, ◌≢◌, sym, ◌∙◌, ap, subst, ℕ, zero, suc, ◌+◌, ◌-◌, ◌*◌, ◌/◌, ◌<◌, ◌≤◌, inl, inr, refl, List, [], ◌∷◌}
-use Rattle.std.proofs.Common.{◌++◌, length, get_or, Bool, true, false, ◌==◌, filter, arith}
+use Rattle.std.proofs.Common.{◌≡◌, ◌≢◌, ◌∙◌, ap, subst, ℕ, zero, suc, ◌+◌, ◌-◌, ◌*◌, ◌/◌, ◌<◌, ◌≤◌, List}
+use Rattle.std.proofs.Common.{length, get_or, Bool, true, false, ◌==◌, filter, arith}
 use Rattle.std.specs.List.{list_any, range_with_len}
-use Rattle.std.proofs.lemmas.Bool.{cases_lt, ne_eqb}
+use Rattle.std.proofs.lemmas.Bool.{ne_eqb}
 use Rattle.std.proofs.lemmas.List.{get_or_past}
 use Rattle.std.proofs.lemmas.List.Folds.{list_any_none, list_any_at}
 use Rattle.std.proofs.lemmas.List.FromFn.{get_or-range_with_len, length-range_with_len}
@@ -54,57 +54,6 @@ filter-stays p m n l none = let there : m + (n - m) ≡ n = omega arith in
 -- Past the end no byte is a backslash.
 pub byte_at-past : (b : List ℕ) (j : ℕ) → length b ≤ j → byte_at b j ≢ backslash
 byte_at-past b j l e = omega (arith, get_or_past b j 32 l, e)
-
--- What is listed before index i: the blocks before block n that hold a backslash, and none stands after those.
-pub record ListsBlocks (b : List ℕ) (i : ℕ) (n : ℕ) (listed : List ℕ) : Type 0 where
-  pub begun : 64 * n < i + 64
-  pub these : listed ≡ filter (holds_backslash b) (range_with_len 0 n)
-  pub plain : PlainFrom b (64 * n) i
-
--- Before the first byte nothing is listed.
-pub ListsBlocks-none : (b : List ℕ) → ListsBlocks b 0 0 []
-ListsBlocks-none b = record { begun = omega arith; these = refl; plain = λ j f t. absurd (omega arith) }
-
--- A byte that is no backslash adds nothing.
-pub ListsBlocks-other : {b : List ℕ} {i n : ℕ} {listed : List ℕ} → ListsBlocks b i n listed → byte_at b i ≢ backslash
-    → ListsBlocks b (i + 1) n listed
-ListsBlocks-other {b} {i} {n} s e = record {
-  begun = omega (arith, s.begun);
-  these = s.these;
-  plain = λ j f t. elim (cases_lt j i) [
-    | inl l ↦ s.plain j f l
-    | inr r ↦ let here : j ≡ i = omega arith in λ h. e (ap (byte_at b) (sym here) ∙ h)
-  ];
-}
-
--- Nor does a byte of a block before block n.
-pub ListsBlocks-again : {b : List ℕ} {i n : ℕ} {listed : List ℕ} → ListsBlocks b i n listed → i / 64 < n → ListsBlocks b (i + 1) n listed
-ListsBlocks-again s l = record { begun = omega (arith, s.begun); these = s.these; plain = λ j f t. absurd (omega (arith, l)) }
-
--- The first backslash of a block adds that block.
-pub ListsBlocks-first : {b : List ℕ} {i n : ℕ} {listed : List ℕ} → ListsBlocks b i n listed → byte_at b i ≡ backslash → n ≤ i / 64
-    → ListsBlocks b (i + 1) (i / 64 + 1) (listed ++ (i / 64) ∷ [])
-ListsBlocks-first {b} {i} {n} {listed} s e l =
-    let p = holds_backslash b in
-    let none : (k : ℕ) → n ≤ k → k < i / 64 → p k ≡ false = λ k f t. holds_backslash-plain b k
-    (λ j g h. s.plain j (omega arith) (omega arith)) in
-    record {
-      begun = omega arith;
-      these = sym (filter-next p (i / 64) true (holds_backslash-at b i e)
-          ∙ ap (λ ks. ks ++ (i / 64) ∷ []) (filter-stays p n (i / 64) l none ∙ sym s.these));
-      plain = λ j f t. absurd (omega arith);
-    }
-
--- At the end all are listed.
-pub ListsBlocks-all : {b : List ℕ} {n : ℕ} {listed : List ℕ} → ListsBlocks b (length b) n listed → listed ≡ backslash_blocks b
-unfolding backslash_blocks
-ListsBlocks-all {b} {n} s =
-    let none : (k : ℕ) → n ≤ k → k < blocks_in (length b) → holds_backslash b k ≡ false = λ k f t. holds_backslash-plain b k
-    (λ j g h. elim (cases_lt j (length b)) [
-      | inl l ↦ s.plain j (omega arith) l
-      | inr r ↦ byte_at-past b j (omega arith)
-    ]) in
-    s.these ∙ sym (filter-stays (holds_backslash b) n (blocks_in (length b)) (omega (arith, s.begun)) none)
 
 -- A backslash lies in a block that is listed.
 pub backslash-listed : (b : List ℕ) (i : ℕ) → i < length b → byte_at b i ≡ backslash → Contains (backslash_blocks b) (i / 64)

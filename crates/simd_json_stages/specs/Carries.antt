@@ -1,8 +1,8 @@
 -- What a scan from left to right keeps of the bytes before an index. It serves proofs: only the crate's private clauses cite it.
-use Rattle.std.specs.Prelude.{◌≡◌, ℕ, List, Bool, not, ◌&&◌}
+use Rattle.std.specs.Prelude.{ℕ, List, Bool, not, ◌&&◌}
 use Rattle.std.specs.List.{list_any, range_with_len}
 use Rattle.simd_json_parts.specs.Bytes.{is_control, byte_at}
-use Rattle.simd_json_parts.specs.Positions.{is_even, backslashes_before, real_quotes, is_inside, is_fresh}
+use Rattle.simd_json_parts.specs.Positions.{is_even, backslashes_before, real_quotes, is_inside}
 
 -- the run of backslashes that ends just before index i has odd length
 abbrev pub is_escaped_at : List ℕ → ℕ → Bool
@@ -15,10 +15,3 @@ is_open_at b i = not (is_even (real_quotes b i))
 -- some byte below 0x20 is inside, of the first n
 abbrev pub has_control_before : List ℕ → ℕ → Bool
 has_control_before b n = list_any (λ k. is_inside b k && is_control (byte_at b k)) (range_with_len 0 n)
-
--- Byte by byte, these four are kept before index i.
-pub record IsKept (b : List ℕ) (i : ℕ) (escaped_now inside_now fresh_now control_so_far : Bool) : Type 0 where
-  pub escaped : escaped_now ≡ is_escaped_at b i
-  pub inside : inside_now ≡ is_open_at b i
-  pub fresh : fresh_now ≡ is_fresh b i
-  pub control : control_so_far ≡ has_control_before b i

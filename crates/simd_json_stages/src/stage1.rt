@@ -13,8 +13,6 @@ mod capacity;
 mod classes;
 mod encoding;
 mod scan;
-#[cfg(test)]
-mod tests;
 mod words;
 mod writing;
 

@@ -33,9 +33,6 @@ pub use stack::{Container, StackState};
 use std::alloc::Allocator;
 use text::Text;
 
-#[cfg(test)]
-mod tests;
-
 /// How many nodes are enough for the tape of so many structural positions, with so many containers open at
 /// most: one for each container that may be open, and one for every other of the positions that are left.
 /// Never more than there are positions.

@@ -2,127 +2,133 @@ use super::plain::parse_plainly;
 use super::*;
 use std::test::Fail;
 
+const NUMBERS: [(&[u8], Number); 49] = [
+    (b"0", Number::Integer(StaticNode::U64(0), 1)),
+    (b"-0", Number::Integer(StaticNode::I64(0), 2)),
+    (b"-1", Number::Integer(StaticNode::I64(-1), 2)),
+    (b"257", Number::Integer(StaticNode::U64(257), 3)),
+    (
+        b"18446744073709551615",
+        Number::Integer(StaticNode::U64(u64::MAX), 20),
+    ),
+    (
+        b"-9223372036854775808",
+        Number::Integer(StaticNode::I64(i64::MIN), 20),
+    ),
+    (b"123]", Number::Integer(StaticNode::U64(123), 3)),
+    (b"123,", Number::Integer(StaticNode::U64(123), 3)),
+    (b"123 ", Number::Integer(StaticNode::U64(123), 3)),
+    (b"1e309", Number::Decimal(5)),
+    (b"1E-7", Number::Decimal(4)),
+    (b"-0.0", Number::Decimal(4)),
+    (b"1.50", Number::Decimal(4)),
+    (b"0e99999999999", Number::Decimal(13)),
+    (b"", Number::Invalid(0)),
+    (b"x", Number::Invalid(0)),
+    (
+        b"18446744073709551616",
+        Number::Integer(StaticNode::U128(1 << 64), 20),
+    ),
+    (b"18446744073709551616x", Number::Invalid(20)),
+    (
+        b"-9223372036854775809",
+        Number::Integer(StaticNode::I128(-9_223_372_036_854_775_809), 20),
+    ),
+    (
+        b"-18446744073709551616",
+        Number::Integer(StaticNode::I128(-18_446_744_073_709_551_616), 21),
+    ),
+    (
+        b"340282366920938463463374607431768211455",
+        Number::Integer(StaticNode::U128(u128::MAX), 39),
+    ),
+    (
+        b"-170141183460469231731687303715884105728",
+        Number::Integer(StaticNode::I128(i128::MIN), 40),
+    ),
+    (
+        b"340282366920938463463374607431768211456",
+        Number::Invalid(38),
+    ),
+    (
+        b"-170141183460469231731687303715884105729",
+        Number::Invalid(40),
+    ),
+    (
+        b"-340282366920938463463374607431768211456",
+        Number::Invalid(39),
+    ),
+    (
+        b"99999999999999999999999999999999999999,",
+        Number::Integer(
+            StaticNode::U128(99_999_999_999_999_999_999_999_999_999_999_999_999),
+            38,
+        ),
+    ),
+    (b"01", Number::Invalid(1)),
+    (b"-01", Number::Invalid(2)),
+    (b"1a", Number::Invalid(1)),
+    (b"123a", Number::Invalid(3)),
+    (b"1_000", Number::Invalid(1)),
+    (b"0x1", Number::Invalid(1)),
+    (b"-", Number::Invalid(1)),
+    (b"-x", Number::Invalid(1)),
+    (b"-.5", Number::Invalid(1)),
+    (b"1e", Number::Invalid(2)),
+    (b"1e+", Number::Invalid(3)),
+    (b"1e]", Number::Invalid(2)),
+    (b"9e-]", Number::Invalid(3)),
+    (b"0.1.2", Number::Invalid(3)),
+    (b"-1.0.", Number::Invalid(4)),
+    (b"1.2a-3", Number::Invalid(3)),
+    (b"1.8011670033376514H-308", Number::Invalid(18)),
+    (b"1.", Number::Invalid(2)),
+    (b"1.e", Number::Invalid(2)),
+    (b"1.0e", Number::Invalid(4)),
+    (b"0e99999999999x", Number::Invalid(13)),
+    (b"0e99999999999.5", Number::Invalid(13)),
+    (b"1\"a\"", Number::Invalid(1)),
+];
+
 #[test]
 fn numbers_are_read(rt: HostRuntime) {
-    let nines = [b'9'; 10_001];
-    let mut negative = nines;
-    negative[0] = b'-';
-    let rows: [(&[u8], Number); 51] = [
-        (b"0", Number::Integer(StaticNode::U64(0), 1)),
-        (b"-0", Number::Integer(StaticNode::I64(0), 2)),
-        (b"-1", Number::Integer(StaticNode::I64(-1), 2)),
-        (b"257", Number::Integer(StaticNode::U64(257), 3)),
-        (
-            b"18446744073709551615",
-            Number::Integer(StaticNode::U64(u64::MAX), 20),
-        ),
-        (
-            b"-9223372036854775808",
-            Number::Integer(StaticNode::I64(i64::MIN), 20),
-        ),
-        (b"123]", Number::Integer(StaticNode::U64(123), 3)),
-        (b"123,", Number::Integer(StaticNode::U64(123), 3)),
-        (b"123 ", Number::Integer(StaticNode::U64(123), 3)),
-        (b"1e309", Number::Decimal(5)),
-        (b"1E-7", Number::Decimal(4)),
-        (b"-0.0", Number::Decimal(4)),
-        (b"1.50", Number::Decimal(4)),
-        (b"0e99999999999", Number::Decimal(13)),
-        (b"", Number::Invalid(0)),
-        (b"x", Number::Invalid(0)),
-        (
-            b"18446744073709551616",
-            Number::Integer(StaticNode::U128(1 << 64), 20),
-        ),
-        (b"18446744073709551616x", Number::Invalid(20)),
-        (
-            b"-9223372036854775809",
-            Number::Integer(StaticNode::I128(-9_223_372_036_854_775_809), 20),
-        ),
-        (
-            b"-18446744073709551616",
-            Number::Integer(StaticNode::I128(-18_446_744_073_709_551_616), 21),
-        ),
-        (
-            b"340282366920938463463374607431768211455",
-            Number::Integer(StaticNode::U128(u128::MAX), 39),
-        ),
-        (
-            b"-170141183460469231731687303715884105728",
-            Number::Integer(StaticNode::I128(i128::MIN), 40),
-        ),
-        (
-            b"340282366920938463463374607431768211456",
-            Number::Invalid(38),
-        ),
-        (
-            b"-170141183460469231731687303715884105729",
-            Number::Invalid(40),
-        ),
-        (
-            b"-340282366920938463463374607431768211456",
-            Number::Invalid(39),
-        ),
-        (
-            b"99999999999999999999999999999999999999,",
-            Number::Integer(
-                StaticNode::U128(99_999_999_999_999_999_999_999_999_999_999_999_999),
-                38,
-            ),
-        ),
-        (b"01", Number::Invalid(1)),
-        (b"-01", Number::Invalid(2)),
-        (b"1a", Number::Invalid(1)),
-        (b"123a", Number::Invalid(3)),
-        (b"1_000", Number::Invalid(1)),
-        (b"0x1", Number::Invalid(1)),
-        (b"-", Number::Invalid(1)),
-        (b"-x", Number::Invalid(1)),
-        (b"-.5", Number::Invalid(1)),
-        (b"1e", Number::Invalid(2)),
-        (b"1e+", Number::Invalid(3)),
-        (b"1e]", Number::Invalid(2)),
-        (b"9e-]", Number::Invalid(3)),
-        (b"0.1.2", Number::Invalid(3)),
-        (b"-1.0.", Number::Invalid(4)),
-        (b"1.2a-3", Number::Invalid(3)),
-        (b"1.8011670033376514H-308", Number::Invalid(18)),
-        (b"1.", Number::Invalid(2)),
-        (b"1.e", Number::Invalid(2)),
-        (b"1.0e", Number::Invalid(4)),
-        (b"0e99999999999x", Number::Invalid(13)),
-        (b"0e99999999999.5", Number::Invalid(13)),
-        (b"1\"a\"", Number::Invalid(1)),
-        (&nines[1..], Number::Invalid(38)),
-        (&negative, Number::Invalid(39)),
-    ];
-    for (bytes, number) in &rows {
+    for (bytes, number) in &NUMBERS {
         assert_eq!(rt; parse_number(bytes), *number);
     }
     assert!(rt; matches!(parse_number(b"-0"), Number::Integer(StaticNode::I64(0), 2)));
 }
 
+// Of so many digits that no integer has them.
+#[test]
+fn long_numbers_are_refused(rt: HostRuntime) {
+    let mut digits = [b'9'; 10_001];
+    assert_eq!(rt; parse_number(&digits[1..]), Number::Invalid(38));
+    digits[0] = b'-';
+    assert_eq!(rt; parse_number(&digits), Number::Invalid(39));
+}
+
+const NUMERALS: [(&[u8], Numeral); 10] = [
+    (b"0", Numeral::Integer(0)),
+    (b"-0,", Numeral::Integer(0)),
+    (b"257]", Numeral::Integer(257)),
+    (
+        b"-257 is read at one look at 32 bytes",
+        Numeral::Integer(257),
+    ),
+    (
+        b"9999999999999999999,",
+        Numeral::Integer(9_999_999_999_999_999_999),
+    ),
+    (b"18446744073709551615", Numeral::Long(20)),
+    (b"-9223372036854775808", Numeral::Long(20)),
+    (b"-9223372036854775809x", Numeral::Invalid(20)),
+    (b"-1.5e7", Numeral::Decimal(6)),
+    (b"-x", Numeral::Invalid(1)),
+];
+
 #[test]
 fn numerals_are_read(rt: HostRuntime) {
-    let rows: [(&[u8], Numeral); 10] = [
-        (b"0", Numeral::Integer(0)),
-        (b"-0,", Numeral::Integer(0)),
-        (b"257]", Numeral::Integer(257)),
-        (
-            b"-257 is read at one look at 32 bytes",
-            Numeral::Integer(257),
-        ),
-        (
-            b"9999999999999999999,",
-            Numeral::Integer(9_999_999_999_999_999_999),
-        ),
-        (b"18446744073709551615", Numeral::Long(20)),
-        (b"-9223372036854775808", Numeral::Long(20)),
-        (b"-9223372036854775809x", Numeral::Invalid(20)),
-        (b"-1.5e7", Numeral::Decimal(6)),
-        (b"-x", Numeral::Invalid(1)),
-    ];
-    for (bytes, numeral) in &rows {
+    for (bytes, numeral) in &NUMERALS {
         assert_eq!(rt; parse_numeral(bytes), *numeral);
     }
 }

@@ -20,9 +20,6 @@ use simd_json_parts::node::{Node, StaticNode};
 use simd_json_scalars::numberparse::{Numeral, is_integer, parse_long, parse_numeral, parse_short};
 use std::alloc::Allocator;
 
-#[cfg(test)]
-mod tests;
-
 /// Whether the bytes begin with `true`, and end there or go on with a structural character or whitespace.
 pub fn is_valid_true_atom(bytes: &[u8]) -> bool
     ensures { result ≡ (starts_with nat_eq bytes.now (codes "true") && is_terminator (byte_at bytes.now 4)) }

@@ -1,4 +1,4 @@
-use super::*;
+use simd_json_stages::stage2::{is_valid_false_atom, is_valid_null_atom, is_valid_true_atom};
 
 // The ten bytes that an atom may end before.
 const TERMINATORS: &[u8] = b"[]{}:, \t\n\r";

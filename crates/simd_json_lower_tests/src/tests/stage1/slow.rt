@@ -45,7 +45,10 @@ fn starts_token(text: &[u8], i: usize, was_inside: bool, is_inside: bool) -> boo
 }
 
 // The spaces in front are not read: none is a position, or changes what is after it.
-fn found_slowly(alloc: Global, text: &[u8], spaces: u8) -> Result<(Vec<u32>, Vec<u32>)> {
+pub(super) fn found_slowly(alloc: Global, text: &[u8], spaces: u8) -> Result<(Vec<u32>, Vec<u32>)> {
+    if str::from_utf8(text).is_err() {
+        return Err(Error::generic(ErrorType::InvalidUtf8));
+    }
     let mut positions = Vec::new(alloc);
     let mut blocks = Vec::new(alloc);
     let mut has_control = false;
@@ -95,8 +98,6 @@ fn agrees_with_a_slow_reading(rt: HostRuntime) {
             let text = &text[start..];
             let slowly = found_slowly(rt.alloc(), text, 0);
             assert_eq!(rt; found(rt.alloc(), text), slowly, "{text:?}");
-            let plainly = found_by::<PlainStage1Parse>(rt.alloc(), text);
-            assert_eq!(rt; plainly, slowly, "{text:?}");
         }
     }
 }
@@ -117,8 +118,6 @@ fn agrees_with_a_slow_reading_across_blocks(rt: HostRuntime) {
             let text = &text[..start + 5];
             let slowly = found_slowly(rt.alloc(), text, spaces);
             assert_eq!(rt; found(rt.alloc(), text), slowly, "{text:?}");
-            let plainly = found_by::<PlainStage1Parse>(rt.alloc(), text);
-            assert_eq!(rt; plainly, slowly, "{text:?}");
         }
         text[start] = b' ';
     }

@@ -1,9 +1,11 @@
-use super::*;
-use crate::stage1::{BlockStage1Parse, Stage1Parse};
-use simd_json_parts::node::StaticNode;
+use simd_json_parts::error::{Error, ErrorType, Result};
+use simd_json_parts::node::{Node, StaticNode};
+use simd_json_stages::stage1::{BlockStage1Parse, Stage1Parse};
+use simd_json_stages::stage2::{StackState, build_tape, nodes_enough};
 use std::alloc::Global;
 use std::test::Fail;
 
+mod atoms;
 mod capacity;
 mod refused;
 

@@ -1,12 +1,11 @@
-use super::*;
-use plain::PlainStage1Parse;
+use simd_json_parts::error::{Error, ErrorType, Result};
+use simd_json_stages::stage1::{BLOCK_LEN, BlockStage1Parse, Found, Stage1Parse};
 use std::alloc::{AllocError, Global};
 use std::process::Abort;
 use std::test::Fail;
 
 mod growth;
 mod known;
-mod plain;
 mod random;
 mod slow;
 
@@ -30,17 +29,13 @@ fn text(
 }
 
 // The positions, and the blocks with a backslash, in lists that grow from nothing.
-fn found_by<S: Stage1Parse>(alloc: Global, text: &[u8]) -> Result<(Vec<u32>, Vec<u32>)> {
+fn found(alloc: Global, text: &[u8]) -> Result<(Vec<u32>, Vec<u32>)> {
     let mut positions = Vec::new(alloc);
     let mut blocks = Vec::new(alloc);
-    let found = S::find_structural_bits(text, &mut positions, &mut blocks)?;
+    let found = BlockStage1Parse::find_structural_bits(text, &mut positions, &mut blocks)?;
     positions.truncate(found.positions);
     blocks.truncate(found.escape_blocks);
     Ok((positions, blocks))
-}
-
-fn found(alloc: Global, text: &[u8]) -> Result<(Vec<u32>, Vec<u32>)> {
-    found_by::<BlockStage1Parse>(alloc, text)
 }
 
 // Tokens across the end of a block, after and round stretches of one byte.

@@ -1,5 +1,5 @@
 use super::tape_of;
-use crate::stage2::nodes_enough;
+use simd_json_stages::stage2::nodes_enough;
 use std::test::Fail;
 
 // By input, number of positions and depth limit: how many nodes are enough, and how many of them the tape

@@ -1,6 +1,8 @@
-use super::*;
-use simd_json_parts::node::StaticNode;
-use std::io::ErrorKind;
+use simd_json_parts::node::{Node, StaticNode};
+use simd_json_print::document::{
+    append_compact, append_pretty, append_quoted, write_compact, write_pretty, write_quoted,
+};
+use std::io::{self, ErrorKind, Write};
 use std::test::Fail;
 
 // ` { "k\u0009" : [ -0 , 1E5 , "é" ] , "" : {} } `

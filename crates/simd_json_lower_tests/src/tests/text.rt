@@ -1,7 +1,8 @@
-use super::*;
-use crate::document::{put_compact, put_pretty};
 use simd_json_parts::node::{Node, StaticNode};
+use simd_json_print::document::{put_compact, put_pretty};
+use simd_json_print::text::{Target, Text};
 use std::alloc::Global;
+use std::io::{self, ErrorKind, Write};
 use std::process::Abort;
 use std::test::Fail;
 

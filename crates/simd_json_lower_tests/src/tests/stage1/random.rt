@@ -1,4 +1,5 @@
-//! Random strings, on which both forms agree.
+//! Random texts, which are read as slowly by the definition.
+use super::slow::found_slowly;
 use super::*;
 
 // A sequence of numbers that looks random (xorshift, with a period of 2^64 - 1).
@@ -19,17 +20,22 @@ impl Numbers {
         (self.next() >> 11) as usize % end.max(1)
     }
 
-    // Eight of some bytes.
-    fn eight(&mut self, bytes: &[u8]) -> [u8; 8] {
-        let chosen = self.next().to_le_bytes();
-        chosen.map(|x| bytes
-            .get(usize::from(x) % bytes.len().max(1))
-            .copied()
-            .unwrap_or(b' '))
+    // A text of up to so many bytes out of some.
+    fn text(
+        &mut self,
+        alloc: Global,
+        max_len: usize,
+        bytes: &[u8],
+    ) -> std::result::Result<Vec<u8>, AllocError> {
+        let mut text = Vec::new(alloc);
+        for _ in 0..self.below(max_len) {
+            text.push(bytes.get(self.below(bytes.len())).copied().unwrap_or(b' '))?;
+        }
+        Ok(text)
     }
 }
 
-// Strings of up to so many bytes out of some, with lists that are kept from one to the next.
+// Texts of up to so many bytes out of some, with lists that are kept from one to the next.
 fn agree(
     rt: &(impl AllocGlobal + Abort),
     seed: u64,
@@ -39,48 +45,44 @@ fn agree(
 ) -> Tested {
     let mut numbers = Numbers { state: seed };
     let (mut positions, mut blocks) = (Vec::new(rt.alloc()), Vec::new(rt.alloc()));
-    let (mut plain_positions, mut plain_blocks) = (Vec::new(rt.alloc()), Vec::new(rt.alloc()));
-    let mut text = Vec::new(rt.alloc());
     for _ in 0..texts {
-        text.clear();
-        for _ in 0..numbers.below(max_len) {
-            text.push(
-                bytes
-                    .get(numbers.below(bytes.len()))
-                    .copied()
-                    .unwrap_or(b' '),
-            )?;
-        }
-        let by_blocks = BlockStage1Parse::find_structural_bits(&text, &mut positions, &mut blocks);
-        let plainly = PlainStage1Parse::find_structural_bits(
-            &text,
-            &mut plain_positions,
-            &mut plain_blocks,
+        let text = numbers.text(rt.alloc(), max_len, bytes)?;
+        let found = BlockStage1Parse::find_structural_bits(&text, &mut positions, &mut blocks).map(
+            |found| (
+                &positions[..found.positions],
+                &blocks[..found.escape_blocks],
+            ),
         );
-        assert_eq!(rt; by_blocks, plainly, "{text:?}");
-        if let Ok(found) = plainly {
-            let (n, m) = (found.positions, found.escape_blocks);
-            assert_eq!(rt; positions.get(..n), plain_positions.get(..n), "{text:?}");
-            assert_eq!(rt; blocks.get(..m), plain_blocks.get(..m), "{text:?}");
+        let slowly = found_slowly(rt.alloc(), &text, 0);
+        match (found, slowly) {
+            (Ok(found), Ok(slowly)) => {
+                assert_eq!(rt;
+                    found,
+                    (slowly.0.as_slice(), slowly.1.as_slice()),
+                    "{text:?}"
+                );
+            }
+            (Err(found), Err(slowly)) => assert_eq!(rt; found, slowly, "{text:?}"),
+            _ => assert!(rt; false, "{text:?}"),
         }
     }
     Ok(())
 }
 
 #[test]
-fn both_forms_agree(rt: HostRuntime) -> Tested {
+fn agrees_on_random_texts(rt: HostRuntime) -> Tested {
     agree(&rt, 0x9e37_79b9_7f4a_7c15, 200_000, 301, b"\\\"a ,\n")
 }
 
 // Few quotes and backslashes, so that most strings are not refused.
 #[test]
-fn both_forms_agree_on_mostly_plain_texts(rt: HostRuntime) -> Tested {
+fn agrees_on_mostly_plain_texts(rt: HostRuntime) -> Tested {
     let bytes = b"aaaaaaaaaaaa        ,,,,::{}[]1234\t\r\\\"\"";
     agree(&rt, 0x2545_f491_4f6c_dd1d, 20_000, 301, bytes)
 }
 
 #[test]
-fn both_forms_agree_on_all_bytes(rt: HostRuntime) -> Tested {
+fn agrees_on_all_bytes(rt: HostRuntime) -> Tested {
     let mut bytes = [0u8; 256];
     for (byte, i) in bytes.iter_mut().zip(0..=u8::MAX) {
         *byte = i;
@@ -92,14 +94,14 @@ fn both_forms_agree_on_all_bytes(rt: HostRuntime) -> Tested {
 
 // Over several windows.
 #[test]
-fn both_forms_agree_on_long_texts(rt: HostRuntime) -> Tested {
+fn agrees_on_long_texts(rt: HostRuntime) -> Tested {
     let bytes = b"aaaaaaaaaaaa        ,,,,::{}[]1234\t\r\\\"\"";
     agree(&rt, 0x7e57_7e57_7e57_7e57, 200, 50_000, bytes)
 }
 
 // Strings of some hundred bytes, so that blocks are passed over.
 #[test]
-fn both_forms_agree_on_long_strings(rt: HostRuntime) -> Tested {
+fn agrees_on_long_strings(rt: HostRuntime) -> Tested {
     let mut bytes = [b'a'; 600];
     bytes[..6].copy_from_slice(b"\"\\,{ 1");
     agree(&rt, 0x1357_9bdf_0246_8ace, 100, 20_000, &bytes)

@@ -1,0 +1,66 @@
+use simd_json_parts::charutils::{
+    byte_or_space, codepoint_to_utf8, hex_to_u32_nocheck, is_not_structural_or_whitespace,
+    is_structural_or_whitespace,
+};
+
+#[test]
+fn ten_bytes_are_structural_or_whitespace(rt: HostRuntime) {
+    for c in 0..=u8::MAX {
+        let is_listed = b"[]{}:, \t\n\r".contains(&c);
+        assert_eq!(rt; is_structural_or_whitespace(c), is_listed, "{c}");
+        assert_eq!(rt; is_not_structural_or_whitespace(c), !is_listed, "{c}");
+    }
+}
+
+#[test]
+fn the_end_reads_as_a_space(rt: HostRuntime) {
+    assert_eq!(rt; byte_or_space(b"1,", 0), b'1');
+    assert_eq!(rt; byte_or_space(b"1,", 1), b',');
+    assert_eq!(rt; byte_or_space(b"1,", 2), b' ');
+    assert_eq!(rt; byte_or_space(b"", usize::MAX), b' ');
+}
+
+#[test]
+fn four_hexadecimal_digits_have_a_number(rt: HostRuntime) {
+    assert_eq!(rt; hex_to_u32_nocheck(*b"0000"), Some(0));
+    assert_eq!(rt; hex_to_u32_nocheck(*b"12aF"), Some(0x12af));
+    assert_eq!(rt; hex_to_u32_nocheck(*b"ffff"), Some(0xffff));
+    for c in 0..=u8::MAX {
+        let digit = (c as char).to_digit(16);
+        assert_eq!(rt;
+            hex_to_u32_nocheck([c, b'0', b'0', b'1']),
+            digit.map(|d| (d << 12) | 1),
+            "{c}"
+        );
+        assert_eq!(rt;
+            hex_to_u32_nocheck([b'F', c, b'0', b'0']),
+            digit.map(|d| 0xf000 | (d << 8)),
+            "{c}"
+        );
+        assert_eq!(rt;
+            hex_to_u32_nocheck([b'0', b'a', c, b'0']),
+            digit.map(|d| 0xa00 | (d << 4)),
+            "{c}"
+        );
+        assert_eq!(rt;
+            hex_to_u32_nocheck([b'0', b'0', b'f', c]),
+            digit.map(|d| 0xf0 | d),
+            "{c}"
+        );
+    }
+}
+
+#[test]
+fn characters_are_written_as_utf8(rt: HostRuntime) {
+    for code in [
+        0, 0x7f, 0x80, 0x7ff, 0x800, 0xd7ff, 0xe000, 0xffff, 0x10000, 0x10ffff,
+    ] {
+        if let Some(c) = char::from_u32(code) {
+            let mut expected = [0; 4];
+            let len = c.encode_utf8(&mut expected).len();
+            let mut bytes = [0; 4];
+            assert_eq!(rt; codepoint_to_utf8(c, &mut bytes), len);
+            assert_eq!(rt; bytes, expected);
+        }
+    }
+}
