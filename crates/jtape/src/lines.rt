@@ -25,7 +25,7 @@ pub(crate) fn put_lines<T: Target, const SIZE: usize>(
     }
 }
 
-// The kinds are told apart one by one, by how often they come: a test costs less than a jump by a table,
+// The kinds are tested one by one, by how often they come: a test costs less than a jump by a table,
 // which a function of all of them would get.
 #[inline(always)]
 fn put_line<T: Target, const SIZE: usize>(text: &mut Text<'_, T, SIZE>, node: &Node<'_>)

@@ -194,8 +194,8 @@ pub fn fill_tape_padded<'de, A: Allocator, B: Allocator>(
 ///     let mut input = [0u8; 5];
 ///     for digit in b'0'..=b'9' {
 ///         input.copy_from_slice(&[b'[', digit, b',', digit, b']']);
-///         let (answer, tape) = refill_tape(&mut input, &mut buffers, kept);
-///         answer?;
+///         let (result, tape) = refill_tape(&mut input, &mut buffers, kept);
+///         result?;
 ///         nodes = nodes.saturating_add(tape.nodes().len());
 ///         kept = tape.reset();
 ///     }

@@ -50,7 +50,7 @@ pub extern "C" fn simd_json_bench_parse(alloc: Global, text: &mut [u8]) -> i64
     reported(to_tape(alloc, text).map(|tape| tape.nodes().len()))
 }
 
-/// Reads texts with one pair of buffers and one tape. Answers the number of their nodes.
+/// Reads texts with one pair of buffers and one tape. Returns the number of their nodes.
 #[unsafe(no_mangle)]
 pub extern "C" fn simd_json_bench_parse_all(
     alloc: Global,
@@ -74,7 +74,7 @@ fn parse_all(alloc: Global, texts: &mut [u8], stride: usize, len: usize) -> Resu
     Ok(nodes)
 }
 
-/// The first stage alone, with lists that are kept. Answers the number of structural positions.
+/// The first stage alone, with lists that are kept. Returns the number of structural positions.
 #[unsafe(no_mangle)]
 pub extern "C" fn simd_json_bench_scan_all(
     alloc: Global,

@@ -186,7 +186,7 @@ fn store(out: &mut [Node], at: usize, node: Node)
     out[at] = node;
 }
 
-// The kinds are told apart one after another, so that there is no jump through addresses.
+// The kinds are tested one after another, so that there is no jump through addresses.
 #[inline(always)]
 fn store_fixed(out: &mut [Node], at: usize, value: StaticNode)
     requires { at < length out.old }

@@ -58,7 +58,7 @@ pub(crate) fn read(alloc: Global, bytes: &[u8], limit: usize) -> Result<Answer> 
 }
 
 impl Answer {
-    // Whether nodes are those of the answer, whose input is handed in.
+    // Whether nodes are those of the result, whose input is given.
     pub(crate) fn has_nodes(&self, bytes: &[u8], nodes: &[Node<'_>]) -> bool {
         nodes.len() == self.items.len()
             && nodes

@@ -75,7 +75,7 @@ fn compare_within(
     Ok(())
 }
 
-// The same by buffers made anew, by buffers that are kept, and within a low limit.
+// The same by new buffers, by buffers that are kept, and within a low limit.
 fn compare(rt: &(impl AllocGlobal + Abort), input: &[u8], kept: &mut Kept) -> Tested {
     let wanted = reference::read(rt.alloc(), input, DEFAULT_MAX_DEPTH)?;
     let mut fresh = Vec::from_slice(rt.alloc(), input)?;

@@ -11,7 +11,7 @@ pub fn backslashes_lie_in_listed_blocks()
         → Contains (backslash_blocks b) (i / 64) }
 {}
 
-/// No backslash stands before the first listed block, nor between one and the next. So a reader that steps
+/// There is no backslash before the first listed block, nor between one and the next. So a reader that steps
 /// through both lists knows of each string that ends before the next listed block that it has no escape.
 pub fn no_backslash_stands_between_listed_blocks()
     ensures first { (b : List ℕ) (i : ℕ) → i < listed_start b 0 → byte_at b i ≢ backslash }

@@ -111,7 +111,7 @@ fn build_nodes<'de, A: Allocator>(
     closed_tape(input, indexes, escape_blocks, stack, nodes, max_depth)
 }
 
-// There is a copy of the machine for each answer to whether the text has a backslash, and to whether its last
+// There is a copy of the machine for each case of whether the text has a backslash, and to whether its last
 // position closes a container, so that the loops do not ask. Each is a function of its own, so that its state
 // stays in registers.
 

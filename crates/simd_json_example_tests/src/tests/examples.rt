@@ -5,7 +5,7 @@ use std::test::Fail;
 mod first_call {
     use simd_json::{Result, to_tape};
 
-    // What stands at the key `the_answer`, where it is an integer that fits.
+    // What is at the key `the_answer`, where it is an integer that fits.
     pub(super) fn the_answer(rt: &impl AllocGlobal) -> Result<Option<u64>> {
         let mut input = *br#"{"the_answer": 42}"#;
         let tape = to_tape(rt.alloc(), &mut input)?;
@@ -31,8 +31,8 @@ mod service {
             if log.read_until(b'\n', &mut line)? == 0 {
                 break;
             }
-            let (answer, tape) = refill_tape(&mut line, &mut buffers, kept);
-            match answer {
+            let (result, tape) = refill_tape(&mut line, &mut buffers, kept);
+            match result {
                 Ok(()) => nodes = nodes.saturating_add(tape.nodes().len()),
                 Err(fault) => {
                     let _ = eprintln!(rt; "refused: {fault}");
@@ -83,8 +83,8 @@ mod entry_points {
         let mut input = [0u8; 5];
         for digit in b'0'..=b'9' {
             input.copy_from_slice(&[b'[', digit, b',', digit, b']']);
-            let (answer, tape) = refill_tape(&mut input, &mut buffers, kept);
-            answer?;
+            let (result, tape) = refill_tape(&mut input, &mut buffers, kept);
+            result?;
             nodes = nodes.saturating_add(tape.nodes().len());
             kept = tape.reset();
         }

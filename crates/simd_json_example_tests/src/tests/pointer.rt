@@ -97,7 +97,7 @@ fn pointers_lead_to_the_first_of_equal_keys(rt: HostRuntime) -> Tested {
     Ok(())
 }
 
-// Keys that share what stands before an escape, or after it.
+// Keys that share what is before an escape, or after it.
 const ESCAPED: [u8; 198] =
     *b"{\"a/b\":1,\"a/c\":2,\"a~b\":3,\"a/\":4,\"/a\":5,\"~\":6,\"~1\":7,\"/\":8,\"//\":9,\"~/~\":10,\"a/bc\":11,\"a\":12,\"/users/{id}/posts\":13,\"/pages/{id}/posts\":14,\"/users/{id}/likes\":15,\"example.com/a/key/of/33/bytes/in\":16}";
 
@@ -242,7 +242,7 @@ fn errors_are_printed_in_words(rt: HostRuntime) -> Tested {
     Ok(())
 }
 
-// The example of `Pointer`, as it stands there.
+// The example of `Pointer`, as it is written there.
 mod servers {
     use simd_json::Pointer;
     use simd_json::tape::Value;

@@ -144,7 +144,7 @@ fn put_elements<'tape, 'input, T: Target, const SIZE: usize, const PRETTY: bool>
     (left, is_still_first)
 }
 
-// What stands in front of a value: a bracket or a comma, its line in pretty text, and in an object its key.
+// What is in front of a value: a bracket or a comma, its line in pretty text, and in an object its key.
 // Returns the nodes from the value on.
 #[inline(always)]
 fn put_before<'tape, 'input, T: Target, const SIZE: usize, const PRETTY: bool>(

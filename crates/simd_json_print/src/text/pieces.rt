@@ -64,7 +64,7 @@ impl<const SIZE: usize> Pieces<SIZE> {
         front.len() + len + back.len() <= SIZE - self.used
     }
 
-    // A few bytes, between what stands in front of them and after them, where they fit, and those of a string
+    // A few bytes, between what is in front of them and after them, where they fit, and those of a string
     // only if none is to be escaped. They are tested as they are stored, and what is stored counts only then.
     #[inline(always)]
     pub(super) fn collect_few(

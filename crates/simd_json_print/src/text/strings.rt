@@ -58,8 +58,8 @@ impl<'w, T: Target, const SIZE: usize> Text<'w, T, SIZE> {
 // The lower-case hexadecimal digits.
 const DIGITS: [u8; 16] = *b"0123456789abcdef";
 
-// What follows the backslash of an escaped byte: `u` where that is its number, and none, 0, where it stands as
-// it is.
+// What follows the backslash of an escaped byte: `u` where that is its number, and none, 0, where the byte is
+// written as it is.
 const LETTERS: [u8; 256] = [
     b'u', b'u', b'u', b'u', b'u', b'u', b'u', b'u', b'b', b't', b'n', b'u', b'f', b'r', b'u', b'u',
     b'u', b'u', b'u', b'u', b'u', b'u', b'u', b'u', b'u', b'u', b'u', b'u', b'u', b'u', b'u', b'u',

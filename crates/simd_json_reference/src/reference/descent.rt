@@ -59,7 +59,7 @@ impl<'a> Descent<'a> {
         }
     }
 
-    // Reads the value whose first byte stands at an index. Returns the index after it.
+    // Reads the value whose first byte is at an index. Returns the index after it.
     #[cycle(descent)]
     fn value(&mut self, start: usize, levels: usize) -> Result<usize> {
         match at(self.bytes, start) {
@@ -112,7 +112,7 @@ impl<'a> Descent<'a> {
         Ok(next.saturating_add(1))
     }
 
-    // Reads a key whose quote stands at an index, a colon and a value. Returns the index after the value.
+    // Reads a key whose quote is at an index, a colon and a value. Returns the index after the value.
     #[cycle(descent)]
     fn member(&mut self, start: usize, levels: usize) -> Result<usize> {
         let end = self.string(start)?;

@@ -3,7 +3,7 @@ use super::Item;
 use super::bytes::{at, fault, is_digit, is_end};
 use simd_json::{Error, ErrorType, Result};
 
-// Whether a word stands at an index and ends there.
+// Whether a word is at an index and ends there.
 fn is_word(bytes: &[u8], start: usize, word: &[u8]) -> bool {
     for (k, letter) in word.iter().enumerate() {
         if at(bytes, start.saturating_add(k)) != *letter {
@@ -92,7 +92,7 @@ pub(super) fn number_ends(bytes: &[u8], start: usize) -> Result<(usize, usize)> 
     Ok((integer, end))
 }
 
-// The integer that stands between two indexes, within 128 bits.
+// The integer between two indexes, within 128 bits.
 pub(super) fn integer(bytes: &[u8], start: usize, end: usize) -> Result<Item> {
     let is_negative = at(bytes, start) == b'-';
     let mut magnitude = 0u128;

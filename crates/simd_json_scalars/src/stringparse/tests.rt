@@ -7,7 +7,7 @@ mod exhaustive;
 use super::*;
 use std::test::Fail;
 
-// Whether a string stands at the front, up to its closing quote.
+// Whether a string is at the front, up to its closing quote.
 fn is_closed(bytes: &[u8]) -> bool
     ensures { IsTrue result → (byte_at bytes.now 0 ≡ quote)
         × (closing_quote bytes.now 0 < length bytes.now) }

@@ -33,8 +33,8 @@ pub(super) struct Classified {
     pub(super) has_backslash: bool,
 }
 
-// What a block tells before it is known what stands before it: a bit for each byte that goes on with a token
-// wherever it stands, for each whitespace and for each quote that is not escaped, and in `parity` for each
+// What is known of a block without what precedes it: a bit for each byte that goes on with a token
+// wherever it is, for each whitespace and for each quote that is not escaped, and in `parity` for each
 // byte with an odd number of these quotes up to it.
 #[derive(Clone, Copy, Drop)]
 pub(super) struct Parts {
@@ -44,7 +44,7 @@ pub(super) struct Parts {
     pub(super) quote: u64,
 }
 
-// What one block tells the next besides its escape. `inside` is 0 or all ones, `plain` 0 or 1.
+// What one block passes on to the next besides its escape. `inside` is 0 or all ones, `plain` 0 or 1.
 #[derive(Clone, Copy, Drop)]
 pub(super) struct Carry {
     pub(super) inside: u64,
@@ -155,7 +155,7 @@ pub(super) fn classify_last(bytes: &[u8; 64], len: usize, before: u64) -> Classi
     }
 }
 
-// What the words of a block tell by themselves.
+// What is known of a block from its words alone.
 #[inline(always)]
 pub(super) fn find_parts(space_or_quote: u64, op_or_quote: u64, control: u64, escaped: u64) -> Parts
     ensures { (b : List ℕ) (i : ℕ) → HasClasses b i space_or_quote op_or_quote control escaped
@@ -174,7 +174,7 @@ pub(super) fn find_parts(space_or_quote: u64, op_or_quote: u64, control: u64, es
     }
 }
 
-// The positions of a block, from what stands before it.
+// The positions of a block, from what precedes it.
 #[inline(always)]
 pub(super) fn find_starts(parts: Parts, control: u64, carry: Carry) -> BlockStarts
     ensures { (b : List ℕ) (i : ℕ) → AreParts b i parts → IsControl b i control → IsCarried b i carry

@@ -38,7 +38,7 @@ pub(crate) struct Machine<'m, 'de> {
 
 impl<'de> Machine<'_, 'de> {
     // The key at the last token, and its colon, and on to the first token of the member's value. Where no key
-    // stands, the fault is of this kind.
+    // is there, the fault is of this kind.
     #[inline(always)]
     fn read_key<A: Allocator>(
         &mut self,

@@ -123,7 +123,7 @@ fn parse_last_boolean(bytes: &[u8]) -> Option<bool>
     None
 }
 
-// The fault at a token where no scalar stands that begins with its byte.
+// The fault at a token where there is no scalar that begins with its byte.
 #[cold]
 fn no_scalar(at: usize, byte: u8) -> Fault
     ensures { result ≡ record { kind = refused_kind byte; index = at; byte = byte } }

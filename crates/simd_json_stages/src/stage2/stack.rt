@@ -26,7 +26,7 @@ impl Container {
         }
     }
 
-    // The node that stands for it.
+    // The header node of one.
     #[inline(always)]
     pub(super) fn header<'de>(self, len: usize, count: usize) -> Node<'de>
         ensures { result ≡ header_of self len count }

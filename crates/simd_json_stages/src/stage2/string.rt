@@ -15,7 +15,7 @@ use simd_json_scalars::stringparse::BadEscape;
 use std::alloc::Allocator;
 use std::result::Result;
 
-// The string at the last token becomes the next node. Only whitespace stands between its closing quote and
+// The string at the last token becomes the next node. Only whitespace is between its closing quote and
 // the next position.
 #[inline(always)]
 pub(super) fn put_string<'de, A: Allocator>(

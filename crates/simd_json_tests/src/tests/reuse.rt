@@ -62,7 +62,7 @@ fn assert_reused(
     assert_eq!(rt; listed, *positions, "{input:?}");
 }
 
-// What buffers and tape held does not matter: whatever was read before, each input has its own answer, its
+// What buffers and tape held does not matter: whatever was read before, each input has its own result, its
 // own nodes and its own positions.
 #[test]
 fn each_answer_is_this_inputs(rt: HostRuntime) -> Tested {

@@ -1,4 +1,4 @@
-// Long runs of one thing, whose answers are known.
+// Long runs of one thing, whose results are known.
 use crate::tests::Wanted::{At, Done, Whole};
 use crate::tests::{Tested, Wanted, text};
 use simd_json::ErrorType::{DepthLimitExceeded, InternalError, InvalidNumber, InvalidUtf8, Syntax};

@@ -75,7 +75,7 @@ fn is_in<'tape, 'input, T, S: BuildHasher, F: Fn(&T, &Value<'_, 'input>) -> bool
     true
 }
 
-// What `same` says of the two. The call stands alone, so that its condition can be stated.
+// What `same` says of the two. The call is by itself, so that its condition can be stated.
 fn ask<'input, T, F: Fn(&T, &Value<'_, 'input>) -> bool>(
     same: &F,
     wanted: &T,

@@ -89,7 +89,7 @@ fn number(content: &[u8]) -> Option<u32> {
     Some(value)
 }
 
-// Whether the reader of strings answers what the reference does; the bytes are rewritten.
+// Whether the reader of strings returns what the reference does; the bytes are rewritten.
 fn agrees(rt: &HostRuntime, bytes: &mut Vec<u8>) -> std::result::Result<bool, Fail> {
     let mut string = Vec::new(rt.alloc());
     let expected = reference(bytes.as_slice(), &mut string)?;

@@ -1,6 +1,6 @@
-// Eight blocks at a time: first what each tells by itself, then the arithmetic on their words, which is the
-// same for each and needs no other, so that LLVM does several at once, and at last their positions in order.
-// A group, or its first half, that is all inside a string has none, and is passed over.
+// Eight blocks at a time: first what is known of each by itself, then the arithmetic on their words, which
+// is the same for each and needs no other, so that LLVM does several at once, and at last their positions in
+// order. A group, or its first half, that is all inside a string has none, and is passed over.
 ghost use Rattle.std.specs.Prelude.{◌≡◌, ◌≢◌, ◌+◌, ◌-◌, ◌*◌, ◌%◌, ◌^◌, ◌<◌, ◌≤◌, ℕ, List, length};
 ghost use Rattle.simd_json_stages.specs.Blocks.{AreBlocks, CanList, IsAscii};
 ghost use Rattle.simd_json_stages.specs.Blocks.{IsClassified, IsPlaced, IsScanned};
@@ -65,7 +65,7 @@ impl Group {
     };
 }
 
-// What each block tells by itself. Those with a backslash are listed.
+// What is known of each block by itself. Those with a backslash are listed.
 fn classify_group(
     blocks: &[[u8; 64]],
     first: usize,
