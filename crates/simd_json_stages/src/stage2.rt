@@ -52,6 +52,7 @@ pub fn nodes_enough(positions: usize, max_depth: usize) -> usize
 /// The nodes are the listing of the document that the descent reads. An error is the descent's own fault,
 /// with the index and the character that belong to it; none is for want of memory, and none is of the whole
 /// input. What `nodes` holds after an error is of no meaning.
+#[inline(always)]
 pub fn build_tape<'de, A: Allocator>(
     input: &'de mut [u8],
     structural_indexes: &[u32],
@@ -85,6 +86,7 @@ pub fn build_tape<'de, A: Allocator>(
 }
 
 // The nodes of the tape, or the fault of the machine.
+#[inline(always)]
 fn build_nodes<'de, A: Allocator>(
     input: &'de mut [u8],
     indexes: &[u32],

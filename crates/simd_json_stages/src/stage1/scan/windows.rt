@@ -26,6 +26,7 @@ pub(super) struct Window {
 }
 
 // The blocks from one to another one at a time, into lists with capacity for all that they may have.
+#[inline(always)]
 fn scan_few(
     blocks: &[[u8; 64]],
     window: Window,
@@ -67,6 +68,7 @@ fn scan_few(
 }
 
 // The blocks of a window, into lists with capacity for all that they may have.
+#[inline(always)]
 pub(super) fn scan_window(
     blocks: &[[u8; 64]],
     window: Window,
