@@ -102,6 +102,7 @@ const START: Scanned = Scanned {
 };
 
 // The whole blocks, and how far the input is known to be UTF-8 after them.
+#[inline(always)]
 pub(super) fn scan_blocks<A: Allocator>(
     input: &[u8],
     blocks: &[[u8; 64]],
@@ -168,6 +169,7 @@ fn classify_rest(input: &[u8], rest: &[u8], before: u64) -> Classified
 
 // What is after the whole blocks, as a block that spaces fill up. Returns whether some string is bad, and how
 // many positions and blocks with a backslash there are.
+#[inline(always)]
 pub(super) fn scan_rest<A: Allocator>(
     input: &[u8],
     rest: &[u8],

@@ -173,7 +173,7 @@ impl<'m, 'de> Text<'m, 'de> {
     }
 
     // The index of the last quote before index `end`: it closes the string whose opening quote has index
-    // `at`.
+    // `at`. Mostly it is right before `end`, which is tested apart: the loop also counts its steps.
     #[inline(always)]
     fn last_quote(&self, at: usize, end: usize) -> usize
         requires { HasQuoted self.now at end }
@@ -181,6 +181,9 @@ impl<'m, 'de> Text<'m, 'de> {
             → result ≡ closing_quote b at }
     {
         let mut last = end - 1;
+        if self.byte(last) == b'"' {
+            return last;
+        }
         'back: while self.byte(last) != b'"' {
             last -= 1;
         }

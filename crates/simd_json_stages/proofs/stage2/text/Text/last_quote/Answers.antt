@@ -15,6 +15,15 @@ back-init c = record { below = omega (arith, c.requires.string.closed); upto = �
 pub byte-requires : goal.byte-requires
 byte-requires c =
     let q = c.requires in
+    record {
+      b = q.b;
+      reads = reads-kept q.b c.args.self.now c.args.at _ q.reads (omega (arith, q.string.later, q.string.closed));
+      within = omega (arith, q.string.within, q.string.closed);
+    }
+
+pub byte-requires-in-back : goal.byte-requires-in-back
+byte-requires-in-back c =
+    let q = c.requires in
     let upto = c.back.invariant.upto q.b q.reads q.string in
     record {
       b = q.b;
@@ -34,7 +43,7 @@ pub overflow_sub-last-in-back : goal.overflow_sub-last-in-back
 overflow_sub-last-in-back c =
     let q = c.requires in
     let upto = c.back.invariant.upto q.b q.reads q.string in
-    let here = c.byte.ensures q.b (reads-kept q.b c.args.self.now c.args.at _ q.reads (omega (arith, q.string.later))) in
+    let here = c.byte-in-back.ensures q.b (reads-kept q.b c.args.self.now c.args.at _ q.reads (omega (arith, q.string.later))) in
     omega (arith, before q.b c.args.at c.args.end c.back.last q.string upto (λ e. c.back-test.true (here ∙ e)))
 
 pub back-preserved : goal.back-preserved
@@ -42,7 +51,7 @@ back-preserved c = record {
   below = omega (arith, c.back.invariant.below);
   upto = λ b reads string.
       let upto = c.back.invariant.upto b reads string in
-      let here = c.byte.ensures b (reads-kept b c.args.self.now c.args.at _ reads (omega (arith, string.later))) in
+      let here = c.byte-in-back.ensures b (reads-kept b c.args.self.now c.args.at _ reads (omega (arith, string.later))) in
       omega (arith, before b c.args.at c.args.end c.back.last string upto (λ e. c.back-test.true (here ∙ e)));
 }
 
@@ -50,11 +59,11 @@ pub back-smaller : goal.back-smaller
 back-smaller c =
     let q = c.requires in
     let upto = c.back.invariant.upto q.b q.reads q.string in
-    let here = c.byte.ensures q.b (reads-kept q.b c.args.self.now c.args.at _ q.reads (omega (arith, q.string.later))) in
+    let here = c.byte-in-back.ensures q.b (reads-kept q.b c.args.self.now c.args.at _ q.reads (omega (arith, q.string.later))) in
     omega (arith, before q.b c.args.at c.args.end c.back.last q.string upto (λ e. c.back-test.true (here ∙ e)))
 
 pub returns : goal.returns
 returns c b reads string =
     let upto = c.back.invariant.upto b reads string in
-    let here = c.byte.ensures b (reads-kept b c.args.self.now c.args.at _ reads (omega (arith, string.later))) in
+    let here = c.byte-in-back.ensures b (reads-kept b c.args.self.now c.args.at _ reads (omega (arith, string.later))) in
     sym (string.last c.back.last upto c.back.invariant.below (sym here ∙ c.back-test.false))
