@@ -1,14 +1,11 @@
 -- A node and its text put at the front of what is left.
-use Rattle.std.proofs.Common.{◌≡◌, ◌+◌, ◌++◌, ◌∷◌, ◌<◌, ◌≤◌, [], ℕ, List, length, drop, map, get_or, arith, ap, sym, ◌∙◌, drop-drop}
-use Rattle.std.proofs.Common.{refl, true, false}
+use Rattle.std.proofs.Common.{◌≡◌, ◌+◌, ◌++◌, ◌∷◌, ◌<◌, [], ℕ, List, length, drop, map, get_or, arith, ap, sym, ◌∙◌, drop-drop}
 use Rattle.std.proofs.lemmas.Grind.{common_steps}
 use Rattle.std.proofs.lemmas.List.{drop_more}
 use Rattle.simd_json_parts.specs.Nodes.{Item, item_of}
 use Rattle.simd_json_parts.specs.declared.node.Node as json
 use Rattle.simd_json_c.specs.declared.nodes.Node.{Node}
-use Rattle.simd_json_parts.specs.declared.node.StaticNode.{StaticNode}
-use Rattle.simd_json_parts.specs.declared.node.StaticNode.TheVariants as fixed
-use Rattle.simd_json_c.specs.Nodes.{node_of, nodes_from, static_node, text_of, texts}
+use Rattle.simd_json_c.specs.Nodes.{node_of, nodes_from, text_of, texts}
 
 -- what is left begins with the node at the index
 pub left : (nodes : List json.Node) (i : ℕ) (d : json.Node) → i < length nodes
@@ -35,14 +32,3 @@ pub behind_step : {X : Type 0} (newest newer older : List X) (at end len : ℕ)
     → drop end newest ≡ drop end older
 behind_step newest newer older at end len a b c =
     ap (λ e. drop e newest) b ∙ a ∙ sym (drop-drop len at newer) ∙ ap (drop len) c ∙ drop-drop len at older ∙ ap (λ e. drop e older) (sym b)
-
--- null or a truth value
-pub literal_is : (s : StaticNode) → (static_node s).kind ≤ 1
-    → record { kind = (static_node s).kind; len = 0; value = (static_node s).value; high = 0 } ≡ static_node s
-literal_is fixed.Null few = refl
-literal_is (fixed.Bool false) few = refl
-literal_is (fixed.Bool true) few = refl
-literal_is (fixed.I64 z) few = absurd (omega arith)
-literal_is (fixed.U64 n) few = absurd (omega arith)
-literal_is (fixed.I128 z) few = absurd (omega arith)
-literal_is (fixed.U128 n) few = absurd (omega arith)

@@ -1,8 +1,8 @@
 //! Nodes and texts in the memory of a program in C. Texts are copied: no contract says what the input holds after
 //! a parse, so a node's text can't be an index into it. Integers are two words, since 128 bits don't cross to C.
-ghost use Rattle.std.specs.Prelude.{◌≡◌, ◌≤◌, ◌<◌, ◌+◌, ◌^◌, ◌++◌, ◌∷◌, [], false};
+ghost use Rattle.std.specs.Prelude.{◌≡◌, ◌≢◌, ◌≤◌, ◌<◌, ◌+◌, ◌^◌, ◌++◌, ◌∷◌, [], true, false};
 ghost use Rattle.std.specs.Prelude.{ℕ, take, drop, length, map};
-ghost use Rattle.simd_json_parts.specs.Nodes.{item_of};
+ghost use Rattle.simd_json_parts.specs.Nodes.{item_of, static_item};
 ghost use Rattle.simd_json_c.specs.Calls.{ArePut, IsPut};
 ghost use Rattle.simd_json_c.specs.Nodes.{node_of, nodes_from, span, static_node, variant_kind};
 ghost use Rattle.simd_json_c.specs.Nodes.{room_for, text_of, texts, words};
@@ -60,82 +60,95 @@ fn span_of(kind: u32, len: usize, value: usize) -> Node
     }
 }
 
-// Out of line, since its jump is through addresses.
-#[inline(never)]
-fn fixed(value: StaticNode) -> Node
-    ensures { result ≡ static_node value }
-{
-    match value {
-        StaticNode::Null => words_of(0, 0),
-        StaticNode::Bool(false) => words_of(1, 0),
-        StaticNode::Bool(true) => words_of(1, 1),
-        StaticNode::I64(number) => words_of(2, (number as i128).cast_unsigned()),
-        StaticNode::U64(number) => words_of(3, number as u128),
-        StaticNode::I128(number) => words_of(4, number.cast_unsigned()),
-        StaticNode::U128(number) => words_of(5, number),
-    }
-}
-
-// Whether the number may have 128 bits.
+// Whether it is of a kind for numbers of 128 bits.
 #[inline(always)]
 fn is_wide(value: &StaticNode) -> bool
-    ensures { result ≡ false → (static_node value.now).kind ≤ 3 }
+    ensures wide { result ≡ true → 4 ≤ (static_node value.now).kind }
+    ensures narrow { result ≡ false → (static_node value.now).kind ≤ 3 }
 {
     matches!(*value, StaticNode::I128(_) | StaticNode::U128(_))
 }
 
+// Of a value of 64 bits at most, by choices that need no branch, since the kind of the next value can't be
+// foreseen.
 #[inline(always)]
-fn literal_kind(value: &StaticNode) -> u32
-    requires { (static_node value.now).kind ≤ 1 }
-    ensures { result ≡ (static_node value.now).kind }
-{
-    match *value {
-        StaticNode::Bool(_) => 1,
-        _ => 0,
-    }
-}
-
-#[inline(always)]
-fn literal_value(value: &StaticNode) -> u64
-    requires { (static_node value.now).kind ≤ 1 }
-    ensures { result ≡ (static_node value.now).value }
-{
-    match *value {
-        StaticNode::Bool(true) => 1,
-        _ => 0,
-    }
-}
-
-// A null or a truth value, without a branch: which of them comes next can't be foreseen.
-#[inline(always)]
-fn literal(value: &StaticNode) -> Node
-    requires { (static_node value.now).kind ≤ 1 }
-    ensures { result ≡ static_node value.now }
+fn narrow(value: StaticNode) -> Node
+    requires { (static_node value).kind ≤ 3 }
+    ensures { result ≡ static_node value }
 {
     Node {
-        kind: literal_kind(value),
+        kind: narrow_kind(value),
         len: 0,
-        value: literal_value(value),
-        high: 0,
+        value: lower(value),
+        high: upper(value),
     }
 }
 
-// The kinds of a node's variants, in order, and 0 for a scalar, which has one of six. They are looked up: of a match over
-// all variants the compiler makes a jump through addresses, which takes longer than all else that is done for a node.
-const KINDS: [u32; 5] = [7, 9, 8, 0, 6];
+// By two bits, since of a match over four kinds the compiler makes a jump through addresses.
+#[inline(always)]
+fn narrow_kind(value: StaticNode) -> u32
+    requires { (static_node value).kind ≤ 3 }
+    ensures { result ≡ (static_node value).kind }
+{
+    let is_odd = matches!(value, StaticNode::Bool(_) | StaticNode::U64(_)) as u32;
+    let is_number = matches!(value, StaticNode::I64(_) | StaticNode::U64(_)) as u32;
+    2 * is_number + is_odd
+}
 
 #[inline(always)]
-fn variant_kind(node: &tape::Node<'_>) -> u32
-    ensures { result ≡ variant_kind (item_of node.now) }
+fn lower(value: StaticNode) -> u64
+    requires { (static_node value).kind ≤ 3 }
+    ensures { result ≡ (static_node value).value }
 {
-    let variant = match *node {
-        tape::Node::String(_) => 0,
-        tape::Node::Object { .. } => 1,
-        tape::Node::Array { .. } => 2,
-        tape::Node::Static(_) => 3,
-        tape::Node::Decimal(_) => 4,
-    };
-    KINDS[variant]
+    let number = lower_of_number(value);
+    if let StaticNode::Bool(is_true) = value {
+        is_true as u64
+    } else {
+        number
+    }
+}
+
+#[inline(always)]
+fn lower_of_number(value: StaticNode) -> u64
+    requires { (static_node value).kind ≤ 3 }
+    ensures { (static_node value).kind ≢ 1 → result ≡ (static_node value).value }
+{
+    match value {
+        StaticNode::I64(number) => number.cast_unsigned(),
+        StaticNode::U64(number) => number,
+        _ => 0,
+    }
+}
+
+#[inline(always)]
+fn upper(value: StaticNode) -> u64
+    requires { (static_node value).kind ≤ 3 }
+    ensures { result ≡ (static_node value).high }
+{
+    match value {
+        StaticNode::I64(number) => ((number as i128).cast_unsigned() / (1 << 64)) as u64,
+        _ => 0,
+    }
+}
+
+#[inline(always)]
+fn has_text(node: &tape::Node<'_>) -> bool
+    ensures text { result ≡ true → (6 ≤ variant_kind (item_of node.now))
+        × (variant_kind (item_of node.now) ≤ 7) }
+    ensures none { result ≡ false → (variant_kind (item_of node.now) ≢ 6)
+        × (variant_kind (item_of node.now) ≢ 7) }
+{
+    matches!(*node, tape::Node::String(_) | tape::Node::Decimal(_))
+}
+
+#[inline(always)]
+fn text_kind(node: &tape::Node<'_>) -> u32
+    requires { (6 ≤ variant_kind (item_of node.now)) × (variant_kind (item_of node.now) ≤ 7) }
+    ensures kind { result ≡ variant_kind (item_of node.now) }
+    ensures node { (start : ℕ) → node_of start (item_of node.now)
+        ≡ span (variant_kind (item_of node.now)) (length (text_of (item_of node.now))) start }
+{
+    7 - matches!(*node, tape::Node::Decimal(_)) as u32
 }
 
 #[inline(always)]
@@ -161,19 +174,19 @@ fn text_len(nodes: &[tape::Node<'_>]) -> usize
     text
 }
 
-// Of one of the two last kinds.
+// A container. The place is written before the node is read. Else the compiler makes one jump through
+// addresses of this test of the variant and those before it, which takes longer than all else that is done
+// for a node.
 #[inline(always)]
-fn container(node: &tape::Node<'_>, kind: u32) -> Node
-    requires kind { kind ≡ variant_kind (item_of node.now) }
-    requires container { 8 ≤ kind }
-    ensures node { (start : ℕ) → node_of start (item_of node.now) ≡ result }
+fn set_container(place: &mut Node, node: &tape::Node<'_>)
+    requires { 8 ≤ variant_kind (item_of node.now) }
+    ensures node { (start : ℕ) → node_of start (item_of node.now) ≡ place.new }
     ensures text { text_of (item_of node.now) ≡ [] }
 {
-    match *node {
-        tape::Node::Array { len, count } | tape::Node::Object { len, count } => span_of(
-            kind, len, count,
-        ),
-        _ => span_of(kind, 0, 0),
+    *place = span_of(8 + matches!(*node, tape::Node::Object { .. }) as u32, 0, 0);
+    if let tape::Node::Array { len, count } | tape::Node::Object { len, count } = *node {
+        place.len = len;
+        place.value = count as u64;
     }
 }
 
@@ -186,21 +199,34 @@ fn store(out: &mut [Node], at: usize, node: Node)
     out[at] = node;
 }
 
-// The kinds are tested one after another, so that there is no jump through addresses.
+// A number of such a kind. Out of line, so that the loop does not ask which of them it is, and given the
+// whole node, so that no number is written to the stack.
+#[inline(never)]
+fn set_wide(place: &mut Node, node: &tape::Node<'_>)
+    ensures { (value : StaticNode) → item_of node.now ≡ static_item value → 4 ≤ (static_node value).kind
+        → place.new ≡ static_node value }
+{
+    match *node {
+        tape::Node::Static(StaticNode::I128(number)) => *place = words_of(
+            4,
+            number.cast_unsigned(),
+        ),
+        tape::Node::Static(StaticNode::U128(number)) => *place = words_of(5, number),
+        _ => {}
+    }
+}
+
 #[inline(always)]
-fn store_fixed(out: &mut [Node], at: usize, value: StaticNode)
-    requires { at < length out.old }
+fn store_static(out: &mut [Node], at: usize, node: &tape::Node<'_>, value: StaticNode)
+    requires place { at < length out.old }
+    requires value { item_of node.now ≡ static_item value }
     ensures front { take (at + 1) out.new ≡ take at out.old ++ static_node value ∷ [] }
     ensures behind { drop (at + 1) out.new ≡ drop (at + 1) out.old }
 {
     if is_wide(&value) {
-        store(out, at, fixed(value));
-    } else if let StaticNode::U64(number) = value {
-        store(out, at, words_of(3, number as u128));
-    } else if let StaticNode::I64(number) = value {
-        store(out, at, words_of(2, (number as i128).cast_unsigned()));
+        set_wide(&mut out[at], node);
     } else {
-        store(out, at, literal(&value));
+        store(out, at, narrow(value));
     }
 }
 
@@ -216,16 +242,16 @@ fn put(node: &tape::Node<'_>, out: &mut [Node], i: usize, text: &mut [u8], at: u
     ensures behind { drop (at + length (text_of (item_of node.now))) text.new
         ≡ drop (at + length (text_of (item_of node.now))) text.old }
 {
-    let kind = variant_kind(node);
-    if kind == 6 || kind == 7 {
+    if has_text(node) {
+        let kind = text_kind(node);
         let bytes = text_at(node);
         store(out, i, span_of(kind, bytes.len(), at));
         return append(text, at, bytes);
     }
     if let tape::Node::Static(value) = *node {
-        store_fixed(out, i, value);
+        store_static(out, i, node, value);
     } else {
-        store(out, i, container(node, kind));
+        set_container(&mut out[i], node);
     }
     at
 }
