@@ -53,22 +53,22 @@ either a b x is other = grind (arith, nat_tests)
 same : (a x : ℕ) → is_neither a a x ≡ false → x ≡ a
 same a x is = grind (arith, nat_tests)
 
+-- the first that is of one kind
+pub front-ends : (c : ℕ) (d : List ℕ) (n : ℕ) → n ≡ prefix_len (is_neither c c) d → n < length d → get_or d n 0 ≡ c
+front-ends c d n is less =
+    ap (λ m. get_or d m 0) is ∙ same c _ (prefix_len_stops (is_neither c c) d 0 (omega (arith, is, less)))
+
 pub range-front : (d : List ℕ) (n : ℕ) → slice_range d 0 n ≡ take n d
 range-front d n = let number : n - 0 ≡ n = omega arith in ap (λ m. take m d) number
 
 -- ---- the first token of what is left of a pointer
 
 -- up to the first `/`
-pub slash-ends : (p : List ℕ) (n : ℕ) → n ≡ prefix_len (is_neither 47 47) p → n < length p → get_or p n 0 ≡ 47
-slash-ends p n is less =
-    let front = is_neither 47 47 in
-    ap (λ m. get_or p m 0) is ∙ same 47 _ (prefix_len_stops front p 0 (omega (arith, is, less)))
-
 pub slash-split : (p : List ℕ) (n : ℕ) → n ≡ prefix_len (is_neither 47 47) p
     → tokens p ≡ take n p ∷ tokens_after (drop (length (take n p)) p)
 slash-split p n is =
     let within : n ≤ length p = omega (arith, is, prefix_len-le-length (is_neither 47 47) p) in
-    tokens-first p n within (λ k less. (front-lacks 47 47 p k (omega (arith, is, less))).0) (slash-ends p n is)
+    tokens-first p n within (λ k less. (front-lacks 47 47 p k (omega (arith, is, less))).0) (front-ends 47 p n is)
     ∙ ap (λ m. take n p ∷ tokens_after (drop m p)) (sym (length-take-le n p within))
 
 -- up to the first `/` or `~`, where no `~` stands there: a token without escapes

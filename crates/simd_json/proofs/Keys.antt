@@ -1,16 +1,19 @@
--- The key that a token with escapes is.
-use Rattle.std.proofs.Common.{◌≡◌, ◌∙◌, ap, sym, refl, ◌<◌, ◌≤◌, ◌+◌, ◌++◌, ℕ, zero, suc, Bool, true, false, not, ◌||◌, cond, eqb}
-use Rattle.std.proofs.Common.{List, [], ◌∷◌, length, length-append, drop, take, get_or, append_assoc, append-nil, Some, None, Option}
-use Rattle.std.proofs.Common.{option_map, arith, subst}
+-- The key that a token with escapes is, and whether another is the same.
+use Rattle.std.proofs.Common.{◌≡◌, ◌∙◌, ap, sym, refl, ◌<◌, ◌≤◌, ◌+◌, ◌-◌, ◌++◌, ℕ, zero, suc, Bool, true, false, not, ◌||◌, cond, eqb}
+use Rattle.std.proofs.Common.{List, [], ◌∷◌, length, length-append, length-drop, drop, take, get_or, append_assoc, append-nil, Some, None}
+use Rattle.std.proofs.Common.{Option, option_map, arith, subst}
 use Rattle.std.proofs.lemmas.Bool.{eq-eqb, eqb-true}
+use Rattle.std.proofs.lemmas.List.{drop-drop, drop_all, drop_more, length-take-le, take-append-drop, take_all}
+use Rattle.std.proofs.lemmas.List.Sums.{prefix_len-le-length}
 use Rattle.std.proofs.Math.Seq.{take-append_seam, drop-append-add, get_or-append_seam}
 use Rattle.std.proofs.lemmas.Str.{IsUtf8-append, IsUtf8-take, IsUtf8-drop, IsUtf8-from_ascii, IsCharBoundary-before_ascii}
 use Rattle.std.proofs.lemmas.Str.{IsCharBoundary-after_ascii}
 use Rattle.std.specs.List.{prefix_len}
 use Rattle.std.specs.Str.{IsUtf8, IsAscii}
-use Rattle.simd_json.specs.Followed.{IsKey, is_neither}
+use Rattle.simd_json.specs.Followed.{IsDecodedLen, IsKey, escape_byte, is_neither}
 use Rattle.simd_json.specs.Pointed.{unescaped}
-use Rattle.simd_json.proofs.Pointed.{mapped-some, plain-head}
+use Rattle.simd_json.proofs.Fronts.{front-ends}
+use Rattle.simd_json.proofs.Pointed.{len-of, mapped-some, plain-head, two}
 
 -- ---- it is UTF-8, as the token is
 
@@ -127,3 +130,235 @@ held-run o None old new run h n is stored = ap (option_map (λ k. take h old ++ 
 held-run o (Some key) old new run h n is stored =
     ap (option_map (λ k. take h old ++ k)) is
     ∙ ap Some (sym (append_assoc (take h old) run key) ∙ ap (λ held. held ++ key) (sym stored))
+
+-- ---- how long a key is
+
+pub len-some : (o : Option (List ℕ)) (n : ℕ) → Some n ≡ option_map (λ k. length k) o → (k : List ℕ) × (o ≡ Some k) × (length k ≡ n)
+len-some None n is = cc
+len-some (Some k) n is = let same : n ≡ length k = cc in (k, refl, sym same)
+
+len-tail : (o : Option (List ℕ)) (c n : ℕ) → Some (suc n) ≡ option_map (λ k. length k) (option_map (λ k. c ∷ k) o)
+    → Some n ≡ option_map (λ k. length k) o
+len-tail None c n is = cc
+len-tail (Some k) c n is = let same : suc n ≡ suc (length k) = cc in ap Some (omega (arith, same))
+
+abbrev Shorter : List ℕ → Type 0
+Shorter t = (k : List ℕ) → unescaped t ≡ Some k → length k ≤ length t
+
+shorter-mapped : (o : Option (List ℕ)) (x n : ℕ) (k : List ℕ) → ((r : List ℕ) → o ≡ Some r → length r ≤ n)
+    → option_map (λ l. x ∷ l) o ≡ Some k → length k ≤ suc n
+shorter-mapped o x n k rest is = let r = mapped-some o x k is in omega (arith, rest r.0 r.1, ap length r.2)
+
+-- a byte shorter where the first byte begins an escape
+shorter-by : (c e : ℕ) (t : List ℕ) (b u v : Bool) → Shorter (e ∷ t) → Shorter t → (k : List ℕ)
+    → cond b (cond u (option_map (λ l. 126 ∷ l) (unescaped t)) (cond v (option_map (λ l. 47 ∷ l) (unescaped t)) None))
+    (option_map (λ l. c ∷ l) (unescaped (e ∷ t))) ≡ Some k
+    → length k + cond b 1 0 ≤ suc (suc (length t))
+shorter-by c e t false u v next after k is = omega (arith, shorter-mapped (unescaped (e ∷ t)) c (suc (length t)) k next is)
+shorter-by c e t true true v next after k is = omega (arith, shorter-mapped (unescaped t) 126 (length t) k after is)
+shorter-by c e t true false true next after k is = omega (arith, shorter-mapped (unescaped t) 47 (length t) k after is)
+shorter-by c e t true false false next after k is = cc
+
+shorter-one : (c : ℕ) (b : Bool) (k : List ℕ) → cond b None (Some (c ∷ [])) ≡ Some k → length k ≤ 1
+shorter-one c true k is = cc
+shorter-one c false k is = let one : c ∷ [] ≡ k = cc in omega (arith, ap length one)
+
+shorter : (t : List ℕ) → Shorter t
+shorter [] k is = let none : [] ≡ k = cc in omega (arith, ap length none)
+shorter (c ∷ []) k is = shorter-one c (eqb c 126) k is
+shorter (c ∷ e ∷ t) k is =
+    omega (arith, shorter-by c e t (eqb c 126) (eqb e 48) (eqb e 49) (shorter (e ∷ t)) (shorter t) k is)
+
+-- ---- a token without an escape
+
+plain-by : (c e : ℕ) (t : List ℕ) (b u v : Bool) → (IsDecodedLen (e ∷ t) (suc (length t)) → unescaped (e ∷ t) ≡ Some (e ∷ t))
+    → Some (suc (suc (length t))) ≡ option_map (λ k. length k)
+    (cond b (cond u (option_map (λ l. 126 ∷ l) (unescaped t)) (cond v (option_map (λ l. 47 ∷ l) (unescaped t)) None))
+    (option_map (λ l. c ∷ l) (unescaped (e ∷ t))))
+    → cond b (cond u (option_map (λ l. 126 ∷ l) (unescaped t)) (cond v (option_map (λ l. 47 ∷ l) (unescaped t)) None))
+    (option_map (λ l. c ∷ l) (unescaped (e ∷ t))) ≡ Some (c ∷ e ∷ t)
+plain-by c e t false u v next is = ap (option_map (λ l. c ∷ l)) (next (len-tail (unescaped (e ∷ t)) c (suc (length t)) is))
+plain-by c e t true u v next is =
+    let k = len-some (cond true (cond u (option_map (λ l. 126 ∷ l) (unescaped t)) (cond v (option_map (λ l. 47 ∷ l) (unescaped t)) None))
+    (option_map (λ l. c ∷ l) (unescaped (e ∷ t)))) (suc (suc (length t))) is in
+    absurd (omega (arith, shorter-by c e t true u v (shorter (e ∷ t)) (shorter t) k.0 k.1, k.2))
+
+plain-one : (c : ℕ) (b : Bool) → Some 1 ≡ option_map (λ k. length k) (cond b None (Some (c ∷ []))) → cond b None (Some (c ∷ [])) ≡ Some (c ∷ [])
+plain-one c true is = cc
+plain-one c false is = refl
+
+-- its key has as many bytes
+pub unescaped-same : (t : List ℕ) → IsDecodedLen t (length t) → unescaped t ≡ Some t
+unescaped-same [] is = refl
+unescaped-same (c ∷ []) is = plain-one c (eqb c 126) is
+unescaped-same (c ∷ e ∷ t) is = plain-by c e t (eqb c 126) (eqb e 48) (eqb e 49) (unescaped-same (e ∷ t)) is
+
+pub decoded-within : (t : List ℕ) (n : ℕ) → IsDecodedLen t n → n ≤ length t
+decoded-within t n is = let k = len-some (unescaped t) n is in omega (arith, shorter t k.0 k.1, k.2)
+
+-- ---- an escape after a run
+
+-- the key is as long as the token decoded, and the token longer: an escape follows the run
+pub record IsEscape (t key : List ℕ) (n : ℕ) : Type 0 where
+  pub inside : n + 2 ≤ length t
+  pub room : n < length key
+  pub decoded : unescaped t ≡ option_map (λ k. take n t ++ escape_byte (get_or t (n + 1) 0) ∷ k) (unescaped (drop (n + 2) t))
+  pub counted : IsDecodedLen (drop (n + 2) t) (length (drop (n + 1) key))
+
+escape-by : (u v : Bool) (o : Option (List ℕ)) (n : ℕ)
+    → Some n ≡ option_map (λ k. length k) (cond u (option_map (λ l. 126 ∷ l) o) (cond v (option_map (λ l. 47 ∷ l) o) None))
+    → cond u (option_map (λ l. 126 ∷ l) o) (cond v (option_map (λ l. 47 ∷ l) o) None) ≡ option_map (λ l. cond u 126 47 ∷ l) o
+escape-by true v o n is = refl
+escape-by false true o n is = refl
+escape-by false false o n is = cc
+
+fused : (run : List ℕ) (x : ℕ) (o : Option (List ℕ))
+    → option_map (λ k. run ++ k) (option_map (λ k. x ∷ k) o) ≡ option_map (λ k. run ++ x ∷ k) o
+fused run x None = refl
+fused run x (Some k) = refl
+
+-- how long the key is, without what precedes
+without-run : (o : Option (List ℕ)) (run : List ℕ) (m : ℕ) → Some m ≡ option_map (λ k. length k) (option_map (λ k. run ++ k) o)
+    → (n : ℕ) × (Some n ≡ option_map (λ k. length k) o) × (m ≡ length run + n)
+without-run None run m is = cc
+without-run (Some k) run m is = let same : m ≡ length (run ++ k) = cc in (length k, refl, same ∙ length-append run k)
+
+without-byte : (o : Option (List ℕ)) (x m : ℕ) → Some m ≡ option_map (λ k. length k) (option_map (λ k. x ∷ k) o)
+    → (n : ℕ) × (Some n ≡ option_map (λ k. length k) o) × (m ≡ n + 1)
+without-byte None x m is = cc
+without-byte (Some k) x m is = let same : m ≡ suc (length k) = cc in (length k, refl, omega (arith, same))
+
+not-all : (t key : List ℕ) (n : ℕ) → n ≤ prefix_len (is_neither 126 126) t → IsDecodedLen t (length key) → length key < length t
+    → n ≡ length t → ⊥
+not-all t key n front counted less all =
+    let decoded : unescaped t ≡ Some (take n t ++ []) =
+    run-decoded t n front ∙ ap (λ d. option_map (λ o. take n t ++ o) (unescaped d)) (drop_all n t (omega (arith, all))) in
+    let whole : unescaped t ≡ Some t = decoded ∙ ap Some (append-nil (take n t) ∙ take_all n t (omega (arith, all))) in
+    let same : Some (length key) ≡ Some (length t) = counted ∙ ap (option_map (λ k. length k)) whole in
+    let number : length key ≡ length t = cc in
+    omega (arith, less, number)
+
+inside-by : (n m : ℕ) (b : Bool) → eqb n m ≡ b → n ≤ m → (n ≡ m → ⊥) → n < m
+inside-by n m true is within other = absurd (other (eqb-true n m is))
+inside-by n m false is within other = grind (arith)
+
+-- a `~` after which nothing follows begins no escape
+followed-by : (t : List ℕ) (i m : ℕ) → i < length t → get_or t i 0 ≡ 126 → IsDecodedLen (drop i t) m → i + 1 ≡ length t → ⊥
+followed-by t i m inside begins counted all =
+    let one : drop i t ≡ 126 ∷ [] = drop_more t i 0 inside ∙ ap (λ c. c ∷ drop (i + 1) t) begins
+    ∙ ap (λ d. 126 ∷ d) (drop_all (i + 1) t (omega (arith, all))) in
+    let none : Some m ≡ None = counted ∙ ap (λ d. option_map (λ k. length k) (unescaped d)) one in
+    cc
+
+pub escape-at : (t key : List ℕ) (n : ℕ) → n ≡ prefix_len (is_neither 126 126) t → IsDecodedLen t (length key) → length key < length t
+    → IsEscape t key n
+escape-at t key n front counted less =
+    let within : n ≤ length t = omega (arith, front, prefix_len-le-length (is_neither 126 126) t) in
+    let inside : n < length t = inside-by n (length t) (eqb n (length t)) refl within (not-all t key n (omega (arith, front)) counted less) in
+    let begins = front-ends 126 t n front inside in
+    let run = run-decoded t n (omega (arith, front)) in
+    let rest = without-run (unescaped (drop n t)) (take n t) (length key) (counted ∙ ap (option_map (λ k. length k)) run) in
+    let more : n + 1 < length t =
+    inside-by (n + 1) (length t) (eqb (n + 1) (length t)) refl (omega arith) (followed-by t n rest.0 inside begins rest.1) in
+    let e = get_or t (n + 1) 0 in
+    let there : unescaped (drop n t) ≡ unescaped (126 ∷ e ∷ drop (n + 2) t) =
+    ap unescaped (two t n more ∙ ap (λ c. c ∷ e ∷ drop (n + 2) t) begins) in
+    let byte : unescaped (drop n t) ≡ option_map (λ k. escape_byte e ∷ k) (unescaped (drop (n + 2) t)) =
+    there ∙ escape-by (eqb e 48) (eqb e 49) (unescaped (drop (n + 2) t)) rest.0 (rest.1 ∙ ap (option_map (λ k. length k)) there) in
+    let last = without-byte (unescaped (drop (n + 2) t)) (escape_byte e) rest.0 (rest.1 ∙ ap (option_map (λ k. length k)) byte) in
+    let long : length (take n t) ≡ n = length-take-le n t within in
+    let size : last.0 ≡ length (drop (n + 1) key) = omega (arith, rest.2, last.2, long, length-drop (n + 1) key) in
+    record {
+      inside = omega (arith, more);
+      room = omega (arith, rest.2, last.2, long);
+      decoded = run ∙ ap (option_map (λ k. take n t ++ k)) byte ∙ fused (take n t) (escape_byte e) (unescaped (drop (n + 2) t));
+      counted = ap Some (sym size) ∙ last.1;
+    }
+
+-- ---- a key that is compared with a run and the escape after it
+
+parts-by : (o : Option (List ℕ)) (run key : List ℕ) (x n : ℕ) → length run ≡ n → option_map (λ k. run ++ x ∷ k) o ≡ Some key
+    → (run ≡ take n key) × (get_or key n 0 ≡ x) × (o ≡ Some (drop (n + 1) key))
+parts-by None run key x n long is = cc
+parts-by (Some k) run key x n long is =
+    let all : run ++ x ∷ k ≡ key = cc in (
+      sym (take-append_seam run (x ∷ k)) ∙ ap (λ m. take m (run ++ x ∷ k)) long ∙ ap (take n) all,
+      ap (λ l. get_or l n 0) (sym all) ∙ ap (λ m. get_or (run ++ x ∷ k) m 0) (sym long) ∙ get_or-append_seam run x k 0,
+      ap Some (sym (drop-append-add run (x ∷ k) 1) ∙ ap (λ m. drop (m + 1) (run ++ x ∷ k)) long ∙ ap (drop (n + 1)) all),
+    )
+
+pub parts : (t key : List ℕ) (n : ℕ) → IsEscape t key n → unescaped t ≡ Some key
+    → (take n t ≡ take n key) × (get_or key n 0 ≡ escape_byte (get_or t (n + 1) 0)) × (unescaped (drop (n + 2) t) ≡ Some (drop (n + 1) key))
+parts t key n at is =
+    parts-by (unescaped (drop (n + 2) t)) (take n t) key (escape_byte (get_or t (n + 1) 0)) n
+    (length-take-le n t (omega (arith, at.inside))) (sym at.decoded ∙ is)
+
+pub joined : (t key : List ℕ) (n : ℕ) → IsEscape t key n → take n t ≡ take n key → get_or key n 0 ≡ escape_byte (get_or t (n + 1) 0)
+    → unescaped (drop (n + 2) t) ≡ Some (drop (n + 1) key) → unescaped t ≡ Some key
+joined t key n at run byte rest =
+    let x = escape_byte (get_or t (n + 1) 0) in
+    at.decoded ∙ ap (option_map (λ k. take n t ++ x ∷ k)) rest
+    ∙ ap Some
+    (ap (λ r. r ++ x ∷ drop (n + 1) key) run ∙ ap (λ c. take n key ++ c ∷ drop (n + 1) key) (sym byte)
+    ∙ ap (λ d. take n key ++ d) (sym (drop_more key n 0 at.room)) ∙ take-append-drop n key)
+
+-- ---- what follows the last escape
+
+-- of a token whose key has m bytes, what is left of it, whose key has n
+pub record IsLeft (t left : List ℕ) (m n : ℕ) : Type 0 where
+  pub counted : IsDecodedLen left n
+  pub fewer : n ≤ m
+  pub few : length left ≤ length t
+  pub end : left ≡ drop (length t - length left) t
+  pub decoded : (key : List ℕ) → unescaped t ≡ Some key → unescaped left ≡ Some (drop (m - n) key)
+
+pub all-left : (t : List ℕ) (m : ℕ) → IsDecodedLen t m → IsLeft t t m m
+all-left t m counted =
+    let none : length t - length t ≡ 0 = omega arith in
+    let nothing : m - m ≡ 0 = omega arith in
+    record {
+      counted = counted;
+      fewer = omega arith;
+      few = omega arith;
+      end = sym (ap (λ n. drop n t) none);
+      decoded = λ key is. is ∙ ap Some (sym (ap (λ n. drop n key) nothing));
+    }
+
+pub left-within : (left : List ℕ) (n r : ℕ) → r ≡ prefix_len (is_neither 126 126) left → IsDecodedLen left n → n < length left
+    → (r + 2 ≤ length left) × (r < n)
+left-within left n r front counted less =
+    let key = len-some (unescaped left) n counted in
+    let at = escape-at left key.0 r front (ap Some key.2 ∙ counted) (omega (arith, key.2, less)) in
+    (at.inside, omega (arith, at.room, key.2))
+
+pub left-after : (t left : List ℕ) (m n r : ℕ) → IsLeft t left m n → r ≡ prefix_len (is_neither 126 126) left → n < length left
+    → IsLeft t (drop (r + 2) left) m (n - (r + 1))
+left-after t left m n r is front less =
+    let key = len-some (unescaped left) n is.counted in
+    let at = escape-at left key.0 r front (ap Some key.2 ∙ is.counted) (omega (arith, key.2, less)) in
+    let rest : length (drop (r + 1) key.0) ≡ n - (r + 1) = omega (arith, length-drop (r + 1) key.0, key.2) in
+    let size : length (drop (r + 2) left) ≡ length left - (r + 2) = length-drop (r + 2) left in
+    let begin : length t - length left + (r + 2) ≡ length t - length (drop (r + 2) left) = omega (arith, size, at.inside, is.few) in
+    record {
+      counted = ap Some (sym rest) ∙ at.counted;
+      fewer = omega (arith, is.fewer);
+      few = omega (arith, size, is.few);
+      end = ap (drop (r + 2)) is.end ∙ drop-drop (r + 2) (length t - length left) t ∙ ap (λ i. drop i t) begin;
+      decoded = λ whole has.
+          (let now = is.decoded whole has in
+          let long = len-of (unescaped left) (drop (m - n) whole) n is.counted now in
+          let here = escape-at left (drop (m - n) whole) r front (ap Some long ∙ is.counted) (omega (arith, long, less)) in
+          let number : m - n + (r + 1) ≡ m - (n - (r + 1)) = omega (arith, is.fewer, here.room, long) in
+          (parts left (drop (m - n) whole) r here now).2
+          ∙ ap Some (drop-drop (r + 1) (m - n) whole ∙ ap (λ i. drop i whole) number));
+    }
+
+-- without an escape it is the end of the key, as it is that of the token
+pub left-last : (t left key : List ℕ) (m n : ℕ) → IsLeft t left m n → length left ≤ n → unescaped t ≡ Some key
+    → drop (length t - n) t ≡ drop (m - n) key
+left-last t left key m n is plain has =
+    let long : n ≡ length left = omega (arith, plain, decoded-within left n is.counted) in
+    let same : Some left ≡ Some (drop (m - n) key) =
+    sym (unescaped-same left (ap Some (sym long) ∙ is.counted)) ∙ is.decoded key has in
+    let both : left ≡ drop (m - n) key = cc in
+    ap (λ l. drop (length t - l) t) long ∙ sym is.end ∙ both

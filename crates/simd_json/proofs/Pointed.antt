@@ -1,5 +1,5 @@
 -- A JSON Pointer a token at a time.
-use Rattle.std.proofs.Common.{◌≡◌, ◌≢◌, ◌∙◌, ap, sym, refl, ◌<◌, ◌≤◌, ◌+◌, ◌-◌, ◌*◌, ◌++◌, ◌↔◌, ℕ, zero, suc, Bool, true, false}
+use Rattle.std.proofs.Common.{◌≡◌, ◌≢◌, ◌∙◌, ap, sym, refl, ◌<◌, ◌≤◌, ◌+◌, ◌-◌, ◌*◌, ◌++◌, ℕ, zero, suc, Bool, true, false}
 use Rattle.std.proofs.Common.{cond, bytes_eq, List, [], ◌∷◌, length, map, take, drop, set, length-append, length-drop, append_assoc}
 use Rattle.std.proofs.Common.{get_or, Some, None, Option, option_map, Result, Ok, Err, arith, ne_eqb, lit<, subst, eqb}
 use Rattle.std.proofs.lemmas.Bool.{eqb-true, eq-eqb, ltb-false, le-ltb}
@@ -106,7 +106,8 @@ plain-at t i inside other = record {
   within = omega arith;
 }
 
-two : (t : List ℕ) (i : ℕ) → i + 1 < length t → drop i t ≡ get_or t i 0 ∷ get_or t (i + 1) 0 ∷ drop (i + 2) t
+-- two bytes, and the others
+pub two : (t : List ℕ) (i : ℕ) → i + 1 < length t → drop i t ≡ get_or t i 0 ∷ get_or t (i + 1) 0 ∷ drop (i + 2) t
 two t i inside =
     let next : i + 1 + 1 ≡ i + 2 = omega arith in
     drop_more t i 0 (omega arith) ∙ ap (λ l. get_or t i 0 ∷ l) (drop_more t (i + 1) 0 inside ∙ ap (λ n. get_or t (i + 1) 0 ∷ drop n t) next)
@@ -132,39 +133,6 @@ pub mapped-some : (o : Option (List ℕ)) (x : ℕ) (l : List ℕ)
     → option_map (λ k. x ∷ k) o ≡ Some l → (r : List ℕ) × (o ≡ Some r) × (x ∷ r ≡ l)
 mapped-some None x l is = cc
 mapped-some (Some r) x l is = (r, refl, cc)
-
-pub key-ends : (o : Option (List ℕ)) (key : List ℕ) (m x : ℕ) → length key ≤ m → option_map (λ k. x ∷ k) o ≡ Some (drop m key) → ⊥
-key-ends o key m x past is =
-    let r = mapped-some o x (drop m key) is in
-    let empty : x ∷ r.0 ≡ [] = r.2 ∙ drop_all m key past in
-    cc
-
-head-is : (o : Option (List ℕ)) (key : List ℕ) (m x : ℕ) → m < length key → option_map (λ k. x ∷ k) o ≡ Some (drop m key)
-    → (get_or key m 0 ≡ x) × (o ≡ Some (drop (m + 1) key))
-head-is o key m x inside is =
-    let r = mapped-some o x (drop m key) is in
-    let both : x ∷ r.0 ≡ get_or key m 0 ∷ drop (m + 1) key = r.2 ∙ drop_more key m 0 inside in
-    let head : get_or key m 0 ≡ x = cc in
-    let tail : r.0 ≡ drop (m + 1) key = cc in
-    (head, r.1 ∙ ap Some tail)
-
-pub key-differs : (o : Option (List ℕ)) (key : List ℕ) (m x : ℕ) → m < length key → get_or key m 0 ≢ x
-    → option_map (λ k. x ∷ k) o ≡ Some (drop m key) → ⊥
-key-differs o key m x inside other is = other (head-is o key m x inside is).0
-
-pub key-goes-on : (o : Option (List ℕ)) (key : List ℕ) (m x : ℕ) → m < length key → get_or key m 0 ≡ x
-    → (option_map (λ k. x ∷ k) o ≡ Some (drop m key)) ↔ (o ≡ Some (drop (m + 1) key))
-key-goes-on o key m x inside same = (
-  λ is. (head-is o key m x inside is).1,
-  λ is. ap (option_map (λ k. x ∷ k)) is ∙ ap Some (ap (λ c. c ∷ drop (m + 1) key) (sym same) ∙ sym (drop_more key m 0 inside)),
-)
-
--- at the end of the token
-pub key-is-whole : (key : List ℕ) (m : ℕ) → m ≤ length key → (Some [] ≡ Some (drop m key)) ↔ (m ≡ length key)
-key-is-whole key m within = (
-  λ is. (let empty : drop m key ≡ [] = cc in omega (arith, length-drop m key, ap length empty)),
-  λ all. ap Some (sym (drop_all m key (omega arith))),
-)
 
 -- ---- how long a decoded token is
 

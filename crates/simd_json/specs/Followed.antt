@@ -47,3 +47,11 @@ pub record IsKey (t key : List ℕ) (len : ℕ) : Type 0 where
   pub counted : Some len ≡ option_map (λ k. length k) (unescaped t)
   pub decoded : len ≤ 128 → unescaped t ≡ Some (take len key)
   pub room : length key ≡ 128
+
+-- how many bytes the key has that a token is
+abbrev pub IsDecodedLen : List ℕ → ℕ → Type 0
+IsDecodedLen t n = Some n ≡ option_map (λ k. length k) (unescaped t)
+
+-- the byte that `~` and this one are, where they are an escape
+abbrev pub escape_byte : ℕ → ℕ
+escape_byte e = if e == 48 then tilde else slash

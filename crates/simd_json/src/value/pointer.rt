@@ -179,7 +179,7 @@ fn escaped_member<'tape, 'input>(
         return None;
     };
     let key = held(token, &key, key_len);
-    Some((token::find(object, token, key)?, len))
+    Some((token::find(object, token, key, key_len)?, len))
 }
 
 // The value at the index that the first token is.

@@ -80,7 +80,7 @@ impl Part {
         } else {
             held(token, &self.key, self.key_len)
         };
-        token::find(object, token, key)
+        token::find(object, token, key, self.key_len)
     }
 
     // The element with the index that the token is.

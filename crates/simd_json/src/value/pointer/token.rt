@@ -1,7 +1,7 @@
 //! A reference token, and the key that it is when its escapes are decoded (RFC 6901, section 3).
-ghost use Rattle.std.specs.Prelude.{◌≡◌, ◌<◌, ◌≤◌, ◌+◌, ◌↔◌, ◌∷◌, ◌++◌, IsTrue, IfSome, Some, None, take, drop, length, slice_index, option_map, MatchOption};
+ghost use Rattle.std.specs.Prelude.{◌≡◌, ◌<◌, ◌≤◌, ◌+◌, ◌-◌, ℕ, List, ◌↔◌, ◌∷◌, ◌++◌, IsTrue, IfSome, Some, None, take, drop, length, slice_index, option_map, MatchOption};
 ghost use Rattle.std.specs.Result.{result_ok};
-ghost use Rattle.simd_json.specs.Followed.{IsKey, IsPlain, IsWritten, tokens_after};
+ghost use Rattle.simd_json.specs.Followed.{IsDecodedLen, IsKey, IsPlain, IsWritten, escape_byte, tokens_after};
 ghost use Rattle.simd_json.specs.Pointed.{member_at, tokens, unescaped};
 ghost use Rattle.simd_json.specs.Viewed.{doc, pairs};
 ghost use Rattle.simd_json_parts.specs.Bytes.{slash};
@@ -74,57 +74,6 @@ pub(super) fn held<'key>(token: &str, key: &'key [u8], len: usize) -> Option<&'k
     Some(unsafe { str::from_utf8_unchecked(&key[..len]) })
 }
 
-// The value of the first pair with the key that a token is.
-#[inline(always)]
-pub(super) fn find<'tape, 'input>(
-    object: Object<'tape, 'input>,
-    token: &str,
-    key: Option<&str>,
-) -> Option<Value<'tape, 'input>>
-    requires { IfSome key (λ k. unescaped token.now ≡ Some k.now) }
-    ensures { option_map doc result ≡ result_ok (member_at (pairs object.entry) (unescaped token.now)) }
-{
-    let Some(key) = key else {
-        return find_long(object, token.as_bytes());
-    };
-    object.find(key)
-}
-
-// The same where its key is not held: the token is decoded again, byte by byte, for each other key.
-#[cold]
-fn find_long<'tape, 'input>(
-    object: Object<'tape, 'input>,
-    token: &[u8],
-) -> Option<Value<'tape, 'input>>
-    ensures { option_map doc result ≡ result_ok (member_at (pairs object.entry) (unescaped token.now)) }
-{
-    for (key, value) in object.iter() {
-        if is_unescaped(token, key.as_bytes()) {
-            return Some(value);
-        }
-    }
-    None
-}
-
-// Whether the token, decoded, is the key.
-fn is_unescaped(token: &[u8], key: &[u8]) -> bool
-    ensures { IsTrue result ↔ (unescaped token.now ≡ Some key.now) }
-{
-    let mut at = 0;
-    let mut matched = 0;
-    while at < token.len() {
-        let Some(written) = unescaped_at(token, at) else {
-            return false;
-        };
-        if matched >= key.len() || key[matched] != written.byte {
-            return false;
-        }
-        at = written.end;
-        matched += 1;
-    }
-    matched == key.len()
-}
-
 // How many bytes the token has, decoded, or `None` where a `~` of it begins no escape.
 pub(super) fn decoded_len(token: &[u8]) -> Option<usize>
     ensures len { result ≡ option_map (λ key. length key) (unescaped token.now) }
@@ -170,4 +119,88 @@ fn unescaped_at(token: &[u8], at: usize) -> Option<Written>
         b'1' => Some(Written { byte: b'/', end }),
         _ => None,
     }
+}
+
+// The value of the first pair with the key that a token is, of which this is held.
+#[inline(always)]
+pub(super) fn find<'tape, 'input>(
+    object: Object<'tape, 'input>,
+    token: &str,
+    key: Option<&str>,
+    key_len: usize,
+) -> Option<Value<'tape, 'input>>
+    requires held { IfSome key (λ k. unescaped token.now ≡ Some k.now) }
+    requires counted { IsDecodedLen token.now key_len }
+    ensures { option_map doc result ≡ result_ok (member_at (pairs object.entry) (unescaped token.now)) }
+{
+    let Some(key) = key else {
+        return find_escaped(object, token.as_bytes(), key_len);
+    };
+    object.find(key)
+}
+
+// The same where the key is not held. The token is compared with no key of another length.
+#[cold]
+fn find_escaped<'tape, 'input>(
+    object: Object<'tape, 'input>,
+    token: &[u8],
+    key_len: usize,
+) -> Option<Value<'tape, 'input>>
+    requires { IsDecodedLen token.now key_len }
+    ensures { option_map doc result ≡ result_ok (member_at (pairs object.entry) (unescaped token.now)) }
+{
+    let last = last_run_len(token, key_len);
+    for (key, value) in object.iter() {
+        if key.len() == key_len
+            && key.as_bytes()[key_len - last..] == token[token.len() - last..]
+            && is_unescaped(token, key.as_bytes())
+        {
+            return Some(value);
+        }
+    }
+    None
+}
+
+// How many bytes follow the last escape of the token: the key ends with them, too.
+fn last_run_len(token: &[u8], key_len: usize) -> usize
+    requires { IsDecodedLen token.now key_len }
+    ensures within { (result ≤ key_len) × (result ≤ length token.now) }
+    ensures last { (key : List ℕ) → unescaped token.now ≡ Some key
+        → drop (length token.now - result) token.now ≡ drop (key_len - result) key }
+{
+    let mut token_left = token;
+    let mut key_left = key_len;
+    while key_left < token_left.len() {
+        let run = front_len(token_left, b'~', b'~');
+        token_left = &token_left[run + 2..];
+        key_left -= run + 1;
+    }
+    key_left
+}
+
+// Whether the token, decoded, is the key, which is as long: a run of bytes at a time, and the escape after it.
+fn is_unescaped(token: &[u8], key: &[u8]) -> bool
+    requires { IsDecodedLen token.now (length key.now) }
+    ensures { IsTrue result ↔ (unescaped token.now ≡ Some key.now) }
+{
+    let mut token_left = token;
+    let mut key_left = key;
+    while key_left.len() < token_left.len() {
+        let run = front_len(token_left, b'~', b'~');
+        if token_left[..run] != key_left[..run]
+            || key_left[run] != unescaped_byte(token_left[run + 1])
+        {
+            return false;
+        }
+        token_left = &token_left[run + 2..];
+        key_left = &key_left[run + 1..];
+    }
+    token_left == key_left
+}
+
+// The byte that `~` and this digit are.
+fn unescaped_byte(digit: u8) -> u8
+    ensures { result ≡ escape_byte digit }
+{
+    if digit == b'0' { b'~' } else { b'/' }
 }

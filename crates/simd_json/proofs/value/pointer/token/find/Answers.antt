@@ -11,5 +11,5 @@ use Rattle.simd_json.proofs.value.pointer.token.find.Goals as goal
 pub returns : goal.returns
 returns c =
     let ms = pairs c.args.object in
-    let name = subst (λ o. IfSome o (λ k. unescaped c.args.token.now ≡ Some k.now)) c.in-Some.is c.requires in
+    let name = subst (λ o. IfSome o (λ k. unescaped c.args.token.now ≡ Some k.now)) c.in-Some.is c.requires.held in
     c.find.ensures ∙ sym (ok-or (first_with c.in-Some.key.now ms) lacking.Key) ∙ sym (ap (λ u. result_ok (member_at ms u)) name)
