@@ -1,4 +1,28 @@
+ghost use Rattle.std.specs.Prelude.{IsTrue};
+
+use simd_json::tape::{Array, Object};
+use std::fmt::Debug;
+use std::process::Abort;
 use std::test::Fail;
+
+// `assert_eq!` and `assert!` as calls: a call is proved in far less time than the code that those expand to.
+macro_rules! assert_same {
+    ($rt:expr; $found:expr, $wanted:expr $(,)?) => {
+        crate::tests::same($rt, stringify!($found), $found, $wanted)
+    };
+    ($rt:expr; $found:expr, $wanted:expr, $case:expr $(,)?) => {
+        crate::tests::same_of($rt, stringify!($found), $case, $found, $wanted)
+    };
+}
+
+macro_rules! assert_that {
+    ($rt:expr; $condition:expr $(,)?) => {
+        crate::tests::holds($rt, stringify!($condition), $condition)
+    };
+    ($rt:expr; $condition:expr, $case:expr $(,)?) => {
+        crate::tests::same_of($rt, stringify!($condition), $case, $condition, true)
+    };
+}
 
 mod accessors;
 mod descendants;
@@ -9,3 +33,39 @@ mod values;
 mod views;
 
 type Tested = std::result::Result<(), Fail>;
+
+fn same<T: PartialEq + Debug + Drop>(rt: &impl Abort, what: &str, found: T, wanted: T) {
+    assert_eq!(rt; found, wanted, "{what}");
+}
+
+// The same of one case of several.
+fn same_of<T: PartialEq + Debug + Drop>(
+    rt: &impl Abort,
+    what: &str,
+    case: impl Debug + Drop,
+    found: T,
+    wanted: T,
+) {
+    assert_eq!(rt; found, wanted, "{what} of {case:?}");
+}
+
+fn holds(rt: &impl Abort, what: &str, condition: bool)
+    ensures { IsTrue condition }
+{
+    assert!(rt; condition, "{what}");
+}
+
+// How many members there are in a container that is there.
+fn array_len(array: Option<Array<'_, '_>>) -> Option<usize> {
+    match array {
+        Some(array) => Some(array.len()),
+        None => None,
+    }
+}
+
+fn object_len(object: Option<Object<'_, '_>>) -> Option<usize> {
+    match object {
+        Some(object) => Some(object.len()),
+        None => None,
+    }
+}

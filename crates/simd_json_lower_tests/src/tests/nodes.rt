@@ -2,70 +2,58 @@ use simd_json_parts::node::{Node, StaticNode, ValueType};
 
 #[test]
 fn integers_are_equal_by_number(rt: HostRuntime) {
-    assert!(rt; StaticNode::U64(1) == StaticNode::I64(1));
-    assert!(rt; StaticNode::I64(0) == StaticNode::U64(0));
-    assert!(rt; StaticNode::I64(-1) != StaticNode::U64(u64::MAX));
-    assert!(rt; StaticNode::U128(1) == StaticNode::I64(1));
-    assert!(rt; StaticNode::I64(-1) == StaticNode::I128(-1));
-    assert!(rt; StaticNode::U64(1) == StaticNode::U128(1));
-    assert!(rt; StaticNode::I128(1) == StaticNode::U64(1));
-    assert!(rt; StaticNode::I128(1) == StaticNode::U128(1));
-    assert!(rt; StaticNode::I128(-1) != StaticNode::U128(u128::MAX));
-    assert!(rt; StaticNode::I64(-1) != StaticNode::U128(u128::MAX));
-    assert!(rt; StaticNode::Null != StaticNode::U64(0));
-    assert!(rt; StaticNode::Bool(true) != StaticNode::U64(1));
-    assert!(rt; StaticNode::Bool(true) != StaticNode::Bool(false));
-    assert!(rt; StaticNode::default() == StaticNode::Null);
+    assert_that!(&rt; StaticNode::U64(1) == StaticNode::I64(1));
+    assert_that!(&rt; StaticNode::I64(0) == StaticNode::U64(0));
+    assert_that!(&rt; StaticNode::I64(-1) != StaticNode::U64(u64::MAX));
+    assert_that!(&rt; StaticNode::U128(1) == StaticNode::I64(1));
+    assert_that!(&rt; StaticNode::I64(-1) == StaticNode::I128(-1));
+    assert_that!(&rt; StaticNode::U64(1) == StaticNode::U128(1));
+    assert_that!(&rt; StaticNode::I128(1) == StaticNode::U64(1));
+    assert_that!(&rt; StaticNode::I128(1) == StaticNode::U128(1));
+    assert_that!(&rt; StaticNode::I128(-1) != StaticNode::U128(u128::MAX));
+    assert_that!(&rt; StaticNode::I64(-1) != StaticNode::U128(u128::MAX));
+    assert_that!(&rt; StaticNode::Null != StaticNode::U64(0));
+    assert_that!(&rt; StaticNode::Bool(true) != StaticNode::U64(1));
+    assert_that!(&rt; StaticNode::Bool(true) != StaticNode::Bool(false));
+    assert_that!(&rt; StaticNode::default() == StaticNode::Null);
 }
 
 #[test]
 fn integers_are_made_of_sign_and_magnitude(rt: HostRuntime) {
-    assert!(rt; matches!(StaticNode::integer(false, 0), StaticNode::U64(0)));
-    assert!(rt; matches!(StaticNode::integer(true, 0), StaticNode::I64(0)));
-    assert!(rt; matches!(StaticNode::integer(true, 257), StaticNode::I64(-257)));
-    assert!(rt;
-        matches!(
+    assert_that!(&rt; matches!(StaticNode::integer(false, 0), StaticNode::U64(0)));
+    assert_that!(&rt; matches!(StaticNode::integer(true, 0), StaticNode::I64(0)));
+    assert_that!(&rt; matches!(StaticNode::integer(true, 257), StaticNode::I64(-257)));
+    assert_that!(&rt; matches!(
             StaticNode::integer(false, u64::MAX),
             StaticNode::U64(u64::MAX)
-        )
-    );
-    assert!(rt;
-        matches!(
+        ));
+    assert_that!(&rt; matches!(
             StaticNode::integer(true, 1 << 63),
             StaticNode::I64(i64::MIN)
-        )
-    );
+        ));
 }
 
 #[test]
 fn kinds_change_past_64_bits(rt: HostRuntime) {
     const SHORT: u128 = u64::MAX as u128;
-    assert!(rt; matches!(StaticNode::wide(false, SHORT), StaticNode::U64(u64::MAX)));
-    assert!(rt;
-        matches!(
+    assert_that!(&rt; matches!(StaticNode::wide(false, SHORT), StaticNode::U64(u64::MAX)));
+    assert_that!(&rt; matches!(
             StaticNode::wide(false, SHORT + 1),
             StaticNode::U128(18_446_744_073_709_551_616)
-        )
-    );
-    assert!(rt;
-        matches!(
+        ));
+    assert_that!(&rt; matches!(
             StaticNode::wide(false, u128::MAX),
             StaticNode::U128(u128::MAX)
-        )
-    );
-    assert!(rt; matches!(StaticNode::wide(true, 1 << 63), StaticNode::I64(i64::MIN)));
-    assert!(rt;
-        matches!(
+        ));
+    assert_that!(&rt; matches!(StaticNode::wide(true, 1 << 63), StaticNode::I64(i64::MIN)));
+    assert_that!(&rt; matches!(
             StaticNode::wide(true, (1 << 63) + 1),
             StaticNode::I128(-9_223_372_036_854_775_809)
-        )
-    );
-    assert!(rt;
-        matches!(
+        ));
+    assert_that!(&rt; matches!(
             StaticNode::wide(true, 1 << 127),
             StaticNode::I128(i128::MIN)
-        )
-    );
+        ));
 }
 
 #[test]
@@ -83,8 +71,8 @@ fn nodes_have_their_kinds(rt: HostRuntime) {
         (Node::Object { len: 1, count: 2 }, ValueType::Object),
     ];
     for (node, kind) in &nodes {
-        assert_eq!(rt; node.value_type(), *kind);
+        assert_same!(&rt; node.value_type(), *kind);
     }
-    assert!(rt; Node::String("1.5") != Node::Decimal("1.5"));
-    assert!(rt; Node::Array { len: 1, count: 2 } != Node::Array { len: 1, count: 1 });
+    assert_that!(&rt; Node::String("1.5") != Node::Decimal("1.5"));
+    assert_that!(&rt; Node::Array { len: 1, count: 2 } != Node::Array { len: 1, count: 1 });
 }

@@ -63,7 +63,7 @@ fn known_positions(rt: HostRuntime) -> Tested {
     ] {
         let text = text(rt.alloc(), before, byte, len, after)?;
         let (positions, _) = found(rt.alloc(), &text)?;
-        assert_eq!(rt; positions.as_slice(), want, "{text:?}");
+        assert_same!(&rt; positions.as_slice(), want, text);
     }
     Ok(())
 }
@@ -75,9 +75,9 @@ fn each_bracket_is_a_position(rt: HostRuntime) -> Tested {
         text.push(b']')?;
     }
     let (positions, _) = found(rt.alloc(), &text)?;
-    assert_eq!(rt; positions.len(), 200_000);
+    assert_same!(&rt; positions.len(), 200_000);
     for (i, &position) in positions.iter().enumerate() {
-        assert_eq!(rt; position as usize, i);
+        assert_same!(&rt; position as usize, i);
     }
     Ok(())
 }
@@ -105,7 +105,7 @@ fn known_escape_blocks(rt: HostRuntime) -> Tested {
     ] {
         let text = text(rt.alloc(), before, byte, len, after)?;
         let (_, blocks) = found(rt.alloc(), &text)?;
-        assert_eq!(rt; blocks.as_slice(), want, "{text:?}");
+        assert_same!(&rt; blocks.as_slice(), want, text);
     }
     Ok(())
 }
@@ -132,11 +132,7 @@ fn known_faults(rt: HostRuntime) -> Tested {
         (b" \t\r\n", 0, 0, b"", ErrorType::Eof),
     ] {
         let text = text(rt.alloc(), before, byte, len, after)?;
-        assert_eq!(rt;
-            found(rt.alloc(), &text),
-            Err(Error::generic(want)),
-            "{text:?}"
-        );
+        assert_same!(&rt; found(rt.alloc(), &text), Err(Error::generic(want)), &text);
     }
     Ok(())
 }

@@ -93,7 +93,7 @@ fn builds_scalars_and_lists(rt: HostRuntime) -> std::result::Result<(), Fail> {
     for (source, max_depth, wanted) in rows {
         let mut input = source.as_bytes().to_vec(rt.alloc())?;
         let nodes = tape_of(rt.alloc(), input.as_mut_slice(), max_depth)?;
-        assert!(rt; nodes.as_slice() == wanted, "{source}");
+        assert_that!(&rt; nodes.as_slice() == wanted, source);
     }
     Ok(())
 }
@@ -156,7 +156,7 @@ fn builds_strings_objects_and_decimals(rt: HostRuntime) -> std::result::Result<(
     for (source, wanted) in rows {
         let mut input = source.as_bytes().to_vec(rt.alloc())?;
         let nodes = tape_of(rt.alloc(), input.as_mut_slice(), 1024)?;
-        assert!(rt; nodes.as_slice() == wanted, "{source}");
+        assert_that!(&rt; nodes.as_slice() == wanted, source);
     }
     Ok(())
 }
@@ -180,11 +180,11 @@ fn builds_strings_across_blocks(rt: HostRuntime) -> std::result::Result<(), Fail
         input.extend_from_slice(b"\"]")?;
         let nodes = tape_of(rt.alloc(), input.as_mut_slice(), 1)?;
         let strings = [first, second];
-        assert!(rt; nodes.len() == 3, "{len}");
+        assert_that!(&rt; nodes.len() == 3, len);
         for (i, wanted) in strings.iter().enumerate() {
             match nodes.get(i.wrapping_add(1)) {
                 Some(Node::String(string)) => {
-                    assert!(rt; string.as_bytes() == wanted.as_slice(), "{len}");
+                    assert_that!(&rt; string.as_bytes() == wanted.as_slice(), len);
                 }
                 _ => panic!(rt; "{len}"),
             }

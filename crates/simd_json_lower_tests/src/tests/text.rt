@@ -34,14 +34,18 @@ fn put_all<const SIZE: usize>(mut text: Text<'_, Vec<u8>, SIZE>, letters: usize)
     for _ in 0..letters {
         text.put(b"x");
     }
+    put_strings(&mut text);
+    put_compact(&mut text, &NODES);
+    put_pretty(&mut text, &NODES);
+    text.finish()
+}
+
+fn put_strings<const SIZE: usize>(text: &mut Text<'_, Vec<u8>, SIZE>) {
     text.put_string(b"\"", STRING, b"\"");
     text.put_string(b", ", "short", b": ");
     text.put_between(b"<", b"\"a few\"", b">");
     text.put_between(b"\\", LETTERS, b"\n");
     text.put_between(LETTERS, b"", LETTERS);
-    put_compact(&mut text, &NODES);
-    put_pretty(&mut text, &NODES);
-    text.finish()
 }
 
 #[test]
@@ -60,19 +64,19 @@ fn texts_are_whole_wherever_they_are_cut(rt: HostRuntime) -> std::result::Result
         wanted.extend_from_slice(PRETTY.as_bytes())?;
         let mut out = Vec::new(rt.alloc());
         put_all(Text::<Vec<u8>, 1>::new(&mut out), letters)?;
-        assert_eq!(rt; out.as_slice(), wanted.as_slice());
+        assert_same!(&rt; out.as_slice(), wanted.as_slice());
         let mut out = Vec::new(rt.alloc());
         put_all(Text::<Vec<u8>, 2>::new(&mut out), letters)?;
-        assert_eq!(rt; out.as_slice(), wanted.as_slice());
+        assert_same!(&rt; out.as_slice(), wanted.as_slice());
         let mut out = Vec::new(rt.alloc());
         put_all(Text::<Vec<u8>, 16>::new(&mut out), letters)?;
-        assert_eq!(rt; out.as_slice(), wanted.as_slice());
+        assert_same!(&rt; out.as_slice(), wanted.as_slice());
         let mut out = Vec::new(rt.alloc());
         put_all(Text::<Vec<u8>, 40>::new(&mut out), letters)?;
-        assert_eq!(rt; out.as_slice(), wanted.as_slice());
+        assert_same!(&rt; out.as_slice(), wanted.as_slice());
         let mut out = Vec::new(rt.alloc());
         put_all(Text::<Vec<u8>, 64>::new(&mut out), letters)?;
-        assert_eq!(rt; out.as_slice(), wanted.as_slice());
+        assert_same!(&rt; out.as_slice(), wanted.as_slice());
     }
     Ok(())
 }
@@ -94,7 +98,7 @@ fn strings_stand_between_what_is_around_them(rt: HostRuntime) -> std::result::Re
             let mut text = Text::<Vec<u8>, 48>::new(&mut out);
             text.put_string(b"{\"", &string, b"\":");
             text.finish()?;
-            assert_eq!(rt; out.as_slice(), wanted.as_slice());
+            assert_same!(&rt; out.as_slice(), wanted.as_slice());
         }
     }
     Ok(())
@@ -121,16 +125,16 @@ fn assert_static(
     let wanted = wanted.as_slice();
     let mut out = Vec::new(alloc);
     put_one(Text::<Vec<u8>, 1>::new(&mut out), value)?;
-    assert_eq!(rt; out.as_slice(), wanted);
+    assert_same!(rt; out.as_slice(), wanted);
     let mut out = Vec::new(alloc);
     put_one(Text::<Vec<u8>, 33>::new(&mut out), value)?;
-    assert_eq!(rt; out.as_slice(), wanted);
+    assert_same!(rt; out.as_slice(), wanted);
     let mut out = Vec::new(alloc);
     put_one(Text::<Vec<u8>, 34>::new(&mut out), value)?;
-    assert_eq!(rt; out.as_slice(), wanted);
+    assert_same!(rt; out.as_slice(), wanted);
     let mut out = Vec::new(alloc);
     put_one(Text::<Vec<u8>, 64>::new(&mut out), value)?;
-    assert_eq!(rt; out.as_slice(), wanted);
+    assert_same!(rt; out.as_slice(), wanted);
     Ok(())
 }
 
@@ -212,16 +216,13 @@ fn a_writer_that_fails_is_called_no_more(rt: HostRuntime) {
             text.put_between(b"", b"", b"");
         }
         let fault = text.finish().err();
-        assert_eq!(rt;
-            fault.map(|fault| fault.kind()),
-            Some(ErrorKind::Interrupted)
-        );
-        assert_eq!(rt; writer.calls, 1);
+        assert_same!(&rt; fault.map(|fault| fault.kind()), Some(ErrorKind::Interrupted));
+        assert_same!(&rt; writer.calls, 1);
     }
     let mut writer = Once { calls: 0 };
     let mut text = Text::<Once, 16>::new(&mut writer);
     text.put(b"few");
-    assert!(rt; !text.has_failed());
-    assert!(rt; text.finish().is_err());
-    assert_eq!(rt; writer.calls, 1);
+    assert_that!(&rt; !text.has_failed());
+    assert_that!(&rt; text.finish().is_err());
+    assert_same!(&rt; writer.calls, 1);
 }

@@ -1,5 +1,5 @@
 // What accessors and comparisons answer: the ends of each width, and each kind beside the others.
-use crate::tests::Tested;
+use crate::tests::{Tested, array_len, object_len};
 use simd_json::tape::{Array, Object, Value};
 use simd_json::{Node, StaticNode, TryTypeError, ValueType, to_tape};
 use std::process::Abort;
@@ -26,8 +26,27 @@ const EXPECTED: [ValueType; 11] = [
 
 const NONE: Each = [None; 11];
 
+// The number as the widest one with a sign. Here and below a call takes the place of `map` with a function, since
+// it is proved in less time.
+fn widened<T: Drop>(number: Option<T>) -> Option<i128>
+where
+    i128: From<T>,
+{
+    match number {
+        Some(number) => Some(i128::from(number)),
+        None => None,
+    }
+}
+
 fn of_usize(number: usize) -> i128 {
     i128::from(number as u64)
+}
+
+fn widened_usize(number: Option<usize>) -> Option<i128> {
+    match number {
+        Some(number) => Some(of_usize(number)),
+        None => None,
+    }
 }
 
 // The number, or -1 for one that is past `i128`.
@@ -35,49 +54,80 @@ fn of_u128(number: u128) -> i128 {
     i128::try_from(number).unwrap_or(-1)
 }
 
+fn narrowed(number: Option<u128>) -> Option<i128> {
+    match number {
+        Some(number) => Some(of_u128(number)),
+        None => None,
+    }
+}
+
+fn tried<T: Drop>(
+    number: std::result::Result<T, TryTypeError>,
+) -> std::result::Result<i128, TryTypeError>
+where
+    i128: From<T>,
+{
+    match number {
+        Ok(number) => Ok(i128::from(number)),
+        Err(refusal) => Err(refusal),
+    }
+}
+
+fn tried_keyed<T: Drop>(
+    number: std::result::Result<Option<T>, TryTypeError>,
+) -> std::result::Result<Option<i128>, TryTypeError>
+where
+    i128: From<T>,
+{
+    match number {
+        Ok(number) => Ok(widened(number)),
+        Err(refusal) => Err(refusal),
+    }
+}
+
 fn as_each(value: &Value<'_, '_>) -> Each {
     [
-        value.as_i8().map(i128::from),
-        value.as_i16().map(i128::from),
-        value.as_i32().map(i128::from),
-        value.as_i64().map(i128::from),
+        widened(value.as_i8()),
+        widened(value.as_i16()),
+        widened(value.as_i32()),
+        widened(value.as_i64()),
         value.as_i128(),
-        value.as_u8().map(i128::from),
-        value.as_u16().map(i128::from),
-        value.as_u32().map(i128::from),
-        value.as_u64().map(i128::from),
-        value.as_u128().map(of_u128),
-        value.as_usize().map(of_usize),
+        widened(value.as_u8()),
+        widened(value.as_u16()),
+        widened(value.as_u32()),
+        widened(value.as_u64()),
+        narrowed(value.as_u128()),
+        widened_usize(value.as_usize()),
     ]
 }
 
 fn get_each(value: &Value<'_, '_>, k: &str) -> Each {
     [
-        value.get_i8(k).map(i128::from),
-        value.get_i16(k).map(i128::from),
-        value.get_i32(k).map(i128::from),
-        value.get_i64(k).map(i128::from),
+        widened(value.get_i8(k)),
+        widened(value.get_i16(k)),
+        widened(value.get_i32(k)),
+        widened(value.get_i64(k)),
         value.get_i128(k),
-        value.get_u8(k).map(i128::from),
-        value.get_u16(k).map(i128::from),
-        value.get_u32(k).map(i128::from),
-        value.get_u64(k).map(i128::from),
-        value.get_u128(k).map(of_u128),
-        value.get_usize(k).map(of_usize),
+        widened(value.get_u8(k)),
+        widened(value.get_u16(k)),
+        widened(value.get_u32(k)),
+        widened(value.get_u64(k)),
+        narrowed(value.get_u128(k)),
+        widened_usize(value.get_usize(k)),
     ]
 }
 
 fn try_as_each(value: &Value<'_, '_>) -> TriedEach<i128> {
     [
-        value.try_as_i8().map(i128::from),
-        value.try_as_i16().map(i128::from),
-        value.try_as_i32().map(i128::from),
-        value.try_as_i64().map(i128::from),
+        tried(value.try_as_i8()),
+        tried(value.try_as_i16()),
+        tried(value.try_as_i32()),
+        tried(value.try_as_i64()),
         value.try_as_i128(),
-        value.try_as_u8().map(i128::from),
-        value.try_as_u16().map(i128::from),
-        value.try_as_u32().map(i128::from),
-        value.try_as_u64().map(i128::from),
+        tried(value.try_as_u8()),
+        tried(value.try_as_u16()),
+        tried(value.try_as_u32()),
+        tried(value.try_as_u64()),
         value.try_as_u128().map(of_u128),
         value.try_as_usize().map(of_usize),
     ]
@@ -85,17 +135,17 @@ fn try_as_each(value: &Value<'_, '_>) -> TriedEach<i128> {
 
 fn try_get_each(value: &Value<'_, '_>, k: &str) -> TriedEach<Option<i128>> {
     [
-        value.try_get_i8(k).map(|n| n.map(i128::from)),
-        value.try_get_i16(k).map(|n| n.map(i128::from)),
-        value.try_get_i32(k).map(|n| n.map(i128::from)),
-        value.try_get_i64(k).map(|n| n.map(i128::from)),
+        tried_keyed(value.try_get_i8(k)),
+        tried_keyed(value.try_get_i16(k)),
+        tried_keyed(value.try_get_i32(k)),
+        tried_keyed(value.try_get_i64(k)),
         value.try_get_i128(k),
-        value.try_get_u8(k).map(|n| n.map(i128::from)),
-        value.try_get_u16(k).map(|n| n.map(i128::from)),
-        value.try_get_u32(k).map(|n| n.map(i128::from)),
-        value.try_get_u64(k).map(|n| n.map(i128::from)),
-        value.try_get_u128(k).map(|n| n.map(of_u128)),
-        value.try_get_usize(k).map(|n| n.map(of_usize)),
+        tried_keyed(value.try_get_u8(k)),
+        tried_keyed(value.try_get_u16(k)),
+        tried_keyed(value.try_get_u32(k)),
+        tried_keyed(value.try_get_u64(k)),
+        value.try_get_u128(k).map(narrowed),
+        value.try_get_usize(k).map(widened_usize),
     ]
 }
 
@@ -125,9 +175,9 @@ fn assert_each(
     wanted: &Each,
 ) {
     let value = document.get(k).expect(rt, "it is there");
-    assert_eq!(rt; value.value_type(), got, "{k}");
-    assert_eq!(rt; as_each(&value), *wanted, "{k}");
-    assert_eq!(rt; get_each(document, k), *wanted, "{k}");
+    assert_same!(rt; value.value_type(), got, k);
+    assert_same!(rt; as_each(&value), *wanted, k);
+    assert_same!(rt; get_each(document, k), *wanted, k);
     let tried = try_as_each(&value);
     let tried_keyed = try_get_each(document, k);
     for (i, expected) in EXPECTED.iter().enumerate() {
@@ -136,21 +186,21 @@ fn assert_each(
             got,
         };
         let answer = wanted[i].ok_or(refusal);
-        assert_eq!(rt; tried[i], answer, "{k}");
-        assert_eq!(rt; tried_keyed[i], answer.map(Some), "{k}");
+        assert_same!(rt; tried[i], answer, k);
+        assert_same!(rt; tried_keyed[i], answer.map(Some), k);
     }
 }
 
 // Where the key is missing, and where there is no object.
 fn assert_missing(rt: &impl Abort, document: &Value<'_, '_>, member: &Value<'_, '_>) {
-    assert_eq!(rt; get_each(document, "missing"), NONE);
-    assert_eq!(rt; try_get_each(document, "missing"), [Ok(None); 11]);
+    assert_same!(rt; get_each(document, "missing"), NONE);
+    assert_same!(rt; try_get_each(document, "missing"), [Ok(None); 11]);
     let refusal = TryTypeError {
         expected: ValueType::Object,
         got: member.value_type(),
     };
-    assert_eq!(rt; get_each(member, "k"), NONE);
-    assert_eq!(rt; try_get_each(member, "k"), [Err(refusal); 11]);
+    assert_same!(rt; get_each(member, "k"), NONE);
+    assert_same!(rt; try_get_each(member, "k"), [Err(refusal); 11]);
 }
 
 // The number, where there are at least as many bits as it takes.
@@ -244,7 +294,7 @@ fn assert_integer(rt: &(impl AllocGlobal + Abort), row: &Integer) -> Tested {
 fn assert_equal_to(rt: &impl Abort, value: &Value<'_, '_>, number: i128, wanted: &Each) {
     for other in [number, number.wrapping_sub(1), number & 0xff] {
         let is_equal = wanted.map(|fits| fits == Some(other));
-        assert_eq!(rt; eq_each(value, other), is_equal, "{number} {other}");
+        assert_same!(rt; eq_each(value, other), is_equal, (number, other));
     }
 }
 
@@ -305,15 +355,12 @@ fn assert_long_integer(rt: &(impl AllocGlobal + Abort), row: &LongInteger) -> Te
     let document = tape.as_value();
     let mut wanted = NONE;
     wanted[4] = signed;
-    wanted[9] = unsigned.map(of_u128);
+    wanted[9] = narrowed(unsigned);
     assert_each(rt, &document, "k", kind, &wanted);
-    assert_eq!(rt; document.get_u128("k"), unsigned);
-    assert_eq!(rt; document.try_get_u128("k").ok(), unsigned.map(Some));
+    assert_same!(rt; document.get_u128("k"), unsigned);
+    assert_same!(rt; document.try_get_u128("k").ok(), unsigned.map(Some));
     let value = document.get("k").expect(rt, "it is there");
-    assert_eq!(rt;
-        (value.as_u128(), value.try_as_u128().ok()),
-        (unsigned, unsigned)
-    );
+    assert_same!(rt; (value.as_u128(), value.try_as_u128().ok()), (unsigned, unsigned));
     assert_equal_to_signed(rt, &value, signed);
     assert_equal_to_unsigned(rt, &value, unsigned);
     Ok(())
@@ -325,13 +372,13 @@ const UNSIGNED: [u128; 3] = [1 << 64, 1 << 127, u128::MAX];
 
 fn assert_equal_to_signed(rt: &impl Abort, value: &Value<'_, '_>, number: Option<i128>) {
     for other in &SIGNED {
-        assert_eq!(rt; value.eq_i128(*other), number == Some(*other));
+        assert_same!(rt; value.eq_i128(*other), number == Some(*other));
     }
 }
 
 fn assert_equal_to_unsigned(rt: &impl Abort, value: &Value<'_, '_>, number: Option<u128>) {
     for other in &UNSIGNED {
-        assert_eq!(rt; value.eq_u128(*other), number == Some(*other));
+        assert_same!(rt; value.eq_u128(*other), number == Some(*other));
     }
 }
 
@@ -360,87 +407,95 @@ fn own<T: Drop>(
 fn assert_words(rt: &impl Abort, document: &Value<'_, '_>, k: &str, got: ValueType) {
     let value = document.get(k).expect(rt, "it is there");
     let null = own(ValueType::Null, got, ());
-    assert_eq!(rt; (value.as_null(), value.try_as_null()), (null.ok(), null));
-    assert_eq!(rt; value.eq_null(), null.is_ok());
+    assert_same!(rt; (value.as_null(), value.try_as_null()), (null.ok(), null));
+    assert_same!(rt; value.eq_null(), null.is_ok());
     let truth = own(ValueType::Bool, got, true);
-    assert_eq!(rt; (value.as_bool(), value.try_as_bool()), (truth.ok(), truth));
-    assert_eq!(rt; document.get_bool(k), truth.ok());
-    assert_eq!(rt; document.try_get_bool(k), truth.map(Some));
-    assert_eq!(rt;
-        (value.eq_bool(true), value.eq_bool(false)),
-        (truth.is_ok(), false)
-    );
+    assert_same!(rt; (value.as_bool(), value.try_as_bool()), (truth.ok(), truth));
+    assert_same!(rt; document.get_bool(k), truth.ok());
+    assert_same!(rt; document.try_get_bool(k), truth.map(Some));
+    assert_same!(rt; (value.eq_bool(true), value.eq_bool(false)), (truth.is_ok(), false));
 }
 
 // What those of strings answer.
 fn assert_strings(rt: &impl Abort, document: &Value<'_, '_>, k: &str, got: ValueType) {
     let value = document.get(k).expect(rt, "it is there");
     let string = own(ValueType::String, got, "a\n");
-    assert_eq!(rt; (value.as_str(), value.try_as_str()), (string.ok(), string));
-    assert_eq!(rt; value.into_string(), string.ok());
-    assert_eq!(rt; value.try_into_string(), string);
-    assert_eq!(rt; document.get_str(k), string.ok());
-    assert_eq!(rt; document.try_get_str(k), string.map(Some));
-    assert_eq!(rt;
-        (value.eq_str("a\n"), value.eq_str("a")),
-        (string.is_ok(), false)
-    );
+    assert_same!(rt; (value.as_str(), value.try_as_str()), (string.ok(), string));
+    assert_same!(rt; value.into_string(), string.ok());
+    assert_same!(rt; value.try_into_string(), string);
+    assert_same!(rt; document.get_str(k), string.ok());
+    assert_same!(rt; document.try_get_str(k), string.map(Some));
+    assert_same!(rt; (value.eq_str("a\n"), value.eq_str("a")), (string.is_ok(), false));
 }
 
 // What those of decimals answer.
 fn assert_decimals(rt: &impl Abort, document: &Value<'_, '_>, k: &str, got: ValueType) {
     let value = document.get(k).expect(rt, "it is there");
     let decimal = own(ValueType::Decimal, got, "1.50");
-    assert_eq!(rt;
-        (value.as_decimal(), value.try_as_decimal()),
-        (decimal.ok(), decimal)
-    );
-    assert_eq!(rt; document.get_decimal(k), decimal.ok());
-    assert_eq!(rt; document.try_get_decimal(k), decimal.map(Some));
+    assert_same!(rt; (value.as_decimal(), value.try_as_decimal()), (decimal.ok(), decimal));
+    assert_same!(rt; document.get_decimal(k), decimal.ok());
+    assert_same!(rt; document.try_get_decimal(k), decimal.map(Some));
 }
 
-fn array_len(array: Array<'_, '_>) -> usize {
-    array.len()
+type Tried<T> = std::result::Result<T, TryTypeError>;
+
+fn tried_array_len(array: Tried<Array<'_, '_>>) -> Tried<usize> {
+    match array {
+        Ok(array) => Ok(array.len()),
+        Err(refusal) => Err(refusal),
+    }
 }
 
-fn object_len(object: Object<'_, '_>) -> usize {
-    object.len()
+fn keyed_array_len(array: Tried<Option<Array<'_, '_>>>) -> Tried<Option<usize>> {
+    match array {
+        Ok(array) => Ok(array_len(array)),
+        Err(refusal) => Err(refusal),
+    }
 }
 
-fn is_there(member: Option<Value<'_, '_>>) -> bool {
-    member.is_some()
+fn tried_object_len(object: Tried<Object<'_, '_>>) -> Tried<usize> {
+    match object {
+        Ok(object) => Ok(object.len()),
+        Err(refusal) => Err(refusal),
+    }
+}
+
+fn keyed_object_len(object: Tried<Option<Object<'_, '_>>>) -> Tried<Option<usize>> {
+    match object {
+        Ok(object) => Ok(object_len(object)),
+        Err(refusal) => Err(refusal),
+    }
+}
+
+fn is_there(member: Tried<Option<Value<'_, '_>>>) -> Tried<bool> {
+    match member {
+        Ok(member) => Ok(member.is_some()),
+        Err(refusal) => Err(refusal),
+    }
 }
 
 // What those of arrays answer: how many members there are.
 fn assert_arrays(rt: &impl Abort, document: &Value<'_, '_>, k: &str, got: ValueType) {
     let value = document.get(k).expect(rt, "it is there");
     let array = own(ValueType::Array, got, 1usize);
-    assert_eq!(rt; value.is_array(), array.is_ok());
-    assert_eq!(rt; value.as_array().map(array_len), array.ok());
-    assert_eq!(rt; value.into_array().map(array_len), array.ok());
-    assert_eq!(rt; value.try_as_array().map(array_len), array);
-    assert_eq!(rt; document.get_array(k).map(array_len), array.ok());
-    assert_eq!(rt;
-        document.try_get_array(k).map(|array| array.map(array_len)),
-        array.map(Some)
-    );
+    assert_same!(rt; value.is_array(), array.is_ok());
+    assert_same!(rt; array_len(value.as_array()), array.ok());
+    assert_same!(rt; array_len(value.into_array()), array.ok());
+    assert_same!(rt; tried_array_len(value.try_as_array()), array);
+    assert_same!(rt; array_len(document.get_array(k)), array.ok());
+    assert_same!(rt; keyed_array_len(document.try_get_array(k)), array.map(Some));
 }
 
 // What those of objects answer.
 fn assert_objects(rt: &impl Abort, document: &Value<'_, '_>, k: &str, got: ValueType) {
     let value = document.get(k).expect(rt, "it is there");
     let object = own(ValueType::Object, got, 2usize);
-    assert_eq!(rt; value.is_object(), object.is_ok());
-    assert_eq!(rt; value.as_object().map(object_len), object.ok());
-    assert_eq!(rt; value.into_object().map(object_len), object.ok());
-    assert_eq!(rt; value.try_as_object().map(object_len), object);
-    assert_eq!(rt; document.get_object(k).map(object_len), object.ok());
-    assert_eq!(rt;
-        document
-            .try_get_object(k)
-            .map(|object| object.map(object_len)),
-        object.map(Some)
-    );
+    assert_same!(rt; value.is_object(), object.is_ok());
+    assert_same!(rt; object_len(value.as_object()), object.ok());
+    assert_same!(rt; object_len(value.into_object()), object.ok());
+    assert_same!(rt; tried_object_len(value.try_as_object()), object);
+    assert_same!(rt; object_len(document.get_object(k)), object.ok());
+    assert_same!(rt; keyed_object_len(document.try_get_object(k)), object.map(Some));
 }
 
 #[test]
@@ -482,11 +537,8 @@ fn kinds_are_named(rt: HostRuntime) -> Tested {
         (StaticNode::U128(0), ValueType::U128, "U128"),
     ];
     for (scalar, kind, name) in &rows {
-        assert_eq!(rt;
-            (scalar.value_type(), Node::Static(*scalar).value_type()),
-            (*kind, *kind)
-        );
-        assert_eq!(rt; kind.to_string(rt.alloc())?.as_str(), *name);
+        assert_same!(&rt; (scalar.value_type(), Node::Static(*scalar).value_type()), (*kind, *kind));
+        assert_same!(&rt; kind.to_string(rt.alloc())?.as_str(), *name);
     }
     Ok(())
 }
@@ -501,14 +553,12 @@ fn the_first_value_with_a_key_is_asked(rt: HostRuntime) -> Tested {
         let mut read = Vec::from_slice(rt.alloc(), input)?;
         let tape = to_tape(rt.alloc(), read.as_mut_slice())?;
         let value = tape.as_value();
-        assert_eq!(rt; value.as_object().map(object_len), Some(len));
-        assert!(rt; value.get("a").is_some_and(|first| first.eq_u64(1)));
-        assert_eq!(rt; value.get_u8("a"), Some(1));
-        assert!(rt; value.get_array("a").is_none());
-        assert_eq!(rt;
-            value.try_get_array("a").map(|array| array.map(array_len)),
-            own(ValueType::Array, ValueType::U64, None)
-        );
+        assert_same!(&rt; object_len(value.as_object()), Some(len));
+        let first = value.get("a").expect(&rt, "it is there");
+        assert_that!(&rt; first.eq_u64(1));
+        assert_same!(&rt; value.get_u8("a"), Some(1));
+        assert_that!(&rt; value.get_array("a").is_none());
+        assert_same!(&rt; keyed_array_len(value.try_get_array("a")), own(ValueType::Array, ValueType::U64, None));
     }
     Ok(())
 }
@@ -519,27 +569,15 @@ fn missing_members_are_told_from_other_kinds(rt: HostRuntime) -> Tested {
     let mut input = *b"{\"a\":null,\"b\":[7]}";
     let tape = to_tape(rt.alloc(), &mut input)?;
     let object = tape.as_value();
-    assert_eq!(rt;
-        (object.get_str("c"), object.try_get_str("c")),
-        (None, Ok(None))
-    );
-    assert_eq!(rt; object.try_get("c").map(is_there), Ok(false));
-    assert_eq!(rt; object.try_get("a").map(is_there), Ok(true));
-    assert_eq!(rt;
-        object.try_get_idx(0).map(is_there),
-        own(ValueType::Array, ValueType::Object, false)
-    );
+    assert_same!(&rt; (object.get_str("c"), object.try_get_str("c")), (None, Ok(None)));
+    assert_same!(&rt; is_there(object.try_get("c")), Ok(false));
+    assert_same!(&rt; is_there(object.try_get("a")), Ok(true));
+    assert_same!(&rt; is_there(object.try_get_idx(0)), own(ValueType::Array, ValueType::Object, false));
     let array = object.get("b").expect(&rt, "it is there");
-    assert_eq!(rt; array.try_get_idx(1).map(is_there), Ok(false));
-    assert_eq!(rt; array.try_get_idx(0).map(is_there), Ok(true));
-    assert_eq!(rt;
-        array.try_get("a").map(is_there),
-        own(ValueType::Object, ValueType::Array, false)
-    );
-    assert_eq!(rt;
-        array.try_get_bool("a"),
-        own(ValueType::Object, ValueType::Array, None)
-    );
+    assert_same!(&rt; is_there(array.try_get_idx(1)), Ok(false));
+    assert_same!(&rt; is_there(array.try_get_idx(0)), Ok(true));
+    assert_same!(&rt; is_there(array.try_get("a")), own(ValueType::Object, ValueType::Array, false));
+    assert_same!(&rt; array.try_get_bool("a"), own(ValueType::Object, ValueType::Array, None));
     Ok(())
 }
 
@@ -562,8 +600,8 @@ fn assert_compared(rt: &(impl AllocGlobal + Abort), row: &Compared) -> Tested {
     let mut right = Vec::from_slice(rt.alloc(), right)?;
     let left = to_tape(rt.alloc(), left.as_mut_slice())?;
     let right = to_tape(rt.alloc(), right.as_mut_slice())?;
-    assert!(rt; !left.is_empty() && !right.is_empty());
-    assert_eq!(rt; left.as_value() == right.as_value(), same);
+    assert_that!(rt; !left.is_empty() && !right.is_empty());
+    assert_same!(rt; left.as_value() == right.as_value(), same);
     Ok(())
 }
 

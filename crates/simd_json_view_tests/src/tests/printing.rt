@@ -42,14 +42,14 @@ fn values_are_printed(rt: HostRuntime) -> Tested {
         let mut read = Vec::from_slice(rt.alloc(), input)?;
         let tape = to_tape(rt.alloc(), read.as_mut_slice())?;
         let value = tape.as_value();
-        assert_eq!(rt; value.encode(rt.alloc())?.as_str(), compact);
-        assert_eq!(rt; value.encode_pp(rt.alloc())?.as_str(), pretty);
+        assert_same!(&rt; value.encode(rt.alloc())?.as_str(), compact);
+        assert_same!(&rt; value.encode_pp(rt.alloc())?.as_str(), pretty);
         let mut written = Vec::new(rt.alloc());
         value.write(&mut written)?;
-        assert_eq!(rt; written.as_slice(), compact.as_bytes());
+        assert_same!(&rt; written.as_slice(), compact.as_bytes());
         written.clear();
         value.write_pp(&mut written)?;
-        assert_eq!(rt; written.as_slice(), pretty.as_bytes());
+        assert_same!(&rt; written.as_slice(), pretty.as_bytes());
     }
     Ok(())
 }
@@ -75,15 +75,15 @@ fn is_refused(
     };
     let is_refused = match text {
         Ok(text) => {
-            assert_eq!(rt; text.as_str(), whole);
+            assert_same!(rt; text.as_str(), whole);
             false
         }
         Err(e) => {
-            assert_eq!(rt; e, Error::generic(ErrorType::OutOfMemory));
+            assert_same!(rt; e, Error::generic(ErrorType::OutOfMemory));
             true
         }
     };
-    assert_eq!(rt; heap.used(), 0);
+    assert_same!(rt; heap.used(), 0);
     Ok(is_refused)
 }
 
@@ -99,7 +99,7 @@ fn each_growth_is_refused(rt: HostRuntime) -> Tested {
                 refused = refused.saturating_add(1);
             }
         }
-        assert!(rt; refused > 0 && refused < 48, "{is_pretty}: {refused}");
+        assert_that!(&rt; refused > 0 && refused < 48, (is_pretty, refused));
     }
     Ok(())
 }
@@ -153,8 +153,8 @@ fn assert_ended(
     } else {
         Some(ErrorKind::WriteZero)
     };
-    assert_eq!(rt; written.err().map(|e| e.kind()), wanted, "{capacity}");
-    assert_eq!(rt; writer.taken.as_slice(), &text[..capacity.min(text.len())]);
+    assert_same!(rt; written.err().map(|e| e.kind()), wanted, capacity);
+    assert_same!(rt; writer.taken.as_slice(), &text[..capacity.min(text.len())]);
 }
 
 const COMPACT: &[u8] = b"{\"a\":[1,\"x\"]}";

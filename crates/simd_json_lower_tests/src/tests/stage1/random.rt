@@ -56,14 +56,10 @@ fn agree(
         let slowly = found_slowly(rt.alloc(), &text, 0);
         match (found, slowly) {
             (Ok(found), Ok(slowly)) => {
-                assert_eq!(rt;
-                    found,
-                    (slowly.0.as_slice(), slowly.1.as_slice()),
-                    "{text:?}"
-                );
+                assert_same!(rt; found, (slowly.0.as_slice(), slowly.1.as_slice()), text);
             }
-            (Err(found), Err(slowly)) => assert_eq!(rt; found, slowly, "{text:?}"),
-            _ => assert!(rt; false, "{text:?}"),
+            (Err(found), Err(slowly)) => assert_same!(rt; found, slowly, text),
+            _ => assert_that!(rt; false, text),
         }
     }
     Ok(())
