@@ -8,7 +8,7 @@ set -eu
 cd "$(dirname "$0")/.."
 OUT=$PWD/build/bench
 ROUNDS=${ROUNDS:-11}
-PLACEMENTS=${PLACEMENTS:-3}
+PLACEMENTS=${PLACEMENTS:-4}
 KIT=$(dirname "$(dirname "$(readlink -f "$(command -v rt)")")")
 mkdir -p "$OUT"
 
