@@ -42,9 +42,9 @@ library: has-rt
 # Every proof from nothing, the must-fail edits, the tests and the programs. Its last line is 'N passed, M failed'. After it the
 # programs that it built are run on inputs of which the lines and the status are known, the counts of lines in DESIGN.md are
 # compared with the files, and the library is called from C and Python; all are silent where all is well.
-# One check more runs at a time than there are processors, since each also waits for files, where each has 3 GB of memory,
-# more than the largest takes. Left to itself `rt ci` reserves 7.5 GB for a check of `simd_json`, and lets it wait behind
-# small ones.
+# One check more than there are processors runs at a time, since each also waits for files, as far as there are 3 GB of
+# memory for each, more than the largest takes. Left to itself `rt ci` reserves 7.5 GB for a check of `simd_json`, and lets
+# it wait behind small ones.
 test: has-rt
 	RT_JOBS=$$(awk -v n="$$(nproc)" '/^MemAvailable/ { m = int($$2 / 3000000); n += 1; print (m > n ? n : m > 1 ? m : 1) }' /proc/meminfo) \
 	rt ci && sh tests/statuses.sh && sh tests/places.sh && sh tests/counts.sh && sh tests/c.sh
