@@ -7,7 +7,7 @@ use simd_json_parts::error::{Error, ErrorType};
 
 // A token that is refused: its index, its first byte and the kind of the fault. It is small, so that the
 // steps hand it back cheaply.
-#[derive(Clone, Copy, Debug, Drop)]
+#[derive(Clone, Copy, Drop)]
 pub(crate) struct Fault {
     pub(crate) index: usize,
     pub(crate) byte: u8,
@@ -41,7 +41,7 @@ impl Fault {
 }
 
 // The kinds of token faults.
-#[derive(Clone, Copy, Debug, Drop)]
+#[derive(Clone, Copy, Drop)]
 pub(crate) enum FaultKind {
     InternalError,
     ExpectedArrayContent,

@@ -39,7 +39,7 @@ impl Route<'_> {
 // The index and the first byte of the last token, what the innermost open container is, how many positions are
 // read, how many containers are open, and how many members the innermost has. It
 // begins as a fault does, so that a result which holds either one keeps it in the same registers.
-#[derive(Clone, Copy, Debug, Drop)]
+#[derive(Clone, Copy, Drop)]
 pub(crate) struct Progress {
     pub(crate) at: usize,
     pub(crate) byte: u8,
@@ -124,14 +124,14 @@ impl Progress {
 }
 
 // After a value's first token: inside a new container, before its first member, or past a complete value.
-#[derive(Clone, Copy, Debug, Drop)]
+#[derive(Clone, Copy, Drop)]
 pub(super) enum Value {
     Opened(Progress),
     Read(Progress),
 }
 
 // What follows a member: another one, or the end of its container.
-#[derive(Clone, Copy, Debug, Drop)]
+#[derive(Clone, Copy, Drop)]
 pub(super) enum Following {
     Next(Progress),
     Closed(Progress),
@@ -139,7 +139,7 @@ pub(super) enum Following {
 
 // What the machine goes on with: a member of the innermost container, where in an object a fault of this kind is
 // reported if it has no key, or nothing, at the end of the root.
-#[derive(Clone, Copy, Debug, Drop)]
+#[derive(Clone, Copy, Drop)]
 pub(super) enum Member {
     Next(Progress, FaultKind),
     End,

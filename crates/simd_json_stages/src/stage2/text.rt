@@ -227,7 +227,7 @@ impl<'m, 'de> Text<'m, 'de> {
 
 // A walk along the backslashes, beside the walk through the input: from where it is up to `mark` there is
 // none.
-#[derive(Clone, Copy, Debug, Drop)]
+#[derive(Clone, Copy, Drop)]
 pub(crate) struct Escapes<'a> {
     pub(crate) blocks: &'a [u32],
     pub(crate) next: usize,
