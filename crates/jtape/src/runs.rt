@@ -3,7 +3,7 @@ ghost use Rattle.std.specs.Prelude.{◌≡◌, ◌≢◌, ◌↔◌, ◌⊎◌, 
 ghost use Rattle.std.specs.Prelude.{true, false, IfOk, IfErr, OnOk, Err};
 ghost use Rattle.std.specs.Io.KnownBytes.{Consumes, IsAtEnd, Keeps};
 ghost use Rattle.jtape.specs.Failures.{status_of};
-ghost use Rattle.jtape.specs.Runs.{HasRun, HasBegun, HasStopped, IsReadFault, OnAnswer, lacks_memory};
+ghost use Rattle.jtape.specs.Runs.{HasRead, HasRun, HasBegun, HasStopped, IsReadFault, OnAnswer, lacks_memory};
 ghost use Rattle.jtape.specs.declared.runs.RunFault.TheVariants as faults;
 ghost use Rattle.jtape.specs.declared.words.Mode.TheVariants as modes;
 
@@ -155,8 +155,8 @@ fn read_all<R: Read, A: Allocator>(a: A, reader: &mut Port<R>) -> Result<Vec<u8,
     requires sound { reader.old.failed ≡ false }
     requires going { reader.old.ended ≡ false }
     ensures all { IfOk result (λ input.
-        Consumes (R.remaining reader.old.inner) (R.remaining reader.new.inner) input.items
-        × IsAtEnd (R.remaining reader.new.inner) × (reader.new.ended ≡ true) × (reader.new.failed ≡ false)) }
+        HasRead (R.remaining reader.old.inner) (R.remaining reader.new.inner) input.items
+        × (reader.new.ended ≡ true) × (reader.new.failed ≡ false)) }
     ensures fault { IfErr result (IsReadFault reader.new.failed) }
 {
     let mut input = Vec::new(a);
