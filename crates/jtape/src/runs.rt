@@ -98,12 +98,12 @@ pub fn status(answer: &Answer) -> u8
 /// the text of all pieces before it was written, and nothing else.
 ///
 /// ```
-/// use jtape::{Mode, Port, run, status};
+/// use jtape::{Layout, Mode, Port, run, status};
 ///
 /// fn pretty(rt: &impl AllocGlobal, json: &[u8]) -> (u8, Vec<u8>) {
 ///     let mut reader = Port::new(json);
 ///     let mut writer = Port::new(Vec::new(rt.alloc()));
-///     let answer = run(rt.alloc(), Mode::Pretty, 1024, &mut reader, &mut writer);
+///     let answer = run(rt.alloc(), Mode::Document(Layout::Pretty), 1024, &mut reader, &mut writer);
 ///     (status(&answer), writer.into_inner())
 /// }
 /// ```
@@ -135,11 +135,11 @@ pub fn run<A: Allocator + Copy, R: Read, W: Write>(
 {
     let mut input = read_all(a, reader)?;
     match mode {
-        Mode::Lines => write_stream(a, depth, input.as_mut_slice(), writer),
-        _ => {
-            write_output(a, mode, depth, input.as_mut_slice(), writer)?;
+        Mode::Document(layout) => {
+            write_output(a, layout, depth, input.as_mut_slice(), writer)?;
             Ok(true)
         }
+        Mode::Lines => write_stream(a, depth, input.as_mut_slice(), writer),
     }
 }
 

@@ -6,9 +6,9 @@ ghost use Rattle.jtape.specs.Settings.{mode_of, number_of, settings_of};
 
 use simd_json::DEFAULT_MAX_DEPTH;
 
-/// What is printed.
+/// What is printed of a document.
 #[derive(Clone, Copy, Debug, Drop, PartialEq, Eq)]
-pub enum Mode {
+pub enum Layout {
     /// A line for each node of the tape.
     Tape,
     /// A line for each structural position, in decimal.
@@ -17,6 +17,13 @@ pub enum Mode {
     Compact,
     /// The document with a line for each member, and a line feed.
     Pretty,
+}
+
+/// What the input is read as, and what is printed.
+#[derive(Clone, Copy, Debug, Drop, PartialEq, Eq)]
+pub enum Mode {
+    /// One document, in this layout.
+    Document(Layout),
     /// For each piece between line feeds that is not blank its document as by `Compact`, or a line that
     /// begins with `! ` and says its error.
     Lines,
@@ -39,10 +46,10 @@ fn mode_named(word: &str) -> Option<Mode>
     ensures { result ≡ mode_of word.now }
 {
     match word {
-        "tape" => Some(Mode::Tape),
-        "positions" => Some(Mode::Positions),
-        "compact" => Some(Mode::Compact),
-        "pretty" => Some(Mode::Pretty),
+        "tape" => Some(Mode::Document(Layout::Tape)),
+        "positions" => Some(Mode::Document(Layout::Positions)),
+        "compact" => Some(Mode::Document(Layout::Compact)),
+        "pretty" => Some(Mode::Document(Layout::Pretty)),
         "lines" => Some(Mode::Lines),
         _ => None,
     }
@@ -80,19 +87,22 @@ mod tests {
     #[test]
     fn words_are_understood(rt: HostRuntime) -> std::result::Result<(), Fail> {
         let rows: [(&[&str], Option<(Mode, usize)>); 23] = [
-            (&["tape"], Some((Mode::Tape, 1024))),
-            (&["positions"], Some((Mode::Positions, 1024))),
-            (&["compact"], Some((Mode::Compact, 1024))),
-            (&["pretty"], Some((Mode::Pretty, 1024))),
-            (&["pretty", "2"], Some((Mode::Pretty, 2))),
+            (&["tape"], Some((Mode::Document(Layout::Tape), 1024))),
+            (
+                &["positions"],
+                Some((Mode::Document(Layout::Positions), 1024)),
+            ),
+            (&["compact"], Some((Mode::Document(Layout::Compact), 1024))),
+            (&["pretty"], Some((Mode::Document(Layout::Pretty), 1024))),
+            (&["pretty", "2"], Some((Mode::Document(Layout::Pretty), 2))),
             (&["lines"], Some((Mode::Lines, 1024))),
             (&["lines", "3"], Some((Mode::Lines, 3))),
-            (&["tape", "8"], Some((Mode::Tape, 8))),
-            (&["tape", "007"], Some((Mode::Tape, 7))),
-            (&["tape", "0"], Some((Mode::Tape, 0))),
+            (&["tape", "8"], Some((Mode::Document(Layout::Tape), 8))),
+            (&["tape", "007"], Some((Mode::Document(Layout::Tape), 7))),
+            (&["tape", "0"], Some((Mode::Document(Layout::Tape), 0))),
             (
                 &["tape", "18446744073709551615"],
-                Some((Mode::Tape, usize::MAX)),
+                Some((Mode::Document(Layout::Tape), usize::MAX)),
             ),
             (&["tape", "18446744073709551616"], None),
             (&[], None),

@@ -1,4 +1,5 @@
 use super::*;
+use crate::words::Layout;
 use simd_json::DEFAULT_MAX_DEPTH;
 use std::test::Fail;
 
@@ -8,7 +9,12 @@ mod lines;
 
 type Tested = std::result::Result<(), Fail>;
 
-const MODES: [Mode; 4] = [Mode::Tape, Mode::Positions, Mode::Compact, Mode::Pretty];
+const MODES: [Mode; 4] = [
+    Mode::Document(Layout::Tape),
+    Mode::Document(Layout::Positions),
+    Mode::Document(Layout::Compact),
+    Mode::Document(Layout::Pretty),
+];
 
 // What a run over these bytes answers and writes.
 #[derive(Drop)]
@@ -75,7 +81,7 @@ fn documents_are_printed(rt: HostRuntime) {
         ),
     ];
     for (input, output) in rows {
-        let ran = run_over(&rt, Mode::Tape, input);
+        let ran = run_over(&rt, Mode::Document(Layout::Tape), input);
         assert_eq!(rt; ran.answer, Ok(true));
         assert!(rt; ran.has_ended);
         assert_eq!(rt; ran.written.as_slice(), output);
@@ -87,37 +93,41 @@ fn modes_have_their_form(rt: HostRuntime) {
     let spaced = b" { \"k\\u0009\" : [ -0 , 1E5 , \"\\u00e9\" ] , \"\" : {} } ".as_slice();
     let rows: [(Mode, &[u8], &[u8]); 8] = [
         (
-            Mode::Compact,
+            Mode::Document(Layout::Compact),
             spaced,
             b"{\"k\\t\":[0,1E5,\"\xc3\xa9\"],\"\":{}}\n",
         ),
         (
-            Mode::Pretty,
+            Mode::Document(Layout::Pretty),
             spaced,
             b"{\n  \"k\\t\": [\n    0,\n    1E5,\n    \"\xc3\xa9\"\n  ],\n  \"\": {}\n}\n",
         ),
         (
-            Mode::Positions,
+            Mode::Document(Layout::Positions),
             spaced,
             b"1\n3\n13\n15\n17\n20\n22\n26\n28\n37\n39\n41\n44\n46\n47\n49\n",
         ),
         (
-            Mode::Positions,
+            Mode::Document(Layout::Positions),
             b"{\"the_answer\": 42}",
             b"0\n1\n13\n15\n17\n",
         ),
         (
-            Mode::Compact,
+            Mode::Document(Layout::Compact),
             b"\"\\\"\\\\\\/\\b\\f\\n\\r\\t\\u0001\x7f\"",
             b"\"\\\"\\\\/\\b\\f\\n\\r\\t\\u0001\x7f\"\n",
         ),
-        (Mode::Compact, b"[{},[],true]", b"[{},[],true]\n"),
         (
-            Mode::Pretty,
+            Mode::Document(Layout::Compact),
+            b"[{},[],true]",
+            b"[{},[],true]\n",
+        ),
+        (
+            Mode::Document(Layout::Pretty),
             b"[{},[],true]",
             b"[\n  {},\n  [],\n  true\n]\n",
         ),
-        (Mode::Pretty, b"[]", b"[]\n"),
+        (Mode::Document(Layout::Pretty), b"[]", b"[]\n"),
     ];
     for (mode, input, output) in rows {
         let ran = run_over(&rt, mode, input);
@@ -136,12 +146,20 @@ fn nested(rt: &impl AllocGlobal, depth: usize) -> std::result::Result<Vec<u8>, F
 
 #[test]
 fn depth_is_limited(rt: HostRuntime) -> Tested {
-    let shallow = run_over(&rt, Mode::Tape, nested(&rt, 1024)?.as_slice());
+    let shallow = run_over(
+        &rt,
+        Mode::Document(Layout::Tape),
+        nested(&rt, 1024)?.as_slice(),
+    );
     assert_eq!(rt; status(&shallow.answer), 0);
     let first = b"Array 1 1023\nArray 1 1022\n";
     assert!(rt; shallow.written.starts_with(first));
     for depth in [1025, 1_000_000] {
-        let deep = run_over(&rt, Mode::Tape, nested(&rt, depth)?.as_slice());
+        let deep = run_over(
+            &rt,
+            Mode::Document(Layout::Tape),
+            nested(&rt, depth)?.as_slice(),
+        );
         assert_eq!(rt; status(&deep.answer), 1);
         assert_eq!(rt; deep.written.len(), 0);
     }
@@ -159,7 +177,7 @@ fn depth_is_as_asked(rt: HostRuntime) -> Tested {
         (2, b"[[]]", Some(b"Array 1 1\nArray 0 0\n"), ""),
     ];
     for (depth, input, lines, fault) in rows {
-        let ran = run_within(&rt, Mode::Tape, depth, input);
+        let ran = run_within(&rt, Mode::Document(Layout::Tape), depth, input);
         match (&ran.answer, lines) {
             (Ok(true), Some(lines)) => assert_eq!(rt; ran.written.as_slice(), lines),
             (Err(e), None) => {
@@ -169,7 +187,12 @@ fn depth_is_as_asked(rt: HostRuntime) -> Tested {
             _ => panic!(rt; "{input:?} within {depth}"),
         }
     }
-    let deep = run_within(&rt, Mode::Tape, 1025, nested(&rt, 1025)?.as_slice());
+    let deep = run_within(
+        &rt,
+        Mode::Document(Layout::Tape),
+        1025,
+        nested(&rt, 1025)?.as_slice(),
+    );
     assert_eq!(rt; status(&deep.answer), 0);
     Ok(())
 }

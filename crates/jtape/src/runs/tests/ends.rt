@@ -6,10 +6,10 @@ use std::io;
 use std::process::Abort;
 
 const ALL_MODES: [Mode; 5] = [
-    Mode::Tape,
-    Mode::Positions,
-    Mode::Compact,
-    Mode::Pretty,
+    Mode::Document(Layout::Tape),
+    Mode::Document(Layout::Positions),
+    Mode::Document(Layout::Compact),
+    Mode::Document(Layout::Pretty),
     Mode::Lines,
 ];
 
@@ -172,10 +172,10 @@ fn run_into(
 #[test]
 fn failing_writers_are_reported(rt: HostRuntime) {
     let rows: [(Mode, &[u8]); 5] = [
-        (Mode::Tape, b"Array 2 2\nU64 1\nU64 2\n"),
-        (Mode::Positions, b"0\n1\n2\n3\n4\n"),
-        (Mode::Compact, b"[1,2]\n"),
-        (Mode::Pretty, b"[\n  1,\n  2\n]\n"),
+        (Mode::Document(Layout::Tape), b"Array 2 2\nU64 1\nU64 2\n"),
+        (Mode::Document(Layout::Positions), b"0\n1\n2\n3\n4\n"),
+        (Mode::Document(Layout::Compact), b"[1,2]\n"),
+        (Mode::Document(Layout::Pretty), b"[\n  1,\n  2\n]\n"),
         (Mode::Lines, b"[1,2]\n"),
     ];
     for (mode, output) in rows {
@@ -257,7 +257,12 @@ fn a_megabyte_is_written_of_more(rt: HostRuntime) -> Tested {
     let mut input = Vec::from_slice(rt.alloc(), b"\"")?;
     input.resize(1_200_000, b'a')?;
     input.push(b'"')?;
-    for mode in [Mode::Tape, Mode::Compact, Mode::Pretty, Mode::Lines] {
+    for mode in [
+        Mode::Document(Layout::Tape),
+        Mode::Document(Layout::Compact),
+        Mode::Document(Layout::Pretty),
+        Mode::Lines,
+    ] {
         let mut reader = Port::new(input.as_slice());
         let mut writer = Port::new(Short {
             taken: Vec::new(rt.alloc()),
@@ -285,14 +290,18 @@ const LONG: &[u8] = b"[1,\"\\n\",[2,3,4],5,6,7,8,9,10,11,12,13,14,15,16,1.5]";
 fn each_growth_is_refused(rt: HostRuntime) -> Tested {
     let rows: [(Mode, &[u8], &[u8]); 4] = [
         (
-            Mode::Tape,
+            Mode::Document(Layout::Tape),
             b"Array 16 19\nU64 1\nString \"\\n\"\nArray 3 3\nU64 2\n",
             b"U64 16\nDecimal 1.5\n",
         ),
-        (Mode::Positions, b"0\n1\n2\n3\n7\n8\n9\n", b"\n46\n47\n50\n"),
-        (Mode::Compact, LONG, b",16,1.5]\n"),
         (
-            Mode::Pretty,
+            Mode::Document(Layout::Positions),
+            b"0\n1\n2\n3\n7\n8\n9\n",
+            b"\n46\n47\n50\n",
+        ),
+        (Mode::Document(Layout::Compact), LONG, b",16,1.5]\n"),
+        (
+            Mode::Document(Layout::Pretty),
             b"[\n  1,\n  \"\\n\",\n  [\n    2,\n    3,\n    4\n  ],\n  5,\n",
             b"\n  16,\n  1.5\n]\n",
         ),

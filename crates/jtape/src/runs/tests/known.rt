@@ -3,22 +3,22 @@ use super::*;
 use std::process::Abort;
 
 const ALL: &[Mode] = &[
-    Mode::Tape,
-    Mode::Positions,
-    Mode::Compact,
-    Mode::Pretty,
+    Mode::Document(Layout::Tape),
+    Mode::Document(Layout::Positions),
+    Mode::Document(Layout::Compact),
+    Mode::Document(Layout::Pretty),
     Mode::Lines,
 ];
 
 const DOCUMENT: &[Mode] = &MODES;
 
-const TAPE: &[Mode] = &[Mode::Tape];
+const TAPE: &[Mode] = &[Mode::Document(Layout::Tape)];
 
-const POSITIONS: &[Mode] = &[Mode::Positions];
+const POSITIONS: &[Mode] = &[Mode::Document(Layout::Positions)];
 
-const COMPACT: &[Mode] = &[Mode::Compact];
+const COMPACT: &[Mode] = &[Mode::Document(Layout::Compact)];
 
-const PRETTY: &[Mode] = &[Mode::Pretty];
+const PRETTY: &[Mode] = &[Mode::Document(Layout::Pretty)];
 
 const LINES: &[Mode] = &[Mode::Lines];
 
