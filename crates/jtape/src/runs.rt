@@ -196,6 +196,3 @@ fn read_more<R: Read, A: Allocator>(
         Err(_) => Err(RunFault::Read),
     }
 }
-
-#[cfg(test)]
-mod tests;
