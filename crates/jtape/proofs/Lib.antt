@@ -1,6 +1,6 @@
 mod NumberWords
 pub mod Given
-mod Modes
+mod Layouts
 mod Outputs
 pub mod Pieces
 mod Streams

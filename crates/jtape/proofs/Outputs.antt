@@ -5,7 +5,7 @@ use Rattle.std.specs.Io.KnownBytes.{Appends}
 use Rattle.jtape.specs.Output.{Output, document_output, output_of, printed, all_printed}
 use Rattle.jtape.specs.declared.runs.RunFault.{RunFault}
 use Rattle.jtape.specs.declared.runs.RunFault.TheVariants.{Write}
-use Rattle.jtape.specs.declared.words.Mode.{Mode}
+use Rattle.jtape.specs.declared.words.Layout.{Layout}
 use Rattle.simd_json.specs.Parsed.{IsParse}
 use Rattle.simd_json_parts.specs.Document.{Document}
 use Rattle.simd_json_parts.specs.Listing.{listing}
@@ -13,10 +13,10 @@ use Rattle.simd_json_parts.specs.Nodes.{Item}
 use Rattle.simd_json_parts.specs.Positions.{positions}
 
 -- of what is parsed
-pub parsed-output : (mode : Mode) (b : List ℕ) (limit capacity : ℕ) (nodes : List Item) (listed : List ℕ)
+pub parsed-output : (layout : Layout) (b : List ℕ) (limit capacity : ℕ) (nodes : List Item) (listed : List ℕ)
     → IsParse b limit capacity None nodes listed
-    → (d : Document) × (nodes ≡ listing d) × (listed ≡ positions b) × (document_output mode limit b ≡ all_printed (printed mode b d))
-parsed-output mode b limit capacity nodes listed p = (p.parsed.document, p.parsed.listed, p.found, ap (output_of mode b) p.parsed.answered)
+    → (d : Document) × (nodes ≡ listing d) × (listed ≡ positions b) × (document_output layout limit b ≡ all_printed (printed layout b d))
+parsed-output layout b limit capacity nodes listed p = (p.parsed.document, p.parsed.listed, p.found, ap (output_of layout b) p.parsed.answered)
 
 -- all of it is written
 pub all-written : {T E : Type 0} (r : Result T E) (P : Type 0) (a b : Option (List ℕ)) (bytes : List ℕ) (out : Output)

@@ -4,8 +4,10 @@ use Rattle.jtape.specs.Lines.{lines, number_lines}
 use Rattle.jtape.specs.Pieces.{pieces, pieces_text, all_clean}
 use Rattle.jtape.specs.declared.runs.RunFault.{RunFault}
 use Rattle.jtape.specs.declared.runs.RunFault.TheVariants.{Refused}
+use Rattle.jtape.specs.declared.words.Layout.{Layout}
+use Rattle.jtape.specs.declared.words.Layout.TheVariants.{Tape, Positions, Compact, Pretty}
 use Rattle.jtape.specs.declared.words.Mode.{Mode}
-use Rattle.jtape.specs.declared.words.Mode.TheVariants.{Tape, Positions, Compact, Pretty, Lines}
+use Rattle.jtape.specs.declared.words.Mode.TheVariants as modes
 use Rattle.simd_json_parts.specs.Answer.{answer}
 use Rattle.simd_json_parts.specs.Bytes.{line_feed}
 use Rattle.simd_json_parts.specs.Document.{Document}
@@ -19,13 +21,12 @@ pub record Output : Type 0 where
   pub bytes : List ℕ
   pub returned : Result Bool RunFault
 
--- what the mode prints of an input that is this document; in mode `lines`, of a piece that is
-abbrev pub printed : Mode → List ℕ → Document → List ℕ
+-- what is printed of an input that is this document
+abbrev pub printed : Layout → List ℕ → Document → List ℕ
 printed Tape input d = lines (listing d)
 printed Positions input d = number_lines (positions input)
 printed Compact input d = compact d ++ line_feed ∷ []
 printed Pretty input d = pretty d ++ line_feed ∷ []
-printed Lines input d = compact d ++ line_feed ∷ []
 
 abbrev pub all_printed : List ℕ → Output
 all_printed bytes = record { bytes = bytes; returned = Ok true }
@@ -34,21 +35,18 @@ all_printed bytes = record { bytes = bytes; returned = Ok true }
 abbrev pub nothing_printed : RunFault → Output
 nothing_printed fault = record { bytes = []; returned = Err fault }
 
-abbrev pub output_of : Mode → List ℕ → Result Document Error → Output
-output_of mode input (Ok d) = all_printed (printed mode input d)
-output_of mode input (Err e) = nothing_printed (Refused e)
+abbrev pub output_of : Layout → List ℕ → Result Document Error → Output
+output_of layout input (Ok d) = all_printed (printed layout input d)
+output_of layout input (Err e) = nothing_printed (Refused e)
 
 -- of an input that is read as one document, with at most so many containers open at a time
-abbrev pub document_output : Mode → ℕ → List ℕ → Output
-document_output mode depth input = output_of mode input (answer input depth)
+abbrev pub document_output : Layout → ℕ → List ℕ → Output
+document_output layout depth input = output_of layout input (answer input depth)
 
 -- of an input of many pieces, each with at most so many open; `true` is returned where each is blank or a document
 abbrev pub stream_output : ℕ → List ℕ → Output
 stream_output depth input = record { bytes = pieces_text depth (pieces input); returned = Ok (all_clean depth (pieces input)) }
 
 abbrev pub output : Mode → ℕ → List ℕ → Output
-output Tape depth input = document_output Tape depth input
-output Positions depth input = document_output Positions depth input
-output Compact depth input = document_output Compact depth input
-output Pretty depth input = document_output Pretty depth input
-output Lines depth input = stream_output depth input
+output (modes.Document layout) depth input = document_output layout depth input
+output modes.Lines depth input = stream_output depth input

@@ -12,20 +12,22 @@ use Rattle.simd_json_parts.specs.declared.error.ErrorType.TheVariants.{OutOfMemo
 abbrev pub lacks_memory : RunFault
 lacks_memory = Refused (whole_fault OutOfMemory)
 
--- Of a reader with these bytes left before and after, and a writer that held and holds these: the reader was read to its
--- end, and the output of what it gave was written and returned.
+-- a reader with these bytes left before and after was read to its end, and gave this input
+pub record HasRead (before after : Option (List ℕ)) (input : List ℕ) : Type 0 where
+  pub given : Consumes before after input
+  pub end : IsAtEnd after
+
+-- Of such a reader, and a writer that held and holds these: the output of the input was written and returned.
 pub record HasRun (mode : Mode) (depth : ℕ) (before after held holds : Option (List ℕ)) (result : Result Bool RunFault) : Type 0 where
   pub input : List ℕ
-  pub read : Consumes before after input
-  pub end : IsAtEnd after
+  pub read : HasRead before after input
   pub written : Appends held holds (output mode depth input).bytes
   pub returned : result ≡ (output mode depth input).returned
 
 -- likewise, where the writer failed: a beginning of that output was written
 pub record HasBegun (mode : Mode) (depth : ℕ) (before after held holds : Option (List ℕ)) : Type 0 where
   pub input : List ℕ
-  pub read : Consumes before after input
-  pub end : IsAtEnd after
+  pub read : HasRead before after input
   pub count : ℕ
   pub written : Appends held holds (take count (output mode depth input).bytes)
 
@@ -40,8 +42,7 @@ pub record HasWritten (depth : ℕ) (input : List ℕ) (held holds : Option (Lis
 -- in mode `lines`, where an allocation failed at a piece
 pub record HasStopped (depth : ℕ) (before after held holds : Option (List ℕ)) : Type 0 where
   pub input : List ℕ
-  pub read : Consumes before after input
-  pub end : IsAtEnd after
+  pub read : HasRead before after input
   pub written : HasWritten depth input held holds
 
 -- what is returned is for want of memory, or by P; nothing is asked where the reader or the writer failed

@@ -13,7 +13,7 @@ use crate::lines::put_lines;
 use crate::port::Port;
 use crate::positions::put_positions;
 use crate::runs::RunFault;
-use crate::words::Mode;
+use crate::words::Layout;
 use simd_json::{Buffers, Node, to_tape_with_buffers};
 use simd_json_print::document::{put_compact, put_pretty};
 use simd_json_print::text::Text;
@@ -23,38 +23,38 @@ use std::io::Write;
 // How many bytes are collected for the writer.
 pub(crate) const PIECE: usize = 65_536;
 
-// Writes what the mode asks for of an input that is read as one document, or a beginning of it where the
+// Writes what the layout shows of an input that is read as one document, or a beginning of it where the
 // writer fails. All memory is taken before the first byte is written, so that nothing is written where an
 // allocation fails.
 pub(crate) fn write_output<A: Allocator + Copy, W: Write>(
     a: A,
-    mode: Mode,
+    layout: Layout,
     depth: usize,
     input: &mut [u8],
     writer: &mut Port<W>,
 ) -> Result<(), RunFault>
     requires { writer.old.failed ≡ false }
     ensures all { OnOk result ((writer.new.failed ≡ false)
-        × ((document_output mode depth input.old).returned ≡ Ok true)
+        × ((document_output layout depth input.old).returned ≡ Ok true)
         × Appends (W.contents writer.old.inner) (W.contents writer.new.inner)
-        (document_output mode depth input.old).bytes) }
+        (document_output layout depth input.old).bytes) }
     ensures refused { IfErr result (λ fault. fault ≢ faults.Write → (writer.new ≡ writer.old)
-        × ((fault ≡ lacks_memory) ⊎ (document_output mode depth input.old ≡ nothing_printed fault))) }
+        × ((fault ≡ lacks_memory) ⊎ (document_output layout depth input.old ≡ nothing_printed fault))) }
     ensures begun { IfErr result (λ fault. fault ≡ faults.Write → (writer.new.failed ≡ true)
         × ((count : ℕ) × Appends (W.contents writer.old.inner) (W.contents writer.new.inner)
-        (take count (document_output mode depth input.old).bytes))) }
+        (take count (document_output layout depth input.old).bytes))) }
 {
     let mut buffers = Buffers::with_max_depth(a, 0, depth)?;
     let tape = to_tape_with_buffers(input, &mut buffers)?;
-    print(writer, mode, tape.nodes(), buffers.structural_indexes())
+    print(writer, layout, tape.nodes(), buffers.structural_indexes())
 }
 
-// Writes what the mode asks for of a document, from its nodes and from the positions of its bytes. It stands
+// Writes what the layout shows of a document, from its nodes and from the positions of its bytes. It stands
 // apart, since the parse is slower where both are compiled as one function.
 #[inline(never)]
 fn print<W: Write>(
     writer: &mut Port<W>,
-    mode: Mode,
+    layout: Layout,
     nodes: &[Node<'_>],
     structural_indexes: &[u32],
 ) -> Result<(), RunFault>
@@ -62,23 +62,23 @@ fn print<W: Write>(
     ensures all { (d : Document) → (input : List ℕ)
         → map item_of nodes.now ≡ listing d → structural_indexes.now ≡ positions input
         → OnOk result (Appends (W.contents writer.old.inner) (W.contents writer.new.inner)
-        (printed mode input d)) }
+        (printed layout input d)) }
     ensures begun { (d : Document) → (input : List ℕ)
         → map item_of nodes.now ≡ listing d → structural_indexes.now ≡ positions input
         → OnErr result ((count : ℕ) × Appends (W.contents writer.old.inner) (W.contents writer.new.inner)
-        (take count (printed mode input d))) }
+        (take count (printed layout input d))) }
     ensures sound { OnOk result (writer.new.failed ≡ false) }
     ensures fault { IfErr result (λ fault. (fault ≡ faults.Write) × (writer.new.failed ≡ true)) }
 {
     let mut text = Text::<Port<W>, PIECE>::new(writer);
-    match mode {
-        Mode::Tape => put_lines(&mut text, nodes),
-        Mode::Positions => put_positions(&mut text, structural_indexes),
-        Mode::Compact | Mode::Lines => {
+    match layout {
+        Layout::Tape => put_lines(&mut text, nodes),
+        Layout::Positions => put_positions(&mut text, structural_indexes),
+        Layout::Compact => {
             put_compact(&mut text, nodes);
             text.put(b"\n");
         }
-        Mode::Pretty => {
+        Layout::Pretty => {
             put_pretty(&mut text, nodes);
             text.put(b"\n");
         }

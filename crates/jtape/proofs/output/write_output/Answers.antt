@@ -9,7 +9,7 @@ returns-clause-all g c =
     let within = ap (λ buffers. buffers.limit) c.in_ok-buffers.ensures.made in
     let parse = subst (λ limit. IsParse input limit 0 None c.in_ok-tape.tape.nodes c.to_tape_with_buffers.new.buffers.positions)
     within c.in_ok-tape.ensures.parse in
-    let out = parsed-output c.args.mode input c.args.depth _ _ _ parse in
+    let out = parsed-output c.args.layout input c.args.depth _ _ _ parse in
     all-written c.print.result (c.print.new.writer.failed ≡ false) _ _ _ _ out.3 c.print.ensures.sound
     (c.print.ensures.all out.0 input (c.nodes.ensures ∙ out.1) (c.structural_indexes.ensures ∙ out.2))
 
@@ -19,6 +19,6 @@ returns-clause-begun g c =
     let within = ap (λ buffers. buffers.limit) c.in_ok-buffers.ensures.made in
     let parse = subst (λ limit. IsParse input limit 0 None c.in_ok-tape.tape.nodes c.to_tape_with_buffers.new.buffers.positions)
     within c.in_ok-tape.ensures.parse in
-    let out = parsed-output c.args.mode input c.args.depth _ _ _ parse in
+    let out = parsed-output c.args.layout input c.args.depth _ _ _ parse in
     begun-written c.print.result (c.print.new.writer.failed ≡ true) _ _ _ _ out.3 c.print.ensures.fault
     (c.print.ensures.begun out.0 input (c.nodes.ensures ∙ out.1) (c.structural_indexes.ensures ∙ out.2))

@@ -31,5 +31,8 @@ loop-input-preserved g c = record {
 
 pub returns-clause-all : goal.returns-clause-all
 returns-clause-all g c =
-    let end = c.in_ok-read_more.ensures.end c.if-branch.false in
-    (c.in_ok-read_more.ensures.read _ c.loop-input.invariant.read, end.0, end.1, c.in_ok-read_more.ensures.sound)
+    let end = c.in_ok-read_more.ensures.end c.if-branch.false in (
+      record { given = c.in_ok-read_more.ensures.read _ c.loop-input.invariant.read; end = end.0 },
+      end.1,
+      c.in_ok-read_more.ensures.sound,
+    )
