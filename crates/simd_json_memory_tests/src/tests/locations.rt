@@ -11,13 +11,13 @@ fn assert_located(
     byte: usize,
     text: &str,
 ) {
-    let location = locate(input, depth).expect(rt, "it is refused");
+    let location = locate(input, depth).expect(rt, text);
     assert_same!(rt; location.to_string(rt.alloc()).expect(rt, MEMORY).as_str(), text, input);
     assert_same!(rt; location.byte(), byte, input);
 }
 
-// The same of each row of a text, and how many rows there are. A row is the byte, what is printed, and the input; a
-// `~` ends it. A loop over the rows of a text is proved in far less time than an array of as many.
+// The same of each row of a text, and how many rows there are. A row is the byte, what is printed, and the input; `~`
+// separates rows. A loop over the rows of a text is proved in far less time than an array of as many.
 fn assert_rows(rt: &(impl AllocGlobal + Abort), rows: &str, count: usize) {
     let mut found = 0usize;
     for row in rows.split('~') {
@@ -202,7 +202,7 @@ fn assert_same_error(rt: &(impl AllocGlobal + Abort), input: &str) {
     match to_tape(rt.alloc(), parsed.as_mut_slice()) {
         Ok(_) => assert_that!(rt; found.is_none(), input),
         Err(error) => {
-            let location = found.expect(rt, "it is refused");
+            let location = found.expect(rt, input);
             assert_same!(rt; location.error(), &error, input);
             assert_same!(rt; location, Location::new(input.as_bytes(), error), input);
         }
