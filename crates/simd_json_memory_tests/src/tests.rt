@@ -1,7 +1,40 @@
-use std::test::Fail;
+use std::fmt::Debug;
+use std::process::Abort;
+
+// `assert_eq!` and `assert!` as calls: a call is proved in far less time than the code that those expand to.
+macro_rules! assert_same {
+    ($rt:expr; $found:expr, $wanted:expr $(,)?) => {
+        crate::tests::same($rt, stringify!($found), $found, $wanted)
+    };
+    ($rt:expr; $found:expr, $wanted:expr, $case:expr $(,)?) => {
+        crate::tests::same_of($rt, stringify!($found), $case, $found, $wanted)
+    };
+}
+
+macro_rules! assert_that {
+    ($rt:expr; $condition:expr $(,)?) => {
+        crate::tests::same($rt, stringify!($condition), $condition, true)
+    };
+    ($rt:expr; $condition:expr, $case:expr $(,)?) => {
+        crate::tests::same_of($rt, stringify!($condition), $case, $condition, true)
+    };
+}
 
 mod growths;
 mod locations;
 mod memory;
 
-type Tested = std::result::Result<(), Fail>;
+fn same<T: PartialEq + Debug + Drop>(rt: &impl Abort, what: &str, found: T, wanted: T) {
+    assert_eq!(rt; found, wanted, "{what}");
+}
+
+// The same of one case of several.
+fn same_of<T: PartialEq + Debug + Drop>(
+    rt: &impl Abort,
+    what: &str,
+    case: impl Debug + Drop,
+    found: T,
+    wanted: T,
+) {
+    assert_eq!(rt; found, wanted, "{what} of {case:?}");
+}

@@ -1,6 +1,5 @@
 // The examples of the README, of the entry points and of the views, as they stand there.
-use crate::tests::Tested;
-use std::test::Fail;
+use crate::tests::tape_of;
 
 mod first_call {
     use simd_json::{Result, to_tape};
@@ -133,47 +132,35 @@ mod views {
 }
 
 #[test]
-fn views_are_used_as_shown(rt: HostRuntime) -> Tested {
+fn views_are_used_as_shown(rt: HostRuntime) {
     let mut input = *b"{\"port\":8080,\"answer\":\"42\",\"numbers\":[1,2,3]}";
-    let tape = simd_json::to_tape(rt.alloc(), &mut input)?;
-    assert!(rt; !tape.is_empty());
+    let tape = tape_of(&rt, &mut input);
     let value = tape.as_value();
-    assert_eq!(rt; views::port(&value), Ok(Some(8080)));
-    assert!(rt;
-        value
-            .get("answer")
-            .is_some_and(|answer| views::is_answer(&answer))
-    );
-    assert_eq!(rt;
-        value
-            .get("numbers")
-            .and_then(|numbers| views::total(&numbers)),
-        Some(6)
-    );
-    Ok(())
+    assert_same!(&rt; views::port(&value), Ok(Some(8080)));
+    let answer = value.get("answer").expect(&rt, "it is there");
+    assert_that!(&rt; views::is_answer(&answer));
+    let numbers = value.get("numbers").expect(&rt, "it is there");
+    assert_same!(&rt; views::total(&numbers), Some(6));
 }
 
 #[test]
-fn a_value_is_read(rt: HostRuntime) -> Tested {
-    assert_eq!(rt; first_call::the_answer(&rt)?, Some(42));
-    Ok(())
+fn a_value_is_read(rt: HostRuntime) {
+    assert_same!(&rt; first_call::the_answer(&rt), Ok(Some(42)));
 }
 
 #[test]
-fn a_service_goes_on(rt: HostRuntime) -> std::result::Result<(), Fail> {
+fn a_service_goes_on(rt: HostRuntime) {
     let mut log = b"{\"a\":1}\n[1,]\n[true,\"\\u0041\"]".as_slice();
-    assert_eq!(rt; service::read_log(&rt, &mut log)?, 6);
-    Ok(())
+    assert_same!(&rt; service::read_log(&rt, &mut log).ok(), Some(6));
 }
 
 #[test]
-fn entry_points_are_used_as_shown(rt: HostRuntime) -> Tested {
+fn entry_points_are_used_as_shown(rt: HostRuntime) {
     let mut log = *b"[1]\n{}\n3";
-    assert_eq!(rt; entry_points::first_len(&rt)?, 6);
-    assert_eq!(rt; entry_points::count_positions(&rt)?, 11);
-    assert_eq!(rt; entry_points::count_nodes(&rt, &mut log)?, 4);
-    assert_eq!(rt; entry_points::count_in_place(&rt)?, 30);
-    assert_eq!(rt; entry_points::read_twice(&rt)?, 3);
-    assert_eq!(rt; entry_points::read_padded(&rt)?, 1);
-    Ok(())
+    assert_same!(&rt; entry_points::first_len(&rt), Ok(6));
+    assert_same!(&rt; entry_points::count_positions(&rt), Ok(11));
+    assert_same!(&rt; entry_points::count_nodes(&rt, &mut log), Ok(4));
+    assert_same!(&rt; entry_points::count_in_place(&rt), Ok(30));
+    assert_same!(&rt; entry_points::read_twice(&rt), Ok(3));
+    assert_same!(&rt; entry_points::read_padded(&rt), Ok(1));
 }

@@ -1,5 +1,5 @@
 // The functions of docs/READING.md, as they stand there.
-use crate::tests::Tested;
+use crate::tests::tape_of;
 
 mod root {
     // How many sizes the document lists.
@@ -39,12 +39,11 @@ mod members {
 }
 
 #[test]
-fn documents_are_read_as_shown(rt: HostRuntime) -> Tested {
-    assert_eq!(rt; root::sizes(&rt)?, 3);
+fn documents_are_read_as_shown(rt: HostRuntime) {
+    assert_same!(&rt; root::sizes(&rt), Ok(3));
     let mut input = *b"[1,[],[[]],{\"a\":[]}]";
-    let tape = simd_json::to_tape(rt.alloc(), &mut input)?;
-    assert_eq!(rt; members::arrays_in(tape.as_value()), 2);
+    let tape = tape_of(&rt, &mut input);
+    assert_same!(&rt; members::arrays_in(tape.as_value()), 2);
     let object = tape.as_value().get_idx(3).expect(&rt, "there are four");
-    assert_eq!(rt; members::arrays_in(object), 1);
-    Ok(())
+    assert_same!(&rt; members::arrays_in(object), 1);
 }

@@ -1,14 +1,12 @@
 // Growths that are refused, each in turn.
-use crate::tests::Tested;
-use crate::tests::memory::ballast;
+use crate::tests::memory::{MEMORY, ballast};
 use linked_list_allocator::LocalHeap;
 use simd_json::{
     Buffers, Deserializer, Error, ErrorType, Result, Tape, fill_tape, fill_tape_padded, reserve,
     to_tape, to_tape_with_buffers,
 };
-use std::alloc::{Allocator, Global};
+use std::alloc::Allocator;
 use std::process::Abort;
-use std::test::Fail;
 
 fn parse_fresh(heap: &LocalHeap, input: &mut [u8]) -> Result<usize> {
     Ok(to_tape(heap, input)?.nodes().len())
@@ -68,49 +66,53 @@ fn is_call_refused(
     number: u32,
     input: &[u8],
     left: usize,
-) -> std::result::Result<bool, Fail> {
-    let mut first = Vec::from_slice(rt.alloc(), input)?;
-    let mut again = Vec::from_slice(rt.alloc(), input)?;
-    let heap = LocalHeap::new(rt.alloc(), 1 << 13)?;
-    let full = ballast(rt.alloc(), &heap, left)?;
+) -> bool {
+    let mut first = Vec::from_slice(rt.alloc(), input).expect(rt, MEMORY);
+    let mut again = Vec::from_slice(rt.alloc(), input).expect(rt, MEMORY);
+    let heap = LocalHeap::new(rt.alloc(), 1 << 13).expect(rt, MEMORY);
+    let full = ballast(rt, &heap, left);
     let answer = call(number, &heap, first.as_mut_slice());
     drop(full);
-    assert_eq!(rt; heap.used(), 0);
-    assert_eq!(rt; call(number, &heap, again.as_mut_slice()), Ok(13));
-    if answer == Ok(13) {
-        return Ok(false);
-    }
-    assert_eq!(rt;
-        answer,
-        Err(Error::generic(ErrorType::OutOfMemory)),
-        "call {number}"
-    );
-    Ok(true)
+    assert_same!(rt; heap.used(), 0);
+    assert_same!(rt; call(number, &heap, again.as_mut_slice()), Ok(13), number);
+    is_out_of_memory(rt, number, answer, 13)
+}
+
+// Whether a call was refused memory; otherwise it returned so many nodes.
+fn is_out_of_memory(rt: &impl Abort, number: u32, answer: Result<usize>, nodes: usize) -> bool {
+    let is_refused = answer.is_err();
+    let wanted = if is_refused {
+        Err(Error::generic(ErrorType::OutOfMemory))
+    } else {
+        Ok(nodes)
+    };
+    assert_same!(rt; answer, wanted, number);
+    is_refused
 }
 
 // Each heap leaves more free memory than the one before it, so that another growth is refused, and then none.
-fn refuses_growths(rt: &(impl AllocGlobal + Abort), input: &[u8]) -> Tested {
+fn refuses_growths(rt: &(impl AllocGlobal + Abort), input: &[u8]) {
     for number in 0..8 {
         let mut refused = 0u32;
         for units in 0..200 {
-            if is_call_refused(rt, number, input, units * 16)? {
+            if is_call_refused(rt, number, input, units * 16) {
                 refused = refused.saturating_add(1);
             }
         }
-        assert!(rt; refused > 0 && refused < 200, "call {number}: {refused}");
+        assert_that!(rt; refused > 0, number);
+        assert_that!(rt; refused < 200, number);
     }
-    Ok(())
 }
 
 #[test]
-fn each_growth_is_refused(rt: HostRuntime) -> Tested {
-    refuses_growths(&rt, b"[[1,2],[3,[4]],5,6,7,8,9]")
+fn each_growth_is_refused(rt: HostRuntime) {
+    refuses_growths(&rt, b"[[1,2],[3,[4]],5,6,7,8,9]");
 }
 
 // The list of blocks grows too.
 #[test]
-fn each_growth_with_escapes_is_refused(rt: HostRuntime) -> Tested {
-    refuses_growths(&rt, b"[[1,\"\\n\"],{\"\\u0061\":[4]},5,6,7,8,9]")
+fn each_growth_with_escapes_is_refused(rt: HostRuntime) {
+    refuses_growths(&rt, b"[[1,\"\\n\"],{\"\\u0061\":[4]},5,6,7,8,9]");
 }
 
 // A parse over buffers and a tape of the heap, which hold another document.
@@ -140,56 +142,51 @@ fn parse<'de, A: Allocator + Copy, B: Allocator>(
 
 const LARGER: &[u8] = b"[[1,2],{\"\\u0061\":[4]},5,6,7,8,9,10,11]";
 
-// Three inputs of 128 bytes: a small one, and a larger one twice.
-fn pieces(alloc: Global) -> std::result::Result<Vec<u8>, Fail> {
-    let mut text = Vec::from_slice(alloc, b"[\"\\n\"]")?;
-    for end in [128, 256] {
-        text.resize(end, b' ')?;
-        text.extend_from_slice(LARGER)?;
-    }
-    text.resize(384, b' ')?;
-    Ok(text)
+// An input with spaces after it, up to 128 bytes.
+fn padded(rt: &(impl AllocGlobal + Abort), input: &[u8]) -> Vec<u8> {
+    let mut text = Vec::from_slice(rt.alloc(), input).expect(rt, MEMORY);
+    text.resize(128, b' ').expect(rt, MEMORY);
+    text
 }
 
 // A parse after another one, with so many bytes left in the heap; whether a growth was refused. Where one
 // was, nothing is listed, and the tape is empty. The same buffers and tape serve once there is memory.
-fn is_refused(
-    rt: &(impl AllocGlobal + Abort),
-    form: u32,
-    left: usize,
-) -> std::result::Result<bool, Fail> {
-    let mut text = pieces(rt.alloc())?;
-    let heap = LocalHeap::new(rt.alloc(), 1 << 13)?;
-    let mut buffers = Buffers::new(&heap, 0)?;
-    let mut tape = Tape::null(&heap)?;
-    let mut is_refused = false;
-    for (i, piece) in text.chunks_exact_mut(128).enumerate() {
-        let full = ballast(rt.alloc(), &heap, if i == 1 { left } else { 4096 })?;
-        let answer = parse(form, piece, &mut buffers, &mut tape);
-        drop(full);
-        if i == 1 && answer == Err(Error::generic(ErrorType::OutOfMemory)) {
-            assert!(rt; buffers.structural_indexes().is_empty());
-            assert!(rt; form == 2 || tape.is_empty());
-            is_refused = true;
-        } else {
-            assert_eq!(rt; answer, Ok(if i == 0 { 2 } else { 15 }));
-            let positions = if i == 0 { 3 } else { 29 };
-            assert_eq!(rt; buffers.structural_indexes().len(), positions);
-        }
-    }
-    Ok(is_refused)
+fn is_refused(rt: &(impl AllocGlobal + Abort), form: u32, left: usize) -> bool {
+    let (mut first, mut second) = (padded(rt, b"[\"\\n\"]"), padded(rt, LARGER));
+    let mut third = padded(rt, LARGER);
+    let heap = LocalHeap::new(rt.alloc(), 1 << 13).expect(rt, MEMORY);
+    let mut buffers = Buffers::new(&heap, 0).expect(rt, MEMORY);
+    let mut tape = Tape::null(&heap).expect(rt, MEMORY);
+    let full = ballast(rt, &heap, 4096);
+    let answer = parse(form, first.as_mut_slice(), &mut buffers, &mut tape);
+    drop(full);
+    assert_same!(rt; answer, Ok(2), form);
+    assert_same!(rt; buffers.structural_indexes().len(), 3, form);
+    let full = ballast(rt, &heap, left);
+    let answer = parse(form, second.as_mut_slice(), &mut buffers, &mut tape);
+    drop(full);
+    let is_refused = is_out_of_memory(rt, form, answer, 15);
+    let positions = if is_refused { 0 } else { 29 };
+    assert_same!(rt; buffers.structural_indexes().len(), positions, form);
+    assert_that!(rt; !is_refused || form == 2 || tape.is_empty(), form);
+    let full = ballast(rt, &heap, 4096);
+    let answer = parse(form, third.as_mut_slice(), &mut buffers, &mut tape);
+    drop(full);
+    assert_same!(rt; answer, Ok(15), form);
+    assert_same!(rt; buffers.structural_indexes().len(), 29, form);
+    is_refused
 }
 
 #[test]
-fn refused_parses_list_nothing(rt: HostRuntime) -> Tested {
+fn refused_parses_list_nothing(rt: HostRuntime) {
     for form in 0..3 {
         let mut refused = 0u32;
         for units in 0..200 {
-            if is_refused(&rt, form, units * 16)? {
+            if is_refused(&rt, form, units * 16) {
                 refused = refused.saturating_add(1);
             }
         }
-        assert!(rt; refused > 5 && refused < 195, "form {form}: {refused}");
+        assert_that!(&rt; refused > 5, form);
+        assert_that!(&rt; refused < 195, form);
     }
-    Ok(())
 }

@@ -1,69 +1,74 @@
 // Reservations, and what is told without memory.
-use crate::tests::Tested;
 use linked_list_allocator::LocalHeap;
 use simd_json::{
     Buffers, Error, ErrorType, Node, Result, StaticNode, Tape, fill_tape, refill_tape, reserve,
 };
-use std::alloc::{AllocError, Allocator, Global};
+use std::alloc::Allocator;
 use std::io::{self, BufRead};
 use std::process::Abort;
-use std::test::Fail;
 
-pub(super) type Ballast<'h> = std::result::Result<Vec<Vec<u8, &'h LocalHeap>>, AllocError>;
+// Why a test goes on: the allocations that are not to be refused.
+pub(super) const MEMORY: &str = "there is memory";
+
+type Ballast<'h> = Vec<Vec<u8, &'h LocalHeap>>;
 
 // Takes what is free in the heap, but for so many bytes in one piece.
-pub(super) fn ballast(alloc: Global, heap: &LocalHeap, left: usize) -> Ballast<'_> {
-    let spare = Vec::<u8, &LocalHeap>::with_capacity(heap, left)?;
-    let mut pieces = Vec::new(alloc);
-    for size in [
-        32_768, 16_384, 8192, 4096, 2048, 1024, 512, 256, 128, 64, 32, 16,
-    ] {
+pub(super) fn ballast<'h>(
+    rt: &(impl AllocGlobal + Abort),
+    heap: &'h LocalHeap,
+    left: usize,
+) -> Ballast<'h> {
+    let spare = Vec::<u8, &LocalHeap>::with_capacity(heap, left).expect(rt, MEMORY);
+    let mut pieces = Vec::new(rt.alloc());
+    let mut size = 32_768;
+    for _ in 0..12 {
         for _ in 0..8 {
             if let Ok(piece) = Vec::with_capacity(heap, size) {
-                pieces.push(piece)?;
+                pieces.push(piece).expect(rt, MEMORY);
             }
         }
+        size /= 2;
     }
     drop(spare);
-    Ok(pieces)
+    pieces
 }
 
 const DOCUMENT: &[u8] = b"{\"the_answer\": 42}";
 
 const REFUSED: &[u8] = b"[[[[[[[[[[[[[[[[[[";
 
-fn alternating(alloc: Global) -> std::result::Result<Vec<u8>, Fail> {
-    let mut pieces = Vec::new(alloc);
+fn alternating(rt: &(impl AllocGlobal + Abort)) -> Vec<u8> {
+    let mut pieces = Vec::new(rt.alloc());
     for _ in 0..50 {
-        pieces.extend_from_slice(DOCUMENT)?;
-        pieces.extend_from_slice(REFUSED)?;
+        pieces.extend_from_slice(DOCUMENT).expect(rt, MEMORY);
+        pieces.extend_from_slice(REFUSED).expect(rt, MEMORY);
     }
-    Ok(pieces)
+    pieces
 }
 
 fn assert_document(rt: &impl Abort, answer: &Result<()>, nodes: usize, positions: &[u32]) {
-    assert_eq!(rt; *answer, Ok(()));
-    assert_eq!(rt; nodes, 3);
-    assert_eq!(rt; positions, [0, 1, 13, 15, 17].as_slice());
+    assert_same!(rt; answer, &Ok(()));
+    assert_same!(rt; nodes, 3);
+    assert_same!(rt; positions, [0, 1, 13, 15, 17].as_slice());
 }
 
 fn assert_refused(rt: &impl Abort, answer: &Result<()>, nodes: usize, positions: &[u32]) {
-    assert_eq!(rt; *answer, Err(Error::new(17, Some('['), ErrorType::Syntax)));
-    assert_eq!(rt; nodes, 0);
-    assert_eq!(rt; positions.len(), 18);
+    assert_same!(rt; answer, &Err(Error::new(17, Some('['), ErrorType::Syntax)));
+    assert_same!(rt; nodes, 0);
+    assert_same!(rt; positions.len(), 18);
 }
 
 // With capacity for their bytes, documents and refusals alternate while every growth is refused.
 #[test]
-fn reserved_parses_take_no_memory(rt: HostRuntime) -> Tested {
-    let mut pieces = alternating(rt.alloc())?;
-    let heap = LocalHeap::new(rt.alloc(), 1 << 16)?;
-    let mut buffers = Buffers::new(&heap, 0)?;
-    let mut tape = Tape::null(&heap)?;
-    buffers.reserve(18)?;
-    tape.reserve(18)?;
-    let _ballast = ballast(rt.alloc(), &heap, 0)?;
-    assert_eq!(rt; heap.free(), 0);
+fn reserved_parses_take_no_memory(rt: HostRuntime) {
+    let mut pieces = alternating(&rt);
+    let heap = LocalHeap::new(rt.alloc(), 1 << 16).expect(&rt, MEMORY);
+    let mut buffers = Buffers::new(&heap, 0).expect(&rt, MEMORY);
+    let mut tape = Tape::null(&heap).expect(&rt, MEMORY);
+    buffers.reserve(18).expect(&rt, MEMORY);
+    tape.reserve(18).expect(&rt, MEMORY);
+    let _ballast = ballast(&rt, &heap, 0);
+    assert_same!(&rt; heap.free(), 0);
     let mut documents = 0u32;
     for piece in pieces.chunks_exact_mut(18) {
         let is_document = piece[0] == b'{';
@@ -76,8 +81,7 @@ fn reserved_parses_take_no_memory(rt: HostRuntime) -> Tested {
             assert_refused(&rt, &answer, nodes, positions);
         }
     }
-    assert_eq!(rt; documents, 50);
-    Ok(())
+    assert_same!(&rt; documents, 50);
 }
 
 // Of 10 nodes, of 9, and two that are refused.
@@ -85,23 +89,23 @@ const LINES: &[u8] = b"{\"level\":\"info\",\"text\":\"\\u0041\\n\",\"n\":[1,-2,3
     [[[[[[[[[]]]]]]]]]\n[1,]\n\"\n";
 
 // A log of 10,000 lines.
-fn log(alloc: Global) -> std::result::Result<Vec<u8>, Fail> {
-    let mut log = Vec::new(alloc);
+fn log(rt: &(impl AllocGlobal + Abort)) -> Vec<u8> {
+    let mut log = Vec::new(rt.alloc());
     for _ in 0..2_500 {
-        log.extend_from_slice(LINES)?;
+        log.extend_from_slice(LINES).expect(rt, MEMORY);
     }
-    Ok(log)
+    log
 }
 
 // A log over one pair that was reserved once: no allocation is made, since none could be.
 #[test]
-fn a_log_takes_no_memory(rt: HostRuntime) -> Tested {
-    let mut log = log(rt.alloc())?;
-    let heap = LocalHeap::new(rt.alloc(), 1 << 16)?;
-    let mut buffers = Buffers::with_max_depth(&heap, 0, 16)?;
-    let mut tape = Tape::null(&heap)?;
-    reserve(64, &mut buffers, &mut tape)?;
-    let _ballast = ballast(rt.alloc(), &heap, 0)?;
+fn a_log_takes_no_memory(rt: HostRuntime) {
+    let mut log = log(&rt);
+    let heap = LocalHeap::new(rt.alloc(), 1 << 16).expect(&rt, MEMORY);
+    let mut buffers = Buffers::with_max_depth(&heap, 0, 16).expect(&rt, MEMORY);
+    let mut tape = Tape::null(&heap).expect(&rt, MEMORY);
+    reserve(64, &mut buffers, &mut tape).expect(&rt, MEMORY);
+    let _ballast = ballast(&rt, &heap, 0);
     let used = heap.used();
     let (mut nodes, mut refused, mut bad) = (0u32, 0u32, 0u32);
     for line in log.split_mut(|byte| *byte == b'\n') {
@@ -109,13 +113,12 @@ fn a_log_takes_no_memory(rt: HostRuntime) -> Tested {
             Ok(()) => nodes = nodes.saturating_add(tape.nodes().len() as u32),
             Err(e) if *e.error() == ErrorType::InternalError => refused = refused.saturating_add(1),
             Err(e) if *e.error() == ErrorType::Syntax => bad = bad.saturating_add(1),
-            Err(e) => assert_eq!(rt; e, Error::generic(ErrorType::Eof)),
+            Err(e) => assert_same!(&rt; e, Error::generic(ErrorType::Eof)),
         }
-        assert_eq!(rt; heap.free(), 0);
+        assert_same!(&rt; heap.free(), 0);
     }
-    assert_eq!(rt; (nodes, refused, bad), (2_500 * (10 + 9), 2_500, 2_500));
-    assert_eq!(rt; heap.used(), used);
-    Ok(())
+    assert_same!(&rt; (nodes, refused, bad), (2_500 * (10 + 9), 2_500, 2_500));
+    assert_same!(&rt; heap.used(), used);
 }
 
 // Reads each line into one buffer, and parses it over one tape; how many nodes the lines have, and how many of
@@ -147,46 +150,46 @@ fn count<R: BufRead, A: Allocator, B: Allocator, C: Allocator>(
 
 // The same as a stream through one buffer, after one reservation.
 #[test]
-fn a_stream_takes_no_memory(rt: HostRuntime) -> Tested {
-    let log = log(rt.alloc())?;
-    let heap = LocalHeap::new(rt.alloc(), 1 << 16)?;
-    let mut line: Vec<u8, &LocalHeap> = Vec::with_capacity(&heap, 64)?;
-    let mut buffers = Buffers::with_max_depth(&heap, 0, 16)?;
-    let mut tape = Tape::null(&heap)?;
-    reserve(64, &mut buffers, &mut tape)?;
-    let _ballast = ballast(rt.alloc(), &heap, 0)?;
+fn a_stream_takes_no_memory(rt: HostRuntime) {
+    let log = log(&rt);
+    let heap = LocalHeap::new(rt.alloc(), 1 << 16).expect(&rt, MEMORY);
+    let mut line: Vec<u8, &LocalHeap> = Vec::with_capacity(&heap, 64).expect(&rt, MEMORY);
+    let mut buffers = Buffers::with_max_depth(&heap, 0, 16).expect(&rt, MEMORY);
+    let mut tape = Tape::null(&heap).expect(&rt, MEMORY);
+    reserve(64, &mut buffers, &mut tape).expect(&rt, MEMORY);
+    let _ballast = ballast(&rt, &heap, 0);
     let used = heap.used();
     let mut reader = log.as_slice();
     let (counts, tape) = count(&mut reader, &mut line, &mut buffers, tape);
-    assert_eq!(rt; counts?, (2_500 * (10 + 9), 5_000));
-    assert!(rt; tape.is_empty());
-    assert_eq!(rt; (heap.used(), heap.free()), (used, 0));
-    Ok(())
+    assert_same!(&rt; counts.ok(), Some((2_500 * (10 + 9), 5_000)));
+    assert_that!(&rt; tape.is_empty());
+    assert_same!(&rt; (heap.used(), heap.free()), (used, 0));
 }
 
 // A tape is filled again for an input of another lifetime. What it listed is gone, after an error too, and a
 // growth that is refused leaves its capacity.
 #[test]
-fn a_tape_is_refilled(rt: HostRuntime) -> Tested {
-    let heap = LocalHeap::new(rt.alloc(), 1 << 16)?;
-    let mut buffers = Buffers::with_max_depth(&heap, 64, 1)?;
+fn a_tape_is_refilled(rt: HostRuntime) {
+    let heap = LocalHeap::new(rt.alloc(), 1 << 16).expect(&rt, MEMORY);
+    let mut buffers = Buffers::with_max_depth(&heap, 64, 1).expect(&rt, MEMORY);
     let mut small = *b"[\"\\u0041\",2]";
-    let (answer, tape) = refill_tape(&mut small, &mut buffers, Tape::null(&heap)?);
-    assert_eq!(rt; answer, Ok(()));
+    let (answer, tape) = refill_tape(
+        &mut small,
+        &mut buffers,
+        Tape::null(&heap).expect(&rt, MEMORY),
+    );
+    assert_same!(&rt; answer, Ok(()));
     let wanted = [
         Node::Array { len: 2, count: 2 },
         Node::String("A"),
         Node::Static(StaticNode::U64(2)),
     ];
-    assert_eq!(rt; tape.nodes(), wanted.as_slice());
-    assert_eq!(rt; buffers.structural_indexes(), [0, 1, 9, 10, 11].as_slice());
+    assert_same!(&rt; tape.nodes(), wanted.as_slice());
+    assert_same!(&rt; buffers.structural_indexes(), [0, 1, 9, 10, 11].as_slice());
     let mut refused = *b"[1,]";
     let (answer, tape) = refill_tape(&mut refused, &mut buffers, tape);
-    assert_eq!(rt;
-        answer,
-        Err(Error::new(3, Some(']'), ErrorType::InternalError))
-    );
-    assert!(rt; tape.is_empty());
+    assert_same!(&rt; answer, Err(Error::new(3, Some(']'), ErrorType::InternalError)));
+    assert_that!(&rt; tape.is_empty());
     assert_capacity_stays(&rt, &heap, &mut buffers, tape)
 }
 
@@ -196,102 +199,93 @@ fn assert_capacity_stays(
     heap: &LocalHeap,
     buffers: &mut Buffers<&LocalHeap>,
     tape: Tape<'_, &LocalHeap>,
-) -> Tested {
-    let full = ballast(rt.alloc(), heap, 0)?;
+) {
+    let full = ballast(rt, heap, 0);
     let mut large = *b"[1,2,3,4,5,6,7,8,9,0]";
     let (answer, tape) = refill_tape(&mut large, buffers, tape);
-    assert_eq!(rt; answer, Err(Error::generic(ErrorType::OutOfMemory)));
-    assert!(rt; tape.is_empty());
+    assert_no_memory(rt, answer);
+    assert_that!(rt; tape.is_empty());
     let mut again = *b"[1,2]";
     let (answer, tape) = refill_tape(&mut again, buffers, tape);
-    assert_eq!(rt; (answer, tape.nodes().len()), (Ok(()), 3));
+    assert_same!(rt; (answer, tape.nodes().len()), (Ok(()), 3));
     drop(full);
     let mut larger = *b"[1,2,3,4,5,6,7,8,9,0]";
     let (answer, tape) = refill_tape(&mut larger, buffers, tape);
-    assert_eq!(rt; (answer, tape.nodes().len()), (Ok(()), 11));
-    Ok(())
+    assert_same!(rt; (answer, tape.nodes().len()), (Ok(()), 11));
 }
 
 // After a reset a parse within the capacity takes no memory, and one beyond it finds none.
 #[test]
-fn capacity_outlives_a_reset(rt: HostRuntime) -> Tested {
-    let heap = LocalHeap::new(rt.alloc(), 1 << 16)?;
-    let mut buffers = Buffers::with_max_depth(&heap, 0, 1)?;
-    let mut tape: Tape<'static, &LocalHeap> = Tape::null(&heap)?;
-    buffers.reserve(64)?;
-    tape.reserve(8)?;
-    let _ballast = ballast(rt.alloc(), &heap, 0)?;
+fn capacity_outlives_a_reset(rt: HostRuntime) {
+    let heap = LocalHeap::new(rt.alloc(), 1 << 16).expect(&rt, MEMORY);
+    let mut buffers = Buffers::with_max_depth(&heap, 0, 1).expect(&rt, MEMORY);
+    let mut tape: Tape<'static, &LocalHeap> = Tape::null(&heap).expect(&rt, MEMORY);
+    buffers.reserve(64).expect(&rt, MEMORY);
+    tape.reserve(8).expect(&rt, MEMORY);
+    let _ballast = ballast(&rt, &heap, 0);
     let mut small = *b"[1,2,3,4,5,6]";
     let mut filled = tape.reset();
-    assert!(rt; filled.is_empty());
-    assert_eq!(rt; fill_tape(&mut small, &mut buffers, &mut filled), Ok(()));
-    assert_eq!(rt; filled.nodes().len(), 7);
+    assert_that!(&rt; filled.is_empty());
+    assert_same!(&rt; fill_tape(&mut small, &mut buffers, &mut filled), Ok(()));
+    assert_same!(&rt; filled.nodes().len(), 7);
     let mut large = *b"[1,2,3,4,5,6,7,8,9,0]";
     let mut more = filled.reset();
-    assert_eq!(rt;
-        fill_tape(&mut large, &mut buffers, &mut more),
-        Err(Error::generic(ErrorType::OutOfMemory))
-    );
-    assert!(rt; more.is_empty());
-    Ok(())
+    assert_no_memory(&rt, fill_tape(&mut large, &mut buffers, &mut more));
+    assert_that!(&rt; more.is_empty());
 }
 
 fn assert_no_memory(rt: &impl Abort, answer: Result<()>) {
-    assert_eq!(rt; answer, Err(Error::generic(ErrorType::OutOfMemory)));
+    assert_same!(rt; answer, Err(Error::generic(ErrorType::OutOfMemory)));
 }
 
 // A reservation that is refused changes nothing that is listed.
 #[test]
-fn reservations_are_refused(rt: HostRuntime) -> Tested {
+fn reservations_are_refused(rt: HostRuntime) {
     let mut input = *b"[1,2]";
-    let heap = LocalHeap::new(rt.alloc(), 1 << 16)?;
-    let mut buffers = Buffers::new(&heap, 0)?;
-    let mut tape = Tape::null(&heap)?;
-    fill_tape(&mut input, &mut buffers, &mut tape)?;
+    let heap = LocalHeap::new(rt.alloc(), 1 << 16).expect(&rt, MEMORY);
+    let mut buffers = Buffers::new(&heap, 0).expect(&rt, MEMORY);
+    let mut tape = Tape::null(&heap).expect(&rt, MEMORY);
+    fill_tape(&mut input, &mut buffers, &mut tape).expect(&rt, MEMORY);
     assert_no_memory(&rt, tape.reserve(usize::MAX));
-    let full = ballast(rt.alloc(), &heap, 0)?;
+    let full = ballast(&rt, &heap, 0);
     assert_no_memory(&rt, buffers.reserve(1000));
     assert_no_memory(&rt, tape.reserve(500));
     assert_no_memory(&rt, reserve(1000, &mut buffers, &mut tape));
-    assert_eq!(rt; buffers.structural_indexes(), [0, 1, 2, 3, 4].as_slice());
-    assert_eq!(rt; tape.nodes().len(), 3);
+    assert_same!(&rt; buffers.structural_indexes(), [0, 1, 2, 3, 4].as_slice());
+    assert_same!(&rt; tape.nodes().len(), 3);
     drop(full);
-    assert_eq!(rt; buffers.reserve(1000), Ok(()));
-    assert_eq!(rt; tape.reserve(500), Ok(()));
-    assert_eq!(rt; buffers.structural_indexes(), [0, 1, 2, 3, 4].as_slice());
-    assert_eq!(rt; tape.nodes().len(), 3);
-    Ok(())
+    assert_same!(&rt; buffers.reserve(1000), Ok(()));
+    assert_same!(&rt; tape.reserve(500), Ok(()));
+    assert_same!(&rt; buffers.structural_indexes(), [0, 1, 2, 3, 4].as_slice());
+    assert_same!(&rt; tape.nodes().len(), 3);
 }
 
 // Buffers know the depth limit, so a reservation of both takes fewer nodes than one of the tape for as many
 // bytes: half as many, and half as many as containers may be open.
 #[test]
-fn both_are_reserved_by_the_depth_limit(rt: HostRuntime) -> Tested {
-    let heap = LocalHeap::new(rt.alloc(), 1 << 16)?;
-    let mut buffers = Buffers::with_max_depth(&heap, 0, 16)?;
-    let mut tape = Tape::null(&heap)?;
-    assert_eq!(rt; reserve(1500, &mut buffers, &mut tape), Ok(()));
-    assert!(rt; heap.used() >= 1500 * 28 + 16 * 48 && heap.used() < 1500 * 30);
-    assert_eq!(rt; tape.nodes().len(), 1);
+fn both_are_reserved_by_the_depth_limit(rt: HostRuntime) {
+    let heap = LocalHeap::new(rt.alloc(), 1 << 16).expect(&rt, MEMORY);
+    let mut buffers = Buffers::with_max_depth(&heap, 0, 16).expect(&rt, MEMORY);
+    let mut tape = Tape::null(&heap).expect(&rt, MEMORY);
+    assert_same!(&rt; reserve(1500, &mut buffers, &mut tape), Ok(()));
+    assert_that!(&rt; heap.used() >= 1500 * 28 + 16 * 48);
+    assert_that!(&rt; heap.used() < 1500 * 30);
+    assert_same!(&rt; tape.nodes().len(), 1);
     let used = heap.used();
-    assert_eq!(rt; reserve(1499, &mut buffers, &mut tape), Ok(()));
-    assert_eq!(rt; heap.used(), used);
+    assert_same!(&rt; reserve(1499, &mut buffers, &mut tape), Ok(()));
+    assert_same!(&rt; heap.used(), used);
     assert_no_memory(&rt, tape.reserve(1500));
-    Ok(())
 }
 
 // A refusal for size, padding or encoding comes also where no memory is left.
 #[test]
-fn encoding_is_told_without_memory(rt: HostRuntime) -> Tested {
+fn encoding_is_told_without_memory(rt: HostRuntime) {
     let mut input = *b"[\xff]";
-    let heap = LocalHeap::new(rt.alloc(), 1 << 10)?;
-    let mut buffers = Buffers::new(&heap, 0)?;
-    let mut tape: Tape<'_, &LocalHeap> = Tape::null(&heap)?.reset();
-    let _ballast = ballast(rt.alloc(), &heap, 0)?;
-    assert_eq!(rt;
-        fill_tape(&mut input, &mut buffers, &mut tape),
-        Err(Error::generic(ErrorType::InvalidUtf8))
-    );
-    assert_eq!(rt; tape.nodes(), [].as_slice());
-    Ok(())
+    let heap = LocalHeap::new(rt.alloc(), 1 << 10).expect(&rt, MEMORY);
+    let mut buffers = Buffers::new(&heap, 0).expect(&rt, MEMORY);
+    let mut tape: Tape<'_, &LocalHeap> = Tape::null(&heap).expect(&rt, MEMORY).reset();
+    let _ballast = ballast(&rt, &heap, 0);
+    let answer = fill_tape(&mut input, &mut buffers, &mut tape);
+    assert_same!(&rt; answer, Err(Error::generic(ErrorType::InvalidUtf8)));
+    assert_same!(&rt; tape.nodes(), [].as_slice());
 }
