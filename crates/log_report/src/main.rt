@@ -11,20 +11,13 @@ use arrayvec::ArrayVec;
 use bumpalo::Bump;
 use indexmap::IndexMap;
 use jtape::{Port, is_blank, number_named};
-use memchr::memchr;
 use simd_json::tape::Value;
 use simd_json::{Buffers, Error, StaticNode, Tape, refill_tape, reserve};
 use simd_json_print::text::Text;
 use std::alloc::{AllocError, Allocator};
-use std::cmp::Reverse;
-use std::env;
 use std::hash::{BuildHasherDefault, FoldHasher};
 use std::io::{self, Read, Write};
-use std::mem::replace;
 use std::process::ExitCode;
-
-// How many bytes a line may have by default.
-const LONGEST: usize = 65_536;
 
 // 1,024 values, and three marks.
 const MOST_TEXTS: usize = 1027;
@@ -57,7 +50,7 @@ fn main(rt: HostRuntime) -> ExitCode {
 }
 
 fn program(rt: &HostRuntime) -> Result<bool, Failure> {
-    let words = env::args(rt).map_err(|_| Failure::Usage)?;
+    let words = std::env::args(rt).map_err(|_| Failure::Usage)?;
     let words: Vec<String> = words.collect(rt.alloc()).map_err(|_| Failure::Usage)?;
     let (key, longest) = settings(words.as_slice()).ok_or(Failure::Usage)?;
     let (mut input, mut out) = (Port::new(rt.reader()), Port::new(io::writer(rt)));
@@ -65,12 +58,12 @@ fn program(rt: &HostRuntime) -> Result<bool, Failure> {
     run(rt.alloc(), key, longest, &mut input, &mut out, &mut err)
 }
 
-// The key, and how many bytes a line may have. The first word is the program's name.
+// The key, and how many bytes a line may have, by default 65,536. The first word is the program's name.
 fn settings(words: &[String]) -> Option<(&str, usize)>
     ensures { option_map (λ r. (r.0.now, r.1)) result ≡ settings_of (map string_bytes words.now) }
 {
     let (key, longest) = match words {
-        [_, key] => (key.as_str(), LONGEST),
+        [_, key] => (key.as_str(), 65_536),
         [_, key, longest] => (key.as_str(), number_named(longest.as_str())?),
         _ => return None,
     };
@@ -121,8 +114,7 @@ fn run<A: Allocator + Copy, R: Read, W: Write, E: Write>(
         if read == 0 {
             lines.count(line.as_mut_slice(), refusals)?;
             let all_taken = lines.all_taken;
-            lines.write(report)?;
-            return Ok(all_taken);
+            return lines.write(report).and(Ok(all_taken));
         }
         lines.take(&block[..read], &mut line, refusals)?;
     }
@@ -170,7 +162,7 @@ impl<'k, A: Allocator + Copy> Lines<'k, A> {
     {
         let mut rest = block;
         loop {
-            let (end, more) = rest.split_at(memchr(b'\n', rest).unwrap_or(rest.len()));
+            let (end, more) = rest.split_at(memchr::memchr(b'\n', rest).unwrap_or(rest.len()));
             let room = self.longest.saturating_add(1).saturating_sub(line.len());
             line.extend_from_slice(&end[..end.len().min(room)])?;
             let Some((_, next)) = more.split_first() else {
@@ -192,13 +184,13 @@ impl<'k, A: Allocator + Copy> Lines<'k, A> {
         } else if is_blank(line) {
             return Ok(());
         }
-        let kept = replace(&mut self.tape, Tape::empty(*self.counts.allocator()));
+        let kept = std::mem::replace(&mut self.tape, Tape::empty(*self.counts.allocator()));
         let (answer, tape) = refill_tape(line, &mut self.buffers, kept);
         match answer {
             Ok(()) => self.add_value(tape.as_value().get(self.key))?,
             Err(e) => self.refuse(Some(e), err)?,
         }
-        drop(replace(&mut self.tape, tape.reset()));
+        drop(std::mem::replace(&mut self.tape, tape.reset()));
         Ok(())
     }
 
@@ -254,7 +246,7 @@ impl<'k, A: Allocator + Copy> Lines<'k, A> {
     fn write<W: Write>(&mut self, out: &mut Port<W>) -> Ended
         ensures { Ends out.old out.new (Prints W.contents self.old out.old out.new) result }
     {
-        self.counts.sort_by_key(|_, count| Reverse(*count))?;
+        self.counts.sort_by(|_, count, _, other| other.cmp(count))?;
         let mut text = Text::<Port<W>, 4096>::new(out);
         for (label, count) in self.counts.iter() {
             if *count > 0 {
