@@ -205,6 +205,12 @@ stored-next n k xs ys l e more =
     let here : take (n + 1) (set ys n k) ≡ take n ys ++ k ∷ [] = grind (arith, common_steps) in
     here ∙ ap (λ ks. ks ++ k ∷ []) (prefix n xs ys l e)
 
+-- the same of lists and numbers that are equal
+pub IsScanned-equal : (b : List ℕ) (j k : ℕ) (s : Scanned) (out listed more more_listed : List ℕ) → j ≡ k → out ≡ more
+    → listed ≡ more_listed → IsScanned b j s out listed → IsScanned b k s more more_listed
+IsScanned-equal b j k s out listed more more_listed e f g h = subst (λ n. IsScanned b n s more more_listed) e
+    (subst (λ ys. IsScanned b j s more ys) g (subst (λ xs. IsScanned b j s xs listed) f h))
+
 pub IsScanned-capacity : (b : List ℕ) (k : ℕ) (s : Scanned) (out listed more more_listed : List ℕ) → IsScanned b k s out listed
     → take (length out) more ≡ out → length out ≤ length more
     → take (length listed) more_listed ≡ listed → length listed ≤ length more_listed → IsScanned b k s more more_listed

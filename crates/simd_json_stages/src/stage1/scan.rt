@@ -17,9 +17,10 @@ use super::encoding::check_window;
 use super::words::{Carry, Classified, Parts, classify, classify_last, find_parts, find_starts};
 use super::writing::{list_block, write, write_exactly};
 use super::{BLOCK_LEN, Found};
+use groups::GROUP;
 use simd_json_parts::error::Result;
 use std::alloc::Allocator;
-use windows::{WINDOW, Window, capacity_for, scan_window};
+use windows::{WINDOW, Window, capacity_for, scan_few, scan_window};
 
 // What is kept from one block to the next of those that are looked at by themselves.
 #[derive(Clone, Copy, Drop)]
@@ -120,6 +121,9 @@ pub(super) fn scan_blocks<A: Allocator>(
     ensures longer { (length structural_indexes.old.items ≤ length structural_indexes.new.items)
         × (length escape_blocks.old.items ≤ length escape_blocks.new.items) }
 {
+    if !blocks.is_empty() && blocks.len() < GROUP {
+        return scan_short(input, blocks, structural_indexes, escape_blocks);
+    }
     let mut done = START;
     let mut checked = 0;
     let mut first = 0;
@@ -146,6 +150,50 @@ pub(super) fn scan_blocks<A: Allocator>(
         checked = check_window(input, checked, BLOCK_LEN * first, BLOCK_LEN * end, is_ascii)?;
         first = end;
     }
+    Ok((done, checked))
+}
+
+// The same of fewer blocks than a group has. They are one window, before which nothing is known, so that LLVM
+// keeps what it carries in registers.
+#[inline(always)]
+fn scan_short<A: Allocator>(
+    input: &[u8],
+    blocks: &[[u8; 64]],
+    structural_indexes: &mut Vec<u32, A>,
+    escape_blocks: &mut Vec<u32, A>,
+) -> Result<(Scanned, usize)>
+    requires size { length input.now ≤ max_length }
+    requires blocks { blocks.now ≡ first_chunks 64 (length input.now / 64) input.now }
+    requires len { length blocks.now ≡ length input.now / 64 }
+    requires some { 0 < length blocks.now }
+    ensures scanned { IfOk result (λ r. IsScanned input.now (length input.now / 64) r.0
+        structural_indexes.new.items escape_blocks.new.items) }
+    ensures checked { IfOk result (λ r. (r.1 ≤ length input.now) × IsUtf8 (take r.1 input.now)) }
+    ensures fault { IfErr result (λ e. IsBadEncoding input.now e
+        ⊎ LacksMemory input.now e structural_indexes.old.items escape_blocks.old.items) }
+    ensures longer { (length structural_indexes.old.items ≤ length structural_indexes.new.items)
+        × (length escape_blocks.old.items ≤ length escape_blocks.new.items) }
+{
+    let end = blocks.len();
+    let window = Window { first: 0, end };
+    let checked = capacity_for(
+        input,
+        blocks,
+        0,
+        window,
+        START,
+        structural_indexes,
+        escape_blocks,
+    )?;
+    let done = scan_few(
+        blocks,
+        window,
+        structural_indexes.as_mut_slice(),
+        escape_blocks.as_mut_slice(),
+        START,
+    );
+    let is_ascii = done.classifying.high == 0;
+    let checked = check_window(input, checked, 0, BLOCK_LEN * end, is_ascii)?;
     Ok((done, checked))
 }
 

@@ -27,7 +27,7 @@ pub(super) struct Window {
 
 // The blocks from one to another one at a time, into lists with capacity for all that they may have.
 #[inline(always)]
-fn scan_few(
+pub(super) fn scan_few(
     blocks: &[[u8; 64]],
     window: Window,
     out: &mut [u32],
@@ -123,6 +123,7 @@ fn have_backslash(blocks: &[[u8; 64]], window: Window) -> bool
 // Capacity for all that a window may have. Before a list grows, all of the input is known to be UTF-8. The
 // list of positions grows by how many there were so far. With new lists, an input of one window that has no
 // backslash leaves the list of blocks empty, which is one allocation less.
+#[inline(always)]
 pub(super) fn capacity_for<A: Allocator>(
     input: &[u8],
     blocks: &[[u8; 64]],

@@ -1,8 +1,6 @@
-use Rattle.std.proofs.Common.{◌≡◌, ◌++◌, List, ℕ, length, take, drop, subst, sym, ap, eqb-true, arith}
+use Rattle.std.proofs.Common.{◌≡◌, ◌++◌, refl, length, take, drop, sym, ap, eqb-true, arith}
 use Rattle.std.proofs.lemmas.Str.{IsUtf8-nil}
-use Rattle.simd_json_stages.specs.Blocks.{IsScanned}
-use Rattle.simd_json_stages.specs.declared.stage1.scan.Scanned.{Scanned}
-use Rattle.simd_json_stages.proofs.ScanLaws.{IsScanned-none, IsScanned-capacity, AreBlocks-chunks, written-back}
+use Rattle.simd_json_stages.proofs.ScanLaws.{IsScanned-none, IsScanned-capacity, IsScanned-equal, AreBlocks-chunks, written-back}
 use Rattle.simd_json_stages.proofs.stage1.scan.scan_blocks.Goals as goal
 
 pub loop-first-init : goal.loop-first-init
@@ -16,10 +14,6 @@ loop-first-init g c =
       blocks_longer = omega arith;
     }
 
-same : (b : List ℕ) (k : ℕ) (s : Scanned) (out listed more more_listed : List ℕ) → out ≡ more → listed ≡ more_listed
-    → IsScanned b k s out listed → IsScanned b k s more more_listed
-same b k s out listed more more_listed e f h = subst (λ l. IsScanned b k s more l) f (subst (λ o. IsScanned b k s o listed) e h)
-
 pub check_window-requires-clause-ascii : goal.check_window-requires-clause-ascii
 check_window-requires-clause-ascii g c =
     let b = c.args.input.now in
@@ -30,7 +24,8 @@ check_window-requires-clause-ascii g c =
     let more = c.capacity_for.ensures.longer in
     let wide = IsScanned-capacity b l.first l.done l.structural_indexes.items l.escape_blocks.items a.items z.items l.invariant.scanned
     k.0 more.0 k.1 more.1 in
-    let lent = same b l.first l.done _ _ _ _ (sym c.as_mut_slice.ensures.value) (sym c.as_mut_slice-in-loop-first.ensures.value) wide in
+    let lent = IsScanned-equal b _ l.first l.done _ _ _ _ refl (sym c.as_mut_slice.ensures.value)
+    (sym c.as_mut_slice-in-loop-first.ensures.value) wide in
     λ zero. c.scan_window-done.ensures.ascii b (AreBlocks-chunks b c.args.blocks.now c.requires.blocks c.requires.len) lent
     (eqb-true _ _ zero)
 
@@ -46,7 +41,8 @@ loop-first-preserved g c =
     let w = c.scan_window-done in
     let wide = IsScanned-capacity b l.first l.done l.structural_indexes.items l.escape_blocks.items a.items z.items i.scanned k.0 more.0
     k.1 more.1 in
-    let lent = same b l.first l.done _ _ _ _ (sym c.as_mut_slice.ensures.value) (sym c.as_mut_slice-in-loop-first.ensures.value) wide in
+    let lent = IsScanned-equal b _ l.first l.done _ _ _ _ refl (sym c.as_mut_slice.ensures.value)
+    (sym c.as_mut_slice-in-loop-first.ensures.value) wide in
     let done = w.ensures.scanned b (AreBlocks-chunks b c.args.blocks.now c.requires.blocks c.requires.len) lent in
     let long : length w.new.out ≡ a.len = omega arith in
     let long_listed : length w.new.listed ≡ z.len = omega arith in
@@ -60,7 +56,7 @@ loop-first-preserved g c =
     let checked = c.in_ok-checked-2.ensures.utf8 in
     record {
       to = omega arith;
-      scanned = same b _ w.result _ _ _ _ (sym out) (sym listed) done;
+      scanned = IsScanned-equal b _ _ w.result _ _ _ _ refl (sym out) (sym listed) done;
       within = checked.0;
       utf8 = checked.1;
       longer = omega arith;
