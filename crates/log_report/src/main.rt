@@ -17,7 +17,6 @@ use simd_json_print::text::Text;
 use std::alloc::{AllocError, Allocator};
 use std::hash::{BuildHasherDefault, FoldHasher};
 use std::io::{self, Read, Write};
-use std::process::ExitCode;
 
 // 1,024 values, and three marks.
 const MOST_TEXTS: usize = 1027;
@@ -41,12 +40,12 @@ impl From<AllocError> for Failure {
     }
 }
 
-fn main(rt: HostRuntime) -> ExitCode {
+fn main(rt: HostRuntime) -> std::process::ExitCode {
     let (status, line) = ending(&program(&rt));
     if let Some(line) = line {
         let _ = eprintln!(rt; "{line}");
     }
-    ExitCode::from(status)
+    status.into()
 }
 
 fn program(rt: &HostRuntime) -> Result<bool, Failure> {
@@ -113,8 +112,7 @@ fn run<A: Allocator + Copy, R: Read, W: Write, E: Write>(
         let read = reader.read(&mut block).map_err(|_| Failure::Read)?;
         if read == 0 {
             lines.count(line.as_mut_slice(), refusals)?;
-            let all_taken = lines.all_taken;
-            return lines.write(report).and(Ok(all_taken));
+            return lines.write(report).and(Ok(lines.all_taken));
         }
         lines.take(&block[..read], &mut line, refusals)?;
     }
@@ -244,7 +242,8 @@ impl<'k, A: Allocator + Copy> Lines<'k, A> {
 
     // Writes a line for each text under which lines count, the greatest count first.
     fn write<W: Write>(&mut self, out: &mut Port<W>) -> Ended
-        ensures { Ends out.old out.new (Prints W.contents self.old out.old out.new) result }
+        ensures printed { Ends out.old out.new (Prints W.contents self.old out.old out.new) result }
+        ensures taken { self.new.all_taken ≡ self.old.all_taken }
     {
         self.counts.sort_by(|_, count, _, other| other.cmp(count))?;
         let mut text = Text::<Port<W>, 4096>::new(out);

@@ -1,19 +1,20 @@
 -- The key that a token with escapes is, and whether another is the same.
 use Rattle.std.proofs.Common.{◌≡◌, ◌∙◌, ap, sym, refl, ◌<◌, ◌≤◌, ◌+◌, ◌-◌, ◌++◌, ℕ, zero, suc, Bool, true, false, not, ◌||◌, cond, eqb}
 use Rattle.std.proofs.Common.{List, [], ◌∷◌, length, length-append, length-drop, drop, take, get_or, append_assoc, append-nil, Some, None}
-use Rattle.std.proofs.Common.{Option, option_map, arith, subst}
+use Rattle.std.proofs.Common.{Option, option_map, arith, subst, ◌≢◌, inl, inr, ne_eqb}
 use Rattle.std.proofs.lemmas.Bool.{eq-eqb, eqb-true}
-use Rattle.std.proofs.lemmas.List.{drop-drop, drop_all, drop_more, length-take-le, take-append-drop, take_all}
+use Rattle.std.proofs.lemmas.List.{drop-drop, drop_all, drop_more, get_or-take, length-take-le, take-append-drop, take_all}
 use Rattle.std.proofs.lemmas.List.Sums.{prefix_len-le-length}
 use Rattle.std.proofs.Math.Seq.{take-append_seam, drop-append-add, get_or-append_seam}
 use Rattle.std.proofs.lemmas.Str.{IsUtf8-append, IsUtf8-take, IsUtf8-drop, IsUtf8-from_ascii, IsCharBoundary-before_ascii}
 use Rattle.std.proofs.lemmas.Str.{IsCharBoundary-after_ascii}
 use Rattle.std.specs.List.{prefix_len}
 use Rattle.std.specs.Str.{IsUtf8, IsAscii}
-use Rattle.simd_json.specs.Followed.{IsDecodedLen, IsKey, escape_byte, is_neither}
-use Rattle.simd_json.specs.Pointed.{unescaped}
-use Rattle.simd_json.proofs.Fronts.{front-ends}
-use Rattle.simd_json.proofs.Pointed.{len-of, mapped-some, plain-head, two}
+use Rattle.std.specs.Prelude.{◌⊎◌}
+use Rattle.simd_json.specs.Followed.{IsDecodedLen, IsKey, escape_byte, first_of, is_neither}
+use Rattle.simd_json.specs.Pointed.{tokens, unescaped, with_first}
+use Rattle.simd_json.proofs.Fronts.{front-ends, front-lacks, plain-front}
+use Rattle.simd_json.proofs.Pointed.{Lacks, len-of, mapped-some, plain-head, rest, two, unescaped-plain}
 
 -- ---- it is UTF-8, as the token is
 
@@ -362,3 +363,116 @@ left-last t left key m n is plain has =
     sym (unescaped-same left (ap Some (sym long) ∙ is.counted)) ∙ is.decoded key has in
     let both : left ≡ drop (m - n) key = cc in
     ap (λ l. drop (length t - l) t) long ∙ sym is.end ∙ both
+
+-- ---- a key that is some bytes, one byte, and others
+
+pub around-same : (key before after : List ℕ) (x : ℕ) → length key ≡ length before + 1 + length after
+    → get_or key (length before) 0 ≡ x → take (length before) key ≡ before → drop (length before + 1) key ≡ after
+    → key ≡ before ++ x ∷ after
+around-same key before after x long byte front back =
+    let n = length before in
+    sym (take-append-drop n key)
+    ∙ ap (λ l. l ++ drop n key) front
+    ∙ ap (λ l. before ++ l) (drop_more key n 0 (omega (arith, long)))
+    ∙ ap (λ c. before ++ c ∷ drop (n + 1) key) byte
+    ∙ ap (λ l. before ++ x ∷ l) back
+
+pub record IsAround (key before after : List ℕ) (x : ℕ) : Type 0 where
+  pub long : length key ≡ length before + 1 + length after
+  pub byte : get_or key (length before) 0 ≡ x
+  pub front : take (length before) key ≡ before
+  pub back : drop (length before + 1) key ≡ after
+
+pub around-parts : (key before after : List ℕ) (x : ℕ) → key ≡ before ++ x ∷ after → IsAround key before after x
+around-parts key before after x is = subst (λ k. IsAround k before after x) (sym is) (record {
+  long = omega (arith, length-append before (x ∷ after));
+  byte = get_or-append_seam before x after 0;
+  front = take-append_seam before (x ∷ after);
+  back = drop-append-add before (x ∷ after) 1;
+})
+
+-- ---- a token with one escape
+
+first-with : (c : ℕ) (ts : List (List ℕ)) → first_of (with_first c ts) ≡ c ∷ first_of ts
+first-with c [] = refl
+first-with c (t ∷ ts) = refl
+
+first-behind : (a b : List ℕ) → Lacks 47 (length a) a → first_of (tokens (a ++ b)) ≡ a ++ first_of (tokens b)
+first-behind [] b lacks = refl
+first-behind (c ∷ a) b lacks =
+    rw (ne_eqb c 47 (lacks 0 (omega arith)))
+    (first-with c (tokens (a ++ b)) ∙ ap (λ t. c ∷ t) (first-behind a b (λ k less. lacks (suc k) (omega arith))))
+
+first-escape : (e : ℕ) (b : List ℕ) → (e ≡ 48) ⊎ (e ≡ 49) → first_of (tokens (126 ∷ e ∷ b)) ≡ 126 ∷ e ∷ first_of (tokens b)
+first-escape e b (inl is) = subst (λ x. first_of (tokens (126 ∷ x ∷ b)) ≡ 126 ∷ x ∷ first_of (tokens b)) (sym is)
+    (first-with 126 (with_first 48 (tokens b)) ∙ ap (λ t. 126 ∷ t) (first-with 48 (tokens b)))
+first-escape e b (inr is) = subst (λ x. first_of (tokens (126 ∷ x ∷ b)) ≡ 126 ∷ x ∷ first_of (tokens b)) (sym is)
+    (first-with 126 (with_first 49 (tokens b)) ∙ ap (λ t. 126 ∷ t) (first-with 49 (tokens b)))
+
+decoded-behind : (a b : List ℕ) (e : ℕ) → Lacks 126 (length a) a → (e ≡ 48) ⊎ (e ≡ 49) → unescaped b ≡ Some b
+    → unescaped (a ++ 126 ∷ e ∷ b) ≡ Some (a ++ escape_byte e ∷ b)
+decoded-behind [] b e lacks (inl is) plain =
+    subst (λ x. unescaped (126 ∷ x ∷ b) ≡ Some (escape_byte x ∷ b)) (sym is) (ap (option_map (λ k. 126 ∷ k)) plain)
+decoded-behind [] b e lacks (inr is) plain =
+    subst (λ x. unescaped (126 ∷ x ∷ b) ≡ Some (escape_byte x ∷ b)) (sym is) (ap (option_map (λ k. 47 ∷ k)) plain)
+decoded-behind (c ∷ a) b e lacks digit plain =
+    plain-head c (a ++ 126 ∷ e ∷ b) (lacks 0 (omega arith))
+    ∙ ap (option_map (λ k. c ∷ k)) (decoded-behind a b e (λ k less. lacks (suc k) (omega arith)) digit plain)
+
+-- what is left of a pointer begins with a token that has its escape behind n bytes, and m bytes after it
+pub record IsOnce (p : List ℕ) (n m : ℕ) : Type 0 where
+  pub len : n + 2 + m ≡ length (first_of (tokens p))
+  pub key : unescaped (first_of (tokens p)) ≡ Some (take n p ++ escape_byte (get_or p (n + 1) 0) ∷ take m (drop (n + 2) p))
+
+pub once-at : (p : List ℕ) (n m : ℕ) → n ≡ prefix_len (is_neither 47 126) p → n + 1 < length p → get_or p n 0 ≡ 126
+    → (get_or p (n + 1) 0 ≡ 48) ⊎ (get_or p (n + 1) 0 ≡ 49)
+    → m ≡ prefix_len (is_neither 47 126) (drop (n + 2) p)
+    → (m < length (drop (n + 2) p) → get_or (drop (n + 2) p) m 0 ≢ 126) → IsOnce p n m
+once-at p n m front inside begins digit after other =
+    let q = drop (n + 2) p in
+    let e = get_or p (n + 1) 0 in
+    let a = take n p in
+    let long : length a ≡ n = length-take-le n p (omega arith) in
+    let lacks : (k : ℕ) → k < length a → (get_or a k 0 ≢ 47) × (get_or a k 0 ≢ 126) = λ k less.
+    (let before : k < n = omega (arith, less, long) in
+    let same = get_or-take n p k 0 before in
+    let there = front-lacks 47 126 p k (omega (arith, front, before)) in
+    (λ is. there.0 (sym same ∙ is), λ is. there.1 (sym same ∙ is))) in
+    let rest = plain-front q q m refl after other in
+    let whole : p ≡ a ++ 126 ∷ e ∷ q =
+    sym (take-append-drop n p) ∙ ap (λ l. a ++ l) (two p n inside ∙ ap (λ c. c ∷ e ∷ q) begins) in
+    let token : first_of (tokens p) ≡ a ++ 126 ∷ e ∷ take m q =
+    ap (λ l. first_of (tokens l)) whole ∙ first-behind a (126 ∷ e ∷ q) (λ k less. (lacks k less).0)
+    ∙ ap (λ l. a ++ l) (first-escape e q digit ∙ ap (λ l. 126 ∷ e ∷ l) rest.token) in
+    let size : length (take m q) ≡ m = sym (ap length rest.token) ∙ sym rest.len in
+    let plain : unescaped (take m q) ≡ Some (take m q) =
+    subst (λ t. unescaped t ≡ Some t) rest.token (unescaped-plain (first_of (tokens q)) rest.plain) in
+    record {
+      len = omega (arith, ap length token, length-append a (126 ∷ e ∷ take m q), long, size);
+      key = ap unescaped token ∙ decoded-behind a (take m q) e (λ k less. (lacks k less).1) digit plain;
+    }
+
+-- the same of bytes that are it, and of the bytes from the escape's end on
+pub once-in : (bytes left : List ℕ) (n m : ℕ) → bytes ≡ left → n ≡ prefix_len (is_neither 47 126) left
+    → (n < length bytes) × (get_or bytes n 0 ≡ 126)
+    → ((n + 1 < length bytes) × (get_or bytes (n + 1) 0 ≡ 48)) ⊎ ((n + 1 < length bytes) × (get_or bytes (n + 1) 0 ≡ 49))
+    → m ≡ prefix_len (is_neither 47 126) (take (length bytes - (n + 2)) (drop (n + 2) bytes))
+    → ((m < length (take (length bytes - (n + 2)) (drop (n + 2) bytes)))
+    × (get_or (take (length bytes - (n + 2)) (drop (n + 2) bytes)) m 0 ≡ 126) → ⊥)
+    → IsOnce left n m
+once-in bytes left n m same front begins digit after other =
+    let back = rest bytes (n + 2) in
+    let escape : (n + 1 < length bytes) × ((get_or bytes (n + 1) 0 ≡ 48) ⊎ (get_or bytes (n + 1) 0 ≡ 49)) =
+    elim digit [ inl d ↦ (d.0, inl d.1) | inr d ↦ (d.0, inr d.1) ] in
+    subst (λ p. IsOnce p n m) same
+    (once-at bytes n m (front ∙ ap (prefix_len (is_neither 47 126)) (sym same)) escape.0 begins.1 escape.1
+    (after ∙ ap (prefix_len (is_neither 47 126)) back)
+    (λ less is. other (subst (λ q. (m < length q) × (get_or q m 0 ≡ 126)) (sym back) (less, is))))
+
+pub key-in : (bytes left : List ℕ) (n m x : ℕ) → bytes ≡ left → x ≡ escape_byte (get_or bytes (n + 1) 0)
+    → take n bytes ++ x ∷ take m (take (length bytes - (n + 2)) (drop (n + 2) bytes))
+    ≡ take n left ++ escape_byte (get_or left (n + 1) 0) ∷ take m (drop (n + 2) left)
+key-in bytes left n m x same is =
+    ap (λ r. take n bytes ++ x ∷ take m r) (rest bytes (n + 2))
+    ∙ ap (λ y. take n bytes ++ y ∷ take m (drop (n + 2) bytes)) is
+    ∙ ap (λ p. take n p ++ escape_byte (get_or p (n + 1) 0) ∷ take m (drop (n + 2) p)) same

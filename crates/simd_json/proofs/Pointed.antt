@@ -327,6 +327,18 @@ member-later (Some key) k d ms ns pair other =
     ap (λ o. result_ok (ok_or o lacking.Key)) (first_with-pair key k d ms ns pair)
     ∙ ap (λ b. result_ok (ok_or (cond b (Some d) (first_with key ns)) lacking.Key)) (other-bytes k key (λ same. other (ap Some (sym same))))
 
+-- of a key that is looked up, the first pair has it, or not
+pub with-here : (key k : List ℕ) (d : Document) (ms ns : Members) → members ms ≡ (k, d) ∷ members ns → k ≡ key
+    → first_with key ms ≡ Some d
+with-here key k d ms ns pair is =
+    first_with-pair key k d ms ns pair
+    ∙ ap (λ b. cond b (Some d) (first_with key ns)) (ap (λ x. bytes_eq x key) is ∙ same-bytes key)
+
+pub with-later : (key k : List ℕ) (d : Document) (ms ns : Members) → members ms ≡ (k, d) ∷ members ns → (k ≡ key → ⊥)
+    → first_with key ms ≡ first_with key ns
+with-later key k d ms ns pair other =
+    first_with-pair key k d ms ns pair ∙ ap (λ b. cond b (Some d) (first_with key ns)) (other-bytes k key other)
+
 pub member-none : (u : Option (List ℕ)) (ms : Members) → members ms ≡ [] → result_ok (member_at ms u) ≡ None
 member-none None ms empty = refl
 member-none (Some key) ms empty = ap (λ o. result_ok (ok_or o lacking.Key)) (first_with-none key ms empty)
@@ -336,6 +348,11 @@ member-none (Some key) ms empty = ap (λ o. result_ok (ok_or o lacking.Key)) (fi
 pub ok-or : {A E : Type 0} (o : Option A) (e : E) → result_ok (ok_or o e) ≡ o
 ok-or None e = refl
 ok-or (Some x) e = refl
+
+-- the first pair with the key that a token is
+pub member-of : (ms : Members) (t key : List ℕ) → unescaped t ≡ Some key
+    → first_with key ms ≡ result_ok (member_at ms (unescaped t))
+member-of ms t key is = sym (ap (λ u. result_ok (member_at ms u)) is ∙ ok-or (first_with key ms) lacking.Key)
 
 fits-by : (b : Bool) (i j : ℕ) → cond b (Some i) None ≡ Some j → i ≡ j
 fits-by true i j is = cc

@@ -1,8 +1,9 @@
 //! JSON Pointer (RFC 6901): the value at a place within another.
 ghost use Rattle.std.specs.Prelude.{◌≡◌, ◌≤◌, ◌<◌, ◌↔◌, IsTrue, None, Err, drop, length, slice_index, option_map, option_and_then, IfSome};
 ghost use Rattle.std.specs.Result.{result_ok};
-ghost use Rattle.simd_json.specs.Followed.{IsPlain, first_of, first_step, fits_64};
-ghost use Rattle.simd_json.specs.Pointed.{tokens, unescaped, array_index, element_at, member_at, named, pointed, pointed_from};
+ghost use Rattle.std.specs.List.{prefix_len};
+ghost use Rattle.simd_json.specs.Followed.{IsPlain, first_of, first_step, fits_64, is_neither};
+ghost use Rattle.simd_json.specs.Pointed.{tokens, unescaped, array_index, element_at, member_at, named, pointed, pointed_from, tilde};
 ghost use Rattle.simd_json.specs.Viewed.{doc, docs, pairs};
 ghost use Rattle.simd_json_parts.specs.Bytes.{slash};
 
@@ -14,7 +15,7 @@ mod token;
 
 use crate::value::pointer::front::front_len;
 use crate::value::pointer::index::{is_index, read_index};
-use crate::value::pointer::token::{decode, decoded_len, first_token, held};
+use crate::value::pointer::token::{decode, decoded_len, first_token, held, unescaped_byte};
 use crate::value::tape::{Array, Object, Value};
 use simd_json_parts::node::ValueType;
 pub use split::Pointer;
@@ -157,14 +158,42 @@ fn member<'tape, 'input>(
     let bytes = left.as_bytes();
     let len = front_len(bytes, b'/', b'~');
     if stands_at(bytes, len, b'~') {
-        return escaped_member(object, left);
+        return escaped_member(object, left, len);
     }
     Some((object.find(&left[..len])?, len))
 }
 
-// The same where the token has an escape.
-#[cold]
+// The same where the token has an escape behind so many bytes. A token with one escape is compared as it stands:
+// what is before it, its byte, and what is after it.
+#[inline(never)]
 fn escaped_member<'tape, 'input>(
+    object: Object<'tape, 'input>,
+    left: &str,
+    before: usize,
+) -> Option<(Value<'tape, 'input>, usize)>
+    requires { before ≡ prefix_len (is_neither slash tilde) left.now }
+    ensures named { option_map (λ r. doc r.0) result
+        ≡ result_ok (member_at (pairs object.entry) (unescaped (first_of (tokens left.now)))) }
+    ensures len { IfSome result (λ r. r.1 ≡ length (first_of (tokens left.now))) }
+{
+    let bytes = left.as_bytes();
+    if stands_at(bytes, before, b'~')
+        && (stands_at(bytes, before + 1, b'0') || stands_at(bytes, before + 1, b'1'))
+    {
+        let rest = &bytes[before + 2..];
+        let after = front_len(rest, b'/', b'~');
+        if !stands_at(rest, after, b'~') {
+            let byte = unescaped_byte(bytes[before + 1]);
+            let value = token::find_around(object, &bytes[..before], byte, &rest[..after])?;
+            return Some((value, before + 2 + after));
+        }
+    }
+    decoded_member(object, left)
+}
+
+// The same of any token, whose key is decoded.
+#[cold]
+fn decoded_member<'tape, 'input>(
     object: Object<'tape, 'input>,
     left: &str,
 ) -> Option<(Value<'tape, 'input>, usize)>

@@ -14,6 +14,8 @@ pub(super) fn front_len(bytes: &[u8], one: u8, other: u8) -> usize
     let len = bytes.len();
     if len >= 16 {
         front_len_by::<16>(bytes, one, other)
+    } else if len >= 8 {
+        front_len_by::<8>(bytes, one, other)
     } else if len >= 4 {
         front_len_by::<4>(bytes, one, other)
     } else if len >= 1 {

@@ -1,10 +1,11 @@
 //! A reference token, and the key that it is when its escapes are decoded (RFC 6901, section 3).
-ghost use Rattle.std.specs.Prelude.{◌≡◌, ◌<◌, ◌≤◌, ◌+◌, ◌-◌, ℕ, List, ◌↔◌, ◌∷◌, ◌++◌, IsTrue, IfSome, Some, None, take, drop, length, slice_index, option_map, MatchOption};
+ghost use Rattle.std.specs.Prelude.{◌≡◌, ◌<◌, ◌≤◌, ◌+◌, ◌-◌, ◌^◌, ℕ, List, ◌↔◌, ◌∷◌, ◌++◌, IsTrue, IfSome, Some, None, take, drop, length, slice_index, option_map, MatchOption};
 ghost use Rattle.std.specs.Result.{result_ok};
 ghost use Rattle.simd_json.specs.Followed.{IsDecodedLen, IsKey, IsPlain, IsWritten, escape_byte, tokens_after};
 ghost use Rattle.simd_json.specs.Pointed.{member_at, tokens, unescaped};
 ghost use Rattle.simd_json.specs.Viewed.{doc, pairs};
 ghost use Rattle.simd_json_parts.specs.Bytes.{slash};
+ghost use Rattle.simd_json_parts.specs.Views.{first_with};
 
 use crate::value::pointer::front::front_len;
 use crate::value::tape::{Object, Value};
@@ -121,6 +122,31 @@ fn unescaped_at(token: &[u8], at: usize) -> Option<Written>
     }
 }
 
+// The value of the first pair whose key is these bytes, one byte, and others.
+#[inline(always)]
+pub(super) fn find_around<'tape, 'input>(
+    object: Object<'tape, 'input>,
+    before: &[u8],
+    byte: u8,
+    after: &[u8],
+) -> Option<Value<'tape, 'input>>
+    requires { length before.now + length after.now < 2 ^ 63 }
+    ensures { option_map doc result ≡ first_with (before.now ++ byte ∷ after.now) (pairs object.entry) }
+{
+    let at = before.len();
+    for (key, value) in object.iter() {
+        let key = key.as_bytes();
+        if key.len() == at + 1 + after.len()
+            && key[at] == byte
+            && &key[..at] == before
+            && &key[at + 1..] == after
+        {
+            return Some(value);
+        }
+    }
+    None
+}
+
 // The value of the first pair with the key that a token is, of which this is held.
 #[inline(always)]
 pub(super) fn find<'tape, 'input>(
@@ -199,7 +225,7 @@ fn is_unescaped(token: &[u8], key: &[u8]) -> bool
 }
 
 // The byte that `~` and this digit are.
-fn unescaped_byte(digit: u8) -> u8
+pub(super) fn unescaped_byte(digit: u8) -> u8
     ensures { result ≡ escape_byte digit }
 {
     if digit == b'0' { b'~' } else { b'/' }
