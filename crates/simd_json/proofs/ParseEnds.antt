@@ -3,12 +3,13 @@ use Rattle.std.proofs.Common.{◌≡◌, ◌≢◌, ◌∙◌, ap, sym, subst, �
 use Rattle.std.proofs.Common.{Option, Ok, Err, refl, arith, cond, Result, min, ◌*◌, ◌⊎◌, inl, inr, IsUtf8, is_some, nat_lt, take}
 use Rattle.std.specs.Result.{IsErrAnd, IfErr, IfOk, OnOk, OnErr, result_err}
 use Rattle.std.specs.Str.{is_utf8}
-use Rattle.simd_json_theorems.proofs.Faults.Kinds.{input-fault}
+use Rattle.simd_json_theorems.proofs.Faults.Kinds.{input-fault, token-fault}
 use Rattle.simd_json_scalars.proofs.Positions.ScannedInputs.{fault-by_size, scanned}
 use Rattle.std.proofs.lemmas.List.{length-take-le}
 use Rattle.std.proofs.lemmas.Option.{none-some}
 use Rattle.std.proofs.lemmas.Str.{IsUtf8-from_is_utf8}
 use Rattle.std.proofs.lemmas.Bool.{ltb-false, ltb-true, lt-ltb, false≢true}
+use Rattle.simd_json_parts.specs.Descent.{descent}
 use Rattle.simd_json_parts.specs.Document.{Document, null, boolean, integer, decimal, string, array, object}
 use Rattle.simd_json_parts.specs.FaultKinds.{IsOfInput, IsOfToken, is_input_kind, is_token_kind}
 use Rattle.simd_json_parts.specs.Faults.{whole_fault}
@@ -20,11 +21,13 @@ use Rattle.simd_json_parts.specs.Positions.{positions}
 use Rattle.simd_json_parts.specs.declared.error.Error.{Error}
 use Rattle.simd_json_parts.specs.declared.error.ErrorType.TheVariants.{OutOfMemory}
 use Rattle.simd_json.specs.Memory.{IsOutOfMemory, LacksMemory}
-use Rattle.simd_json.specs.Parsed.{IsParse, IsParsed, IsRefused}
+use Rattle.simd_json.specs.Parsed.{IsParse, IsParsed, IsRefused, written}
 use Rattle.simd_json.specs.Capacities.{KeepsCapacities, Capacities, capacity}
 use Rattle.simd_json.specs.Reserved.{bytes_listed}
+use Rattle.simd_json_stages.specs.Building.{IsWritten}
 use Rattle.simd_json_stages.specs.NodesEnough.{nodes_enough}
-use Rattle.simd_json.proofs.ParseLaws.{few-positions, refused-whole}
+use Rattle.simd_json_stages.specs.Refusals.{IsTokenFault}
+use Rattle.simd_json.proofs.ParseLaws.{few-positions, refused-token, refused-whole, written-parsed}
 
 -- ---- what a fault carries
 
@@ -111,15 +114,24 @@ less-min-right : (a b n : ℕ) → b < n → min a b < n
 less-min-right a b n l = omega (arith, l)
 
 -- nothing is listed, and there is no node, where the first stage refuses
+pub parse-unread : {A : Type 0} (r : Result A Error) (b : List ℕ) (limit capacity : ℕ) (e : Error)
+    (nodes : List Item) (listed : List ℕ) → IsErrAnd r (λ x. x ≡ e) → nodes ≡ [] → listed ≡ []
+    → (input_fault b ≡ Some e) ⊎ (LacksMemory b e × (capacity < length b))
+    → IsParse b limit capacity (result_err r) nodes listed
+parse-unread r b limit capacity e nodes listed err n l (inl whole) =
+    parse-at (Some e) (result_err r) [] nodes [] listed (err-of r e err) n l (parse-whole b limit capacity e whole)
+parse-unread r b limit capacity e nodes listed err n l (inr (lacks, short)) =
+    parse-at (Some e) (result_err r) [] nodes [] listed (err-of r e err) n l (parse-lacking b limit capacity e lacks short)
+
 pub parse-unlisted : {A : Type 0} (r : Result A Error) (b : List ℕ) (limit tape_capacity capacity : ℕ) (e : Error)
     (nodes : List Item) (listed : List ℕ) → IsErrAnd r (λ x. x ≡ e) → nodes ≡ [] → listed ≡ []
     → (input_fault b ≡ Some e) ⊎ (LacksMemory b e × (capacity < length b))
     → IsParse b limit (min tape_capacity capacity) (result_err r) nodes listed
-parse-unlisted r b limit tape_capacity capacity e nodes listed err n l (inl whole) = parse-at (Some e)
-    (result_err r) [] nodes [] listed (err-of r e err) n l (parse-whole b limit (min tape_capacity capacity) e whole)
+parse-unlisted r b limit tape_capacity capacity e nodes listed err n l (inl whole) =
+    parse-unread r b limit (min tape_capacity capacity) e nodes listed err n l (inl whole)
 parse-unlisted r b limit tape_capacity capacity e nodes listed err n l (inr (lacks, short)) =
-    parse-at (Some e) (result_err r) [] nodes [] listed (err-of r e err) n l
-    (parse-lacking b limit (min tape_capacity capacity) e lacks (less-min-right tape_capacity capacity (length b) short))
+    parse-unread r b limit (min tape_capacity capacity) e nodes listed err n l
+    (inr (lacks, less-min-right tape_capacity capacity (length b) short))
 
 -- ---- size and encoding
 
@@ -145,6 +157,28 @@ parse-built (Ok x) b limit capacity nodes listed p few empty refused l =
     parse-at None None nodes nodes (positions b) listed refl refl l (parse-done b limit capacity nodes p few)
 parse-built (Err e) b limit capacity nodes listed p few empty refused l =
     parse-at (Some e) (Some e) [] nodes (positions b) listed refl empty l (parse-token b limit capacity e refused.0 refused.1)
+
+-- the same with a sink
+pub parse-written : (r : Result (Unit {0}) Error) (b : List ℕ) (limit capacity : ℕ) (nodes : List Item) (listed : List ℕ)
+    → input_fault b ≡ None → OnOk r (IsWritten b limit nodes) → OnOk r (length nodes ≤ length (positions b))
+    → IfErr r (λ e. IsTokenFault e × (descent b limit ≡ Err e)) → listed ≡ positions b
+    → IsParse b limit capacity (result_err r) (written r nodes) listed
+parse-written (Ok x) b limit capacity nodes listed none built few refused l =
+    parse-at None None nodes nodes (positions b) listed refl refl l
+    (parse-done b limit capacity nodes (written-parsed b limit nodes none built) few)
+parse-written (Err e) b limit capacity nodes listed none built few refused l =
+    parse-at (Some e) (Some e) [] [] (positions b) listed refl refl l
+    (parse-token b limit capacity e (refused-token b limit e none refused.1) (token-fault b limit e refused.1))
+
+pub unwritten : (r : Result (Unit {0}) Error) (e : Error) (nodes : List Item) → IsErrAnd r (λ x. x ≡ e) → written r nodes ≡ []
+unwritten (Ok x) e nodes is = absurd is
+unwritten (Err x) e nodes is = refl
+
+-- where nothing is wrong with the whole, so many nodes are enough
+pub nodes-within : (b : List ℕ) (limit room : ℕ) → input_fault b ≡ None → max_length ≤ room
+    → nodes_enough (length (positions b)) limit ≤ room
+unfolding nodes_enough
+nodes-within b limit room none l = omega (arith, l, few-positions b, (right-input b none).0)
 
 -- so many nodes are enough for as many bytes, and what is too few for so many positions is for fewer
 pub bytes-enough : (len limit nodes : ℕ) → nodes_enough len limit ≤ nodes → len ≤ bytes_listed limit nodes

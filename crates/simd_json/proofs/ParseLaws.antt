@@ -20,7 +20,7 @@ use Rattle.simd_json_parts.specs.Grammar.{Denotes}
 use Rattle.simd_json_parts.specs.Limits.{WithinLimits}
 use Rattle.simd_json_parts.specs.Nodes.{Item, item_of}
 use Rattle.simd_json_parts.specs.declared.node.Node.{Node}
-use Rattle.simd_json_stages.specs.Building.{IsListed}
+use Rattle.simd_json_stages.specs.Building.{IsListed, IsWritten}
 use Rattle.simd_json.specs.Parsed.{IsParsed, IsRefused}
 use Rattle.simd_json.specs.Tapes.{IsTape}
 use Rattle.simd_json_parts.specs.InputFaults.{input_fault}
@@ -93,12 +93,18 @@ refused-whole b limit e is =
 
 -- ---- what the second stage lists
 
+pub written-parsed : (b : List ℕ) (limit : ℕ) (nodes : List Item) → input_fault b ≡ None → IsWritten b limit nodes
+    → IsParsed b limit nodes
+written-parsed b limit nodes none written =
+    let answered : answer b limit ≡ Ok written.document = none-answered b limit none ∙ written.same in
+    let right = answer-sound b limit written.document answered in
+    record { document = written.document; denoted = right.0; within = right.1; answered = answered; listed = written.listed }
+
 pub parsed : (b : List ℕ) (limit : ℕ) (nodes : List Node) → input_fault b ≡ None → IsListed b limit nodes
     → IsParsed b limit (map item_of nodes)
 parsed b limit nodes none listed =
-    let answered : answer b limit ≡ Ok listed.document = none-answered b limit none ∙ listed.same in
-    let right = answer-sound b limit listed.document answered in
-    record { document = listed.document; denoted = right.0; within = right.1; answered = answered; listed = listed.listed }
+    written-parsed b limit (map item_of nodes) none
+    (record { document = listed.document; same = listed.same; listed = listed.listed })
 
 pub tape-parsed : (b : List ℕ) (limit : ℕ) (items : List Item) → IsParsed b limit items → IsTape items
 tape-parsed b limit items p = inr (p.document, IsSpellable-denoted b p.document p.denoted, p.within.integers, p.listed)

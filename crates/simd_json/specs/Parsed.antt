@@ -65,3 +65,8 @@ answered_nodes (Err e) = []
 abbrev pub nodes_of : Result Listed Error → List Item
 nodes_of (Ok tape) = tape.nodes
 nodes_of (Err e) = []
+
+-- the nodes that are written to a sink, or none after a fault
+abbrev pub written : Result (Unit {0}) Error → List Item → List Item
+written (Ok done) nodes = nodes
+written (Err e) nodes = []

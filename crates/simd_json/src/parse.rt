@@ -2,17 +2,18 @@
 ghost use Rattle.std.specs.Prelude.{◌≡◌, ◌≢◌, ◌≤◌, ◌<◌, [], ℕ, List, length, min, max, vec_capacity};
 ghost use Rattle.std.specs.Prelude.{IfErr, IfOk, OnOk, OnErr, None, Err};
 ghost use Rattle.std.specs.Result.{result_err};
-ghost use Rattle.simd_json.specs.Parsed.{IsParse, IsPaddedParse, IsParsed, IsRefused, nodes_of};
-ghost use Rattle.simd_json.specs.Capacities.{KeepsCapacities, ListsSame, capped};
+ghost use Rattle.simd_json.specs.Parsed.{IsParse, IsPaddedParse, IsParsed, IsRefused, nodes_of, written};
+ghost use Rattle.simd_json.specs.Capacities.{KeepsCapacities, ListsSame, capacity, capped};
 ghost use Rattle.simd_json.specs.Memory.{HasMemory, IsOutOfMemory};
 ghost use Rattle.simd_json.specs.Reserved.{IsReserved, parse_capacity};
 ghost use Rattle.simd_json_parts.specs.Descent.{descent};
 ghost use Rattle.simd_json_parts.specs.FaultKinds.{IsOfToken};
 ghost use Rattle.simd_json_parts.specs.InputFaults.{input_fault};
+ghost use Rattle.simd_json_parts.specs.Limits.{max_length};
 ghost use Rattle.simd_json.specs.MaxDepth.{default_max_depth};
 ghost use Rattle.simd_json_parts.specs.Positions.{positions};
 ghost use Rattle.simd_json_stages.specs.EscapeBlocks.{backslash_blocks};
-ghost use Rattle.simd_json_stages.specs.Building.{IsListed};
+ghost use Rattle.simd_json_stages.specs.Building.{IsListed, IsWritten};
 ghost use Rattle.simd_json_stages.specs.NodesEnough.{nodes_enough};
 ghost use Rattle.simd_json_stages.specs.Refusals.{IsTokenFault};
 
@@ -21,7 +22,9 @@ use crate::tape::Tape;
 use crate::{DEFAULT_MAX_DEPTH, INPUT_PADDING};
 use simd_json_parts::error::{Error, ErrorType, Result};
 use simd_json_parts::node::Node;
-use simd_json_stages::stage2::{StackState, build_tape, nodes_enough};
+use simd_json_stages::stage2::{
+    NodeSink, Original, StackState, build_tape, build_tape_as, nodes_enough,
+};
 use std::alloc::Allocator;
 
 /// Reads the bytes of one document (RFC 8259) as a tape, with at most [`DEFAULT_MAX_DEPTH`] containers open
@@ -133,6 +136,39 @@ pub fn fill_tape<'de, A: Allocator, B: Allocator>(
         return refuse(e, buffers, tape);
     }
     build(s, buffers, tape)
+}
+
+/// Reads a document as [`fill_tape`] does, and writes its nodes to an empty sink in place of a tape: to a form of
+/// the caller's own, in one pass. The sink has room for 4,294,967,295 nodes, since no document has more.
+///
+/// The errors are those of [`to_tape`]. After one it isn't said what the sink holds. Where the buffers have
+/// capacity for as many bytes as `s` has, `OutOfMemory` is not returned.
+///
+/// `K` names the bytes of `s` as they were given: the contract speaks of these, and strings are decoded in place.
+/// The function that makes the sink is generic over `K`, and is called with [`Brand`](std::marker::Brand).
+pub fn fill_sink<'de, K: Original, S: NodeSink<'de>, A: Allocator>(
+    s: &'de mut [u8],
+    buffers: &mut Buffers<A>,
+    sink: &mut S,
+) -> Result<()>
+    requires input { s.old ≡ K.bytes }
+    requires room { max_length ≤ S.node_room sink.old }
+    requires empty { S.held_nodes sink.old ≡ [] }
+    ensures parse { IsParse K.bytes buffers.old.limit (capacity buffers.old)
+        (result_err result) (written result (S.held_nodes sink.new)) buffers.new.positions }
+    ensures lender { S.lender sink.new ≡ S.lender sink.old }
+    ensures limit { buffers.new.limit ≡ buffers.old.limit }
+    ensures capacities { KeepsCapacities buffers.old buffers.new }
+{
+    buffers.find_positions(s)?;
+    write_nodes::<K, S>(
+        s,
+        &buffers.structural_indexes[..buffers.used],
+        &buffers.escape_blocks[..buffers.used_blocks],
+        buffers.stack.as_mut_slice(),
+        sink,
+        buffers.max_depth,
+    )
 }
 
 /// Reads the document in the first `len` bytes of `s` into a tape, as [`fill_tape`] does, where at least
@@ -332,4 +368,32 @@ fn build_nodes<'de, A: Allocator>(
     }
     let mut few = [StackState::EMPTY; FEW_OPEN];
     build_tape(s, indexes, escape_blocks, &mut few, nodes, max_depth)
+}
+
+// The same for the nodes of a sink.
+fn write_nodes<'de, K: Original, S: NodeSink<'de>>(
+    s: &'de mut [u8],
+    indexes: &[u32],
+    escape_blocks: &[u32],
+    stack: &mut [StackState],
+    sink: &mut S,
+    max_depth: usize,
+) -> Result<()>
+    requires input { s.old ≡ K.bytes }
+    requires positions { indexes.now ≡ positions K.bytes }
+    requires escapes { escape_blocks.now ≡ backslash_blocks K.bytes }
+    requires whole { input_fault K.bytes ≡ None }
+    requires room { nodes_enough (length indexes.now) max_depth ≤ S.node_room sink.old }
+    requires stack { min (length indexes.now) max_depth ≤ max (length stack.old) 64 }
+    requires empty { S.held_nodes sink.old ≡ [] }
+    ensures lender { S.lender sink.new ≡ S.lender sink.old }
+    ensures few { OnOk result (length (S.held_nodes sink.new) ≤ length indexes.now) }
+    ensures built { OnOk result (IsWritten K.bytes max_depth (S.held_nodes sink.new)) }
+    ensures refused { IfErr result (λ e. IsTokenFault e × (descent K.bytes max_depth ≡ Err e)) }
+{
+    if indexes.len().min(max_depth) <= stack.len() {
+        return build_tape_as::<K, S>(s, indexes, escape_blocks, stack, sink, max_depth);
+    }
+    let mut few = [StackState::EMPTY; FEW_OPEN];
+    build_tape_as::<K, S>(s, indexes, escape_blocks, &mut few, sink, max_depth)
 }

@@ -10,7 +10,7 @@ use Rattle.simd_json_parts.specs.Tokens.{form_end, token_end}
 use Rattle.simd_json_parts.specs.Tokens.{Token, tokens, string_token}
 use Rattle.simd_json_scalars.specs.TokensAlong.{tokens_along}
 use Rattle.simd_json_parts.specs.declared.error.ErrorType.{ErrorType}
-use Rattle.simd_json_parts.specs.declared.node.Node.{Node}
+use Rattle.simd_json_parts.specs.Nodes.{Item}
 use Rattle.simd_json_stages.specs.Building.{AtValue, AtName, IsFirstFault}
 use Rattle.simd_json_stages.specs.NodesEnough.{nodes_enough}
 use Rattle.simd_json_stages.specs.Progresses.{EndsClosed, IsRead, IsNext, IsBefore, IsAfter}
@@ -63,7 +63,7 @@ unfolding nodes_enough
 node-left b ps reads limit capacity written p r deep enough = omega (arith, r.read.within, r.few, r.deep)
 
 -- one more node is written
-pub one-more : (nodes nodes' : List Node) (x : Node) → nodes' ≡ nodes ++ x ∷ [] → length nodes + 1 ≡ length nodes'
+pub one-more : (nodes nodes' : List Item) (x : Item) → nodes' ≡ nodes ++ x ∷ [] → length nodes + 1 ≡ length nodes'
 one-more nodes nodes' x put = sym (ap length put ∙ length_push nodes x)
 
 -- the next token's number and byte
@@ -179,11 +179,11 @@ module _ (b ps : List ℕ) (e : ps ≡ positions b) where
   token-along before i rest along = token-read b before [] i rest
       (subst (λ ps. tokens_along b ps ≡ before ++ tokens_along b (i ∷ rest)) e along)
 
-  pub value-token : (limit : ℕ) (stack : List StackState) (nodes : List Node) (p : Progress) → AtValue b ps limit stack nodes p
+  pub value-token : (limit : ℕ) (stack : List StackState) (nodes : List Item) (p : Progress) → AtValue b ps limit stack nodes p
       → Contains (tokens b) (token b p.at)
   value-token limit stack nodes p at = token-along at.before p.at (drop p.read ps) at.along
 
-  pub name-token : (limit : ℕ) (kind : ErrorType) (stack : List StackState) (nodes : List Node) (p : Progress)
+  pub name-token : (limit : ℕ) (kind : ErrorType) (stack : List StackState) (nodes : List Item) (p : Progress)
       → AtName b ps limit kind stack nodes p → Contains (tokens b) (token b p.at)
   name-token limit kind stack nodes p at = token-along at.before p.at (drop p.read ps) at.along
 
@@ -194,13 +194,13 @@ module _ (b ps : List ℕ) (e : ps ≡ positions b) where
       → token_end (token b p.at) ≡ Some end → p.read < length ps → end ≤ get_or ps p.read 0) (end-before_next b)
 
   -- what is after a string can be read from the next position on
-  pub string-ahead : (p : Progress) (nodes nodes' : List Node) (reads : ℕ → Type 0) → IsKept reads → IsRead b ps p
+  pub string-ahead : (p : Progress) (nodes nodes' : List Item) (reads : ℕ → Type 0) → IsKept reads → IsRead b ps p
       → Contains (tokens b) (token b p.at) → byte_at b p.at ≡ 34
       → IsStringPut b p.at nodes nodes' reads → p.read < length ps → reads (get_or ps p.read 0)
   string-ahead p nodes nodes' reads kept r t quote put more =
       kept _ _ put.text (ends-before p put.end r t (ap (form_end p.at) (quotes b p.at quote ∙ ap string_token put.read)) more)
 
-  pub scalar-ahead : (p : Progress) (nodes nodes' : List Node) (reads : ℕ → Type 0) → IsKept reads → IsRead b ps p
+  pub scalar-ahead : (p : Progress) (nodes nodes' : List Item) (reads : ℕ → Type 0) → IsKept reads → IsRead b ps p
       → Contains (tokens b) (token b p.at)
       → IsScalarPut b p.at nodes nodes' reads → p.read < length ps → reads (get_or ps p.read 0)
   scalar-ahead p nodes nodes' reads kept r t put more =

@@ -1,12 +1,12 @@
 -- The steps of the machine that accept a token: each keeps what is built, and what the rest of the tokens make of it.
 use Rattle.std.proofs.Common.{◌≡◌, ◌≢◌, refl, sym, ◌∙◌, ap, subst, ℕ, zero, suc, ◌+◌, ◌-◌, ◌<◌, ◌≤◌, List, [], ◌∷◌, ◌++◌, true}
-use Rattle.std.proofs.Common.{append_assoc, length, get_or, set, map, drop, cond, add-one, arith}
+use Rattle.std.proofs.Common.{append_assoc, length, get_or, set, drop, cond, add-one, arith}
 use Rattle.std.specs.Prelude.{Result, Ok, Err}
-use Rattle.std.proofs.lemmas.List.{get_or-set_other, get_or-set_same, map-append, map-set, drop_more, length-map}
+use Rattle.std.proofs.lemmas.List.{get_or-set_other, get_or-set_same, drop_more}
 use Rattle.std.proofs.Math.Seq.{drop-length}
 use Rattle.simd_json_parts.specs.Bytes.{byte_at}
 use Rattle.simd_json_parts.specs.Document.{Document, string, array, object, no_elements, no_members}
-use Rattle.simd_json_parts.specs.Nodes.{Item, string_item, item_of}
+use Rattle.simd_json_parts.specs.Nodes.{Item, string_item}
 use Rattle.simd_json_parts.specs.Listing.{listing}
 use Rattle.simd_json_parts.specs.Descent.{◌>>=◌, value_from, last_index, root_end, descent}
 use Rattle.simd_json_parts.specs.Faults.{fault_at, fault_with}
@@ -17,11 +17,10 @@ use Rattle.simd_json_scalars.specs.TokensAlong.{goes_on, tokens_along}
 use Rattle.simd_json_parts.specs.declared.error.Error.{Error}
 use Rattle.simd_json_parts.specs.declared.error.ErrorType.{ErrorType}
 use Rattle.simd_json_parts.specs.declared.error.ErrorType.TheVariants.{Syntax}
-use Rattle.simd_json_parts.specs.declared.node.Node.{Node}
 use Rattle.simd_json_scalars.proofs.Positions.TokensAtPositions.{tokens-positions}
 use Rattle.simd_json_stages.specs.Continued.{Open, in_array, in_object, at_value, at_array, at_object, at_name, after_value}
 use Rattle.simd_json_stages.specs.Building.{closer, header_of, frames, top, patch, Holds, HoldsValue, HoldsMembers, closed_with, missing}
-use Rattle.simd_json_stages.specs.Building.{whole, AtValue, AtName, AfterValue, AtMemberOf, AtMember, IsBuilt, IsListed, IsFirstFault}
+use Rattle.simd_json_stages.specs.Building.{whole, AtValue, AtName, AfterValue, AtMemberOf, AtMember, IsBuilt, IsWritten, IsFirstFault}
 use Rattle.simd_json_stages.specs.Put.{IsStringPut, IsScalarPut}
 use Rattle.simd_json_stages.specs.Refusals.{error_type}
 use Rattle.simd_json_stages.specs.declared.stage2.stack.Container.{Container}
@@ -31,7 +30,7 @@ use Rattle.simd_json_stages.specs.declared.stage2.stack.StackState.{StackState}
 use Rattle.simd_json_stages.specs.declared.stage2.fault.Fault.{Fault}
 use Rattle.simd_json_stages.specs.declared.stage2.fault.FaultKind.TheVariants as kinds
 use Rattle.simd_json_stages.proofs.Holding.{Holds-value, Holds-name, Holds-comma, Holds-member_comma, Holds-open, Holds-open_object}
-use Rattle.simd_json_stages.proofs.Holding.{Holds-close, Holds-header, Holds-outer_len}
+use Rattle.simd_json_stages.proofs.Holding.{HasHeader, Holds-close, Holds-header, Holds-outer_len}
 use Rattle.simd_json_stages.proofs.Places.{token}
 use Rattle.simd_json_stages.proofs.Steps.{after_value-comma, at_value-open, at_array-close, at_array-element, at_value-scalar}
 use Rattle.simd_json_stages.proofs.Steps.{after_value-root, at_value-root, after_value-closed, at_value-open_object, at_object-close}
@@ -57,15 +56,8 @@ frames-top stack zero l = absurd (omega arith)
 frames-top stack (suc depth) l = let same : suc depth - 1 ≡ depth = omega arith in rw same refl
 
 -- the nodes are given by an equation, and so is the last one
-items-put : (nodes nodes' : List Node) (x : Node) → nodes' ≡ nodes ++ x ∷ [] → map item_of nodes' ≡ map item_of nodes ++ item_of x ∷ []
-items-put nodes nodes' x put = ap (map item_of) put ∙ map-append item_of nodes (x ∷ [])
-
-items-grown : (nodes nodes' : List Node) (x : Node) (more : List Item) → nodes' ≡ nodes ++ x ∷ [] → more ≡ item_of x ∷ []
-    → map item_of nodes ++ more ≡ map item_of nodes'
-items-grown nodes nodes' x more put is = ap (λ us. map item_of nodes ++ us) is ∙ sym (items-put nodes nodes' x put)
-
-pub items-length : (nodes : List Node) → length (map item_of nodes) ≡ length nodes
-items-length nodes = length-map nodes item_of
+items-grown : (nodes nodes' : List Item) (x : Item) (more : List Item) → nodes' ≡ nodes ++ x ∷ [] → more ≡ x ∷ [] → nodes ++ more ≡ nodes'
+items-grown nodes nodes' x more put is = ap (λ us. nodes ++ us) is ∙ sym put
 
 -- ---- either container
 
@@ -93,7 +85,7 @@ closing-goes_on : (o : Open) → goes_on (closing_form o) ≡ true
 closing-goes_on (in_array ds) = refl
 closing-goes_on (in_object ms name) = refl
 
-empty-listed : (c : Container) → listing (empty_of c) ≡ item_of (header_of c 0 0) ∷ []
+empty-listed : (c : Container) → listing (empty_of c) ≡ header_of c 0 0 ∷ []
 empty-listed Array = refl
 empty-listed Object = refl
 
@@ -141,7 +133,7 @@ module _ (b ps : List ℕ) (limit : ℕ) where
   reached_next before k l along' = along' ∙ ap (λ us. before ++ us) (next b ps k l)
 
   -- a scalar is read, and its node is put
-  pub step-scalar : (stack : List StackState) (nodes nodes' : List Node) (reads : ℕ → Type 0) (p : Progress)
+  pub step-scalar : (stack : List StackState) (nodes nodes' : List Item) (reads : ℕ → Type 0) (p : Progress)
       → AtValue b ps limit stack nodes p → IsScalarPut b p.at nodes nodes' reads
       → AfterValue b ps limit stack nodes' (record p { len = p.len + 1 })
   step-scalar stack nodes nodes' reads p at put =
@@ -157,12 +149,12 @@ module _ (b ps : List ℕ) (limit : ℕ) where
         reached = last_index-append at.before (token b p.at);
         holds = subst (HoldsValue at.opens put.document p.container (frames stack p.depth) (p.len + 1))
             (items-grown nodes nodes' put.node (listing put.document) put.put put.listed)
-            (Holds-value at.opens p.container (frames stack p.depth) p.len (map item_of nodes) put.document at.holds);
+            (Holds-value at.opens p.container (frames stack p.depth) p.len nodes put.document at.holds);
         deep = at.deep;
       }
 
   -- a string
-  pub step-string : (stack : List StackState) (nodes nodes' : List Node) (reads : ℕ → Type 0) (p : Progress)
+  pub step-string : (stack : List StackState) (nodes nodes' : List Item) (reads : ℕ → Type 0) (p : Progress)
       → AtValue b ps limit stack nodes p → byte_at b p.at ≡ 34 → IsStringPut b p.at nodes nodes' reads
       → AfterValue b ps limit stack nodes' (record p { len = p.len + 1 })
   step-string stack nodes nodes' reads p at q put =
@@ -178,12 +170,12 @@ module _ (b ps : List ℕ) (limit : ℕ) where
         reached = last_index-append at.before (token b p.at);
         holds = subst (HoldsValue at.opens (string put.string) p.container (frames stack p.depth) (p.len + 1))
             (items-grown nodes nodes' put.node (string_item put.string ∷ []) put.put (ap (λ i. i ∷ []) (sym put.item)))
-            (Holds-value at.opens p.container (frames stack p.depth) p.len (map item_of nodes) (string put.string) at.holds);
+            (Holds-value at.opens p.container (frames stack p.depth) p.len nodes (string put.string) at.holds);
         deep = at.deep;
       }
 
   -- after the opening bracket of a value
-  opened : (c : Container) (stack : List StackState) (nodes : List Node) (p : Progress) (at : AtValue b ps limit stack nodes p)
+  opened : (c : Container) (stack : List StackState) (nodes : List Item) (p : Progress) (at : AtValue b ps limit stack nodes p)
       → p.depth < limit → form_at b p.at ≡ opening_form c → p.read < length ps
       → whole b ps limit ≡ at_container b (missing b ps) limit c at.opens (tokens_along b (get_or ps p.read 0 ∷ drop (p.read + 1) ps))
   opened c stack nodes p at l is k =
@@ -194,14 +186,14 @@ module _ (b ps : List ℕ) (limit : ℕ) where
       ∙ ap (at_container b (missing b ps) limit c at.opens) (next b ps p.read k)
 
   -- and the tokens up to there
-  opened-along : (c : Container) (stack : List StackState) (nodes : List Node) (p : Progress)
+  opened-along : (c : Container) (stack : List StackState) (nodes : List Item) (p : Progress)
       (at : AtValue b ps limit stack nodes p) → form_at b p.at ≡ opening_form c → p.read < length ps
       → tokens_along b ps ≡ (at.before ++ token b p.at ∷ []) ++ tokens_along b (get_or ps p.read 0 ∷ drop (p.read + 1) ps)
   opened-along c stack nodes p at is k = reached_next (at.before ++ token b p.at ∷ []) p.read k
       (extended at.before p.at (drop p.read ps) (opening_form c) is (opening-goes_on c) at.along)
 
   -- an empty container
-  pub step-empty : (c : Container) (stack : List StackState) (nodes nodes' : List Node) (p : Progress)
+  pub step-empty : (c : Container) (stack : List StackState) (nodes nodes' : List Item) (p : Progress)
       → AtValue b ps limit stack nodes p → nodes' ≡ nodes ++ header_of c 0 0 ∷ [] → p.depth < limit → byte_at b p.at + 2 ≡ closer c
       → p.read < length ps → byte_at b (get_or ps p.read 0) ≡ closer c
       → AfterValue b ps limit stack nodes'
@@ -228,14 +220,14 @@ module _ (b ps : List ℕ) (limit : ℕ) where
         reached = last_index-append (at.before ++ token b p.at ∷ []) (token b i);
         holds = subst (HoldsValue at.opens (empty_of c) p.container (frames stack p.depth) (p.len + 1))
             (items-grown nodes nodes' (header_of c 0 0) (listing (empty_of c)) put
-            (empty-listed c)) (Holds-value at.opens p.container (frames stack p.depth) p.len (map item_of nodes)
+            (empty-listed c)) (Holds-value at.opens p.container (frames stack p.depth) p.len nodes
             (empty_of c) at.holds);
         deep = at.deep;
       }
 
   -- a container with members
-  pub step-open : (c : Container) (stack : List StackState) (nodes nodes' : List Node) (x : Node) (header : ℕ) (p : Progress)
-      → AtValue b ps limit stack nodes p → nodes' ≡ nodes ++ x ∷ [] → header ≡ length nodes → p.depth < length stack
+  pub step-open : (c : Container) (stack : List StackState) (nodes nodes' : List Item) (header : ℕ) (p : Progress)
+      → AtValue b ps limit stack nodes p → nodes' ≡ nodes ++ header_of c 0 0 ∷ [] → header ≡ length nodes → p.depth < length stack
       → p.depth < limit → byte_at b p.at + 2 ≡ closer c → p.read < length ps → byte_at b (get_or ps p.read 0) ≢ closer c
       → AtMember b ps limit kinds.ExpectedObjectContent (set stack p.depth
       (record { header = header; outer = p.container; len = p.len })) nodes'
@@ -247,7 +239,7 @@ module _ (b ps : List ℕ) (limit : ℕ) where
         container = c;
         len = 0;
       })
-  step-open Array stack nodes nodes' x header p at put first s capacity o k e =
+  step-open Array stack nodes nodes' header p at put first s capacity o k e =
       let i : ℕ = get_or ps p.read 0 in
       let rest : List ℕ = drop (p.read + 1) ps in
       let f : StackState = record { header = header; outer = p.container; len = p.len } in
@@ -258,13 +250,13 @@ module _ (b ps : List ℕ) (limit : ℕ) where
             (cond (goes_on (form_at b i)) (tokens_along b rest) []) (form_at b i) refl (no_end b i e);
         before = at.before ++ token b p.at ∷ [];
         along = opened-along Array stack nodes p at is k;
-        holds = subst (λ fs. Holds (in_array [] ∷ at.opens) Array fs 0 (map item_of nodes'))
+        holds = subst (λ fs. Holds (in_array [] ∷ at.opens) Array fs 0 nodes')
             (sym (frames-push stack f p.depth s)) (subst (Holds (in_array [] ∷ at.opens) Array (f ∷ frames stack p.depth) 0)
-            (sym (items-put nodes nodes' x put)) (Holds-open at.opens p.container (frames stack p.depth) f p.len
-            (map item_of nodes) (item_of x) at.holds (first ∙ sym (items-length nodes)) refl refl));
+            (sym put) (Holds-open at.opens p.container (frames stack p.depth) f p.len
+            nodes at.holds first refl refl));
         deep = omega (arith, at.deep);
       }
-  step-open Object stack nodes nodes' x header p at put first s capacity o k e =
+  step-open Object stack nodes nodes' header p at put first s capacity o k e =
       let i : ℕ = get_or ps p.read 0 in
       let rest : List ℕ = drop (p.read + 1) ps in
       let f : StackState = record { header = header; outer = p.container; len = p.len } in
@@ -276,10 +268,10 @@ module _ (b ps : List ℕ) (limit : ℕ) where
             (cond (goes_on (form_at b i)) (tokens_along b rest) []) (form_at b i) refl (no_end_object b i e);
         before = at.before ++ token b p.at ∷ [];
         along = opened-along Object stack nodes p at is k;
-        holds = subst (λ fs. HoldsMembers [] at.opens Object fs 0 (map item_of nodes'))
+        holds = subst (λ fs. HoldsMembers [] at.opens Object fs 0 nodes')
             (sym (frames-push stack f p.depth s)) (subst (HoldsMembers [] at.opens Object (f ∷ frames stack p.depth) 0)
-            (sym (items-put nodes nodes' x put)) (Holds-open_object at.opens p.container (frames stack p.depth) f p.len
-            (map item_of nodes) (item_of x) at.holds (first ∙ sym (items-length nodes)) refl refl));
+            (sym put) (Holds-open_object at.opens p.container (frames stack p.depth) f p.len
+            nodes at.holds first refl refl));
         deep = omega (arith, at.deep);
       }
 
@@ -299,7 +291,7 @@ module _ (b ps : List ℕ) (limit : ℕ) where
       ∙ ap (λ n. tokens_along b (get_or ps (k + 1) 0 ∷ drop n ps)) two
 
   -- a comma, and the next member
-  pub step-comma : (stack : List StackState) (nodes : List Node) (p : Progress) → AfterValue b ps limit stack nodes p
+  pub step-comma : (stack : List StackState) (nodes : List Item) (p : Progress) → AfterValue b ps limit stack nodes p
       → 0 < p.depth → p.read < length ps → byte_at b (get_or ps p.read 0) ≡ 44 → p.read + 1 < length ps
       → AtMember b ps limit kinds.ExpectedObjectKey stack nodes
       (record p { read = p.read + 2; at = get_or ps (p.read + 1) 0; byte = byte_at b (get_or ps (p.read + 1) 0) })
@@ -311,7 +303,7 @@ module _ (b ps : List ℕ) (limit : ℕ) where
       go : (opens' : List Open) (last : Document) → whole b ps limit ≡ after_value b (missing b ps) limit opens' last
           (tokens_along b (drop p.read ps))
           → (before : List Token) → tokens_along b ps ≡ before ++ tokens_along b (drop p.read ps)
-          → HoldsValue opens' last p.container (frames stack p.depth) p.len (map item_of nodes) → length opens' ≡ p.depth
+          → HoldsValue opens' last p.container (frames stack p.depth) p.len nodes → length opens' ≡ p.depth
           → AtMember b ps limit kinds.ExpectedObjectKey stack nodes q
       go [] last same before along' h deep = absurd (omega (arith, deep, some))
       go (in_array ds ∷ outer) last same before along' h deep =
@@ -325,7 +317,7 @@ module _ (b ps : List ℕ) (limit : ℕ) where
                 ∙ ap (at_value b (missing b ps) limit (in_array (ds ++ last ∷ []) ∷ outer)) (next-token p.read m);
             before = before ++ token b i ∷ [];
             along = next-along before p.read value_separator (commas b (get_or ps p.read 0) e) refl m along';
-            holds = Holds-comma ds outer last p.container (frames stack p.depth) p.len (map item_of nodes) h;
+            holds = Holds-comma ds outer last p.container (frames stack p.depth) p.len nodes h;
             deep = deep;
           })
       go (in_object ms name ∷ outer) last same before along' h deep =
@@ -342,31 +334,19 @@ module _ (b ps : List ℕ) (limit : ℕ) where
                 (next-token p.read m);
             before = before ++ token b i ∷ [];
             along = next-along before p.read value_separator (commas b (get_or ps p.read 0) e) refl m along';
-            holds = Holds-member_comma ms name outer last p.container (frames stack p.depth) p.len (map item_of nodes) h;
+            holds = Holds-member_comma ms name outer last p.container (frames stack p.depth) p.len nodes h;
             deep = deep;
           })
 
   -- what is held under the innermost frame
-  held : (o : Open) (outer : List Open) (d : Document) (stack : List StackState) (nodes : List Node) (p : Progress) → 0 < p.depth
-      → HoldsValue (o ∷ outer) d p.container (frames stack p.depth) p.len (map item_of nodes)
-      → HoldsValue (o ∷ outer) d p.container (top stack p.depth ∷ frames stack (p.depth - 1)) p.len (map item_of nodes)
-  held o outer d stack nodes p l h = subst (λ fs. HoldsValue (o ∷ outer) d p.container fs p.len (map item_of nodes))
+  held : (o : Open) (outer : List Open) (d : Document) (stack : List StackState) (nodes : List Item) (p : Progress) → 0 < p.depth
+      → HoldsValue (o ∷ outer) d p.container (frames stack p.depth) p.len nodes
+      → HoldsValue (o ∷ outer) d p.container (top stack p.depth ∷ frames stack (p.depth - 1)) p.len nodes
+  held o outer d stack nodes p l h = subst (λ fs. HoldsValue (o ∷ outer) d p.container fs p.len nodes)
       (frames-top stack p.depth l) h
 
-  -- the items with the header patched
-  items-patched : (o : Open) (outer : List Open) (d : Document) (stack : List StackState) (nodes : List Node) (p : Progress)
-      → 0 < p.depth
-      → HoldsValue (o ∷ outer) d p.container (frames stack p.depth) p.len (map item_of nodes)
-      → map item_of (patch nodes (top stack p.depth) p)
-      ≡ set (map item_of nodes) (top stack p.depth).header
-      (item_of (header_of p.container p.len (length (map item_of nodes) - (top stack p.depth).header - 1)))
-  items-patched o outer d stack nodes p k h =
-      let f : StackState = top stack p.depth in
-      map-set item_of nodes f.header (header_of p.container p.len (length nodes - f.header - 1))
-      ∙ ap (λ n. set (map item_of nodes) f.header (item_of (header_of p.container p.len (n - f.header - 1)))) (sym (items-length nodes))
-
   -- a closing bracket
-  pub step-close : (stack : List StackState) (nodes : List Node) (p : Progress) → AfterValue b ps limit stack nodes p
+  pub step-close : (stack : List StackState) (nodes : List Item) (p : Progress) → AfterValue b ps limit stack nodes p
       → 0 < p.depth → p.read < length ps → byte_at b (get_or ps p.read 0) ≡ closer p.container
       → AfterValue b ps limit stack (patch nodes (top stack p.depth) p)
       (record {
@@ -384,7 +364,7 @@ module _ (b ps : List ℕ) (limit : ℕ) where
 
       go : (opens' : List Open) (last : Document) → whole b ps limit ≡ after_value b (missing b ps) limit opens' last
           (tokens_along b (drop p.read ps))
-          → HoldsValue opens' last p.container (frames stack p.depth) p.len (map item_of nodes) → length opens' ≡ p.depth
+          → HoldsValue opens' last p.container (frames stack p.depth) p.len nodes → length opens' ≡ p.depth
           → AfterValue b ps limit stack (patch nodes f p) (record {
             read = p.read + 1;
             at = get_or ps p.read 0;
@@ -397,8 +377,7 @@ module _ (b ps : List ℕ) (limit : ℕ) where
       go (o ∷ outer) last same h deep =
           let i : ℕ = get_or ps p.read 0 in
           let rest : List ℕ = drop (p.read + 1) ps in
-          let items : List Item = map item_of nodes in
-          let is : form_at b i ≡ closing_form o = closing-form b i o outer last p.container (frames stack p.depth) p.len items h e in
+          let is : form_at b i ≡ closing_form o = closing-form b i o outer last p.container (frames stack p.depth) p.len nodes h e in
           record {
             opens = outer;
             last = closed_with o last;
@@ -408,43 +387,37 @@ module _ (b ps : List ℕ) (limit : ℕ) where
             before = at.before ++ token b i ∷ [];
             along = extended at.before i rest (closing_form o) is (closing-goes_on o) (reached_next at.before p.read k at.along);
             reached = last_index-append at.before (token b i);
-            holds = subst (HoldsValue outer (closed_with o last) f.outer (frames stack (p.depth - 1)) (f.len + 1))
-                (sym (items-patched o outer last stack nodes p some h))
-                (Holds-close o outer last p.container f (frames stack (p.depth - 1)) p.len items (held o outer last stack nodes p some h));
+            holds = Holds-close o outer last p.container f (frames stack (p.depth - 1)) p.len nodes
+                (held o outer last stack nodes p some h);
             deep = omega (arith, deep);
           }
 
-  -- the header of the innermost container lies among the nodes, and the container round it has fewer members than there are nodes
-  pub top-header : (stack : List StackState) (nodes : List Node) (p : Progress) → AfterValue b ps limit stack nodes p
-      → 0 < p.depth → (top stack p.depth).header < length nodes
+  -- the frame of the innermost container points at a header, and the container round it has fewer members than there are nodes
+  pub top-header : (stack : List StackState) (nodes : List Item) (p : Progress) → AfterValue b ps limit stack nodes p
+      → 0 < p.depth → HasHeader nodes (top stack p.depth).header
   top-header stack nodes p at some = go at.opens at.last at.holds at.deep
     where
       go : (opens' : List Open) (last : Document) → HoldsValue opens' last p.container (frames stack p.depth) p.len
-          (map item_of nodes) → length opens' ≡ p.depth → (top stack p.depth).header < length nodes
+          nodes → length opens' ≡ p.depth → HasHeader nodes (top stack p.depth).header
       go [] last h deep = absurd (omega (arith, deep, some))
-      go (o ∷ outer) last h deep = omega (
-        arith,
-        items-length nodes,
-        Holds-header o outer last p.container (top stack p.depth) (frames stack (p.depth - 1)) p.len _
-            (held o outer last stack nodes p some h),
-      )
+      go (o ∷ outer) last h deep = Holds-header o outer last p.container (top stack p.depth) (frames stack (p.depth - 1)) p.len nodes
+          (held o outer last stack nodes p some h)
 
-  pub top-len : (stack : List StackState) (nodes : List Node) (p : Progress) → AfterValue b ps limit stack nodes p
+  pub top-len : (stack : List StackState) (nodes : List Item) (p : Progress) → AfterValue b ps limit stack nodes p
       → 0 < p.depth → (top stack p.depth).len < length nodes
   top-len stack nodes p at some = go at.opens at.last at.holds at.deep
     where
       go : (opens' : List Open) (last : Document) → HoldsValue opens' last p.container (frames stack p.depth) p.len
-          (map item_of nodes) → length opens' ≡ p.depth → (top stack p.depth).len < length nodes
+          nodes → length opens' ≡ p.depth → (top stack p.depth).len < length nodes
       go [] last h deep = absurd (omega (arith, deep, some))
       go (o ∷ outer) last h deep = omega (
         arith,
-        items-length nodes,
         Holds-outer_len o outer last p.container (top stack p.depth) (frames stack (p.depth - 1)) p.len _
             (held o outer last stack nodes p some h),
       )
 
   -- a name and its colon, and the value after it
-  pub step-name : (kind : ErrorType) (stack : List StackState) (nodes nodes' : List Node) (reads : ℕ → Type 0) (p : Progress)
+  pub step-name : (kind : ErrorType) (stack : List StackState) (nodes nodes' : List Item) (reads : ℕ → Type 0) (p : Progress)
       → AtName b ps limit kind stack nodes p → byte_at b p.at ≡ 34 → IsStringPut b p.at nodes nodes' reads
       → p.read < length ps → byte_at b (get_or ps p.read 0) ≡ 58 → p.read + 1 < length ps
       → AtValue b ps limit stack nodes' (record p {
@@ -472,17 +445,17 @@ module _ (b ps : List ℕ) (limit : ℕ) where
             (extended at.before p.at (drop p.read ps) form is refl at.along);
         holds = subst (Holds (in_object at.members put.string ∷ at.outer) p.container (frames stack p.depth) p.len)
             (items-grown nodes nodes' put.node (string_item put.string ∷ []) put.put (ap (λ i. i ∷ []) (sym put.item)))
-            (Holds-name at.members at.outer p.container (frames stack p.depth) p.len (map item_of nodes) put.string at.holds);
+            (Holds-name at.members at.outer p.container (frames stack p.depth) p.len nodes put.string at.holds);
         deep = at.deep;
       }
 
   -- the root is whole, and no token is after it
-  pub step-end : (stack : List StackState) (nodes : List Node) (p : Progress) → AfterValue b ps limit stack nodes p → p.depth ≡ 0
+  pub step-end : (stack : List StackState) (nodes : List Item) (p : Progress) → AfterValue b ps limit stack nodes p → p.depth ≡ 0
       → p.read ≡ length ps → IsBuilt b ps limit nodes
   step-end stack nodes p at none all = go at.opens at.same at.holds at.deep
     where
       go : (opens' : List Open) → whole b ps limit ≡ after_value b (missing b ps) limit opens' at.last (tokens_along b (drop p.read ps))
-          → HoldsValue opens' at.last p.container (frames stack p.depth) p.len (map item_of nodes)
+          → HoldsValue opens' at.last p.container (frames stack p.depth) p.len nodes
           → length opens' ≡ p.depth → IsBuilt b ps limit nodes
       go [] same h deep =
           record {
@@ -494,7 +467,7 @@ module _ (b ps : List ℕ) (limit : ℕ) where
       go (o ∷ outer) same h deep = absurd (omega (arith, deep, none))
 
   -- at the first token nothing is read
-  pub root-value : (stack : List StackState) (nodes : List Node) (byte : ℕ) → nodes ≡ [] → 0 < length ps
+  pub root-value : (stack : List StackState) (nodes : List Item) (byte : ℕ) → nodes ≡ [] → 0 < length ps
       → AtValue b ps limit stack nodes (record {
         read = 1;
         at = get_or ps 0 0;
@@ -509,7 +482,7 @@ module _ (b ps : List ℕ) (limit : ℕ) where
         same = ap (λ us. at_value b (missing b ps) limit [] (tokens_along b us)) (drop_more ps 0 0 l);
         before = [];
         along = ap (tokens_along b) (drop_more ps 0 0 l);
-        holds = (refl, refl, ap (map item_of) empty);
+        holds = (refl, refl, empty);
         deep = refl;
       }
 
@@ -524,8 +497,8 @@ whole-descent b limit =
     ∙ ap (λ us. value_from b (fault_at b Syntax (last_index us)) limit us >>= root_end b us) (sym (tokens-positions b))
 
 -- What is built is the descent's document.
-pub descent-built : (b : List ℕ) (limit : ℕ) (nodes : List Node) → IsBuilt b (positions b) limit nodes
-    → IsListed b limit nodes
+pub descent-built : (b : List ℕ) (limit : ℕ) (nodes : List Item) → IsBuilt b (positions b) limit nodes
+    → IsWritten b limit nodes
 descent-built b limit nodes built =
     record {
       document = built.document;

@@ -1,14 +1,12 @@
 -- After a comma stands the next member.
-use Rattle.std.proofs.Common.{◌≡◌, refl, sym, ◌∙◌, ap, subst, ℕ, ◌+◌, ◌-◌, ◌<◌, ◌≤◌, List, [], ◌∷◌, length, get_or, map, arith}
-use Rattle.std.specs.Prelude.{Result, IfErr, IsErrAnd}
+use Rattle.std.proofs.Common.{◌≡◌, refl, sym, ◌∙◌, ap, subst, ℕ, ◌+◌, ◌-◌, ◌<◌, ◌≤◌, List, [], ◌∷◌, length, get_or, arith}
+use Rattle.std.specs.Prelude.{Result, IfErr, IsErrAnd, Bool}
 use Rattle.simd_json_parts.specs.Bytes.{byte_at}
 use Rattle.simd_json_parts.specs.Positions.{positions}
-use Rattle.simd_json_parts.specs.declared.node.Node.{Node}
-use Rattle.simd_json_parts.specs.declared.node.Node.TheVariants.{Static}
+use Rattle.simd_json_parts.specs.Nodes.{Item, static_item}
 use Rattle.simd_json_parts.specs.declared.node.StaticNode.TheVariants.{Null}
-use Rattle.simd_json_parts.specs.Nodes.{item_of}
 use Rattle.simd_json_stages.specs.Continued.{Open}
-use Rattle.simd_json_stages.specs.Building.{closer, end_kind, frames, top, patch, HoldsValue, AfterValue, AtMember, AtMemberOf}
+use Rattle.simd_json_stages.specs.Building.{closer, end_kind, is_header, frames, top, patch, HoldsValue, AfterValue, AtMember, AtMemberOf}
 use Rattle.simd_json_stages.specs.Building.{IsFirstFault}
 use Rattle.simd_json_stages.specs.Members.{HasCapacity, AfterLast, AtFirst, AtStart, HasCome, IsAtMember, IsAtMemberOf}
 use Rattle.simd_json_stages.specs.Refusals.{error_type}
@@ -27,7 +25,7 @@ use Rattle.simd_json_stages.specs.declared.stage2.fault.Fault.{Fault}
 use Rattle.simd_json_stages.specs.declared.stage2.fault.FaultKind.{FaultKind}
 use Rattle.simd_json_stages.specs.declared.stage2.fault.FaultKind.TheVariants as kinds
 use Rattle.simd_json_stages.proofs.Bounds.{IsKept, refused-at, refused-none, inside, later, read-next, next-read}
-use Rattle.simd_json_stages.proofs.BuildingSteps.{items-length, step-close, step-end, root-value}
+use Rattle.simd_json_stages.proofs.BuildingSteps.{step-close, step-end, root-value}
 use Rattle.simd_json_stages.proofs.Holding.{listing-some}
 use Rattle.simd_json_stages.proofs.Refusing.{refuses-trailing}
 use Rattle.simd_json_stages.proofs.TextLaws.{reads-kept}
@@ -121,7 +119,7 @@ module _ (b ps : List ℕ) (e : ps ≡ positions b) where
         text = λ h. kept _ _ (r.text more) (omega (arith, later b ps e s read h));
       })
 
-  pub closed-value : (limit : ℕ) (stack : List StackState) (nodes nodes' : List Node) (p q q' : Progress)
+  pub closed-value : (limit : ℕ) (stack : List StackState) (nodes nodes' : List Item) (p q q' : Progress)
       → AfterValue b ps limit stack nodes p → 0 < p.depth → p.read < length ps
       → byte_at b (get_or ps p.read 0) ≡ closer p.container → q ≡ one_more p
       → q' ≡ record q { depth = q.depth - 1; container = (top stack q.depth).outer; len = (top stack q.depth).len + 1 }
@@ -158,9 +156,9 @@ module _ (b ps : List ℕ) (e : ps ≡ positions b) where
       })
 
   -- after the root
-  pub end-refused : (limit : ℕ) (stack : List StackState) (nodes : List Node) (p : Progress) (first : Node) (fault : Fault)
+  pub end-refused : (limit : ℕ) (stack : List StackState) (nodes : List Item) (p : Progress) (first : Bool) (fault : Fault)
       → AfterValue b ps limit stack nodes p → IsRead b ps p → p.depth ≡ 0 → 0 < length nodes
-      → first ≡ get_or nodes 0 (Static Null) → p.read < length ps
+      → first ≡ is_header (get_or nodes 0 (static_item Null)) → p.read < length ps
       → fault ≡ record { kind = end_kind first; index = p.at; byte = p.byte } → IsFirstFault b ps limit fault
   end-refused limit stack nodes p first fault at read none some is more refused =
       refused-at b ps limit (end_kind first) p fault refused read.first
@@ -168,7 +166,7 @@ module _ (b ps : List ℕ) (e : ps ≡ positions b) where
 
 -- ---- from a value to the next member
 
-module _ (b : List ℕ) (r : Route) (m : Machine) (capacity : ℕ) (nodes : List Node) where
+module _ (b : List ℕ) (r : Route) (m : Machine) (capacity : ℕ) (nodes : List Item) where
   -- past a value
   pub come-read : (v : Value) (p : Progress) → HasCome b r m capacity nodes v → v ≡ Read p → AfterLast b r m capacity nodes p
   come-read v p come is =
@@ -206,13 +204,13 @@ module _ (b : List ℕ) (r : Route) (m : Machine) (capacity : ℕ) (nodes : List
       (omega (arith, after.few), step-end b r.indexes.now r.max_depth m.stack.now nodes p at none all)
 
 -- a root that is whole has a node
-pub some-node : (b ps : List ℕ) (limit : ℕ) (stack : List StackState) (nodes : List Node) (p : Progress)
+pub some-node : (b ps : List ℕ) (limit : ℕ) (stack : List StackState) (nodes : List Item) (p : Progress)
     → AfterValue b ps limit stack nodes p → p.depth ≡ 0 → 0 < length nodes
 some-node b ps limit stack nodes p at none = go at.opens at.deep at.holds
   where
     go : (opens : List Open) → length opens ≡ p.depth → HoldsValue opens at.last p.container (frames stack p.depth) p.len
-        (map item_of nodes) → 0 < length nodes
-    go [] deep (fs, items) = omega (arith, listing-some at.last, ap length items, items-length nodes)
+        nodes → 0 < length nodes
+    go [] deep (fs, items) = omega (arith, listing-some at.last, ap length items)
     go (o ∷ outer) deep h = absurd (omega (arith, deep, none))
 
 -- ---- the first token
@@ -221,7 +219,7 @@ abbrev pub first_token : List ℕ → ℕ → Progress
 first_token ps x = record { read = 1; at = get_or ps 0 0; byte = x; depth = 0; container = Array; len = 0 }
 
 -- All of the input can be read there, and no node is written.
-pub at-first : (b : List ℕ) (r : Route) (m : Machine) (capacity : ℕ) (nodes : List Node) (x : ℕ) → AtStart b r m capacity nodes
+pub at-first : (b : List ℕ) (r : Route) (m : Machine) (capacity : ℕ) (nodes : List Item) (x : ℕ) → AtStart b r m capacity nodes
     → 0 < length r.indexes.now → x ≡ byte_at b (get_or r.indexes.now 0 0)
     → AtFirst b r m capacity nodes (first_token r.indexes.now x)
 at-first b r m capacity nodes x start some byte =

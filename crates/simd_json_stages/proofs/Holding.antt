@@ -1,13 +1,16 @@
 -- What is held grows by a value, by a name, by an opening bracket and by a closing one.
 use Rattle.std.proofs.Common.{◌≡◌, refl, sym, ◌∙◌, ap, subst, ℕ, ◌+◌, ◌-◌, ◌<◌, ◌≤◌, List, [], ◌∷◌, ◌++◌, length, set, append_assoc}
-use Rattle.std.proofs.Common.{length-append, arith}
+use Rattle.std.proofs.Common.{get_or, length-append, true, arith}
+use Rattle.std.proofs.Math.Seq.{get_or-append_seam}
 use Rattle.std.proofs.lemmas.List.{append-nil}
 use Rattle.simd_json_parts.specs.Document.{Document, null, boolean, integer, decimal, string, array, object, elements, members}
 use Rattle.simd_json_parts.specs.Document.{no_elements, no_members}
-use Rattle.simd_json_parts.specs.Nodes.{Item, string_item, array_item, object_item, item_of}
+use Rattle.simd_json_parts.specs.Nodes.{Item, static_item, string_item, array_item, object_item}
 use Rattle.simd_json_parts.specs.Listing.{listing, elements_listing, members_listing}
+use Rattle.simd_json_parts.specs.declared.node.StaticNode.TheVariants.{Null}
 use Rattle.simd_json_stages.specs.Continued.{Open, in_array, in_object, elements_onto, members_onto}
-use Rattle.simd_json_stages.specs.Building.{header_of, listings, member_listings, Headed, Holds, HoldsValue, HoldsMembers, closed_with}
+use Rattle.simd_json_stages.specs.Building.{header_of, is_header, listings, member_listings, Headed, Holds, HoldsValue, HoldsMembers}
+use Rattle.simd_json_stages.specs.Building.{closed_with}
 use Rattle.simd_json_stages.specs.declared.stage2.stack.Container.{Container}
 use Rattle.simd_json_stages.specs.declared.stage2.stack.Container.TheVariants.{Array, Object}
 use Rattle.simd_json_stages.specs.declared.stage2.stack.StackState.{StackState}
@@ -77,17 +80,17 @@ Headed-grown : (round : Container → List StackState → ℕ → List Item → 
     (fs : List StackState) (len more : ℕ) (items : List Item)
     → ws ≡ us ++ vs → m + more ≡ n → Headed round us m fs len items → Headed round ws n fs (len + more) (items ++ vs)
 Headed-grown round us vs ws m n [] len more items longer sum h = h
-Headed-grown round us vs ws m n (f ∷ fs) len more items longer sum (before, header, is, at, count, beyond) =
+Headed-grown round us vs ws m n (f ∷ fs) len more items longer sum (before, header, heads, is, at, count, beyond) =
     let grown : items ++ vs ≡ before ++ header ∷ ws = ap (λ xs. xs ++ vs) is ∙ append_assoc before (header ∷ us) vs
     ∙ ap (λ xs. before ++ header ∷ xs) (sym longer) in
-    (before, header, grown, at, omega (arith, count, sum), beyond)
+    (before, header, heads, grown, at, omega (arith, count, sum), beyond)
 
 -- it has no fewer nodes than members
 Headed-len : (round : Container → List StackState → ℕ → List Item → Type 0) (us : List Item) (n : ℕ) (fs : List StackState)
     (len : ℕ) (items : List Item)
     → n ≤ length us → Headed round us n fs len items → len ≤ length items
 Headed-len round us n [] len items enough h = absurd h
-Headed-len round us n (f ∷ fs) len items enough (before, header, is, at, count, beyond) = omega
+Headed-len round us n (f ∷ fs) len items enough (before, header, heads, is, at, count, beyond) = omega
     (arith, enough, count, ap length is, length-append before (header ∷ us))
 
 Holds-len : (opens : List Open) (c : Container) (fs : List StackState) (len : ℕ) (items : List Item) → Holds opens c fs len items
@@ -116,15 +119,21 @@ patched item before us header n at len items is at-is count =
     ∙ set-after before us header (item len (length us))
     ∙ ap (λ k. before ++ item k (length us) ∷ us) count
 
+-- the item there is a header
+abbrev pub HasHeader : List Item → ℕ → Type 0
+HasHeader items k = (k < length items) × (is_header (get_or items k (static_item Null)) ≡ true)
+
 Headed-header : (round : Container → List StackState → ℕ → List Item → Type 0) (us : List Item) (n : ℕ) (f : StackState)
     (fs : List StackState) (len : ℕ) (items : List Item)
-    → Headed round us n (f ∷ fs) len items → f.header < length items
-Headed-header round us n f fs len items (before, header, is, at, count, beyond) = omega
-    (arith, at, ap length is, length-append before (header ∷ us))
+    → Headed round us n (f ∷ fs) len items → HasHeader items f.header
+Headed-header round us n f fs len items (before, header, heads, is, at, count, beyond) = (
+  omega (arith, at, ap length is, length-append before (header ∷ us)),
+  rw (is, at, get_or-append_seam) heads,
+)
 
 Headed-outer_len : (outer : List Open) (us : List Item) (n : ℕ) (f : StackState) (fs : List StackState) (len : ℕ) (items : List Item)
     → Headed (Holds outer) us n (f ∷ fs) len items → f.len < length items
-Headed-outer_len outer us n f fs len items (before, header, is, at, count, beyond) =
+Headed-outer_len outer us n f fs len items (before, header, heads, is, at, count, beyond) =
     omega (arith, Holds-len outer f.outer fs f.len before beyond, ap length is, length-append before (header ∷ us))
 
 -- ---- what is held
@@ -174,51 +183,50 @@ Holds-member_comma ms name outer d c fs len items h =
     (h.0, subst (λ n. Headed (Holds outer) (member_listings (ms ++ (name, d) ∷ [])) n fs len items) same h.1)
 
 -- an opening bracket
-pub Holds-open : (opens : List Open) (c : Container) (fs : List StackState) (f : StackState) (len : ℕ) (items : List Item) (header : Item)
+pub Holds-open : (opens : List Open) (c : Container) (fs : List StackState) (f : StackState) (len : ℕ) (items : List Item)
     → Holds opens c fs len items → f.header ≡ length items → f.len ≡ len → f.outer ≡ c
-    → Holds (in_array [] ∷ opens) Array (f ∷ fs) 0 (items ++ header ∷ [])
-Holds-open opens c fs f len items header h at saved kind =
+    → Holds (in_array [] ∷ opens) Array (f ∷ fs) 0 (items ++ array_item 0 0 ∷ [])
+Holds-open opens c fs f len items h at saved kind =
     let round : Holds opens f.outer fs f.len items = subst (λ k. Holds opens k fs f.len items) (sym kind)
     (subst (λ n. Holds opens c fs n items) (sym saved) h) in
-    (refl, (items, header, refl, at, refl, round))
+    (refl, (items, array_item 0 0, refl, refl, at, refl, round))
 
 pub Holds-open_object : (opens : List Open) (c : Container) (fs : List StackState) (f : StackState) (len : ℕ) (items : List Item)
-    (header : Item)
     → Holds opens c fs len items → f.header ≡ length items → f.len ≡ len → f.outer ≡ c
-    → HoldsMembers [] opens Object (f ∷ fs) 0 (items ++ header ∷ [])
-Holds-open_object opens c fs f len items header h at saved kind =
+    → HoldsMembers [] opens Object (f ∷ fs) 0 (items ++ object_item 0 0 ∷ [])
+Holds-open_object opens c fs f len items h at saved kind =
     let round : Holds opens f.outer fs f.len items = subst (λ k. Holds opens k fs f.len items) (sym kind)
     (subst (λ n. Holds opens c fs n items) (sym saved) h) in
-    (refl, (items, header, refl, at, refl, round))
+    (refl, (items, object_item 0 0, refl, refl, at, refl, round))
 
 -- a closing bracket: the header is patched
 pub Holds-close : (o : Open) (outer : List Open) (d : Document) (c : Container) (f : StackState) (fs : List StackState) (len : ℕ)
     (items : List Item)
     → HoldsValue (o ∷ outer) d c (f ∷ fs) len items
     → HoldsValue outer (closed_with o d) f.outer fs (f.len + 1)
-    (set items f.header (item_of (header_of c len (length items - f.header - 1))))
-Holds-close (in_array ds) outer d c f fs len items (kind, (before, header, is, at, count, beyond)) =
-    let same : set items f.header (item_of (header_of c len (length items - f.header - 1))) ≡ before ++ listing
+    (set items f.header (header_of c len (length items - f.header - 1)))
+Holds-close (in_array ds) outer d c f fs len items (kind, (before, header, heads, is, at, count, beyond)) =
+    let same : set items f.header (header_of c len (length items - f.header - 1)) ≡ before ++ listing
     (closed_with (in_array ds) d) =
-    ap (λ k. set items f.header (item_of (header_of k len (length items - f.header - 1)))) kind
+    ap (λ k. set items f.header (header_of k len (length items - f.header - 1))) kind
     ∙ patched array_item before (listings (ds ++ d ∷ [])) header (length (ds ++ d ∷ [])) f.header len items is at
     (omega (arith, count, length-append ds (d ∷ [])))
     ∙ ap (λ us. before ++ us) (sym (listing-array_of (ds ++ d ∷ []))) in
     subst (HoldsValue outer (closed_with (in_array ds) d) f.outer fs (f.len + 1)) (sym same)
     (Holds-value outer f.outer fs f.len before (closed_with (in_array ds) d) beyond)
-Holds-close (in_object ms name) outer d c f fs len items (kind, (before, header, is, at, count, beyond)) =
-    let same : set items f.header (item_of (header_of c len (length items - f.header - 1))) ≡ before ++ listing
+Holds-close (in_object ms name) outer d c f fs len items (kind, (before, header, heads, is, at, count, beyond)) =
+    let same : set items f.header (header_of c len (length items - f.header - 1)) ≡ before ++ listing
     (closed_with (in_object ms name) d) =
-    ap (λ k. set items f.header (item_of (header_of k len (length items - f.header - 1)))) kind
+    ap (λ k. set items f.header (header_of k len (length items - f.header - 1))) kind
     ∙ patched object_item before (member_listings (ms ++ (name, d) ∷ [])) header (length (ms ++ (name, d) ∷ []))
     f.header len items is at (omega (arith, count, length-append ms ((name, d) ∷ [])))
     ∙ ap (λ us. before ++ us) (sym (listing-object_of (ms ++ (name, d) ∷ []))) in
     subst (HoldsValue outer (closed_with (in_object ms name) d) f.outer fs (f.len + 1)) (sym same)
     (Holds-value outer f.outer fs f.len before (closed_with (in_object ms name) d) beyond)
 
--- its header lies among the nodes, and the container round it has fewer members than there are nodes
+-- its frame points at a header, and the container round it has fewer members than there are nodes
 pub Holds-header : (o : Open) (outer : List Open) (d : Document) (c : Container) (f : StackState) (fs : List StackState) (len : ℕ)
-    (items : List Item) → HoldsValue (o ∷ outer) d c (f ∷ fs) len items → f.header < length items
+    (items : List Item) → HoldsValue (o ∷ outer) d c (f ∷ fs) len items → HasHeader items f.header
 Holds-header (in_array ds) outer d c f fs len items h = Headed-header (Holds outer) (listings (ds ++ d ∷ [])) (length ds + 1)
     f fs len items h.1
 Holds-header (in_object ms name) outer d c f fs len items h = Headed-header (Holds outer) (member_listings (ms ++ (name, d) ∷ []))

@@ -1,5 +1,4 @@
 pub mod Exits
-mod Premises
 mod CarryLaws
 pub mod Steps
 mod Holding

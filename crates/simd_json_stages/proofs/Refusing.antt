@@ -1,12 +1,12 @@
 -- The steps of the machine that refuse a token: the fault is the whole descent's.
 use Rattle.std.proofs.Common.{inl, inr, ◌≡◌, ◌≢◌, refl, sym, ◌∙◌, ap, subst, ℕ, ◌+◌, ◌-◌, ◌<◌, ◌≤◌, List, [], ◌∷◌, ◌++◌, Bool, true, false}
-use Rattle.std.proofs.Common.{length-append, length, get_or, map, take, drop, cond, arith}
+use Rattle.std.proofs.Common.{length-append, length, get_or, take, drop, cond, arith}
 use Rattle.std.specs.Prelude.{Ok, Err, if◌then◌else◌}
 use Rattle.std.proofs.lemmas.List.{append-nil}
 use Rattle.std.proofs.Math.Seq.{take-append_seam, drop-length}
 use Rattle.simd_json_parts.specs.Bytes.{byte_at}
 use Rattle.simd_json_parts.specs.Document.{Document, array, object}
-use Rattle.simd_json_parts.specs.Nodes.{Item, array_item, object_item, item_of}
+use Rattle.simd_json_parts.specs.Nodes.{Item, array_item, object_item, static_item}
 use Rattle.simd_json_parts.specs.Listing.{listing}
 use Rattle.simd_json_parts.specs.Descent.{◌>>=◌, is_container, last_index, last_read, root_end}
 use Rattle.simd_json_parts.specs.Faults.{fault_at, fault_with}
@@ -17,12 +17,9 @@ use Rattle.simd_json_parts.specs.declared.error.Error.{Error}
 use Rattle.simd_json_parts.specs.declared.error.ErrorType.{ErrorType}
 use Rattle.simd_json_parts.specs.declared.error.ErrorType.TheVariants.{Syntax, DepthLimitExceeded, InternalError, ExpectedObjectKey}
 use Rattle.simd_json_parts.specs.declared.error.ErrorType.TheVariants.{TrailingData}
-use Rattle.simd_json_parts.specs.declared.node.Node.{Node}
-use Rattle.simd_json_parts.specs.declared.node.Node.TheVariants as nodes
-use Rattle.simd_json_parts.specs.declared.node.Node.TheVariants.{Static}
 use Rattle.simd_json_parts.specs.declared.node.StaticNode.TheVariants.{Null}
 use Rattle.simd_json_stages.specs.Continued.{Open, in_array, in_object, at_value, at_name, after_value}
-use Rattle.simd_json_stages.specs.Building.{closer, content_kind, end_kind, frames, HoldsValue, missing, whole, AtValue, AtName}
+use Rattle.simd_json_stages.specs.Building.{closer, content_kind, end_kind, is_header, frames, HoldsValue, missing, whole, AtValue, AtName}
 use Rattle.simd_json_stages.specs.Building.{AfterValue, IsFirstFault}
 use Rattle.simd_json_stages.specs.Put.{IsBadString, IsNoScalar}
 use Rattle.simd_json_stages.specs.Refusals.{error_type}
@@ -56,19 +53,19 @@ listing-starts (object ms) = refl
 listing-starts _ = refl
 
 -- by its first node, a root has the kind of fault that the descent has by its document
-end_kind-starts : (first : Node) (items : List Item) → (if starts_container (item_of first ∷ items)
-    then InternalError else TrailingData) ≡ error_type (end_kind first)
-end_kind-starts (nodes.Array len count) items = refl
-end_kind-starts (nodes.Object len count) items = refl
+end_kind-starts : (first : Item) (items : List Item) → (if starts_container (first ∷ items) then InternalError else TrailingData)
+    ≡ error_type (end_kind (is_header first))
+end_kind-starts (array_item len count) items = refl
+end_kind-starts (object_item len count) items = refl
 end_kind-starts _ items = refl
 
-root-kind : (ns : List Node) (d : Document) (first : Node) → 0 < length ns
-    → first ≡ get_or ns 0 (Static Null) → map item_of ns ≡ listing d
+root-kind : (ns : List Item) (d : Document) (first : Bool) → 0 < length ns
+    → first ≡ is_header (get_or ns 0 (static_item Null)) → ns ≡ listing d
     → (if is_container d then InternalError else TrailingData) ≡ error_type (end_kind first)
 root-kind [] d first l is listed = absurd (omega arith)
 root-kind (n ∷ ns) d first l is listed =
     ap (λ t. if t then InternalError else TrailingData) (sym (listing-starts d) ∙ ap starts_container (sym listed))
-    ∙ end_kind-starts n (map item_of ns) ∙ ap (λ x. error_type (end_kind x)) (sym is)
+    ∙ end_kind-starts n ns ∙ ap (λ x. error_type (end_kind x)) (sym is)
 
 module _ (b ps : List ℕ) (limit : ℕ) where
   refused : (f : Fault) → whole b ps limit ≡ Err (fault_with (error_type f.kind) f.index f.byte) → IsFirstFault b ps limit f
@@ -98,7 +95,7 @@ module _ (b ps : List ℕ) (limit : ℕ) where
   only i k form is goes end = along-form b i (drop k ps) form is goes ∙ ap (λ us. token b i ∷ tokens_along b us) (nothing_left k end)
 
   -- one container too many
-  pub refuses-deep : (c : Container) (stack : List StackState) (nodes : List Node) (p : Progress) → AtValue b ps limit stack nodes p
+  pub refuses-deep : (c : Container) (stack : List StackState) (nodes : List Item) (p : Progress) → AtValue b ps limit stack nodes p
       → limit ≤ p.depth → byte_at b p.at + 2 ≡ closer c
       → IsFirstFault b ps limit (record { kind = kinds.DepthLimitExceeded; index = p.at; byte = byte_at b p.at })
   refuses-deep c stack nodes p at l e = refused (record { kind = kinds.DepthLimitExceeded; index = p.at; byte = byte_at b p.at })
@@ -120,7 +117,7 @@ module _ (b ps : List ℕ) (limit : ℕ) where
           (opens_object b p.at o)
 
   -- nothing after an opening bracket
-  pub refuses-open_end : (c : Container) (stack : List StackState) (nodes : List Node) (p : Progress)
+  pub refuses-open_end : (c : Container) (stack : List StackState) (nodes : List Item) (p : Progress)
       → AtValue b ps limit stack nodes p → p.depth < limit → byte_at b p.at + 2 ≡ closer c → p.read ≡ length ps
       → IsFirstFault b ps limit (record { kind = kinds.Syntax; index = p.at; byte = byte_at b p.at })
   refuses-open_end c stack nodes p at l e end =
@@ -145,7 +142,7 @@ module _ (b ps : List ℕ) (limit : ℕ) where
           ∙ ap Err (ends_at at.before p.at p.read begin_object (opens_object b p.at o) refl end at.along)
 
   -- a scalar that is refused, or a token that begins no value
-  pub refuses-scalar : (stack : List StackState) (nodes : List Node) (p : Progress) (f : Fault) → AtValue b ps limit stack nodes p
+  pub refuses-scalar : (stack : List StackState) (nodes : List Item) (p : Progress) (f : Fault) → AtValue b ps limit stack nodes p
       → IsNoScalar b p.at f → IsFirstFault b ps limit f
   refuses-scalar stack nodes p f at (inl is) =
       refused f (at.same ∙ at_value-fault b (missing b ps) limit at.opens (token b p.at)
@@ -157,7 +154,7 @@ module _ (b ps : List ℕ) (limit : ℕ) where
       (cond (goes_on (form_at b p.at)) (tokens_along b (drop p.read ps)) []) (form_at b p.at) refl none))
 
   -- a bad string
-  pub refuses-string : (stack : List StackState) (nodes : List Node) (p : Progress) (f : Fault) → AtValue b ps limit stack nodes p
+  pub refuses-string : (stack : List StackState) (nodes : List Item) (p : Progress) (f : Fault) → AtValue b ps limit stack nodes p
       → byte_at b p.at ≡ 34 → IsBadString b p.at f → IsFirstFault b ps limit f
   refuses-string stack nodes p f at e bad =
       let error : Error = fault_with (error_type f.kind) f.index f.byte in
@@ -165,7 +162,7 @@ module _ (b ps : List ℕ) (limit : ℕ) where
       (cond (goes_on (form_at b p.at)) (tokens_along b (drop p.read ps)) []) error (quotes b p.at e ∙ ap string_token bad))
 
   -- after a member nothing is left
-  pub refuses-end : (stack : List StackState) (nodes : List Node) (p : Progress) → AfterValue b ps limit stack nodes p → 0 < p.depth
+  pub refuses-end : (stack : List StackState) (nodes : List Item) (p : Progress) → AfterValue b ps limit stack nodes p → 0 < p.depth
       → p.read ≡ length ps
       → IsFirstFault b ps limit (record { kind = kinds.Syntax; index = p.at; byte = byte_at b p.at })
   refuses-end stack nodes p at l end =
@@ -178,7 +175,7 @@ module _ (b ps : List ℕ) (limit : ℕ) where
       go (o ∷ outer) deep = after_value-none b (missing b ps) limit o outer at.last
 
   -- after a comma nothing is left
-  pub refuses-comma_end : (stack : List StackState) (nodes : List Node) (p : Progress) → AfterValue b ps limit stack nodes p
+  pub refuses-comma_end : (stack : List StackState) (nodes : List Item) (p : Progress) → AfterValue b ps limit stack nodes p
       → 0 < p.depth → p.read < length ps → byte_at b (get_or ps p.read 0) ≡ 44 → p.read + 1 ≡ length ps
       → IsFirstFault b ps limit (record { kind = kinds.Syntax; index = get_or ps p.read 0; byte = byte_at b (get_or ps p.read 0) })
   refuses-comma_end stack nodes p at l k e end =
@@ -200,7 +197,7 @@ module _ (b ps : List ℕ) (limit : ℕ) where
           ∙ at_name-missing b (missing b ps) limit ExpectedObjectKey (ms ++ (name, at.last) ∷ []) outer
 
   -- another token after a member
-  pub refuses-other : (stack : List StackState) (nodes : List Node) (p : Progress) → AfterValue b ps limit stack nodes p
+  pub refuses-other : (stack : List StackState) (nodes : List Item) (p : Progress) → AfterValue b ps limit stack nodes p
       → 0 < p.depth → p.read < length ps → byte_at b (get_or ps p.read 0) ≢ 44 → byte_at b (get_or ps p.read 0) ≢ closer p.container
       → IsFirstFault b ps limit
       (record { kind = content_kind p.container; index = get_or ps p.read 0; byte = byte_at b (get_or ps p.read 0) })
@@ -210,7 +207,7 @@ module _ (b ps : List ℕ) (limit : ℕ) where
       ∙ go at.opens at.deep p.container at.holds no_closer)
     where
       go : (os : List Open) → length os ≡ p.depth → (c : Container)
-          → HoldsValue os at.last c (frames stack p.depth) p.len (map item_of nodes)
+          → HoldsValue os at.last c (frames stack p.depth) p.len nodes
           → byte_at b (get_or ps p.read 0) ≢ closer c
           → after_value b (missing b ps) limit os at.last (tokens_along b (get_or ps p.read 0 ∷ drop (p.read + 1) ps)) ≡ Err
           (fault_at b (error_type (content_kind c)) (get_or ps p.read 0))
@@ -242,9 +239,9 @@ module _ (b ps : List ℕ) (limit : ℕ) where
       ∙ ap (λ n. Err (fault_at b (if is_container d then InternalError else TrailingData) n)) (last_read-append before rest)
 
   -- something after the root
-  pub refuses-trailing : (stack : List StackState) (nodes : List Node) (p : Progress) (first : Node)
+  pub refuses-trailing : (stack : List StackState) (nodes : List Item) (p : Progress) (first : Bool)
       → AfterValue b ps limit stack nodes p → p.depth ≡ 0 → p.read < length ps → 0 < length nodes
-      → first ≡ get_or nodes 0 (Static Null)
+      → first ≡ is_header (get_or nodes 0 (static_item Null))
       → IsFirstFault b ps limit (record { kind = end_kind first; index = p.at; byte = byte_at b p.at })
   refuses-trailing stack nodes p first at root k l is =
       let i : ℕ = get_or ps p.read 0 in
@@ -261,12 +258,12 @@ module _ (b ps : List ℕ) (limit : ℕ) where
       alone (o ∷ outer) deep = absurd (omega (arith, deep, root))
 
       listed : (os : List Open) → length os ≡ p.depth → HoldsValue os at.last p.container (frames stack p.depth) p.len
-          (map item_of nodes) → map item_of nodes ≡ listing at.last
+          nodes → nodes ≡ listing at.last
       listed [] deep holds = holds.1
       listed (o ∷ outer) deep holds = absurd (omega (arith, deep, root))
 
   -- no name where one is expected
-  pub refuses-no_name : (kind : FaultKind) (stack : List StackState) (nodes : List Node) (p : Progress)
+  pub refuses-no_name : (kind : FaultKind) (stack : List StackState) (nodes : List Item) (p : Progress)
       → AtName b ps limit (error_type kind) stack nodes p → byte_at b p.at ≢ 34
       → IsFirstFault b ps limit (record { kind = kind; index = p.at; byte = byte_at b p.at })
   refuses-no_name kind stack nodes p at other =
@@ -275,7 +272,7 @@ module _ (b ps : List ℕ) (limit : ℕ) where
       (cond (goes_on (form_at b p.at)) (tokens_along b (drop p.read ps)) []) (form_at b p.at) refl (no_string b p.at other))
 
   -- a bad name
-  pub refuses-name : (kind : ErrorType) (stack : List StackState) (nodes : List Node) (p : Progress) (f : Fault)
+  pub refuses-name : (kind : ErrorType) (stack : List StackState) (nodes : List Item) (p : Progress) (f : Fault)
       → AtName b ps limit kind stack nodes p → byte_at b p.at ≡ 34 → IsBadString b p.at f → IsFirstFault b ps limit f
   refuses-name kind stack nodes p f at e bad =
       let error : Error = fault_with (error_type f.kind) f.index f.byte in
@@ -283,7 +280,7 @@ module _ (b ps : List ℕ) (limit : ℕ) where
       (cond (goes_on (form_at b p.at)) (tokens_along b (drop p.read ps)) []) error (quotes b p.at e ∙ ap string_token bad))
 
   -- nothing after a name
-  pub refuses-name_end : (kind : ErrorType) (stack : List StackState) (nodes : List Node) (p : Progress) (name : List ℕ) (end : ℕ)
+  pub refuses-name_end : (kind : ErrorType) (stack : List StackState) (nodes : List Item) (p : Progress) (name : List ℕ) (end : ℕ)
       → AtName b ps limit kind stack nodes p → byte_at b p.at ≡ 34 → string_at b p.at ≡ Ok (name, end) → p.read ≡ length ps
       → IsFirstFault b ps limit (record { kind = kinds.Syntax; index = p.at; byte = byte_at b p.at })
   refuses-name_end kind stack nodes p name end at e read none =
@@ -295,7 +292,7 @@ module _ (b ps : List ℕ) (limit : ℕ) where
       ∙ ap Err (ends_at at.before p.at p.read (string_token (Ok (name, end))) form refl none at.along))
 
   -- no colon after it
-  pub refuses-no_colon : (kind : ErrorType) (stack : List StackState) (nodes : List Node) (p : Progress) (name : List ℕ) (end : ℕ)
+  pub refuses-no_colon : (kind : ErrorType) (stack : List StackState) (nodes : List Item) (p : Progress) (name : List ℕ) (end : ℕ)
       → AtName b ps limit kind stack nodes p → byte_at b p.at ≡ 34 → string_at b p.at ≡ Ok (name, end) → p.read < length ps
       → byte_at b (get_or ps p.read 0) ≢ 58
       → IsFirstFault b ps limit
@@ -310,7 +307,7 @@ module _ (b ps : List ℕ) (limit : ℕ) where
       (cond (goes_on (form_at b i)) (tokens_along b (drop (p.read + 1) ps)) []) name end (form_at b i) form refl (no_colon b i other))
 
   -- nothing after a colon
-  pub refuses-colon_end : (kind : ErrorType) (stack : List StackState) (nodes : List Node) (p : Progress) (name : List ℕ) (end : ℕ)
+  pub refuses-colon_end : (kind : ErrorType) (stack : List StackState) (nodes : List Item) (p : Progress) (name : List ℕ) (end : ℕ)
       → AtName b ps limit kind stack nodes p → byte_at b p.at ≡ 34 → string_at b p.at ≡ Ok (name, end) → p.read < length ps
       → byte_at b (get_or ps p.read 0) ≡ 58 → p.read + 1 ≡ length ps
       → IsFirstFault b ps limit (record { kind = kinds.Syntax; index = get_or ps p.read 0; byte = byte_at b (get_or ps p.read 0) })

@@ -14,7 +14,7 @@ use Rattle.simd_json_parts.specs.Document.{Document, null, boolean, decimal}
 use Rattle.simd_json_parts.specs.Faults.{fault_at, fault_with}
 use Rattle.simd_json_parts.specs.Integers.{max_magnitude}
 use Rattle.simd_json_parts.specs.Listing.{listing}
-use Rattle.simd_json_parts.specs.Nodes.{static_item}
+use Rattle.simd_json_parts.specs.Nodes.{Item, static_item}
 use Rattle.simd_json_parts.specs.NumberAt.{number_at, integer_or, first_excess}
 use Rattle.simd_json_parts.specs.Numbers.{number_literal, integer_literal, has_minus, magnitude}
 use Rattle.simd_json_parts.specs.StringAt.{string_at}
@@ -27,8 +27,6 @@ use Rattle.simd_json_scalars.proofs.Patterns.Bytes.{All-Matches}
 use Rattle.simd_json_scalars.proofs.Patterns.Sets.{matches-Matches, longest_prefix-le}
 use Rattle.simd_json_stages.specs.Put.{IsScalarPut, IsNoScalar}
 use Rattle.simd_json_stages.specs.Refusals.{error_type, refused_kind, number_refusal}
-use Rattle.simd_json_parts.specs.declared.node.Node.{Node}
-use Rattle.simd_json_parts.specs.declared.node.Node.TheVariants.{Static}
 use Rattle.simd_json_parts.specs.declared.node.StaticNode.{StaticNode}
 use Rattle.simd_json_stages.specs.declared.stage2.fault.Fault.{Fault}
 use Rattle.simd_json_stages.specs.declared.stage2.fault.FaultKind.{FaultKind}
@@ -115,11 +113,11 @@ decimal-here b i literal end l is = subst (FormHere b) is (form-here b i l)
 -- ---- a node of fixed size
 
 -- nothing is split off before it
-pub static-put : (b : List ℕ) (i end : ℕ) (nodes nodes' : List Node) (reads : ℕ → Type 0) (d : Document) (s : StaticNode) → reads i
-    → form_at b i ≡ scalar (Ok (d, end)) → listing d ≡ static_item s ∷ [] → nodes' ≡ nodes ++ Static s ∷ []
+pub static-put : (b : List ℕ) (i end : ℕ) (nodes nodes' : List Item) (reads : ℕ → Type 0) (d : Document) (s : StaticNode) → reads i
+    → form_at b i ≡ scalar (Ok (d, end)) → listing d ≡ static_item s ∷ [] → nodes' ≡ nodes ++ static_item s ∷ []
     → IsScalarPut b i nodes nodes' reads
 static-put b i end nodes nodes' reads d s text is listed put =
-    record { document = d; end = end; node = Static s; read = is; listed = listed; put = put; text = inl text }
+    record { document = d; end = end; node = static_item s; read = is; listed = listed; put = put; text = inl text }
 
 -- ---- a refusal
 

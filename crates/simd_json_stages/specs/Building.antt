@@ -1,7 +1,8 @@
 -- How the nodes so far and the stack stand for the containers that are open, the innermost first.
-use Rattle.std.specs.Prelude.{◌≡◌, ℕ, zero, suc, ◌+◌, ◌-◌, List, [], ◌∷◌, ◌++◌, length, get_or, slice_set, map, drop, Result, Ok, Err}
+use Rattle.std.specs.Prelude.{◌≡◌, ℕ, zero, suc, ◌+◌, ◌-◌, List, [], ◌∷◌, ◌++◌, length, get_or, slice_set, map, drop, Bool, true, false}
+use Rattle.std.specs.Prelude.{Result, Ok, Err}
 use Rattle.simd_json_parts.specs.Document.{Document, array, object, no_elements, no_members}
-use Rattle.simd_json_parts.specs.Nodes.{Item, string_item, item_of}
+use Rattle.simd_json_parts.specs.Nodes.{Item, array_item, object_item, string_item, item_of}
 use Rattle.simd_json_parts.specs.Listing.{listing}
 use Rattle.simd_json_parts.specs.Descent.{◌>>=◌, last_index, root_end, descent}
 use Rattle.simd_json_parts.specs.Faults.{fault_with, fault_at}
@@ -11,7 +12,6 @@ use Rattle.simd_json_parts.specs.declared.error.Error.{Error}
 use Rattle.simd_json_parts.specs.declared.error.ErrorType.{ErrorType}
 use Rattle.simd_json_parts.specs.declared.error.ErrorType.TheVariants.{Syntax}
 use Rattle.simd_json_parts.specs.declared.node.Node.{Node}
-use Rattle.simd_json_parts.specs.declared.node.Node.TheVariants as nodes
 use Rattle.simd_json_stages.specs.Continued.{Open, in_array, in_object, elements_onto, members_onto, after_value, at_value, at_name}
 use Rattle.simd_json_stages.specs.Refusals.{error_type}
 use Rattle.simd_json_stages.specs.declared.stage2.stack.Container.{Container}
@@ -32,20 +32,24 @@ abbrev pub closer : Container → ℕ
 closer Array = 93
 closer Object = 125
 
-abbrev pub header_of : Container → ℕ → ℕ → Node
-header_of Array len count = nodes.Array len count
-header_of Object len count = nodes.Object len count
+abbrev pub header_of : Container → ℕ → ℕ → Item
+header_of Array len count = array_item len count
+header_of Object len count = object_item len count
+
+abbrev pub is_header : Item → Bool
+is_header (array_item len count) = true
+is_header (object_item len count) = true
+is_header _ = false
 
 -- the fault of a token that may not stand after a member
 abbrev pub content_kind : Container → FaultKind
 content_kind Array = kinds.ExpectedArrayContent
 content_kind Object = kinds.ExpectedObjectContent
 
--- the fault at a root, by its first node, where a token stands after it
-abbrev pub end_kind : Node → FaultKind
-end_kind (nodes.Array len count) = kinds.InternalError
-end_kind (nodes.Object len count) = kinds.InternalError
-end_kind _ = kinds.TrailingData
+-- the fault where a token stands after a root, by whether that is a container
+abbrev pub end_kind : Bool → FaultKind
+end_kind true = kinds.InternalError
+end_kind false = kinds.TrailingData
 
 -- ---- what nodes and stack stand for
 
@@ -72,7 +76,7 @@ abbrev pub top : List StackState → ℕ → StackState
 top stack depth = get_or stack (depth - 1) no_frame
 
 -- the nodes with its header patched
-abbrev pub patch : List Node → StackState → Progress → List Node
+abbrev pub patch : List Item → StackState → Progress → List Item
 patch nodes f p = slice_set nodes f.header (header_of p.container p.len (length nodes - f.header - 1))
 
 -- The items end with a header, yet to be patched, and what lies beneath it so far, of n members. The frame says where the
@@ -80,8 +84,8 @@ patch nodes f p = slice_set nodes f.header (header_of p.container p.len (length 
 abbrev pub Headed : (Container → List StackState → ℕ → List Item → Type 0) → List Item → ℕ → List StackState → ℕ → List Item → Type 0
 Headed round beneath n [] len items = ⊥
 Headed round beneath n (f ∷ fs) len items =
-    (before : List Item) × (header : Item) × (items ≡ before ++ header ∷ beneath) × (f.header ≡ length before) × (len ≡ n)
-    × round f.outer fs f.len before
+    (before : List Item) × (header : Item) × (is_header header ≡ true) × (items ≡ before ++ header ∷ beneath)
+    × (f.header ≡ length before) × (len ≡ n) × round f.outer fs f.len before
 
 -- where a value is expected, in these containers; of the innermost it is known what it is and how many members it has
 abbrev pub Holds : List Open → Container → List StackState → ℕ → List Item → Type 0
@@ -115,6 +119,12 @@ pub record IsListed (b : List ℕ) (limit : ℕ) (nodes : List Node) : Type 0 wh
   pub same : descent b limit ≡ Ok document
   pub listed : map item_of nodes ≡ listing document
 
+-- the same of nodes that are known as items
+pub record IsWritten (b : List ℕ) (limit : ℕ) (nodes : List Item) : Type 0 where
+  pub document : Document
+  pub same : descent b limit ≡ Ok document
+  pub listed : nodes ≡ listing document
+
 -- b is the input, ps its positions
 -- the fault where a token is expected and none is left
 abbrev pub missing : List ℕ → List ℕ → Error
@@ -126,56 +136,56 @@ module _ (b ps : List ℕ) (limit : ℕ) where
   whole = at_value b (missing b ps) limit [] (tokens_along b ps)
 
   -- The last token is the first of a value, and the others follow from p.read on: to go on from there gives the whole.
-  pub record AtValue (stack : List StackState) (nodes : List Node) (p : Progress) : Type 0 where
+  pub record AtValue (stack : List StackState) (nodes : List Item) (p : Progress) : Type 0 where
     pub opens : List Open
     pub same : whole ≡ at_value b (missing b ps) limit opens (tokens_along b (p.at ∷ drop p.read ps))
     pub before : List Token
     pub along : tokens_along b ps ≡ before ++ tokens_along b (p.at ∷ drop p.read ps)
-    pub holds : Holds opens p.container (frames stack p.depth) p.len (map item_of nodes)
+    pub holds : Holds opens p.container (frames stack p.depth) p.len nodes
     pub deep : length opens ≡ p.depth
 
   -- It is the name of a member.
-  pub record AtName (kind : ErrorType) (stack : List StackState) (nodes : List Node) (p : Progress) : Type 0 where
+  pub record AtName (kind : ErrorType) (stack : List StackState) (nodes : List Item) (p : Progress) : Type 0 where
     pub members : List (List ℕ × Document)
     pub outer : List Open
     pub same : whole ≡ at_name b (missing b ps) limit kind members outer (tokens_along b (p.at ∷ drop p.read ps))
     pub before : List Token
     pub along : tokens_along b ps ≡ before ++ tokens_along b (p.at ∷ drop p.read ps)
-    pub holds : HoldsMembers members outer p.container (frames stack p.depth) p.len (map item_of nodes)
+    pub holds : HoldsMembers members outer p.container (frames stack p.depth) p.len nodes
     pub deep : suc (length outer) ≡ p.depth
 
   -- The value has been read.
-  pub record AfterValue (stack : List StackState) (nodes : List Node) (p : Progress) : Type 0 where
+  pub record AfterValue (stack : List StackState) (nodes : List Item) (p : Progress) : Type 0 where
     pub opens : List Open
     pub last : Document
     pub same : whole ≡ after_value b (missing b ps) limit opens last (tokens_along b (drop p.read ps))
     pub before : List Token
     pub along : tokens_along b ps ≡ before ++ tokens_along b (drop p.read ps)
     pub reached : last_index before ≡ p.at
-    pub holds : HoldsValue opens last p.container (frames stack p.depth) p.len (map item_of nodes)
+    pub holds : HoldsValue opens last p.container (frames stack p.depth) p.len nodes
     pub deep : length opens ≡ p.depth
 
   -- The whole is this document, and its listing is written.
-  pub record IsBuilt (nodes : List Node) : Type 0 where
+  pub record IsBuilt (nodes : List Item) : Type 0 where
     pub document : Document
     pub same : whole ≡ Ok (document, [])
-    pub listed : map item_of nodes ≡ listing document
+    pub listed : nodes ≡ listing document
 
   -- at the first token of a member: a value, or a name in an object
-  abbrev pub AtMemberOf : Container → ErrorType → List StackState → List Node → Progress → Type 0
+  abbrev pub AtMemberOf : Container → ErrorType → List StackState → List Item → Progress → Type 0
   AtMemberOf Array kind stack nodes p = AtValue stack nodes p
   AtMemberOf Object kind stack nodes p = AtName kind stack nodes p
 
-  abbrev pub AtMember : FaultKind → List StackState → List Node → Progress → Type 0
+  abbrev pub AtMember : FaultKind → List StackState → List Item → Progress → Type 0
   AtMember kind stack nodes p = AtMemberOf p.container (error_type kind) stack nodes p
 
   -- what a value came to
-  abbrev pub AtFirstOrAfter : List StackState → List Node → Value → Type 0
+  abbrev pub AtFirstOrAfter : List StackState → List Item → Value → Type 0
   AtFirstOrAfter stack nodes (Opened p) = AtMember kinds.ExpectedObjectContent stack nodes p
   AtFirstOrAfter stack nodes (Read p) = AfterValue stack nodes p
 
   -- what follows a member
-  abbrev pub AtNextOrAfter : List StackState → List Node → Following → Type 0
+  abbrev pub AtNextOrAfter : List StackState → List Item → Following → Type 0
   AtNextOrAfter stack nodes (followings.Next p) = AtMember kinds.ExpectedObjectKey stack nodes p
   AtNextOrAfter stack nodes (followings.Closed p) = AfterValue stack nodes p
 

@@ -2,7 +2,7 @@
 use Rattle.std.specs.Prelude.{◌≡◌, ◌≤◌, ◌<◌, ◌+◌, ◌*◌, ℕ, List, [], length, slice_index, min, Contains, Result, OnOk, IfErr}
 use Rattle.simd_json_parts.specs.Bytes.{quote}
 use Rattle.simd_json_parts.specs.Tokens.{form_at, tokens}
-use Rattle.simd_json_parts.specs.declared.node.Node.{Node}
+use Rattle.simd_json_parts.specs.Nodes.{Item}
 use Rattle.simd_json_stages.specs.Building.{closer, AtValue, AtName, AfterValue, AtFirstOrAfter, IsBuilt, IsFirstFault}
 use Rattle.simd_json_stages.specs.NodesEnough.{nodes_enough}
 use Rattle.simd_json_stages.specs.Progresses.{IsOnRoute, IsRead, IsBefore, IsAfter, IsWithin, reached}
@@ -48,14 +48,14 @@ IsFrom n (Next p kind) = n ≤ p.read
 IsFrom n End = Unit {0}
 
 -- before any token of the input b is read
-pub record AtStart (b : List ℕ) (r : Route) (m : Machine) (capacity : ℕ) (nodes : List Node) : Type 0 where
+pub record AtStart (b : List ℕ) (r : Route) (m : Machine) (capacity : ℕ) (nodes : List Item) : Type 0 where
   pub on_route : IsOnRoute r.ends_closed b r.indexes.now
   pub capacities : HasCapacity r.indexes.now r.max_depth m.stack.now capacity
   pub empty : nodes ≡ []
   pub text : Reads b m.text 0
 
 -- The state of the machine is its text and stack, and the nodes with their capacity.
-module _ (b : List ℕ) (r : Route) (m : Machine) (capacity : ℕ) (nodes : List Node) where
+module _ (b : List ℕ) (r : Route) (m : Machine) (capacity : ℕ) (nodes : List Item) where
   -- at the first token of a value
   pub record AtFirst (p : Progress) : Type 0 where
     pub on_route : IsOnRoute r.ends_closed b r.indexes.now
@@ -121,7 +121,7 @@ module _ (b : List ℕ) (r : Route) (m : Machine) (capacity : ℕ) (nodes : List
   IsAtMember End = (2 * length nodes ≤ length r.indexes.now + 1) × IsBuilt b r.indexes.now r.max_depth nodes
 
 -- The nodes of the whole document are written, or the fault is the descent's.
-pub record IsTape (b ps : List ℕ) (limit : ℕ) (nodes : List Node) (r : Result (Unit {0}) Fault) : Type 0 where
+pub record IsTape (b ps : List ℕ) (limit : ℕ) (nodes : List Item) (r : Result (Unit {0}) Fault) : Type 0 where
   pub few : OnOk r (2 * length nodes ≤ length ps + 1)
   pub built : OnOk r (IsBuilt b ps limit nodes)
   pub refused : IfErr r (IsFirstFault b ps limit)

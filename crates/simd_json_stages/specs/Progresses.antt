@@ -1,8 +1,9 @@
 -- How far the machine is: bounds on what it counts, and from which index on it can read.
-use Rattle.std.specs.Prelude.{◌≡◌, ◌⊎◌, ◌≤◌, ◌<◌, ℕ, ◌+◌, ◌*◌, ◌-◌, List, length, slice_index, Bool, None, IsTrue}
+use Rattle.std.specs.Prelude.{◌≡◌, ◌≢◌, ◌⊎◌, ◌≤◌, ◌<◌, ℕ, ◌+◌, ◌*◌, ◌-◌, List, length, slice_index, Bool, None, IsTrue}
 use Rattle.simd_json_parts.specs.Bytes.{byte_at}
 use Rattle.simd_json_parts.specs.InputFaults.{input_fault}
 use Rattle.simd_json_parts.specs.Positions.{positions}
+use Rattle.simd_json_stages.specs.EscapesAhead.{PlainFrom}
 use Rattle.simd_json_stages.specs.declared.stage2.progress.Progress.{Progress}
 use Rattle.simd_json_stages.specs.declared.stage2.progress.Following.{Following}
 use Rattle.simd_json_stages.specs.declared.stage2.progress.Following.TheVariants as followings
@@ -31,6 +32,13 @@ pub record IsOnRoute (closed : Bool) (b ps : List ℕ) : Type 0 where
   pub positions : ps ≡ positions b
   pub whole : input_fault b ≡ None
   pub closes : IsTrue closed → EndsClosed b ps
+
+-- what the copy of the machine of this number relies on: 0 that no byte is a backslash, and all but 2 that the last position closes
+pub record IsForCopy (copy : ℕ) (b ps : List ℕ) : Type 0 where
+  pub positions : ps ≡ positions b
+  pub whole : input_fault b ≡ None
+  pub closes : copy ≢ 2 → EndsClosed b ps
+  pub plain : copy ≡ 0 → PlainFrom b 0 (length b)
 
 -- Before a value or a key, whose first token is read: it has no node yet. So many nodes are written; they are counted twice, as in
 -- `nodes_enough`. Each open container and each member has a node.

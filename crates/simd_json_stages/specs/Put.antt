@@ -5,11 +5,10 @@ use Rattle.simd_json_parts.specs.Bytes.{byte_at, is_terminator}
 use Rattle.simd_json_parts.specs.Document.{Document}
 use Rattle.simd_json_parts.specs.Faults.{fault_with}
 use Rattle.simd_json_parts.specs.Listing.{listing}
-use Rattle.simd_json_parts.specs.Nodes.{string_item, item_of}
+use Rattle.simd_json_parts.specs.Nodes.{Item, string_item}
 use Rattle.simd_json_parts.specs.NumberAt.{number_at}
 use Rattle.simd_json_parts.specs.StringAt.{string_at}
 use Rattle.simd_json_parts.specs.Tokens.{Form, begin_array, begin_object, string_token, scalar, form_at}
-use Rattle.simd_json_parts.specs.declared.node.Node.{Node}
 use Rattle.simd_json_stages.specs.Refusals.{error_type}
 use Rattle.simd_json_stages.specs.Texts.{Reads}
 use Rattle.simd_json_stages.specs.declared.stage2.fault.Fault.{Fault}
@@ -37,22 +36,22 @@ pub record AtNumber (b : List ℕ) (t : Text) (capacity written : ℕ) (p : Prog
   pub form : form_at b p.at ≡ scalar (number_at b p.at)
 
 -- the string at index i is the next node, and what is after it can be read
-pub record IsStringPut (b : List ℕ) (i : ℕ) (nodes nodes' : List Node) (reads : ℕ → Type 0) : Type 0 where
+pub record IsStringPut (b : List ℕ) (i : ℕ) (nodes nodes' : List Item) (reads : ℕ → Type 0) : Type 0 where
   pub string : List ℕ
   pub end : ℕ
-  pub node : Node
+  pub node : Item
   pub read : string_at b i ≡ Ok (string, end)
-  pub item : item_of node ≡ string_item string
+  pub item : node ≡ string_item string
   pub put : nodes' ≡ nodes ++ node ∷ []
   pub text : reads end
 
 -- the scalar at index i is the next node, and what is after it can be read, or it too
-pub record IsScalarPut (b : List ℕ) (i : ℕ) (nodes nodes' : List Node) (reads : ℕ → Type 0) : Type 0 where
+pub record IsScalarPut (b : List ℕ) (i : ℕ) (nodes nodes' : List Item) (reads : ℕ → Type 0) : Type 0 where
   pub document : Document
   pub end : ℕ
-  pub node : Node
+  pub node : Item
   pub read : form_at b i ≡ scalar (Ok (document, end))
-  pub listed : listing document ≡ item_of node ∷ []
+  pub listed : listing document ≡ node ∷ []
   pub put : nodes' ≡ nodes ++ node ∷ []
   pub text : reads i ⊎ reads end
 

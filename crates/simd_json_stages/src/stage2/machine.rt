@@ -9,7 +9,7 @@
 //!               the closing bracket of the container                 →  after a value
 //!               the end of the tokens, in no container               →  done
 //! ```
-ghost use Rattle.std.specs.Prelude.{◌≡◌, ◌<◌, ◌≤◌, ◌+◌, ◌*◌, ℕ, List, length, IfOk, IfErr, OnOk, vec_capacity};
+ghost use Rattle.std.specs.Prelude.{◌≡◌, ◌<◌, ◌≤◌, ◌+◌, ◌*◌, length, IfOk, IfErr, OnOk};
 ghost use Rattle.simd_json_stages.specs.Building.{IsBuilt, AtFirstOrAfter, AtNextOrAfter, IsFirstFault};
 ghost use Rattle.simd_json_stages.specs.Members.{AfterMember, AtElement, AtFirst, AtOpening, AtPair, AtStart};
 ghost use Rattle.simd_json_stages.specs.Members.{HasCome, IsAtMember, IsFrom};
@@ -18,13 +18,12 @@ ghost use Rattle.simd_json_stages.specs.Progresses.{IsWithin, IsWithinNext, reac
 ghost use Rattle.simd_json_stages.specs.Texts.{Reads};
 
 use super::fault::{Fault, FaultKind};
+use super::nodes::NodeSink;
 use super::progress::{Following, Member, Progress, Route, Value};
 use super::scalar::put_scalar;
 use super::stack::{Container, StackState, close};
 use super::string::put_string;
-use super::text::Text;
-use simd_json_parts::node::Node;
-use std::alloc::Allocator;
+use super::text::{Original, Text};
 use std::result::Result;
 
 // What the machine changes: what is left of the text, and what is kept of open containers. The nodes are lent
@@ -40,27 +39,28 @@ impl<'de> Machine<'_, 'de> {
     // The key at the last token, and its colon, and on to the first token of the member's value. Where no key
     // is there, the fault is of this kind.
     #[inline(always)]
-    fn read_key<A: Allocator>(
+    fn read_key<K: Original, S: NodeSink<'de>>(
         &mut self,
         route: Route,
-        nodes: &mut Vec<Node<'de>, A>,
+        nodes: &mut S,
         p: Progress,
         kind: FaultKind,
     ) -> Result<Progress, Fault>
-        ghost b: { List ℕ }
-        requires { AtPair b route self.old (vec_capacity nodes.old) nodes.old.items p kind }
-        ensures capacity { vec_capacity nodes.new ≡ vec_capacity nodes.old }
+        requires { AtPair K.bytes route self.old (S.node_room nodes.old)
+            (S.held_nodes nodes.old) p kind }
+        ensures capacity { S.node_room nodes.new ≡ S.node_room nodes.old }
+        ensures lender { S.lender nodes.new ≡ S.lender nodes.old }
         ensures stack { self.new.stack ≡ self.old.stack }
         ensures value { IfOk result
-            (AtFirst b route.entry self.new (vec_capacity nodes.new) nodes.new.items) }
+            (AtFirst K.bytes route.entry self.new (S.node_room nodes.new) (S.held_nodes nodes.new)) }
         ensures advances { IfOk result (λ q. (p.read < q.read) × (p.at ≤ q.at)
             × (q.depth ≡ p.depth) × (q.container ≡ p.container)) }
-        ensures refused { IfErr result (IsFirstFault b route.entry.indexes.now route.entry.max_depth) }
+        ensures refused { IfErr result (IsFirstFault K.bytes route.entry.indexes.now route.entry.max_depth) }
     {
         if p.byte != b'"' {
             return Err(p.fault(kind));
         }
-        put_string(&mut self.text, route, nodes, p)?;
+        put_string::<K, S>(&mut self.text, route, nodes, p)?;
         let colon = p.next_token(&self.text, route)?;
         if colon.byte != b':' {
             return Err(colon.fault(FaultKind::ExpectedObjectColon));
@@ -72,39 +72,41 @@ impl<'de> Machine<'_, 'de> {
     // The container that opens at the last token: the token after it shows whether it is empty.
     #[inline(always)]
     #[tactic(auto, unfolding(crate::specs::NodesEnough::nodes_enough))]
-    fn open<A: Allocator>(
+    fn open<K: Original, S: NodeSink<'de>>(
         &mut self,
         route: Route,
-        nodes: &mut Vec<Node<'de>, A>,
+        nodes: &mut S,
         p: Progress,
         container: Container,
     ) -> Result<Value, Fault>
-        ghost b: { List ℕ }
-        requires { AtOpening b route self.old (vec_capacity nodes.old) nodes.old.items p container }
-        ensures capacity { (vec_capacity nodes.new ≡ vec_capacity nodes.old)
+        requires { AtOpening K.bytes route self.old (S.node_room nodes.old)
+            (S.held_nodes nodes.old) p container }
+        ensures capacity { (S.node_room nodes.new ≡ S.node_room nodes.old)
             × (length self.new.stack.now ≡ length self.old.stack.now) }
+        ensures lender { S.lender nodes.new ≡ S.lender nodes.old }
         ensures text { self.new.text ≡ self.old.text }
-        ensures progress { IfOk result (IsWithin b route.entry.indexes.now (Reads b self.new.text)
-            (length nodes.new.items)) }
+        ensures progress { IfOk result (IsWithin K.bytes route.entry.indexes.now (Reads K.bytes self.new.text)
+            (length (S.held_nodes nodes.new))) }
         ensures advances { IfOk result (AdvancesPastValue route.entry.max_depth p) }
         ensures step { IfOk result
-            (AtFirstOrAfter b route.entry.indexes.now route.entry.max_depth self.new.stack.now nodes.new.items) }
-        ensures refused { IfErr result (IsFirstFault b route.entry.indexes.now route.entry.max_depth) }
+            (AtFirstOrAfter K.bytes route.entry.indexes.now route.entry.max_depth self.new.stack.now
+            (S.held_nodes nodes.new)) }
+        ensures refused { IfErr result (IsFirstFault K.bytes route.entry.indexes.now route.entry.max_depth) }
     {
         if p.depth == route.max_depth {
             return Err(p.fault(FaultKind::DepthLimitExceeded));
         }
         let q = p.next_token(&self.text, route)?;
         if q.byte == container.closer() {
-            nodes.push_reserved(container.header(0, 0));
+            nodes.header(container);
             return Ok(Value::Read(q.with_value()));
         }
         self.stack[p.depth] = StackState {
-            header: nodes.len(),
+            header: nodes.count(),
             outer: p.container,
             len: p.len,
         };
-        nodes.push_reserved(container.header(0, 0));
+        nodes.header(container);
         Ok(Value::Opened(Progress {
             depth: p.depth + 1,
             container,
@@ -115,33 +117,34 @@ impl<'de> Machine<'_, 'de> {
 
     // The value whose first token is the last one.
     #[inline(always)]
-    fn read_value<A: Allocator>(
+    fn read_value<K: Original, S: NodeSink<'de>>(
         &mut self,
         route: Route,
-        nodes: &mut Vec<Node<'de>, A>,
+        nodes: &mut S,
         p: Progress,
     ) -> Result<Value, Fault>
-        ghost b: { List ℕ }
-        requires { AtFirst b route self.old (vec_capacity nodes.old) nodes.old.items p }
-        ensures capacity { (vec_capacity nodes.new ≡ vec_capacity nodes.old)
+        requires { AtFirst K.bytes route self.old (S.node_room nodes.old) (S.held_nodes nodes.old) p }
+        ensures capacity { (S.node_room nodes.new ≡ S.node_room nodes.old)
             × (length self.new.stack.now ≡ length self.old.stack.now) }
-        ensures progress { IfOk result (IsWithin b route.entry.indexes.now (Reads b self.new.text)
-            (length nodes.new.items)) }
+        ensures lender { S.lender nodes.new ≡ S.lender nodes.old }
+        ensures progress { IfOk result (IsWithin K.bytes route.entry.indexes.now (Reads K.bytes self.new.text)
+            (length (S.held_nodes nodes.new))) }
         ensures advances { IfOk result (AdvancesPastValue route.entry.max_depth p) }
         ensures step { IfOk result
-            (AtFirstOrAfter b route.entry.indexes.now route.entry.max_depth self.new.stack.now nodes.new.items) }
-        ensures refused { IfErr result (IsFirstFault b route.entry.indexes.now route.entry.max_depth) }
+            (AtFirstOrAfter K.bytes route.entry.indexes.now route.entry.max_depth self.new.stack.now
+            (S.held_nodes nodes.new)) }
+        ensures refused { IfErr result (IsFirstFault K.bytes route.entry.indexes.now route.entry.max_depth) }
     {
         if p.byte == b'{' {
-            return self.open(route, nodes, p, Container::Object);
+            return self.open::<K, S>(route, nodes, p, Container::Object);
         }
         if p.byte == b'[' {
-            return self.open(route, nodes, p, Container::Array);
+            return self.open::<K, S>(route, nodes, p, Container::Array);
         }
         if p.byte == b'"' {
-            put_string(&mut self.text, route, nodes, p)?;
+            put_string::<K, S>(&mut self.text, route, nodes, p)?;
         } else {
-            put_scalar(&mut self.text, nodes, p)?;
+            put_scalar::<K, S>(&mut self.text, nodes, p)?;
         }
         Ok(Value::Read(p.with_value()))
     }
@@ -150,22 +153,24 @@ impl<'de> Machine<'_, 'de> {
     // closing bracket.
     #[inline(always)]
     #[tactic(auto, unfolding(crate::specs::NodesEnough::nodes_enough))]
-    fn after_member<A: Allocator>(
+    fn after_member<K: Original, S: NodeSink<'de>>(
         &self,
         route: Route,
-        nodes: &mut Vec<Node<'de>, A>,
+        nodes: &mut S,
         p: Progress,
         container: Container,
     ) -> Result<Following, Fault>
-        ghost b: { List ℕ }
-        requires { AfterMember b route self.now (vec_capacity nodes.old) nodes.old.items p container }
-        ensures capacity { vec_capacity nodes.new ≡ vec_capacity nodes.old }
-        ensures progress { IfOk result (IsWithinNext b route.entry.indexes.now (Reads b self.now.text)
-            (length nodes.new.items)) }
+        requires { AfterMember K.bytes route self.now (S.node_room nodes.old)
+            (S.held_nodes nodes.old) p container }
+        ensures capacity { S.node_room nodes.new ≡ S.node_room nodes.old }
+        ensures lender { S.lender nodes.new ≡ S.lender nodes.old }
+        ensures progress { IfOk result
+            (IsWithinNext K.bytes route.entry.indexes.now (Reads K.bytes self.now.text) (length (S.held_nodes nodes.new))) }
         ensures advances { IfOk result (AdvancesPastMember p) }
         ensures step { IfOk result
-            (AtNextOrAfter b route.entry.indexes.now route.entry.max_depth self.now.stack.now nodes.new.items) }
-        ensures refused { IfErr result (IsFirstFault b route.entry.indexes.now route.entry.max_depth) }
+            (AtNextOrAfter K.bytes route.entry.indexes.now route.entry.max_depth self.now.stack.now
+            (S.held_nodes nodes.new)) }
+        ensures refused { IfErr result (IsFirstFault K.bytes route.entry.indexes.now route.entry.max_depth) }
     {
         let q = p.next_token(&self.text, route)?;
         if q.byte == b',' {
@@ -180,26 +185,26 @@ impl<'de> Machine<'_, 'de> {
     // After a value closing brackets and a comma, or the end of the root; in a new container nothing.
     #[inline(always)]
     #[tactic(auto, unfolding(crate::specs::NodesEnough::nodes_enough))]
-    fn next_member<A: Allocator>(
+    fn next_member<K: Original, S: NodeSink<'de>>(
         &self,
         route: Route,
-        nodes: &mut Vec<Node<'de>, A>,
+        nodes: &mut S,
         value: Value,
     ) -> Result<Member, Fault>
-        ghost b: { List ℕ }
-        requires { HasCome b route self.now (vec_capacity nodes.old) nodes.old.items value }
-        ensures capacity { vec_capacity nodes.new ≡ vec_capacity nodes.old }
+        requires { HasCome K.bytes route self.now (S.node_room nodes.old) (S.held_nodes nodes.old) value }
+        ensures capacity { S.node_room nodes.new ≡ S.node_room nodes.old }
+        ensures lender { S.lender nodes.new ≡ S.lender nodes.old }
         ensures member { IfOk result
-            (IsAtMember b route.entry self.now (vec_capacity nodes.new) nodes.new.items) }
+            (IsAtMember K.bytes route.entry self.now (S.node_room nodes.new) (S.held_nodes nodes.new)) }
         ensures further { IfOk result (IsFrom (reached value).read) }
-        ensures refused { IfErr result (IsFirstFault b route.entry.indexes.now route.entry.max_depth) }
+        ensures refused { IfErr result (IsFirstFault K.bytes route.entry.indexes.now route.entry.max_depth) }
     {
         let mut p = match value {
             Value::Opened(p) => return Ok(Member::Next(p, FaultKind::ExpectedObjectContent)),
             Value::Read(p) => p,
         };
         while p.depth > 0 {
-            match self.after_member(route, nodes, p, p.container)? {
+            match self.after_member::<K, S>(route, nodes, p, p.container)? {
                 Following::Next(next) => {
                     return Ok(Member::Next(next, FaultKind::ExpectedObjectKey));
                 }
@@ -207,7 +212,7 @@ impl<'de> Machine<'_, 'de> {
             }
         }
         if p.read < route.indexes.len() {
-            return Err(p.fault_after_root(nodes[0]));
+            return Err(p.fault_after_root(nodes.begins_with_header()));
         }
         Ok(Member::End)
     }
@@ -217,27 +222,28 @@ impl<'de> Machine<'_, 'de> {
     // The elements of an array, from the first token of one on, up to a container that opens in it or to its
     // end.
     #[inline(always)]
-    fn elements<A: Allocator, const COPY: usize>(
+    fn elements<K: Original, S: NodeSink<'de>, const COPY: usize>(
         &mut self,
         route: Route,
-        nodes: &mut Vec<Node<'de>, A>,
+        nodes: &mut S,
         first: Progress,
     ) -> Result<Value, Fault>
-        ghost b: { List ℕ }
-        requires { AtElement b route self.old (vec_capacity nodes.old) nodes.old.items first }
-        ensures capacity { (vec_capacity nodes.new ≡ vec_capacity nodes.old)
+        requires { AtElement K.bytes route self.old (S.node_room nodes.old)
+            (S.held_nodes nodes.old) first }
+        ensures capacity { (S.node_room nodes.new ≡ S.node_room nodes.old)
             × (length self.new.stack.now ≡ length self.old.stack.now) }
+        ensures lender { S.lender nodes.new ≡ S.lender nodes.old }
         ensures came { IfOk result
-            (HasCome b route.entry self.new (vec_capacity nodes.new) nodes.new.items) }
+            (HasCome K.bytes route.entry self.new (S.node_room nodes.new) (S.held_nodes nodes.new)) }
         ensures further { IfOk result (λ value. first.read < (reached value).read) }
-        ensures refused { IfErr result (IsFirstFault b route.entry.indexes.now route.entry.max_depth) }
+        ensures refused { IfErr result (IsFirstFault K.bytes route.entry.indexes.now route.entry.max_depth) }
     {
         let mut p = first;
         'values: loop {
-            match self.read_value(route, nodes, p)? {
+            match self.read_value::<K, S>(route, nodes, p)? {
                 Value::Opened(opened) => return Ok(Value::Opened(opened)),
                 Value::Read(read) => {
-                    match self.after_member(route, nodes, read, Container::Array)? {
+                    match self.after_member::<K, S>(route, nodes, read, Container::Array)? {
                         Following::Next(next) => p = next,
                         Following::Closed(closed) => return Ok(Value::Read(closed)),
                     }
@@ -248,30 +254,31 @@ impl<'de> Machine<'_, 'de> {
 
     // The members of an object, likewise. Where the first has no key, the fault is of this kind.
     #[inline(always)]
-    fn members<A: Allocator, const COPY: usize>(
+    fn members<K: Original, S: NodeSink<'de>, const COPY: usize>(
         &mut self,
         route: Route,
-        nodes: &mut Vec<Node<'de>, A>,
+        nodes: &mut S,
         first: Progress,
         kind: FaultKind,
     ) -> Result<Value, Fault>
-        ghost b: { List ℕ }
-        requires { AtPair b route self.old (vec_capacity nodes.old) nodes.old.items first kind }
-        ensures capacity { (vec_capacity nodes.new ≡ vec_capacity nodes.old)
+        requires { AtPair K.bytes route self.old (S.node_room nodes.old)
+            (S.held_nodes nodes.old) first kind }
+        ensures capacity { (S.node_room nodes.new ≡ S.node_room nodes.old)
             × (length self.new.stack.now ≡ length self.old.stack.now) }
+        ensures lender { S.lender nodes.new ≡ S.lender nodes.old }
         ensures came { IfOk result
-            (HasCome b route.entry self.new (vec_capacity nodes.new) nodes.new.items) }
+            (HasCome K.bytes route.entry self.new (S.node_room nodes.new) (S.held_nodes nodes.new)) }
         ensures further { IfOk result (λ value. first.read < (reached value).read) }
-        ensures refused { IfErr result (IsFirstFault b route.entry.indexes.now route.entry.max_depth) }
+        ensures refused { IfErr result (IsFirstFault K.bytes route.entry.indexes.now route.entry.max_depth) }
     {
         let mut p = first;
         let mut kind = kind;
         'pairs: loop {
-            let value = self.read_key(route, nodes, p, kind)?;
-            match self.read_value(route, nodes, value)? {
+            let value = self.read_key::<K, S>(route, nodes, p, kind)?;
+            match self.read_value::<K, S>(route, nodes, value)? {
                 Value::Opened(opened) => return Ok(Value::Opened(opened)),
                 Value::Read(read) => {
-                    match self.after_member(route, nodes, read, Container::Object)? {
+                    match self.after_member::<K, S>(route, nodes, read, Container::Object)? {
                         Following::Next(next) => p = next,
                         Following::Closed(closed) => return Ok(Value::Read(closed)),
                     }
@@ -283,17 +290,19 @@ impl<'de> Machine<'_, 'de> {
 
     // The tape of the tokens at the positions, from the first value on.
     #[inline(always)]
-    pub(super) fn build<A: Allocator, const COPY: usize>(
+    pub(super) fn build<K: Original, S: NodeSink<'de>, const COPY: usize>(
         &mut self,
         route: Route,
-        nodes: &mut Vec<Node<'de>, A>,
+        nodes: &mut S,
     ) -> Result<(), Fault>
-        ghost b: { List ℕ }
-        requires { AtStart b route self.old (vec_capacity nodes.old) nodes.old.items }
-        ensures capacity { vec_capacity nodes.new ≡ vec_capacity nodes.old }
-        ensures few { OnOk result (2 * length nodes.new.items ≤ length route.entry.indexes.now + 1) }
-        ensures built { OnOk result (IsBuilt b route.entry.indexes.now route.entry.max_depth nodes.new.items) }
-        ensures refused { IfErr result (IsFirstFault b route.entry.indexes.now route.entry.max_depth) }
+        requires { AtStart K.bytes route self.old (S.node_room nodes.old) (S.held_nodes nodes.old) }
+        ensures capacity { S.node_room nodes.new ≡ S.node_room nodes.old }
+        ensures lender { S.lender nodes.new ≡ S.lender nodes.old }
+        ensures few { OnOk result
+            (2 * length (S.held_nodes nodes.new) ≤ length route.entry.indexes.now + 1) }
+        ensures built { OnOk result (IsBuilt K.bytes route.entry.indexes.now route.entry.max_depth
+            (S.held_nodes nodes.new)) }
+        ensures refused { IfErr result (IsFirstFault K.bytes route.entry.indexes.now route.entry.max_depth) }
     {
         let at = route.indexes[0] as usize;
         let first = Progress {
@@ -304,12 +313,12 @@ impl<'de> Machine<'_, 'de> {
             depth: 0,
             len: 0,
         };
-        let mut value = self.read_value(route, nodes, first)?;
+        let mut value = self.read_value::<K, S>(route, nodes, first)?;
         'values: loop {
-            value = match self.next_member(route, nodes, value)? {
+            value = match self.next_member::<K, S>(route, nodes, value)? {
                 Member::Next(p, kind) => match p.container {
-                    Container::Array => self.elements::<A, COPY>(route, nodes, p)?,
-                    Container::Object => self.members::<A, COPY>(route, nodes, p, kind)?,
+                    Container::Array => self.elements::<K, S, COPY>(route, nodes, p)?,
+                    Container::Object => self.members::<K, S, COPY>(route, nodes, p, kind)?,
                 },
                 Member::End => return Ok(()),
             };

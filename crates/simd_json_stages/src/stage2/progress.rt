@@ -9,7 +9,6 @@ ghost use Rattle.simd_json_stages.specs.Progresses.{IsNext};
 use super::fault::{Fault, FaultKind};
 use super::stack::Container;
 use super::text::Text;
-use simd_json_parts::node::Node;
 use std::result::Result;
 
 // What stays as it is on the way through the tokens: their positions, whether the last of them holds a closing
@@ -111,14 +110,15 @@ impl Progress {
         }
     }
 
-    // The fault at the last token where it is after the root, whose first node is given.
+    // The fault at the last token where it is after the root.
     #[cold]
-    pub(super) fn fault_after_root<'de>(self, first: Node<'de>) -> Fault
-        ensures { result ≡ record { kind = end_kind first.entry; index = self.at; byte = self.byte } }
+    pub(super) fn fault_after_root(self, is_container: bool) -> Fault
+        ensures { result ≡ record { kind = end_kind is_container; index = self.at; byte = self.byte } }
     {
-        match first {
-            Node::Array { .. } | Node::Object { .. } => self.fault(FaultKind::InternalError),
-            _ => self.fault(FaultKind::TrailingData),
+        if is_container {
+            self.fault(FaultKind::InternalError)
+        } else {
+            self.fault(FaultKind::TrailingData)
         }
     }
 }

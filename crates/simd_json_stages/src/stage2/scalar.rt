@@ -1,9 +1,10 @@
 //! Scalars that are no strings become nodes.
 ghost use Rattle.std.specs.Prelude.{◌≡◌, ◌<◌, ◌≤◌, ◌+◌, ◌^◌, ◌==◌, ◌&&◌, ◌||◌, ℕ, List, length, drop};
 ghost use Rattle.std.specs.Prelude.{[], ◌∷◌, ◌++◌, nat_eq, codes, true, false, MatchOption, MatchResult};
-ghost use Rattle.std.specs.Prelude.{IfErr, OnOk, vec_capacity};
+ghost use Rattle.std.specs.Prelude.{IfErr, OnOk};
 ghost use Rattle.std.specs.List.{starts_with};
 ghost use Rattle.simd_json_parts.specs.Bytes.{is_terminator, byte_at, minus_sign};
+ghost use Rattle.simd_json_parts.specs.Nodes.{static_item};
 ghost use Rattle.simd_json_parts.specs.Integers.{integer_node, max_magnitude_64};
 ghost use Rattle.simd_json_scalars.specs.NumberRead.{IsNumberAt};
 ghost use Rattle.simd_json_scalars.specs.NumeralRead.{IsIntegerLiteral};
@@ -13,12 +14,12 @@ ghost use Rattle.simd_json_stages.specs.Refusals.{refused_kind, number_refusal};
 ghost use Rattle.simd_json_stages.specs.Texts.{Reads};
 
 use super::fault::{Fault, FaultKind};
+use super::nodes::NodeSink;
 use super::progress::Progress;
-use super::text::Text;
+use super::text::{Original, Text};
 use simd_json_parts::charutils::{byte_or_space, is_structural_or_whitespace};
-use simd_json_parts::node::{Node, StaticNode};
+use simd_json_parts::node::StaticNode;
 use simd_json_scalars::numberparse::{Numeral, is_integer, parse_long, parse_numeral, parse_short};
-use std::alloc::Allocator;
 
 /// Whether the bytes begin with `true`, and end there or go on with a structural character or whitespace.
 pub fn is_valid_true_atom(bytes: &[u8]) -> bool
@@ -51,30 +52,32 @@ fn ends_at(bytes: &[u8], at: usize) -> bool
 // The scalar at the last token, which is no string, becomes the next node. Each kind has a branch that stores
 // its own node, a constant but for a number: one that is joined from branches is copied piece by piece.
 #[inline(always)]
-pub(super) fn put_scalar<'de, A: Allocator>(
+pub(super) fn put_scalar<'de, K: Original, S: NodeSink<'de>>(
     text: &mut Text<'_, 'de>,
-    nodes: &mut Vec<Node<'de>, A>,
+    nodes: &mut S,
     p: Progress,
 ) -> std::result::Result<(), Fault>
-    ghost b: { List ℕ }
-    requires { AtOther b text.old (vec_capacity nodes.old) (length nodes.old.items) p }
-    ensures capacity { vec_capacity nodes.new ≡ vec_capacity nodes.old }
-    ensures put { OnOk result (IsScalarPut b p.at nodes.old.items nodes.new.items (Reads b text.new)) }
-    ensures refused { IfErr result (IsNoScalar b p.at) }
+    requires { AtOther K.bytes text.old (S.node_room nodes.old) (length (S.held_nodes nodes.old)) p }
+    ensures capacity { S.node_room nodes.new ≡ S.node_room nodes.old }
+    ensures lender { S.lender nodes.new ≡ S.lender nodes.old }
+    ensures put { OnOk result
+        (IsScalarPut K.bytes p.at (S.held_nodes nodes.old) (S.held_nodes nodes.new)
+        (Reads K.bytes text.new)) }
+    ensures refused { IfErr result (IsNoScalar K.bytes p.at) }
 {
     if is_integer(p.byte) || p.byte == b'-' {
-        return put_number(text, nodes, p);
+        return put_number::<K, S>(text, nodes, p);
     }
     let rest = text.from(p.at);
     if p.byte == b'n' {
         if !is_valid_null_atom(rest) {
             return Err(no_scalar(p.at, p.byte));
         }
-        nodes.push_reserved(Node::Static(StaticNode::Null));
+        nodes.fixed(StaticNode::Null);
         return Ok(());
     }
     match parse_boolean(rest) {
-        Some(value) => nodes.push_reserved(Node::Static(StaticNode::Bool(value))),
+        Some(value) => nodes.fixed(StaticNode::Bool(value)),
         None => return Err(no_scalar(p.at, p.byte)),
     }
     Ok(())
@@ -143,43 +146,47 @@ fn no_scalar(at: usize, byte: u8) -> Fault
 
 // The number at the last token becomes the next node.
 #[inline(always)]
-fn put_number<'de, A: Allocator>(
+fn put_number<'de, K: Original, S: NodeSink<'de>>(
     text: &mut Text<'_, 'de>,
-    nodes: &mut Vec<Node<'de>, A>,
+    nodes: &mut S,
     p: Progress,
 ) -> std::result::Result<(), Fault>
-    ghost b: { List ℕ }
-    requires { AtNumber b text.old (vec_capacity nodes.old) (length nodes.old.items) p }
-    ensures capacity { vec_capacity nodes.new ≡ vec_capacity nodes.old }
-    ensures put { OnOk result (IsScalarPut b p.at nodes.old.items nodes.new.items (Reads b text.new)) }
-    ensures refused { IfErr result (IsNoScalar b p.at) }
+    requires { AtNumber K.bytes text.old (S.node_room nodes.old) (length (S.held_nodes nodes.old)) p }
+    ensures capacity { S.node_room nodes.new ≡ S.node_room nodes.old }
+    ensures lender { S.lender nodes.new ≡ S.lender nodes.old }
+    ensures put { OnOk result
+        (IsScalarPut K.bytes p.at (S.held_nodes nodes.old) (S.held_nodes nodes.new)
+        (Reads K.bytes text.new)) }
+    ensures refused { IfErr result (IsNoScalar K.bytes p.at) }
 {
     match parse_short(text.from(p.at)) {
         Some(Numeral::Integer(magnitude)) => put_integer(nodes, p.byte, magnitude),
-        Some(Numeral::Decimal(len)) => nodes.push_reserved(Node::Decimal(text.share(p.at, len))),
-        _ => return put_longer_number(text, nodes, p),
+        Some(Numeral::Decimal(len)) => nodes.decimal(text.share(p.at, len)),
+        _ => return put_longer_number::<K, S>(text, nodes, p),
     }
     Ok(())
 }
 
 // The number at the last token, of any length, becomes the next node.
 #[inline(always)]
-fn put_longer_number<'de, A: Allocator>(
+fn put_longer_number<'de, K: Original, S: NodeSink<'de>>(
     text: &mut Text<'_, 'de>,
-    nodes: &mut Vec<Node<'de>, A>,
+    nodes: &mut S,
     p: Progress,
 ) -> std::result::Result<(), Fault>
-    ghost b: { List ℕ }
-    requires { AtNumber b text.old (vec_capacity nodes.old) (length nodes.old.items) p }
-    ensures capacity { vec_capacity nodes.new ≡ vec_capacity nodes.old }
-    ensures put { OnOk result (IsScalarPut b p.at nodes.old.items nodes.new.items (Reads b text.new)) }
-    ensures refused { IfErr result (IsNoScalar b p.at) }
+    requires { AtNumber K.bytes text.old (S.node_room nodes.old) (length (S.held_nodes nodes.old)) p }
+    ensures capacity { S.node_room nodes.new ≡ S.node_room nodes.old }
+    ensures lender { S.lender nodes.new ≡ S.lender nodes.old }
+    ensures put { OnOk result
+        (IsScalarPut K.bytes p.at (S.held_nodes nodes.old) (S.held_nodes nodes.new)
+        (Reads K.bytes text.new)) }
+    ensures refused { IfErr result (IsNoScalar K.bytes p.at) }
 {
     let rest = text.from(p.at);
     match parse_numeral(rest) {
         Numeral::Integer(magnitude) => put_integer(nodes, p.byte, magnitude),
-        Numeral::Decimal(len) => nodes.push_reserved(Node::Decimal(text.share(p.at, len))),
-        Numeral::Long(len) => nodes.push_reserved(Node::Static(read_long(rest, p.at, len)?)),
+        Numeral::Decimal(len) => nodes.decimal(text.share(p.at, len)),
+        Numeral::Long(len) => nodes.fixed(read_long(rest, p.at, len)?),
         Numeral::Invalid(offset) => return Err(invalid_number(rest, p.at, offset)),
     }
     Ok(())
@@ -188,17 +195,18 @@ fn put_longer_number<'de, A: Allocator>(
 // The integer of this magnitude whose literal begins with this byte becomes the next node. Each kind is
 // stored by itself, as in `put_scalar`.
 #[inline(always)]
-fn put_integer<'de, A: Allocator>(nodes: &mut Vec<Node<'de>, A>, first: u8, magnitude: u64)
+fn put_integer<'de, S: NodeSink<'de>>(nodes: &mut S, first: u8, magnitude: u64)
     requires fits { magnitude ≤ max_magnitude_64 (first == minus_sign) }
-    requires room { length nodes.old.items < vec_capacity nodes.old }
-    ensures capacity { vec_capacity nodes.new ≡ vec_capacity nodes.old }
-    ensures put { nodes.new.items
-        ≡ nodes.old.items ++ Node.Static (integer_node (first == minus_sign) magnitude) ∷ [] }
+    requires room { length (S.held_nodes nodes.old) < S.node_room nodes.old }
+    ensures capacity { S.node_room nodes.new ≡ S.node_room nodes.old }
+    ensures lender { S.lender nodes.new ≡ S.lender nodes.old }
+    ensures put { S.held_nodes nodes.new
+        ≡ S.held_nodes nodes.old ++ static_item (integer_node (first == minus_sign) magnitude) ∷ [] }
 {
     if first == b'-' {
-        nodes.push_reserved(Node::Static(StaticNode::integer(true, magnitude)));
+        nodes.fixed(StaticNode::integer(true, magnitude));
     } else {
-        nodes.push_reserved(Node::Static(StaticNode::U64(magnitude)));
+        nodes.fixed(StaticNode::U64(magnitude));
     }
 }
 

@@ -1,11 +1,12 @@
 //! The stack of the containers that are open.
-ghost use Rattle.std.specs.Prelude.{◌≡◌, ◌<◌, ◌≤◌, ◌+◌, ◌-◌, length, vec_capacity};
-ghost use Rattle.simd_json_stages.specs.Building.{closer, header_of, content_kind, patch, top};
+ghost use Rattle.std.specs.Prelude.{◌≡◌, ◌<◌, ◌≤◌, ◌+◌, ◌-◌, true, length, get_or};
+ghost use Rattle.simd_json_parts.specs.Nodes.{item_of, static_item};
+ghost use Rattle.simd_json_stages.specs.Building.{closer, header_of, is_header, content_kind, patch, top};
 
 use super::fault::FaultKind;
+use super::nodes::NodeSink;
 use super::progress::Progress;
-use simd_json_parts::node::Node;
-use std::alloc::Allocator;
+use simd_json_parts::node::{Node, StaticNode};
 
 /// The two kinds of containers.
 #[derive(Clone, Copy, Debug, Drop)]
@@ -29,7 +30,7 @@ impl Container {
     // The header node of one.
     #[inline(always)]
     pub(super) fn header<'de>(self, len: usize, count: usize) -> Node<'de>
-        ensures { result ≡ header_of self len count }
+        ensures { item_of result ≡ header_of self len count }
     {
         match self {
             Container::Array => Node::Array { len, count },
@@ -71,27 +72,31 @@ impl StackState {
 // The innermost container is closed at the last token: its header is patched, and it is one more member of
 // its parent.
 #[inline(always)]
-pub(super) fn close<'de, A: Allocator>(
+pub(super) fn close<'de, S: NodeSink<'de>>(
     stack: &[StackState],
-    nodes: &mut Vec<Node<'de>, A>,
+    nodes: &mut S,
     p: Progress,
     container: Container,
 ) -> Progress
     requires depth { (0 < p.depth) × (p.depth ≤ length stack.now) }
-    requires header { (top stack.now p.depth).header < length nodes.old.items }
-    requires len { (top stack.now p.depth).len < length nodes.old.items }
+    requires header { (top stack.now p.depth).header < length (S.held_nodes nodes.old) }
+    requires headed { is_header (get_or (S.held_nodes nodes.old) (top stack.now p.depth).header
+        (static_item StaticNode.Null)) ≡ true }
+    requires len { (top stack.now p.depth).len < length (S.held_nodes nodes.old) }
     requires container { container ≡ p.container }
     ensures progress { result ≡ record p {
       depth = p.depth - 1;
       container = (top stack.now p.depth).outer;
       len = (top stack.now p.depth).len + 1;
     } }
-    ensures nodes { nodes.new.items ≡ patch nodes.old.items (top stack.now p.depth) p }
-    ensures capacity { vec_capacity nodes.new ≡ vec_capacity nodes.old }
+    ensures nodes { S.held_nodes nodes.new
+        ≡ patch (S.held_nodes nodes.old) (top stack.now p.depth) p }
+    ensures capacity { S.node_room nodes.new ≡ S.node_room nodes.old }
+    ensures lender { S.lender nodes.new ≡ S.lender nodes.old }
 {
     let frame = stack[p.depth - 1];
-    let beneath = nodes.len() - frame.header - 1;
-    nodes[frame.header] = container.header(p.len, beneath);
+    let beneath = nodes.count() - frame.header - 1;
+    nodes.patch(frame.header, container, p.len, beneath);
     Progress {
         depth: p.depth - 1,
         container: frame.outer,

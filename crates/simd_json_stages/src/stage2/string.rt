@@ -1,5 +1,5 @@
 //! Strings become nodes.
-ghost use Rattle.std.specs.Prelude.{◌≡◌, ◌<◌, ◌+◌, ◌^◌, ℕ, List, length, IfErr, OnOk, vec_capacity};
+ghost use Rattle.std.specs.Prelude.{◌≡◌, ◌<◌, ◌+◌, ◌^◌, ℕ, List, length, IfErr, OnOk};
 ghost use Rattle.simd_json_parts.specs.Faults.{fault_with};
 ghost use Rattle.simd_json_parts.specs.StringAt.{escape_fault};
 ghost use Rattle.simd_json_stages.specs.Members.{AtString};
@@ -8,37 +8,38 @@ ghost use Rattle.simd_json_stages.specs.Refusals.{error_type};
 ghost use Rattle.simd_json_stages.specs.Texts.{Reads};
 
 use super::fault::{Fault, FaultKind};
+use super::nodes::NodeSink;
 use super::progress::{Progress, Route};
-use super::text::Text;
-use simd_json_parts::node::Node;
+use super::text::{Original, Text};
 use simd_json_scalars::stringparse::BadEscape;
-use std::alloc::Allocator;
 use std::result::Result;
 
 // The string at the last token becomes the next node. Only whitespace is between its closing quote and
 // the next position.
 #[inline(always)]
-pub(super) fn put_string<'de, A: Allocator>(
+pub(super) fn put_string<'de, K: Original, S: NodeSink<'de>>(
     text: &mut Text<'_, 'de>,
     route: Route,
-    nodes: &mut Vec<Node<'de>, A>,
+    nodes: &mut S,
     p: Progress,
 ) -> Result<(), Fault>
-    ghost b: { List ℕ }
-    requires { AtString b route text.old (vec_capacity nodes.old) (length nodes.old.items) p }
-    ensures capacity { vec_capacity nodes.new ≡ vec_capacity nodes.old }
+    requires { AtString K.bytes route text.old (S.node_room nodes.old)
+        (length (S.held_nodes nodes.old)) p }
+    ensures capacity { S.node_room nodes.new ≡ S.node_room nodes.old }
+    ensures lender { S.lender nodes.new ≡ S.lender nodes.old }
     ensures put { OnOk result
-        (IsStringPut b p.at nodes.old.items nodes.new.items (Reads b text.new)) }
-    ensures refused { IfErr result (IsBadString b p.at) }
+        (IsStringPut K.bytes p.at (S.held_nodes nodes.old) (S.held_nodes nodes.new)
+        (Reads K.bytes text.new)) }
+    ensures refused { IfErr result (IsBadString K.bytes p.at) }
 {
     let next = route.position_or_end(p.read, text.end);
     let may_have_escape = text.may_have_escape(p.at, next);
     if !may_have_escape {
-        nodes.push_reserved(Node::String(text.share_string(p.at, next)));
+        nodes.string(text.share_string(p.at, next));
         return Ok(());
     }
     match text.parse_string(p.at) {
-        Ok(string) => nodes.push_reserved(Node::String(string)),
+        Ok(string) => nodes.string(string),
         Err(bad) => return Err(bad_escape(p.at, bad)),
     }
     Ok(())

@@ -1,7 +1,7 @@
 //! The text that the machine reads: the bytes of an input, and the strings and numbers that are shared from
 //! them.
 ghost use Rattle.std.specs.Prelude.{◌≡◌, ◌≤◌, ◌<◌, ◌+◌, ◌-◌, ◌*◌, ◌^◌};
-ghost use Rattle.std.specs.Prelude.{ℕ, List, suc, length, slice_index, take, drop, MatchResult, Ok, Err};
+ghost use Rattle.std.specs.Prelude.{ℕ, List, [], suc, length, slice_index, take, drop, MatchResult, Ok, Err};
 ghost use Rattle.std.specs.Prelude.{IsTrue, IsFalse, true, false};
 ghost use Rattle.simd_json_parts.specs.Bytes.{quote, byte_at};
 ghost use Rattle.simd_json_parts.specs.StringAt.{closing_quote, string_at, escape_fault};
@@ -14,7 +14,18 @@ ghost use Rattle.simd_json_stages.specs.Texts.{IsStringBefore, Reads};
 use crate::stage1::BLOCK_LEN;
 use memchr::memchr;
 use simd_json_scalars::stringparse::{BadEscape, parse_str};
+use std::marker::Brand;
 use std::simd::prelude::*;
+
+/// The bytes of an input as they were given, of which the contracts speak: a name for proofs alone, since strings
+/// are decoded in place. Where a call passes [`Brand`], its proof picks the bytes.
+pub trait Original {
+    ghost bytes: { List ℕ };
+}
+
+impl Original for Brand {
+    ghost bytes = { [] };
+}
 
 // An input without a backslash is shared as a whole. Another one is lent for writing, since its strings are
 // decoded in the bytes they were written in: what is shared is split off from the front, for good.

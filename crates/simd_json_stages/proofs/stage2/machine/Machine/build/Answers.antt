@@ -1,33 +1,35 @@
-use Rattle.std.proofs.Common.{arith}
+use Rattle.std.proofs.Common.{arith, refl}
 use Rattle.simd_json_stages.proofs.Bounds.{inside}
 use Rattle.simd_json_stages.proofs.Following.{at-first}
 use Rattle.simd_json_stages.proofs.TextLaws.{reads-kept}
 use Rattle.simd_json_stages.proofs.WholeFaults.{some-listed}
-use Rattle.simd_json_stages.proofs.Premises.{premise}
 use Rattle.simd_json_stages.proofs.stage2.machine.Machine.build.Goals as goal
 
 pub bounds-route-0 : goal.bounds-route-0
 bounds-route-0 g c =
-    let route = (premise (premise c.requires)).on_route in
-    some-listed g.b c.args.route.indexes.now route.positions route.whole
+    let route = (c.requires).on_route in
+    some-listed g.K.Original.bytes c.args.route.indexes.now route.positions route.whole
 
 pub byte-requires : goal.byte-requires
 byte-requires g c =
-    let start = premise (premise c.requires) in
+    let b = g.K.Original.bytes in
+    let start = c.requires in
     let route = start.on_route in
-    let some = some-listed g.b c.args.route.indexes.now route.positions route.whole in
+    let some = some-listed b c.args.route.indexes.now route.positions route.whole in
     record {
-      b = g.b;
-      reads = reads-kept g.b c.args.self.now.text 0 _ start.text (omega arith);
-      within = omega (arith, inside g.b c.args.route.indexes.now route.positions 0 some);
+      b = b;
+      reads = reads-kept b c.args.self.now.text 0 _ start.text (omega arith);
+      within = omega (arith, inside b c.args.route.indexes.now route.positions 0 some);
     }
 
 pub read_value-requires : goal.read_value-requires
 read_value-requires g c =
-    let start = premise (premise c.requires) in
-    let some = some-listed g.b c.args.route.indexes.now start.on_route.positions start.on_route.whole in
-    λ κs lives. (
-      lives,
-      at-first g.b c.args.route c.args.self.now _ c.args.nodes.now.items c.byte.result start some
-          (c.byte.ensures g.b (reads-kept g.b c.args.self.now.text 0 _ start.text (omega arith))),
+    let b = g.K.Original.bytes in
+    let nodes = g.S.NodeSink.held_nodes c.args.nodes.now in
+    let start = c.requires in
+    let some = some-listed b c.args.route.indexes.now start.on_route.positions start.on_route.whole in
+    λ κs. (
+      (refl, tt),
+      at-first b c.args.route c.args.self.now _ nodes c.byte.result start some
+          (c.byte.ensures b (reads-kept b c.args.self.now.text 0 _ start.text (omega arith))),
     )

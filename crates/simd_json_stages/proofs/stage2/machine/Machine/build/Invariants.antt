@@ -1,25 +1,13 @@
 use Rattle.std.proofs.Common.{◌≡◌, ◌-◌, length}
-use Rattle.std.specs.Prelude.{vec_capacity}
 use Rattle.simd_json_stages.specs.Members.{HasCome}
 use Rattle.simd_json_stages.specs.Progresses.{reached}
 use Rattle.simd_json_stages.proofs.stage2.machine.Machine.build.Given as goal
 
-abbrev pub ghost-read_value : goal.ghost-read_value
-ghost-read_value g a = g.b
-
-abbrev pub ghost-next_member : goal.ghost-next_member
-ghost-next_member g a = g.b
-
-abbrev pub ghost-elements : goal.ghost-elements
-ghost-elements g a = g.b
-
-abbrev pub ghost-members : goal.ghost-members
-ghost-members g a = g.b
-
 abbrev pub invariant-values : goal.invariant-values
 invariant-values g l = record {
-  came : HasCome g.b l.route l.self (vec_capacity l.nodes) l.nodes.items l.value;
-  capacity : vec_capacity l.nodes ≡ vec_capacity l.fn.nodes;
+  came : HasCome g.K.Original.bytes l.route l.self (g.S.NodeSink.node_room l.nodes) (g.S.NodeSink.held_nodes l.nodes) l.value;
+  capacity : g.S.NodeSink.node_room l.nodes ≡ g.S.NodeSink.node_room l.fn.nodes;
+  lender : g.S.NodeSink.lender l.nodes ≡ g.S.NodeSink.lender l.fn.nodes;
   stack : length l.self.stack.now ≡ length l.fn.self.stack.now;
 }
 

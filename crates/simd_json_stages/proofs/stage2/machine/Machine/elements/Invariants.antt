@@ -1,19 +1,13 @@
 use Rattle.std.proofs.Common.{◌≡◌, ◌-◌, ◌≤◌, length}
-use Rattle.std.specs.Prelude.{vec_capacity}
 use Rattle.simd_json_stages.specs.Members.{AtElement}
 use Rattle.simd_json_stages.proofs.stage2.machine.Machine.elements.Given as goal
 
-abbrev pub ghost-read_value : goal.ghost-read_value
-ghost-read_value g a = g.b
-
-abbrev pub ghost-after_member : goal.ghost-after_member
-ghost-after_member g a = g.b
-
 abbrev pub invariant-values : goal.invariant-values
 invariant-values g l = record {
-  element : AtElement g.b l.route l.self (vec_capacity l.nodes) l.nodes.items l.p;
+  element : AtElement g.K.Original.bytes l.route l.self (g.S.NodeSink.node_room l.nodes) (g.S.NodeSink.held_nodes l.nodes) l.p;
   further : l.fn.first.read ≤ l.p.read;
-  capacity : vec_capacity l.nodes ≡ vec_capacity l.fn.nodes;
+  capacity : g.S.NodeSink.node_room l.nodes ≡ g.S.NodeSink.node_room l.fn.nodes;
+  lender : g.S.NodeSink.lender l.nodes ≡ g.S.NodeSink.lender l.fn.nodes;
   stack : length l.self.stack.now ≡ length l.fn.self.stack.now;
 }
 

@@ -1,4 +1,4 @@
-use Rattle.std.proofs.Common.{◌≡◌, ◌≢◌, ◌<◌, ◌≤◌, ◌+◌, ◌∙◌, ap, sym, subst, set, get_or, length, [], ◌∷◌, ◌++◌, refl, arith}
+use Rattle.std.proofs.Common.{◌≡◌, ◌≢◌, ◌<◌, ◌≤◌, ◌+◌, ◌∙◌, ap, sym, subst, set, get_or, length, refl, arith}
 use Rattle.simd_json_parts.specs.Bytes.{byte_at}
 use Rattle.simd_json_stages.specs.Building.{closer, AtMember, AfterValue}
 use Rattle.simd_json_stages.specs.declared.stage2.progress.Progress.{Progress}
@@ -9,53 +9,59 @@ use Rattle.simd_json_stages.proofs.BuildingSteps.{step-empty, step-open}
 use Rattle.simd_json_stages.specs.Texts.{Reads}
 use Rattle.simd_json_stages.proofs.TextLaws.{reads-kept}
 use Rattle.simd_json_stages.proofs.Refusing.{refuses-deep, refuses-open_end}
-use Rattle.simd_json_stages.proofs.Premises.{premise}
 use Rattle.simd_json_stages.proofs.stage2.machine.Machine.open.Goals as goal
 
 pub returns-then-p-route-clause-refused : goal.returns-then-p-route-clause-refused
 returns-then-p-route-clause-refused g c =
-    let given = premise c.requires in
+    let b = g.K.Original.bytes in
+    let nodes = g.S.NodeSink.held_nodes c.args.nodes.now in
+    let given = c.requires in
     let p = c.args.p in
     let first = given.first.progress.read.first in
-    refused-at g.b c.args.route.indexes.now c.args.route.max_depth kinds.DepthLimitExceeded p c.fault.result c.fault.ensures first
-    (refuses-deep g.b c.args.route.indexes.now c.args.route.max_depth c.args.container c.args.self.now.stack.now c.args.nodes.now.items p
+    refused-at b c.args.route.indexes.now c.args.route.max_depth kinds.DepthLimitExceeded p c.fault.result c.fault.ensures first
+    (refuses-deep b c.args.route.indexes.now c.args.route.max_depth c.args.container c.args.self.now.stack.now nodes p
     given.first.value (omega arith) (omega (arith, first, given.bracket)))
 
 pub next_token-requires : goal.next_token-requires
 next_token-requires g c =
-    let given = premise c.requires in
+    let b = g.K.Original.bytes in
+    let given = c.requires in
     let r = given.first.progress in
     let positions = given.first.on_route.positions in
     record {
       on_route = given.first.on_route;
       read = r.read;
-      text = λ more. reads-kept g.b c.args.self.now.text _ _ r.text
-          (omega (arith, later g.b c.args.route.indexes.now positions c.args.p r.read more));
+      text = λ more. reads-kept b c.args.self.now.text _ _ r.text
+          (omega (arith, later b c.args.route.indexes.now positions c.args.p r.read more));
     }
 
 pub returns-in_err-q-clause-refused : goal.returns-in_err-q-clause-refused
 returns-in_err-q-clause-refused g c =
-    let given = premise c.requires in
+    let b = g.K.Original.bytes in
+    let nodes = g.S.NodeSink.held_nodes c.args.nodes.now in
+    let given = c.requires in
     let p = c.args.p in
     let none = c.in_err-q.ensures.none in
-    refused-none g.b c.args.route.indexes.now c.args.route.max_depth p c.from_residual.result _ c.from_residual.ensures.1 none.1
-    (refuses-open_end g.b c.args.route.indexes.now c.args.route.max_depth c.args.container c.args.self.now.stack.now
-    c.args.nodes.now.items p given.first.value (omega arith)
+    refused-none b c.args.route.indexes.now c.args.route.max_depth p c.from_residual.result _ c.from_residual.ensures.1 none.1
+    (refuses-open_end b c.args.route.indexes.now c.args.route.max_depth c.args.container c.args.self.now.stack.now
+    nodes p given.first.value (omega arith)
     (omega (arith, given.first.progress.read.first, given.bracket)) none.0)
 
 pub returns-then-q-closer-clause-progress : goal.returns-then-q-closer-clause-progress
 returns-then-q-closer-clause-progress g c =
-    let given = premise c.requires in
-    subst (IsAfter g.b c.args.route.indexes.now (Reads g.b c.args.self.now.text) _) (sym c.with_value.ensures)
-    (after-first g.b c.args.route.indexes.now given.first.on_route.positions _ (reads-kept g.b c.args.self.now.text) _ _
-    c.args.p c.in_ok-q.q (one-more c.args.nodes.now.items _ _ c.push_reserved.ensures.items) given.first.progress
+    let b = g.K.Original.bytes in
+    let nodes = g.S.NodeSink.held_nodes c.args.nodes.now in
+    let given = c.requires in
+    subst (IsAfter b c.args.route.indexes.now (Reads b c.args.self.now.text) _) (sym c.with_value.ensures)
+    (after-first b c.args.route.indexes.now given.first.on_route.positions _ (reads-kept b c.args.self.now.text) _ _
+    c.args.p c.in_ok-q.q (one-more nodes _ _ c.header.ensures.put) given.first.progress
     c.in_ok-q.ensures.next)
 
 pub returns-then-q-closer-clause-advances : goal.returns-then-q-closer-clause-advances
 returns-then-q-closer-clause-advances g c =
-    let given = premise c.requires in
+    let given = c.requires in
     let next = c.in_ok-q.ensures.next in
-    let l : c.args.p.at < get_or c.args.route.indexes.now c.args.p.read 0 = later g.b c.args.route.indexes.now
+    let l : c.args.p.at < get_or c.args.route.indexes.now c.args.p.read 0 = later g.K.Original.bytes c.args.route.indexes.now
     given.first.on_route.positions c.args.p given.first.progress.read next.more in
     subst (λ (q : Progress). (c.args.p.read ≤ q.read) × (c.args.p.at ≤ q.at) × (q.depth ≡ c.args.p.depth)
     × (q.container ≡ c.args.p.container)) (sym c.with_value.ensures)
@@ -64,48 +70,55 @@ returns-then-q-closer-clause-advances g c =
 
 pub returns-then-q-closer-clause-step : goal.returns-then-q-closer-clause-step
 returns-then-q-closer-clause-step g c =
-    let given = premise c.requires in
+    let b = g.K.Original.bytes in
+    let nodes = g.S.NodeSink.held_nodes c.args.nodes.now in
+    let given = c.requires in
     let p = c.args.p in
     let ps = c.args.route.indexes.now in
     let r = given.first.progress in
     let next = c.in_ok-q.ensures.next in
-    let byte : byte_at g.b (get_or ps p.read 0) ≡ closer c.args.container = next-byte g.b ps p c.in_ok-q.q next
+    let byte : byte_at b (get_or ps p.read 0) ≡ closer c.args.container = next-byte b ps p c.in_ok-q.q next
     ∙ c.if-q-closer.true ∙ c.closer.ensures in
-    let put = c.push_reserved.ensures.items ∙ ap (λ x. c.args.nodes.now.items ++ x ∷ []) c.header.ensures in
-    subst (AfterValue g.b ps c.args.route.max_depth c.args.self.now.stack.now _)
+    let put = c.header.ensures.put in
+    subst (AfterValue b ps c.args.route.max_depth c.args.self.now.stack.now _)
     (sym (c.with_value.ensures ∙ ap (λ (q : Progress). record q { len = q.len + 1 }) next.same))
-    (step-empty g.b ps c.args.route.max_depth c.args.container c.args.self.now.stack.now c.args.nodes.now.items _ p
+    (step-empty b ps c.args.route.max_depth c.args.container c.args.self.now.stack.now nodes _ p
     given.first.value put (omega arith) (omega (arith, r.read.first, given.bracket)) next.more byte)
 
 pub returns-clause-progress : goal.returns-clause-progress
 returns-clause-progress g c =
-    let given = premise c.requires in
-    before-first g.b c.args.route.indexes.now given.first.on_route.positions _ (reads-kept g.b c.args.self.now.text) _ _
-    c.args.p c.in_ok-q.q c.args.container (one-more c.args.nodes.now.items _ _ c.push_reserved-2.ensures.items)
+    let b = g.K.Original.bytes in
+    let nodes = g.S.NodeSink.held_nodes c.args.nodes.now in
+    let given = c.requires in
+    before-first b c.args.route.indexes.now given.first.on_route.positions _ (reads-kept b c.args.self.now.text) _ _
+    c.args.p c.in_ok-q.q c.args.container (one-more nodes _ _ c.header-2.ensures.put)
     given.first.progress c.in_ok-q.ensures.next
 
 pub returns-clause-advances : goal.returns-clause-advances
 returns-clause-advances g c =
-    let given = premise c.requires in
+    let given = c.requires in
     let next = c.in_ok-q.ensures.next in
-    let l : c.args.p.at < get_or c.args.route.indexes.now c.args.p.read 0 = later g.b c.args.route.indexes.now
+    let l : c.args.p.at < get_or c.args.route.indexes.now c.args.p.read 0 = later g.K.Original.bytes c.args.route.indexes.now
     given.first.on_route.positions c.args.p given.first.progress.read next.more in
     subst (λ (q : Progress). (c.args.p.read < q.read) × (c.args.p.at ≤ q.at) × (c.args.p.depth + 1 ≤ c.args.route.max_depth)
     × (0 < c.args.p.depth + 1)) (sym next.same) (omega arith, omega arith, omega arith, omega arith)
 
 pub returns-clause-step : goal.returns-clause-step
 returns-clause-step g c =
-    let given = premise c.requires in
+    let b = g.K.Original.bytes in
+    let nodes = g.S.NodeSink.held_nodes c.args.nodes.now in
+    let given = c.requires in
     let p = c.args.p in
     let ps = c.args.route.indexes.now in
     let r = given.first.progress in
     let next = c.in_ok-q.ensures.next in
-    let byte : byte_at g.b (get_or ps p.read 0) ≢ closer c.args.container = λ is. c.if-q-closer.false
-    (sym (next-byte g.b ps p c.in_ok-q.q next) ∙ is ∙ sym c.closer.ensures) in
-    let few : c.len.result ≡ length c.args.nodes.now.items = omega arith in
-    subst (λ (q : Progress). AtMember g.b ps c.args.route.max_depth kinds.ExpectedObjectContent
-    (set c.args.self.now.stack.now p.depth (record { header = c.len.result; outer = p.container; len = p.len }))
-    c.push_reserved-2.new.self.items
+    let byte : byte_at b (get_or ps p.read 0) ≢ closer c.args.container = λ is. c.if-q-closer.false
+    (sym (next-byte b ps p c.in_ok-q.q next) ∙ is ∙ sym c.closer.ensures) in
+    let few : c.count.result ≡ length nodes =
+    c.count.ensures in
+    subst (λ (q : Progress). AtMember b ps c.args.route.max_depth kinds.ExpectedObjectContent
+    (set c.args.self.now.stack.now p.depth (record { header = c.count.result; outer = p.container; len = p.len }))
+    (g.S.NodeSink.held_nodes c.header-2.new.self)
     (record {
       read = q.read;
       at = q.at;
@@ -114,6 +127,6 @@ returns-clause-step g c =
       container = c.args.container;
       len = 0;
     })) (sym next.same)
-    (step-open g.b ps c.args.route.max_depth c.args.container c.args.self.now.stack.now c.args.nodes.now.items _ _ _ p
-    given.first.value c.push_reserved-2.ensures.items few (omega (arith, r.few, r.deep)) (omega arith)
+    (step-open b ps c.args.route.max_depth c.args.container c.args.self.now.stack.now nodes _ _ p
+    given.first.value c.header-2.ensures.put few (omega (arith, r.few, r.deep)) (omega arith)
     (omega (arith, r.read.first, given.bracket)) next.more byte)

@@ -1,4 +1,4 @@
-use Rattle.std.proofs.Common.{◌∙◌, sym, subst, arith}
+use Rattle.std.proofs.Common.{◌∙◌, sym, subst, arith, refl}
 use Rattle.simd_json_stages.specs.Building.{AtValue, IsFirstFault}
 use Rattle.simd_json_stages.specs.Refusals.{error_type}
 use Rattle.simd_json_stages.specs.declared.stage2.fault.FaultKind.TheVariants as kinds
@@ -9,152 +9,168 @@ use Rattle.simd_json_stages.proofs.Exits.{passed-on}
 use Rattle.simd_json_stages.proofs.Following.{refused-next, refused-next_none, two-left, two-is, two-advances, named-progress}
 use Rattle.simd_json_stages.proofs.TextLaws.{reads-kept}
 use Rattle.simd_json_stages.proofs.Refusing.{refuses-no_name, refuses-name, refuses-name_end, refuses-no_colon, refuses-colon_end}
-use Rattle.simd_json_stages.proofs.Premises.{premise}
 use Rattle.simd_json_stages.proofs.stage2.machine.Machine.read_key.Goals as goal
 
 pub returns-then-p-ne34-clause-refused : goal.returns-then-p-ne34-clause-refused
 returns-then-p-ne34-clause-refused g c =
-    let given = premise c.requires in
+    let b = g.K.Original.bytes in
+    let nodes = g.S.NodeSink.held_nodes c.args.nodes.now in
+    let given = c.requires in
     let first = given.progress.read.first in
-    refused-at g.b c.args.route.indexes.now c.args.route.max_depth c.args.kind c.args.p c.fault.result c.fault.ensures first
-    (refuses-no_name g.b c.args.route.indexes.now c.args.route.max_depth c.args.kind c.args.self.now.stack.now c.args.nodes.now.items
+    refused-at b c.args.route.indexes.now c.args.route.max_depth c.args.kind c.args.p c.fault.result c.fault.ensures first
+    (refuses-no_name b c.args.route.indexes.now c.args.route.max_depth c.args.kind c.args.self.now.stack.now nodes
     c.args.p given.name (λ is. c.if-p-ne34.true (first ∙ is)))
 
 pub returns-in_err-put_string-clause-refused : goal.returns-in_err-put_string-clause-refused
 returns-in_err-put_string-clause-refused g c =
-    let given = premise c.requires in
-    passed-on c.from_residual.result _ (IsFirstFault g.b c.args.route.indexes.now c.args.route.max_depth) c.from_residual.ensures.1
-    (refuses-name g.b c.args.route.indexes.now c.args.route.max_depth (error_type c.args.kind)
-    c.args.self.now.stack.now c.args.nodes.now.items c.args.p _ given.name
+    let b = g.K.Original.bytes in
+    let nodes = g.S.NodeSink.held_nodes c.args.nodes.now in
+    let given = c.requires in
+    passed-on c.from_residual.result _ (IsFirstFault b c.args.route.indexes.now c.args.route.max_depth) c.from_residual.ensures.1
+    (refuses-name b c.args.route.indexes.now c.args.route.max_depth (error_type c.args.kind)
+    c.args.self.now.stack.now nodes c.args.p _ given.name
     (sym given.progress.read.first ∙ c.if-p-ne34.false) c.in_err-put_string.ensures.refused)
 
 pub next_token-requires : goal.next_token-requires
 next_token-requires g c =
-    let given = premise c.requires in
+    let b = g.K.Original.bytes in
+    let nodes = g.S.NodeSink.held_nodes c.args.nodes.now in
+    let given = c.requires in
     let p = c.args.p in
     let ps = c.args.route.indexes.now in
     let e = given.on_route.positions in
     let r = given.progress in
     let put = c.in_ok-put_string.ensures.put in
-    let token = name-token g.b ps e c.args.route.max_depth (error_type c.args.kind)
-    c.args.self.now.stack.now c.args.nodes.now.items p given.name in
-    let kept = reads-kept g.b c.put_string.new.text in
-    let ahead = string-ahead g.b ps e p c.args.nodes.now.items _ _ kept r.read token (sym r.read.first ∙ c.if-p-ne34.false) put in
+    let token = name-token b ps e c.args.route.max_depth (error_type c.args.kind)
+    c.args.self.now.stack.now nodes p given.name in
+    let kept = reads-kept b c.put_string.new.text in
+    let ahead = string-ahead b ps e p nodes _ _ kept r.read token (sym r.read.first ∙ c.if-p-ne34.false) put in
     record { on_route = given.on_route; read = r.read; text = ahead }
 
 pub returns-in_err-colon-clause-refused : goal.returns-in_err-colon-clause-refused
 returns-in_err-colon-clause-refused g c =
-    let given = premise c.requires in
+    let b = g.K.Original.bytes in
+    let nodes = g.S.NodeSink.held_nodes c.args.nodes.now in
+    let given = c.requires in
     let p = c.args.p in
     let none = c.in_err-colon.ensures.none in
     let put = c.in_ok-put_string.ensures.put in
-    refused-none g.b c.args.route.indexes.now c.args.route.max_depth p c.from_residual-in_err-colon.result _
+    refused-none b c.args.route.indexes.now c.args.route.max_depth p c.from_residual-in_err-colon.result _
     c.from_residual-in_err-colon.ensures.1 none.1
-    (refuses-name_end g.b c.args.route.indexes.now c.args.route.max_depth (error_type c.args.kind)
-    c.args.self.now.stack.now c.args.nodes.now.items p put.string put.end given.name
+    (refuses-name_end b c.args.route.indexes.now c.args.route.max_depth (error_type c.args.kind)
+    c.args.self.now.stack.now nodes p put.string put.end given.name
     (sym given.progress.read.first ∙ c.if-p-ne34.false) put.read none.0)
 
 pub returns-then-colon-ne58-clause-refused : goal.returns-then-colon-ne58-clause-refused
 returns-then-colon-ne58-clause-refused g c =
-    let given = premise c.requires in
+    let b = g.K.Original.bytes in
+    let nodes = g.S.NodeSink.held_nodes c.args.nodes.now in
+    let given = c.requires in
     let p = c.args.p in
     let ps = c.args.route.indexes.now in
     let put = c.in_ok-put_string.ensures.put in
     let next = c.in_ok-colon.ensures.next in
-    refused-next g.b ps given.on_route.positions c.args.route.max_depth kinds.ExpectedObjectColon p c.in_ok-colon.colon
+    refused-next b ps given.on_route.positions c.args.route.max_depth kinds.ExpectedObjectColon p c.in_ok-colon.colon
     c.fault-then-colon-ne58.result next.same c.fault-then-colon-ne58.ensures
-    (refuses-no_colon g.b ps c.args.route.max_depth (error_type c.args.kind)
-    c.args.self.now.stack.now c.args.nodes.now.items p put.string put.end given.name
+    (refuses-no_colon b ps c.args.route.max_depth (error_type c.args.kind)
+    c.args.self.now.stack.now nodes p put.string put.end given.name
     (sym given.progress.read.first ∙ c.if-p-ne34.false) put.read next.more
-    (λ is. c.if-colon-ne58.true (sym (next-byte g.b ps p c.in_ok-colon.colon next) ∙ is)))
+    (λ is. c.if-colon-ne58.true (sym (next-byte b ps p c.in_ok-colon.colon next) ∙ is)))
 
 pub next_token-requires-2 : goal.next_token-requires-2
 next_token-requires-2 g c =
-    let given = premise c.requires in
+    let b = g.K.Original.bytes in
+    let nodes = g.S.NodeSink.held_nodes c.args.nodes.now in
+    let given = c.requires in
     let p = c.args.p in
     let ps = c.args.route.indexes.now in
     let e = given.on_route.positions in
     let r = given.progress in
     let put = c.in_ok-put_string.ensures.put in
-    let token = name-token g.b ps e c.args.route.max_depth (error_type c.args.kind)
-    c.args.self.now.stack.now c.args.nodes.now.items p given.name in
-    let kept = reads-kept g.b c.put_string.new.text in
+    let token = name-token b ps e c.args.route.max_depth (error_type c.args.kind)
+    c.args.self.now.stack.now nodes p given.name in
+    let kept = reads-kept b c.put_string.new.text in
     let next = c.in_ok-colon.ensures.next in
     record {
       on_route = given.on_route;
       read = next.read;
-      text = next-ahead g.b ps e _ kept p c.in_ok-colon.colon next
-          (string-ahead g.b ps e p c.args.nodes.now.items _ _ kept r.read token (sym r.read.first ∙ c.if-p-ne34.false) put next.more);
+      text = next-ahead b ps e _ kept p c.in_ok-colon.colon next
+          (string-ahead b ps e p nodes _ _ kept r.read token (sym r.read.first ∙ c.if-p-ne34.false) put next.more);
     }
 
 pub returns-in_err-value-clause-refused : goal.returns-in_err-value-clause-refused
 returns-in_err-value-clause-refused g c =
-    let given = premise c.requires in
+    let b = g.K.Original.bytes in
+    let nodes = g.S.NodeSink.held_nodes c.args.nodes.now in
+    let given = c.requires in
     let p = c.args.p in
     let ps = c.args.route.indexes.now in
     let put = c.in_ok-put_string.ensures.put in
     let next = c.in_ok-colon.ensures.next in
     let none = c.in_err-value.ensures.none in
-    refused-next_none g.b ps given.on_route.positions c.args.route.max_depth p c.in_ok-colon.colon _ _ next
+    refused-next_none b ps given.on_route.positions c.args.route.max_depth p c.in_ok-colon.colon _ _ next
     c.from_residual-in_err-value.ensures.1 none.1
-    (refuses-colon_end g.b ps c.args.route.max_depth (error_type c.args.kind)
-    c.args.self.now.stack.now c.args.nodes.now.items p put.string put.end given.name
+    (refuses-colon_end b ps c.args.route.max_depth (error_type c.args.kind)
+    c.args.self.now.stack.now nodes p put.string put.end given.name
     (sym given.progress.read.first ∙ c.if-p-ne34.false) put.read next.more
-    (next-byte g.b c.args.route.indexes.now c.args.p c.in_ok-colon.colon next ∙ c.if-colon-ne58.false)
-    (omega (arith, next-read g.b ps p c.in_ok-colon.colon next, none.0)))
+    (next-byte b c.args.route.indexes.now c.args.p c.in_ok-colon.colon next ∙ c.if-colon-ne58.false)
+    (omega (arith, next-read b ps p c.in_ok-colon.colon next, none.0)))
 
 pub returns-clause-advances : goal.returns-clause-advances
 returns-clause-advances g c =
-    let given = premise c.requires in
-    two-advances g.b c.args.route.indexes.now given.on_route.positions c.args.p c.in_ok-colon.colon
+    let given = c.requires in
+    two-advances g.K.Original.bytes c.args.route.indexes.now given.on_route.positions c.args.p c.in_ok-colon.colon
     c.in_ok-value.value given.progress.read c.in_ok-colon.ensures.next c.in_ok-value.ensures.next
 
 pub returns-clause-value : goal.returns-clause-value
 returns-clause-value g c =
-    let given = premise c.requires in
+    let b = g.K.Original.bytes in
+    let nodes = g.S.NodeSink.held_nodes c.args.nodes.now in
+    let given = c.requires in
     let p = c.args.p in
     let ps = c.args.route.indexes.now in
     let e = given.on_route.positions in
     let r = given.progress in
     let put = c.in_ok-put_string.ensures.put in
-    let token = name-token g.b ps e c.args.route.max_depth (error_type c.args.kind)
-    c.args.self.now.stack.now c.args.nodes.now.items p given.name in
-    let kept = reads-kept g.b c.put_string.new.text in
+    let token = name-token b ps e c.args.route.max_depth (error_type c.args.kind)
+    c.args.self.now.stack.now nodes p given.name in
+    let kept = reads-kept b c.put_string.new.text in
     let limit = c.args.route.max_depth in
     let q = c.in_ok-colon.colon in
     let s = c.in_ok-value.value in
     let next = c.in_ok-colon.ensures.next in
     let second = c.in_ok-value.ensures.next in
-    let ahead = string-ahead g.b ps e p c.args.nodes.now.items _ _ kept r.read token (sym r.read.first ∙ c.if-p-ne34.false) put next.more in
+    let ahead = string-ahead b ps e p nodes _ _ kept r.read token (sym r.read.first ∙ c.if-p-ne34.false) put next.more in
     record {
       on_route = given.on_route;
       capacities = record {
         node_capacity = omega (arith, c.in_ok-put_string.ensures.capacity, given.capacities.node_capacity);
         frame_capacity = given.capacities.frame_capacity;
       };
-      progress = named-progress g.b ps e _ _ kept _ _ p q s (one-more c.args.nodes.now.items _ _ put.put) r ahead next second;
-      depth = omega (arith, (two-advances g.b ps e p q s r.read next second).2, given.depth);
+      progress = named-progress b ps e _ _ kept _ _ p q s (one-more nodes _ _ put.put) r ahead next second;
+      depth = omega (arith, (two-advances b ps e p q s r.read next second).2, given.depth);
       value =
-          subst (AtValue g.b ps limit c.args.self.now.stack.now c.put_string.new.nodes.items)
-          (sym (two-is g.b ps e p q s next second))
-          (step-name g.b ps limit (error_type c.args.kind) c.args.self.now.stack.now c.args.nodes.now.items
-          c.put_string.new.nodes.items _ p given.name (sym r.read.first ∙ c.if-p-ne34.false) put
-          next.more (next-byte g.b ps p q next ∙ c.if-colon-ne58.false) (two-left g.b ps e p q s next second));
+          subst (AtValue b ps limit c.args.self.now.stack.now (g.S.NodeSink.held_nodes c.put_string.new.nodes))
+          (sym (two-is b ps e p q s next second))
+          (step-name b ps limit (error_type c.args.kind) c.args.self.now.stack.now nodes
+          (g.S.NodeSink.held_nodes c.put_string.new.nodes) _ p given.name (sym r.read.first ∙ c.if-p-ne34.false) put
+          next.more (next-byte b ps p q next ∙ c.if-colon-ne58.false) (two-left b ps e p q s next second));
     }
 
 pub put_string-requires : goal.put_string-requires
 put_string-requires g c =
-    let given = premise c.requires in
+    let nodes = g.S.NodeSink.held_nodes c.args.nodes.now in
+    let given = c.requires in
     let p = c.args.p in
     let ps = c.args.route.indexes.now in
     let r = given.progress in
-    λ κs lives. (
-      lives,
+    λ κs. (
+      (refl, tt),
       record {
         on_route = given.on_route;
         read = r.read;
-        token = name-token g.b ps given.on_route.positions c.args.route.max_depth (error_type c.args.kind)
-            c.args.self.now.stack.now c.args.nodes.now.items p given.name;
+        token = name-token g.K.Original.bytes ps given.on_route.positions c.args.route.max_depth (error_type c.args.kind)
+            c.args.self.now.stack.now nodes p given.name;
         opening = c.if-p-ne34.false;
         text = r.text;
         room = node-left _ _ _ _ _ _ p r given.depth given.capacities.node_capacity;

@@ -1,4 +1,4 @@
-use Rattle.std.proofs.Common.{◌∙◌, sym, subst}
+use Rattle.std.proofs.Common.{◌∙◌, sym, subst, refl}
 use Rattle.simd_json_stages.specs.Building.{AfterValue, IsFirstFault}
 use Rattle.simd_json_stages.specs.Progresses.{IsAfter}
 use Rattle.simd_json_stages.proofs.Bounds.{node-left, last-inside, value-token, string-ahead, scalar-ahead, one-more, after-value}
@@ -6,19 +6,19 @@ use Rattle.simd_json_stages.proofs.BuildingSteps.{step-scalar, step-string}
 use Rattle.simd_json_stages.specs.Texts.{Reads}
 use Rattle.simd_json_stages.proofs.TextLaws.{reads-kept}
 use Rattle.simd_json_stages.proofs.Refusing.{refuses-scalar, refuses-string}
-use Rattle.simd_json_stages.proofs.Premises.{premise}
 use Rattle.simd_json_stages.proofs.stage2.machine.Machine.read_value.Goals.{then-p-eq34+in_ok-put_string, else-p-eq34+in_ok-put_scalar}
 use Rattle.simd_json_stages.proofs.stage2.machine.Machine.read_value.Goals as goal
 use Rattle.simd_json_stages.proofs.Exits.{passed-on}
 
 pub put_string-requires : goal.put_string-requires
 put_string-requires g c =
-    let given = premise c.requires in
+    let nodes = g.S.NodeSink.held_nodes c.args.nodes.now in
+    let given = c.requires in
     let r = given.progress in
-    let token = value-token g.b c.args.route.indexes.now given.on_route.positions c.args.route.max_depth c.args.self.now.stack.now
-    c.args.nodes.now.items c.args.p given.value in
-    λ κs lives. (
-      lives,
+    let token = value-token g.K.Original.bytes c.args.route.indexes.now given.on_route.positions c.args.route.max_depth
+    c.args.self.now.stack.now nodes c.args.p given.value in
+    λ κs. (
+      (refl, tt),
       record {
         on_route = given.on_route;
         read = r.read;
@@ -31,22 +31,24 @@ put_string-requires g c =
 
 pub returns-in_err-put_string-clause-refused : goal.returns-in_err-put_string-clause-refused
 returns-in_err-put_string-clause-refused g c =
-    let given = premise c.requires in
+    let b = g.K.Original.bytes in
+    let nodes = g.S.NodeSink.held_nodes c.args.nodes.now in
+    let given = c.requires in
     let r = given.progress in
-    passed-on c.from_residual.result _ (IsFirstFault g.b c.args.route.indexes.now c.args.route.max_depth) c.from_residual.ensures.1
-    (refuses-string g.b c.args.route.indexes.now c.args.route.max_depth c.args.self.now.stack.now c.args.nodes.now.items c.args.p _
+    passed-on c.from_residual.result _ (IsFirstFault b c.args.route.indexes.now c.args.route.max_depth) c.from_residual.ensures.1
+    (refuses-string b c.args.route.indexes.now c.args.route.max_depth c.args.self.now.stack.now nodes c.args.p _
     given.value (sym r.read.first ∙ c.if-p-eq34.true) c.in_err-put_string.ensures.refused)
 
 pub put_scalar-requires : goal.put_scalar-requires
 put_scalar-requires g c =
-    let given = premise c.requires in
+    let given = c.requires in
     let r = given.progress in
-    λ κs lives. (
-      lives,
+    λ κs. (
+      (refl, tt),
       record {
         at = record {
           text = r.text;
-          within = last-inside g.b c.args.route.indexes.now given.on_route.positions c.args.p r.read;
+          within = last-inside g.K.Original.bytes c.args.route.indexes.now given.on_route.positions c.args.p r.read;
           first = r.read.first;
           room = node-left _ _ _ _ _ _ c.args.p r given.depth given.capacities.node_capacity;
         };
@@ -58,45 +60,52 @@ put_scalar-requires g c =
 
 pub returns-in_err-put_scalar-clause-refused : goal.returns-in_err-put_scalar-clause-refused
 returns-in_err-put_scalar-clause-refused g c =
-    let given = premise c.requires in
-    passed-on c.from_residual-in_err-put_scalar.result _ (IsFirstFault g.b c.args.route.indexes.now c.args.route.max_depth)
+    let b = g.K.Original.bytes in
+    let nodes = g.S.NodeSink.held_nodes c.args.nodes.now in
+    let given = c.requires in
+    passed-on c.from_residual-in_err-put_scalar.result _ (IsFirstFault b c.args.route.indexes.now c.args.route.max_depth)
     c.from_residual-in_err-put_scalar.ensures.1
-    (refuses-scalar g.b c.args.route.indexes.now c.args.route.max_depth c.args.self.now.stack.now c.args.nodes.now.items c.args.p _
+    (refuses-scalar b c.args.route.indexes.now c.args.route.max_depth c.args.self.now.stack.now nodes c.args.p _
     given.value c.in_err-put_scalar.ensures.refused)
 
 pub returns-clause-progress : goal.returns-clause-progress
 returns-clause-progress g c =
-    let given = premise c.requires in
+    let b = g.K.Original.bytes in
+    let nodes = g.S.NodeSink.held_nodes c.args.nodes.now in
+    let given = c.requires in
     let ps = c.args.route.indexes.now in
     let r = given.progress in
-    let t = value-token g.b ps given.on_route.positions c.args.route.max_depth c.args.self.now.stack.now
-    c.args.nodes.now.items c.args.p given.value in
-    subst (IsAfter g.b ps (Reads g.b c.if-p-eq34.self.text) _) (sym c.with_value.ensures)
+    let t = value-token b ps given.on_route.positions c.args.route.max_depth c.args.self.now.stack.now
+    nodes c.args.p given.value in
+    subst (IsAfter b ps (Reads b c.if-p-eq34.self.text) _) (sym c.with_value.ensures)
     (elim c.if-p-eq34.branch [
       | then-p-eq34+in_ok-put_string w ↦
           let put = w.in_ok-put_string.ensures.put in
-          rw (w.self-is, w.nodes-is) (after-value g.b ps given.on_route.positions _ _ _ _ c.args.p
-          (one-more c.args.nodes.now.items _ _ put.put) r
-          (string-ahead g.b ps given.on_route.positions c.args.p c.args.nodes.now.items _ _ (reads-kept g.b _) r.read t
+          rw (w.self-is, w.nodes-is) (after-value b ps given.on_route.positions _ _ _ _ c.args.p
+          (one-more nodes _ _ put.put) r
+          (string-ahead b ps given.on_route.positions c.args.p nodes _ _ (reads-kept b _) r.read t
           (sym r.read.first ∙ w.if-p-eq34.true) put))
       | else-p-eq34+in_ok-put_scalar w ↦
           let put = w.in_ok-put_scalar.ensures.put in
-          rw (w.self-is, w.nodes-is) (after-value g.b ps given.on_route.positions _ _ _ _ c.args.p
-          (one-more c.args.nodes.now.items _ _ put.put) r
-          (scalar-ahead g.b ps given.on_route.positions c.args.p c.args.nodes.now.items _ _ (reads-kept g.b _) r.read t put))
+          rw (w.self-is, w.nodes-is) (after-value b ps given.on_route.positions _ _ _ _ c.args.p
+          (one-more nodes _ _ put.put) r
+          (scalar-ahead b ps given.on_route.positions c.args.p nodes _ _ (reads-kept b _) r.read t put))
     ])
 
 pub returns-clause-step : goal.returns-clause-step
 returns-clause-step g c =
-    let given = premise c.requires in
+    let b = g.K.Original.bytes in
+    let nodes = g.S.NodeSink.held_nodes c.args.nodes.now in
+    let given = c.requires in
     let ps = c.args.route.indexes.now in
     let r = given.progress in
-    subst (AfterValue g.b ps c.args.route.max_depth c.if-p-eq34.self.stack.now c.if-p-eq34.nodes.items) (sym c.with_value.ensures)
+    subst (AfterValue b ps c.args.route.max_depth c.if-p-eq34.self.stack.now (g.S.NodeSink.held_nodes c.if-p-eq34.nodes))
+    (sym c.with_value.ensures)
     (elim c.if-p-eq34.branch [
       | then-p-eq34+in_ok-put_string w ↦ rw (w.self-is, w.nodes-is)
-          (step-string g.b ps c.args.route.max_depth c.args.self.now.stack.now c.args.nodes.now.items _ _ c.args.p given.value
+          (step-string b ps c.args.route.max_depth c.args.self.now.stack.now nodes _ _ c.args.p given.value
           (sym r.read.first ∙ w.if-p-eq34.true) w.in_ok-put_string.ensures.put)
       | else-p-eq34+in_ok-put_scalar w ↦ rw (w.self-is, w.nodes-is)
-          (step-scalar g.b ps c.args.route.max_depth c.args.self.now.stack.now c.args.nodes.now.items _ _ c.args.p given.value
+          (step-scalar b ps c.args.route.max_depth c.args.self.now.stack.now nodes _ _ c.args.p given.value
           w.in_ok-put_scalar.ensures.put)
     ])

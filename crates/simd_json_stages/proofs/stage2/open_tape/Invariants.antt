@@ -1,4 +1,0 @@
-use Rattle.simd_json_stages.proofs.stage2.open_tape.Given as goal
-
-abbrev pub ghost-build : goal.ghost-build
-ghost-build g a = g.b
