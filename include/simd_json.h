@@ -132,11 +132,12 @@ int32_t simd_json_check(void *input, size_t len, size_t max_depth, simd_json_pla
 /* The nodes of a document, in preorder, and the texts of its strings and decimals, one after another. Writes *place.
  *
  * OK: *room is how many of each there are; nothing behind them is written.
- * TOO_LITTLE_ROOM: *room is what is needed (pass a fresh copy of the input with it), and nodes and text are unchanged.
- * Any other status: *room, nodes and text are unchanged.
+ * TOO_LITTLE_ROOM: *room is what is needed; pass a fresh copy of the input with it.
+ * Any other status: *room is unchanged.
+ * After each status but OK the contents of nodes and text are unspecified: they are written while the input is read.
  *
  * A document has no more nodes than bytes, and its texts together no more bytes than it: with room for `len` of both,
- * TOO_LITTLE_ROOM is never returned, and the texts are gone through once. */
+ * TOO_LITTLE_ROOM is never returned. */
 int32_t simd_json_tape(void *input, size_t len, size_t max_depth, simd_json_node *nodes, size_t nodes_len, void *text,
                        size_t text_len, simd_json_room *room, simd_json_place *place);
 

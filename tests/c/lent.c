@@ -60,8 +60,8 @@ static void tapes(void) {
             WANT(room.nodes == need.nodes && room.text == need.text);
             WANT(!fits || memcmp(texts.at, text, need.text) == 0);
             give_back(input, len);
-            give_back(nodes, fits ? need.nodes * sizeof(simd_json_node) : 0);
-            give_back(texts, fits ? need.text : 0);
+            give_back(nodes, (fits ? need.nodes : a) * sizeof(simd_json_node));
+            give_back(texts, fits ? need.text : b);
         }
 }
 

@@ -111,7 +111,7 @@ static void each_fails(int call(void)) {
             WANT(room.nodes == 77 && needed == 77 && nodes[0].kind == 0 && out[0] == 0);
         }
     } while (status != SIMD_JSON_OK);
-    WANT(failures > 3);
+    WANT(failures > 2);
 }
 
 int main(void) {

@@ -1,6 +1,6 @@
 -- The texts of a document are together no longer than its bytes, and nor is its compact text.
 use Rattle.std.proofs.Common.{◌≡◌, ◌≤◌, ◌+◌, ◌/◌, ◌%◌, ◌==◌, ℕ, suc, List, [], ◌∷◌, ◌++◌, length, length-append, Bool, true, false}
-use Rattle.std.proofs.Common.{cond, None, Result, Ok, Err, IfOk, String, string_bytes, flat_map, codes, arith, subst, sym, ◌∙◌}
+use Rattle.std.proofs.Common.{cond, min, ap, None, Result, Ok, Err, IfOk, String, string_bytes, flat_map, codes, arith, subst, sym, ◌∙◌}
 use Rattle.std.specs.Char.{digit_char}
 use Rattle.std.specs.Result.{result_err}
 use Rattle.simd_json_parts.specs.Bytes.{backspace, tab, line_feed, form_feed, carriage_return, quote, comma, backslash}
@@ -132,3 +132,12 @@ compact-within (Err e) b limit ns d p is same = tt
 pub parse-of-ok : {A : Type 0} (r : Result A Error) (x : A) (b : List ℕ) (limit capacity : ℕ) (ns : List Item) (listed : List ℕ)
     → r ≡ Ok x → IsParse b limit capacity (result_err r) ns listed → IsParse b limit capacity None ns listed
 parse-of-ok r x b limit capacity ns listed is = subst (λ s. IsParse b limit capacity (result_err s) ns listed) is
+
+-- what is counted is what is needed
+pub room-counted : (b : List ℕ) (limit capacity : ℕ) (ns : List Item) (listed : List ℕ) (room : Room)
+    → IsParse b limit capacity None ns listed → room.nodes ≡ length ns → room.text ≡ min (length (texts ns)) 18446744073709551615
+    → room ≡ room_for ns
+room-counted b limit capacity ns listed room p nodes text =
+    let few = texts-within b limit ns p.parsed in
+    let exact : room.text ≡ length (texts ns) = omega (arith, text, few, p.parsed.within.size) in
+    ap (λ n. record { nodes = n; text = room.text }) nodes ∙ ap (λ t. record { nodes = length ns; text = t }) exact

@@ -29,21 +29,20 @@ IsChecked b limit status place = IsTold (IsRead b limit) status place
 abbrev pub IsPut : {A : Type 0} → List A → List A → List A → Type 0
 IsPut xs old new = new ≡ xs ++ drop (length xs) old
 
--- nodes and texts are put, or one of the two has too little room and both stay as they are
+-- nodes and texts are put, or one of the two has too little room, and it isn't said what they hold
 abbrev pub ArePut : List Item → ℤ → List Node → List Node → List ℕ → List ℕ → Type 0
 ArePut ns status old new old_text new_text =
     ((status ≡ pos 0) × IsPut (nodes_from 0 ns) old new × IsPut (texts ns) old_text new_text)
-    ⊎ ((status ≡ too_little_room) × (new ≡ old) × (new_text ≡ old_text)
-    × ((length old < length ns) ⊎ (length old_text < length (texts ns))))
+    ⊎ ((status ≡ too_little_room) × ((length old < length ns) ⊎ (length old_text < length (texts ns))))
 
--- of a read that is such, neither nodes nor bytes of text are more than the bytes of b
+-- Of a read that is such, neither nodes nor bytes of text are more than the bytes of b. After a fault it isn't said what they hold.
 abbrev pub IsLent : (Option Error → List Item → Type 0) → List ℕ → ℤ → Place → Room → Room
     → List Node → List Node → List ℕ → List ℕ → Type 0
 IsLent Is b status place old_room room old new old_text new_text =
     (fault : Option Error) × (ns : List Item) × Is fault ns × (place ≡ place_of fault)
     × MatchOption fault
     ((room ≡ room_for ns) × (room.nodes ≤ length b) × (room.text ≤ length b) × ArePut ns status old new old_text new_text)
-    (λ e. (status ≡ status_of fault) × (room ≡ old_room) × (new ≡ old) × (new_text ≡ old_text))
+    (λ e. (status ≡ status_of fault) × (room ≡ old_room))
 
 abbrev pub IsTape : List ℕ → ℕ → ℤ → Place → Room → Room → List Node → List Node → List ℕ → List ℕ → Type 0
 IsTape b limit status place old_room room old new old_text new_text =

@@ -4,3 +4,5 @@ pub mod Calls
 pub mod Names
 pub mod Holding
 pub mod Kept
+pub mod Notes
+pub mod Loans

@@ -4,17 +4,16 @@ ghost use Rattle.std.specs.Result.{result_err};
 ghost use Rattle.simd_json_c.specs.Calls.{IsChecked, IsRead};
 ghost use Rattle.simd_json_parts.specs.Nodes.{Item};
 
+use crate::lists::Lists;
 use crate::status::{Place, reported};
-use simd_json::{Buffers, Result, to_tape_with_buffers};
+use simd_json::Result;
 use std::alloc::Global;
 
 fn check(alloc: Global, input: &mut [u8], max_depth: usize) -> Result<i32>
     ensures read { (ns : List Item) × IsRead input.old max_depth (result_err result) ns }
     ensures zero { IfOk result (λ status. status ≡ pos 0) }
 {
-    let mut buffers = Buffers::with_max_depth(alloc, 0, max_depth)?;
-    to_tape_with_buffers(input, &mut buffers)?;
-    Ok(0)
+    Lists::new(alloc, max_depth)?.check(input)
 }
 
 /// Whether the input is a document of at most `max_depth` open containers.

@@ -6,11 +6,10 @@ use std::simd::prelude::*;
 // How many bytes are copied without a call.
 const FEW: usize = 32;
 
-// Copies the bytes to an index, and returns the index after them.
+// Copies the bytes to an index.
 #[inline(always)]
-pub(crate) fn append(text: &mut [u8], at: usize, bytes: &[u8]) -> usize
+pub(crate) fn append(text: &mut [u8], at: usize, bytes: &[u8])
     requires { at + length bytes.now ≤ length text.old }
-    ensures end { result ≡ at + length bytes.now }
     ensures front { take (at + length bytes.now) text.new ≡ take at text.old ++ bytes.now }
     ensures behind { drop (at + length bytes.now) text.new ≡ drop (at + length bytes.now) text.old }
 {
@@ -19,7 +18,6 @@ pub(crate) fn append(text: &mut [u8], at: usize, bytes: &[u8]) -> usize
     } else {
         append_many(text, at, bytes);
     }
-    at + bytes.len()
 }
 
 // Any number of bytes, by a call.

@@ -6,13 +6,16 @@
 
 mod check;
 mod copies;
+mod counted;
 mod held;
 mod lists;
 mod loose;
 mod names;
 mod nodes;
+mod noted;
 mod parser;
 mod print;
+mod sink;
 mod status;
 mod tape;
 #[cfg(test)]

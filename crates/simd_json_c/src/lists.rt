@@ -1,21 +1,27 @@
 //! What parses use one after another.
-ghost use Rattle.std.specs.Prelude.{◌≡◌, ◌≤◌, pos, List, length, IfOk, IfErr, MatchResult, Some, None};
+ghost use Rattle.std.specs.Prelude.{◌≡◌, ◌≤◌, pos, List, [], length, min, IfOk, IfErr, MatchResult, Some, None};
 ghost use Rattle.std.specs.Result.{result_err};
+ghost use Rattle.simd_json.specs.Capacities.{KeepsCapacities, capacity};
+ghost use Rattle.simd_json.specs.Parsed.{IsParse, written};
 ghost use Rattle.simd_json_c.specs.Kept.{IsReadWith, KeepsLists, new_lists};
 ghost use Rattle.simd_json_c.specs.Calls.{ArePut};
-ghost use Rattle.simd_json_c.specs.Nodes.{room_for};
+ghost use Rattle.simd_json_c.specs.Loans.{AreLaid, AreTextsLaid};
+ghost use Rattle.simd_json_c.specs.Nodes.{room_for, texts};
 ghost use Rattle.simd_json_parts.specs.Nodes.{Item};
 
-use crate::nodes::{Node, Room, lend};
-use simd_json::{Buffers, Result, Tape, refill_tape};
+use crate::counted::Counted;
+use crate::nodes::{Node, Room};
+use crate::noted::Noted;
+use crate::sink::Lent;
+use crate::status::TOO_LITTLE_ROOM;
+use simd_json::{Buffers, Original, Result, fill_sink};
 use std::alloc::Global;
-use std::mem::replace;
+use std::marker::Brand;
 
-/// Buffers, and a tape whose memory the next parse uses. It has no node between parses.
+/// Buffers whose memory the next parse uses.
 #[derive(Drop)]
 pub struct Lists {
     pub(crate) buffers: Buffers,
-    pub(crate) tape: Tape<'static>,
 }
 
 impl Lists {
@@ -23,27 +29,22 @@ impl Lists {
         ensures { MatchResult result (λ lists. lists ≡ new_lists max_depth) (λ _. ⊥) }
     {
         let buffers = Buffers::with_max_depth(alloc, 0, max_depth)?;
-        let tape = Tape::empty(alloc);
-        Ok(Lists { buffers, tape })
+        Ok(Lists { buffers })
     }
 
     // Whether the input is a document.
-    pub(crate) fn check(&mut self, alloc: Global, input: &mut [u8]) -> Result<i32>
+    pub(crate) fn check(&mut self, input: &mut [u8]) -> Result<i32>
         ensures read { (ns : List Item) × IsReadWith self.old input.old (result_err result) ns self.new }
         ensures zero { IfOk result (λ status. status ≡ pos 0) }
         ensures kept { KeepsLists self.old self.new }
     {
-        let kept = replace(&mut self.tape, Tape::empty(alloc));
-        let (outcome, tape) = refill_tape(input, &mut self.buffers, kept);
-        drop(replace(&mut self.tape, tape.reset()));
-        outcome?;
+        count::<Brand>(&mut self.buffers, input)?;
         Ok(0)
     }
 
     // The nodes of a document, and their texts, in the caller's memory.
     pub(crate) fn tape(
         &mut self,
-        alloc: Global,
         input: &mut [u8],
         nodes: &mut [Node],
         text: &mut [u8],
@@ -54,17 +55,97 @@ impl Lists {
         ensures few { IfOk result (λ _.
             (room.new.nodes ≤ length input.old) × (room.new.text ≤ length input.old)) }
         ensures refused { IfErr result (λ e. (ns : List Item) × IsReadWith self.old input.old (Some e) ns self.new
-            × (room.new ≡ room.old) × (nodes.new ≡ nodes.old) × (text.new ≡ text.old)) }
+            × (room.new ≡ room.old)) }
         ensures kept { KeepsLists self.old self.new }
     {
-        let most = input.len();
-        let kept = replace(&mut self.tape, Tape::empty(alloc));
-        let (outcome, tape) = refill_tape(input, &mut self.buffers, kept);
-        let status = match outcome {
-            Ok(()) => Ok(lend(tape.nodes(), most, nodes, text, room)),
-            Err(e) => Err(e),
-        };
-        drop(replace(&mut self.tape, tape.reset()));
-        status
+        let (nodes_len, text_len) = (nodes.len(), text.len());
+        let needed = write::<Brand>(&mut self.buffers, input, nodes, text)?.room;
+        *room = needed;
+        if needed.nodes <= nodes_len && needed.text <= text_len {
+            Ok(0)
+        } else {
+            Ok(TOO_LITTLE_ROOM)
+        }
     }
+}
+
+// Counts the nodes of a document.
+fn count<K: Original>(buffers: &mut Buffers, input: &mut [u8]) -> Result<()>
+    requires { input.old ≡ K.bytes }
+    ensures read { (ns : List Item) × IsParse K.bytes buffers.old.limit (capacity buffers.old)
+        (result_err result) ns buffers.new.positions }
+    ensures kept { (buffers.new.limit ≡ buffers.old.limit) × KeepsCapacities buffers.old buffers.new }
+{
+    let mut sink = Counted {
+        count: 0,
+        is_container: false,
+        noted: Noted::of(&()),
+    };
+    fill_sink::<K, Counted, Global>(input, buffers, &mut sink)
+}
+
+// How much a document needs, and what is known of its nodes.
+#[derive(Drop)]
+struct Written {
+    room: Room,
+    noted: Noted,
+}
+
+// Writes the nodes of a document, and their texts, as far as they fit.
+fn write<K: Original>(
+    buffers: &mut Buffers,
+    input: &mut [u8],
+    nodes: &mut [Node],
+    text: &mut [u8],
+) -> Result<Written>
+    requires { input.old ≡ K.bytes }
+    ensures read { MatchResult result
+        (λ w. IsParse K.bytes buffers.old.limit (capacity buffers.old) None w.noted.note.items buffers.new.positions)
+        (λ e. IsParse K.bytes buffers.old.limit (capacity buffers.old) (Some e) [] buffers.new.positions) }
+    ensures room { IfOk result (λ w. (w.room.nodes ≡ length w.noted.note.items)
+        × (w.room.text ≡ min (length (texts w.noted.note.items)) 18446744073709551615)) }
+    ensures before { IfOk result (λ w. (w.noted.note.nodes_before ≡ nodes.old)
+        × (w.noted.note.text_before ≡ text.old)) }
+    ensures nodes { IfOk result (λ w. AreLaid w.noted.note nodes.new) }
+    ensures text { IfOk result (λ w. AreTextsLaid w.noted.note text.new) }
+    ensures kept { (buffers.new.limit ≡ buffers.old.limit) × KeepsCapacities buffers.old buffers.new }
+{
+    let noted = Noted::of(&(&*nodes, &*text));
+    let mut sink = Lent {
+        nodes,
+        count: 0,
+        text,
+        used: 0,
+        is_container: false,
+        noted,
+    };
+    fill::<K>(buffers, input, &mut sink)?;
+    let Lent {
+        nodes: _nodes,
+        count,
+        text: _text,
+        used,
+        is_container: _,
+        noted,
+    } = sink;
+    let room = Room {
+        nodes: count,
+        text: used,
+    };
+    Ok(Written { room, noted })
+}
+
+// Fills what is lent, which stays the same memory.
+fn fill<K: Original>(buffers: &mut Buffers, input: &mut [u8], sink: &mut Lent<'_>) -> Result<()>
+    requires input { input.old ≡ K.bytes }
+    requires empty { sink.old.noted.note.items ≡ [] }
+    ensures read { IsParse K.bytes buffers.old.limit (capacity buffers.old) (result_err result)
+        (written result sink.new.noted.note.items) buffers.new.positions }
+    ensures nodes { sink.new.nodes.ghost_name ≡ sink.old.nodes.ghost_name }
+    ensures text { sink.new.text.ghost_name ≡ sink.old.text.ghost_name }
+    ensures before { (sink.new.noted.note.nodes_before ≡ sink.old.noted.note.nodes_before)
+        × (sink.new.noted.note.text_before ≡ sink.old.noted.note.text_before) }
+    ensures kept { (buffers.new.limit ≡ buffers.old.limit) × KeepsCapacities buffers.old buffers.new }
+{
+    fill_sink::<K, Lent<'_>, Global>(input, buffers, sink)
 }

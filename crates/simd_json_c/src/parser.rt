@@ -86,7 +86,7 @@ pub extern "C" fn simd_json_parser_check(
 {
     match replace(parser, Parser::closed(alloc)).into_lists() {
         Some(mut lists) => {
-            let outcome = lists.check(alloc, input);
+            let outcome = lists.check(input);
             *parser = Parser::open(lists);
             reported(outcome, place)
         }
@@ -110,7 +110,7 @@ pub extern "C" fn simd_json_parser_tape(
 {
     match replace(parser, Parser::closed(alloc)).into_lists() {
         Some(mut lists) => {
-            let outcome = lists.tape(alloc, input, nodes, text, room);
+            let outcome = lists.tape(input, nodes, text, room);
             *parser = Parser::open(lists);
             reported(outcome, place)
         }

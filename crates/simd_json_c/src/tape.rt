@@ -4,9 +4,10 @@ ghost use Rattle.simd_json_c.specs.Calls.{ArePut, IsRead, IsTape};
 ghost use Rattle.simd_json_c.specs.Nodes.{room_for};
 ghost use Rattle.simd_json_parts.specs.Nodes.{Item};
 
-use crate::nodes::{Node, Room, lend};
+use crate::lists::Lists;
+use crate::nodes::{Node, Room};
 use crate::status::{Place, reported};
-use simd_json::{Buffers, Result, to_tape_with_buffers};
+use simd_json::Result;
 use std::alloc::Global;
 
 fn tape(
@@ -22,12 +23,9 @@ fn tape(
     ensures few { IfOk result (λ _.
         (room.new.nodes ≤ length input.old) × (room.new.text ≤ length input.old)) }
     ensures refused { IfErr result (λ e. (ns : List Item) × IsRead input.old max_depth (Some e) ns
-        × (room.new ≡ room.old) × (nodes.new ≡ nodes.old) × (text.new ≡ text.old)) }
+        × (room.new ≡ room.old)) }
 {
-    let most = input.len();
-    let mut buffers = Buffers::with_max_depth(alloc, 0, max_depth)?;
-    let tape = to_tape_with_buffers(input, &mut buffers)?;
-    Ok(lend(tape.nodes(), most, nodes, text, room))
+    Lists::new(alloc, max_depth)?.tape(input, nodes, text, room)
 }
 
 /// Writes the nodes of a document, and the texts of its strings and decimals, to the caller's memory.

@@ -1,18 +1,33 @@
-use Rattle.std.proofs.Common.{ap, ◌∙◌}
-use Rattle.simd_json_c.specs.Nodes.{room_for}
-use Rattle.simd_json_c.proofs.Bounds.{parse-of-ok, room-within, same-texts-within}
-use Rattle.simd_json_c.proofs.lists.Lists.tape.Goals.{in-Ok, in-Err}
+use Rattle.std.proofs.Common.{ap, arith, refl, inl, inr}
+use Rattle.simd_json_c.proofs.Bounds.{room-counted, room-within}
 use Rattle.simd_json_c.proofs.lists.Lists.tape.Goals as goal
+use Rattle.simd_json_c.proofs.lists.Lists.tape.Goals.{else-needed-nodes_len-via-then-needed-nodes_len+else-needed-text_len}
+use Rattle.simd_json_c.proofs.lists.Lists.tape.Goals.{else-needed-nodes_len-via-else-needed-nodes_len}
 
-pub lend-requires : goal.lend-requires
-lend-requires c =
-    same-texts-within _ _ _ _ c.nodes.ensures
-    (parse-of-ok _ _ _ _ _ _ _ c.in-Ok.is c.refill_tape-outcome.ensures.parse).parsed
+pub returns-then-needed-text_len-clause-few : goal.returns-then-needed-text_len-clause-few
+returns-then-needed-text_len-clause-few c =
+    let w = c.in_ok-needed.ensures in
+    room-within _ _ _ _ _ _ w.read (room-counted _ _ _ _ _ _ w.read w.room.0 w.room.1)
 
-pub returns-clause-few : goal.returns-clause-few
-returns-clause-few c = elim c.match-outcome.branch [
-  | in-Ok w ↦ rw w.status-is (rw w.room-is (room-within _ _ _ _ _ _
-      (parse-of-ok _ _ _ _ _ _ _ w.in-Ok.is c.refill_tape-outcome.ensures.parse)
-      (w.lend.ensures.room ∙ ap room_for w.nodes.ensures)))
-  | in-Err w ↦ rw w.status-is tt
-]
+pub returns-else-needed-nodes_len-clause-few : goal.returns-else-needed-nodes_len-clause-few
+returns-else-needed-nodes_len-clause-few c =
+    let w = c.in_ok-needed.ensures in
+    room-within _ _ _ _ _ _ w.read (room-counted _ _ _ _ _ _ w.read w.room.0 w.room.1)
+
+pub returns-else-needed-nodes_len-clause-lent : goal.returns-else-needed-nodes_len-clause-lent
+returns-else-needed-nodes_len-clause-lent c =
+    let w = c.in_ok-needed.ensures in
+    let is = room-counted _ _ _ _ _ _ w.read w.room.0 w.room.1 in (
+      c.in_ok-needed.field-0.noted.note.items,
+      w.read,
+      is,
+      inr (
+        refl,
+        elim c.else-needed-nodes_len.branch [
+          | else-needed-nodes_len-via-then-needed-nodes_len+else-needed-text_len v ↦
+              inr (omega (arith, v.if-needed-text_len.false, ap (λ r. r.text) is))
+          | else-needed-nodes_len-via-else-needed-nodes_len v ↦
+              inl (omega (arith, v.if-needed-nodes_len.false, ap (λ r. r.nodes) is))
+        ],
+      ),
+    )

@@ -1,0 +1,67 @@
+//! A sink that keeps nothing: of a document it is known then that it is one.
+ghost use Rattle.std.specs.Prelude.{◌≡◌, length};
+ghost use Rattle.simd_json_parts.specs.Limits.{max_length};
+ghost use Rattle.simd_json_c.specs.Loans.{is_headed};
+
+use crate::noted::Noted;
+use simd_json::{Container, NodeSink, StaticNode};
+
+#[derive(Drop)]
+pub(crate) struct Counted {
+    pub(crate) count: usize,
+    // Whether the first node is the header of a container.
+    pub(crate) is_container: bool,
+    pub(crate) noted: Noted,
+    ghost counted: { count ≡ length noted.note.items },
+    ghost headed: { is_container ≡ is_headed noted.note.items },
+}
+
+impl<'de> NodeSink<'de> for Counted {
+    ghost held_nodes = { λ s. s.noted.note.items };
+
+    ghost node_room = { λ _. max_length };
+
+    ghost Lender = { Unit {0} };
+
+    ghost lender = { λ _. tt };
+
+    #[inline(always)]
+    fn count(&self) -> usize {
+        self.count
+    }
+
+    #[inline(always)]
+    fn string(&mut self, string: &'de str) {
+        self.count += 1;
+        self.noted = Noted::of(&(&self.noted, string));
+    }
+
+    #[inline(always)]
+    fn decimal(&mut self, literal: &'de str) {
+        self.count += 1;
+        self.noted = Noted::of(&(&self.noted, literal));
+    }
+
+    #[inline(always)]
+    fn fixed(&mut self, value: StaticNode) {
+        self.count += 1;
+        self.noted = Noted::of(&(&self.noted, value));
+    }
+
+    #[inline(always)]
+    fn header(&mut self, container: Container) {
+        self.is_container |= self.count == 0;
+        self.count += 1;
+        self.noted = Noted::of(&(&self.noted, container));
+    }
+
+    #[inline(always)]
+    fn patch(&mut self, header: usize, container: Container, len: usize, count: usize) {
+        self.noted = Noted::of(&(&self.noted, header, container, len, count));
+    }
+
+    #[inline(always)]
+    fn begins_with_header(&self) -> bool {
+        self.is_container
+    }
+}

@@ -1,0 +1,177 @@
+//! What the second stage writes to the memory of a program in C. What doesn't fit is counted, so that the program
+//! learns how much room it needs.
+ghost use Rattle.std.specs.Prelude.{◌≡◌, ◌≤◌, ◌<◌, ◌+◌, ◌++◌, ℕ, List, drop, length, min, slice_set, take};
+ghost use Rattle.simd_json_parts.specs.Nodes.{static_item};
+ghost use Rattle.simd_json_parts.specs.Limits.{max_length};
+ghost use Rattle.simd_json_stages.specs.Building.{header_of};
+ghost use Rattle.simd_json_c.specs.Loans.{AreLaid, AreTextsLaid, Loan, is_headed, noting, text_item};
+ghost use Rattle.simd_json_c.specs.Nodes.{node_of, texts};
+
+use crate::copies::append;
+use crate::nodes::{Node, span_of, static_of};
+use crate::noted::Noted;
+use simd_json::{Container, NodeSink, StaticNode};
+
+// Nodes and texts in lent memory, and how many there are, written or not.
+#[derive(Drop)]
+pub(crate) struct Lent<'t> {
+    pub(crate) nodes: &'t mut [Node],
+    pub(crate) count: usize,
+    pub(crate) text: &'t mut [u8],
+    // How many bytes the texts have, or the greatest number.
+    pub(crate) used: usize,
+    // Whether the first node is the header of a container.
+    pub(crate) is_container: bool,
+    pub(crate) noted: Noted,
+    ghost counted: { count ≡ length noted.note.items },
+    ghost measured: { used ≡ min (length (texts noted.note.items)) 18446744073709551615 },
+    ghost headed: { is_container ≡ is_headed noted.note.items },
+    ghost nodes_len: { length nodes.now ≡ length noted.note.nodes_before },
+    ghost text_len: { length text.now ≡ length noted.note.text_before },
+    ghost laid: { AreLaid noted.note nodes.now },
+    ghost texts_laid: { AreTextsLaid noted.note text.now },
+}
+
+impl Lent<'_> {
+    // A string or a decimal is the next node. Out of line, since the machine comes here from many places, and
+    // would be too large to be inlined itself.
+    #[inline(never)]
+    fn put_text(&mut self, is_decimal: bool, bytes: &[u8])
+        requires { length self.old.noted.note.items < max_length }
+        ensures note { self.new.noted.note ≡ noting self.old.noted.note (text_item is_decimal bytes.now) }
+        ensures nodes { self.new.nodes.ghost_name ≡ self.old.nodes.ghost_name }
+        ensures text { self.new.text.ghost_name ≡ self.old.text.ghost_name }
+    {
+        let node = text_node(is_decimal, bytes.len(), self.used);
+        write_both(self.nodes, self.count, node, self.text, self.used, bytes);
+        self.count += 1;
+        self.used = self.used.saturating_add(bytes.len());
+        self.noted = Noted::of(&(&self.noted, is_decimal, bytes));
+    }
+}
+
+impl<'de, 't> NodeSink<'de> for Lent<'t> {
+    ghost held_nodes = { λ s. s.noted.note.items };
+
+    ghost node_room = { λ _. max_length };
+
+    ghost Lender = { Loan };
+
+    ghost lender = { λ s. record {
+      nodes = s.nodes.ghost_name;
+      text = s.text.ghost_name;
+      nodes_before = s.noted.note.nodes_before;
+      text_before = s.noted.note.text_before;
+    } };
+
+    #[inline(always)]
+    fn count(&self) -> usize {
+        self.count
+    }
+
+    #[inline(always)]
+    fn string(&mut self, string: &'de str) {
+        self.put_text(false, string.as_bytes());
+    }
+
+    #[inline(always)]
+    fn decimal(&mut self, literal: &'de str) {
+        self.put_text(true, literal.as_bytes());
+    }
+
+    #[inline(always)]
+    fn fixed(&mut self, value: StaticNode) {
+        write_node(self.nodes, self.count, static_of(value));
+        self.count += 1;
+        self.noted = Noted::of(&(&self.noted, value));
+    }
+
+    #[inline(always)]
+    fn header(&mut self, container: Container) {
+        write_node(self.nodes, self.count, header_node(container, 0, 0));
+        self.is_container |= self.count == 0;
+        self.count += 1;
+        self.noted = Noted::of(&(&self.noted, container));
+    }
+
+    #[inline(always)]
+    fn patch(&mut self, header: usize, container: Container, len: usize, count: usize) {
+        write_node(self.nodes, header, header_node(container, len, count));
+        self.noted = Noted::of(&(&self.noted, header, container, len, count));
+    }
+
+    #[inline(always)]
+    fn begins_with_header(&self) -> bool {
+        self.is_container
+    }
+}
+
+// A string or a decimal of so many bytes, that begin at an index.
+#[inline(always)]
+fn text_node(is_decimal: bool, len: usize, start: usize) -> Node
+    ensures { (t : List ℕ) → length t ≡ len → result ≡ node_of start (text_item is_decimal t) }
+{
+    if is_decimal {
+        span_of(6, len, start)
+    } else {
+        span_of(7, len, start)
+    }
+}
+
+// The header of a container, of so many members and nodes beneath it.
+#[inline(always)]
+fn header_node(container: Container, len: usize, count: usize) -> Node
+    ensures { (start : ℕ) → result ≡ node_of start (header_of container len count) }
+{
+    match container {
+        Container::Array => span_of(8, len, count),
+        Container::Object => span_of(9, len, count),
+    }
+}
+
+// A node, where it fits.
+#[inline(always)]
+fn write_node(nodes: &mut [Node], at: usize, node: Node)
+    ensures fits { at < length nodes.old → nodes.new ≡ slice_set nodes.old at node }
+    ensures full { length nodes.old ≤ at → nodes.new ≡ nodes.old }
+{
+    if at < nodes.len() {
+        nodes[at] = node;
+    }
+}
+
+// A text, where it fits.
+#[inline(always)]
+fn write_text(text: &mut [u8], at: usize, bytes: &[u8])
+    ensures front { at + length bytes.now ≤ length text.old
+        → take (at + length bytes.now) text.new ≡ take at text.old ++ bytes.now }
+    ensures behind { at + length bytes.now ≤ length text.old
+        → drop (at + length bytes.now) text.new ≡ drop (at + length bytes.now) text.old }
+    ensures len { length text.new ≡ length text.old }
+{
+    if at <= text.len() && bytes.len() <= text.len() - at {
+        append(text, at, bytes);
+    }
+}
+
+// A node and its text, each where it fits. Both at a time, since between the two writes there is more of nodes
+// than of texts.
+#[inline(always)]
+fn write_both(
+    nodes: &mut [Node],
+    count: usize,
+    node: Node,
+    text: &mut [u8],
+    used: usize,
+    bytes: &[u8],
+)
+    ensures node { count < length nodes.old → nodes.new ≡ slice_set nodes.old count node }
+    ensures front { used + length bytes.now ≤ length text.old
+        → take (used + length bytes.now) text.new ≡ take used text.old ++ bytes.now }
+    ensures behind { used + length bytes.now ≤ length text.old
+        → drop (used + length bytes.now) text.new ≡ drop (used + length bytes.now) text.old }
+    ensures len { length text.new ≡ length text.old }
+{
+    write_node(nodes, count, node);
+    write_text(text, used, bytes);
+}
