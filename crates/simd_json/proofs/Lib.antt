@@ -14,6 +14,7 @@ mod Printable
 mod Encoded
 mod Pointed
 mod Keys
+mod Ends
 mod Splitting
 mod StringScan
 mod ByteBefore

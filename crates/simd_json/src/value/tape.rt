@@ -7,6 +7,7 @@ ghost use Rattle.simd_json_parts.specs.Nodes.{item_of};
 
 pub mod array;
 pub mod descendants;
+mod key;
 pub mod object;
 mod value;
 

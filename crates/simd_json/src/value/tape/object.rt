@@ -6,6 +6,7 @@ ghost use Rattle.simd_json_parts.specs.Document.{members};
 ghost use Rattle.simd_json_parts.specs.Nodes.{item_of};
 
 use crate::value::tape::Value;
+use crate::value::tape::key::is_same;
 use simd_json_parts::node::Node;
 use std::iter::FusedIterator;
 
@@ -42,7 +43,7 @@ impl<'tape, 'input> Object<'tape, 'input> {
         ensures { option_map doc result ≡ first_with k.now (pairs self.now) }
     {
         for (key, value) in self.iter() {
-            if key == k {
+            if key.len() == k.len() && is_same(key, k) {
                 return Some(value);
             }
         }
