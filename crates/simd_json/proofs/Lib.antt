@@ -3,6 +3,7 @@ mod ParseLaws
 mod ParseEnds
 mod ParseAnswers
 mod Reservations
+mod Slashes
 pub mod Listed
 mod Compared
 mod Split

@@ -73,7 +73,7 @@ part-is : (p : List ℕ) (i : ℕ) (t : List ℕ) (s : Part) → IsTokenAt p i t
 part-is p i t s at start long = ap (λ n. take n (drop s.start p)) long ∙ ap (λ n. take (length t) (drop n p)) start
     ∙ (first-at p i t at).front
 
-boundary : (p : List ℕ) (i : ℕ) (t : List ℕ) → IsTokenAt p i t → IsCharBoundary p (i + (1 + length t))
+pub boundary : (p : List ℕ) (i : ℕ) (t : List ℕ) → IsTokenAt p i t → IsCharBoundary p (i + (1 + length t))
 boundary p i t at = (token-ends p i t at, λ less high. absurd (omega (arith, at.ended less, high)))
 
 pub token-is : (p : List ℕ) (i : ℕ) (t : List ℕ) (s : Part) → IsUtf8 p → IsTokenAt p i t → s.start ≡ i + 1 → s.len ≡ length t

@@ -1,6 +1,7 @@
 -- A JSON Pointer a token at a time. Only private clauses cite it.
-use Rattle.std.specs.Prelude.{◌≡◌, ◌≢◌, ◌<◌, ◌≤◌, ℕ, ◌^◌, List, [], ◌∷◌, length, take, drop, slice_index, nat_lt}
+use Rattle.std.specs.Prelude.{◌≡◌, ◌≢◌, ◌<◌, ◌≤◌, ℕ, ◌^◌, List, [], ◌∷◌, ◌++◌, length, map, take, drop, slice_index, nat_lt}
 use Rattle.std.specs.Prelude.{Bool, not, ◌||◌, ◌==◌, if◌then◌else◌, Option, Some, None, option_map, Result, Ok, Err}
+use Rattle.std.specs.Simd.Lanes.{mask_l}
 use Rattle.simd_json_parts.specs.Bytes.{slash}
 use Rattle.simd_json_parts.specs.Document.{Document}
 use Rattle.simd_json.specs.Pointed.{tokens, tilde, unescaped, named}
@@ -32,6 +33,12 @@ is_either a b x = (x == a) || (x == b)
 
 abbrev pub is_neither : ℕ → ℕ → ℕ → Bool
 is_neither a b x = not (is_either a b x)
+
+-- a bit for each `/` of a pointer without `~`, and one after its last byte
+pub record AreSlashes (p : List ℕ) (mask : ℕ) : Type 0 where
+  pub few : length p < 64
+  pub plain : IsPlain p
+  pub marked : mask ≡ mask_l (map (is_either slash slash) (p ++ slash ∷ []))
 
 abbrev pub fits_64 : ℕ → Option ℕ
 fits_64 n = if nat_lt n (2 ^ 64) then Some n else None

@@ -1,22 +1,25 @@
 //! JSON Pointer (RFC 6901): the value at a place within another.
-ghost use Rattle.std.specs.Prelude.{◌≡◌, ◌≤◌, ◌<◌, ◌↔◌, IsTrue, None, Err, drop, length, slice_index, option_map, option_and_then, IfSome};
+ghost use Rattle.std.specs.Prelude.{◌≡◌, ◌≤◌, ◌<◌, ◌↔◌, IsTrue, None, Err, true, false, drop, length, slice_index, option_map, IfSome};
 ghost use Rattle.std.specs.Result.{result_ok};
 ghost use Rattle.std.specs.List.{prefix_len};
-ghost use Rattle.simd_json.specs.Followed.{IsPlain, first_of, first_step, fits_64, is_neither};
-ghost use Rattle.simd_json.specs.Pointed.{tokens, unescaped, array_index, element_at, member_at, named, pointed, pointed_from, tilde};
-ghost use Rattle.simd_json.specs.Viewed.{doc, docs, pairs};
+ghost use Rattle.simd_json.specs.Answered.{ok_map};
+ghost use Rattle.simd_json.specs.Followed.{AreSlashes, IsPlain, first_of, first_step, is_neither};
+ghost use Rattle.simd_json.specs.Pointed.{tokens, unescaped, member_at, named, pointed, pointed_from, tilde};
+ghost use Rattle.simd_json.specs.Viewed.{doc, pairs};
 ghost use Rattle.simd_json_parts.specs.Bytes.{slash};
 
 mod display;
 mod front;
 mod index;
+mod slashes;
 mod split;
 mod token;
 
 use crate::value::pointer::front::front_len;
-use crate::value::pointer::index::{is_index, read_index};
+use crate::value::pointer::index::{element, is_index, read_index};
+use crate::value::pointer::slashes::slashes;
 use crate::value::pointer::token::{decode, decoded_len, first_token, held, unescaped_byte};
-use crate::value::tape::{Array, Object, Value};
+use crate::value::tape::{Object, Value};
 use simd_json_parts::node::ValueType;
 pub use split::Pointer;
 
@@ -64,6 +67,9 @@ impl<'tape, 'input> Value<'tape, 'input> {
     /// pair of an object, of equal keys the first, with `~1` for `/` and `~0` for `~`; or the index of an
     /// element of an array, in digits without a leading zero.
     ///
+    /// A literal is split by the compiler, and costs about as much as a call of [`get`](Value::get) or
+    /// [`get_idx`](Value::get_idx) for each token. Split another once with [`Pointer::new`] if it is used often.
+    ///
     /// ```
     /// use simd_json::tape::Value;
     ///
@@ -71,39 +77,92 @@ impl<'tape, 'input> Value<'tape, 'input> {
     ///     config.pointer("/servers/0/port")?.as_u16()
     /// }
     /// ```
+    #[inline(always)]
     pub fn pointer(&self, pointer: &str) -> Option<Value<'tape, 'input>>
         ensures { option_map doc result ≡ result_ok (pointed pointer.now (doc self.now)) }
     {
-        let (value, followed) = follow(*self, pointer);
-        if followed < pointer.len() {
-            return None;
-        }
-        Some(value)
+        let Some(slashes) = slashes(pointer.as_bytes()) else {
+            return follow(*self, pointer).ok();
+        };
+        follow_plain(*self, pointer, slashes)
     }
 
     /// The value that a JSON Pointer names, as [`pointer`](Value::pointer) returns it.
     ///
     /// Returns where the pointer stops, and what it lacks there, where it is malformed or leads nowhere.
+    #[inline(always)]
     pub fn try_pointer(&self, pointer: &str) -> Result<Value<'tape, 'input>, PointerError>
         ensures { ok_map doc result ≡ pointed pointer.now (doc self.now) }
     {
-        let (value, followed) = follow(*self, pointer);
-        if followed < pointer.len() {
-            return Err(PointerError {
-                index: followed,
-                expected: lack(value, &pointer.as_bytes()[followed..]),
-                got: value.value_type(),
-            });
+        if let Some(slashes) = slashes(pointer.as_bytes()) {
+            if let Some(value) = follow_plain(*self, pointer, slashes) {
+                return Ok(value);
+            }
         }
-        Ok(value)
+        follow(*self, pointer)
     }
 }
 
-// As far as the pointer leads: the value there, and how many bytes of the pointer were followed.
+// Where a pointer with these slashes leads. Its look-up of a key is compiled into the caller, which costs less than
+// a call of `get` for each token.
+#[inline(always)]
+fn follow_plain<'tape, 'input>(
+    value: Value<'tape, 'input>,
+    pointer: &str,
+    slashes: u64,
+) -> Option<Value<'tape, 'input>>
+    requires { AreSlashes pointer.now slashes }
+    ensures { option_map doc result ≡ result_ok (pointed pointer.now (doc value.entry)) }
+{
+    if slashes % 2 == 0 {
+        return None;
+    }
+    let mut reached = value;
+    let mut at = 0;
+    while at < pointer.len() {
+        let len = (slashes >> (at + 1)).trailing_zeros() as usize;
+        reached = plain_child(reached, &pointer[at + 1..at + 1 + len])?;
+        at += 1 + len;
+    }
+    Some(reached)
+}
+
+// The value that a token without `~` names in another.
+#[inline(always)]
+fn plain_child<'tape, 'input>(
+    value: Value<'tape, 'input>,
+    token: &str,
+) -> Option<Value<'tape, 'input>>
+    requires { IsPlain token.now }
+    ensures { option_map doc result ≡ result_ok (named token.now (doc value.entry)) }
+{
+    if let Some(array) = value.as_array() {
+        return element(array, read_index(token.as_bytes()));
+    }
+    value.as_object()?.find(token)
+}
+
+// The value that a JSON Pointer names, or where it stops and what it lacks there.
+#[inline(never)]
 fn follow<'tape, 'input>(
     value: Value<'tape, 'input>,
     pointer: &str,
-) -> (Value<'tape, 'input>, usize)
+) -> Result<Value<'tape, 'input>, PointerError>
+    ensures { ok_map doc result ≡ pointed pointer.now (doc value.entry) }
+{
+    let (reached, followed) = walk(value, pointer);
+    if followed < pointer.len() {
+        return Err(PointerError {
+            index: followed,
+            expected: lack(reached, &pointer.as_bytes()[followed..]),
+            got: reached.value_type(),
+        });
+    }
+    Ok(reached)
+}
+
+// As far as the pointer leads: the value there, and how many bytes of the pointer were followed.
+fn walk<'tape, 'input>(value: Value<'tape, 'input>, pointer: &str) -> (Value<'tape, 'input>, usize)
     ensures within { result.1 ≤ length pointer.now }
     ensures led { pointed pointer.now (doc value.entry)
         ≡ pointed_from result.1 (drop result.1 pointer.now) (doc result.0) }
@@ -139,10 +198,11 @@ fn step<'tape, 'input>(
         ≡ result_ok (named (first_of (tokens left.now)) (doc value.entry)) }
     ensures len { IfSome result (λ r. r.1 ≡ length (first_of (tokens left.now))) }
 {
-    if let Some(object) = value.as_object() {
-        return member(object, left);
+    if let Some(array) = value.as_array() {
+        let token = first_token(left.as_bytes());
+        return Some((element(array, read_index(token))?, token.len()));
     }
-    element(value.as_array()?, left.as_bytes())
+    member(value.as_object()?, left)
 }
 
 // The value of the first pair with the key that the first token is.
@@ -209,45 +269,6 @@ fn decoded_member<'tape, 'input>(
     };
     let key = held(token, &key, key_len);
     Some((token::find(object, token, key, key_len)?, len))
-}
-
-// The value at the index that the first token is.
-#[inline(always)]
-fn element<'tape, 'input>(
-    array: Array<'tape, 'input>,
-    left: &[u8],
-) -> Option<(Value<'tape, 'input>, usize)>
-    ensures named { option_map (λ r. doc r.0) result
-        ≡ result_ok (element_at (docs array.entry) (array_index (first_of (tokens left.now)))) }
-    ensures len { IfSome result (λ r. r.1 ≡ length (first_of (tokens left.now))) }
-{
-    let Some((index, len)) = first_index(left) else {
-        return None;
-    };
-    Some((array.get(index)?, len))
-}
-
-// The array index that the first token is, where 64 bits hold it, and how long the token is.
-#[inline(always)]
-fn first_index(left: &[u8]) -> Option<(usize, usize)>
-    ensures index { option_map (λ r. r.0) result
-        ≡ option_and_then fits_64 (array_index (first_of (tokens left.now))) }
-    ensures len { IfSome result (λ r. r.1 ≡ length (first_of (tokens left.now))) }
-{
-    if is_front_token(left, 1) && left[0].is_ascii_digit() {
-        return Some((usize::from(left[0] - b'0'), 1));
-    }
-    let token = first_token(left);
-    Some((read_index(token)?, token.len()))
-}
-
-// Whether bytes of this number are in front of a `/` or all that is left.
-#[inline(always)]
-fn is_front_token(left: &[u8], len: usize) -> bool
-    ensures { IsTrue result ↔ ((len ≤ length left.now)
-        × (len < length left.now → slice_index left.now len ≡ slash)) }
-{
-    len == left.len() || stands_at(left, len, b'/')
 }
 
 // What the pointer, of which this is left, lacks at the value, from which it does not go on.

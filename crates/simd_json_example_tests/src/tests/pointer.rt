@@ -144,6 +144,50 @@ fn tokens_with_escapes_name_the_key_that_they_write(rt: HostRuntime) {
     assert_numbers(&rt, value, ESCAPED_ROWS, 22);
 }
 
+// Pointers of 1 to 64 bytes: those of fewer than 64 without a `~` are split by their slashes' bits.
+const SIZED: [u8; 228] =
+    *b"{\"k\":1,\"kk\":2,\"kkk\":3,\"k4\":{\"kkkkk\":5,\"kkkkkkk8\":8},\"key-of-15-bytes\":{\"key-of-16-bytes.\":16,\"x\":[7,8,{\"y\":9}]},\"key-of-thirty-one-bytes-in-all!\":{\"key-of-31-bytes-as-is-the-first\":31,\"key-of-30-bytes,-one-byte-less\":30,\"z\":32}}";
+
+const SIZED_ROWS: &str = r#"/k @ 1
+/kk @ 2
+/kkk @ 3
+/k4/kkkkk @ 5
+/k4/kkkkkkk8 @ 8
+/key-of-15-bytes/key-of-16-bytes. @ 16
+/key-of-15-bytes/x/0 @ 7
+/key-of-15-bytes/x/2/y @ 9
+/key-of-thirty-one-bytes-in-all!/z @ 32
+/key-of-thirty-one-bytes-in-all!/key-of-30-bytes,-one-byte-less @ 30
+/key-of-thirty-one-bytes-in-all!/key-of-31-bytes-as-is-the-first @ 31
+/l @ none
+/kl @ none
+/lk @ none
+/k4/xkkkk @ none
+/k4/kkxkk @ none
+/k4/kkkkx @ none
+/k4/kkkxkkk8 @ none
+/k4/kkkkkkk9 @ none
+k @ none
+kk/k @ none
+k4/kkkkk @ none
+key-of-15-bytes/x/0 @ none
+/k/ @ none
+/k4/kkkkk/0 @ none
+/key-of-15-bytes/x/3 @ none
+/key-of-15-bytes/x/2/ @ none
+/key-of-15-bytes/x/2/y/~1 @ none
+/key-of-15-byte~ @ none
+/key-of-thirty-one-bytes-in-all!/Key-of-31-bytes-as-is-the-first @ none
+/key-of-thirty-one-bytes-in-all!/key-of-31-bytes-as-is-the-firsT @ none"#;
+
+#[test]
+fn pointers_may_have_any_length(rt: HostRuntime) {
+    let mut input = SIZED;
+    let tape = tape_of(&rt, &mut input);
+    let value = tape.as_value();
+    assert_numbers(&rt, value, SIZED_ROWS, 31);
+}
+
 // The first 63 bytes of keys: of 64, one more is decoded once, and those after it where they are compared.
 const STEM: &str = "a-key-that-is-so-long-that-its-last-bytes-are-not-decoded-first";
 

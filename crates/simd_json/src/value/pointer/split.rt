@@ -5,9 +5,9 @@ ghost use Rattle.simd_json.specs.Followed.{tokens_after};
 ghost use Rattle.simd_json.specs.Pointed.{is_pointer};
 ghost use Rattle.simd_json.specs.Splitting.{IsToken, part_of};
 
-use crate::value::pointer::index::read_index;
+use crate::value::pointer::index::{element, read_index};
 use crate::value::pointer::token::{self, decode, first_token, held, is_plain};
-use crate::value::tape::{Array, Value};
+use crate::value::tape::Value;
 
 // A reference token, as a part of a pointer's text, and what it names.
 #[derive(Clone, Copy, Debug)]
@@ -24,12 +24,11 @@ struct Part {
 }
 
 impl Part {
-    ghost use Rattle.std.specs.Prelude.{◌≡◌, ◌+◌, ◌<◌, ◌^◌, ℕ, MatchOption, None, Option, length, option_and_then, option_map};
+    ghost use Rattle.std.specs.Prelude.{◌≡◌, MatchOption, None, length, option_map};
     ghost use Rattle.std.specs.Result.{result_ok};
-    ghost use Rattle.simd_json.specs.Followed.{fits_64};
-    ghost use Rattle.simd_json.specs.Pointed.{element_at, named, unescaped};
+    ghost use Rattle.simd_json.specs.Pointed.{named, unescaped};
     ghost use Rattle.simd_json.specs.Splitting.{IsKept, IsToken, part_of};
-    ghost use Rattle.simd_json.specs.Viewed.{doc, docs};
+    ghost use Rattle.simd_json.specs.Viewed.{doc};
 
     // What the empty token names.
     const EMPTY: Part = Part {
@@ -71,7 +70,7 @@ impl Part {
         ensures { option_map doc result ≡ result_ok (named (part_of text.now self.now) (doc value.entry)) }
     {
         if let Some(array) = value.as_array() {
-            return self.element(array);
+            return element(array, self.index);
         }
         let object = value.as_object()?;
         let token = &text[self.start..self.start + self.len];
@@ -81,18 +80,6 @@ impl Part {
             held(token, &self.key, self.key_len)
         };
         token::find(object, token, key, self.key_len)
-    }
-
-    // The element with the index that the token is.
-    #[inline(always)]
-    fn element<'tape, 'input>(&self, array: Array<'tape, 'input>) -> Option<Value<'tape, 'input>>
-        ensures { (i : Option ℕ) → self.now.index ≡ option_and_then fits_64 i
-            → option_map doc result ≡ result_ok (element_at (docs array.entry) i) }
-    {
-        let Some(index) = self.index else {
-            return None;
-        };
-        array.get(index)
     }
 }
 

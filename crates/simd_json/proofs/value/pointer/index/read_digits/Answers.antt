@@ -1,6 +1,6 @@
 use Rattle.std.proofs.Common.{◌∙◌, sym, arith}
 use Rattle.simd_json.proofs.Pointed.{fits-itself, number-longer, index-too-long, index-read}
-use Rattle.simd_json.proofs.value.pointer.index.read_index.Goals as goal
+use Rattle.simd_json.proofs.value.pointer.index.read_digits.Goals as goal
 
 pub loop-byte-preserved : goal.loop-byte-preserved
 loop-byte-preserved c =

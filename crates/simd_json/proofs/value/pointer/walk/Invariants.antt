@@ -1,7 +1,7 @@
 use Rattle.std.proofs.Common.{◌≡◌, ◌≤◌, ◌-◌, length, drop}
 use Rattle.simd_json.specs.Pointed.{pointed, pointed_from}
 use Rattle.simd_json.specs.Viewed.{doc}
-use Rattle.simd_json.proofs.value.pointer.follow.Given as goal
+use Rattle.simd_json.proofs.value.pointer.walk.Given as goal
 
 abbrev pub invariant-loop-bytes : goal.invariant-loop-bytes
 invariant-loop-bytes l =
