@@ -1,7 +1,7 @@
 #!/bin/sh
-# Calls the library from C and from Python: worked rows, 1,000 mutants against Python's json, memory of each size, each
-# allocation refused, all under valgrind too, and the header's example after an install. Silent where all is well but for a
-# line of what was left out; else it says what differs, and ends with status 1.
+# Calls the library from C and from Python: the rows of tests/vectors and 1,000 mutants against Python's json, memory of each
+# size, each allocation refused, all under valgrind too, and the header's example after an install. Silent where all is well
+# but for a line of what was left out; else it says what differs, and ends with status 1.
 set -eu
 cd "$(dirname "$0")/.."
 if ! command -v cc > /dev/null || ! command -v objcopy > /dev/null; then
@@ -12,17 +12,27 @@ room=$(mktemp -d)
 trap 'rm -rf "$room"' EXIT
 left_out=
 
+# by COMMAND..: each file of rows must come out of the command unchanged.
+by() {
+    for rows in tests/vectors/*.txt; do
+        "$@" < "$rows" > "$room/rows.out"
+        diff "$rows" "$room/rows.out" || { echo "$rows differs by $*"; exit 1; }
+    done
+}
+
 make -s library > "$room/log" 2>&1 || { tail -n 20 "$room/log"; exit 1; }
 flags='-std=gnu11 -O1 -Wall -Wextra -Werror -Iinclude'
-for program in rows lent mutants; do
+for program in rows calls lent mutants; do
     # shellcheck disable=SC2086
     cc $flags tests/c/$program.c build/libsimd_json.a -o "$room/$program"
 done
 # shellcheck disable=SC2086
 cc $flags tests/c/memory.c build/libsimd_json.a -Wl,--wrap=malloc,--wrap=realloc,--wrap=free -o "$room/memory"
-for program in rows lent memory; do "$room/$program"; done
+for program in calls lent memory; do "$room/$program"; done
+by "$room/rows"
 
 if command -v python3 > /dev/null; then
+    by python3 -B tests/c/rows.py build/libsimd_json.so
     python3 -B tests/c/mutants.py write "$room/answers"
     "$room/mutants" "$room/answers"
     python3 -B tests/c/mutants.py compare "$room/answers" build/libsimd_json.so
@@ -31,11 +41,14 @@ else
 fi
 
 if command -v valgrind > /dev/null; then
-    for program in rows lent "mutants $room/answers"; do
+    check='valgrind -q --leak-check=full --error-exitcode=1'
+    for program in calls lent "mutants $room/answers"; do
         [ -e "$room/answers" ] || [ "$program" != "mutants $room/answers" ] || continue
         # shellcheck disable=SC2086
-        valgrind -q --leak-check=full --error-exitcode=1 "$room"/$program
+        $check "$room"/$program
     done
+    # shellcheck disable=SC2086
+    by $check "$room/rows"
 else
     left_out="$left_out valgrind (not installed);"
 fi

@@ -1,204 +1,429 @@
-// Worked rows: an input, a depth limit, and what each call must tell of it. Silent where all is well.
+// Prints the rows of tests/vectors with the answers of the library: `parse` rows by each call that reads a document, `compact`
+// and `pretty` rows by the two that print one. Rows that C has no call for and comments are copied. So a file of right rows
+// comes out unchanged.
 #include <simd_json.h>
+#include <stdbool.h>
 #include <stdio.h>
 #include <stdlib.h>
 #include <string.h>
 
-static int wrong;
-#define WANT(condition, input)                                                                \
-    do {                                                                                      \
-        if (!(condition)) printf("rows.c:%d: `%s`: %s\n", __LINE__, input, #condition), wrong = 1; \
-    } while (0)
+// What is in variables before a call that has to leave them alone, or to write them.
+#define NOT_WRITTEN 77
+#define FEW 64
 
-// Index 0 and no character: of the whole input.
-static const struct {
-    const char *input;
-    size_t depth;
+struct bytes {
+    unsigned char *at;
+    size_t len, room;
+};
+
+struct row {
+    struct bytes input;
+    size_t limit;
+};
+
+struct tape {
     int status;
-    size_t index;
-    uint32_t character;
-    const char *name;
-} refused[] = {
-    {"[1,]", 9, SIMD_JSON_INTERNAL_ERROR, 3, ']', "InternalError"},
-    {"[1] 2", 9, SIMD_JSON_INTERNAL_ERROR, 2, ']', "InternalError"},
-    {"[1 2]", 9, SIMD_JSON_EXPECTED_ARRAY_CONTENT, 3, '2', "ExpectedArrayContent"},
-    {"{1}", 9, SIMD_JSON_EXPECTED_OBJECT_CONTENT, 1, '1', "ExpectedObjectContent"},
-    {"{\"a\":1,}", 9, SIMD_JSON_EXPECTED_OBJECT_KEY, 7, '}', "ExpectedObjectKey"},
-    {"{\"a\" 1}", 9, SIMD_JSON_EXPECTED_OBJECT_COLON, 5, '1', "ExpectedObjectColon"},
-    {"[1", 9, SIMD_JSON_SYNTAX, 1, '1', "Syntax"},
-    {"1 2", 9, SIMD_JSON_TRAILING_DATA, 0, '1', "TrailingData"},
-    {"[[]]", 1, SIMD_JSON_DEPTH_LIMIT_EXCEEDED, 1, '[', "DepthLimitExceeded"},
-    {"[]", 0, SIMD_JSON_DEPTH_LIMIT_EXCEEDED, 0, '[', "DepthLimitExceeded"},
-    {"[nul]", 9, SIMD_JSON_EXPECTED_NULL, 1, 'n', "ExpectedNull"},
-    {"[tru]", 9, SIMD_JSON_EXPECTED_TRUE, 1, 't', "ExpectedTrue"},
-    {"[falsy]", 9, SIMD_JSON_EXPECTED_FALSE, 1, 'f', "ExpectedFalse"},
-    {"01", 9, SIMD_JSON_INVALID_NUMBER, 1, '1', "InvalidNumber"},
-    {"[340282366920938463463374607431768211456]", 9, SIMD_JSON_INVALID_NUMBER, 39, '6', "InvalidNumber"},
-    {"[-170141183460469231731687303715884105729]", 9, SIMD_JSON_INVALID_NUMBER, 41, ']', "InvalidNumber"},
-    {"\"\\q\"", 9, SIMD_JSON_INVALID_ESCAPE, 1, 'q', "InvalidEscape"},
-    {"\"\\ud83d\"", 9, SIMD_JSON_INVALID_UNICODE_CODEPOINT, 1, 'u', "InvalidUnicodeCodepoint"},
-    {"\"a", 9, SIMD_JSON_SYNTAX, 0, SIMD_JSON_NO_CHARACTER, "Syntax"},
-    {"\"\n\"", 9, SIMD_JSON_SYNTAX, 0, SIMD_JSON_NO_CHARACTER, "Syntax"},
-    {"[\377]", 9, SIMD_JSON_INVALID_UTF8, 0, SIMD_JSON_NO_CHARACTER, "InvalidUtf8"},
-    {" \t\r\n", 9, SIMD_JSON_EOF, 0, SIMD_JSON_NO_CHARACTER, "Eof"},
-    {"", 9, SIMD_JSON_EOF, 0, SIMD_JSON_NO_CHARACTER, "Eof"},
-};
-
-static size_t fresh(char *copy, const char *input) { return strlen(strcpy(copy, input)); }
-
-static void refused_alike(void) {
-    simd_json_parser parser = {0};
-    for (size_t i = 0; i < sizeof refused / sizeof *refused; i++) {
-        const char *input = refused[i].input;
-        size_t depth = refused[i].depth, index = refused[i].index, needed = 77;
-        uint32_t character = refused[i].character;
-        char copy[64], out[64] = "as it was", name[32];
-        simd_json_node node = {99, 99, 99, 99};
-        simd_json_room room = {7, 7};
-        simd_json_place place = {5, 5};
-        WANT(simd_json_check(copy, fresh(copy, input), depth, &place) == refused[i].status, input);
-        WANT(place.index == index && place.character == character, input);
-        place.index = 5;
-        WANT(simd_json_tape(copy, fresh(copy, input), depth, &node, 1, out, 64, &room, &place) == refused[i].status, input);
-        WANT(place.index == index && place.character == character, input);
-        WANT(room.nodes == 7 && room.text == 7, input);
-        place.index = 5;
-        WANT(simd_json_open(&parser, depth) == SIMD_JSON_OK, input);
-        WANT(simd_json_parser_check(&parser, copy, fresh(copy, input), &place) == refused[i].status, input);
-        WANT(place.index == index && place.character == character, input);
-        place.index = 5;
-        WANT(simd_json_parser_tape(&parser, copy, fresh(copy, input), &node, 1, out, 64, &room, &place) == refused[i].status, input);
-        WANT(place.index == index && place.character == character, input);
-        WANT(room.nodes == 7 && room.text == 7, input);
-        place.index = 5;
-        strcpy(out, "as it was");
-        WANT(simd_json_compact(copy, fresh(copy, input), depth, out, 64, &needed, &place) == refused[i].status, input);
-        WANT(place.index == index && place.character == character, input);
-        place.index = 5;
-        WANT(simd_json_pretty(copy, fresh(copy, input), depth, out, 64, &needed, &place) == refused[i].status, input);
-        WANT(place.index == index && place.character == character, input);
-        WANT(needed == 77 && strcmp(out, "as it was") == 0, input);
-        size_t len = simd_json_status_name(refused[i].status, name, sizeof name);
-        WANT(len == strlen(refused[i].name) && memcmp(name, refused[i].name, len) == 0, input);
-    }
-    simd_json_close(&parser);
-}
-
-// Between documents that are longer and shorter, and refused ones; and before it is opened and after it is closed.
-static void parser_kept(void) {
-    static const char *const inputs[] = {"[1,[2,3],4]", "7", "[1,", "{\"a\":[[]]}", "[[[]]]", "\"\\u0041\""};
-    static const int statuses[] = {SIMD_JSON_OK, SIMD_JSON_OK, SIMD_JSON_SYNTAX, SIMD_JSON_DEPTH_LIMIT_EXCEEDED,
-                                   SIMD_JSON_DEPTH_LIMIT_EXCEEDED, SIMD_JSON_OK};
-    static const size_t counts[] = {6, 1, 77, 77, 77, 1};
-    char copy[64], out[8] = "";
-    simd_json_node nodes[8] = {{99, 99, 99, 99}};
-    simd_json_place place = {5, 5};
-    simd_json_parser parser = {0};
-    for (int opened = 0; opened < 3; opened++) {
-        for (int closings = 0; closings < 3; closings++) {
-            simd_json_room room = {7, 7};
-            strcpy(copy, "[1]");
-            nodes[0].kind = 99;
-            place = (simd_json_place){5, 5};
-            WANT(simd_json_parser_check(&parser, copy, 3, &place) == SIMD_JSON_PARSER_CLOSED, "closed");
-            WANT(place.index == 0 && place.character == SIMD_JSON_NO_CHARACTER, "closed");
-            place = (simd_json_place){5, 5};
-            WANT(simd_json_parser_tape(&parser, copy, 3, nodes, 8, out, 8, &room, &place) == SIMD_JSON_PARSER_CLOSED, "closed");
-            WANT(place.index == 0 && place.character == SIMD_JSON_NO_CHARACTER, "closed");
-            WANT(room.nodes == 7 && room.text == 7 && nodes[0].kind == 99 && strcmp(copy, "[1]") == 0, "closed");
-            simd_json_close(&parser);
-        }
-        WANT(simd_json_open(&parser, 2) == SIMD_JSON_OK, "opened");
-        for (size_t i = 0; i < 2 * sizeof inputs / sizeof *inputs; i++) {
-            size_t at = i % (sizeof inputs / sizeof *inputs);
-            simd_json_room room = {77, 77};
-            WANT(simd_json_parser_check(&parser, copy, fresh(copy, inputs[at]), &place) == statuses[at], inputs[at]);
-            WANT(simd_json_parser_tape(&parser, copy, fresh(copy, inputs[at]), nodes, 8, out, 8, &room, &place) == statuses[at], inputs[at]);
-            WANT(room.nodes == counts[at], inputs[at]);
-        }
-        WANT(nodes[0].kind == SIMD_JSON_STRING && nodes[0].len == 1 && out[0] == 'A', "the last");
-        simd_json_room room = {7, 7};
-        strcpy(copy, "[1,2]");
-        WANT(simd_json_parser_tape(&parser, copy, 5, nodes, 2, out, 8, &room, &place) == SIMD_JSON_TOO_LITTLE_ROOM, copy);
-        WANT(room.nodes == 3 && room.text == 0, copy);
-        simd_json_close(&parser);
-    }
-}
-
-static const char document[] = " { \"a\\n\" : [ null , true , false , -1 , 1 , 1.50 , \"\\u00e9\" ] , \"a\\n\" : {} } ";
-static const simd_json_node listed[] = {
-    {SIMD_JSON_OBJECT, 2, 11, 0}, {SIMD_JSON_STRING, 2, 0, 0},  {SIMD_JSON_ARRAY, 7, 7, 0},  {SIMD_JSON_NULL, 0, 0, 0},
-    {SIMD_JSON_BOOL, 0, 1, 0},    {SIMD_JSON_BOOL, 0, 0, 0},    {SIMD_JSON_I64, 0, -1, -1},  {SIMD_JSON_U64, 0, 1, 0},
-    {SIMD_JSON_DECIMAL, 4, 2, 0}, {SIMD_JSON_STRING, 2, 6, 0},  {SIMD_JSON_STRING, 2, 8, 0}, {SIMD_JSON_OBJECT, 0, 0, 0},
-};
-static const char texts[] = "a\n1.50\303\251a\n";
-static const char compacted[] = "{\"a\\n\":[null,true,false,-1,1,1.50,\"\303\251\"],\"a\\n\":{}}";
-static const char pretty[] = "{\n  \"a\\n\": [\n    null,\n    true,\n    false,\n    -1,\n    1,\n    1.50,\n    \"\303\251\"\n  ],\n  \"a\\n\": {}\n}";
-
-// The greatest and least integer of each kind, and the next of the wider one.
-static const struct {
-    const char *input;
-    simd_json_node node;
-} integers[] = {
-    {"0", {SIMD_JSON_U64, 0, 0, 0}},
-    {"-0", {SIMD_JSON_I64, 0, 0, 0}},
-    {"18446744073709551615", {SIMD_JSON_U64, 0, -1, 0}},
-    {"18446744073709551616", {SIMD_JSON_U128, 0, 0, 1}},
-    {"340282366920938463463374607431768211455", {SIMD_JSON_U128, 0, -1, -1}},
-    {"-9223372036854775808", {SIMD_JSON_I64, 0, 1ull << 63, -1}},
-    {"-9223372036854775809", {SIMD_JSON_I128, 0, (1ull << 63) - 1, -1}},
-    {"-170141183460469231731687303715884105728", {SIMD_JSON_I128, 0, 0, 1ull << 63}},
-};
-
-static int same(const simd_json_node *a, const simd_json_node *b) {
-    return a->kind == b->kind && a->len == b->len && a->value == b->value && a->high == b->high;
-}
-
-static void documents_read(void) {
-    const size_t count = sizeof listed / sizeof *listed;
-    char copy[sizeof document], out[256] = {0};
-    simd_json_node nodes[16];
+    simd_json_place place;
     simd_json_room room;
-    simd_json_place place = {5, 5};
-    size_t needed = 0;
-    WANT(simd_json_check(copy, fresh(copy, document), 2, &place) == SIMD_JSON_OK, document);
-    WANT(place.index == 0 && place.character == SIMD_JSON_NO_CHARACTER, document);
-    WANT(simd_json_tape(copy, fresh(copy, document), 2, nodes, 16, out, 64, &room, &place) == SIMD_JSON_OK, document);
-    WANT(room.nodes == count && room.text == sizeof texts - 1 && memcmp(out, texts, room.text) == 0, document);
-    for (size_t i = 0; i < count; i++) WANT(same(&nodes[i], &listed[i]), document);
-    memset(out, 0, sizeof out);
-    WANT(simd_json_compact(copy, fresh(copy, document), 2, out, sizeof out, &needed, &place) == SIMD_JSON_OK, document);
-    WANT(needed == strlen(compacted) && strcmp(out, compacted) == 0, document);
-    memset(out, 0, sizeof out);
-    WANT(simd_json_pretty(copy, fresh(copy, document), 2, out, sizeof out, &needed, &place) == SIMD_JSON_OK, document);
-    WANT(needed == strlen(pretty) && strcmp(out, pretty) == 0, document);
-    for (size_t i = 0; i < sizeof integers / sizeof *integers; i++) {
-        const char *input = integers[i].input;
-        WANT(simd_json_tape(copy, fresh(copy, input), 0, nodes, 1, 0, 0, &room, &place) == SIMD_JSON_OK, input);
-        WANT(room.nodes == 1 && room.text == 0 && same(&nodes[0], &integers[i].node), input);
+    simd_json_node *nodes;
+    unsigned char *text;
+};
+
+struct print {
+    int status;
+    simd_json_place place;
+    struct bytes text;
+};
+
+static void stop(const char *why, const char *what) {
+    fprintf(stderr, "rows: %s: %s\n", why, what);
+    exit(2);
+}
+
+// Memory for so many bytes; null for none, which every call takes.
+static void *memory(size_t len) {
+    void *at = len ? malloc(len) : 0;
+    if (len && !at) stop("no memory", "malloc");
+    return at;
+}
+
+static void put(struct bytes *to, const void *from, size_t len) {
+    if (to->room - to->len < len) {
+        to->room = 2 * to->room + len;
+        to->at = realloc(to->at, to->room);
+        if (!to->at) stop("no memory", "realloc");
+    }
+    if (len) memcpy(to->at + to->len, from, len);
+    to->len += len;
+}
+
+static void put_text(struct bytes *to, const char *text) { put(to, text, strlen(text)); }
+
+static void put_number(struct bytes *to, size_t number) {
+    char digits[32];
+    put(to, digits, (size_t)snprintf(digits, sizeof digits, "%zu", number));
+}
+
+// That a call is wrong, behind the answer.
+static void blame(struct bytes *wrong, const char *call, const char *what) {
+    put_text(wrong, "; ");
+    put_text(wrong, call);
+    put_text(wrong, what);
+}
+
+static bool is_same(const struct bytes *a, const struct bytes *b) {
+    return a->len == b->len && (a->len == 0 || memcmp(a->at, b->at, a->len) == 0);
+}
+
+// A byte of an answer.
+static void put_shown(struct bytes *to, unsigned char byte) {
+    char escape[4];
+    if (byte >= 0x20 && byte != 0x7f && byte != '%')
+        put(to, &byte, 1);
+    else
+        put(to, escape, (size_t)snprintf(escape, sizeof escape, "%%%02X", byte));
+}
+
+static unsigned hex(char digit) {
+    const char *digits = "0123456789ABCDEF", *at = digit ? strchr(digits, digit) : 0;
+    if (!at) stop("no byte after %", "two digits of 0 to 9 and A to F");
+    return (unsigned)(at - digits);
+}
+
+// The bytes that a text up to `end` stands for: `%XX` is a byte, `%(N:TEXT)` a text so many times.
+static void decode(const char *text, const char *end, struct bytes *to) {
+    while (text < end) {
+        if (*text != '%') {
+            put(to, text++, 1);
+        } else if (text[1] != '(') {
+            unsigned char byte = (unsigned char)(hex(text[1]) << 4 | hex(text[2]));
+            put(to, &byte, 1);
+            text += 3;
+        } else {
+            char *colon;
+            size_t times = strtoull(text + 2, &colon, 10);
+            const char *close = memchr(colon, ')', (size_t)(end - colon));
+            if (*colon != ':' || !close) stop("no text so many times", text);
+            struct bytes piece = {0};
+            decode(colon + 1, close, &piece);
+            while (times--) put(to, piece.at, piece.len);
+            free(piece.at);
+            text = close + 1;
+        }
     }
 }
 
-static void kinds_named(void) {
-    static const char *const names[] = {"Null", "Bool", "I64", "U64", "I128", "U128", "Decimal", "String", "Array", "Object", ""};
-    char out[32];
-    for (uint32_t kind = 0; kind < 11; kind++) {
-        size_t len = simd_json_kind_name(kind, out, sizeof out);
-        WANT(len == strlen(names[kind]) && memcmp(out, names[kind], len) == 0, names[kind]);
+// A call overwrites its input, so each has a copy, with nothing behind it.
+static void *copy_of(const struct bytes *input) {
+    void *copy = memory(input->len);
+    if (copy) memcpy(copy, input->at, input->len);
+    return copy;
+}
+
+// Of a parser that is open with the row's limit, or without one.
+static int check(simd_json_parser *parser, const struct row *row, simd_json_place *place) {
+    void *copy = copy_of(&row->input);
+    int status = parser ? simd_json_parser_check(parser, copy, row->input.len, place)
+                        : simd_json_check(copy, row->input.len, row->limit, place);
+    free(copy);
+    return status;
+}
+
+static int list(simd_json_parser *parser, const struct row *row, simd_json_room room, struct tape *tape) {
+    void *copy = copy_of(&row->input);
+    size_t len = row->input.len;
+    tape->room = (simd_json_room){NOT_WRITTEN, NOT_WRITTEN};
+    tape->place = (simd_json_place){NOT_WRITTEN, NOT_WRITTEN};
+    int status = parser ? simd_json_parser_tape(parser, copy, len, tape->nodes, room.nodes, tape->text, room.text,
+                                                &tape->room, &tape->place)
+                        : simd_json_tape(copy, len, row->limit, tape->nodes, room.nodes, tape->text, room.text,
+                                         &tape->room, &tape->place);
+    free(copy);
+    return status;
+}
+
+static void free_tape(struct tape *tape) {
+    free(tape->nodes);
+    free(tape->text);
+}
+
+static bool is_nowhere(simd_json_place place) { return place.index == 0 && place.character == SIMD_JSON_NO_CHARACTER; }
+
+// Into one node and a few bytes of text, and then, where the input is a document, into just as many as it has.
+static struct tape tape_of(simd_json_parser *parser, const struct row *row, struct bytes *wrong) {
+    const char *call = parser ? "simd_json_parser_tape" : "simd_json_tape";
+    simd_json_room few = {1, FEW};
+    struct tape tape = {.nodes = memory(sizeof *tape.nodes), .text = memory(FEW)};
+    tape.status = list(parser, row, few, &tape);
+    simd_json_room needed = tape.room;
+    if (tape.status != SIMD_JSON_OK && tape.status != SIMD_JSON_TOO_LITTLE_ROOM) {
+        if (needed.nodes != NOT_WRITTEN || needed.text != NOT_WRITTEN) blame(wrong, call, " changed *room");
+        return tape;
     }
-    WANT(simd_json_kind_name(UINT32_MAX, out, sizeof out) == 0, "the greatest kind");
-    WANT(simd_json_status_name(0, out, sizeof out) == 2 && memcmp(out, "Ok", 2) == 0, "status 0");
-    WANT(simd_json_status_name(1, out, sizeof out) == 11 && memcmp(out, "OutOfMemory", 11) == 0, "status 1");
-    WANT(simd_json_status_name(2, out, sizeof out) == 13 && memcmp(out, "InputTooLarge", 13) == 0, "status 2");
-    WANT(simd_json_status_name(19, out, sizeof out) == 13 && memcmp(out, "TooLittleRoom", 13) == 0, "status 19");
-    WANT(simd_json_status_name(20, out, sizeof out) == 12 && memcmp(out, "ParserClosed", 12) == 0, "status 20");
-    WANT(simd_json_status_name(21, out, sizeof out) == 0 && simd_json_status_name(-1, out, sizeof out) == 0, "no status");
+    bool is_enough = needed.nodes <= few.nodes && needed.text <= few.text;
+    if ((tape.status == SIMD_JSON_OK) != is_enough || !is_nowhere(tape.place)) blame(wrong, call, " is wrong with little room");
+    free_tape(&tape);
+    tape.nodes = memory(needed.nodes * sizeof *tape.nodes);
+    tape.text = memory(needed.text);
+    tape.status = list(parser, row, needed, &tape);
+    if (tape.room.nodes != needed.nodes || tape.room.text != needed.text) blame(wrong, call, " is wrong with just enough room");
+    return tape;
+}
+
+static int print(bool is_pretty, const struct row *row, struct print *text, size_t *needed) {
+    void *copy = copy_of(&row->input);
+    *needed = NOT_WRITTEN;
+    text->place = (simd_json_place){NOT_WRITTEN, NOT_WRITTEN};
+    int status = (is_pretty ? simd_json_pretty : simd_json_compact)(copy, row->input.len, row->limit, text->text.at,
+                                                                    text->text.len, needed, &text->place);
+    free(copy);
+    return status;
+}
+
+// Whether nothing is written from an index on.
+static bool is_blank(const struct bytes *text, size_t from) {
+    for (; from < text->len; from++)
+        if (text->at[from] != NOT_WRITTEN) return false;
+    return true;
+}
+
+// Into a few bytes, and then, where the text is longer, into one more than it has.
+static struct print print_of(bool is_pretty, const struct row *row, struct bytes *wrong) {
+    const char *call = is_pretty ? "simd_json_pretty" : "simd_json_compact";
+    struct print text = {.text = {memory(FEW), FEW, FEW}};
+    size_t needed, again;
+    memset(text.text.at, NOT_WRITTEN, FEW);
+    text.status = print(is_pretty, row, &text, &needed);
+    bool is_printed = text.status == SIMD_JSON_OK, is_long = text.status == SIMD_JSON_TOO_LITTLE_ROOM;
+    if (!is_blank(&text.text, is_printed ? needed : 0)) blame(wrong, call, " changed out");
+    if (!is_printed && !is_long && needed != NOT_WRITTEN) blame(wrong, call, " changed *needed");
+    if ((is_printed && needed > FEW) || (is_long && (needed <= FEW || !is_nowhere(text.place))))
+        blame(wrong, call, " is wrong with little room");
+    if (is_long) {
+        free(text.text.at);
+        text.text = (struct bytes){memory(needed + 1), needed + 1, needed + 1};
+        memset(text.text.at, NOT_WRITTEN, needed + 1);
+        text.status = print(is_pretty, row, &text, &again);
+        if (again != needed || !is_blank(&text.text, needed)) blame(wrong, call, " is wrong with enough room");
+    }
+    if (needed < text.text.len) text.text.len = needed;
+    return text;
+}
+
+static void put_quoted(struct bytes *to, const unsigned char *text, size_t len) {
+    static const char escaped[] = "\"\\\b\t\n\f\r", letters[] = "\"\\btnfr";
+    char escape[8];
+    put_text(to, "\"");
+    for (size_t i = 0; i < len; i++) {
+        const char *at = text[i] ? strchr(escaped, text[i]) : 0;
+        if (at)
+            put(to, (char[]){'\\', letters[at - escaped]}, 2);
+        else if (text[i] < 0x20)
+            put(to, escape, (size_t)snprintf(escape, sizeof escape, "\\u%04x", text[i]));
+        else
+            put_shown(to, text[i]);
+    }
+    put_text(to, "\"");
+}
+
+static void put_integer(struct bytes *to, const simd_json_node *node) {
+    unsigned __int128 number = (unsigned __int128)node->high << 64 | node->value;
+    bool is_negative = node->high >> 63 && (node->kind == SIMD_JSON_I64 || node->kind == SIMD_JSON_I128);
+    char digits[40], *first = digits + sizeof digits;
+    if (is_negative) number = -number;
+    do *--first = (char)('0' + (int)(number % 10));
+    while (number /= 10);
+    if (is_negative) put_text(to, "-");
+    put(to, first, (size_t)(digits + sizeof digits - first));
+}
+
+static void put_node(struct bytes *to, const simd_json_node *node, const unsigned char *text) {
+    char name[SIMD_JSON_NAME_MAX];
+    put(to, name, simd_json_kind_name(node->kind, name, sizeof name));
+    if (node->kind == SIMD_JSON_NULL) return;
+    put_text(to, " ");
+    switch (node->kind) {
+    case SIMD_JSON_BOOL: put_text(to, node->value ? "true" : "false"); break;
+    case SIMD_JSON_DECIMAL: put(to, text + node->value, node->len); break;
+    case SIMD_JSON_STRING: put_quoted(to, text + node->value, node->len); break;
+    case SIMD_JSON_ARRAY:
+    case SIMD_JSON_OBJECT: put_number(to, node->len), put_text(to, " "), put_number(to, node->value); break;
+    default: put_integer(to, node);
+    }
+}
+
+static void put_status(struct bytes *to, int status, simd_json_place place) {
+    char name[SIMD_JSON_NAME_MAX];
+    if (status != SIMD_JSON_OK) put_text(to, "! ");
+    put(to, name, simd_json_status_name(status, name, sizeof name));
+    put_text(to, " at character ");
+    put_number(to, place.index);
+    if (place.character == SIMD_JSON_NO_CHARACTER) return;
+    // a byte, whose character is of one or two bytes
+    unsigned char byte = (unsigned char)place.character;
+    put_text(to, " ('");
+    if (byte < 0x80)
+        put_shown(to, byte);
+    else
+        put(to, (unsigned char[]){(unsigned char)(0xc0 | byte >> 6), (unsigned char)(0x80 | (byte & 0x3f))}, 2);
+    put_text(to, "')");
+}
+
+static void put_tape(struct bytes *to, const struct tape *tape) {
+    if (tape->status != SIMD_JSON_OK || !is_nowhere(tape->place)) {
+        put_status(to, tape->status, tape->place);
+        return;
+    }
+    for (size_t i = 0; i < tape->room.nodes; i++) {
+        if (i) put_text(to, ", ");
+        put_node(to, &tape->nodes[i], tape->text);
+    }
+}
+
+// Whether the texts follow one another, and the fields of which nothing is said are 0.
+static bool is_tidy(const struct tape *tape) {
+    size_t text = 0;
+    for (size_t i = 0; i < tape->room.nodes; i++) {
+        const simd_json_node *node = &tape->nodes[i];
+        bool is_text = node->kind == SIMD_JSON_STRING || node->kind == SIMD_JSON_DECIMAL;
+        bool is_container = node->kind == SIMD_JSON_ARRAY || node->kind == SIMD_JSON_OBJECT;
+        bool is_wide = node->kind == SIMD_JSON_I128 || node->kind == SIMD_JSON_U128;
+        uint64_t high = node->kind == SIMD_JSON_I64 && node->value >> 63 ? UINT64_MAX : 0;
+        if (!is_wide && node->high != high) return false;
+        if (!is_text && !is_container && node->len != 0) return false;
+        if (is_text && (node->value != text || node->len > tape->room.text - text)) return false;
+        if (is_text) text += node->len;
+        if (node->kind == SIMD_JSON_NULL && node->value != 0) return false;
+        if (node->kind == SIMD_JSON_BOOL && node->value > 1) return false;
+    }
+    return text == tape->room.text;
+}
+
+// Whether two tapes are of equal values: 0 is printed without a sign.
+static bool is_equal(const struct tape *a, const struct tape *b) {
+    if (a->room.nodes != b->room.nodes || a->room.text != b->room.text) return false;
+    if (a->room.text && memcmp(a->text, b->text, a->room.text) != 0) return false;
+    for (size_t i = 0; i < a->room.nodes; i++) {
+        const simd_json_node *m = &a->nodes[i], *n = &b->nodes[i];
+        bool is_zero = m->kind == SIMD_JSON_I64 && m->value == 0 && n->kind == SIMD_JSON_U64;
+        if (!is_zero && m->kind != n->kind) return false;
+        if (m->len != n->len || m->value != n->value || m->high != n->high) return false;
+    }
+    return true;
+}
+
+// The same status and place by another call.
+static void compare(struct bytes *wrong, const struct tape *tape, const char *call, int status, simd_json_place place) {
+    if (status == tape->status && place.index == tape->place.index && place.character == tape->place.character) return;
+    blame(wrong, "by ", call);
+    put_text(wrong, ": ");
+    put_status(wrong, status, place);
+}
+
+// A document is printed, and read again as an equal value.
+static void compare_print(struct bytes *wrong, const struct tape *tape, const struct row *row, bool is_pretty) {
+    const char *call = is_pretty ? "simd_json_pretty" : "simd_json_compact";
+    struct print text = print_of(is_pretty, row, wrong);
+    compare(wrong, tape, call, text.status, text.place);
+    if (text.status == SIMD_JSON_OK && tape->status == SIMD_JSON_OK) {
+        struct row printed = {text.text, row->limit};
+        struct tape again = tape_of(0, &printed, wrong);
+        if (again.status != SIMD_JSON_OK || !is_equal(tape, &again)) {
+            blame(wrong, "printed by ", call);
+            put_text(wrong, " and read again: ");
+            put_tape(wrong, &again);
+        }
+        free_tape(&again);
+    }
+    free(text.text.at);
+}
+
+static void answer_parse(struct bytes *to, const struct row *row, simd_json_parser *parser) {
+    struct bytes wrong = {0}, by_parser = {0};
+    struct tape tape = tape_of(0, row, &wrong), kept = tape_of(parser, row, &wrong);
+    size_t before = to->len;
+    put_tape(to, &tape);
+    put_tape(&by_parser, &kept);
+    if (!is_same(&by_parser, &(struct bytes){to->at + before, to->len - before, 0})) {
+        blame(to, "by simd_json_parser_tape: ", "");
+        put(to, by_parser.at, by_parser.len);
+    }
+    if (tape.status == SIMD_JSON_OK && !is_tidy(&tape)) blame(&wrong, "simd_json_tape", " has wrong fields");
+    if (kept.status == SIMD_JSON_OK && !is_tidy(&kept)) blame(&wrong, "simd_json_parser_tape", " has wrong fields");
+    simd_json_place place = {NOT_WRITTEN, NOT_WRITTEN};
+    int status = check(0, row, &place);
+    compare(&wrong, &tape, "simd_json_check", status, place);
+    place = (simd_json_place){NOT_WRITTEN, NOT_WRITTEN};
+    status = check(parser, row, &place);
+    compare(&wrong, &tape, "simd_json_parser_check", status, place);
+    compare_print(&wrong, &tape, row, false);
+    compare_print(&wrong, &tape, row, true);
+    put(to, wrong.at, wrong.len);
+    free_tape(&tape);
+    free_tape(&kept);
+    free(wrong.at);
+    free(by_parser.at);
+}
+
+static void answer_print(struct bytes *to, const struct row *row, bool is_pretty) {
+    struct bytes wrong = {0};
+    struct print text = print_of(is_pretty, row, &wrong);
+    if (text.status != SIMD_JSON_OK || !is_nowhere(text.place))
+        put_status(to, text.status, text.place);
+    else
+        for (size_t i = 0; i < text.text.len; i++) put_shown(to, text.text.at[i]);
+    put(to, wrong.at, wrong.len);
+    free(text.text.at);
+    free(wrong.at);
+}
+
+static bool is_word(const char *line, size_t len, const char *word) { return len == strlen(word) && memcmp(line, word, len) == 0; }
+
+// A row without its answer is followed by the one that is found. `kept` is open for 1,024 containers, `other` for any number.
+static void answer(const char *line, struct bytes *to, simd_json_parser *kept, simd_json_parser *other) {
+    static const char *const copied[] = {"indexes", "locate", "document", "pointer", "padded"};
+    const char *input = strchr(line, ' '), *end = input ? strstr(input, " => ") : 0;
+    size_t len = strcspn(line, ": ");
+    for (size_t i = 0; i < sizeof copied / sizeof *copied; i++)
+        if (is_word(line, len, copied[i])) {
+            put_text(to, line);
+            return;
+        }
+    bool is_parse = is_word(line, len, "parse"), is_pretty = is_word(line, len, "pretty");
+    if (!end || !(is_parse || is_pretty || is_word(line, len, "compact"))) stop("no row", line);
+    struct row row = {.limit = line[len] == ':' ? strtoull(line + len + 1, 0, 10) : 1024};
+    decode(input + 1, end, &row.input);
+    put(to, line, (size_t)(end + 4 - line));
+    if (is_parse && row.limit == 1024) {
+        answer_parse(to, &row, kept);
+    } else if (is_parse) {
+        if (simd_json_open(other, row.limit) != SIMD_JSON_OK) stop("no parser", line);
+        answer_parse(to, &row, other);
+    } else {
+        answer_print(to, &row, is_pretty);
+    }
+    free(row.input.at);
 }
 
 int main(void) {
-    refused_alike();
-    documents_read();
-    parser_kept();
-    kinds_named();
-    return wrong;
+    simd_json_parser kept = {0}, other = {0};
+    struct bytes out = {0};
+    char *line = 0;
+    size_t room = 0;
+    if (simd_json_open(&kept, 1024) != SIMD_JSON_OK) stop("no parser", "simd_json_open");
+    for (ssize_t len; (len = getline(&line, &room, stdin)) > 0;) {
+        if (line[len - 1] == '\n') line[--len] = 0;
+        out.len = 0;
+        if (len == 0 || line[0] == '#')
+            put_text(&out, line);
+        else
+            answer(line, &out, &kept, &other);
+        fwrite(out.at, 1, out.len, stdout);
+        putchar('\n');
+    }
+    simd_json_close(&kept);
+    simd_json_close(&other);
+    free(line);
+    free(out.at);
+    return 0;
 }
