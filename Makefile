@@ -1,35 +1,51 @@
-# Two commands: `make` proves and builds what there is and shows the first run, `make test` passes the gate.
-# `make build/log_report` builds the program that counts the lines of a log.
-# Both need the toolchain's command `rt` on the PATH, and nothing else. Besides, `make CPU=x86-64-v3` builds for processors of
-# that level, and `make bench` measures: bench/run.sh says what it takes.
-.PHONY: all library test bench vendor install install-library uninstall clean has-rt build/log_report
+# `make` proves and builds the programs and shows the first run, `make test` passes the gate, and `make help` lists the rest.
+# All need the toolchain's command `rt` on the PATH, and nothing else.
+.PHONY: all jtape jcheck library test bench vendor install install-library uninstall clean has-rt help build/log_report
 
-# The level that programs are built for. Empty: the toolchain's default.
-CPU =
+# The level that programs are built for: x86-64-v3 where this processor has what that asks for, else the toolchain's default.
+# A package for other machines is built with CPU=x86-64-v2.
+v3 = avx2 bmi1 bmi2 f16c fma abm movbe
+CPU := $(if $(shell for flag in $(v3); do grep -qw "$$flag" /proc/cpuinfo || echo "$$flag"; done),,x86-64-v3)
 cpu = $(if $(CPU),--cpu $(CPU))
 
-# The programs stand on all other crates but those of tests and the benchmark's, so that proving them proves these.
-all: has-rt $(if $(CPU),library)
-	cd crates/jtape_main && rt run $(cpu) -- tape < ../../examples/nested-list.json > /dev/null
-	mkdir -p build
-	cp crates/jtape_main/out/jtape_main build/jtape
-	cd crates/jcheck && rt run $(cpu) -- ../../examples/nested-list.json
-	cp crates/jcheck/out/jcheck build/jcheck
+# How many checks run side by side: as many as there are processors, as far as there are 3 GB of memory for each, more than
+# the largest takes.
+jobs := $(shell awk -v n="$$(nproc)" '/^MemAvailable/ { m = int($$2 / 3000000); print (m > n ? n : m > 1 ? m : 1) }' /proc/meminfo)
+ifeq ($(filter -j% --jobs%,$(MAKEFLAGS)),)
+MAKEFLAGS += --jobs=$(jobs)
+endif
+
+all: jtape jcheck
 	build/jtape tape < examples/nested-list.json
 
+jtape: proved-jtape
+	@sh scripts/prove.sh jtape_main run $(cpu) -- tape < examples/nested-list.json
+	cp crates/jtape_main/out/jtape_main build/jtape
+
+jcheck: proved-simd_json
+	@sh scripts/prove.sh jcheck run $(cpu) -- ../../examples/nested-list.json
+	cp crates/jcheck/out/jcheck build/jcheck
+
 # It counts a document that is no object.
-build/log_report: has-rt
-	cd crates/log_report && rt run $(cpu) -- level < ../../examples/nested-list.json > /dev/null
-	mkdir -p build
+build/log_report: proved-jtape
+	@sh scripts/prove.sh log_report run $(cpu) -- level < examples/nested-list.json
 	cp crates/log_report/out/log_report build/log_report
+
+# proved-CRATE: a library is proved after those that it stands on, which crates.txt names, and beside all others.
+crates := $(shell sed -n 's/^\([a-z][a-z0-9_]*\).*:.*/\1/p' crates.txt)
+define proved
+.PHONY: proved-$(1)
+proved-$(1): has-rt $(patsubst %,proved-%,$(filter $(crates),$(shell sed -n 's/^$(1)\( [^:]*\)*: *//p' crates.txt)))
+	@sh scripts/prove.sh $(1) lib $(if $(filter simd_json_c simd_json_bench,$(1)),$(cpu))
+endef
+$(foreach crate,$(crates),$(eval $(call proved,$(crate))))
 
 # The library for programs in C, static and shared. Each needs nothing beside it but malloc, realloc, free, memcpy and memset:
 # the toolchain's heap is in it, and the exports alone are visible.
 kit = $(dir $(shell readlink -f "$$(command -v rt)"))..
 into = build
 parts = $(into)/parts
-library: has-rt
-	cd crates/simd_json_c && rt lib $(cpu)
+library: proved-simd_json_c
 	mkdir -p $(parts)
 	cd $(parts) && ar x $(kit)/c/liblibc_c.a heap.pic.o
 	ld -r -o $(parts)/all.o --whole-archive crates/simd_json_c/out/libsimd_json_c.a --no-whole-archive $(parts)/heap.pic.o
@@ -42,16 +58,19 @@ library: has-rt
 # Every proof from nothing, the must-fail edits, the tests and the programs. Its last line is 'N passed, M failed'. After it the
 # programs that it built are run on inputs of which the lines and the status are known, the counts of lines in DESIGN.md are
 # compared with the files, and the library is called from C and Python; all are silent where all is well.
-# One check more than there are processors runs at a time, since each also waits for files, as far as there are 3 GB of
-# memory for each, more than the largest takes. Left to itself `rt ci` reserves 7.5 GB for a check of `simd_json`, and lets
-# it wait behind small ones.
+# One check more runs at a time than `jobs`, since each also waits for files. Left to itself `rt ci` reserves 7.5 GB for a
+# check of `simd_json`, and lets it wait behind small ones.
 test: has-rt
-	RT_JOBS=$$(awk -v n="$$(nproc)" '/^MemAvailable/ { m = int($$2 / 3000000); n += 1; print (m > n ? n : m > 1 ? m : 1) }' /proc/meminfo) \
-	rt ci && sh tests/statuses.sh && sh tests/places.sh && sh tests/counts.sh && sh tests/c.sh
+	RT_JOBS=$$(($(jobs) + 1)) rt ci
+	sh tests/rows.sh
+	sh tests/statuses.sh
+	sh tests/places.sh
+	sh tests/counts.sh
+	MAKEFLAGS= sh tests/c.sh
 
 # Beside the parsers that are installed, over generated texts and FILES. SAVE=1 puts the results into docs/.
 bench: has-rt
-	SAVE=$(SAVE) sh bench/run.sh $(FILES)
+	MAKEFLAGS= SAVE=$(SAVE) sh bench/run.sh $(FILES)
 
 # The crates of the library, into the repository in the folder DIR.
 vendor:
@@ -84,3 +103,14 @@ has-rt:
 
 clean:
 	rm -rf build crates/*/out
+
+help:
+	@echo "make                        proves and builds build/jtape and build/jcheck, and shows the first run"
+	@echo "make library                the same of the library for C: build/libsimd_json.a and .so"
+	@echo "make build/log_report       the same of the program that counts the lines of a log"
+	@echo "make install PREFIX=DIR     installs programs, library and manual pages; make uninstall PREFIX=DIR removes them"
+	@echo "make vendor DIR=DIR         copies the library's crates into another repository"
+	@echo "make test                   the gate: all proofs from nothing, edits that must be rejected, tests, programs"
+	@echo "make bench FILES=\"..\"     measures beside the other parsers that are installed"
+	@echo "make clean                  removes what was made"
+	@echo "CPU=x86-64-v2               builds for that level, and not for this machine ($(or $(CPU),x86-64-v2))"

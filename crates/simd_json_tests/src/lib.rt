@@ -1,4 +1,5 @@
-//! Tests of parses as callers see them, through public calls alone. Other crates need nothing of it.
+//! Tests of `simd_json` through public calls alone. Worked inputs are rows in `tests/vectors`. Other crates need nothing of
+//! it.
 #![tactic(auto)]
 
 #[cfg(test)]

@@ -1,44 +1,106 @@
-use simd_json::{Error, ErrorType};
+ghost use Rattle.std.specs.Prelude.{◌≢◌, [], IsTrue};
+
+use simd_json::tape::{Array, Object};
+use simd_json::{Tape, to_tape};
 use std::alloc::Global;
+use std::fmt::Debug;
+use std::process::Abort;
 use std::test::Fail;
 
-mod blocks;
-mod documents;
-mod refusals;
+// `assert_eq!` and `assert!` as calls: a call is proved in far less time than the code that those expand to.
+macro_rules! assert_same {
+    ($rt:expr; $found:expr, $wanted:expr $(,)?) => {
+        crate::tests::same($rt, stringify!($found), $found, $wanted)
+    };
+    ($rt:expr; $found:expr, $wanted:expr, $case:expr $(,)?) => {
+        crate::tests::same_of($rt, stringify!($found), $case, $found, $wanted)
+    };
+}
+
+macro_rules! assert_that {
+    ($rt:expr; $condition:expr $(,)?) => {
+        crate::tests::holds($rt, stringify!($condition), $condition)
+    };
+    ($rt:expr; $condition:expr, $case:expr $(,)?) => {
+        crate::tests::same_of($rt, stringify!($condition), $case, $condition, true)
+    };
+}
+
+mod accessors;
+mod descendants;
+mod deserializer;
+mod examples;
+mod growths;
+mod locations;
+mod maps;
+mod memory;
+mod pointer;
+mod printing;
+mod reading;
 mod reuse;
 mod shapes;
+mod values;
+mod views;
 
 type Tested = std::result::Result<(), Fail>;
 
-// What a call is to return: `Ok`, an error at a character, or one of the whole input.
-#[derive(Debug, Drop)]
-enum Wanted {
-    Done,
-    At(usize, char, ErrorType),
-    Whole(ErrorType),
+fn same<T: PartialEq + Debug + Drop>(rt: &impl Abort, what: &str, found: T, wanted: T) {
+    assert_eq!(rt; found, wanted, "{what}");
 }
 
-impl Wanted {
-    fn is_given(&self, error: Option<&Error>) -> bool {
-        let (index, character, kind) = match self {
-            Wanted::Done => return error.is_none(),
-            Wanted::At(index, character, kind) => (*index, Some(*character), kind),
-            Wanted::Whole(kind) => (0, None, kind),
-        };
-        error.is_some_and(|e| {
-            e.index() == index && e.character() == character && e.error() == kind
-        })
-    }
+// The same of one case of several.
+fn same_of<T: PartialEq + Debug + Drop>(
+    rt: &impl Abort,
+    what: &str,
+    case: impl Debug + Drop,
+    found: T,
+    wanted: T,
+) {
+    assert_eq!(rt; found, wanted, "{what} of {case:?}");
 }
 
-type Text = std::result::Result<Vec<u8>, Fail>;
+fn holds(rt: &impl Abort, what: &str, condition: bool)
+    ensures { IsTrue condition }
+{
+    assert!(rt; condition, "{what}");
+}
+
+// The tape of a document.
+fn tape_of<'de>(rt: &(impl AllocGlobal + Abort), input: &'de mut [u8]) -> Tape<'de>
+    ensures { result.nodes ≢ [] }
+{
+    let tape = to_tape(rt.alloc(), input).expect(rt, "it is a document");
+    assert_that!(rt; !tape.is_empty());
+    tape
+}
 
 // A piece so many times, between two others.
-fn text(alloc: Global, before: &[u8], piece: &[u8], count: usize, after: &[u8]) -> Text {
+fn text(
+    alloc: Global,
+    before: &[u8],
+    piece: &[u8],
+    count: usize,
+    after: &[u8],
+) -> std::result::Result<Vec<u8>, Fail> {
     let mut text = Vec::from_slice(alloc, before)?;
     for _ in 0..count {
         text.extend_from_slice(piece)?;
     }
     text.extend_from_slice(after)?;
     Ok(text)
+}
+
+// How many members there are in a container that is there.
+fn array_len(array: Option<Array<'_, '_>>) -> Option<usize> {
+    match array {
+        Some(array) => Some(array.len()),
+        None => None,
+    }
+}
+
+fn object_len(object: Option<Object<'_, '_>>) -> Option<usize> {
+    match object {
+        Some(object) => Some(object.len()),
+        None => None,
+    }
 }

@@ -5,7 +5,6 @@ use std::process::Abort;
 use std::test::Fail;
 
 mod growth;
-mod known;
 mod random;
 mod slow;
 
@@ -36,36 +35,6 @@ fn found(alloc: Global, text: &[u8]) -> Result<(Vec<u32>, Vec<u32>)> {
     positions.truncate(found.positions);
     blocks.truncate(found.escape_blocks);
     Ok((positions, blocks))
-}
-
-// Tokens across the end of a block, after and round stretches of one byte.
-#[test]
-fn known_positions(rt: HostRuntime) -> Tested {
-    for (before, byte, len, after, want) in [
-        (
-            b"".as_slice(),
-            b' ',
-            62,
-            b"\"\\\"\"".as_slice(),
-            [62].as_slice(),
-        ),
-        (b"\"", b'\\', 64, b"\"", &[0]),
-        (b"[", b' ', 62, b"12]", &[0, 63, 65]),
-        (b"", b' ', 63, b"1 2", &[63, 65]),
-        (b"\"", b'a', 62, b"\"x", &[0, 64]),
-        (b"[\xC2\xBB1]", 0, 0, b"", &[0, 1, 4]),
-        (b"", b' ', 60, b"12345678", &[60]),
-        (b"[", b' ', 62, b"]", &[0, 63]),
-        (b"", b' ', 63, b"\"a\"", &[63]),
-        (b"\"", b'a', 62, b"\\\"\"", &[0]),
-        (b"\"", b'a', 62, b"\\\\\"", &[0]),
-        (b"[\"", b'{', 1600, b"\",12]", &[0, 1, 1603, 1604, 1606]),
-    ] {
-        let text = text(rt.alloc(), before, byte, len, after)?;
-        let (positions, _) = found(rt.alloc(), &text)?;
-        assert_same!(&rt; positions.as_slice(), want, text);
-    }
-    Ok(())
 }
 
 #[test]
@@ -106,33 +75,6 @@ fn known_escape_blocks(rt: HostRuntime) -> Tested {
         let text = text(rt.alloc(), before, byte, len, after)?;
         let (_, blocks) = found(rt.alloc(), &text)?;
         assert_same!(&rt; blocks.as_slice(), want, text);
-    }
-    Ok(())
-}
-
-#[test]
-fn known_faults(rt: HostRuntime) -> Tested {
-    for (before, byte, len, after, want) in [
-        (b"".as_slice(), 0, 0, b"".as_slice(), ErrorType::Eof),
-        (b"", b' ', 70, b"\t\n\r", ErrorType::Eof),
-        (b"x \"a", 0, 0, b"", ErrorType::Syntax),
-        (b"[01,\"", 0, 0, b"", ErrorType::Syntax),
-        (b"\\\"\"", 0, 0, b"", ErrorType::Syntax),
-        (b"\"\n\"", 0, 0, b"", ErrorType::Syntax),
-        (b"\"", b'\\', 65, b"\"", ErrorType::Syntax),
-        (b"[\"", 0, 0, b"", ErrorType::Syntax),
-        (b"[\xff]", 0, 0, b"", ErrorType::InvalidUtf8),
-        (b"[\"\xff", 0, 0, b"", ErrorType::InvalidUtf8),
-        (b"[\xff", b' ', 100, b"\"", ErrorType::InvalidUtf8),
-        (b"\xc3", 0, 0, b"", ErrorType::InvalidUtf8),
-        (b"\"", b'a', 62, b"\xc3\"", ErrorType::InvalidUtf8),
-        (b"\"", b'a', 63, b"\xa9\"", ErrorType::InvalidUtf8),
-        (b"[1,] \"", 0, 0, b"", ErrorType::Syntax),
-        (b"\"", b'a', 63, b"\n\"", ErrorType::Syntax),
-        (b" \t\r\n", 0, 0, b"", ErrorType::Eof),
-    ] {
-        let text = text(rt.alloc(), before, byte, len, after)?;
-        assert_same!(&rt; found(rt.alloc(), &text), Err(Error::generic(want)), &text);
     }
     Ok(())
 }

@@ -2,7 +2,7 @@ use Rattle.std.proofs.Common.{◌<◌}
 use Rattle.simd_json.specs.Iterated.{elements_left, pairs_left}
 use Rattle.simd_json.specs.Sizes.{size, sizes, pair_sizes}
 use Rattle.simd_json.specs.Viewed.{doc}
-use Rattle.simd_json_example_tests.proofs.tests.pointer.walks.+depth.Given as goal
+use Rattle.simd_json_tests.proofs.tests.pointer.walks.+depth.Given as goal
 
 abbrev pub decreases-depth : goal.decreases-depth
 decreases-depth l = size (doc l.value)

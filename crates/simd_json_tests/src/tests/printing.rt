@@ -1,4 +1,4 @@
-// Printed values.
+// Printing where an allocation or a writer fails; worked texts are in tests/vectors/printing.txt.
 use crate::tests::Tested;
 use linked_list_allocator::LocalHeap;
 use simd_json::tape::Value;
@@ -6,53 +6,6 @@ use simd_json::{Error, ErrorType, to_tape};
 use std::io::{self, ErrorKind, Write};
 use std::process::Abort;
 use std::test::Fail;
-
-// Each row is an input, its compact text, and its pretty text.
-#[test]
-fn values_are_printed(rt: HostRuntime) -> Tested {
-    let rows: [(&[u8], &str, &str); 6] = [
-        (
-            b"[-0,0,1e309,1.50]",
-            "[0,0,1e309,1.50]",
-            "[\n  0,\n  0,\n  1e309,\n  1.50\n]",
-        ),
-        (
-            b"{\"a\":[1],\"b\":{}}",
-            "{\"a\":[1],\"b\":{}}",
-            "{\n  \"a\": [\n    1\n  ],\n  \"b\": {}\n}",
-        ),
-        (
-            b" { \"k\\u0009\" : [ -0 , 1E5 , \"\\u00e9\" ] , \"\" : {} } ",
-            "{\"k\\t\":[0,1E5,\"\u{e9}\"],\"\":{}}",
-            "{\n  \"k\\t\": [\n    0,\n    1E5,\n    \"\u{e9}\"\n  ],\n  \"\": {}\n}",
-        ),
-        (b" null ", "null", "null"),
-        (
-            b"\"\\\"\\\\\\/\\b\\f\\n\\r\\t\\u0001\x7f\"",
-            "\"\\\"\\\\/\\b\\f\\n\\r\\t\\u0001\u{7f}\"",
-            "\"\\\"\\\\/\\b\\f\\n\\r\\t\\u0001\u{7f}\"",
-        ),
-        (
-            b"[18446744073709551616,-9223372036854775809]",
-            "[18446744073709551616,-9223372036854775809]",
-            "[\n  18446744073709551616,\n  -9223372036854775809\n]",
-        ),
-    ];
-    for (input, compact, pretty) in rows {
-        let mut read = Vec::from_slice(rt.alloc(), input)?;
-        let tape = to_tape(rt.alloc(), read.as_mut_slice())?;
-        let value = tape.as_value();
-        assert_same!(&rt; value.encode(rt.alloc())?.as_str(), compact);
-        assert_same!(&rt; value.encode_pp(rt.alloc())?.as_str(), pretty);
-        let mut written = Vec::new(rt.alloc());
-        value.write(&mut written)?;
-        assert_same!(&rt; written.as_slice(), compact.as_bytes());
-        written.clear();
-        value.write_pp(&mut written)?;
-        assert_same!(&rt; written.as_slice(), pretty.as_bytes());
-    }
-    Ok(())
-}
 
 const LARGE_COMPACT: &str = "[\"0123456789012345678901234567890123456789\",[[[1,2,3,4,5,6,7,8]]]]";
 

@@ -2,7 +2,7 @@ use Rattle.std.proofs.Common.{◌<◌}
 use Rattle.simd_json.specs.Iterated.{elements_left, values_left}
 use Rattle.simd_json.specs.Sizes.{size, sizes}
 use Rattle.simd_json.specs.Viewed.{doc}
-use Rattle.simd_json_example_tests.proofs.tests.pointer.walks.+count.Given as goal
+use Rattle.simd_json_tests.proofs.tests.pointer.walks.+count.Given as goal
 
 abbrev pub decreases-count : goal.decreases-count
 decreases-count l = size (doc l.value)

@@ -1,0 +1,17 @@
+#!/bin/sh
+# Runs the rows of tests/vectors through the program that the gate has built: each file must come out unchanged. Silent where it
+# does; else it shows each row with the answer that is wanted (-) and the one that was found (+), and ends with status 1.
+#
+# usage: sh tests/rows.sh [PROGRAM]
+set -u
+cd "$(dirname "$0")/.." || exit 1
+program=${1:-crates/simd_json_rows/out/simd_json_rows}
+[ -x "$program" ] || { echo "$program is not there: run make test" >&2; exit 1; }
+found=$(mktemp) || exit 1
+trap 'rm -f "$found"' EXIT
+different=0
+for rows in tests/vectors/*.txt; do
+    "$program" < "$rows" > "$found" || { echo "$rows: status $?"; different=1; }
+    diff -U 0 "$rows" "$found" || different=1
+done
+exit "$different"
