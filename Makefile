@@ -23,7 +23,7 @@ jtape: proved-jtape
 	cp crates/jtape_main/out/jtape_main build/jtape
 
 jcheck: proved-simd_json
-	@sh scripts/prove.sh jcheck run $(cpu) -- ../../examples/nested-list.json
+	@nice sh scripts/prove.sh jcheck run $(cpu) -- $(CURDIR)/examples/nested-list.json
 	cp crates/jcheck/out/jcheck build/jcheck
 
 # It counts a document that is no object.
@@ -36,9 +36,12 @@ crates := $(shell sed -n 's/^\([a-z][a-z0-9_]*\).*:.*/\1/p' crates.txt)
 define proved
 .PHONY: proved-$(1)
 proved-$(1): has-rt $(patsubst %,proved-%,$(filter $(crates),$(shell sed -n 's/^$(1)\( [^:]*\)*: *//p' crates.txt)))
-	@sh scripts/prove.sh $(1) lib $(if $(filter simd_json_c simd_json_bench,$(1)),$(cpu))
+	@$$(nice) sh scripts/prove.sh $(1) lib $(if $(filter simd_json_c simd_json_bench,$(1)),$(cpu))
 endef
 $(foreach crate,$(crates),$(eval $(call proved,$(crate))))
+
+# All else waits longest for simd_json_stages, so these leave the processors to it.
+proved-simd_json_theorems proved-simd_json_print: private nice = nice
 
 # The library for programs in C, static and shared. Each needs nothing beside it but malloc, realloc, free, memcpy and memset:
 # the toolchain's heap is in it, and the exports alone are visible.
@@ -61,6 +64,7 @@ library: proved-simd_json_c
 # One check more runs at a time than `jobs`, since each also waits for files. Left to itself `rt ci` reserves 7.5 GB for a
 # check of `simd_json`, and lets it wait behind small ones.
 test: has-rt
+	rm -rf build/lane
 	RT_JOBS=$$(($(jobs) + 1)) rt ci
 	sh tests/rows.sh
 	sh tests/statuses.sh

@@ -1,23 +1,50 @@
 #!/bin/sh
-# prove.sh CRATE COMMAND..: runs a command of `rt` in the crate's folder, and prints a line when its proof begins, with its
-# number of functions, and one when it ends, with the time. Where there is nothing to prove it prints neither. All that `rt`
-# prints is in build/log/CRATE; where `rt` fails the end of that follows, and the status is 1.
+# prove.sh CRATE COMMAND..: runs a command of `rt` over a crate, and prints a line when its proof begins, with its number of
+# functions, and one when it ends, with the time. Where there is nothing to prove it prints neither. All that `rt` prints is in
+# build/log/CRATE; where `rt` fails the end of that follows, and the status is 1.
+#
+# `rt` locks a crate and those below it, so two that stand on one crate would wait for each other. So each is proved in a
+# folder of its own, with links to what is proved already; its own out/ is then moved to its place.
 set -u
 crate=$1
 shift
 cd "$(dirname "$0")/.." || exit 1
-mkdir -p build/log
+lane=$PWD/build/lane/$crate
 log=$PWD/build/log/$crate
 begin=$(date +%s)
-rm -f "$log.failed"
-cd "crates/$crate" || exit 1
-{ rt "$@" || touch "$log.failed"; } 2>&1 | tee "$log" |
+rm -rf "$lane" "$log.failed"
+mkdir -p build/log "$lane/crates"
+trap 'rm -rf "$lane"' EXIT
+trap 'exit 1' INT TERM
+
+# The crates that a crate stands on, those below before those above.
+below() (
+    for dep in $(sed -n "s/^$1\( [^:]*\)*: *//p" crates.txt); do
+        if [ -d "crates/$dep" ]; then
+            below "$dep"
+            echo "$dep"
+        fi
+    done
+)
+
+for name in $(below "$crate") "$crate"; do
+    [ ! -d "$lane/crates/$name" ] || continue
+    grep -E "^$name[ :]" crates.txt >> "$lane/crates.txt"
+    mkdir -p "$lane/crates/$name/out"
+    for part in src specs proofs out/rlib "out/$name" "out/$name.o" "out/lib$name.a"; do
+        [ ! -e "crates/$name/$part" ] || cp -al "crates/$name/$part" "$lane/crates/$name/$part"
+    done
+done
+
+{ (cd "$lane/crates/$crate" && rt "$@") || touch "$log.failed"; } 2>&1 | tee "$log" |
     sed -u -n "s/^so far: 0 of \([0-9]*\) functions.*/$crate: proving \1 functions/p"
 if [ -e "$log.failed" ]; then
     echo "$crate: not proved; the end of build/log/$crate:" >&2
     tail -n 20 "$log" >&2
     exit 1
 fi
+rm -rf "crates/$crate/out"
+mv "$lane/crates/$crate/out" "crates/$crate/out"
 if grep -q '^so far: 0 of' "$log"; then
     seconds=$(($(date +%s) - begin))
     echo "$crate: proved in $((seconds / 60)) min $((seconds % 60)) s"
