@@ -1,6 +1,6 @@
 # `make` proves and builds the programs and shows the first run, `make test` passes the gate, and `make help` lists the rest.
 # All need the toolchain's command `rt` on the PATH, and nothing else.
-.PHONY: all jtape jcheck library test bench vendor install install-library uninstall clean has-rt help build/log_report
+.PHONY: all jtape jcheck library test test-c bench vendor install install-library uninstall clean has-rt help build/log_report
 
 # The level that programs are built for: x86-64-v3 where this processor has what that asks for, else the toolchain's default.
 # A package for other machines is built with CPU=x86-64-v2.
@@ -59,8 +59,8 @@ library: proved-simd_json_c
 	cc -shared -o $(into)/libsimd_json.so $(parts)/simd_json.o -Wl,-soname,libsimd_json.so -Wl,-z,relro,-z,now,-s
 
 # Every proof from nothing, the must-fail edits, the tests and the programs. Its last line is 'N passed, M failed'. After it the
-# programs that it built are run on inputs of which the lines and the status are known, the counts of lines in DESIGN.md are
-# compared with the files, and the library is called from C and Python; all are silent where all is well.
+# programs that it built are run on the rows of tests/vectors and on inputs of which the lines and the status are known, and the
+# counts of lines in DESIGN.md are compared with the files; all are silent where all is well.
 # One check more runs at a time than `jobs`, since each also waits for files. Left to itself `rt ci` reserves 7.5 GB for a
 # check of `simd_json`, and lets it wait behind small ones.
 test: has-rt
@@ -70,6 +70,9 @@ test: has-rt
 	sh tests/statuses.sh
 	sh tests/places.sh
 	sh tests/counts.sh
+
+# The library, called from C and Python. It needs a C compiler besides.
+test-c: has-rt
 	MAKEFLAGS= sh tests/c.sh
 
 # Beside the parsers that are installed, over generated texts and FILES. SAVE=1 puts the results into docs/.
@@ -115,6 +118,7 @@ help:
 	@echo "make install PREFIX=DIR     installs programs, library and manual pages; make uninstall PREFIX=DIR removes them"
 	@echo "make vendor DIR=DIR         copies the library's crates into another repository"
 	@echo "make test                   the gate: all proofs from nothing, edits that must be rejected, tests, programs"
+	@echo "make test-c                 the library, called from C and Python"
 	@echo "make bench FILES=\"..\"     measures beside the other parsers that are installed"
 	@echo "make clean                  removes what was made"
 	@echo "CPU=x86-64-v2               builds for that level, and not for this machine ($(or $(CPU),x86-64-v2))"

@@ -18,8 +18,6 @@ mod print;
 mod sink;
 mod status;
 mod tape;
-#[cfg(test)]
-mod tests;
 
 pub use check::simd_json_check;
 pub use names::{simd_json_kind_name, simd_json_status_name};
