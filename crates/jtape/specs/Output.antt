@@ -1,5 +1,5 @@
 -- What the program writes and returns: a function of the mode, the depth limit and the input.
-use Rattle.std.specs.Prelude.{ℕ, List, [], ◌∷◌, ◌++◌, Bool, true, Result, Ok, Err}
+use Rattle.std.specs.Prelude.{ℕ, List, [], ◌∷◌, ◌++◌, Bool, true, Option, Some, None, Result, Ok, Err}
 use Rattle.jtape.specs.Lines.{lines, number_lines}
 use Rattle.jtape.specs.Pieces.{pieces, pieces_text, all_clean}
 use Rattle.jtape.specs.declared.runs.RunFault.{RunFault}
@@ -47,6 +47,17 @@ document_output layout depth input = output_of layout input (answer input depth)
 abbrev pub stream_output : ℕ → List ℕ → Output
 stream_output depth input = record { bytes = pieces_text depth (pieces input); returned = Ok (all_clean depth (pieces input)) }
 
+-- how the input is printed as one document; in no way where each of its lines is one
+abbrev pub layout_of : Mode → Option Layout
+layout_of modes.Tape = Some Tape
+layout_of modes.Positions = Some Positions
+layout_of modes.Compact = Some Compact
+layout_of modes.Pretty = Some Pretty
+layout_of modes.Lines = None
+
+abbrev pub output_in : Option Layout → ℕ → List ℕ → Output
+output_in (Some layout) depth input = document_output layout depth input
+output_in None depth input = stream_output depth input
+
 abbrev pub output : Mode → ℕ → List ℕ → Output
-output (modes.Document layout) depth input = document_output layout depth input
-output modes.Lines depth input = stream_output depth input
+output mode depth input = output_in (layout_of mode) depth input

@@ -3,17 +3,16 @@ use Rattle.std.specs.Prelude.{ℕ, ◌^◌, List, [], ◌∷◌, length, codes, 
 use Rattle.std.specs.Char.{is_ascii_digit}
 use Rattle.std.specs.List.{list_all}
 use Rattle.std.specs.Str.Parse.{digits_value}
-use Rattle.jtape.specs.declared.words.Layout.TheVariants.{Tape, Positions, Compact, Pretty}
 use Rattle.jtape.specs.declared.words.Mode.{Mode}
-use Rattle.jtape.specs.declared.words.Mode.TheVariants.{Document, Lines}
+use Rattle.jtape.specs.declared.words.Mode.TheVariants.{Tape, Positions, Compact, Pretty, Lines}
 use Rattle.simd_json.specs.MaxDepth.{default_max_depth}
 
 abbrev pub mode_of : List ℕ → Option Mode
 mode_of word =
-    if bytes_eq word (codes "tape") then Some (Document Tape)
-    else if bytes_eq word (codes "positions") then Some (Document Positions)
-    else if bytes_eq word (codes "compact") then Some (Document Compact)
-    else if bytes_eq word (codes "pretty") then Some (Document Pretty)
+    if bytes_eq word (codes "tape") then Some Tape
+    else if bytes_eq word (codes "positions") then Some Positions
+    else if bytes_eq word (codes "compact") then Some Compact
+    else if bytes_eq word (codes "pretty") then Some Pretty
     else if bytes_eq word (codes "lines") then Some Lines
     else None
 

@@ -5,12 +5,12 @@
 //! says which mode words ask for, and [`status`] which status a program ends with:
 //!
 //! ```
-//! use jtape::{Answer, Layout, Mode, Port, run};
+//! use jtape::{Answer, Mode, Port, run};
 //!
 //! fn compacted(rt: &impl AllocGlobal, json: &[u8]) -> (Answer, Vec<u8>) {
 //!     let mut reader = Port::new(json);
 //!     let mut writer = Port::new(Vec::new(rt.alloc()));
-//!     let answer = run(rt.alloc(), Mode::Document(Layout::Compact), 1024, &mut reader, &mut writer);
+//!     let answer = run(rt.alloc(), Mode::Compact, 1024, &mut reader, &mut writer);
 //!     (answer, writer.into_inner())
 //! }
 //! ```
@@ -22,6 +22,7 @@
 //! The program is a crate of its own, `jtape_main`, since a crate is either a library or a program.
 #![tactic(auto)]
 
+mod channel;
 mod lines;
 mod output;
 mod port;
@@ -30,7 +31,8 @@ mod runs;
 mod stream;
 mod words;
 
+pub use channel::Channel;
 pub use port::Port;
 pub use runs::{Answer, RunFault, run, status};
 pub use stream::is_blank;
-pub use words::{Layout, Mode, number_named, settings};
+pub use words::{Mode, number_named, settings};

@@ -9,8 +9,8 @@ ghost use Rattle.simd_json_parts.specs.Listing.{listing};
 ghost use Rattle.simd_json_parts.specs.Nodes.{item_of};
 ghost use Rattle.simd_json_parts.specs.Positions.{positions};
 
+use crate::channel::Channel;
 use crate::lines::put_lines;
-use crate::port::Port;
 use crate::positions::put_positions;
 use crate::runs::RunFault;
 use crate::words::Layout;
@@ -31,7 +31,7 @@ pub(crate) fn write_output<A: Allocator + Copy, W: Write>(
     layout: Layout,
     depth: usize,
     input: &mut [u8],
-    writer: &mut Port<W>,
+    writer: &mut Channel<W>,
 ) -> Result<(), RunFault>
     requires { writer.old.failed ≡ false }
     ensures all { OnOk result ((writer.new.failed ≡ false)
@@ -53,7 +53,7 @@ pub(crate) fn write_output<A: Allocator + Copy, W: Write>(
 // apart, since the parse is slower where both are compiled as one function.
 #[inline(never)]
 fn print<W: Write>(
-    writer: &mut Port<W>,
+    writer: &mut Channel<W>,
     layout: Layout,
     nodes: &[Node<'_>],
     structural_indexes: &[u32],
@@ -70,7 +70,7 @@ fn print<W: Write>(
     ensures sound { OnOk result (writer.new.failed ≡ false) }
     ensures fault { IfErr result (λ fault. (fault ≡ faults.Write) × (writer.new.failed ≡ true)) }
 {
-    let mut text = Text::<Port<W>, PIECE>::new(writer);
+    let mut text = Text::<Channel<W>, PIECE>::new(writer);
     match layout {
         Layout::Tape => put_lines(&mut text, nodes),
         Layout::Positions => put_positions(&mut text, structural_indexes),

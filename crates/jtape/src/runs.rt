@@ -7,6 +7,7 @@ ghost use Rattle.jtape.specs.Runs.{HasRead, HasRun, HasBegun, HasStopped, IsRead
 ghost use Rattle.jtape.specs.declared.runs.RunFault.TheVariants as faults;
 ghost use Rattle.jtape.specs.declared.words.Mode.TheVariants as modes;
 
+use crate::channel::Channel;
 use crate::output::write_output;
 use crate::port::Port;
 use crate::stream::write_stream;
@@ -98,12 +99,12 @@ pub fn status(answer: &Answer) -> u8
 /// the text of all pieces before it was written, and nothing else.
 ///
 /// ```
-/// use jtape::{Layout, Mode, Port, run, status};
+/// use jtape::{Mode, Port, run, status};
 ///
 /// fn pretty(rt: &impl AllocGlobal, json: &[u8]) -> (u8, Vec<u8>) {
 ///     let mut reader = Port::new(json);
 ///     let mut writer = Port::new(Vec::new(rt.alloc()));
-///     let answer = run(rt.alloc(), Mode::Document(Layout::Pretty), 1024, &mut reader, &mut writer);
+///     let answer = run(rt.alloc(), Mode::Pretty, 1024, &mut reader, &mut writer);
 ///     (status(&answer), writer.into_inner())
 /// }
 /// ```
@@ -133,13 +134,13 @@ pub fn run<A: Allocator + Copy, R: Read, W: Write>(
     ensures read { (result ≡ Err faults.Read) ↔ (reader.new.failed ≡ true) }
     ensures write { (result ≡ Err faults.Write) ↔ (writer.new.failed ≡ true) }
 {
-    let mut input = read_all(a, reader)?;
-    match mode {
-        Mode::Document(layout) => {
-            write_output(a, layout, depth, input.as_mut_slice(), writer)?;
+    let mut input = read_all(a, &mut reader.channel)?;
+    match mode.layout() {
+        Some(layout) => {
+            write_output(a, layout, depth, input.as_mut_slice(), &mut writer.channel)?;
             Ok(true)
         }
-        Mode::Lines => write_stream(a, depth, input.as_mut_slice(), writer),
+        None => write_stream(a, depth, input.as_mut_slice(), &mut writer.channel),
     }
 }
 
@@ -151,7 +152,7 @@ const BLOCK: usize = 16_384;
 const MORE: usize = 262_144;
 
 // Reads to the reader's end.
-fn read_all<R: Read, A: Allocator>(a: A, reader: &mut Port<R>) -> Result<Vec<u8, A>>
+fn read_all<R: Read, A: Allocator>(a: A, reader: &mut Channel<R>) -> Result<Vec<u8, A>>
     requires sound { reader.old.failed ≡ false }
     requires going { reader.old.ended ≡ false }
     ensures all { IfOk result (λ input.
@@ -167,7 +168,7 @@ fn read_all<R: Read, A: Allocator>(a: A, reader: &mut Port<R>) -> Result<Vec<u8,
 
 // Reads at most one block more after the input so far. Returns whether the reader may have more.
 fn read_more<R: Read, A: Allocator>(
-    reader: &mut Port<R>,
+    reader: &mut Channel<R>,
     block: &mut [u8],
     input: &mut Vec<u8, A>,
 ) -> Result<bool>

@@ -13,8 +13,8 @@ ghost use Rattle.simd_json_parts.specs.Bytes.{line_feed};
 ghost use Rattle.simd_json_parts.specs.declared.error.ErrorType.TheVariants as errors;
 ghost use Rattle.simd_json_print.specs.Texts.{Adds};
 
+use crate::channel::Channel;
 use crate::output::PIECE;
-use crate::port::Port;
 use crate::runs::RunFault;
 use memchr::memchr;
 use simd_json::{Buffers, Error, ErrorType, Tape, fill_tape};
@@ -29,7 +29,7 @@ pub(crate) fn write_stream<A: Allocator + Copy, W: Write>(
     a: A,
     depth: usize,
     input: &mut [u8],
-    writer: &mut Port<W>,
+    writer: &mut Channel<W>,
 ) -> Result<bool, RunFault>
     requires { writer.old.failed ≡ false }
     ensures returned { OnOk result (result ≡ (stream_output depth input.old).returned) }
@@ -39,7 +39,7 @@ pub(crate) fn write_stream<A: Allocator + Copy, W: Write>(
     ensures fault { IfErr result (λ fault. StopsWithin fault writer.new.failed
         (W.contents writer.old.inner) (W.contents writer.new.inner) depth input.old) }
 {
-    let mut text = Text::<Port<W>, PIECE>::new(writer);
+    let mut text = Text::<Channel<W>, PIECE>::new(writer);
     let put = put_stream(a, depth, input, &mut text);
     match text.finish() {
         Ok(()) => put,

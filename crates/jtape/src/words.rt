@@ -2,31 +2,49 @@
 ghost use Rattle.std.specs.Prelude.{◌≡◌, map, string_bytes};
 ghost use Rattle.std.specs.Char.{is_ascii_digit};
 ghost use Rattle.std.specs.List.{list_all};
+ghost use Rattle.jtape.specs.Output.{layout_of};
 ghost use Rattle.jtape.specs.Settings.{mode_of, number_of, settings_of};
 
 use simd_json::DEFAULT_MAX_DEPTH;
 
-/// What is printed of a document.
+/// What is printed, and of what: of the input as one document, or in mode `Lines` of each of its lines.
 #[derive(Clone, Copy, Debug, Drop, PartialEq, Eq)]
-pub enum Layout {
+pub enum Mode {
     /// A line for each node of the tape.
     Tape,
-    /// A line for each structural position, in decimal.
+    /// A line for each structural index, in decimal.
     Positions,
     /// The document without whitespace between tokens, and a line feed.
     Compact,
     /// The document with a line for each member, and a line feed.
     Pretty,
+    /// For each line that is not blank its document as by `Compact`, or a line that begins with `! ` and says
+    /// its error.
+    Lines,
 }
 
-/// What the input is read as, and what is printed.
+// How one document is printed.
 #[derive(Clone, Copy, Debug, Drop, PartialEq, Eq)]
-pub enum Mode {
-    /// One document, in this layout.
-    Document(Layout),
-    /// For each piece between line feeds that is not blank its document as by `Compact`, or a line that
-    /// begins with `! ` and says its error.
-    Lines,
+pub(crate) enum Layout {
+    Tape,
+    Positions,
+    Compact,
+    Pretty,
+}
+
+impl Mode {
+    // How the input is printed as one document. `None` where each of its lines is a document.
+    pub(crate) fn layout(self) -> Option<Layout>
+        ensures { result ≡ layout_of self }
+    {
+        match self {
+            Mode::Tape => Some(Layout::Tape),
+            Mode::Positions => Some(Layout::Positions),
+            Mode::Compact => Some(Layout::Compact),
+            Mode::Pretty => Some(Layout::Pretty),
+            Mode::Lines => None,
+        }
+    }
 }
 
 /// What the words after the program's name ask for: a mode, which is `tape`, `positions`, `compact`, `pretty`
@@ -46,10 +64,10 @@ fn mode_named(word: &str) -> Option<Mode>
     ensures { result ≡ mode_of word.now }
 {
     match word {
-        "tape" => Some(Mode::Document(Layout::Tape)),
-        "positions" => Some(Mode::Document(Layout::Positions)),
-        "compact" => Some(Mode::Document(Layout::Compact)),
-        "pretty" => Some(Mode::Document(Layout::Pretty)),
+        "tape" => Some(Mode::Tape),
+        "positions" => Some(Mode::Positions),
+        "compact" => Some(Mode::Compact),
+        "pretty" => Some(Mode::Pretty),
         "lines" => Some(Mode::Lines),
         _ => None,
     }

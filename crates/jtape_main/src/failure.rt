@@ -69,7 +69,6 @@ pub fn exit_status(ended: Result<bool, Failure>) -> u8
 #[cfg(test)]
 mod tests {
     use super::*;
-    use jtape::Layout;
     use simd_json::{Error, ErrorType};
     use std::test::Fail;
 
@@ -101,14 +100,8 @@ mod tests {
     #[test]
     fn arguments_are_understood(rt: HostRuntime) -> std::result::Result<(), Fail> {
         let rows: [(&[&str], Option<(Mode, usize)>); 5] = [
-            (
-                &["jtape", "tape"],
-                Some((Mode::Document(Layout::Tape), 1024)),
-            ),
-            (
-                &["jtape", "tape", "7"],
-                Some((Mode::Document(Layout::Tape), 7)),
-            ),
+            (&["jtape", "tape"], Some((Mode::Tape, 1024))),
+            (&["jtape", "tape", "7"], Some((Mode::Tape, 7))),
             (&["jtape", "tape", "7", "8"], None),
             (&["tape"], None),
             (&[], None),

@@ -1,5 +1,5 @@
 //! By what they test.
-use jtape::{Answer, Layout, Mode, Port, run};
+use jtape::{Answer, Mode, Port, run};
 use simd_json::DEFAULT_MAX_DEPTH;
 use std::alloc::Allocator;
 use std::fmt::Debug;
@@ -35,17 +35,15 @@ mod words;
 
 type Tested = std::result::Result<(), Fail>;
 
-const TAPE: Mode = Mode::Document(Layout::Tape);
+const OF_DOCUMENTS: [Mode; 4] = [Mode::Tape, Mode::Positions, Mode::Compact, Mode::Pretty];
 
-const POSITIONS: Mode = Mode::Document(Layout::Positions);
-
-const COMPACT: Mode = Mode::Document(Layout::Compact);
-
-const PRETTY: Mode = Mode::Document(Layout::Pretty);
-
-const OF_DOCUMENTS: [Mode; 4] = [TAPE, POSITIONS, COMPACT, PRETTY];
-
-const ALL: [Mode; 5] = [TAPE, POSITIONS, COMPACT, PRETTY, Mode::Lines];
+const ALL: [Mode; 5] = [
+    Mode::Tape,
+    Mode::Positions,
+    Mode::Compact,
+    Mode::Pretty,
+    Mode::Lines,
+];
 
 fn same<T: PartialEq + Debug + Drop>(rt: &impl Abort, what: &str, found: T, wanted: T) {
     assert_eq!(rt; found, wanted, "{what}");

@@ -10,7 +10,7 @@ use Rattle.simd_json_print.proofs.Texts.{appends-then}
 use Rattle.log_report.specs.Report.{Report, next, refusal_line, with_answer, with_line, with_refusal}
 use Rattle.log_report.specs.Runs.{Adds, IsRefused, Shows}
 use Rattle.log_report.specs.Table.{counted, one_more, refused}
-use Rattle.jtape.specs.declared.port.Port.{Port}
+use Rattle.jtape.specs.Ports.{Watched}
 use Rattle.simd_json.specs.Capacities.{Capacities}
 use Rattle.simd_json.specs.Reserved.{IsReserved}
 use Rattle.simd_json.specs.Tapes.{Listed}
@@ -82,7 +82,7 @@ pub added-over : {A : Type 0} (old new : Lines A) (tape : Listed) (text : List �
 added-over {A} old new tape text more h = record
     { counts = h.counts; same = ap {A = Lines A} (λ (l : Lines A). record l { tape = tape }) h.same }
 
-pub shows-refused : {A E : Type 0} (naming : E → Option (List ℕ)) (old new : Lines A) (refusals refuses : Port E) (held : Option (List ℕ))
+pub shows-refused : {A E : Type 0} (naming : E → Option (List ℕ)) (old new : Lines A) (refusals refuses : Watched E) (held : Option (List ℕ))
     (key : List ℕ) (longest : ℕ) (r : Report)
     (error : Option Error) → Shows old held (naming refusals.inner) key longest r → IsRefused naming old new refusals refuses error
     → Shows new held (naming refuses.inner) key longest (with_refusal longest r error)
@@ -100,7 +100,7 @@ shows-refused naming old new refusals refuses held key longest r error shown h =
       (subst (λ n. Appends (naming refusals.inner) (naming refuses.inner) (refusal_line old.longest n error)) shown.number h.named));
 }
 
-pub refused-over : {A E : Type 0} (naming : E → Option (List ℕ)) (old new : Lines A) (tape : Listed) (refusals refuses : Port E)
+pub refused-over : {A E : Type 0} (naming : E → Option (List ℕ)) (old new : Lines A) (tape : Listed) (refusals refuses : Watched E)
     (error : Option Error)
     → IsRefused naming old new refusals refuses error → IsRefused naming (record old { tape = tape }) (record new { tape = tape })
     refusals refuses error

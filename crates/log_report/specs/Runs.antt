@@ -2,7 +2,7 @@
 use Rattle.std.specs.Prelude.{◌≡◌, ◌↔◌, ◌||◌, ◌+◌, ◌++◌, ℕ, List, [], ◌∷◌, take, map, Bool, true, false, ◌==◌, Option, option_map, OnOk}
 use Rattle.std.specs.Prelude.{Result, Ok, Err, MatchResult, Vec, if◌then◌else◌}
 use Rattle.std.specs.Io.KnownBytes.{Appends, Consumes, IsAtEnd, Keeps}
-use Rattle.jtape.specs.declared.port.Port.{Port}
+use Rattle.jtape.specs.Ports.{Watched}
 use Rattle.simd_json.specs.MaxDepth.{default_max_depth}
 use Rattle.simd_json.specs.Reserved.{IsReserved}
 use Rattle.simd_json_parts.specs.declared.error.Error.{Error}
@@ -30,7 +30,7 @@ pub record HasRun (key : List ℕ) (longest : ℕ) (before after held holds name
 -- reader did, writing exactly where one of the writers did; where reading failed no byte of the report was written.
 pub record Reports {R W E : Type 0} (remaining : R → Option (List ℕ)) (written : W → Option (List ℕ)) (naming : E → Option (List ℕ))
     (key : List ℕ) (longest : ℕ)
-    (reader reads : Port R) (report reports : Port W) (refusals refuses : Port E) (result : Result Bool Failure) : Type 0 where
+    (reader reads : Watched R) (report reports : Watched W) (refusals refuses : Watched E) (result : Result Bool Failure) : Type 0 where
   pub run : OnOk result (HasRun key longest (remaining reader.inner) (remaining reads.inner) (written report.inner) (written reports.inner)
       (naming refusals.inner) (naming refuses.inner) result)
   pub read : (result ≡ Err Read) ↔ (reads.failed ≡ true)
@@ -45,7 +45,7 @@ fault_of true = Write
 fault_of false = Resources
 
 -- of such a call: P, and the port has not failed; or a failure
-abbrev pub Ends : {T : Type 0} → Port T → Port T → Type 0 → Result Unit Failure → Type 0
+abbrev pub Ends : {T : Type 0} → Watched T → Watched T → Type 0 → Result Unit Failure → Type 0
 Ends old new P result =
     old.failed ≡ false → MatchResult result (λ _. (new.failed ≡ false) × P) (λ failure. failure ≡ fault_of new.failed)
 
@@ -65,11 +65,11 @@ abbrev pub AddsValue : {A : Type 0} → Lines A → Lines A → Option Value →
 AddsValue old new value = Adds old new (value_label (option_map doc value)) 1
 
 -- of a writer of what is known: the report is written
-abbrev pub Prints : {A W : Type 0} → (W → Option (List ℕ)) → Lines A → Port W → Port W → Type 0
+abbrev pub Prints : {A W : Type 0} → (W → Option (List ℕ)) → Lines A → Watched W → Watched W → Type 0
 Prints written lines out outs = Appends (written out.inner) (written outs.inner) (report_text (counts_of lines))
 
 -- of a writer of what is known: the last line counts as refused, and is named
-pub record IsRefused {A E : Type 0} (naming : E → Option (List ℕ)) (old new : Lines A) (refusals refuses : Port E)
+pub record IsRefused {A E : Type 0} (naming : E → Option (List ℕ)) (old new : Lines A) (refusals refuses : Watched E)
     (error : Option Error) : Type 0 where
   pub counts : counts_of new ≡ counted 1 refused (counts_of old)
   pub same : new ≡ record old { all_taken = false; counts = new.counts }
@@ -91,7 +91,7 @@ abbrev pub IsStart : {A : Type 0} → List ℕ → ℕ → Lines A → Type 0
 IsStart key longest lines = (held : Option (List ℕ)) → Shows lines held held key longest no_line
 
 -- any report that was shown has become that with this line
-abbrev pub TakesLine : {A E : Type 0} → (E → Option (List ℕ)) → Lines A → Lines A → Port E → Port E → List ℕ → Type 0
+abbrev pub TakesLine : {A E : Type 0} → (E → Option (List ℕ)) → Lines A → Lines A → Watched E → Watched E → List ℕ → Type 0
 TakesLine naming old new refusals refuses line =
     (held : Option (List ℕ)) (key : List ℕ) (longest : ℕ) (r : Report)
     → Shows old held (naming refusals.inner) key longest r → Shows new held (naming refuses.inner) key longest
@@ -114,7 +114,7 @@ pub record IsAt {A : Type 0} (lines : Lines A) (kept : List ℕ) (held holds : O
   pub line : kept ≡ take (longest + 1) s.1
 
 -- any report, and the line that has begun, have become those after this block
-abbrev pub After : {A E : Type 0} → (E → Option (List ℕ)) → Lines A → Lines A → Port E → Port E → List ℕ → List ℕ → List ℕ → Type 0
+abbrev pub After : {A E : Type 0} → (E → Option (List ℕ)) → Lines A → Lines A → Watched E → Watched E → List ℕ → List ℕ → List ℕ → Type 0
 After naming old new refusals refuses line kept block =
     (held : Option (List ℕ)) (key : List ℕ) (longest : ℕ) (s : State)
     → IsAt old line held (naming refusals.inner) key longest s → IsAt new kept held (naming refuses.inner) key longest

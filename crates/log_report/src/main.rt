@@ -10,7 +10,7 @@ ghost use Rattle.log_report.specs.Runs.{Adds, AddsValue, After, Ends, IsRefused,
 use arrayvec::ArrayVec;
 use bumpalo::Bump;
 use indexmap::IndexMap;
-use jtape::{Port, is_blank, number_named};
+use jtape::{Channel, is_blank, number_named};
 use simd_json::tape::Value;
 use simd_json::{Buffers, Error, StaticNode, Tape, refill_tape, reserve};
 use simd_json_print::text::Text;
@@ -52,8 +52,8 @@ fn program(rt: &HostRuntime) -> Result<bool, Failure> {
     let words = std::env::args(rt).map_err(|_| Failure::Usage)?;
     let words: Vec<String> = words.collect(rt.alloc()).map_err(|_| Failure::Usage)?;
     let (key, longest) = settings(words.as_slice()).ok_or(Failure::Usage)?;
-    let (mut input, mut out) = (Port::new(rt.reader()), Port::new(io::writer(rt)));
-    let mut err = Port::new(rt.stderr());
+    let (mut input, mut out) = (Channel::new(rt.reader()), Channel::new(io::writer(rt)));
+    let mut err = Channel::new(rt.stderr());
     run(rt.alloc(), key, longest, &mut input, &mut out, &mut err)
 }
 
@@ -92,9 +92,9 @@ fn run<A: Allocator + Copy, R: Read, W: Write, E: Write>(
     a: A,
     key: &str,
     longest: usize,
-    reader: &mut Port<R>,
-    report: &mut Port<W>,
-    refusals: &mut Port<E>,
+    reader: &mut Channel<R>,
+    report: &mut Channel<W>,
+    refusals: &mut Channel<E>,
 ) -> Result<bool, Failure>
     requires reader { reader.old.failed ≡ false }
     requires report { report.old.failed ≡ false }
@@ -154,7 +154,7 @@ impl<'k, A: Allocator + Copy> Lines<'k, A> {
     }
 
     // Counts the lines that end in the block, and keeps the one that begins, up to one byte more than it may have.
-    fn take<E: Write>(&mut self, block: &[u8], line: &mut Vec<u8, A>, err: &mut Port<E>) -> Ended
+    fn take<E: Write>(&mut self, block: &[u8], line: &mut Vec<u8, A>, err: &mut Channel<E>) -> Ended
         ensures { Ends err.old err.new (After E.contents self.old self.new err.old err.new
             line.old.items line.new.items block.now) result }
     {
@@ -173,7 +173,7 @@ impl<'k, A: Allocator + Copy> Lines<'k, A> {
     }
 
     // Counts a line. Of one that is too long, its first bytes are enough, one more than it may have.
-    fn count<E: Write>(&mut self, line: &mut [u8], err: &mut Port<E>) -> Ended
+    fn count<E: Write>(&mut self, line: &mut [u8], err: &mut Channel<E>) -> Ended
         ensures { Ends err.old err.new (TakesLine E.contents self.old self.new err.old err.new line.old) result }
     {
         self.number = self.number.saturating_add(1);
@@ -193,7 +193,7 @@ impl<'k, A: Allocator + Copy> Lines<'k, A> {
     }
 
     // Counts the last line as refused, and names it. Without an error it is too long.
-    fn refuse<E: Write>(&mut self, error: Option<Error>, err: &mut Port<E>) -> Ended
+    fn refuse<E: Write>(&mut self, error: Option<Error>, err: &mut Channel<E>) -> Ended
         ensures { Ends err.old err.new (IsRefused E.contents self.old self.new err.old err.new error) result }
     {
         self.all_taken = false;
@@ -205,7 +205,7 @@ impl<'k, A: Allocator + Copy> Lines<'k, A> {
             None => writeln!(line, "line {number}: longer than {longest} bytes"),
         };
         named.map_err(|_| Failure::Resources)?;
-        let mut text = Text::<Port<E>, 256>::new(err);
+        let mut text = Text::<Channel<E>, 256>::new(err);
         text.put(line.as_slice());
         text.finish().map_err(|_| Failure::Write)
     }
@@ -241,12 +241,12 @@ impl<'k, A: Allocator + Copy> Lines<'k, A> {
     }
 
     // Writes a line for each text under which lines count, the greatest count first.
-    fn write<W: Write>(&mut self, out: &mut Port<W>) -> Ended
+    fn write<W: Write>(&mut self, out: &mut Channel<W>) -> Ended
         ensures printed { Ends out.old out.new (Prints W.contents self.old out.old out.new) result }
         ensures taken { self.new.all_taken ≡ self.old.all_taken }
     {
         self.counts.sort_by(|_, count, _, other| other.cmp(count))?;
-        let mut text = Text::<Port<W>, 4096>::new(out);
+        let mut text = Text::<Channel<W>, 4096>::new(out);
         for (label, count) in self.counts.iter() {
             if *count > 0 {
                 text.put_static(b"", StaticNode::U64(*count), b" ");

@@ -1,6 +1,6 @@
 // How many containers may be open at a time.
-use crate::tests::{TAPE, Tested, run_over};
-use jtape::status;
+use crate::tests::{Tested, run_over};
+use jtape::{Mode, status};
 use simd_json::DEFAULT_MAX_DEPTH;
 use std::test::Fail;
 
@@ -15,13 +15,13 @@ fn nested(rt: &impl AllocGlobal, depth: usize) -> std::result::Result<Vec<u8>, F
 #[test]
 fn depth_is_limited(rt: HostRuntime) -> Tested {
     let input = nested(&rt, 1024)?;
-    let shallow = run_over(&rt, TAPE, DEFAULT_MAX_DEPTH, input.as_slice());
+    let shallow = run_over(&rt, Mode::Tape, DEFAULT_MAX_DEPTH, input.as_slice());
     assert_same!(&rt; status(&shallow.answer), 0);
     let written = shallow.writer.into_inner();
     assert_that!(&rt; written.starts_with(b"Array 1 1023\nArray 1 1022\n"));
     for depth in [1025, 1_000_000] {
         let input = nested(&rt, depth)?;
-        let deep = run_over(&rt, TAPE, DEFAULT_MAX_DEPTH, input.as_slice());
+        let deep = run_over(&rt, Mode::Tape, DEFAULT_MAX_DEPTH, input.as_slice());
         assert_same!(&rt; status(&deep.answer), 1);
         assert_same!(&rt; deep.writer.into_inner().len(), 0);
     }
@@ -31,7 +31,7 @@ fn depth_is_limited(rt: HostRuntime) -> Tested {
 #[test]
 fn depth_is_as_asked(rt: HostRuntime) -> Tested {
     let input = nested(&rt, 1025)?;
-    let deep = run_over(&rt, TAPE, 1025, input.as_slice());
+    let deep = run_over(&rt, Mode::Tape, 1025, input.as_slice());
     assert_same!(&rt; status(&deep.answer), 0);
     Ok(())
 }

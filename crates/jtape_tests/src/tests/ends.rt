@@ -1,7 +1,5 @@
 // Readers and writers that fail, in each mode.
-use crate::tests::{
-    ALL, COMPACT, OF_DOCUMENTS, POSITIONS, PRETTY, Ran, TAPE, Tested, run_from, run_over,
-};
+use crate::tests::{ALL, OF_DOCUMENTS, Ran, Tested, run_from, run_over};
 use jtape::{Mode, RunFault, status};
 use simd_json::DEFAULT_MAX_DEPTH;
 use std::io::{self, Read, Write};
@@ -158,10 +156,10 @@ fn assert_begun(
 #[test]
 fn failing_writers_are_reported(rt: HostRuntime) {
     let rows: [(Mode, &[u8]); 5] = [
-        (TAPE, b"Array 2 2\nU64 1\nU64 2\n"),
-        (POSITIONS, b"0\n1\n2\n3\n4\n"),
-        (COMPACT, b"[1,2]\n"),
-        (PRETTY, b"[\n  1,\n  2\n]\n"),
+        (Mode::Tape, b"Array 2 2\nU64 1\nU64 2\n"),
+        (Mode::Positions, b"0\n1\n2\n3\n4\n"),
+        (Mode::Compact, b"[1,2]\n"),
+        (Mode::Pretty, b"[\n  1,\n  2\n]\n"),
         (Mode::Lines, b"[1,2]\n"),
     ];
     for (mode, output) in rows {
@@ -234,7 +232,7 @@ fn a_megabyte_is_written_of_more(rt: HostRuntime) -> Tested {
     let mut input = Vec::from_slice(rt.alloc(), b"\"")?;
     input.resize(1_200_000, b'a')?;
     input.push(b'"')?;
-    for mode in [TAPE, COMPACT, PRETTY, Mode::Lines] {
+    for mode in [Mode::Tape, Mode::Compact, Mode::Pretty, Mode::Lines] {
         let ran = run_into(&rt, mode, input.as_slice(), 1_000_000);
         assert_same!(&rt; ran.answer, Err(RunFault::Write));
         assert_that!(&rt; ran.writer.failed() && !ran.reader.failed());

@@ -1,6 +1,6 @@
 // Allocations that are refused: each heap is larger than the one before it, so that another one fails, and then none.
 use crate::tests::ends::Slow;
-use crate::tests::{COMPACT, POSITIONS, PRETTY, Ran, TAPE, Tested, run_from};
+use crate::tests::{Ran, Tested, run_from};
 use jtape::{Mode, RunFault};
 use linked_list_allocator::LocalHeap;
 use simd_json::{DEFAULT_MAX_DEPTH, Error, ErrorType};
@@ -14,14 +14,14 @@ const LONG: &[u8] = b"[1,\"\\n\",[2,3,4],5,6,7,8,9,10,11,12,13,14,15,16,1.5]";
 fn each_growth_is_refused(rt: HostRuntime) -> Tested {
     let rows: [(Mode, &[u8], &[u8]); 4] = [
         (
-            TAPE,
+            Mode::Tape,
             b"Array 16 19\nU64 1\nString \"\\n\"\nArray 3 3\nU64 2\n",
             b"U64 16\nDecimal 1.5\n",
         ),
-        (POSITIONS, b"0\n1\n2\n3\n7\n8\n9\n", b"\n46\n47\n50\n"),
-        (COMPACT, LONG, b",16,1.5]\n"),
+        (Mode::Positions, b"0\n1\n2\n3\n7\n8\n9\n", b"\n46\n47\n50\n"),
+        (Mode::Compact, LONG, b",16,1.5]\n"),
         (
-            PRETTY,
+            Mode::Pretty,
             b"[\n  1,\n  \"\\n\",\n  [\n    2,\n    3,\n    4\n  ],\n  5,\n",
             b"\n  16,\n  1.5\n]\n",
         ),
@@ -99,7 +99,13 @@ fn lists_that_cannot_grow_hold_a_beginning(rt: HostRuntime) -> Tested {
     for units in 0..20usize {
         let heap = LocalHeap::new(rt.alloc(), 96 + units * 40_000)?;
         let held = Vec::from_slice(&heap, b"so far\n")?;
-        let ran = run_from(rt.alloc(), TAPE, DEFAULT_MAX_DEPTH, input.as_slice(), held);
+        let ran = run_from(
+            rt.alloc(),
+            Mode::Tape,
+            DEFAULT_MAX_DEPTH,
+            input.as_slice(),
+            held,
+        );
         let out = ran.writer.into_inner();
         if ran.answer.is_ok() {
             assert_same!(&rt; out.as_slice(), lines.as_slice());

@@ -1,7 +1,7 @@
 // Inputs of which it is known what a run over them returns and writes. In the texts control pictures stand for control
 // characters, as `␊` for a line feed. A loop over the lines of a text is proved in far less time than an array of as many
 // rows.
-use crate::tests::{ALL, COMPACT, OF_DOCUMENTS, POSITIONS, PRETTY, TAPE, Tested, run_over};
+use crate::tests::{ALL, OF_DOCUMENTS, Tested, run_over};
 use jtape::{Mode, status};
 use std::alloc::{AllocError, Global};
 use std::process::Abort;
@@ -92,10 +92,10 @@ const REFUSED: &str = r#"0 @ [] @ DepthLimitExceeded at character 0 ('[')
 
 fn mode_named(rt: &impl Abort, word: &str) -> Mode {
     match word {
-        "tape" => TAPE,
-        "positions" => POSITIONS,
-        "compact" => COMPACT,
-        "pretty" => PRETTY,
+        "tape" => Mode::Tape,
+        "positions" => Mode::Positions,
+        "compact" => Mode::Compact,
+        "pretty" => Mode::Pretty,
         "lines" => Mode::Lines,
         _ => panic!(rt; "{word} is no mode"),
     }

@@ -58,74 +58,148 @@ fn pieces_have_each_length(rt: HostRuntime) -> Tested {
     Ok(())
 }
 
-fn repeated(
-    rt: &impl AllocGlobal,
-    times: usize,
-    piece: &[u8],
-) -> std::result::Result<Vec<u8>, Fail> {
-    let mut all = Vec::new(rt.alloc());
-    for _ in 0..times {
-        all.extend_from_slice(piece)?;
+// A piece, and what is written of it.
+type Piece = (&'static str, &'static str);
+
+// Of these later pieces mostly need more than earlier ones, and of those below the last one does: structural indexes, nodes, open
+// containers, blocks with a backslash, and the line of an error.
+const GROWING: &[Piece] = &[
+    ("[1]", "[1]\n"),
+    ("\"\\n\"", "\"\\n\"\n"),
+    ("[1,]", "! InternalError at character 3 (']')\n"),
+    ("[1,2,3,4,5,6,7,8,9]", "[1,2,3,4,5,6,7,8,9]\n"),
+    ("", ""),
+    (
+        "[[1],[2],[3],[[[[[[4]]]]]],5,6,7,8]",
+        "[[1],[2],[3],[[[[[[4]]]]]],5,6,7,8]\n",
+    ),
+    (LONG, LONG_LINE),
+];
+
+const LONG: &str = "[1,2,3,4,5,6,7,8,9,10,11,12,13,14,15,16,17,18,19,20,21]";
+
+const LONG_LINE: &str = "[1,2,3,4,5,6,7,8,9,10,11,12,13,14,15,16,17,18,19,20,21]\n";
+
+const ONE_LONG: &[Piece] = &[(LONG, LONG_LINE)];
+
+const LAST_IS_LONG: &[Piece] = &[("1", "1\n"), (" 2", "2\n"), ("", ""), (LONG, LONG_LINE)];
+
+const LAST_IS_DEEP: &[Piece] = &[
+    ("[1]", "[1]\n"),
+    ("[[[[[[[[[[[[7]]]]]]]]]]]]", "[[[[[[[[[[[[7]]]]]]]]]]]]\n"),
+];
+
+const LAST_HAS_AN_ERROR: &[Piece] = &[("1", "1\n"), ("\"", "! Syntax at character 0\n")];
+
+const LAST_HAS_A_LONGER_ERROR: &[Piece] = &[
+    ("\"", "! Syntax at character 0\n"),
+    ("{\"a\":1,}", "! ExpectedObjectKey at character 7 ('}')\n"),
+];
+
+const LAST_AFTER_ERRORS: &[Piece] = &[
+    ("[1,]", "! InternalError at character 3 (']')\n"),
+    ("01", "! InvalidNumber at character 1 ('1')\n"),
+    (LONG, LONG_LINE),
+];
+
+const LAST_HAS_ESCAPES: &[Piece] = &[
+    ("\"a\"", "\"a\"\n"),
+    (
+        "\"\\na-string-of-more-than-two-blocks-of-bytes-with-a-backslash-in-each-of-them\\n-and-another-that-is-here-and-ends\\n\"",
+        "\"\\na-string-of-more-than-two-blocks-of-bytes-with-a-backslash-in-each-of-them\\n-and-another-that-is-here-and-ends\\n\"\n",
+    ),
+];
+
+// A run over the first of these pieces, and whether it had memory for them. Blank lines follow, so that the input has as
+// many bytes as all pieces.
+fn run_first(
+    rt: &(impl AllocGlobal + Abort),
+    bytes: usize,
+    pieces: &[Piece],
+    count: usize,
+) -> std::result::Result<(bool, Vec<u8>), Fail> {
+    let mut input = Vec::new(rt.alloc());
+    for (i, (piece, _)) in pieces.iter().enumerate() {
+        let end = input.len().saturating_add(piece.len());
+        if i < count {
+            input.extend_from_slice(piece.as_bytes())?;
+        }
+        input.resize(end, b'\n')?;
+        input.push(b'\n')?;
     }
-    Ok(all)
+    let heap = LocalHeap::new(rt.alloc(), bytes)?;
+    let ran = run_from(
+        &heap,
+        Mode::Lines,
+        16,
+        input.as_slice(),
+        Vec::new(rt.alloc()),
+    );
+    assert_that!(rt; !ran.reader.failed() && !ran.writer.failed());
+    let memory = Error::generic(ErrorType::OutOfMemory);
+    let has_memory = ran.answer.is_ok();
+    assert_that!(rt; has_memory || ran.answer == Err(RunFault::Refused(memory)));
+    Ok((has_memory, ran.writer.into_inner()))
 }
 
-// Ten short lines, and then one that has memory for its bytes and none for its nodes: ten lines are written.
-#[test]
-fn lines_before_one_that_lacks_memory_are_written(rt: HostRuntime) -> Tested {
-    let mut input = repeated(&rt, 10, b"[ 1 ]\n")?;
-    input.extend_from_slice(b"[2")?;
-    input.extend_from_slice(repeated(&rt, 400, b",2")?.as_slice())?;
-    input.extend_from_slice(b"]\n3\n")?;
-    let short = repeated(&rt, 10, b"[1]\n")?;
-    for size in [8_000usize, 12_000, 16_000] {
-        let heap = LocalHeap::new(rt.alloc(), size)?;
-        let writer = Vec::new(rt.alloc());
-        let ran = run_from(&heap, Mode::Lines, 8, input.as_slice(), writer);
-        let memory = Error::generic(ErrorType::OutOfMemory);
-        assert_same!(&rt; ran.answer, Err(RunFault::Refused(memory)));
-        assert_same!(&rt; ran.writer.into_inner().as_slice(), short.as_slice());
+// For how many of the pieces from the front a heap of so many bytes has memory. `None` where it has none for the input.
+fn count_with_memory(
+    rt: &(impl AllocGlobal + Abort),
+    bytes: usize,
+    pieces: &[Piece],
+) -> std::result::Result<Option<usize>, Fail> {
+    let mut found = None;
+    for count in 0..=pieces.len() {
+        let (has_memory, _) = run_first(rt, bytes, pieces, count)?;
+        if !has_memory {
+            break;
+        }
+        found = Some(count);
     }
-    Ok(())
+    Ok(found)
 }
 
-// Later pieces need more of each list than earlier ones.
-const GROWING: &[u8] = b"[1]\n\"\\n\"\n[1,]\n[1,2,3,4,5,6,7,8,9]\n\n\
-      [[1],[2],[3],[[[[[[4]]]]]],5,6,7,8]\n\
-      [1,2,3,4,5,6,7,8,9,10,11,12,13,14,15,16,17,18,19,20,21]\n";
-
-const GROWN: &[u8] = b"[1]\n\"\\n\"\n! InternalError at character 3 (']')\n\
-      [1,2,3,4,5,6,7,8,9]\n[[1],[2],[3],[[[[[[4]]]]]],5,6,7,8]\n\
-      [1,2,3,4,5,6,7,8,9,10,11,12,13,14,15,16,17,18,19,20,21]\n";
-
-// Each heap is larger than the one before it, so that another allocation fails, and then none. Where one
-// fails, whole lines were written: those of the pieces before it.
-#[test]
-fn each_growth_is_refused(rt: HostRuntime) -> Tested {
-    let (mut silent, mut begun, mut whole) = (0u32, 0u32, 0u32);
-    for units in 0..200usize {
-        let heap = LocalHeap::new(rt.alloc(), 64 + units * 32)?;
-        let ran = run_from(&heap, Mode::Lines, 8, GROWING, Vec::new(rt.alloc()));
-        assert_that!(&rt; !ran.reader.failed() && !ran.writer.failed());
-        let written = ran.writer.into_inner();
-        assert_that!(&rt; GROWN.starts_with(written.as_slice()));
-        if ran.answer.is_ok() {
-            assert_same!(&rt; ran.answer, Ok(false));
-            assert_same!(&rt; written.len(), GROWN.len());
-            whole = whole.saturating_add(1);
-            continue;
+// Each heap is larger than the one before it, so that another allocation fails, and then none. Where one fails, exactly
+// the text of the pieces before was written. Returns in how many heaps the last piece lacked memory.
+fn assert_stopped(
+    rt: &(impl AllocGlobal + Abort),
+    pieces: &[Piece],
+) -> std::result::Result<u32, Fail> {
+    let mut lacking = 0u32;
+    let mut whole = 0u32;
+    for units in 0..400usize {
+        let bytes = 64 + units * 16;
+        let done = count_with_memory(rt, bytes, pieces)?;
+        let mut wanted = String::new(rt.alloc());
+        for (_, line) in pieces.iter().take(done.unwrap_or(0)) {
+            wanted.push_str(line)?;
         }
-        let memory = Error::generic(ErrorType::OutOfMemory);
-        assert_same!(&rt; ran.answer, Err(RunFault::Refused(memory)));
-        assert_that!(&rt; written.is_empty() || written.ends_with(b"\n"));
-        if written.is_empty() {
-            silent = silent.saturating_add(1);
-        } else {
-            begun = begun.saturating_add(1);
+        let (has_memory, written) = run_first(rt, bytes, pieces, pieces.len())?;
+        assert_same!(rt; has_memory, done == Some(pieces.len()), bytes);
+        assert_same!(rt; written.as_slice(), wanted.as_bytes(), bytes);
+        if done.is_some_and(|done| done.saturating_add(1) == pieces.len()) {
+            lacking = lacking.saturating_add(1);
         }
+        whole = whole.saturating_add(u32::from(has_memory));
     }
-    assert_that!(&rt; silent > 5, silent);
-    assert_that!(&rt; begun > 10, begun);
-    assert_that!(&rt; whole > 10, whole);
+    assert_that!(rt; whole > 0, pieces);
+    Ok(lacking)
+}
+
+#[test]
+fn pieces_before_one_that_lacks_memory_are_written(rt: HostRuntime) -> Tested {
+    assert_stopped(&rt, GROWING)?;
+    for pieces in [
+        ONE_LONG,
+        LAST_IS_LONG,
+        LAST_IS_DEEP,
+        LAST_HAS_AN_ERROR,
+        LAST_HAS_A_LONGER_ERROR,
+        LAST_AFTER_ERRORS,
+        LAST_HAS_ESCAPES,
+    ] {
+        let lacking = assert_stopped(&rt, pieces)?;
+        assert_that!(&rt; lacking > 0, pieces);
+    }
     Ok(())
 }

@@ -3,17 +3,17 @@ use crate::tests::Tested;
 use jtape::{number_named, settings};
 
 // A line for each list of words, and what they ask for.
-const WORDS: &str = "tape @ Some((Document(Tape), 1024))
-positions @ Some((Document(Positions), 1024))
-compact @ Some((Document(Compact), 1024))
-pretty @ Some((Document(Pretty), 1024))
-pretty 2 @ Some((Document(Pretty), 2))
+const WORDS: &str = "tape @ Some((Tape, 1024))
+positions @ Some((Positions, 1024))
+compact @ Some((Compact, 1024))
+pretty @ Some((Pretty, 1024))
+pretty 2 @ Some((Pretty, 2))
 lines @ Some((Lines, 1024))
 lines 3 @ Some((Lines, 3))
-tape 8 @ Some((Document(Tape), 8))
-tape 007 @ Some((Document(Tape), 7))
-tape 0 @ Some((Document(Tape), 0))
-tape 18446744073709551615 @ Some((Document(Tape), 18446744073709551615))
+tape 8 @ Some((Tape, 8))
+tape 007 @ Some((Tape, 7))
+tape 0 @ Some((Tape, 0))
+tape 18446744073709551615 @ Some((Tape, 18446744073709551615))
 tape 18446744073709551616 @ None
 tree @ None
 tree 8 @ None

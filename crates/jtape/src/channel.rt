@@ -1,0 +1,109 @@
+//! A reader or a writer, and what has happened to it.
+use simd_json_print::text::Target;
+use std::io;
+use std::io::{Read, Write};
+use std::marker::Model;
+
+/// A reader or a writer that remembers whether a call on it failed, and whether it came to its end. Its own calls
+/// alone set these flags, [`failed`](Channel::failed) and [`ended`](Channel::ended).
+///
+/// A [`Port`](crate::Port) is one that [`run`](crate::run) alone reads and writes. This is for a program that does so
+/// itself: text is written to it as to any [`Target`].
+#[derive(Drop)]
+pub struct Channel<T> {
+    inner: T,
+    failed: bool,
+    ended: bool,
+}
+
+impl<T> Model for Channel<T> {
+    ghost use Rattle.jtape.specs.Ports.{Watched};
+
+    ghost Value = { Watched T };
+
+    ghost view = { λ c. record { inner = c.inner; failed = c.failed; ended = c.ended } };
+}
+
+impl<T> Channel<T> {
+    ghost use Rattle.std.specs.Prelude.{◌≡◌, false};
+
+    /// A reader or a writer on which no call failed, and that has not come to its end.
+    pub fn new(inner: T) -> Channel<T>
+        ensures { result ≡ record { inner = inner; failed = false; ended = false } }
+    {
+        Channel {
+            inner,
+            failed: false,
+            ended: false,
+        }
+    }
+
+    /// Whether a read or a write returned an error, or a write wrote 0 bytes of a non-empty buffer.
+    pub fn failed(&self) -> bool
+        ensures { result ≡ self.now.failed }
+    {
+        self.failed
+    }
+
+    /// Whether a read into a non-empty buffer returned 0.
+    pub fn ended(&self) -> bool
+        ensures { result ≡ self.now.ended }
+    {
+        self.ended
+    }
+
+    /// The reader or the writer.
+    pub fn into_inner(self) -> T
+        ensures { result ≡ self.inner }
+    {
+        self.inner
+    }
+}
+
+impl<R: Read> Channel<R> {
+    ghost use Rattle.std.specs.Prelude.{◌≡◌, ◌||◌, length, is_err};
+    ghost use Rattle.std.specs.Io.{ReadsAtMost};
+    ghost use Rattle.std.specs.Io.KnownBytes.{ReadConsumes};
+    ghost use Rattle.simd_json_print.specs.Texts.{took_none};
+
+    /// Reads some bytes into the front of a buffer, as `Read::read` does.
+    ///
+    /// Fails where the reader does. The channel has failed then.
+    pub fn read(&mut self, buf: &mut [u8]) -> io::Result<usize>
+        ensures bound { ReadsAtMost result buf.new }
+        ensures bytes { ReadConsumes (R.remaining self.old.inner) (R.remaining self.new.inner)
+            result buf.new }
+        ensures failed { self.new.failed ≡ (self.old.failed || is_err result) }
+        ensures ended { self.new.ended ≡ (self.old.ended || took_none result (length buf.old)) }
+    {
+        let read = self.inner.read(buf);
+        match &read {
+            Ok(0) if !buf.is_empty() => self.ended = true,
+            Ok(_) => {}
+            Err(_) => self.failed = true,
+        }
+        read
+    }
+}
+
+// No other way leads to the writer, so that no failure goes unrecorded.
+impl<W: Write> Target for Channel<W> {
+    ghost use Rattle.std.specs.Prelude.{◌≡◌, Some};
+    ghost use Rattle.simd_json_print.specs.Texts.{Takes};
+
+    ghost place = { λ channel. record { held = W.contents channel.inner; failed = Some channel.failed } };
+
+    fn take_some(&mut self, bytes: &[u8]) -> io::Result<usize>
+        ensures takes { Takes (record { held = W.contents self.old.inner; failed = Some self.old.failed })
+            (record { held = W.contents self.new.inner; failed = Some self.new.failed })
+            result bytes.now }
+        ensures ended { self.new.ended ≡ self.old.ended }
+    {
+        let written = self.inner.write(bytes);
+        match &written {
+            Ok(n) if *n > 0 || bytes.is_empty() => {}
+            _ => self.failed = true,
+        }
+        written
+    }
+}
