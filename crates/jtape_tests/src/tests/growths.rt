@@ -34,8 +34,10 @@ fn each_growth_is_refused(rt: HostRuntime) -> Tested {
     Ok(())
 }
 
-// In how many heaps an allocation was refused, and in how many none was. The output begins and ends with
-// these.
+const HEAP: usize = 16_384;
+
+// How often an allocation failed, and how often none did, where others left more and more of a heap. The output begins
+// and ends with these. Once the others gave back what they had, a run over the same heap prints all.
 fn run_in_heaps(
     rt: &(impl AllocGlobal + Abort),
     mode: Mode,
@@ -44,20 +46,29 @@ fn run_in_heaps(
 ) -> std::result::Result<(u32, u32), Fail> {
     let (mut refused, mut printed) = (0u32, 0u32);
     for units in 0..200usize {
-        let heap = LocalHeap::new(rt.alloc(), 64 + units * 32)?;
-        let reader = Slow {
-            rest: LONG,
-            fails: false,
-        };
-        let writer = Vec::new(rt.alloc());
-        let ran = run_from(&heap, mode, DEFAULT_MAX_DEPTH, reader, writer);
-        if assert_whole_or_silent(rt, ran, start, end) {
+        let heap = LocalHeap::new(rt.alloc(), HEAP)?;
+        let left = 128 + units * 32;
+        let others = Vec::<u8, &LocalHeap>::with_capacity(&heap, HEAP.saturating_sub(left))?;
+        let used = heap.used();
+        if assert_whole_or_silent(rt, run_slowly(rt, mode, &heap), start, end) {
             printed = printed.saturating_add(1);
         } else {
             refused = refused.saturating_add(1);
         }
+        assert_same!(rt; heap.used(), used);
+        drop(others);
+        let again = run_slowly(rt, mode, &heap);
+        assert_that!(rt; assert_whole_or_silent(rt, again, start, end));
     }
     Ok((refused, printed))
+}
+
+fn run_slowly<'i>(rt: &impl AllocGlobal, mode: Mode, heap: &LocalHeap) -> Ran<Slow<'i>, Vec<u8>> {
+    let reader = Slow {
+        rest: LONG,
+        fails: false,
+    };
+    run_from(heap, mode, DEFAULT_MAX_DEPTH, reader, Vec::new(rt.alloc()))
 }
 
 // Whether all is printed. Otherwise memory was lacking.

@@ -13,46 +13,67 @@ const LARGE_PRETTY: &str =
     "[\n  \"0123456789012345678901234567890123456789\",\n  [\n    [\n      [\n        1,\n        2,\n\
     \x20       3,\n        4,\n        5,\n        6,\n        7,\n        8\n      ]\n    ]\n  ]\n]";
 
-// Whether a growth of the text is refused in a heap of so many bytes.
-fn is_refused(
+fn text_of<'h>(
+    value: &Value<'_, '_>,
+    is_pretty: bool,
+    heap: &'h LocalHeap,
+) -> simd_json::Result<String<&'h LocalHeap>> {
+    if is_pretty {
+        value.encode_pp(heap)
+    } else {
+        value.encode(heap)
+    }
+}
+
+const HEAP: usize = 8192;
+
+// Whether an allocation of the text fails where others left so many bytes of a heap, or somewhat less. Once these gave
+// back what they had, the call succeeds over the same heap.
+fn fails_within(
     rt: &(impl AllocGlobal + Abort),
     value: &Value<'_, '_>,
     is_pretty: bool,
-    bytes: usize,
+    left: usize,
 ) -> std::result::Result<bool, Fail> {
-    let heap = LocalHeap::new(rt.alloc(), bytes)?;
-    let (text, whole) = if is_pretty {
-        (value.encode_pp(&heap), LARGE_PRETTY)
+    let whole = if is_pretty {
+        LARGE_PRETTY
     } else {
-        (value.encode(&heap), LARGE_COMPACT)
+        LARGE_COMPACT
     };
-    let is_refused = match text {
+    let heap = LocalHeap::new(rt.alloc(), HEAP)?;
+    let others = Vec::<u8, &LocalHeap>::with_capacity(&heap, HEAP.saturating_sub(left))?;
+    let used = heap.used();
+    let fails = match text_of(value, is_pretty, &heap) {
         Ok(text) => {
-            assert_same!(rt; text.as_str(), whole);
+            assert_same!(rt; text.as_str(), whole, left);
             false
         }
         Err(e) => {
-            assert_same!(rt; e, Error::generic(ErrorType::OutOfMemory));
+            assert_same!(rt; e, Error::generic(ErrorType::OutOfMemory), left);
             true
         }
     };
-    assert_same!(rt; heap.used(), 0);
-    Ok(is_refused)
+    assert_same!(rt; heap.used(), used, left);
+    drop(others);
+    let again = text_of(value, is_pretty, &heap)?;
+    assert_same!(rt; again.as_str(), whole, left);
+    Ok(fails)
 }
 
-// Each heap is larger than the one before, so that another growth is refused, and then none.
+// Another allocation fails where more is left, and then none.
 #[test]
-fn each_growth_is_refused(rt: HostRuntime) -> Tested {
+fn each_allocation_fails(rt: HostRuntime) -> Tested {
     let mut input = *b"[\"0123456789012345678901234567890123456789\",[[[1,2,3,4,5,6,7,8]]]]";
     let tape = to_tape(rt.alloc(), &mut input)?;
+    assert_that!(&rt; !tape.is_empty());
     for is_pretty in [false, true] {
-        let mut refused = 0u32;
+        let mut failed = 0u32;
         for units in 0..48 {
-            if is_refused(&rt, &tape.as_value(), is_pretty, 64 + units * 16)? {
-                refused = refused.saturating_add(1);
+            if fails_within(&rt, &tape.as_value(), is_pretty, 32 + units * 16)? {
+                failed = failed.saturating_add(1);
             }
         }
-        assert_that!(&rt; refused > 0 && refused < 48, (is_pretty, refused));
+        assert_that!(&rt; failed > 0 && failed < 48, (is_pretty, failed));
     }
     Ok(())
 }
