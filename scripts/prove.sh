@@ -4,7 +4,7 @@
 # build/log/CRATE; where `rt` fails the end of that follows, and the status is 1.
 #
 # `rt` locks a crate and those below it, so two that stand on one crate would wait for each other. So each is proved in a
-# folder of its own, with links to what is proved already; its own out/ is then moved to its place.
+# folder of its own, with links to what is proved below it. Its out/ is moved there, and back in the end.
 set -u
 crate=$1
 shift
@@ -12,13 +12,25 @@ cd "$(dirname "$0")/.." || exit 1
 lane=$PWD/build/lane/$crate
 log=$PWD/build/log/$crate
 begin=$(date +%s)
-rm -rf "$lane" "$log.failed"
-mkdir -p build/log "$lane/crates"
-trap 'rm -rf "$lane"' EXIT
+
+leave() {
+    if [ -d "$lane/crates/$crate/out" ]; then
+        rm -rf "crates/$crate/out"
+        mv "$lane/crates/$crate/out" "crates/$crate/out"
+    fi
+    rm -rf "$lane"
+}
+trap leave EXIT
 trap 'exit 1' INT TERM
+
+# What a run that was killed left.
+leave
+rm -f "$log.failed"
+mkdir -p build/log "$lane/crates"
 
 # The crates that a crate stands on, those below before those above.
 below() (
+    # shellcheck disable=SC2013
     for dep in $(sed -n "s/^$1\( [^:]*\)*: *//p" crates.txt); do
         if [ -d "crates/$dep" ]; then
             below "$dep"
@@ -27,14 +39,24 @@ below() (
     done
 )
 
+# Links, where the file system has them, else copies.
+linked() {
+    cp -al "$1" "$2" 2> /dev/null || { rm -rf "$2" && cp -a "$1" "$2"; }
+}
+
 for name in $(below "$crate") "$crate"; do
     [ ! -d "$lane/crates/$name" ] || continue
-    grep -E "^$name[ :]" crates.txt >> "$lane/crates.txt"
-    mkdir -p "$lane/crates/$name/out"
-    for part in src specs proofs out/rlib "out/$name" "out/$name.o" "out/lib$name.a"; do
-        [ ! -e "crates/$name/$part" ] || cp -al "crates/$name/$part" "$lane/crates/$name/$part"
+    grep -E "^${name}[ :]" crates.txt >> "$lane/crates.txt"
+    mkdir -p "$lane/crates/$name"
+    for part in src specs proofs; do
+        [ ! -e "crates/$name/$part" ] || linked "crates/$name/$part" "$lane/crates/$name/$part" || exit 1
     done
+    if [ "$name" != "$crate" ] && [ -d "crates/$name/out/rlib" ]; then
+        mkdir "$lane/crates/$name/out"
+        linked "crates/$name/out/rlib" "$lane/crates/$name/out/rlib" || exit 1
+    fi
 done
+[ ! -d "crates/$crate/out" ] || mv "crates/$crate/out" "$lane/crates/$crate/out"
 
 { (cd "$lane/crates/$crate" && rt "$@") || touch "$log.failed"; } 2>&1 | tee "$log" |
     sed -u -n "s/^so far: 0 of \([0-9]*\) functions.*/$crate: proving \1 functions/p"
@@ -43,8 +65,6 @@ if [ -e "$log.failed" ]; then
     tail -n 20 "$log" >&2
     exit 1
 fi
-rm -rf "crates/$crate/out"
-mv "$lane/crates/$crate/out" "crates/$crate/out"
 if grep -q '^so far: 0 of' "$log"; then
     seconds=$(($(date +%s) - begin))
     echo "$crate: proved in $((seconds / 60)) min $((seconds % 60)) s"
