@@ -58,9 +58,10 @@ library: proved-simd_json_c
 	ar rcs $(into)/libsimd_json.a $(parts)/simd_json.o
 	cc -shared -o $(into)/libsimd_json.so $(parts)/simd_json.o -Wl,-soname,libsimd_json.so -Wl,-z,relro,-z,now,-s
 
-# Every proof from nothing, the must-fail edits, the tests and the programs. Its last line is 'N passed, M failed'. After it the
-# programs that it built are run on the rows of tests/vectors and on inputs of which the lines and the status are known, and the
-# counts of lines in DESIGN.md are compared with the files; all are silent where all is well.
+# Every proof (from nothing, where no earlier run here passed the same files), the must-fail edits, the tests and the programs.
+# Its last line is 'N passed, M failed'. After it the programs that it built are run on the rows of tests/vectors and on inputs
+# of which the lines and the status are known, and the counts of lines in DESIGN.md are compared with the files; all are silent
+# where all is well.
 # One check more runs at a time than `jobs`, since each also waits for files. Left to itself `rt ci` reserves 7.5 GB for a
 # check of `simd_json`, and lets it wait behind small ones.
 test: has-rt
@@ -117,8 +118,8 @@ help:
 	@echo "make build/log_report       the same of the program that counts the lines of a log"
 	@echo "make install PREFIX=DIR     installs programs, library and manual pages; make uninstall PREFIX=DIR removes them"
 	@echo "make vendor DIR=DIR         copies the library's crates into another repository"
-	@echo "make test                   the gate: all proofs from nothing, edits that must be rejected, tests, programs"
+	@echo "make test                   the gate: proofs from nothing, edits that must be rejected, tests, programs"
 	@echo "make test-c                 the library, called from C and Python"
-	@echo "make bench FILES=\"..\"     measures beside the other parsers that are installed"
+	@echo "make bench FILES=\"..\"       measures beside the other parsers that are installed"
 	@echo "make clean                  removes what was made"
 	@echo "CPU=x86-64-v2               builds for that level, and not for this machine ($(or $(CPU),x86-64-v2))"

@@ -13,6 +13,9 @@ lane=$PWD/build/lane/$crate
 log=$PWD/build/log/$crate
 begin=$(date +%s)
 
+# As `rt` locks it: a check that runs in the crate's folder ends first, and one that begins meanwhile waits.
+exec 9< "crates/$crate" && flock 9 || exit 1
+
 leave() {
     if [ -d "$lane/crates/$crate/out" ]; then
         rm -rf "crates/$crate/out"

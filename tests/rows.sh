@@ -6,7 +6,7 @@
 set -u
 cd "$(dirname "$0")/.." || exit 1
 program=${1:-crates/simd_json_rows/out/simd_json_rows}
-[ -x "$program" ] || { echo "$program is not there: run make test" >&2; exit 1; }
+[ -x "$program" ] || { echo "$program is not there: run rt run in crates/simd_json_rows" >&2; exit 1; }
 found=$(mktemp) || exit 1
 trap 'rm -f "$found"' EXIT
 different=0
