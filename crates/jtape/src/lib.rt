@@ -34,5 +34,4 @@ mod words;
 pub use channel::Channel;
 pub use port::Port;
 pub use runs::{Answer, RunFault, run, status};
-pub use stream::is_blank;
 pub use words::{Mode, number_named, settings};

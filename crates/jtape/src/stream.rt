@@ -6,7 +6,7 @@
 ghost use Rattle.std.specs.Prelude.{◌≡◌, ◌≢◌, ◌++◌, ◌∷◌, [], false, is_some, string_bytes, IfOk, IfErr, OnOk, OnErr, Err};
 ghost use Rattle.std.specs.Io.KnownBytes.{Appends};
 ghost use Rattle.jtape.specs.Output.{stream_output};
-ghost use Rattle.jtape.specs.Pieces.{all_clean, answer_text, is_blank, is_clean, piece_text, pieces, pieces_text};
+ghost use Rattle.jtape.specs.Pieces.{all_clean, answer_text, is_clean, piece_text, pieces, pieces_text};
 ghost use Rattle.jtape.specs.Runs.{lacks_memory};
 ghost use Rattle.jtape.specs.Streams.{HasPut, StopsWithin};
 ghost use Rattle.simd_json_parts.specs.Bytes.{line_feed};
@@ -18,6 +18,7 @@ use crate::output::PIECE;
 use crate::runs::RunFault;
 use memchr::memchr;
 use simd_json::{Buffers, Error, ErrorType, Tape, fill_tape};
+use simd_json_parts::charutils::is_blank;
 use simd_json_print::document::put_compact;
 use simd_json_print::text::{Target, Text};
 use std::alloc::{AllocError, Allocator};
@@ -142,13 +143,4 @@ impl<'de, A: Allocator> Stream<'de, A> {
         self.fault.clear();
         writeln!(self.fault, "! {e}")
     }
-}
-
-/// Whether the piece is empty, or whitespace alone.
-pub fn is_blank(piece: &[u8]) -> bool
-    ensures { result ≡ is_blank piece.now }
-{
-    piece
-        .iter()
-        .all(|byte| matches!(*byte, b' ' | b'\t' | b'\n' | b'\r'))
 }

@@ -10,9 +10,10 @@ ghost use Rattle.log_report.specs.Runs.{Adds, AddsValue, After, Ends, IsRefused,
 use arrayvec::ArrayVec;
 use bumpalo::Bump;
 use indexmap::IndexMap;
-use jtape::{Channel, is_blank, number_named};
+use jtape::{Channel, number_named};
 use simd_json::tape::Value;
 use simd_json::{Buffers, Error, StaticNode, Tape, refill_tape, reserve};
+use simd_json_parts::charutils::is_blank;
 use simd_json_print::text::Text;
 use std::alloc::{AllocError, Allocator};
 use std::hash::{BuildHasherDefault, FoldHasher};

@@ -2,7 +2,8 @@
 ghost use Rattle.std.specs.Prelude.{◌≡◌, ◌≤◌, ◌++◌, if◌then◌else◌, not, length, drop, slice_index};
 ghost use Rattle.std.specs.Prelude.{encode_utf8};
 ghost use Rattle.std.specs.Char.{len_utf8, is_digit, digit_value};
-ghost use Rattle.simd_json_parts.specs.Bytes.{is_terminator, byte_at};
+ghost use Rattle.std.specs.List.{list_all};
+ghost use Rattle.simd_json_parts.specs.Bytes.{is_terminator, is_whitespace, byte_at};
 ghost use Rattle.simd_json_parts.specs.Strings.{hex_value};
 
 /// Whether the byte is structural, `[ ] { } : ,`, or whitespace: space, tab, line feed or carriage return.
@@ -20,6 +21,21 @@ pub fn is_not_structural_or_whitespace(c: u8) -> bool
     ensures { result ≡ not (is_terminator c) }
 {
     !is_structural_or_whitespace(c)
+}
+
+/// Whether the byte is whitespace: space, tab, line feed or carriage return (RFC 8259, section 2).
+#[inline]
+pub fn is_whitespace(c: u8) -> bool
+    ensures { result ≡ is_whitespace c }
+{
+    matches!(c, b' ' | b'\t' | b'\n' | b'\r')
+}
+
+/// Whether the bytes are whitespace alone, or none.
+pub fn is_blank(bytes: &[u8]) -> bool
+    ensures { result ≡ list_all is_whitespace bytes.now }
+{
+    bytes.iter().all(|byte| is_whitespace(*byte))
 }
 
 /// The byte at an index, or a space past the end: a number, `true`, `false` and `null` may end there.

@@ -1,5 +1,5 @@
 //! The nodes of a tape.
-ghost use Rattle.std.specs.Prelude.{◌≡◌, ◌≤◌};
+ghost use Rattle.std.specs.Prelude.{◌≡◌};
 ghost use Rattle.simd_json_parts.specs.Nodes.{item_of};
 ghost use Rattle.simd_json_parts.specs.NodeTypes.{static_type, item_type};
 
@@ -71,43 +71,6 @@ pub enum StaticNode {
 }
 
 impl StaticNode {
-    ghost use Rattle.simd_json_parts.specs.Integers.{max_magnitude, max_magnitude_64, integer_node};
-
-    /// The integer of this magnitude that is written with `-`, or without it, where 64 bits hold it.
-    #[inline]
-    pub fn integer(minus: bool, magnitude: u64) -> StaticNode
-        requires { magnitude ≤ max_magnitude_64 minus }
-        ensures { result ≡ integer_node minus magnitude }
-    {
-        if !minus {
-            StaticNode::U64(magnitude)
-        } else if magnitude < 1 << 63 {
-            StaticNode::I64(-(magnitude as i64))
-        } else {
-            // The least integer has no positive counterpart.
-            StaticNode::I64(i64::MIN)
-        }
-    }
-
-    /// The integer of this magnitude that is written with `-`, or without it: of a kind of 64 bits where these
-    /// hold it, else of 128.
-    pub fn wide(minus: bool, magnitude: u128) -> StaticNode
-        requires { magnitude ≤ max_magnitude minus }
-        ensures { result ≡ integer_node minus magnitude }
-    {
-        let most = if minus { 1 << 63 } else { u64::MAX as u128 };
-        if magnitude <= most {
-            StaticNode::integer(minus, magnitude as u64)
-        } else if !minus {
-            StaticNode::U128(magnitude)
-        } else if magnitude < 1 << 127 {
-            StaticNode::I128(-(magnitude as i128))
-        } else {
-            // The least integer has no positive counterpart.
-            StaticNode::I128(i128::MIN)
-        }
-    }
-
     /// The kind of the value.
     pub fn value_type(&self) -> ValueType
         ensures { result ≡ static_type self.now }

@@ -16,7 +16,7 @@ mod short;
 #[cfg(test)]
 mod tests;
 
-pub use integers::parse_long;
+pub use integers::{integer_node, parse_long};
 pub use short::parse_short;
 
 /// The front of some bytes, read as a number.
@@ -34,7 +34,7 @@ pub enum Number {
 /// of more than nineteen bytes is left to [`parse_long`], so that readers of shorter ones know no 128 bits.
 #[derive(Clone, Copy, Debug, Drop, PartialEq, Eq)]
 pub enum Numeral {
-    /// An integer of this magnitude, which 64 bits hold; [`StaticNode::integer`] makes its node.
+    /// An integer of this magnitude, which 64 bits hold; [`integer_node`] makes its node.
     Integer(u64),
     /// An integer whose literal has so many bytes, in range or not; [`parse_long`] reads it.
     Long(usize),
@@ -61,7 +61,7 @@ pub fn parse_number(bytes: &[u8]) -> Number
         Numeral::Integer(magnitude) => {
             let minus = byte_or_space(bytes, 0) == b'-';
             let len = int_end(bytes, minus as usize);
-            Number::Integer(StaticNode::integer(minus, magnitude), len)
+            Number::Integer(integer_node(minus, magnitude), len)
         }
         Numeral::Long(len) => match parse_long(bytes, len) {
             Ok(node) => Number::Integer(node, len),

@@ -4,13 +4,13 @@ ghost use Rattle.simd_json.specs.Locations.{bad_string, is_control_inside};
 ghost use Rattle.simd_json.specs.Reasons.{byte_before, closes_root, ends_range, expects_value};
 ghost use Rattle.simd_json.specs.Reasons.{has_hex_digits, is_byte_order_mark, object_reason, reason_of};
 ghost use Rattle.simd_json.specs.Reasons.{token_reason, value_reason, whole_reason};
-ghost use Rattle.simd_json_parts.specs.Bytes.{byte_at, is_whitespace};
+ghost use Rattle.simd_json_parts.specs.Bytes.{byte_at};
 ghost use Rattle.simd_json.specs.declared.location.reason.Reason.TheVariants as reasons;
 
 use super::place::valid_len;
 use super::reason::Reason;
 use super::scan::bad_string;
-use simd_json_parts::charutils::{byte_or_space, is_structural_or_whitespace};
+use simd_json_parts::charutils::{byte_or_space, is_structural_or_whitespace, is_whitespace};
 use simd_json_parts::error::{Error, ErrorType};
 
 #[tactic(auto, unfolding(crate::specs::Reasons::reason_of))]
@@ -173,12 +173,6 @@ fn byte_before(input: &[u8], i: usize) -> Option<u8>
         }
     }
     None
-}
-
-pub(super) fn is_whitespace(byte: u8) -> bool
-    ensures { result ≡ is_whitespace byte }
-{
-    matches!(byte, b' ' | b'\t' | b'\n' | b'\r')
 }
 
 // The bytes from an index on.

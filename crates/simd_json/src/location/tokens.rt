@@ -11,8 +11,7 @@ ghost use Rattle.simd_json_parts.specs.NumberAt.{number_at};
 ghost use Rattle.simd_json_parts.specs.StringAt.{closing_quote, escape_fault, string_at};
 ghost use Rattle.simd_json_parts.specs.Tokens.{form_at, tokens};
 
-use super::context::is_whitespace;
-use simd_json_parts::charutils::byte_or_space;
+use simd_json_parts::charutils::{byte_or_space, is_whitespace};
 use simd_json_parts::error::{Error, ErrorType, Result};
 use simd_json_scalars::numberparse::{Number, parse_number};
 use simd_json_scalars::stringparse::{BadEscape, string_len};

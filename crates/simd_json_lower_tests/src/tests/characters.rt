@@ -1,6 +1,6 @@
 use simd_json_parts::charutils::{
-    byte_or_space, codepoint_to_utf8, hex_to_u32_nocheck, is_not_structural_or_whitespace,
-    is_structural_or_whitespace,
+    byte_or_space, codepoint_to_utf8, hex_to_u32_nocheck, is_blank, is_not_structural_or_whitespace,
+    is_structural_or_whitespace, is_whitespace,
 };
 use std::process::Abort;
 
@@ -11,6 +11,16 @@ fn ten_bytes_are_structural_or_whitespace(rt: HostRuntime) {
         assert_same!(&rt; is_structural_or_whitespace(c), is_listed, c);
         assert_same!(&rt; is_not_structural_or_whitespace(c), !is_listed, c);
     }
+}
+
+#[test]
+fn four_bytes_are_whitespace(rt: HostRuntime) {
+    for c in 0..=u8::MAX {
+        let is_listed = b" \t\n\r".contains(&c);
+        assert_same!(&rt; is_whitespace(c), is_listed, c);
+        assert_same!(&rt; is_blank(&[b' ', c, b'\n']), is_listed, c);
+    }
+    assert_that!(&rt; is_blank(b""));
 }
 
 #[test]

@@ -19,44 +19,6 @@ fn integers_are_equal_by_number(rt: HostRuntime) {
 }
 
 #[test]
-fn integers_are_made_of_sign_and_magnitude(rt: HostRuntime) {
-    assert_that!(&rt; matches!(StaticNode::integer(false, 0), StaticNode::U64(0)));
-    assert_that!(&rt; matches!(StaticNode::integer(true, 0), StaticNode::I64(0)));
-    assert_that!(&rt; matches!(StaticNode::integer(true, 257), StaticNode::I64(-257)));
-    assert_that!(&rt; matches!(
-            StaticNode::integer(false, u64::MAX),
-            StaticNode::U64(u64::MAX)
-        ));
-    assert_that!(&rt; matches!(
-            StaticNode::integer(true, 1 << 63),
-            StaticNode::I64(i64::MIN)
-        ));
-}
-
-#[test]
-fn kinds_change_past_64_bits(rt: HostRuntime) {
-    const SHORT: u128 = u64::MAX as u128;
-    assert_that!(&rt; matches!(StaticNode::wide(false, SHORT), StaticNode::U64(u64::MAX)));
-    assert_that!(&rt; matches!(
-            StaticNode::wide(false, SHORT + 1),
-            StaticNode::U128(18_446_744_073_709_551_616)
-        ));
-    assert_that!(&rt; matches!(
-            StaticNode::wide(false, u128::MAX),
-            StaticNode::U128(u128::MAX)
-        ));
-    assert_that!(&rt; matches!(StaticNode::wide(true, 1 << 63), StaticNode::I64(i64::MIN)));
-    assert_that!(&rt; matches!(
-            StaticNode::wide(true, (1 << 63) + 1),
-            StaticNode::I128(-9_223_372_036_854_775_809)
-        ));
-    assert_that!(&rt; matches!(
-            StaticNode::wide(true, 1 << 127),
-            StaticNode::I128(i128::MIN)
-        ));
-}
-
-#[test]
 fn nodes_have_their_kinds(rt: HostRuntime) {
     let nodes = [
         (Node::Static(StaticNode::Null), ValueType::Null),

@@ -3,7 +3,7 @@ ghost use Rattle.std.specs.Prelude.{◌≡◌, ◌+◌, ◌++◌, ◌≤◌, ◌
 ghost use Rattle.std.specs.Prelude.{MatchResult, IsTrue};
 ghost use Rattle.std.specs.Str.Parse.{AllDigits, digits_value};
 ghost use Rattle.simd_json_parts.specs.Bytes.{byte_at, is_terminator};
-ghost use Rattle.simd_json_parts.specs.Integers.{max_magnitude};
+ghost use Rattle.simd_json_parts.specs.Integers.{max_magnitude, max_magnitude_64, integer_node};
 ghost use Rattle.simd_json_scalars.specs.NumberRead.{IsNumberAt};
 ghost use Rattle.simd_json_scalars.specs.NumeralRead.{IsIntegerLiteral, IsNumeralAt};
 ghost use Rattle.simd_json_parts.specs.Numbers.{integer_literal};
@@ -51,9 +51,43 @@ fn long_integer(literal: &[u8]) -> Result<StaticNode, usize>
     let minus = byte_or_space(literal, 0) == b'-';
     let start = minus as usize;
     match long_magnitude(&literal[start..]) {
-        Ok(value) if is_in_range(minus, value) => Ok(StaticNode::wide(minus, value)),
+        Ok(value) if is_in_range(minus, value) => Ok(wide_node(minus, value)),
         Ok(_) => Err(literal.len()),
         Err(offset) => Err(start + offset),
+    }
+}
+
+/// The integer of this magnitude, written with `-` or without it, as a node. 64 bits have to hold it.
+#[inline]
+pub fn integer_node(minus: bool, magnitude: u64) -> StaticNode
+    requires { magnitude ≤ max_magnitude_64 minus }
+    ensures { result ≡ integer_node minus magnitude }
+{
+    if !minus {
+        StaticNode::U64(magnitude)
+    } else if magnitude < 1 << 63 {
+        StaticNode::I64(-(magnitude as i64))
+    } else {
+        // The least integer has no positive counterpart.
+        StaticNode::I64(i64::MIN)
+    }
+}
+
+// The same of any magnitude in range: of a kind of 64 bits where these hold it, else of 128.
+fn wide_node(minus: bool, magnitude: u128) -> StaticNode
+    requires { magnitude ≤ max_magnitude minus }
+    ensures { result ≡ integer_node minus magnitude }
+{
+    let most = if minus { 1 << 63 } else { u64::MAX as u128 };
+    if magnitude <= most {
+        integer_node(minus, magnitude as u64)
+    } else if !minus {
+        StaticNode::U128(magnitude)
+    } else if magnitude < 1 << 127 {
+        StaticNode::I128(-(magnitude as i128))
+    } else {
+        // The least integer has no positive counterpart.
+        StaticNode::I128(i128::MIN)
     }
 }
 

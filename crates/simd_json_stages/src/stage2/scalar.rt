@@ -19,7 +19,9 @@ use super::progress::Progress;
 use super::text::{Original, Text};
 use simd_json_parts::charutils::{byte_or_space, is_structural_or_whitespace};
 use simd_json_parts::node::StaticNode;
-use simd_json_scalars::numberparse::{Numeral, is_integer, parse_long, parse_numeral, parse_short};
+use simd_json_scalars::numberparse::{
+    Numeral, integer_node, is_integer, parse_long, parse_numeral, parse_short,
+};
 
 /// Whether the bytes begin with `true`, and end there or go on with a structural character or whitespace.
 pub fn is_valid_true_atom(bytes: &[u8]) -> bool
@@ -204,7 +206,7 @@ fn put_integer<'de, S: NodeSink<'de>>(nodes: &mut S, first: u8, magnitude: u64)
         ≡ S.held_nodes nodes.old ++ static_item (integer_node (first == minus_sign) magnitude) ∷ [] }
 {
     if first == b'-' {
-        nodes.fixed(StaticNode::integer(true, magnitude));
+        nodes.fixed(integer_node(true, magnitude));
     } else {
         nodes.fixed(StaticNode::U64(magnitude));
     }

@@ -8,8 +8,8 @@ use Rattle.simd_json_scalars.proofs.Numbers.Steps.{SignEnd}
 use Rattle.simd_json_scalars.proofs.Numbers.Reader.{sign-end, integer-end}
 use Rattle.simd_json_scalars.proofs.numberparse.parse_number.Goals as goal
 
-pub integer-requires : goal.integer-requires
-integer-requires c =
+pub integer_node-requires : goal.integer_node-requires
+integer_node-requires c =
     let read = c.in-Integer.ensures c.args.bytes.now 0 refl in
     rw c.byte_or_space-minus.ensures read.2
 
@@ -28,4 +28,4 @@ returns-in-Integer c b i e =
     let at : number_at b i ≡ Ok (integer minus n, read.0) = read.1 ∙ ap (λ x. Ok (integer (x == 45) n, read.0)) first in
     let end : read.0 ≡ i + c.int_end-len.result =
     integer-end b i l e (bool_byte minus) c.int_end-len.result sign c.int_end-len.ensures.value minus n read.0 at in
-    (minus, n, at ∙ ap (λ k. Ok (integer minus n, k)) end, c.integer.ensures)
+    (minus, n, at ∙ ap (λ k. Ok (integer minus n, k)) end, c.integer_node.ensures)

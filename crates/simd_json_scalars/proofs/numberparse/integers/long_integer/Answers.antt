@@ -7,14 +7,14 @@ use Rattle.simd_json_scalars.proofs.numberparse.integers.long_integer.Goals as g
 pub long_magnitude-requires : goal.long_magnitude-requires
 long_magnitude-requires c = rw c.byte_or_space-minus.ensures (integer-AllDigits c.args.literal.now c.requires)
 
-pub wide-requires : goal.wide-requires
-wide-requires c = leb-true _ _ (sym c.is_in_range.ensures ∙ c.if-is_in_range.true)
+pub wide_node-requires : goal.wide_node-requires
+wide_node-requires c = leb-true _ _ (sym c.is_in_range.ensures ∙ c.if-is_in_range.true)
 
 pub returns-in-Ok : goal.returns-in-Ok
 returns-in-Ok c b i rest e t =
     let value = rw c.byte_or_space-minus.ensures at (c.in-Ok.ensures) in
     let fits = rw c.byte_or_space-minus.ensures at (c.is_in_range.ensures) in
-    let node = rw c.byte_or_space-minus.ensures at (c.wide.ensures) in (
+    let node = rw c.byte_or_space-minus.ensures at (c.wide_node.ensures) in (
       has_minus c.args.literal.now,
       c.in-Ok.value,
       number_at-value b i c.args.literal.now rest e t c.requires c.in-Ok.value value (leb-true _ _ (sym fits ∙ c.if-is_in_range.true)),
