@@ -1,7 +1,9 @@
 -- What a contract sees of buffers.
-use Rattle.std.specs.Prelude.{◌≡◌, ◌≤◌, ℕ, ◌*◌, List, [], length, take, min, nat_lt, if◌then◌else◌}
+use Rattle.std.specs.Prelude.{◌≡◌, ◌≤◌, ℕ, ◌*◌, List, [], length, take, min, max, nat_lt, if◌then◌else◌, None}
 use Rattle.simd_json_parts.specs.Limits.{max_length}
-use Rattle.simd_json_stages.specs.EscapeBlocks.{blocks_in}
+use Rattle.simd_json_parts.specs.InputFaults.{input_fault}
+use Rattle.simd_json_parts.specs.Positions.{positions}
+use Rattle.simd_json_stages.specs.EscapeBlocks.{backslash_blocks, blocks_in}
 
 -- the positions and the blocks that are listed, the depth limit, and for how many positions, blocks and open containers
 -- there is capacity
@@ -34,6 +36,13 @@ KeepsCapacities old new =
 -- the same is listed, within the same limit
 abbrev pub ListsSame : Capacities → Capacities → Type 0
 ListsSame old new = (new.positions ≡ old.positions) × (new.blocks ≡ old.blocks) × (new.limit ≡ old.limit)
+
+-- what the first stage finds in b is listed, and the stack suffices, or one for a few containers does
+pub record HoldsScan (b : List ℕ) (r : Capacities) : Type 0 where
+  pub positions : r.positions ≡ positions b
+  pub escapes : r.blocks ≡ backslash_blocks b
+  pub whole : input_fault b ≡ None
+  pub stack : min (length (positions b)) r.limit ≤ max r.stack_capacity 64
 
 -- nothing is listed, and there is capacity for the positions and blocks of so many bytes, but none for open containers
 abbrev pub new_buffers : ℕ → ℕ → Capacities

@@ -1,24 +1,28 @@
 //! Lists that parses use one after another.
-ghost use Rattle.std.specs.Prelude.{◌≡◌, ◌≤◌, ◌<◌, ◌⊎◌, [], length, min, max, take};
-ghost use Rattle.std.specs.Prelude.{OnOk, OnErr, IfOk, IfErr, Some, None};
+ghost use Rattle.std.specs.Prelude.{◌≡◌, ◌≤◌, ◌<◌, ◌⊎◌, [], length, max, take};
+ghost use Rattle.std.specs.Prelude.{OnOk, OnErr, IfOk, IfErr, Some, Err};
 ghost use Rattle.std.specs.Vec.{vec_capacity};
 ghost use Rattle.simd_json.specs.Memory.{IsOutOfMemory, LacksMemory};
-ghost use Rattle.simd_json.specs.Capacities.{KeepsCapacities, ListsSame, capacity, capped, new_buffers};
+ghost use Rattle.simd_json.specs.Capacities.{HoldsScan, KeepsCapacities, ListsSame, capacity, capped, new_buffers};
 ghost use Rattle.simd_json_parts.specs.InputFaults.{input_fault};
 ghost use Rattle.simd_json.specs.MaxDepth.{default_max_depth};
 ghost use Rattle.simd_json_parts.specs.Positions.{positions};
-ghost use Rattle.simd_json_stages.specs.EscapeBlocks.{backslash_blocks, blocks_in};
+ghost use Rattle.simd_json_parts.specs.Descent.{descent};
+ghost use Rattle.simd_json_stages.specs.Building.{IsWritten};
+ghost use Rattle.simd_json_stages.specs.EscapeBlocks.{blocks_in};
+ghost use Rattle.simd_json_stages.specs.NodesEnough.{nodes_enough};
+ghost use Rattle.simd_json_stages.specs.Refusals.{IsTokenFault};
 
 use crate::DEFAULT_MAX_DEPTH;
 use simd_json_parts::error::Result;
 use simd_json_stages::stage1::{BLOCK_LEN, BlockStage1Parse, Stage1Parse};
-use simd_json_stages::stage2::StackState;
+use simd_json_stages::stage2::{NodeSink, Original, Scanned, StackState, build_tape};
 use std::alloc::{Allocator, Global};
 use std::marker::Model;
 
 // How many containers may be open with a stack that is not kept, so that the first parse of a short input takes no
 // memory for one. A later parse takes it, since filling this one costs a tenth of the time of a short input.
-pub(crate) const FEW_OPEN: usize = 64;
+const FEW_OPEN: usize = 64;
 
 /// What parses use one after another: the lists of the structural positions and of the blocks that hold a
 /// backslash, and the stack of the open containers, of which there may be so many.
@@ -146,11 +150,7 @@ impl<A: Allocator> Buffers<A> {
     // for the containers that can open at the positions within the limit; new buffers reserve none for a few.
     // Returns the fault of the whole input, or `OutOfMemory` where a growth was refused, and lists nothing then.
     pub(crate) fn find_positions(&mut self, input: &[u8]) -> Result<()>
-        ensures found { OnOk result ((self.new.positions ≡ positions input.now)
-            × (input_fault input.now ≡ None)) }
-        ensures escapes { OnOk result (self.new.blocks ≡ backslash_blocks input.now) }
-        ensures stack { OnOk result
-            (min (length (positions input.now)) self.new.limit ≤ max self.new.stack_capacity 64) }
+        ensures found { OnOk result (HoldsScan input.now self.new) }
         ensures empty { OnErr result ((self.new.positions ≡ []) × (self.new.blocks ≡ [])) }
         ensures limit { self.new.limit ≡ self.old.limit }
         ensures kept { KeepsCapacities self.old self.new }
@@ -171,6 +171,38 @@ impl<A: Allocator> Buffers<A> {
         self.used = found.positions;
         self.used_blocks = found.escape_blocks;
         Ok(())
+    }
+
+    // The second stage, over what the last scan found: the nodes of the input in a sink. The stack is the one that
+    // is kept, or, where that is too short, one for a few containers.
+    #[inline(always)]
+    pub(crate) fn build_tape<'de, K: Original, S: NodeSink<'de>>(
+        &mut self,
+        input: &'de mut [u8],
+        sink: S,
+    ) -> (S, Result<()>)
+        requires input { input.old ≡ K.bytes }
+        requires scanned { HoldsScan K.bytes self.old }
+        requires room { nodes_enough (length (positions K.bytes)) self.old.limit ≤ S.node_room sink }
+        requires empty { S.held_nodes sink ≡ [] }
+        ensures same { self.new ≡ self.old }
+        ensures room { S.node_room result.0 ≡ S.node_room sink }
+        ensures lender { S.lender result.0 ≡ S.lender sink }
+        ensures few { OnOk result.1 (length (S.held_nodes result.0) ≤ length (positions K.bytes)) }
+        ensures built { OnOk result.1 (IsWritten K.bytes self.old.limit (S.held_nodes result.0)) }
+        ensures refused { IfErr result.1 (λ e. IsTokenFault e × (descent K.bytes self.old.limit ≡ Err e)) }
+    {
+        let scanned = Scanned {
+            structural_indexes: &self.structural_indexes[..self.used],
+            escape_blocks: &self.escape_blocks[..self.used_blocks],
+        };
+        let max_depth = self.max_depth;
+        if self.used.min(max_depth) <= self.stack.len() {
+            let stack = self.stack.as_mut_slice();
+            return build_tape::<K, S>(input, scanned, stack, sink, max_depth);
+        }
+        let mut few = [StackState::EMPTY; FEW_OPEN];
+        build_tape::<K, S>(input, scanned, &mut few, sink, max_depth)
     }
 }
 

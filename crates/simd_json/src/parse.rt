@@ -1,31 +1,24 @@
 //! The entry points.
-ghost use Rattle.std.specs.Prelude.{◌≡◌, ◌≢◌, ◌≤◌, ◌<◌, [], ℕ, List, length, min, max, vec_capacity};
+ghost use Rattle.std.specs.Prelude.{◌≡◌, ◌≢◌, ◌≤◌, ◌<◌, [], ℕ, List, length};
 ghost use Rattle.std.specs.Prelude.{IfErr, IfOk, OnOk, OnErr, None, Err};
 ghost use Rattle.std.specs.Result.{result_err};
 ghost use Rattle.simd_json.specs.Parsed.{IsParse, IsPaddedParse, IsParsed, IsRefused, nodes_of, written};
-ghost use Rattle.simd_json.specs.Capacities.{KeepsCapacities, ListsSame, capacity, capped};
+ghost use Rattle.simd_json.specs.Capacities.{HoldsScan, KeepsCapacities, ListsSame, capacity, capped};
 ghost use Rattle.simd_json.specs.Memory.{HasMemory, IsOutOfMemory};
 ghost use Rattle.simd_json.specs.Reserved.{IsReserved, parse_capacity};
-ghost use Rattle.simd_json_parts.specs.Descent.{descent};
 ghost use Rattle.simd_json_parts.specs.FaultKinds.{IsOfToken};
-ghost use Rattle.simd_json_parts.specs.InputFaults.{input_fault};
 ghost use Rattle.simd_json_parts.specs.Limits.{max_length};
 ghost use Rattle.simd_json.specs.MaxDepth.{default_max_depth};
 ghost use Rattle.simd_json_parts.specs.Positions.{positions};
-ghost use Rattle.simd_json_stages.specs.EscapeBlocks.{backslash_blocks};
-ghost use Rattle.simd_json_stages.specs.Building.{IsListed, IsWritten};
 ghost use Rattle.simd_json_stages.specs.NodesEnough.{nodes_enough};
-ghost use Rattle.simd_json_stages.specs.Refusals.{IsTokenFault};
 
-use crate::buffers::{Buffers, FEW_OPEN};
+use crate::buffers::Buffers;
 use crate::tape::Tape;
 use crate::{DEFAULT_MAX_DEPTH, INPUT_PADDING};
 use simd_json_parts::error::{Error, ErrorType, Result};
-use simd_json_parts::node::Node;
-use simd_json_stages::stage2::{
-    NodeSink, Original, StackState, build_tape, build_tape_as, nodes_enough,
-};
+use simd_json_stages::stage2::{ListSink, NodeSink, Original, nodes_enough};
 use std::alloc::Allocator;
+use std::marker::Brand;
 
 /// Reads the bytes of one document (RFC 8259) as a tape, with at most [`DEFAULT_MAX_DEPTH`] containers open
 /// at a time.
@@ -135,40 +128,40 @@ pub fn fill_tape<'de, A: Allocator, B: Allocator>(
     if let Err(e) = tape.reserve(nodes_enough(positions, buffers.max_depth)) {
         return refuse(e, buffers, tape);
     }
-    build(s, buffers, tape)
+    build::<Brand, A, B>(s, buffers, tape)
 }
 
 /// Reads a document as [`fill_tape`] does, and writes its nodes to an empty sink in place of a tape: to a form of
-/// the caller's own, in one pass. The sink has room for 4,294,967,295 nodes, since no document has more.
+/// the caller's own, in one pass. Returns the sink beside the result. It needs room for 4,294,967,295 nodes,
+/// since no document has more.
 ///
-/// The errors are those of [`to_tape`]. After one it isn't said what the sink holds. Where the buffers have
-/// capacity for as many bytes as `s` has, `OutOfMemory` is not returned.
+/// The errors are those of [`to_tape`]. After one without a character the sink is as it was given; after another
+/// it holds the nodes that were written before the error, of which nothing is promised but that they are in what
+/// the sink borrows, and that its room is the same. Where the buffers have capacity for as many bytes as `s` has,
+/// `OutOfMemory` is not returned.
 ///
 /// `K` names the bytes of `s` as they were given: the contract speaks of these, and strings are decoded in place.
 /// The function that makes the sink is generic over `K`, and is called with [`Brand`](std::marker::Brand).
 pub fn fill_sink<'de, K: Original, S: NodeSink<'de>, A: Allocator>(
     s: &'de mut [u8],
     buffers: &mut Buffers<A>,
-    sink: &mut S,
-) -> Result<()>
+    sink: S,
+) -> (S, Result<()>)
     requires input { s.old ≡ K.bytes }
-    requires room { max_length ≤ S.node_room sink.old }
-    requires empty { S.held_nodes sink.old ≡ [] }
+    requires room { max_length ≤ S.node_room sink }
+    requires empty { S.held_nodes sink ≡ [] }
     ensures parse { IsParse K.bytes buffers.old.limit (capacity buffers.old)
-        (result_err result) (written result (S.held_nodes sink.new)) buffers.new.positions }
-    ensures lender { S.lender sink.new ≡ S.lender sink.old }
+        (result_err result.1) (written result.1 (S.held_nodes result.0)) buffers.new.positions }
+    ensures unread { IfErr result.1 (λ e. e.character ≡ None → result.0 ≡ sink) }
+    ensures lender { S.lender result.0 ≡ S.lender sink }
+    ensures room { S.node_room result.0 ≡ S.node_room sink }
     ensures limit { buffers.new.limit ≡ buffers.old.limit }
     ensures capacities { KeepsCapacities buffers.old buffers.new }
 {
-    buffers.find_positions(s)?;
-    write_nodes::<K, S>(
-        s,
-        &buffers.structural_indexes[..buffers.used],
-        &buffers.escape_blocks[..buffers.used_blocks],
-        buffers.stack.as_mut_slice(),
-        sink,
-        buffers.max_depth,
-    )
+    match buffers.find_positions(s) {
+        Ok(()) => buffers.build_tape::<K, S>(s, sink),
+        Err(e) => (sink, Err(e)),
+    }
 }
 
 /// Reads the document in the first `len` bytes of `s` into a tape, as [`fill_tape`] does, where at least
@@ -309,91 +302,30 @@ fn refuse<A: Allocator, B: Allocator>(
 }
 
 // The second stage, where all capacity is reserved.
-fn build<'de, A: Allocator, B: Allocator>(
+fn build<'de, K: Original, A: Allocator, B: Allocator>(
     s: &'de mut [u8],
     buffers: &mut Buffers<A>,
     tape: &mut Tape<'de, B>,
 ) -> Result<()>
-    requires positions { (buffers.old.positions ≡ positions s.old) × (input_fault s.old ≡ None) }
-    requires escapes { buffers.old.blocks ≡ backslash_blocks s.old }
-    requires stack { min (length (positions s.old)) buffers.old.limit ≤ max buffers.old.stack_capacity 64 }
-    requires nodes { nodes_enough (length (positions s.old)) buffers.old.limit ≤ tape.old.capacity }
+    requires input { s.old ≡ K.bytes }
+    requires scanned { HoldsScan K.bytes buffers.old }
+    requires nodes { nodes_enough (length (positions K.bytes)) buffers.old.limit ≤ tape.old.capacity }
     requires empty { tape.old.nodes ≡ [] }
-    ensures tape { OnOk result (IsParsed s.old buffers.old.limit tape.new.nodes) }
+    ensures tape { OnOk result (IsParsed K.bytes buffers.old.limit tape.new.nodes) }
     ensures some { OnOk result (tape.new.nodes ≢ []) }
-    ensures few { length tape.new.nodes ≤ length (positions s.old) }
+    ensures few { length tape.new.nodes ≤ length (positions K.bytes) }
     ensures empty { OnErr result (tape.new.nodes ≡ []) }
     ensures kept { buffers.new ≡ buffers.old }
     ensures capacity { tape.new.capacity ≡ tape.old.capacity }
-    ensures fault { IfErr result (λ e. IsRefused s.old buffers.old.limit e × IsOfToken e) }
+    ensures fault { IfErr result (λ e. IsRefused K.bytes buffers.old.limit e × IsOfToken e) }
 {
-    match build_nodes(
-        s,
-        &buffers.structural_indexes[..buffers.used],
-        &buffers.escape_blocks[..buffers.used_blocks],
-        buffers.stack.as_mut_slice(),
-        &mut tape.list,
-        buffers.max_depth,
-    ) {
-        Ok(()) => Ok(()),
-        Err(e) => {
-            tape.list.clear();
-            Err(e)
-        }
+    let sink = ListSink {
+        list: &mut tape.list,
+    };
+    let (sink, built) = buffers.build_tape::<K, ListSink<'_, 'de, B>>(s, sink);
+    let ListSink { list: _list } = sink;
+    if built.is_err() {
+        tape.list.clear();
     }
-}
-
-// The nodes of the tape, with the stack that is kept, or, where it is too short, with one for a few containers.
-fn build_nodes<'de, A: Allocator>(
-    s: &'de mut [u8],
-    indexes: &[u32],
-    escape_blocks: &[u32],
-    stack: &mut [StackState],
-    nodes: &mut Vec<Node<'de>, A>,
-    max_depth: usize,
-) -> Result<()>
-    requires positions { indexes.now ≡ positions s.old }
-    requires escapes { escape_blocks.now ≡ backslash_blocks s.old }
-    requires whole { input_fault s.old ≡ None }
-    requires capacity { nodes_enough (length indexes.now) max_depth ≤ vec_capacity nodes.old }
-    requires stack { min (length indexes.now) max_depth ≤ max (length stack.old) 64 }
-    requires empty { nodes.old.items ≡ [] }
-    ensures capacity { vec_capacity nodes.new ≡ vec_capacity nodes.old }
-    ensures few { OnOk result (length nodes.new.items ≤ length indexes.now) }
-    ensures built { OnOk result (IsListed s.old max_depth nodes.new.items) }
-    ensures refused { IfErr result (λ e. IsTokenFault e × (descent s.old max_depth ≡ Err e)) }
-{
-    if indexes.len().min(max_depth) <= stack.len() {
-        return build_tape(s, indexes, escape_blocks, stack, nodes, max_depth);
-    }
-    let mut few = [StackState::EMPTY; FEW_OPEN];
-    build_tape(s, indexes, escape_blocks, &mut few, nodes, max_depth)
-}
-
-// The same for the nodes of a sink.
-fn write_nodes<'de, K: Original, S: NodeSink<'de>>(
-    s: &'de mut [u8],
-    indexes: &[u32],
-    escape_blocks: &[u32],
-    stack: &mut [StackState],
-    sink: &mut S,
-    max_depth: usize,
-) -> Result<()>
-    requires input { s.old ≡ K.bytes }
-    requires positions { indexes.now ≡ positions K.bytes }
-    requires escapes { escape_blocks.now ≡ backslash_blocks K.bytes }
-    requires whole { input_fault K.bytes ≡ None }
-    requires room { nodes_enough (length indexes.now) max_depth ≤ S.node_room sink.old }
-    requires stack { min (length indexes.now) max_depth ≤ max (length stack.old) 64 }
-    requires empty { S.held_nodes sink.old ≡ [] }
-    ensures lender { S.lender sink.new ≡ S.lender sink.old }
-    ensures few { OnOk result (length (S.held_nodes sink.new) ≤ length indexes.now) }
-    ensures built { OnOk result (IsWritten K.bytes max_depth (S.held_nodes sink.new)) }
-    ensures refused { IfErr result (λ e. IsTokenFault e × (descent K.bytes max_depth ≡ Err e)) }
-{
-    if indexes.len().min(max_depth) <= stack.len() {
-        return build_tape_as::<K, S>(s, indexes, escape_blocks, stack, sink, max_depth);
-    }
-    let mut few = [StackState::EMPTY; FEW_OPEN];
-    build_tape_as::<K, S>(s, indexes, escape_blocks, &mut few, sink, max_depth)
+    built
 }

@@ -76,12 +76,12 @@ fn count<K: Original>(buffers: &mut Buffers, input: &mut [u8]) -> Result<()>
         (result_err result) ns buffers.new.positions }
     ensures kept { (buffers.new.limit ≡ buffers.old.limit) × KeepsCapacities buffers.old buffers.new }
 {
-    let mut sink = Counted {
+    let sink = Counted {
         count: 0,
         is_container: false,
         noted: Noted::of(&()),
     };
-    fill_sink::<K, Counted, Global>(input, buffers, &mut sink)
+    fill_sink::<K, Counted, Global>(input, buffers, sink).1
 }
 
 // How much a document needs, and what is known of its nodes.
@@ -111,7 +111,7 @@ fn write<K: Original>(
     ensures kept { (buffers.new.limit ≡ buffers.old.limit) × KeepsCapacities buffers.old buffers.new }
 {
     let noted = Noted::of(&(&*nodes, &*text));
-    let mut sink = Lent {
+    let sink = Lent {
         nodes,
         count: 0,
         text,
@@ -119,7 +119,7 @@ fn write<K: Original>(
         is_container: false,
         noted,
     };
-    fill::<K>(buffers, input, &mut sink)?;
+    let (sink, result) = fill_sink::<K, Lent<'_>, Global>(input, buffers, sink);
     let Lent {
         nodes: _nodes,
         count,
@@ -128,24 +128,10 @@ fn write<K: Original>(
         is_container: _,
         noted,
     } = sink;
+    result?;
     let room = Room {
         nodes: count,
         text: used,
     };
     Ok(Written { room, noted })
-}
-
-// Fills what is lent, which stays the same memory.
-fn fill<K: Original>(buffers: &mut Buffers, input: &mut [u8], sink: &mut Lent<'_>) -> Result<()>
-    requires input { input.old ≡ K.bytes }
-    requires empty { sink.old.noted.note.items ≡ [] }
-    ensures read { IsParse K.bytes buffers.old.limit (capacity buffers.old) (result_err result)
-        (written result sink.new.noted.note.items) buffers.new.positions }
-    ensures nodes { sink.new.nodes.ghost_name ≡ sink.old.nodes.ghost_name }
-    ensures text { sink.new.text.ghost_name ≡ sink.old.text.ghost_name }
-    ensures before { (sink.new.noted.note.nodes_before ≡ sink.old.noted.note.nodes_before)
-        × (sink.new.noted.note.text_before ≡ sink.old.noted.note.text_before) }
-    ensures kept { (buffers.new.limit ≡ buffers.old.limit) × KeepsCapacities buffers.old buffers.new }
-{
-    fill_sink::<K, Lent<'_>, Global>(input, buffers, sink)
 }

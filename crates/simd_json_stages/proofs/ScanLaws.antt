@@ -27,7 +27,7 @@ use Rattle.simd_json_stages.specs.Blocks.{IsScanned}
 use Rattle.simd_json_stages.specs.declared.stage1.words.BlockStarts.{BlockStarts}
 use Rattle.simd_json_stages.specs.declared.stage1.words.Classified.{Classified}
 use Rattle.simd_json_stages.specs.declared.stage1.scan.Placing.{Placing}
-use Rattle.simd_json_stages.specs.declared.stage1.scan.Scanned.{Scanned}
+use Rattle.simd_json_stages.specs.declared.stage1.scan.ScanState.{ScanState}
 use Rattle.simd_json_stages.specs.declared.stage1.scan.Classifying.{Classifying}
 use Rattle.simd_json_stages.proofs.CarryLaws.{filter-next}
 use Rattle.simd_json_stages.proofs.Bits.Places.{set_bits-filter}
@@ -158,12 +158,12 @@ IsClassified-same {b} {m} {n} {s} {listed} e h = subst (λ k. IsClassified b k s
 pub IsPlaced-same : {b : List ℕ} {m n : ℕ} {p : Placing} {out : List ℕ} → m ≡ n → IsPlaced b m p out → IsPlaced b n p out
 IsPlaced-same {b} {m} {n} {p} {out} e h = subst (λ k. IsPlaced b k p out) e h
 
-pub IsScanned-same : {b : List ℕ} {m n : ℕ} {s : Scanned} {out listed : List ℕ} → m ≡ n → IsScanned b m s out listed
+pub IsScanned-same : {b : List ℕ} {m n : ℕ} {s : ScanState} {out listed : List ℕ} → m ≡ n → IsScanned b m s out listed
     → IsScanned b n s out listed
 IsScanned-same {b} {m} {n} {s} {out} {listed} e h = subst (λ k. IsScanned b k s out listed) e h
 
 -- a window begins with no byte that is no ASCII
-pub IsScanned-high : {b : List ℕ} {k : ℕ} {s : Scanned} {out listed : List ℕ} → (high : ℕ) → IsScanned b k s out listed
+pub IsScanned-high : {b : List ℕ} {k : ℕ} {s : ScanState} {out listed : List ℕ} → (high : ℕ) → IsScanned b k s out listed
     → IsScanned b k (record {
       classifying = record {
         escaped = s.classifying.escaped;
@@ -206,12 +206,12 @@ stored-next n k xs ys l e more =
     here ∙ ap (λ ks. ks ++ k ∷ []) (prefix n xs ys l e)
 
 -- the same of lists and numbers that are equal
-pub IsScanned-equal : (b : List ℕ) (j k : ℕ) (s : Scanned) (out listed more more_listed : List ℕ) → j ≡ k → out ≡ more
+pub IsScanned-equal : (b : List ℕ) (j k : ℕ) (s : ScanState) (out listed more more_listed : List ℕ) → j ≡ k → out ≡ more
     → listed ≡ more_listed → IsScanned b j s out listed → IsScanned b k s more more_listed
 IsScanned-equal b j k s out listed more more_listed e f g h = subst (λ n. IsScanned b n s more more_listed) e
     (subst (λ ys. IsScanned b j s more ys) g (subst (λ xs. IsScanned b j s xs listed) f h))
 
-pub IsScanned-capacity : (b : List ℕ) (k : ℕ) (s : Scanned) (out listed more more_listed : List ℕ) → IsScanned b k s out listed
+pub IsScanned-capacity : (b : List ℕ) (k : ℕ) (s : ScanState) (out listed more more_listed : List ℕ) → IsScanned b k s out listed
     → take (length out) more ≡ out → length out ≤ length more
     → take (length listed) more_listed ≡ listed → length listed ≤ length more_listed → IsScanned b k s more more_listed
 IsScanned-capacity b k s out listed more more_listed h e l f m =

@@ -15,7 +15,7 @@ use Rattle.simd_json_stages.specs.declared.stage1.words.BlockStarts.{BlockStarts
 use Rattle.simd_json_stages.specs.declared.stage1.words.Parts.{Parts}
 use Rattle.simd_json_stages.specs.declared.stage1.words.Classified.{Classified}
 use Rattle.simd_json_stages.specs.declared.stage1.scan.Placing.{Placing}
-use Rattle.simd_json_stages.specs.declared.stage1.scan.Scanned.{Scanned}
+use Rattle.simd_json_stages.specs.declared.stage1.scan.ScanState.{ScanState}
 use Rattle.simd_json_stages.specs.declared.stage1.scan.Classifying.{Classifying}
 
 -- the byte at index i goes on with a token, wherever it stands
@@ -112,6 +112,6 @@ pub record IsPlaced (b : List ℕ) (k : ℕ) (p : Placing) (out : List ℕ) : Ty
   pub found : take p.used out ≡ filter (is_position b) (range_with_len 0 (64 * k))
 
 -- both
-pub record IsScanned (b : List ℕ) (k : ℕ) (s : Scanned) (out : List ℕ) (listed : List ℕ) : Type 0 where
+pub record IsScanned (b : List ℕ) (k : ℕ) (s : ScanState) (out : List ℕ) (listed : List ℕ) : Type 0 where
   pub classified : IsClassified b k s.classifying listed
   pub placed : IsPlaced b k s.placing out

@@ -1,13 +1,14 @@
 -- What a scan of a whole input finds, and what it answers where memory is short or the input is not UTF-8. Public contracts rest on it.
-use Rattle.std.specs.Prelude.{◌≡◌, ◌≤◌, ◌<◌, ◌⊎◌, ℕ, List, length, take, Bool, IsUtf8}
+use Rattle.std.specs.Prelude.{◌≡◌, ◌≤◌, ◌<◌, ◌⊎◌, ℕ, List, length, take, Bool, None, IsUtf8}
 use Rattle.simd_json_parts.specs.Faults.{whole_fault}
-use Rattle.simd_json_parts.specs.InputFaults.{has_bad_string}
+use Rattle.simd_json_parts.specs.InputFaults.{has_bad_string, input_fault}
 use Rattle.simd_json_parts.specs.Limits.{max_length}
 use Rattle.simd_json_parts.specs.Positions.{positions}
 use Rattle.simd_json_parts.specs.declared.error.Error.{Error}
 use Rattle.simd_json_parts.specs.declared.error.ErrorType.TheVariants.{InvalidUtf8, OutOfMemory}
 use Rattle.simd_json_stages.specs.EscapeBlocks.{blocks_in, backslash_blocks}
 use Rattle.simd_json_stages.specs.declared.stage1.Found.{Found}
+use Rattle.simd_json_stages.specs.declared.stage2.Scanned.{Scanned}
 
 -- the list of positions is shorter than the input, or the list of blocks than its number of blocks
 abbrev pub IsShort : List ℕ → List ℕ → List ℕ → Type 0
@@ -30,3 +31,9 @@ pub record IsFound (b : List ℕ) (is_bad : Bool) (found : Found) (structural_in
   pub listed : take found.positions structural_indexes ≡ positions b
   pub blocks_within : found.escape_blocks ≤ length escape_blocks
   pub blocks_listed : take found.escape_blocks escape_blocks ≡ backslash_blocks b
+
+-- what is handed on of an input without a fault of the whole
+pub record IsScanOf (b : List ℕ) (s : Scanned) : Type 0 where
+  pub positions : s.structural_indexes.now ≡ positions b
+  pub escapes : s.escape_blocks.now ≡ backslash_blocks b
+  pub whole : input_fault b ≡ None

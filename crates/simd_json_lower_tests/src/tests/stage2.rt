@@ -1,8 +1,13 @@
+ghost use Rattle.std.specs.Prelude.{◌≡◌};
+
 use simd_json_parts::error::Result;
 use simd_json_parts::node::Node;
 use simd_json_stages::stage1::{BlockStage1Parse, Stage1Parse};
-use simd_json_stages::stage2::{StackState, build_tape, nodes_enough};
+use simd_json_stages::stage2::{
+    ListSink, Original, Scanned, StackState, build_tape, nodes_enough,
+};
 use std::alloc::Global;
+use std::marker::Brand;
 use std::test::Fail;
 
 mod atoms;
@@ -10,21 +15,33 @@ mod capacity;
 
 // The tape of an input, by the first stage, in a list with capacity for just as many nodes as are enough.
 fn tape_of<'de>(alloc: Global, input: &'de mut [u8], max_depth: usize) -> Result<Vec<Node<'de>>> {
-    let mut positions = Vec::new(alloc);
+    list_of::<Brand>(alloc, input, max_depth)
+}
+
+// The same, where `K` names the bytes of the input.
+fn list_of<'de, K: Original>(
+    alloc: Global,
+    input: &'de mut [u8],
+    max_depth: usize,
+) -> Result<Vec<Node<'de>>>
+    requires { input.old ≡ K.bytes }
+{
+    let mut indexes = Vec::new(alloc);
     let mut blocks = Vec::new(alloc);
-    let found = BlockStage1Parse::find_structural_bits(input, &mut positions, &mut blocks)?;
+    let found = BlockStage1Parse::find_structural_bits(input, &mut indexes, &mut blocks)?;
+    let scanned = Scanned {
+        structural_indexes: &indexes[..found.positions],
+        escape_blocks: &blocks[..found.escape_blocks],
+    };
     let mut stack = Vec::new(alloc);
     stack.resize(found.positions.min(max_depth), StackState::EMPTY)?;
     let mut nodes = Vec::new(alloc);
     nodes.reserve_exact(nodes_enough(found.positions, max_depth))?;
-    build_tape(
-        input,
-        &positions[..found.positions],
-        &blocks[..found.escape_blocks],
-        stack.as_mut_slice(),
-        &mut nodes,
-        max_depth,
-    )?;
+    let sink = ListSink { list: &mut nodes };
+    let stack = stack.as_mut_slice();
+    let (sink, built) = build_tape::<K, ListSink<'_, 'de, Global>>(input, scanned, stack, sink, max_depth);
+    let ListSink { list: _list } = sink;
+    built?;
     Ok(nodes)
 }
 

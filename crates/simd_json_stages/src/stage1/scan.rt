@@ -81,12 +81,12 @@ impl Placing {
 
 // What is known after some whole blocks.
 #[derive(Clone, Copy, Drop)]
-pub(super) struct Scanned {
+pub(super) struct ScanState {
     classifying: Classifying,
     placing: Placing,
 }
 
-const START: Scanned = Scanned {
+const START: ScanState = ScanState {
     classifying: Classifying {
         escaped: 0,
         high: 0,
@@ -109,7 +109,7 @@ pub(super) fn scan_blocks<A: Allocator>(
     blocks: &[[u8; 64]],
     structural_indexes: &mut Vec<u32, A>,
     escape_blocks: &mut Vec<u32, A>,
-) -> Result<(Scanned, usize)>
+) -> Result<(ScanState, usize)>
     requires size { length input.now ≤ max_length }
     requires blocks { blocks.now ≡ first_chunks 64 (length input.now / 64) input.now }
     requires len { length blocks.now ≡ length input.now / 64 }
@@ -161,7 +161,7 @@ fn scan_short<A: Allocator>(
     blocks: &[[u8; 64]],
     structural_indexes: &mut Vec<u32, A>,
     escape_blocks: &mut Vec<u32, A>,
-) -> Result<(Scanned, usize)>
+) -> Result<(ScanState, usize)>
     requires size { length input.now ≤ max_length }
     requires blocks { blocks.now ≡ first_chunks 64 (length input.now / 64) input.now }
     requires len { length blocks.now ≡ length input.now / 64 }
@@ -221,7 +221,7 @@ fn classify_rest(input: &[u8], rest: &[u8], before: u64) -> Classified
 pub(super) fn scan_rest<A: Allocator>(
     input: &[u8],
     rest: &[u8],
-    done: Scanned,
+    done: ScanState,
     checked: usize,
     structural_indexes: &mut Vec<u32, A>,
     escape_blocks: &mut Vec<u32, A>,

@@ -217,12 +217,10 @@ impl<'de> Machine<'_, 'de> {
         Ok(Member::End)
     }
 
-    // The loops have a copy for each caller of `build`, since what has one caller alone is inlined.
-
     // The elements of an array, from the first token of one on, up to a container that opens in it or to its
     // end.
     #[inline(always)]
-    fn elements<K: Original, S: NodeSink<'de>, const COPY: usize>(
+    fn elements<K: Original, S: NodeSink<'de>>(
         &mut self,
         route: Route,
         nodes: &mut S,
@@ -254,7 +252,7 @@ impl<'de> Machine<'_, 'de> {
 
     // The members of an object, likewise. Where the first has no key, the fault is of this kind.
     #[inline(always)]
-    fn members<K: Original, S: NodeSink<'de>, const COPY: usize>(
+    fn members<K: Original, S: NodeSink<'de>>(
         &mut self,
         route: Route,
         nodes: &mut S,
@@ -290,7 +288,7 @@ impl<'de> Machine<'_, 'de> {
 
     // The tape of the tokens at the positions, from the first value on.
     #[inline(always)]
-    pub(super) fn build<K: Original, S: NodeSink<'de>, const COPY: usize>(
+    pub(super) fn build<K: Original, S: NodeSink<'de>>(
         &mut self,
         route: Route,
         nodes: &mut S,
@@ -317,8 +315,8 @@ impl<'de> Machine<'_, 'de> {
         'values: loop {
             value = match self.next_member::<K, S>(route, nodes, value)? {
                 Member::Next(p, kind) => match p.container {
-                    Container::Array => self.elements::<K, S, COPY>(route, nodes, p)?,
-                    Container::Object => self.members::<K, S, COPY>(route, nodes, p, kind)?,
+                    Container::Array => self.elements::<K, S>(route, nodes, p)?,
+                    Container::Object => self.members::<K, S>(route, nodes, p, kind)?,
                 },
                 Member::End => return Ok(()),
             };

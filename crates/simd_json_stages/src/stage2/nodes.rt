@@ -66,13 +66,14 @@ pub trait NodeSink<'de> {
         ensures { result ≡ is_header (get_or (held_nodes self.now) 0 (static_item StaticNode.Null)) };
 }
 
-// A list of nodes that is lent.
+/// A list of nodes as a sink, with room for as many nodes as it has capacity for.
 #[derive(Drop)]
-pub(super) struct Lent<'n, 'de, A: Allocator> {
-    pub(super) list: &'n mut Vec<Node<'de>, A>,
+pub struct ListSink<'n, 'de, A: Allocator> {
+    /// The list.
+    pub list: &'n mut Vec<Node<'de>, A>,
 }
 
-impl<'n, 'de, A: Allocator> NodeSink<'de> for Lent<'n, 'de, A> {
+impl<'n, 'de, A: Allocator> NodeSink<'de> for ListSink<'n, 'de, A> {
     ghost held_nodes = { λ nodes. map item_of nodes.list.now.items };
 
     ghost node_room = { λ nodes. vec_capacity nodes.list.now };

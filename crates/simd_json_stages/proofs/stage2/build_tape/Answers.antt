@@ -1,31 +1,39 @@
-use Rattle.std.proofs.Common.{ap, map, subst, ◌∙◌, sym, arith}
+use Rattle.std.proofs.Common.{ap, subst, ◌∙◌, sym}
 use Rattle.std.specs.Prelude.{Err}
-use Rattle.std.proofs.lemmas.List.{length-map}
-use Rattle.simd_json_parts.specs.Nodes.{item_of}
 use Rattle.simd_json_stages.specs.Building.{IsBuilt, IsFirstFault}
+use Rattle.simd_json_stages.specs.Members.{IsTape}
 use Rattle.simd_json_stages.proofs.BuildingSteps.{descent-built, descent-refused}
-use Rattle.simd_json_stages.proofs.WholeFaults.{some-listed}
 use Rattle.simd_json_stages.proofs.stage2.build_tape.Goals as goal
-
-pub returns-in-Ok-clause-few : goal.returns-in-Ok-clause-few
-returns-in-Ok-clause-few g c = omega (
-  arith,
-  c.in-Ok.ensures.tape.few,
-  length-map c.build_list.new.nodes.items item_of,
-  some-listed c.args.input.now c.args.structural_indexes.now c.requires.positions c.requires.whole,
-)
+use Rattle.simd_json_stages.proofs.stage2.build_tape.Goals.{then-copy-eq-PLAIN, else-copy-eq-PLAIN+then-copy-eq-CLOSED}
+use Rattle.simd_json_stages.proofs.stage2.build_tape.Goals.{else-copy-eq-PLAIN+else-copy-eq-CLOSED}
 
 pub returns-in-Ok-clause-built : goal.returns-in-Ok-clause-built
 returns-in-Ok-clause-built g c =
-    let b = c.args.input.now in
-    let nodes = map item_of c.build_list.new.nodes.items in
-    let written = descent-built b c.args.max_depth nodes
-    (subst (λ ps. IsBuilt b ps c.args.max_depth nodes) c.requires.positions c.in-Ok.ensures.tape.built) in
-    record { document = written.document; same = written.same; listed = written.listed }
+    let b = g.K.Original.bytes in
+    let limit = c.args.max_depth in
+    let held = g.S.NodeSink.held_nodes in
+    let ps = c.args.scanned.structural_indexes.now in
+    let copy = c.if-copy-eq-PLAIN.sink in
+    let tape : IsTape b ps limit (held copy.0) copy.1 = elim c.if-copy-eq-PLAIN.branch [
+      | then-copy-eq-PLAIN w ↦ rw w.sink-is w.build_copy.ensures.tape
+      | else-copy-eq-PLAIN+then-copy-eq-CLOSED w ↦ rw w.sink-is w.build_copy-then-copy-eq-CLOSED.ensures.tape
+      | else-copy-eq-PLAIN+else-copy-eq-CLOSED w ↦ rw w.sink-is w.build_copy-else-copy-eq-CLOSED.ensures.tape
+    ] in
+    descent-built b limit (held copy.0) (subst (λ ps. IsBuilt b ps limit (held copy.0)) c.requires.scanned.positions
+    (rw c.in-Ok.is at tape.built))
 
 pub returns-in-Err-clause-refused : goal.returns-in-Err-clause-refused
 returns-in-Err-clause-refused g c =
-    let b = c.args.input.now in
-    let refused = descent-refused b c.args.max_depth c.in-Err.fault
-    (subst (λ ps. IsFirstFault b ps c.args.max_depth c.in-Err.fault) c.requires.positions c.in-Err.ensures.tape.refused) in
-    ((c.in-Err.fault.kind, c.in-Err.fault.index, c.in-Err.fault.byte, c.into_error.ensures), refused ∙ ap Err (sym c.into_error.ensures))
+    let b = g.K.Original.bytes in
+    let limit = c.args.max_depth in
+    let ps = c.args.scanned.structural_indexes.now in
+    let copy = c.if-copy-eq-PLAIN.sink in
+    let fault = c.in-Err.fault in
+    let tape : IsTape b ps limit (g.S.NodeSink.held_nodes copy.0) copy.1 = elim c.if-copy-eq-PLAIN.branch [
+      | then-copy-eq-PLAIN w ↦ rw w.sink-is w.build_copy.ensures.tape
+      | else-copy-eq-PLAIN+then-copy-eq-CLOSED w ↦ rw w.sink-is w.build_copy-then-copy-eq-CLOSED.ensures.tape
+      | else-copy-eq-PLAIN+else-copy-eq-CLOSED w ↦ rw w.sink-is w.build_copy-else-copy-eq-CLOSED.ensures.tape
+    ] in
+    let refused = descent-refused b limit fault (subst (λ ps. IsFirstFault b ps limit fault) c.requires.scanned.positions
+    (rw c.in-Err.is at tape.refused)) in
+    ((fault.kind, fault.index, fault.byte, c.into_error.ensures), refused ∙ ap Err (sym c.into_error.ensures))

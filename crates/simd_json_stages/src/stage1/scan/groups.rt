@@ -7,7 +7,7 @@ ghost use Rattle.simd_json_stages.specs.Blocks.{IsClassified, IsPlaced, IsScanne
 ghost use Rattle.simd_json_stages.specs.Groups.{HaveClasses, HaveControl, HaveParts, HasNoQuotes};
 
 use super::windows::Window;
-use super::{Classifying, Placing, Scanned};
+use super::{Classifying, Placing, ScanState};
 use crate::stage1::words::{Carry, Parts, classify, find_parts};
 
 // How many blocks a group has.
@@ -219,8 +219,8 @@ fn scan_group(
     out: &mut [u32],
     listed: &mut [u32],
     group: &mut Group,
-    before: Scanned,
-) -> Scanned
+    before: ScanState,
+) -> ScanState
     requires within { first + 8 ≤ length blocks.now }
     requires short { 64 * (first + 8) ≤ 2 ^ 32 }
     requires capacity { before.placing.used + 512 ≤ length out.old }
@@ -244,7 +244,7 @@ fn scan_group(
     part_group(&group.classes, &mut group.parts);
     let control = &group.classes.control;
     let placing = place_group(first, &group.parts, control, out, before.placing);
-    Scanned {
+    ScanState {
         classifying,
         placing,
     }
@@ -257,8 +257,8 @@ pub(super) fn scan_groups(
     window: Window,
     out: &mut [u32],
     listed: &mut [u32],
-    before: Scanned,
-) -> Scanned
+    before: ScanState,
+) -> ScanState
     requires within { (window.first ≤ window.end) × (window.end ≤ length blocks.now) }
     requires groups { (window.end - window.first) % 8 ≡ 0 }
     requires short { 64 * window.end ≤ 2 ^ 32 }

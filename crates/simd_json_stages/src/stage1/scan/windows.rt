@@ -5,7 +5,7 @@ ghost use Rattle.simd_json_parts.specs.Limits.{max_length};
 ghost use Rattle.simd_json_stages.specs.Blocks.{AreBlocks, CanList, HaveNoBackslash, IsAscii, IsScanned};
 ghost use Rattle.simd_json_stages.specs.Scans.{IsBadEncoding, LacksMemory};
 
-use super::Scanned;
+use super::ScanState;
 use super::groups::{GROUP, scan_groups};
 use crate::stage1::BLOCK_LEN;
 use crate::stage1::capacity::grow;
@@ -32,8 +32,8 @@ pub(super) fn scan_few(
     window: Window,
     out: &mut [u32],
     listed: &mut [u32],
-    before: Scanned,
-) -> Scanned
+    before: ScanState,
+) -> ScanState
     requires within { (window.first ≤ window.end) × (window.end ≤ length blocks.now) }
     requires short { 64 * window.end ≤ 2 ^ 32 }
     requires capacity { before.placing.used + 64 * (window.end - window.first) ≤ length out.old }
@@ -61,7 +61,7 @@ pub(super) fn scan_few(
         placing = placing.place_block(parts, found.control, i, out);
         i += 1;
     }
-    Scanned {
+    ScanState {
         classifying,
         placing,
     }
@@ -74,8 +74,8 @@ pub(super) fn scan_window(
     window: Window,
     out: &mut [u32],
     listed: &mut [u32],
-    before: Scanned,
-) -> Scanned
+    before: ScanState,
+) -> ScanState
     requires within { (window.first ≤ window.end) × (window.end ≤ length blocks.now) }
     requires short { 64 * window.end ≤ 2 ^ 32 }
     requires capacity { before.placing.used + 64 * (window.end - window.first) ≤ length out.old }
@@ -129,7 +129,7 @@ pub(super) fn capacity_for<A: Allocator>(
     blocks: &[[u8; 64]],
     checked: usize,
     window: Window,
-    done: Scanned,
+    done: ScanState,
     structural_indexes: &mut Vec<u32, A>,
     escape_blocks: &mut Vec<u32, A>,
 ) -> Result<usize>
