@@ -26,42 +26,42 @@ impl<'de> NodeSink<'de> for Counted {
     ghost lender = { λ _. tt };
 
     #[inline(always)]
-    fn count(&self) -> usize {
+    fn len(&self) -> usize {
         self.count
     }
 
     #[inline(always)]
-    fn string(&mut self, string: &'de str) {
+    fn push_string(&mut self, string: &'de str) {
         self.count += 1;
         self.noted = Noted::of(&(&self.noted, string));
     }
 
     #[inline(always)]
-    fn decimal(&mut self, literal: &'de str) {
+    fn push_decimal(&mut self, literal: &'de str) {
         self.count += 1;
         self.noted = Noted::of(&(&self.noted, literal));
     }
 
     #[inline(always)]
-    fn fixed(&mut self, value: StaticNode) {
+    fn push_static(&mut self, value: StaticNode) {
         self.count += 1;
         self.noted = Noted::of(&(&self.noted, value));
     }
 
     #[inline(always)]
-    fn header(&mut self, container: Container) {
+    fn push_header(&mut self, container: Container) {
         self.is_container |= self.count == 0;
         self.count += 1;
         self.noted = Noted::of(&(&self.noted, container));
     }
 
     #[inline(always)]
-    fn patch(&mut self, header: usize, container: Container, len: usize, count: usize) {
+    fn set_counts(&mut self, header: usize, container: Container, len: usize, count: usize) {
         self.noted = Noted::of(&(&self.noted, header, container, len, count));
     }
 
     #[inline(always)]
-    fn begins_with_header(&self) -> bool {
+    fn starts_with_header(&self) -> bool {
         self.is_container
     }
 }

@@ -12,7 +12,7 @@ ghost use Rattle.simd_json_parts.specs.Nodes.{Item};
 use crate::counted::Counted;
 use crate::nodes::{Node, Room};
 use crate::noted::Noted;
-use crate::sink::Lent;
+use crate::sink::CallerSink;
 use crate::status::TOO_LITTLE_ROOM;
 use simd_json::{Buffers, Original, Result, fill_sink};
 use std::alloc::Global;
@@ -111,7 +111,7 @@ fn write<K: Original>(
     ensures kept { (buffers.new.limit ≡ buffers.old.limit) × KeepsCapacities buffers.old buffers.new }
 {
     let noted = Noted::of(&(&*nodes, &*text));
-    let sink = Lent {
+    let sink = CallerSink {
         nodes,
         count: 0,
         text,
@@ -119,8 +119,8 @@ fn write<K: Original>(
         is_container: false,
         noted,
     };
-    let (sink, result) = fill_sink::<K, Lent<'_>, Global>(input, buffers, sink);
-    let Lent {
+    let (sink, result) = fill_sink::<K, CallerSink<'_>, Global>(input, buffers, sink);
+    let CallerSink {
         nodes: _nodes,
         count,
         text: _text,

@@ -14,7 +14,7 @@ use simd_json::{Container, NodeSink, StaticNode};
 
 // Nodes and texts in lent memory, and how many there are, written or not.
 #[derive(Drop)]
-pub(crate) struct Lent<'t> {
+pub(crate) struct CallerSink<'t> {
     pub(crate) nodes: &'t mut [Node],
     pub(crate) count: usize,
     pub(crate) text: &'t mut [u8],
@@ -32,7 +32,7 @@ pub(crate) struct Lent<'t> {
     ghost texts_laid: { AreTextsLaid noted.note text.now },
 }
 
-impl Lent<'_> {
+impl CallerSink<'_> {
     // A string or a decimal is the next node. Out of line, since the machine comes here from many places, and
     // would be too large to be inlined itself.
     #[inline(never)]
@@ -50,7 +50,7 @@ impl Lent<'_> {
     }
 }
 
-impl<'de, 't> NodeSink<'de> for Lent<'t> {
+impl<'de, 't> NodeSink<'de> for CallerSink<'t> {
     ghost held_nodes = { λ s. s.noted.note.items };
 
     ghost node_room = { λ _. max_length };
@@ -65,29 +65,29 @@ impl<'de, 't> NodeSink<'de> for Lent<'t> {
     } };
 
     #[inline(always)]
-    fn count(&self) -> usize {
+    fn len(&self) -> usize {
         self.count
     }
 
     #[inline(always)]
-    fn string(&mut self, string: &'de str) {
+    fn push_string(&mut self, string: &'de str) {
         self.put_text(false, string.as_bytes());
     }
 
     #[inline(always)]
-    fn decimal(&mut self, literal: &'de str) {
+    fn push_decimal(&mut self, literal: &'de str) {
         self.put_text(true, literal.as_bytes());
     }
 
     #[inline(always)]
-    fn fixed(&mut self, value: StaticNode) {
+    fn push_static(&mut self, value: StaticNode) {
         write_node(self.nodes, self.count, static_of(value));
         self.count += 1;
         self.noted = Noted::of(&(&self.noted, value));
     }
 
     #[inline(always)]
-    fn header(&mut self, container: Container) {
+    fn push_header(&mut self, container: Container) {
         write_node(self.nodes, self.count, header_node(container, 0, 0));
         self.is_container |= self.count == 0;
         self.count += 1;
@@ -95,13 +95,13 @@ impl<'de, 't> NodeSink<'de> for Lent<'t> {
     }
 
     #[inline(always)]
-    fn patch(&mut self, header: usize, container: Container, len: usize, count: usize) {
+    fn set_counts(&mut self, header: usize, container: Container, len: usize, count: usize) {
         write_node(self.nodes, header, header_node(container, len, count));
         self.noted = Noted::of(&(&self.noted, header, container, len, count));
     }
 
     #[inline(always)]
-    fn begins_with_header(&self) -> bool {
+    fn starts_with_header(&self) -> bool {
         self.is_container
     }
 }

@@ -133,7 +133,7 @@ module _ (b ps : List ℕ) (e : ps ≡ positions b) where
         few = omega (arith, r.few);
         deep = omega (arith, r.deep);
         len = omega (arith, r.len);
-        text = λ h. kept _ _ r.text (omega (arith, later s read h));
+        input = λ h. kept _ _ r.input (omega (arith, later s read h));
       })
 
   -- at the first token of a container that has members
@@ -168,7 +168,7 @@ module _ (b ps : List ℕ) (e : ps ≡ positions b) where
         few = omega (arith, r.few);
         deep = omega (arith, r.deep);
         len = omega (arith, r.len);
-        text = kept _ _ r.text (omega arith);
+        input = kept _ _ r.input (omega arith);
       })
 
   -- ---- tokens
@@ -198,13 +198,13 @@ module _ (b ps : List ℕ) (e : ps ≡ positions b) where
       → Contains (tokens b) (token b p.at) → byte_at b p.at ≡ 34
       → IsStringPut b p.at nodes nodes' reads → p.read < length ps → reads (get_or ps p.read 0)
   string-ahead p nodes nodes' reads kept r t quote put more =
-      kept _ _ put.text (ends-before p put.end r t (ap (form_end p.at) (quotes b p.at quote ∙ ap string_token put.read)) more)
+      kept _ _ put.input (ends-before p put.end r t (ap (form_end p.at) (quotes b p.at quote ∙ ap string_token put.read)) more)
 
   pub scalar-ahead : (p : Progress) (nodes nodes' : List Item) (reads : ℕ → Type 0) → IsKept reads → IsRead b ps p
       → Contains (tokens b) (token b p.at)
       → IsScalarPut b p.at nodes nodes' reads → p.read < length ps → reads (get_or ps p.read 0)
   scalar-ahead p nodes nodes' reads kept r t put more =
-      elim put.text [
+      elim put.input [
         | inl early ↦ kept _ _ early (omega (arith, later p r more))
         | inr end ↦ kept _ _ end (ends-before p put.end r t (ap (form_end p.at) put.read) more)
       ]
@@ -218,5 +218,5 @@ module _ (b ps : List ℕ) (e : ps ≡ positions b) where
         few = omega (arith, r.few);
         deep = omega (arith, r.deep);
         len = omega (arith, r.len);
-        text = ahead;
+        input = ahead;
       }

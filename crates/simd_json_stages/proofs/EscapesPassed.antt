@@ -5,7 +5,7 @@ use Rattle.std.proofs.lemmas.List.{get_or_default, get_or_past, get_or-drop, dro
 use Rattle.simd_json_parts.specs.Bytes.{byte_at}
 use Rattle.simd_json_stages.specs.EscapeBlocks.{blocks_in, backslash_blocks, listed_start}
 use Rattle.simd_json_stages.specs.EscapesAhead.{AreAhead, ArePassed, PlainFrom}
-use Rattle.simd_json_stages.specs.declared.stage2.text.Escapes.{Escapes}
+use Rattle.simd_json_stages.specs.declared.stage2.input.Escapes.{Escapes}
 use Rattle.simd_json_stages.proofs.BetweenBlocks.{plain-to_next}
 
 -- where a listed block begins

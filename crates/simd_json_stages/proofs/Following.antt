@@ -11,14 +11,14 @@ use Rattle.simd_json_stages.specs.Building.{IsFirstFault}
 use Rattle.simd_json_stages.specs.Members.{HasCapacity, AfterLast, AtFirst, AtStart, HasCome, IsAtMember, IsAtMemberOf}
 use Rattle.simd_json_stages.specs.Refusals.{error_type}
 use Rattle.simd_json_stages.specs.Progresses.{IsOnRoute, IsRead, IsNext, IsBefore, IsAfter}
-use Rattle.simd_json_stages.specs.Texts.{Reads}
+use Rattle.simd_json_stages.specs.Inputs.{Reads}
 use Rattle.simd_json_stages.specs.declared.stage2.machine.Machine.{Machine}
 use Rattle.simd_json_stages.specs.declared.stage2.progress.Route.{Route}
 use Rattle.simd_json_stages.specs.declared.stage2.stack.Container.TheVariants.{Array, Object}
 use Rattle.simd_json_stages.specs.declared.stage2.stack.Container.{Container}
-use Rattle.simd_json_stages.specs.declared.stage2.progress.Member.TheVariants.{Next, End}
-use Rattle.simd_json_stages.specs.declared.stage2.progress.Value.{Value}
-use Rattle.simd_json_stages.specs.declared.stage2.progress.Value.TheVariants.{Opened, Read}
+use Rattle.simd_json_stages.specs.declared.stage2.progress.NextMember.TheVariants.{Next, End}
+use Rattle.simd_json_stages.specs.declared.stage2.progress.Step.{Step}
+use Rattle.simd_json_stages.specs.declared.stage2.progress.Step.TheVariants.{Opened, Read}
 use Rattle.simd_json_stages.specs.declared.stage2.progress.Progress.{Progress}
 use Rattle.simd_json_stages.specs.declared.stage2.stack.StackState.{StackState}
 use Rattle.simd_json_stages.specs.declared.stage2.fault.Fault.{Fault}
@@ -28,7 +28,7 @@ use Rattle.simd_json_stages.proofs.Bounds.{IsKept, refused-at, refused-none, ins
 use Rattle.simd_json_stages.proofs.BuildingSteps.{step-close, step-end, root-value}
 use Rattle.simd_json_stages.proofs.Holding.{listing-some}
 use Rattle.simd_json_stages.proofs.Refusing.{refuses-trailing}
-use Rattle.simd_json_stages.proofs.TextLaws.{reads-kept}
+use Rattle.simd_json_stages.proofs.InputLaws.{reads-kept}
 
 module _ (b ps : List ℕ) (e : ps ≡ positions b) where
   -- the progress at the next position
@@ -83,7 +83,7 @@ module _ (b ps : List ℕ) (e : ps ≡ positions b) where
         few = omega (arith, after.few);
         deep = omega (arith, after.deep);
         len = after.len;
-        text = kept _ _ (after.text n.more) (omega arith);
+        input = kept _ _ (after.input n.more) (omega arith);
       })
 
   -- a fault at the next token
@@ -116,7 +116,7 @@ module _ (b ps : List ℕ) (e : ps ≡ positions b) where
         few = omega (arith, r.few);
         deep = omega (arith, r.deep);
         len = omega arith;
-        text = λ h. kept _ _ (r.text more) (omega (arith, later b ps e s read h));
+        input = λ h. kept _ _ (r.input more) (omega (arith, later b ps e s read h));
       })
 
   pub closed-value : (limit : ℕ) (stack : List StackState) (nodes nodes' : List Item) (p q q' : Progress)
@@ -152,7 +152,7 @@ module _ (b ps : List ℕ) (e : ps ≡ positions b) where
         few = omega (arith, r.few);
         deep = omega (arith, r.deep);
         len = omega (arith, r.len);
-        text = kept _ _ ahead (omega arith);
+        input = kept _ _ ahead (omega arith);
       })
 
   -- after the root
@@ -168,14 +168,14 @@ module _ (b ps : List ℕ) (e : ps ≡ positions b) where
 
 module _ (b : List ℕ) (r : Route) (m : Machine) (capacity : ℕ) (nodes : List Item) where
   -- past a value
-  pub come-read : (v : Value) (p : Progress) → HasCome b r m capacity nodes v → v ≡ Read p → AfterLast b r m capacity nodes p
+  pub come-read : (v : Step) (p : Progress) → HasCome b r m capacity nodes v → v ≡ Read p → AfterLast b r m capacity nodes p
   come-read v p come is =
       let h : HasCome b r m capacity nodes (Read p) = subst (HasCome b r m capacity nodes) is come in
       record { on_route = h.on_route; capacities = h.capacities; progress = h.within; depth = h.depth; after = h.step }
 
   -- at the first token of a member
   pub at-member : (p : Progress) (kind : FaultKind) → IsOnRoute r.ends_closed b r.indexes.now
-      → HasCapacity r.indexes.now r.max_depth m.stack.now capacity → IsBefore b r.indexes.now (Reads b m.text) (length nodes) p
+      → HasCapacity r.indexes.now r.max_depth m.stack.now capacity → IsBefore b r.indexes.now (Reads b m.input) (length nodes) p
       → p.depth ≤ r.max_depth → 0 < p.depth → AtMember b r.indexes.now r.max_depth kind m.stack.now nodes p
       → IsAtMember b r m capacity nodes (Next p kind)
   at-member p kind route capacities progress depth inside at = go p.container refl at
@@ -190,14 +190,14 @@ module _ (b : List ℕ) (r : Route) (m : Machine) (capacity : ℕ) (nodes : List
       go Object is at = record { on_route = route; capacities = capacities; progress = progress; depth = depth; name = at }
 
   -- in a new container
-  pub come-opened : (v : Value) (p : Progress) → HasCome b r m capacity nodes v → v ≡ Opened p
+  pub come-opened : (v : Step) (p : Progress) → HasCome b r m capacity nodes v → v ≡ Opened p
       → IsAtMember b r m capacity nodes (Next p kinds.ExpectedObjectContent)
   come-opened v p come is =
       let h : HasCome b r m capacity nodes (Opened p) = subst (HasCome b r m capacity nodes) is come in
       at-member p kinds.ExpectedObjectContent h.on_route h.capacities h.within h.depth h.inside h.step
 
   -- after the root
-  pub end-built : (p : Progress) → IsAfter b r.indexes.now (Reads b m.text) (length nodes) p
+  pub end-built : (p : Progress) → IsAfter b r.indexes.now (Reads b m.input) (length nodes) p
       → AfterValue b r.indexes.now r.max_depth m.stack.now nodes p → p.depth ≡ 0 → p.read ≡ length r.indexes.now
       → IsAtMember b r m capacity nodes End
   end-built p after at none all =
@@ -232,7 +232,7 @@ at-first b r m capacity nodes x start some byte =
         few = omega arith;
         deep = omega arith;
         len = omega arith;
-        text = reads-kept b m.text _ _ start.text (omega arith);
+        input = reads-kept b m.input _ _ start.input (omega arith);
       };
       depth = omega arith;
       value = root-value b r.indexes.now r.max_depth m.stack.now nodes x start.empty some;

@@ -13,7 +13,7 @@ mod Following
 mod EscapeBlockLaws
 mod BetweenBlocks
 mod EscapesPassed
-mod TextLaws
+mod InputLaws
 pub mod StringEnds
 mod ScalarPut
 mod StringPut

@@ -116,8 +116,8 @@ decimal-here b i literal end l is = subst (FormHere b) is (form-here b i l)
 pub static-put : (b : List ℕ) (i end : ℕ) (nodes nodes' : List Item) (reads : ℕ → Type 0) (d : Document) (s : StaticNode) → reads i
     → form_at b i ≡ scalar (Ok (d, end)) → listing d ≡ static_item s ∷ [] → nodes' ≡ nodes ++ static_item s ∷ []
     → IsScalarPut b i nodes nodes' reads
-static-put b i end nodes nodes' reads d s text is listed put =
-    record { document = d; end = end; node = static_item s; read = is; listed = listed; put = put; text = inl text }
+static-put b i end nodes nodes' reads d s input is listed put =
+    record { document = d; end = end; node = static_item s; read = is; listed = listed; put = put; input = inl input }
 
 -- ---- a refusal
 

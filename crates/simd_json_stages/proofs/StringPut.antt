@@ -13,11 +13,11 @@ use Rattle.simd_json_scalars.proofs.Positions.Boundaries.{Boundary, closing_quot
 use Rattle.simd_json_scalars.proofs.Positions.Order.{Contains-positions}
 use Rattle.simd_json_scalars.proofs.Positions.Scan.{is_closed, is_closed-quote, is_closed-other, is_inside-at, is_position-picks}
 use Rattle.simd_json_stages.specs.Members.{AtString}
-use Rattle.simd_json_stages.specs.Texts.{IsStringBefore}
+use Rattle.simd_json_stages.specs.Inputs.{IsStringBefore}
 use Rattle.simd_json_stages.specs.Progresses.{IsRead}
 use Rattle.simd_json_stages.specs.declared.stage2.progress.Progress.{Progress}
 use Rattle.simd_json_stages.specs.declared.stage2.progress.Route.{Route}
-use Rattle.simd_json_stages.specs.declared.stage2.text.Text.{Text}
+use Rattle.simd_json_stages.specs.declared.stage2.input.Input.{Input}
 use Rattle.simd_json_stages.proofs.Places.{token, at-position, at-inside, none-between, next-there, at-before_next, next-inside}
 use Rattle.simd_json_stages.proofs.Places.{string-closed, string-utf8}
 
@@ -66,8 +66,8 @@ string_at-fault b i e h = string_read-fault (read_pieces 0 (slice_range b (suc i
 
 -- ---- the string at the last token
 
--- as `put_string` is called, where `next` is the next position or the end of the input
-module _ (b : List ℕ) (r : Route) (t : Text) (capacity written : ℕ) (p : Progress) (at : AtString b r t capacity written p) where
+-- as `push_string` is called, where `next` is the next position or the end of the input
+module _ (b : List ℕ) (r : Route) (t : Input) (capacity written : ℕ) (p : Progress) (at : AtString b r t capacity written p) where
   none : input_fault b ≡ None
   none = at.on_route.whole
 
@@ -109,7 +109,7 @@ module _ (b : List ℕ) (r : Route) (t : Text) (capacity written : ℕ) (p : Pro
   -- its closing quote is the last one before that
   pub string-before : (next : ℕ) → next ≡ get_or r.indexes.now p.read t.end → IsStringBefore b p.at next
   string-before next is' =
-      let is : next ≡ get_or (positions b) p.read (length b) = is' ∙ ap (get_or r.indexes.now p.read) at.text.end
+      let is : next ≡ get_or (positions b) p.read (length b) = is' ∙ ap (get_or r.indexes.now p.read) at.input.end
       ∙ ap (λ ps. get_or ps p.read (length b)) at.on_route.positions in
       let there : Contains (positions b) next ⊎ (next ≡ length b) = subst (λ n. Contains (positions b) n ⊎ (n ≡ length b))
       (sym is) (next-there b p) in

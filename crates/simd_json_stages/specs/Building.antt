@@ -20,8 +20,8 @@ use Rattle.simd_json_stages.specs.declared.stage2.progress.Progress.{Progress}
 use Rattle.simd_json_stages.specs.declared.stage2.stack.StackState.{StackState}
 use Rattle.simd_json_stages.specs.declared.stage2.progress.Following.{Following}
 use Rattle.simd_json_stages.specs.declared.stage2.progress.Following.TheVariants as followings
-use Rattle.simd_json_stages.specs.declared.stage2.progress.Value.{Value}
-use Rattle.simd_json_stages.specs.declared.stage2.progress.Value.TheVariants.{Opened, Read}
+use Rattle.simd_json_stages.specs.declared.stage2.progress.Step.{Step}
+use Rattle.simd_json_stages.specs.declared.stage2.progress.Step.TheVariants.{Opened, Read}
 use Rattle.simd_json_stages.specs.declared.stage2.fault.Fault.{Fault}
 use Rattle.simd_json_stages.specs.declared.stage2.fault.FaultKind.{FaultKind}
 use Rattle.simd_json_stages.specs.declared.stage2.fault.FaultKind.TheVariants as kinds
@@ -180,7 +180,7 @@ module _ (b ps : List ℕ) (limit : ℕ) where
   AtMember kind stack nodes p = AtMemberOf p.container (error_type kind) stack nodes p
 
   -- what a value came to
-  abbrev pub AtFirstOrAfter : List StackState → List Item → Value → Type 0
+  abbrev pub AtFirstOrAfter : List StackState → List Item → Step → Type 0
   AtFirstOrAfter stack nodes (Opened p) = AtMember kinds.ExpectedObjectContent stack nodes p
   AtFirstOrAfter stack nodes (Read p) = AfterValue stack nodes p
 

@@ -11,7 +11,7 @@ pub mod Blocks
 pub mod Groups
 pub mod Stored
 -- The second stage.
-pub mod Texts
+pub mod Inputs
 pub mod EscapesAhead
 pub mod Continued
 pub mod Building

@@ -7,7 +7,7 @@ use Rattle.simd_json_stages.specs.Building.{closer, AtValue, AtName, AfterValue,
 use Rattle.simd_json_stages.specs.NodesEnough.{nodes_enough}
 use Rattle.simd_json_stages.specs.Progresses.{IsOnRoute, IsRead, IsBefore, IsAfter, IsWithin, reached}
 use Rattle.simd_json_stages.specs.Refusals.{error_type}
-use Rattle.simd_json_stages.specs.Texts.{Reads}
+use Rattle.simd_json_stages.specs.Inputs.{Reads}
 use Rattle.simd_json_stages.specs.declared.stage2.machine.Machine.{Machine}
 use Rattle.simd_json_stages.specs.declared.stage2.progress.Route.{Route}
 use Rattle.simd_json_stages.specs.declared.stage2.stack.Container.{Container}
@@ -15,12 +15,12 @@ use Rattle.simd_json_stages.specs.declared.stage2.stack.Container.TheVariants.{A
 use Rattle.simd_json_stages.specs.declared.stage2.stack.StackState.{StackState}
 use Rattle.simd_json_stages.specs.declared.stage2.fault.Fault.{Fault}
 use Rattle.simd_json_stages.specs.declared.stage2.fault.FaultKind.{FaultKind}
-use Rattle.simd_json_stages.specs.declared.stage2.progress.Member.{Member}
-use Rattle.simd_json_stages.specs.declared.stage2.progress.Member.TheVariants.{Next, End}
-use Rattle.simd_json_stages.specs.declared.stage2.progress.Value.{Value}
-use Rattle.simd_json_stages.specs.declared.stage2.progress.Value.TheVariants.{Opened, Read}
+use Rattle.simd_json_stages.specs.declared.stage2.progress.NextMember.{NextMember}
+use Rattle.simd_json_stages.specs.declared.stage2.progress.NextMember.TheVariants.{Next, End}
+use Rattle.simd_json_stages.specs.declared.stage2.progress.Step.{Step}
+use Rattle.simd_json_stages.specs.declared.stage2.progress.Step.TheVariants.{Opened, Read}
 use Rattle.simd_json_stages.specs.declared.stage2.progress.Progress.{Progress}
-use Rattle.simd_json_stages.specs.declared.stage2.text.Text.{Text}
+use Rattle.simd_json_stages.specs.declared.stage2.input.Input.{Input}
 
 -- there is capacity for the nodes of the positions ps, and for a frame each
 pub record HasCapacity (ps : List ℕ) (limit : ℕ) (stack : List StackState) (capacity : ℕ) : Type 0 where
@@ -28,22 +28,22 @@ pub record HasCapacity (ps : List ℕ) (limit : ℕ) (stack : List StackState) (
   pub frame_capacity : min (length ps) limit ≤ length stack
 
 -- after a token, where the next one can be read if there is one
-pub record AfterToken (b : List ℕ) (r : Route) (t : Text) (p : Progress) : Type 0 where
+pub record AfterToken (b : List ℕ) (r : Route) (t : Input) (p : Progress) : Type 0 where
   pub on_route : IsOnRoute r.ends_closed b r.indexes.now
   pub read : IsRead b r.indexes.now p
-  pub text : p.read < length r.indexes.now → Reads b t (slice_index r.indexes.now p.read)
+  pub input : p.read < length r.indexes.now → Reads b t (slice_index r.indexes.now p.read)
 
 -- at the opening quote of a string
-pub record AtString (b : List ℕ) (r : Route) (t : Text) (capacity written : ℕ) (p : Progress) : Type 0 where
+pub record AtString (b : List ℕ) (r : Route) (t : Input) (capacity written : ℕ) (p : Progress) : Type 0 where
   pub on_route : IsOnRoute r.ends_closed b r.indexes.now
   pub read : IsRead b r.indexes.now p
   pub token : Contains (tokens b) (record { index = p.at; form = form_at b p.at })
   pub opening : p.byte ≡ quote
-  pub text : Reads b t p.at
+  pub input : Reads b t p.at
   pub room : written < capacity
 
 -- no token before this one is looked at again
-abbrev pub IsFrom : ℕ → Member → Type 0
+abbrev pub IsFrom : ℕ → NextMember → Type 0
 IsFrom n (Next p kind) = n ≤ p.read
 IsFrom n End = Unit {0}
 
@@ -52,15 +52,15 @@ pub record AtStart (b : List ℕ) (r : Route) (m : Machine) (capacity : ℕ) (no
   pub on_route : IsOnRoute r.ends_closed b r.indexes.now
   pub capacities : HasCapacity r.indexes.now r.max_depth m.stack.now capacity
   pub empty : nodes ≡ []
-  pub text : Reads b m.text 0
+  pub input : Reads b m.input 0
 
--- The state of the machine is its text and stack, and the nodes with their capacity.
+-- The state of the machine is its input and stack, and the nodes with their capacity.
 module _ (b : List ℕ) (r : Route) (m : Machine) (capacity : ℕ) (nodes : List Item) where
   -- at the first token of a value
   pub record AtFirst (p : Progress) : Type 0 where
     pub on_route : IsOnRoute r.ends_closed b r.indexes.now
     pub capacities : HasCapacity r.indexes.now r.max_depth m.stack.now capacity
-    pub progress : IsBefore b r.indexes.now (Reads b m.text) (length nodes) p
+    pub progress : IsBefore b r.indexes.now (Reads b m.input) (length nodes) p
     pub depth : p.depth ≤ r.max_depth
     pub value : AtValue b r.indexes.now r.max_depth m.stack.now nodes p
 
@@ -79,7 +79,7 @@ module _ (b : List ℕ) (r : Route) (m : Machine) (capacity : ℕ) (nodes : List
   pub record AtPair (p : Progress) (kind : FaultKind) : Type 0 where
     pub on_route : IsOnRoute r.ends_closed b r.indexes.now
     pub capacities : HasCapacity r.indexes.now r.max_depth m.stack.now capacity
-    pub progress : IsBefore b r.indexes.now (Reads b m.text) (length nodes) p
+    pub progress : IsBefore b r.indexes.now (Reads b m.input) (length nodes) p
     pub depth : p.depth ≤ r.max_depth
     pub name : AtName b r.indexes.now r.max_depth (error_type kind) m.stack.now nodes p
 
@@ -87,7 +87,7 @@ module _ (b : List ℕ) (r : Route) (m : Machine) (capacity : ℕ) (nodes : List
   pub record AfterLast (p : Progress) : Type 0 where
     pub on_route : IsOnRoute r.ends_closed b r.indexes.now
     pub capacities : HasCapacity r.indexes.now r.max_depth m.stack.now capacity
-    pub progress : IsAfter b r.indexes.now (Reads b m.text) (length nodes) p
+    pub progress : IsAfter b r.indexes.now (Reads b m.input) (length nodes) p
     pub depth : p.depth ≤ r.max_depth
     pub after : AfterValue b r.indexes.now r.max_depth m.stack.now nodes p
 
@@ -97,15 +97,15 @@ module _ (b : List ℕ) (r : Route) (m : Machine) (capacity : ℕ) (nodes : List
     pub inside : 0 < p.depth
     pub container : c ≡ p.container
 
-  abbrev pub IsInside : Value → Type 0
+  abbrev pub IsInside : Step → Type 0
   IsInside (Opened p) = 0 < p.depth
   IsInside (Read p) = Unit {0}
 
   -- in a new container, or past a value
-  pub record HasCome (v : Value) : Type 0 where
+  pub record HasCome (v : Step) : Type 0 where
     pub on_route : IsOnRoute r.ends_closed b r.indexes.now
     pub capacities : HasCapacity r.indexes.now r.max_depth m.stack.now capacity
-    pub within : IsWithin b r.indexes.now (Reads b m.text) (length nodes) v
+    pub within : IsWithin b r.indexes.now (Reads b m.input) (length nodes) v
     pub depth : (reached v).depth ≤ r.max_depth
     pub inside : IsInside v
     pub step : AtFirstOrAfter b r.indexes.now r.max_depth m.stack.now nodes v
@@ -116,7 +116,7 @@ module _ (b : List ℕ) (r : Route) (m : Machine) (capacity : ℕ) (nodes : List
   IsAtMemberOf Object p kind = AtPair p kind
 
   -- at a member, or at the end with the whole document
-  abbrev pub IsAtMember : Member → Type 0
+  abbrev pub IsAtMember : NextMember → Type 0
   IsAtMember (Next p kind) = IsAtMemberOf p.container p kind
   IsAtMember End = (2 * length nodes ≤ length r.indexes.now + 1) × IsBuilt b r.indexes.now r.max_depth nodes
 

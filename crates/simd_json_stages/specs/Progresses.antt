@@ -7,8 +7,8 @@ use Rattle.simd_json_stages.specs.EscapesAhead.{PlainFrom}
 use Rattle.simd_json_stages.specs.declared.stage2.progress.Progress.{Progress}
 use Rattle.simd_json_stages.specs.declared.stage2.progress.Following.{Following}
 use Rattle.simd_json_stages.specs.declared.stage2.progress.Following.TheVariants as followings
-use Rattle.simd_json_stages.specs.declared.stage2.progress.Value.{Value}
-use Rattle.simd_json_stages.specs.declared.stage2.progress.Value.TheVariants.{Opened, Read}
+use Rattle.simd_json_stages.specs.declared.stage2.progress.Step.{Step}
+use Rattle.simd_json_stages.specs.declared.stage2.progress.Step.TheVariants.{Opened, Read}
 
 -- the last token is at the last position that was read, and this is its first byte
 pub record IsRead (b ps : List ℕ) (p : Progress) : Type 0 where
@@ -47,17 +47,17 @@ pub record IsBefore (b ps : List ℕ) (reads : ℕ → Type 0) (written : ℕ) (
   pub few : 2 * written < p.read + p.depth
   pub deep : p.depth ≤ written
   pub len : p.len ≤ written
-  pub text : reads p.at
+  pub input : reads p.at
 
--- After a value, which has a node beside the open containers': the text can be read from the next position on.
+-- After a value, which has a node beside the open containers': the input can be read from the next position on.
 pub record IsAfter (b ps : List ℕ) (reads : ℕ → Type 0) (written : ℕ) (p : Progress) : Type 0 where
   pub read : IsRead b ps p
   pub few : 2 * written ≤ p.read + p.depth + 1
   pub deep : p.depth < written
   pub len : p.len ≤ written
-  pub text : p.read < length ps → reads (slice_index ps p.read)
+  pub input : p.read < length ps → reads (slice_index ps p.read)
 
-abbrev pub IsWithin : List ℕ → List ℕ → (ℕ → Type 0) → ℕ → Value → Type 0
+abbrev pub IsWithin : List ℕ → List ℕ → (ℕ → Type 0) → ℕ → Step → Type 0
 IsWithin b ps reads written (Opened p) = IsBefore b ps reads written p
 IsWithin b ps reads written (Read p) = IsAfter b ps reads written p
 
@@ -65,12 +65,12 @@ abbrev pub IsWithinNext : List ℕ → List ℕ → (ℕ → Type 0) → ℕ →
 IsWithinNext b ps reads written (followings.Next p) = IsBefore b ps reads written p
 IsWithinNext b ps reads written (followings.Closed p) = IsAfter b ps reads written p
 
-abbrev pub reached : Value → Progress
+abbrev pub reached : Step → Progress
 reached (Opened p) = p
 reached (Read p) = p
 
 -- tokens are read, and one more container is open, or none
-abbrev pub AdvancesPastValue : ℕ → Progress → Value → Type 0
+abbrev pub AdvancesPastValue : ℕ → Progress → Step → Type 0
 AdvancesPastValue limit p (Opened q) = (p.read < q.read) × (p.at ≤ q.at) × (q.depth ≤ limit) × (0 < q.depth)
 AdvancesPastValue limit p (Read q) = (p.read ≤ q.read) × (p.at ≤ q.at) × (q.depth ≡ p.depth) × (q.container ≡ p.container)
 

@@ -10,28 +10,28 @@ use Rattle.simd_json_parts.specs.NumberAt.{number_at}
 use Rattle.simd_json_parts.specs.StringAt.{string_at}
 use Rattle.simd_json_parts.specs.Tokens.{Form, begin_array, begin_object, string_token, scalar, form_at}
 use Rattle.simd_json_stages.specs.Refusals.{error_type}
-use Rattle.simd_json_stages.specs.Texts.{Reads}
+use Rattle.simd_json_stages.specs.Inputs.{Reads}
 use Rattle.simd_json_stages.specs.declared.stage2.fault.Fault.{Fault}
 use Rattle.simd_json_stages.specs.declared.stage2.fault.FaultKind.TheVariants as kinds
 use Rattle.simd_json_stages.specs.declared.stage2.progress.Progress.{Progress}
-use Rattle.simd_json_stages.specs.declared.stage2.text.Text.{Text}
+use Rattle.simd_json_stages.specs.declared.stage2.input.Input.{Input}
 
 -- at the first byte of a token, with room for a node
-pub record AtScalar (b : List ℕ) (t : Text) (capacity written : ℕ) (p : Progress) : Type 0 where
-  pub text : Reads b t p.at
+pub record AtScalar (b : List ℕ) (t : Input) (capacity written : ℕ) (p : Progress) : Type 0 where
+  pub input : Reads b t p.at
   pub within : p.at < length b
   pub first : p.byte ≡ byte_at b p.at
   pub room : written < capacity
 
 -- which is no string, array or object
-pub record AtOther (b : List ℕ) (t : Text) (capacity written : ℕ) (p : Progress) : Type 0 where
+pub record AtOther (b : List ℕ) (t : Input) (capacity written : ℕ) (p : Progress) : Type 0 where
   pub at : AtScalar b t capacity written p
   pub no_string : p.byte ≢ 34
   pub no_array : p.byte ≢ 91
   pub no_object : p.byte ≢ 123
 
 -- which is a number
-pub record AtNumber (b : List ℕ) (t : Text) (capacity written : ℕ) (p : Progress) : Type 0 where
+pub record AtNumber (b : List ℕ) (t : Input) (capacity written : ℕ) (p : Progress) : Type 0 where
   pub at : AtScalar b t capacity written p
   pub form : form_at b p.at ≡ scalar (number_at b p.at)
 
@@ -43,7 +43,7 @@ pub record IsStringPut (b : List ℕ) (i : ℕ) (nodes nodes' : List Item) (read
   pub read : string_at b i ≡ Ok (string, end)
   pub item : node ≡ string_item string
   pub put : nodes' ≡ nodes ++ node ∷ []
-  pub text : reads end
+  pub input : reads end
 
 -- the scalar at index i is the next node, and what is after it can be read, or it too
 pub record IsScalarPut (b : List ℕ) (i : ℕ) (nodes nodes' : List Item) (reads : ℕ → Type 0) : Type 0 where
@@ -53,7 +53,7 @@ pub record IsScalarPut (b : List ℕ) (i : ℕ) (nodes nodes' : List Item) (read
   pub read : form_at b i ≡ scalar (Ok (document, end))
   pub listed : listing document ≡ node ∷ []
   pub put : nodes' ≡ nodes ++ node ∷ []
-  pub text : reads i ⊎ reads end
+  pub input : reads i ⊎ reads end
 
 -- the fault is the string's
 abbrev pub IsBadString : List ℕ → ℕ → Fault → Type 0

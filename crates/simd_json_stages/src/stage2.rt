@@ -1,6 +1,6 @@
 //! From structural indexes to nodes.
 //!
-//! `machine` goes from token to token, `progress` has how far it is, `stack` the containers that are open, `text`
+//! `machine` goes from token to token, `progress` has how far it is, `stack` the containers that are open, `input`
 //! what it reads from, `nodes` what it writes to, `string` and `scalar` the values of one node, and `fault` what it
 //! refuses.
 ghost use Rattle.std.specs.Prelude.{◌≡◌, ◌≤◌, [], length, Err, OnOk, IfErr};
@@ -19,7 +19,7 @@ mod progress;
 mod scalar;
 mod stack;
 mod string;
-mod text;
+mod input;
 
 use fault::Fault;
 use machine::Machine;
@@ -28,8 +28,8 @@ use progress::Route;
 pub use scalar::{is_valid_false_atom, is_valid_null_atom, is_valid_true_atom};
 use simd_json_parts::error::Result;
 pub use stack::{Container, StackState};
-pub use text::Original;
-use text::Text;
+pub use input::Original;
+use input::Input;
 
 /// How many nodes are enough for the tape of so many structural positions, with so many containers open at
 /// most: one for each container that may be open, and one for every other of the positions that are left.
@@ -146,12 +146,12 @@ fn build_copy<'de, K: Original, S: NodeSink<'de>, const COPY: usize>(
     ensures tape { IsTape K.bytes scanned.entry.structural_indexes.now max_depth
         (S.held_nodes result.0) result.1 }
 {
-    let text = if COPY == PLAIN {
-        Text::shared(input)
+    let input = if COPY == PLAIN {
+        Input::plain(input)
     } else {
-        Text::lent(input, scanned.escape_blocks)
+        Input::with_escapes(input, scanned.escape_blocks)
     };
-    let mut machine = Machine { text, stack };
+    let mut machine = Machine { input, stack };
     let route = Route {
         indexes: scanned.structural_indexes,
         ends_closed: COPY != ANY,

@@ -15,23 +15,23 @@ ghost use Rattle.simd_json_stages.specs.Members.{AfterMember, AtElement, AtFirst
 ghost use Rattle.simd_json_stages.specs.Members.{HasCome, IsAtMember, IsFrom};
 ghost use Rattle.simd_json_stages.specs.Progresses.{AdvancesPastMember, AdvancesPastValue};
 ghost use Rattle.simd_json_stages.specs.Progresses.{IsWithin, IsWithinNext, reached};
-ghost use Rattle.simd_json_stages.specs.Texts.{Reads};
+ghost use Rattle.simd_json_stages.specs.Inputs.{Reads};
 
 use super::fault::{Fault, FaultKind};
 use super::nodes::NodeSink;
-use super::progress::{Following, Member, Progress, Route, Value};
-use super::scalar::put_scalar;
+use super::progress::{Following, NextMember, Progress, Route, Step};
+use super::scalar::push_scalar;
 use super::stack::{Container, StackState, close};
-use super::string::put_string;
-use super::text::{Original, Text};
+use super::string::push_string;
+use super::input::{Original, Input};
 use std::result::Result;
 
-// What the machine changes: what is left of the text, and what is kept of open containers. The nodes are lent
+// What the machine changes: what is left of the input, and what is kept of open containers. The nodes are lent
 // beside it, since the prover can't follow, through a struct, a list of values that share the input. Whatever
 // takes the machine is inlined, so that its fields stay in registers.
 #[derive(Drop)]
 pub(crate) struct Machine<'m, 'de> {
-    pub(crate) text: Text<'m, 'de>,
+    pub(crate) input: Input<'m, 'de>,
     pub(crate) stack: &'m mut [StackState],
 }
 
@@ -60,12 +60,12 @@ impl<'de> Machine<'_, 'de> {
         if p.byte != b'"' {
             return Err(p.fault(kind));
         }
-        put_string::<K, S>(&mut self.text, route, nodes, p)?;
-        let colon = p.next_token(&self.text, route)?;
+        push_string::<K, S>(&mut self.input, route, nodes, p)?;
+        let colon = p.next_token(&self.input, route)?;
         if colon.byte != b':' {
             return Err(colon.fault(FaultKind::ExpectedObjectColon));
         }
-        let value = colon.next_token(&self.text, route)?;
+        let value = colon.next_token(&self.input, route)?;
         Ok(value)
     }
 
@@ -78,14 +78,14 @@ impl<'de> Machine<'_, 'de> {
         nodes: &mut S,
         p: Progress,
         container: Container,
-    ) -> Result<Value, Fault>
+    ) -> Result<Step, Fault>
         requires { AtOpening K.bytes route self.old (S.node_room nodes.old)
             (S.held_nodes nodes.old) p container }
         ensures capacity { (S.node_room nodes.new ≡ S.node_room nodes.old)
             × (length self.new.stack.now ≡ length self.old.stack.now) }
         ensures lender { S.lender nodes.new ≡ S.lender nodes.old }
-        ensures text { self.new.text ≡ self.old.text }
-        ensures progress { IfOk result (IsWithin K.bytes route.entry.indexes.now (Reads K.bytes self.new.text)
+        ensures input { self.new.input ≡ self.old.input }
+        ensures progress { IfOk result (IsWithin K.bytes route.entry.indexes.now (Reads K.bytes self.new.input)
             (length (S.held_nodes nodes.new))) }
         ensures advances { IfOk result (AdvancesPastValue route.entry.max_depth p) }
         ensures step { IfOk result
@@ -96,18 +96,18 @@ impl<'de> Machine<'_, 'de> {
         if p.depth == route.max_depth {
             return Err(p.fault(FaultKind::DepthLimitExceeded));
         }
-        let q = p.next_token(&self.text, route)?;
+        let q = p.next_token(&self.input, route)?;
         if q.byte == container.closer() {
-            nodes.header(container);
-            return Ok(Value::Read(q.with_value()));
+            nodes.push_header(container);
+            return Ok(Step::Read(q.with_value()));
         }
         self.stack[p.depth] = StackState {
-            header: nodes.count(),
+            header: nodes.len(),
             outer: p.container,
             len: p.len,
         };
-        nodes.header(container);
-        Ok(Value::Opened(Progress {
+        nodes.push_header(container);
+        Ok(Step::Opened(Progress {
             depth: p.depth + 1,
             container,
             len: 0,
@@ -122,12 +122,12 @@ impl<'de> Machine<'_, 'de> {
         route: Route,
         nodes: &mut S,
         p: Progress,
-    ) -> Result<Value, Fault>
+    ) -> Result<Step, Fault>
         requires { AtFirst K.bytes route self.old (S.node_room nodes.old) (S.held_nodes nodes.old) p }
         ensures capacity { (S.node_room nodes.new ≡ S.node_room nodes.old)
             × (length self.new.stack.now ≡ length self.old.stack.now) }
         ensures lender { S.lender nodes.new ≡ S.lender nodes.old }
-        ensures progress { IfOk result (IsWithin K.bytes route.entry.indexes.now (Reads K.bytes self.new.text)
+        ensures progress { IfOk result (IsWithin K.bytes route.entry.indexes.now (Reads K.bytes self.new.input)
             (length (S.held_nodes nodes.new))) }
         ensures advances { IfOk result (AdvancesPastValue route.entry.max_depth p) }
         ensures step { IfOk result
@@ -142,11 +142,11 @@ impl<'de> Machine<'_, 'de> {
             return self.open::<K, S>(route, nodes, p, Container::Array);
         }
         if p.byte == b'"' {
-            put_string::<K, S>(&mut self.text, route, nodes, p)?;
+            push_string::<K, S>(&mut self.input, route, nodes, p)?;
         } else {
-            put_scalar::<K, S>(&mut self.text, nodes, p)?;
+            push_scalar::<K, S>(&mut self.input, nodes, p)?;
         }
-        Ok(Value::Read(p.with_value()))
+        Ok(Step::Read(p.with_value()))
     }
 
     // After a member of a container of this kind: a comma and the first token of the next member, or the
@@ -165,16 +165,16 @@ impl<'de> Machine<'_, 'de> {
         ensures capacity { S.node_room nodes.new ≡ S.node_room nodes.old }
         ensures lender { S.lender nodes.new ≡ S.lender nodes.old }
         ensures progress { IfOk result
-            (IsWithinNext K.bytes route.entry.indexes.now (Reads K.bytes self.now.text) (length (S.held_nodes nodes.new))) }
+            (IsWithinNext K.bytes route.entry.indexes.now (Reads K.bytes self.now.input) (length (S.held_nodes nodes.new))) }
         ensures advances { IfOk result (AdvancesPastMember p) }
         ensures step { IfOk result
             (AtNextOrAfter K.bytes route.entry.indexes.now route.entry.max_depth self.now.stack.now
             (S.held_nodes nodes.new)) }
         ensures refused { IfErr result (IsFirstFault K.bytes route.entry.indexes.now route.entry.max_depth) }
     {
-        let q = p.next_token(&self.text, route)?;
+        let q = p.next_token(&self.input, route)?;
         if q.byte == b',' {
-            return Ok(Following::Next(q.next_token(&self.text, route)?));
+            return Ok(Following::Next(q.next_token(&self.input, route)?));
         }
         if q.byte != container.closer() {
             return Err(q.fault(container.content_kind()));
@@ -189,8 +189,8 @@ impl<'de> Machine<'_, 'de> {
         &self,
         route: Route,
         nodes: &mut S,
-        value: Value,
-    ) -> Result<Member, Fault>
+        value: Step,
+    ) -> Result<NextMember, Fault>
         requires { HasCome K.bytes route self.now (S.node_room nodes.old) (S.held_nodes nodes.old) value }
         ensures capacity { S.node_room nodes.new ≡ S.node_room nodes.old }
         ensures lender { S.lender nodes.new ≡ S.lender nodes.old }
@@ -200,21 +200,21 @@ impl<'de> Machine<'_, 'de> {
         ensures refused { IfErr result (IsFirstFault K.bytes route.entry.indexes.now route.entry.max_depth) }
     {
         let mut p = match value {
-            Value::Opened(p) => return Ok(Member::Next(p, FaultKind::ExpectedObjectContent)),
-            Value::Read(p) => p,
+            Step::Opened(p) => return Ok(NextMember::Next(p, FaultKind::ExpectedObjectContent)),
+            Step::Read(p) => p,
         };
         while p.depth > 0 {
             match self.after_member::<K, S>(route, nodes, p, p.container)? {
                 Following::Next(next) => {
-                    return Ok(Member::Next(next, FaultKind::ExpectedObjectKey));
+                    return Ok(NextMember::Next(next, FaultKind::ExpectedObjectKey));
                 }
                 Following::Closed(closed) => p = closed,
             }
         }
         if p.read < route.indexes.len() {
-            return Err(p.fault_after_root(nodes.begins_with_header()));
+            return Err(p.fault_after_root(nodes.starts_with_header()));
         }
-        Ok(Member::End)
+        Ok(NextMember::End)
     }
 
     // The elements of an array, from the first token of one on, up to a container that opens in it or to its
@@ -225,7 +225,7 @@ impl<'de> Machine<'_, 'de> {
         route: Route,
         nodes: &mut S,
         first: Progress,
-    ) -> Result<Value, Fault>
+    ) -> Result<Step, Fault>
         requires { AtElement K.bytes route self.old (S.node_room nodes.old)
             (S.held_nodes nodes.old) first }
         ensures capacity { (S.node_room nodes.new ≡ S.node_room nodes.old)
@@ -239,11 +239,11 @@ impl<'de> Machine<'_, 'de> {
         let mut p = first;
         'values: loop {
             match self.read_value::<K, S>(route, nodes, p)? {
-                Value::Opened(opened) => return Ok(Value::Opened(opened)),
-                Value::Read(read) => {
+                Step::Opened(opened) => return Ok(Step::Opened(opened)),
+                Step::Read(read) => {
                     match self.after_member::<K, S>(route, nodes, read, Container::Array)? {
                         Following::Next(next) => p = next,
-                        Following::Closed(closed) => return Ok(Value::Read(closed)),
+                        Following::Closed(closed) => return Ok(Step::Read(closed)),
                     }
                 }
             }
@@ -258,7 +258,7 @@ impl<'de> Machine<'_, 'de> {
         nodes: &mut S,
         first: Progress,
         kind: FaultKind,
-    ) -> Result<Value, Fault>
+    ) -> Result<Step, Fault>
         requires { AtPair K.bytes route self.old (S.node_room nodes.old)
             (S.held_nodes nodes.old) first kind }
         ensures capacity { (S.node_room nodes.new ≡ S.node_room nodes.old)
@@ -274,11 +274,11 @@ impl<'de> Machine<'_, 'de> {
         'pairs: loop {
             let value = self.read_key::<K, S>(route, nodes, p, kind)?;
             match self.read_value::<K, S>(route, nodes, value)? {
-                Value::Opened(opened) => return Ok(Value::Opened(opened)),
-                Value::Read(read) => {
+                Step::Opened(opened) => return Ok(Step::Opened(opened)),
+                Step::Read(read) => {
                     match self.after_member::<K, S>(route, nodes, read, Container::Object)? {
                         Following::Next(next) => p = next,
-                        Following::Closed(closed) => return Ok(Value::Read(closed)),
+                        Following::Closed(closed) => return Ok(Step::Read(closed)),
                     }
                 }
             }
@@ -305,7 +305,7 @@ impl<'de> Machine<'_, 'de> {
         let at = route.indexes[0] as usize;
         let first = Progress {
             at,
-            byte: self.text.byte(at),
+            byte: self.input.byte(at),
             container: Container::Array,
             read: 1,
             depth: 0,
@@ -314,11 +314,11 @@ impl<'de> Machine<'_, 'de> {
         let mut value = self.read_value::<K, S>(route, nodes, first)?;
         'values: loop {
             value = match self.next_member::<K, S>(route, nodes, value)? {
-                Member::Next(p, kind) => match p.container {
+                NextMember::Next(p, kind) => match p.container {
                     Container::Array => self.elements::<K, S>(route, nodes, p)?,
                     Container::Object => self.members::<K, S>(route, nodes, p, kind)?,
                 },
-                Member::End => return Ok(()),
+                NextMember::End => return Ok(()),
             };
         }
     }

@@ -21,39 +21,39 @@ pub trait NodeSink<'de> {
     ghost lender: { Self → Self.Lender };
 
     /// How many nodes there are.
-    fn count(&self) -> usize
+    fn len(&self) -> usize
         ensures { result ≡ length (held_nodes self.now) };
 
     /// A string or a key is the next node.
-    fn string(&mut self, string: &'de str)
+    fn push_string(&mut self, string: &'de str)
         requires { length (held_nodes self.old) < node_room self.old }
         ensures lender { lender self.new ≡ lender self.old }
         ensures room { node_room self.new ≡ node_room self.old }
         ensures put { held_nodes self.new ≡ held_nodes self.old ++ string_item string.now ∷ [] };
 
     /// A number with a fraction or an exponent is.
-    fn decimal(&mut self, literal: &'de str)
+    fn push_decimal(&mut self, literal: &'de str)
         requires { length (held_nodes self.old) < node_room self.old }
         ensures lender { lender self.new ≡ lender self.old }
         ensures room { node_room self.new ≡ node_room self.old }
         ensures put { held_nodes self.new ≡ held_nodes self.old ++ decimal_item literal.now ∷ [] };
 
     /// A null, a truth value or an integer is.
-    fn fixed(&mut self, value: StaticNode)
+    fn push_static(&mut self, value: StaticNode)
         requires { length (held_nodes self.old) < node_room self.old }
         ensures lender { lender self.new ≡ lender self.old }
         ensures room { node_room self.new ≡ node_room self.old }
         ensures put { held_nodes self.new ≡ held_nodes self.old ++ static_item value ∷ [] };
 
     /// The header of a container is.
-    fn header(&mut self, container: Container)
+    fn push_header(&mut self, container: Container)
         requires { length (held_nodes self.old) < node_room self.old }
         ensures lender { lender self.new ≡ lender self.old }
         ensures room { node_room self.new ≡ node_room self.old }
         ensures put { held_nodes self.new ≡ held_nodes self.old ++ header_of container 0 0 ∷ [] };
 
     /// The header at an index is known to have so many members, and so many nodes beneath it.
-    fn patch(&mut self, header: usize, container: Container, len: usize, count: usize)
+    fn set_counts(&mut self, header: usize, container: Container, len: usize, count: usize)
         requires within { header < length (held_nodes self.old) }
         requires header { is_header (get_or (held_nodes self.old) header (static_item StaticNode.Null)) ≡ true }
         ensures lender { lender self.new ≡ lender self.old }
@@ -61,7 +61,7 @@ pub trait NodeSink<'de> {
         ensures patched { held_nodes self.new ≡ slice_set (held_nodes self.old) header (header_of container len count) };
 
     /// Whether the first node is the header of a container.
-    fn begins_with_header(&self) -> bool
+    fn starts_with_header(&self) -> bool
         requires { 0 < length (held_nodes self.now) }
         ensures { result ≡ is_header (get_or (held_nodes self.now) 0 (static_item StaticNode.Null)) };
 }
@@ -83,36 +83,36 @@ impl<'n, 'de, A: Allocator> NodeSink<'de> for ListSink<'n, 'de, A> {
     ghost lender = { λ nodes. nodes.list.ghost_name };
 
     #[inline(always)]
-    fn count(&self) -> usize {
+    fn len(&self) -> usize {
         self.list.len()
     }
 
     #[inline(always)]
-    fn string(&mut self, string: &'de str) {
+    fn push_string(&mut self, string: &'de str) {
         self.list.push_reserved(Node::String(string));
     }
 
     #[inline(always)]
-    fn decimal(&mut self, literal: &'de str) {
+    fn push_decimal(&mut self, literal: &'de str) {
         self.list.push_reserved(Node::Decimal(literal));
     }
 
     #[inline(always)]
-    fn fixed(&mut self, value: StaticNode) {
+    fn push_static(&mut self, value: StaticNode) {
         self.list.push_reserved(Node::Static(value));
     }
 
     #[inline(always)]
-    fn header(&mut self, container: Container) {
+    fn push_header(&mut self, container: Container) {
         self.list.push_reserved(container.header(0, 0));
     }
 
     #[inline(always)]
-    fn patch(&mut self, header: usize, container: Container, len: usize, count: usize) {
+    fn set_counts(&mut self, header: usize, container: Container, len: usize, count: usize) {
         self.list[header] = container.header(len, count);
     }
 
-    fn begins_with_header(&self) -> bool {
+    fn starts_with_header(&self) -> bool {
         matches!(self.list[0], Node::Array { .. } | Node::Object { .. })
     }
 }

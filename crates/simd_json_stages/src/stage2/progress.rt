@@ -8,7 +8,7 @@ ghost use Rattle.simd_json_stages.specs.Progresses.{IsNext};
 
 use super::fault::{Fault, FaultKind};
 use super::stack::Container;
-use super::text::Text;
+use super::input::Input;
 use std::result::Result;
 
 // What stays as it is on the way through the tokens: their positions, whether the last of them holds a closing
@@ -79,9 +79,9 @@ impl Progress {
 
     // The token after the last one. Where none is left, the fault is at the last one.
     #[inline(always)]
-    pub(super) fn next_token(self, text: &Text, route: Route) -> Result<Progress, Fault>
+    pub(super) fn next_token(self, input: &Input, route: Route) -> Result<Progress, Fault>
         ghost b: { List ℕ }
-        requires { AfterToken b route text.now self }
+        requires { AfterToken b route input.now self }
         ensures next { IfOk result (IsNext b route.entry.indexes.now self) }
         ensures none { IfErr result (λ f. (self.read ≡ length route.entry.indexes.now)
             × (f ≡ record { kind = FaultKind.Syntax; index = self.at; byte = byte_at b self.at })) }
@@ -93,7 +93,7 @@ impl Progress {
         Ok(Progress {
             read: self.read + 1,
             at,
-            byte: text.byte(at),
+            byte: input.byte(at),
             ..self
         })
     }
@@ -125,7 +125,7 @@ impl Progress {
 
 // After a value's first token: inside a new container, before its first member, or past a complete value.
 #[derive(Clone, Copy, Drop)]
-pub(super) enum Value {
+pub(super) enum Step {
     Opened(Progress),
     Read(Progress),
 }
@@ -140,7 +140,7 @@ pub(super) enum Following {
 // What the machine goes on with: a member of the innermost container, where in an object a fault of this kind is
 // reported if it has no key, or nothing, at the end of the root.
 #[derive(Clone, Copy, Drop)]
-pub(super) enum Member {
+pub(super) enum NextMember {
     Next(Progress, FaultKind),
     End,
 }

@@ -11,12 +11,12 @@ ghost use Rattle.simd_json_scalars.specs.NumeralRead.{IsIntegerLiteral};
 ghost use Rattle.simd_json_scalars.specs.declared.numberparse.Number.TheVariants.{Integer, Invalid};
 ghost use Rattle.simd_json_stages.specs.Put.{is_boolean, AtNumber, AtOther, IsScalarPut, IsNoScalar};
 ghost use Rattle.simd_json_stages.specs.Refusals.{refused_kind, number_refusal};
-ghost use Rattle.simd_json_stages.specs.Texts.{Reads};
+ghost use Rattle.simd_json_stages.specs.Inputs.{Reads};
 
 use super::fault::{Fault, FaultKind};
 use super::nodes::NodeSink;
 use super::progress::Progress;
-use super::text::{Original, Text};
+use super::input::{Original, Input};
 use simd_json_parts::charutils::{byte_or_space, is_structural_or_whitespace};
 use simd_json_parts::node::StaticNode;
 use simd_json_scalars::numberparse::{
@@ -54,32 +54,32 @@ fn ends_at(bytes: &[u8], at: usize) -> bool
 // The scalar at the last token, which is no string, becomes the next node. Each kind has a branch that stores
 // its own node, a constant but for a number: one that is joined from branches is copied piece by piece.
 #[inline(always)]
-pub(super) fn put_scalar<'de, K: Original, S: NodeSink<'de>>(
-    text: &mut Text<'_, 'de>,
+pub(super) fn push_scalar<'de, K: Original, S: NodeSink<'de>>(
+    input: &mut Input<'_, 'de>,
     nodes: &mut S,
     p: Progress,
 ) -> std::result::Result<(), Fault>
-    requires { AtOther K.bytes text.old (S.node_room nodes.old) (length (S.held_nodes nodes.old)) p }
+    requires { AtOther K.bytes input.old (S.node_room nodes.old) (length (S.held_nodes nodes.old)) p }
     ensures capacity { S.node_room nodes.new ≡ S.node_room nodes.old }
     ensures lender { S.lender nodes.new ≡ S.lender nodes.old }
     ensures put { OnOk result
         (IsScalarPut K.bytes p.at (S.held_nodes nodes.old) (S.held_nodes nodes.new)
-        (Reads K.bytes text.new)) }
+        (Reads K.bytes input.new)) }
     ensures refused { IfErr result (IsNoScalar K.bytes p.at) }
 {
     if is_integer(p.byte) || p.byte == b'-' {
-        return put_number::<K, S>(text, nodes, p);
+        return push_number::<K, S>(input, nodes, p);
     }
-    let rest = text.from(p.at);
+    let rest = input.from(p.at);
     if p.byte == b'n' {
         if !is_valid_null_atom(rest) {
             return Err(no_scalar(p.at, p.byte));
         }
-        nodes.fixed(StaticNode::Null);
+        nodes.push_static(StaticNode::Null);
         return Ok(());
     }
     match parse_boolean(rest) {
-        Some(value) => nodes.fixed(StaticNode::Bool(value)),
+        Some(value) => nodes.push_static(StaticNode::Bool(value)),
         None => return Err(no_scalar(p.at, p.byte)),
     }
     Ok(())
@@ -148,56 +148,56 @@ fn no_scalar(at: usize, byte: u8) -> Fault
 
 // The number at the last token becomes the next node.
 #[inline(always)]
-fn put_number<'de, K: Original, S: NodeSink<'de>>(
-    text: &mut Text<'_, 'de>,
+fn push_number<'de, K: Original, S: NodeSink<'de>>(
+    input: &mut Input<'_, 'de>,
     nodes: &mut S,
     p: Progress,
 ) -> std::result::Result<(), Fault>
-    requires { AtNumber K.bytes text.old (S.node_room nodes.old) (length (S.held_nodes nodes.old)) p }
+    requires { AtNumber K.bytes input.old (S.node_room nodes.old) (length (S.held_nodes nodes.old)) p }
     ensures capacity { S.node_room nodes.new ≡ S.node_room nodes.old }
     ensures lender { S.lender nodes.new ≡ S.lender nodes.old }
     ensures put { OnOk result
         (IsScalarPut K.bytes p.at (S.held_nodes nodes.old) (S.held_nodes nodes.new)
-        (Reads K.bytes text.new)) }
+        (Reads K.bytes input.new)) }
     ensures refused { IfErr result (IsNoScalar K.bytes p.at) }
 {
-    match parse_short(text.from(p.at)) {
-        Some(Numeral::Integer(magnitude)) => put_integer(nodes, p.byte, magnitude),
-        Some(Numeral::Decimal(len)) => nodes.decimal(text.share(p.at, len)),
-        _ => return put_longer_number::<K, S>(text, nodes, p),
+    match parse_short(input.from(p.at)) {
+        Some(Numeral::Integer(magnitude)) => push_integer(nodes, p.byte, magnitude),
+        Some(Numeral::Decimal(len)) => nodes.push_decimal(input.share(p.at, len)),
+        _ => return push_longer_number::<K, S>(input, nodes, p),
     }
     Ok(())
 }
 
 // The number at the last token, of any length, becomes the next node.
 #[inline(always)]
-fn put_longer_number<'de, K: Original, S: NodeSink<'de>>(
-    text: &mut Text<'_, 'de>,
+fn push_longer_number<'de, K: Original, S: NodeSink<'de>>(
+    input: &mut Input<'_, 'de>,
     nodes: &mut S,
     p: Progress,
 ) -> std::result::Result<(), Fault>
-    requires { AtNumber K.bytes text.old (S.node_room nodes.old) (length (S.held_nodes nodes.old)) p }
+    requires { AtNumber K.bytes input.old (S.node_room nodes.old) (length (S.held_nodes nodes.old)) p }
     ensures capacity { S.node_room nodes.new ≡ S.node_room nodes.old }
     ensures lender { S.lender nodes.new ≡ S.lender nodes.old }
     ensures put { OnOk result
         (IsScalarPut K.bytes p.at (S.held_nodes nodes.old) (S.held_nodes nodes.new)
-        (Reads K.bytes text.new)) }
+        (Reads K.bytes input.new)) }
     ensures refused { IfErr result (IsNoScalar K.bytes p.at) }
 {
-    let rest = text.from(p.at);
+    let rest = input.from(p.at);
     match parse_numeral(rest) {
-        Numeral::Integer(magnitude) => put_integer(nodes, p.byte, magnitude),
-        Numeral::Decimal(len) => nodes.decimal(text.share(p.at, len)),
-        Numeral::Long(len) => nodes.fixed(read_long(rest, p.at, len)?),
+        Numeral::Integer(magnitude) => push_integer(nodes, p.byte, magnitude),
+        Numeral::Decimal(len) => nodes.push_decimal(input.share(p.at, len)),
+        Numeral::Long(len) => nodes.push_static(read_long(rest, p.at, len)?),
         Numeral::Invalid(offset) => return Err(invalid_number(rest, p.at, offset)),
     }
     Ok(())
 }
 
 // The integer of this magnitude whose literal begins with this byte becomes the next node. Each kind is
-// stored by itself, as in `put_scalar`.
+// stored by itself, as in `push_scalar`.
 #[inline(always)]
-fn put_integer<'de, S: NodeSink<'de>>(nodes: &mut S, first: u8, magnitude: u64)
+fn push_integer<'de, S: NodeSink<'de>>(nodes: &mut S, first: u8, magnitude: u64)
     requires fits { magnitude ≤ max_magnitude_64 (first == minus_sign) }
     requires room { length (S.held_nodes nodes.old) < S.node_room nodes.old }
     ensures capacity { S.node_room nodes.new ≡ S.node_room nodes.old }
@@ -206,9 +206,9 @@ fn put_integer<'de, S: NodeSink<'de>>(nodes: &mut S, first: u8, magnitude: u64)
         ≡ S.held_nodes nodes.old ++ static_item (integer_node (first == minus_sign) magnitude) ∷ [] }
 {
     if first == b'-' {
-        nodes.fixed(integer_node(true, magnitude));
+        nodes.push_static(integer_node(true, magnitude));
     } else {
-        nodes.fixed(StaticNode::U64(magnitude));
+        nodes.push_static(StaticNode::U64(magnitude));
     }
 }
 

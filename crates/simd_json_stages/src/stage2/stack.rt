@@ -95,8 +95,8 @@ pub(super) fn close<'de, S: NodeSink<'de>>(
     ensures lender { S.lender nodes.new ≡ S.lender nodes.old }
 {
     let frame = stack[p.depth - 1];
-    let beneath = nodes.count() - frame.header - 1;
-    nodes.patch(frame.header, container, p.len, beneath);
+    let beneath = nodes.len() - frame.header - 1;
+    nodes.set_counts(frame.header, container, p.len, beneath);
     Progress {
         depth: p.depth - 1,
         container: frame.outer,

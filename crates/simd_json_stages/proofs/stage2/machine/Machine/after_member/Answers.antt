@@ -9,7 +9,7 @@ use Rattle.simd_json_stages.proofs.BuildingSteps.{top-header, top-len, step-comm
 use Rattle.simd_json_stages.proofs.Following.{two-left, two-is, two-advances, refused-next, refused-next_none, comma-progress}
 use Rattle.simd_json_stages.proofs.Following.{closed-after, closed-value}
 use Rattle.simd_json_stages.proofs.Holding.{HasHeader}
-use Rattle.simd_json_stages.proofs.TextLaws.{reads-kept}
+use Rattle.simd_json_stages.proofs.InputLaws.{reads-kept}
 use Rattle.simd_json_stages.proofs.Refusing.{refuses-end, refuses-comma_end, refuses-other}
 use Rattle.simd_json_stages.proofs.stage2.machine.Machine.after_member.Goals as goal
 
@@ -30,12 +30,12 @@ next_token-requires-then-q-eq44 g c =
     let given = c.requires in
     let r = given.last.progress in
     let next = c.in_ok-q.ensures.next in
-    let kept = reads-kept b c.args.self.now.text in
+    let kept = reads-kept b c.args.self.now.input in
     record {
       on_route = given.last.on_route;
       read = next.read;
-      text = next-ahead b c.args.route.indexes.now given.last.on_route.positions _ kept c.args.p c.in_ok-q.q next
-          (r.text next.more);
+      input = next-ahead b c.args.route.indexes.now given.last.on_route.positions _ kept c.args.p c.in_ok-q.q next
+          (r.input next.more);
     }
 
 pub returns-in_err-next_token-clause-refused : goal.returns-in_err-next_token-clause-refused
@@ -57,7 +57,7 @@ pub returns-then-q-eq44-clause-progress : goal.returns-then-q-eq44-clause-progre
 returns-then-q-eq44-clause-progress g c =
     let b = g.K.Original.bytes in
     let given = c.requires in
-    comma-progress b c.args.route.indexes.now given.last.on_route.positions _ (reads-kept b c.args.self.now.text) _
+    comma-progress b c.args.route.indexes.now given.last.on_route.positions _ (reads-kept b c.args.self.now.input) _
     c.args.p c.in_ok-q.q _ given.last.progress c.in_ok-q.ensures.next c.in_ok-next_token.ensures.next
 
 pub returns-then-q-eq44-clause-advances : goal.returns-then-q-eq44-clause-advances
@@ -141,7 +141,7 @@ returns-clause-progress g c =
     let next = c.in_ok-q.ensures.next in
     let fewer : (top c.args.self.now.stack.now p.depth).len < length nodes = top-len b ps c.args.route.max_depth
     c.args.self.now.stack.now nodes p last.after given.inside in
-    closed-after b ps given.last.on_route.positions _ (reads-kept b c.args.self.now.text)
+    closed-after b ps given.last.on_route.positions _ (reads-kept b c.args.self.now.input)
     c.args.self.now.stack.now (length nodes) _ p c.in_ok-q.q c.close.result
     (ap length c.close.ensures.nodes ∙ length-set nodes _ _) last.progress given.inside next.more fewer
     next.same c.close.ensures.progress

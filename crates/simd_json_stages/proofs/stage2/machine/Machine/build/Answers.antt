@@ -1,7 +1,7 @@
 use Rattle.std.proofs.Common.{arith, refl}
 use Rattle.simd_json_stages.proofs.Bounds.{inside}
 use Rattle.simd_json_stages.proofs.Following.{at-first}
-use Rattle.simd_json_stages.proofs.TextLaws.{reads-kept}
+use Rattle.simd_json_stages.proofs.InputLaws.{reads-kept}
 use Rattle.simd_json_stages.proofs.WholeFaults.{some-listed}
 use Rattle.simd_json_stages.proofs.stage2.machine.Machine.build.Goals as goal
 
@@ -18,7 +18,7 @@ byte-requires g c =
     let some = some-listed b c.args.route.indexes.now route.positions route.whole in
     record {
       b = b;
-      reads = reads-kept b c.args.self.now.text 0 _ start.text (omega arith);
+      reads = reads-kept b c.args.self.now.input 0 _ start.input (omega arith);
       within = omega (arith, inside b c.args.route.indexes.now route.positions 0 some);
     }
 
@@ -31,5 +31,5 @@ read_value-requires g c =
     λ κs. (
       (refl, tt),
       at-first b c.args.route c.args.self.now _ nodes c.byte.result start some
-          (c.byte.ensures b (reads-kept b c.args.self.now.text 0 _ start.text (omega arith))),
+          (c.byte.ensures b (reads-kept b c.args.self.now.input 0 _ start.input (omega arith))),
     )

@@ -1,7 +1,7 @@
 use Rattle.std.proofs.Common.{◌≡◌, ◌<◌, ap, subst, length, refl, arith}
 use Rattle.simd_json_stages.specs.Building.{AtNextOrAfter}
 use Rattle.simd_json_stages.specs.Progresses.{IsWithinNext, AdvancesPastMember, reached}
-use Rattle.simd_json_stages.specs.Texts.{Reads}
+use Rattle.simd_json_stages.specs.Inputs.{Reads}
 use Rattle.simd_json_stages.specs.declared.stage2.fault.FaultKind.TheVariants as kinds
 use Rattle.simd_json_stages.proofs.Following.{at-member, come-opened, come-read, end-built, end-refused, some-node}
 use Rattle.simd_json_stages.proofs.stage2.machine.Machine.next_member.Goals as goal
@@ -55,7 +55,7 @@ returns-in-Next-clause-member g c =
     let given = c.requires in
     let ps = c.args.route.indexes.now in
     let along = subst (AdvancesPastMember c.loop-p.p) c.in-Next.is c.in_ok-next.ensures.advances in
-    let progress = subst (IsWithinNext b ps (Reads b c.args.self.now.text) _) c.in-Next.is c.in_ok-next.ensures.progress in
+    let progress = subst (IsWithinNext b ps (Reads b c.args.self.now.input) _) c.in-Next.is c.in_ok-next.ensures.progress in
     let step = subst (AtNextOrAfter b ps c.args.route.max_depth c.args.self.now.stack.now nodes)
     c.in-Next.is c.in_ok-next.ensures.step in
     let capacities = given.capacities in
@@ -84,7 +84,7 @@ returns-then-p-route-clause-refused g c =
     c.loop-p.p c.loop-p.invariant.after none in
     end-refused b ps given.on_route.positions c.args.route.max_depth c.args.self.now.stack.now nodes c.loop-p.p _ _
     c.loop-p.invariant.after r.read none some
-    c.begins_with_header.ensures
+    c.starts_with_header.ensures
     (omega (arith, c.if-p-route)) c.fault_after_root.ensures
 
 pub returns-clause-member : goal.returns-clause-member

@@ -6,8 +6,8 @@ use Rattle.simd_json_stages.specs.declared.stage2.fault.FaultKind.TheVariants as
 use Rattle.simd_json_stages.specs.Progresses.{IsAfter}
 use Rattle.simd_json_stages.proofs.Bounds.{refused-at, refused-none, later, next-byte, one-more, after-first, before-first}
 use Rattle.simd_json_stages.proofs.BuildingSteps.{step-empty, step-open}
-use Rattle.simd_json_stages.specs.Texts.{Reads}
-use Rattle.simd_json_stages.proofs.TextLaws.{reads-kept}
+use Rattle.simd_json_stages.specs.Inputs.{Reads}
+use Rattle.simd_json_stages.proofs.InputLaws.{reads-kept}
 use Rattle.simd_json_stages.proofs.Refusing.{refuses-deep, refuses-open_end}
 use Rattle.simd_json_stages.proofs.stage2.machine.Machine.open.Goals as goal
 
@@ -31,7 +31,7 @@ next_token-requires g c =
     record {
       on_route = given.first.on_route;
       read = r.read;
-      text = λ more. reads-kept b c.args.self.now.text _ _ r.text
+      input = λ more. reads-kept b c.args.self.now.input _ _ r.input
           (omega (arith, later b c.args.route.indexes.now positions c.args.p r.read more));
     }
 
@@ -52,9 +52,9 @@ returns-then-q-closer-clause-progress g c =
     let b = g.K.Original.bytes in
     let nodes = g.S.NodeSink.held_nodes c.args.nodes.now in
     let given = c.requires in
-    subst (IsAfter b c.args.route.indexes.now (Reads b c.args.self.now.text) _) (sym c.with_value.ensures)
-    (after-first b c.args.route.indexes.now given.first.on_route.positions _ (reads-kept b c.args.self.now.text) _ _
-    c.args.p c.in_ok-q.q (one-more nodes _ _ c.header.ensures.put) given.first.progress
+    subst (IsAfter b c.args.route.indexes.now (Reads b c.args.self.now.input) _) (sym c.with_value.ensures)
+    (after-first b c.args.route.indexes.now given.first.on_route.positions _ (reads-kept b c.args.self.now.input) _ _
+    c.args.p c.in_ok-q.q (one-more nodes _ _ c.push_header.ensures.put) given.first.progress
     c.in_ok-q.ensures.next)
 
 pub returns-then-q-closer-clause-advances : goal.returns-then-q-closer-clause-advances
@@ -79,7 +79,7 @@ returns-then-q-closer-clause-step g c =
     let next = c.in_ok-q.ensures.next in
     let byte : byte_at b (get_or ps p.read 0) ≡ closer c.args.container = next-byte b ps p c.in_ok-q.q next
     ∙ c.if-q-closer.true ∙ c.closer.ensures in
-    let put = c.header.ensures.put in
+    let put = c.push_header.ensures.put in
     subst (AfterValue b ps c.args.route.max_depth c.args.self.now.stack.now _)
     (sym (c.with_value.ensures ∙ ap (λ (q : Progress). record q { len = q.len + 1 }) next.same))
     (step-empty b ps c.args.route.max_depth c.args.container c.args.self.now.stack.now nodes _ p
@@ -90,8 +90,8 @@ returns-clause-progress g c =
     let b = g.K.Original.bytes in
     let nodes = g.S.NodeSink.held_nodes c.args.nodes.now in
     let given = c.requires in
-    before-first b c.args.route.indexes.now given.first.on_route.positions _ (reads-kept b c.args.self.now.text) _ _
-    c.args.p c.in_ok-q.q c.args.container (one-more nodes _ _ c.header-2.ensures.put)
+    before-first b c.args.route.indexes.now given.first.on_route.positions _ (reads-kept b c.args.self.now.input) _ _
+    c.args.p c.in_ok-q.q c.args.container (one-more nodes _ _ c.push_header-2.ensures.put)
     given.first.progress c.in_ok-q.ensures.next
 
 pub returns-clause-advances : goal.returns-clause-advances
@@ -114,11 +114,11 @@ returns-clause-step g c =
     let next = c.in_ok-q.ensures.next in
     let byte : byte_at b (get_or ps p.read 0) ≢ closer c.args.container = λ is. c.if-q-closer.false
     (sym (next-byte b ps p c.in_ok-q.q next) ∙ is ∙ sym c.closer.ensures) in
-    let few : c.count.result ≡ length nodes =
-    c.count.ensures in
+    let few : c.len.result ≡ length nodes =
+    c.len.ensures in
     subst (λ (q : Progress). AtMember b ps c.args.route.max_depth kinds.ExpectedObjectContent
-    (set c.args.self.now.stack.now p.depth (record { header = c.count.result; outer = p.container; len = p.len }))
-    (g.S.NodeSink.held_nodes c.header-2.new.self)
+    (set c.args.self.now.stack.now p.depth (record { header = c.len.result; outer = p.container; len = p.len }))
+    (g.S.NodeSink.held_nodes c.push_header-2.new.self)
     (record {
       read = q.read;
       at = q.at;
@@ -128,5 +128,5 @@ returns-clause-step g c =
       len = 0;
     })) (sym next.same)
     (step-open b ps c.args.route.max_depth c.args.container c.args.self.now.stack.now nodes _ _ p
-    given.first.value c.header-2.ensures.put few (omega (arith, r.few, r.deep)) (omega arith)
+    given.first.value c.push_header-2.ensures.put few (omega (arith, r.few, r.deep)) (omega arith)
     (omega (arith, r.read.first, given.bracket)) next.more byte)

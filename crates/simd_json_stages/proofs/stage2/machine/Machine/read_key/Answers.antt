@@ -7,7 +7,7 @@ use Rattle.simd_json_stages.proofs.Bounds.{string-ahead}
 use Rattle.simd_json_stages.proofs.BuildingSteps.{step-name}
 use Rattle.simd_json_stages.proofs.Exits.{passed-on}
 use Rattle.simd_json_stages.proofs.Following.{refused-next, refused-next_none, two-left, two-is, two-advances, named-progress}
-use Rattle.simd_json_stages.proofs.TextLaws.{reads-kept}
+use Rattle.simd_json_stages.proofs.InputLaws.{reads-kept}
 use Rattle.simd_json_stages.proofs.Refusing.{refuses-no_name, refuses-name, refuses-name_end, refuses-no_colon, refuses-colon_end}
 use Rattle.simd_json_stages.proofs.stage2.machine.Machine.read_key.Goals as goal
 
@@ -21,15 +21,15 @@ returns-then-p-ne34-clause-refused g c =
     (refuses-no_name b c.args.route.indexes.now c.args.route.max_depth c.args.kind c.args.self.now.stack.now nodes
     c.args.p given.name (λ is. c.if-p-ne34.true (first ∙ is)))
 
-pub returns-in_err-put_string-clause-refused : goal.returns-in_err-put_string-clause-refused
-returns-in_err-put_string-clause-refused g c =
+pub returns-in_err-push_string-clause-refused : goal.returns-in_err-push_string-clause-refused
+returns-in_err-push_string-clause-refused g c =
     let b = g.K.Original.bytes in
     let nodes = g.S.NodeSink.held_nodes c.args.nodes.now in
     let given = c.requires in
     passed-on c.from_residual.result _ (IsFirstFault b c.args.route.indexes.now c.args.route.max_depth) c.from_residual.ensures.1
     (refuses-name b c.args.route.indexes.now c.args.route.max_depth (error_type c.args.kind)
     c.args.self.now.stack.now nodes c.args.p _ given.name
-    (sym given.progress.read.first ∙ c.if-p-ne34.false) c.in_err-put_string.ensures.refused)
+    (sym given.progress.read.first ∙ c.if-p-ne34.false) c.in_err-push_string.ensures.refused)
 
 pub next_token-requires : goal.next_token-requires
 next_token-requires g c =
@@ -40,12 +40,12 @@ next_token-requires g c =
     let ps = c.args.route.indexes.now in
     let e = given.on_route.positions in
     let r = given.progress in
-    let put = c.in_ok-put_string.ensures.put in
+    let put = c.in_ok-push_string.ensures.put in
     let token = name-token b ps e c.args.route.max_depth (error_type c.args.kind)
     c.args.self.now.stack.now nodes p given.name in
-    let kept = reads-kept b c.put_string.new.text in
+    let kept = reads-kept b c.push_string.new.input in
     let ahead = string-ahead b ps e p nodes _ _ kept r.read token (sym r.read.first ∙ c.if-p-ne34.false) put in
-    record { on_route = given.on_route; read = r.read; text = ahead }
+    record { on_route = given.on_route; read = r.read; input = ahead }
 
 pub returns-in_err-colon-clause-refused : goal.returns-in_err-colon-clause-refused
 returns-in_err-colon-clause-refused g c =
@@ -54,7 +54,7 @@ returns-in_err-colon-clause-refused g c =
     let given = c.requires in
     let p = c.args.p in
     let none = c.in_err-colon.ensures.none in
-    let put = c.in_ok-put_string.ensures.put in
+    let put = c.in_ok-push_string.ensures.put in
     refused-none b c.args.route.indexes.now c.args.route.max_depth p c.from_residual-in_err-colon.result _
     c.from_residual-in_err-colon.ensures.1 none.1
     (refuses-name_end b c.args.route.indexes.now c.args.route.max_depth (error_type c.args.kind)
@@ -68,7 +68,7 @@ returns-then-colon-ne58-clause-refused g c =
     let given = c.requires in
     let p = c.args.p in
     let ps = c.args.route.indexes.now in
-    let put = c.in_ok-put_string.ensures.put in
+    let put = c.in_ok-push_string.ensures.put in
     let next = c.in_ok-colon.ensures.next in
     refused-next b ps given.on_route.positions c.args.route.max_depth kinds.ExpectedObjectColon p c.in_ok-colon.colon
     c.fault-then-colon-ne58.result next.same c.fault-then-colon-ne58.ensures
@@ -86,15 +86,15 @@ next_token-requires-2 g c =
     let ps = c.args.route.indexes.now in
     let e = given.on_route.positions in
     let r = given.progress in
-    let put = c.in_ok-put_string.ensures.put in
+    let put = c.in_ok-push_string.ensures.put in
     let token = name-token b ps e c.args.route.max_depth (error_type c.args.kind)
     c.args.self.now.stack.now nodes p given.name in
-    let kept = reads-kept b c.put_string.new.text in
+    let kept = reads-kept b c.push_string.new.input in
     let next = c.in_ok-colon.ensures.next in
     record {
       on_route = given.on_route;
       read = next.read;
-      text = next-ahead b ps e _ kept p c.in_ok-colon.colon next
+      input = next-ahead b ps e _ kept p c.in_ok-colon.colon next
           (string-ahead b ps e p nodes _ _ kept r.read token (sym r.read.first ∙ c.if-p-ne34.false) put next.more);
     }
 
@@ -105,7 +105,7 @@ returns-in_err-value-clause-refused g c =
     let given = c.requires in
     let p = c.args.p in
     let ps = c.args.route.indexes.now in
-    let put = c.in_ok-put_string.ensures.put in
+    let put = c.in_ok-push_string.ensures.put in
     let next = c.in_ok-colon.ensures.next in
     let none = c.in_err-value.ensures.none in
     refused-next_none b ps given.on_route.positions c.args.route.max_depth p c.in_ok-colon.colon _ _ next
@@ -131,10 +131,10 @@ returns-clause-value g c =
     let ps = c.args.route.indexes.now in
     let e = given.on_route.positions in
     let r = given.progress in
-    let put = c.in_ok-put_string.ensures.put in
+    let put = c.in_ok-push_string.ensures.put in
     let token = name-token b ps e c.args.route.max_depth (error_type c.args.kind)
     c.args.self.now.stack.now nodes p given.name in
-    let kept = reads-kept b c.put_string.new.text in
+    let kept = reads-kept b c.push_string.new.input in
     let limit = c.args.route.max_depth in
     let q = c.in_ok-colon.colon in
     let s = c.in_ok-value.value in
@@ -144,21 +144,21 @@ returns-clause-value g c =
     record {
       on_route = given.on_route;
       capacities = record {
-        node_capacity = omega (arith, c.in_ok-put_string.ensures.capacity, given.capacities.node_capacity);
+        node_capacity = omega (arith, c.in_ok-push_string.ensures.capacity, given.capacities.node_capacity);
         frame_capacity = given.capacities.frame_capacity;
       };
       progress = named-progress b ps e _ _ kept _ _ p q s (one-more nodes _ _ put.put) r ahead next second;
       depth = omega (arith, (two-advances b ps e p q s r.read next second).2, given.depth);
       value =
-          subst (AtValue b ps limit c.args.self.now.stack.now (g.S.NodeSink.held_nodes c.put_string.new.nodes))
+          subst (AtValue b ps limit c.args.self.now.stack.now (g.S.NodeSink.held_nodes c.push_string.new.nodes))
           (sym (two-is b ps e p q s next second))
           (step-name b ps limit (error_type c.args.kind) c.args.self.now.stack.now nodes
-          (g.S.NodeSink.held_nodes c.put_string.new.nodes) _ p given.name (sym r.read.first ∙ c.if-p-ne34.false) put
+          (g.S.NodeSink.held_nodes c.push_string.new.nodes) _ p given.name (sym r.read.first ∙ c.if-p-ne34.false) put
           next.more (next-byte b ps p q next ∙ c.if-colon-ne58.false) (two-left b ps e p q s next second));
     }
 
-pub put_string-requires : goal.put_string-requires
-put_string-requires g c =
+pub push_string-requires : goal.push_string-requires
+push_string-requires g c =
     let nodes = g.S.NodeSink.held_nodes c.args.nodes.now in
     let given = c.requires in
     let p = c.args.p in
@@ -172,7 +172,7 @@ put_string-requires g c =
         token = name-token g.K.Original.bytes ps given.on_route.positions c.args.route.max_depth (error_type c.args.kind)
             c.args.self.now.stack.now nodes p given.name;
         opening = c.if-p-ne34.false;
-        text = r.text;
+        input = r.input;
         room = node-left _ _ _ _ _ _ p r given.depth given.capacities.node_capacity;
       },
     )

@@ -3,15 +3,15 @@ use Rattle.simd_json_stages.specs.Building.{AfterValue, IsFirstFault}
 use Rattle.simd_json_stages.specs.Progresses.{IsAfter}
 use Rattle.simd_json_stages.proofs.Bounds.{node-left, last-inside, value-token, string-ahead, scalar-ahead, one-more, after-value}
 use Rattle.simd_json_stages.proofs.BuildingSteps.{step-scalar, step-string}
-use Rattle.simd_json_stages.specs.Texts.{Reads}
-use Rattle.simd_json_stages.proofs.TextLaws.{reads-kept}
+use Rattle.simd_json_stages.specs.Inputs.{Reads}
+use Rattle.simd_json_stages.proofs.InputLaws.{reads-kept}
 use Rattle.simd_json_stages.proofs.Refusing.{refuses-scalar, refuses-string}
-use Rattle.simd_json_stages.proofs.stage2.machine.Machine.read_value.Goals.{then-p-eq34+in_ok-put_string, else-p-eq34+in_ok-put_scalar}
+use Rattle.simd_json_stages.proofs.stage2.machine.Machine.read_value.Goals.{then-p-eq34+in_ok-push_string, else-p-eq34+in_ok-push_scalar}
 use Rattle.simd_json_stages.proofs.stage2.machine.Machine.read_value.Goals as goal
 use Rattle.simd_json_stages.proofs.Exits.{passed-on}
 
-pub put_string-requires : goal.put_string-requires
-put_string-requires g c =
+pub push_string-requires : goal.push_string-requires
+push_string-requires g c =
     let nodes = g.S.NodeSink.held_nodes c.args.nodes.now in
     let given = c.requires in
     let r = given.progress in
@@ -24,30 +24,30 @@ put_string-requires g c =
         read = r.read;
         token = token;
         opening = c.if-p-eq34.true;
-        text = r.text;
+        input = r.input;
         room = node-left _ _ _ _ _ _ c.args.p r given.depth given.capacities.node_capacity;
       },
     )
 
-pub returns-in_err-put_string-clause-refused : goal.returns-in_err-put_string-clause-refused
-returns-in_err-put_string-clause-refused g c =
+pub returns-in_err-push_string-clause-refused : goal.returns-in_err-push_string-clause-refused
+returns-in_err-push_string-clause-refused g c =
     let b = g.K.Original.bytes in
     let nodes = g.S.NodeSink.held_nodes c.args.nodes.now in
     let given = c.requires in
     let r = given.progress in
     passed-on c.from_residual.result _ (IsFirstFault b c.args.route.indexes.now c.args.route.max_depth) c.from_residual.ensures.1
     (refuses-string b c.args.route.indexes.now c.args.route.max_depth c.args.self.now.stack.now nodes c.args.p _
-    given.value (sym r.read.first ∙ c.if-p-eq34.true) c.in_err-put_string.ensures.refused)
+    given.value (sym r.read.first ∙ c.if-p-eq34.true) c.in_err-push_string.ensures.refused)
 
-pub put_scalar-requires : goal.put_scalar-requires
-put_scalar-requires g c =
+pub push_scalar-requires : goal.push_scalar-requires
+push_scalar-requires g c =
     let given = c.requires in
     let r = given.progress in
     λ κs. (
       (refl, tt),
       record {
         at = record {
-          text = r.text;
+          input = r.input;
           within = last-inside g.K.Original.bytes c.args.route.indexes.now given.on_route.positions c.args.p r.read;
           first = r.read.first;
           room = node-left _ _ _ _ _ _ c.args.p r given.depth given.capacities.node_capacity;
@@ -58,15 +58,15 @@ put_scalar-requires g c =
       },
     )
 
-pub returns-in_err-put_scalar-clause-refused : goal.returns-in_err-put_scalar-clause-refused
-returns-in_err-put_scalar-clause-refused g c =
+pub returns-in_err-push_scalar-clause-refused : goal.returns-in_err-push_scalar-clause-refused
+returns-in_err-push_scalar-clause-refused g c =
     let b = g.K.Original.bytes in
     let nodes = g.S.NodeSink.held_nodes c.args.nodes.now in
     let given = c.requires in
-    passed-on c.from_residual-in_err-put_scalar.result _ (IsFirstFault b c.args.route.indexes.now c.args.route.max_depth)
-    c.from_residual-in_err-put_scalar.ensures.1
+    passed-on c.from_residual-in_err-push_scalar.result _ (IsFirstFault b c.args.route.indexes.now c.args.route.max_depth)
+    c.from_residual-in_err-push_scalar.ensures.1
     (refuses-scalar b c.args.route.indexes.now c.args.route.max_depth c.args.self.now.stack.now nodes c.args.p _
-    given.value c.in_err-put_scalar.ensures.refused)
+    given.value c.in_err-push_scalar.ensures.refused)
 
 pub returns-clause-progress : goal.returns-clause-progress
 returns-clause-progress g c =
@@ -77,16 +77,16 @@ returns-clause-progress g c =
     let r = given.progress in
     let t = value-token b ps given.on_route.positions c.args.route.max_depth c.args.self.now.stack.now
     nodes c.args.p given.value in
-    subst (IsAfter b ps (Reads b c.if-p-eq34.self.text) _) (sym c.with_value.ensures)
+    subst (IsAfter b ps (Reads b c.if-p-eq34.self.input) _) (sym c.with_value.ensures)
     (elim c.if-p-eq34.branch [
-      | then-p-eq34+in_ok-put_string w ↦
-          let put = w.in_ok-put_string.ensures.put in
+      | then-p-eq34+in_ok-push_string w ↦
+          let put = w.in_ok-push_string.ensures.put in
           rw (w.self-is, w.nodes-is) (after-value b ps given.on_route.positions _ _ _ _ c.args.p
           (one-more nodes _ _ put.put) r
           (string-ahead b ps given.on_route.positions c.args.p nodes _ _ (reads-kept b _) r.read t
           (sym r.read.first ∙ w.if-p-eq34.true) put))
-      | else-p-eq34+in_ok-put_scalar w ↦
-          let put = w.in_ok-put_scalar.ensures.put in
+      | else-p-eq34+in_ok-push_scalar w ↦
+          let put = w.in_ok-push_scalar.ensures.put in
           rw (w.self-is, w.nodes-is) (after-value b ps given.on_route.positions _ _ _ _ c.args.p
           (one-more nodes _ _ put.put) r
           (scalar-ahead b ps given.on_route.positions c.args.p nodes _ _ (reads-kept b _) r.read t put))
@@ -102,10 +102,10 @@ returns-clause-step g c =
     subst (AfterValue b ps c.args.route.max_depth c.if-p-eq34.self.stack.now (g.S.NodeSink.held_nodes c.if-p-eq34.nodes))
     (sym c.with_value.ensures)
     (elim c.if-p-eq34.branch [
-      | then-p-eq34+in_ok-put_string w ↦ rw (w.self-is, w.nodes-is)
+      | then-p-eq34+in_ok-push_string w ↦ rw (w.self-is, w.nodes-is)
           (step-string b ps c.args.route.max_depth c.args.self.now.stack.now nodes _ _ c.args.p given.value
-          (sym r.read.first ∙ w.if-p-eq34.true) w.in_ok-put_string.ensures.put)
-      | else-p-eq34+in_ok-put_scalar w ↦ rw (w.self-is, w.nodes-is)
+          (sym r.read.first ∙ w.if-p-eq34.true) w.in_ok-push_string.ensures.put)
+      | else-p-eq34+in_ok-push_scalar w ↦ rw (w.self-is, w.nodes-is)
           (step-scalar b ps c.args.route.max_depth c.args.self.now.stack.now nodes _ _ c.args.p given.value
-          w.in_ok-put_scalar.ensures.put)
+          w.in_ok-push_scalar.ensures.put)
     ])

@@ -13,7 +13,7 @@ byte-requires g c =
     let more : p.read < length ps = c.is_last.ensures.left c.if-is_last.false in
     record {
       b = g.b;
-      reads = c.requires.text more;
+      reads = c.requires.input more;
       within = omega (arith, inside g.b ps c.requires.on_route.positions p.read more);
     }
 
@@ -23,4 +23,4 @@ returns-clause-next g c =
     let ps = c.args.route.indexes.now in
     let more : p.read < length ps = c.is_last.ensures.left c.if-is_last.false in
     is-next g.b ps c.requires.on_route.positions p _ c.requires.read more
-    (ap (λ x. record p { read = p.read + 1; at = get_or ps p.read 0; byte = x }) (c.byte.ensures g.b (c.requires.text more)))
+    (ap (λ x. record p { read = p.read + 1; at = get_or ps p.read 0; byte = x }) (c.byte.ensures g.b (c.requires.input more)))

@@ -1,0 +1,18 @@
+use Rattle.std.proofs.Common.{ap, length, arith}
+use Rattle.simd_json_stages.proofs.BetweenBlocks.{plain-to_first}
+use Rattle.simd_json_stages.proofs.stage2.input.Input.with_escapes.Goals as goal
+
+pub returns : goal.returns
+returns c b is blocks = record {
+  fits = omega (arith, ap length is);
+  end = ap length is;
+  whole = λ t. cc t;
+  part = λ _. record {
+    rest = is;
+    before = omega arith;
+    ahead = record {
+      passed = record { blocks = blocks; within = omega arith; plain = plain-to_first b };
+      plain = λ j f t. omega (arith, f, t);
+    };
+  };
+}

@@ -1,0 +1,98 @@
+use Rattle.std.proofs.Common.{◌∙◌, ap, sym, suc, refl, arith}
+use Rattle.std.specs.Prelude.{Err}
+use Rattle.simd_json_parts.specs.StringAt.{closing_quote}
+use Rattle.simd_json_parts.specs.Nodes.{string_item}
+use Rattle.simd_json_stages.proofs.Bounds.{some-left}
+use Rattle.simd_json_stages.proofs.StringPut.{at-within, string-before, bad-within}
+use Rattle.simd_json_stages.proofs.stage2.string.push_string.Goals as goal
+
+pub may_have_escape-may_have_escape-requires : goal.may_have_escape-may_have_escape-requires
+may_have_escape-may_have_escape-requires g c =
+    let b = g.K.Original.bytes in
+    let s = c.requires in
+    record { b = b; reads = s.input; within = omega (arith, at-within b c.args.route c.args.input.now _ _ c.args.p s) }
+
+pub position_or_end-next-requires : goal.position_or_end-next-requires
+position_or_end-next-requires g c t =
+    let s = c.requires in
+    some-left g.K.Original.bytes c.args.route.indexes.now c.args.p (s.on_route.closes t) s.read (λ is. omega (arith, s.opening, is))
+    (λ is. omega (arith, s.opening, is))
+
+pub share_string-requires : goal.share_string-requires
+share_string-requires g c =
+    let b = g.K.Original.bytes in
+    let s = c.requires in
+    let string = string-before b c.args.route c.args.input.now _ _ c.args.p s _ c.position_or_end-next.ensures in
+    let asked = c.may_have_escape-may_have_escape.ensures in
+    record {
+      quoted = record { b = b; reads = asked.reads b s.input; string = string };
+      plain = asked.plain c.if-not-may_have_escape.true b s.input;
+    }
+
+pub returns-then-not-may_have_escape-clause-put : goal.returns-then-not-may_have_escape-clause-put
+returns-then-not-may_have_escape-clause-put g c =
+    let b = g.K.Original.bytes in
+    let s = c.requires in
+    let string = string-before b c.args.route c.args.input.now _ _ c.args.p s _ c.position_or_end-next.ensures in
+    let asked = c.may_have_escape-may_have_escape.ensures in
+    let shared = c.share_string.ensures b (asked.reads b s.input) string (asked.plain c.if-not-may_have_escape.true b s.input) in
+    record {
+      string = c.share_string.result.now;
+      end = suc (closing_quote b c.args.p.at);
+      node = string_item c.share_string.result.now;
+      read = shared.0;
+      item = refl;
+      put = c.push_string.ensures.put;
+      input = shared.1;
+    }
+
+pub parse_string-requires : goal.parse_string-requires
+parse_string-requires g c =
+    let b = g.K.Original.bytes in
+    let s = c.requires in
+    let string = string-before b c.args.route c.args.input.now _ _ c.args.p s _ c.position_or_end-next.ensures in
+    let asked = c.may_have_escape-may_have_escape.ensures in
+    record {
+      lent = asked.lent c.if-not-may_have_escape.false;
+      quoted = record {
+        next = c.position_or_end-next.result;
+        quoted = record { b = b; reads = asked.reads b s.input; string = string };
+      };
+    }
+
+pub bad_escape-requires : goal.bad_escape-requires
+bad_escape-requires g c =
+    let b = g.K.Original.bytes in
+    let s = c.requires in
+    let string = string-before b c.args.route c.args.input.now _ _ c.args.p s _ c.position_or_end-next.ensures in
+    let is = c.in-Err.ensures b c.position_or_end-next.result (c.may_have_escape-may_have_escape.ensures.reads b s.input) string in
+    omega (
+      arith,
+      s.input.fits,
+      bad-within b c.args.route c.args.input.now _ _ c.args.p s
+          c.in-Err.bad.offset c.in-Err.bad.letter is,
+    )
+
+pub returns-in-Err-clause-refused : goal.returns-in-Err-clause-refused
+returns-in-Err-clause-refused g c =
+    let b = g.K.Original.bytes in
+    let s = c.requires in
+    let string = string-before b c.args.route c.args.input.now _ _ c.args.p s _ c.position_or_end-next.ensures in
+    c.in-Err.ensures b c.position_or_end-next.result (c.may_have_escape-may_have_escape.ensures.reads b s.input) string
+    ∙ ap Err (sym c.bad_escape.ensures)
+
+pub returns-clause-put : goal.returns-clause-put
+returns-clause-put g c =
+    let b = g.K.Original.bytes in
+    let s = c.requires in
+    let string = string-before b c.args.route c.args.input.now _ _ c.args.p s _ c.position_or_end-next.ensures in
+    let read = c.in-Ok.ensures b c.position_or_end-next.result (c.may_have_escape-may_have_escape.ensures.reads b s.input) string in
+    record {
+      string = c.in-Ok.string.now;
+      end = suc (closing_quote b c.args.p.at);
+      node = string_item c.in-Ok.string.now;
+      read = read.0;
+      item = refl;
+      put = c.push_string-in-Ok.ensures.put;
+      input = read.1;
+    }
