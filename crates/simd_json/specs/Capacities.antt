@@ -39,7 +39,7 @@ ListsSame old new = (new.positions ≡ old.positions) × (new.blocks ≡ old.blo
 
 -- what the first stage finds in b is listed, and the stack suffices, or one for a few containers does
 pub record HoldsScan (b : List ℕ) (r : Capacities) : Type 0 where
-  pub positions : r.positions ≡ positions b
+  pub listed : r.positions ≡ positions b
   pub escapes : r.blocks ≡ backslash_blocks b
   pub whole : input_fault b ≡ None
   pub stack : min (length (positions b)) r.limit ≤ max r.stack_capacity 64

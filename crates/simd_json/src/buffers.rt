@@ -179,18 +179,18 @@ impl<A: Allocator> Buffers<A> {
     pub(crate) fn build_tape<'de, K: Original, S: NodeSink<'de>>(
         &mut self,
         input: &'de mut [u8],
-        sink: S,
-    ) -> (S, Result<()>)
+        sink: &mut S,
+    ) -> Result<()>
         requires input { input.old ≡ K.bytes }
         requires scanned { HoldsScan K.bytes self.old }
-        requires room { nodes_enough (length (positions K.bytes)) self.old.limit ≤ S.node_room sink }
-        requires empty { S.held_nodes sink ≡ [] }
+        requires room { nodes_enough (length (positions K.bytes)) self.old.limit ≤ S.node_room sink.old }
+        requires empty { S.held_nodes sink.old ≡ [] }
         ensures same { self.new ≡ self.old }
-        ensures room { S.node_room result.0 ≡ S.node_room sink }
-        ensures lender { S.lender result.0 ≡ S.lender sink }
-        ensures few { OnOk result.1 (length (S.held_nodes result.0) ≤ length (positions K.bytes)) }
-        ensures built { OnOk result.1 (IsWritten K.bytes self.old.limit (S.held_nodes result.0)) }
-        ensures refused { IfErr result.1 (λ e. IsTokenFault e × (descent K.bytes self.old.limit ≡ Err e)) }
+        ensures room { S.node_room sink.new ≡ S.node_room sink.old }
+        ensures lender { S.lender sink.new ≡ S.lender sink.old }
+        ensures few { OnOk result (length (S.held_nodes sink.new) ≤ length (positions K.bytes)) }
+        ensures built { OnOk result (IsWritten K.bytes self.old.limit (S.held_nodes sink.new)) }
+        ensures refused { IfErr result (λ e. IsTokenFault e × (descent K.bytes self.old.limit ≡ Err e)) }
     {
         let scanned = Scanned {
             structural_indexes: &self.structural_indexes[..self.used],

@@ -1,5 +1,5 @@
 //! The entry points.
-ghost use Rattle.std.specs.Prelude.{◌≡◌, ◌≢◌, ◌≤◌, ◌<◌, [], ℕ, List, length};
+ghost use Rattle.std.specs.Prelude.{◌≡◌, ◌≢◌, ◌≤◌, ◌<◌, [], ℕ, List, length, map, vec_capacity};
 ghost use Rattle.std.specs.Prelude.{IfErr, IfOk, OnOk, OnErr, None, Err};
 ghost use Rattle.std.specs.Result.{result_err};
 ghost use Rattle.simd_json.specs.Parsed.{IsParse, IsPaddedParse, IsParsed, IsRefused, nodes_of, written};
@@ -8,6 +8,7 @@ ghost use Rattle.simd_json.specs.Memory.{HasMemory, IsOutOfMemory};
 ghost use Rattle.simd_json.specs.Reserved.{IsReserved, parse_capacity};
 ghost use Rattle.simd_json_parts.specs.FaultKinds.{IsOfToken};
 ghost use Rattle.simd_json_parts.specs.Limits.{max_length};
+ghost use Rattle.simd_json_parts.specs.Nodes.{item_of};
 ghost use Rattle.simd_json.specs.MaxDepth.{default_max_depth};
 ghost use Rattle.simd_json_parts.specs.Positions.{positions};
 ghost use Rattle.simd_json_stages.specs.NodesEnough.{nodes_enough};
@@ -16,7 +17,8 @@ use crate::buffers::Buffers;
 use crate::tape::Tape;
 use crate::{DEFAULT_MAX_DEPTH, INPUT_PADDING};
 use simd_json_parts::error::{Error, ErrorType, Result};
-use simd_json_stages::stage2::{ListSink, NodeSink, Original, nodes_enough};
+use simd_json_parts::node::Node;
+use simd_json_stages::stage2::{NodeSink, Original, nodes_enough};
 use std::alloc::Allocator;
 use std::marker::Brand;
 
@@ -128,40 +130,36 @@ pub fn fill_tape<'de, A: Allocator, B: Allocator>(
     if let Err(e) = tape.reserve(nodes_enough(positions, buffers.max_depth)) {
         return refuse(e, buffers, tape);
     }
-    build::<Brand, A, B>(s, buffers, tape)
+    build::<Brand, A, B>(s, buffers, &mut tape.list)
 }
 
 /// Reads a document as [`fill_tape`] does, and writes its nodes to an empty sink in place of a tape: to a form of
-/// the caller's own, in one pass. Returns the sink beside the result. It needs room for 4,294,967,295 nodes,
-/// since no document has more.
+/// the caller's own, in one pass. The sink has room for 4,294,967,295 nodes, since no document has more.
 ///
-/// The errors are those of [`to_tape`]. After one without a character the sink is as it was given; after another
-/// it holds the nodes that were written before the error, of which nothing is promised but that they are in what
-/// the sink borrows, and that its room is the same. Where the buffers have capacity for as many bytes as `s` has,
-/// `OutOfMemory` is not returned.
+/// The errors are those of [`to_tape`]. After one without a character the sink is as it was; after another it may
+/// hold nodes that were written before the error. In any case its room and what it borrows stay the same. Where
+/// the buffers have capacity for as many bytes as `s` has, `OutOfMemory` is not returned.
 ///
 /// `K` names the bytes of `s` as they were given: the contract speaks of these, and strings are decoded in place.
 /// The function that makes the sink is generic over `K`, and is called with [`Brand`](std::marker::Brand).
 pub fn fill_sink<'de, K: Original, S: NodeSink<'de>, A: Allocator>(
     s: &'de mut [u8],
     buffers: &mut Buffers<A>,
-    sink: S,
-) -> (S, Result<()>)
+    sink: &mut S,
+) -> Result<()>
     requires input { s.old ≡ K.bytes }
-    requires room { max_length ≤ S.node_room sink }
-    requires empty { S.held_nodes sink ≡ [] }
+    requires room { max_length ≤ S.node_room sink.old }
+    requires empty { S.held_nodes sink.old ≡ [] }
     ensures parse { IsParse K.bytes buffers.old.limit (capacity buffers.old)
-        (result_err result.1) (written result.1 (S.held_nodes result.0)) buffers.new.positions }
-    ensures unread { IfErr result.1 (λ e. e.character ≡ None → result.0 ≡ sink) }
-    ensures lender { S.lender result.0 ≡ S.lender sink }
-    ensures room { S.node_room result.0 ≡ S.node_room sink }
+        (result_err result) (written result (S.held_nodes sink.new)) buffers.new.positions }
+    ensures unread { IfErr result (λ e. e.character ≡ None → sink.new ≡ sink.old) }
+    ensures lender { S.lender sink.new ≡ S.lender sink.old }
+    ensures room { S.node_room sink.new ≡ S.node_room sink.old }
     ensures limit { buffers.new.limit ≡ buffers.old.limit }
     ensures capacities { KeepsCapacities buffers.old buffers.new }
 {
-    match buffers.find_positions(s) {
-        Ok(()) => buffers.build_tape::<K, S>(s, sink),
-        Err(e) => (sink, Err(e)),
-    }
+    buffers.find_positions(s)?;
+    buffers.build_tape::<K, S>(s, sink)
 }
 
 /// Reads the document in the first `len` bytes of `s` into a tape, as [`fill_tape`] does, where at least
@@ -301,31 +299,28 @@ fn refuse<A: Allocator, B: Allocator>(
     Err(e)
 }
 
-// The second stage, where all capacity is reserved.
+// The second stage into a list, where all capacity is reserved. After an error the list is empty.
 fn build<'de, K: Original, A: Allocator, B: Allocator>(
     s: &'de mut [u8],
     buffers: &mut Buffers<A>,
-    tape: &mut Tape<'de, B>,
+    list: &mut Vec<Node<'de>, B>,
 ) -> Result<()>
     requires input { s.old ≡ K.bytes }
     requires scanned { HoldsScan K.bytes buffers.old }
-    requires nodes { nodes_enough (length (positions K.bytes)) buffers.old.limit ≤ tape.old.capacity }
-    requires empty { tape.old.nodes ≡ [] }
-    ensures tape { OnOk result (IsParsed K.bytes buffers.old.limit tape.new.nodes) }
-    ensures some { OnOk result (tape.new.nodes ≢ []) }
-    ensures few { length tape.new.nodes ≤ length (positions K.bytes) }
-    ensures empty { OnErr result (tape.new.nodes ≡ []) }
+    requires room { nodes_enough (length (positions K.bytes)) buffers.old.limit ≤ vec_capacity list.old }
+    requires empty { list.old.items ≡ [] }
+    ensures tape { OnOk result (IsParsed K.bytes buffers.old.limit (map item_of list.new.items)) }
+    ensures few { length list.new.items ≤ length (positions K.bytes) }
+    ensures empty { OnErr result (list.new.items ≡ []) }
     ensures kept { buffers.new ≡ buffers.old }
-    ensures capacity { tape.new.capacity ≡ tape.old.capacity }
+    ensures capacity { vec_capacity list.new ≡ vec_capacity list.old }
     ensures fault { IfErr result (λ e. IsRefused K.bytes buffers.old.limit e × IsOfToken e) }
 {
-    let sink = ListSink {
-        list: &mut tape.list,
-    };
-    let (sink, built) = buffers.build_tape::<K, ListSink<'_, 'de, B>>(s, sink);
-    let ListSink { list: _list } = sink;
-    if built.is_err() {
-        tape.list.clear();
+    match buffers.build_tape::<K, Vec<Node<'de>, B>>(s, list) {
+        Ok(()) => Ok(()),
+        Err(e) => {
+            list.clear();
+            Err(e)
+        }
     }
-    built
 }

@@ -23,7 +23,7 @@ mod input;
 
 use fault::Fault;
 use machine::Machine;
-pub use nodes::{ListSink, NodeSink};
+pub use nodes::NodeSink;
 use progress::Route;
 pub use scalar::{is_valid_false_atom, is_valid_null_atom, is_valid_true_atom};
 use simd_json_parts::error::Result;
@@ -52,8 +52,8 @@ pub struct Scanned<'s> {
     pub escape_blocks: &'s [u32],
 }
 
-/// Writes the nodes of an input to an empty sink, which has room for as many as [`nodes_enough`] says, and
-/// returns the sink. `stack` holds what is kept of open containers.
+/// Writes the nodes of an input to an empty sink, which has room for as many as [`nodes_enough`] says. `stack` holds
+/// what is kept of open containers.
 ///
 /// The nodes are the listing of the document that the descent reads. An error is the descent's own fault, with
 /// the index and the character that belong to it; none is of the whole input, and none is for lack of memory.
@@ -67,23 +67,23 @@ pub fn build_tape<'de, K: Original, S: NodeSink<'de>>(
     input: &'de mut [u8],
     scanned: Scanned<'_>,
     stack: &mut [StackState],
-    sink: S,
+    sink: &mut S,
     max_depth: usize,
-) -> (S, Result<()>)
+) -> Result<()>
     requires input { input.old ≡ K.bytes }
     requires scanned { IsScanOf K.bytes scanned }
     requires capacities { HasCapacity scanned.structural_indexes.now max_depth stack.old
-        (S.node_room sink) }
-    requires empty { S.held_nodes sink ≡ [] }
-    ensures room { S.node_room result.0 ≡ S.node_room sink }
-    ensures lender { S.lender result.0 ≡ S.lender sink }
-    ensures few { OnOk result.1
-        (length (S.held_nodes result.0) ≤ length scanned.entry.structural_indexes.now) }
-    ensures built { OnOk result.1 (IsWritten K.bytes max_depth (S.held_nodes result.0)) }
-    ensures refused { IfErr result.1 (λ e. IsTokenFault e × (descent K.bytes max_depth ≡ Err e)) }
+        (S.node_room sink.old) }
+    requires empty { S.held_nodes sink.old ≡ [] }
+    ensures room { S.node_room sink.new ≡ S.node_room sink.old }
+    ensures lender { S.lender sink.new ≡ S.lender sink.old }
+    ensures few { OnOk result
+        (length (S.held_nodes sink.new) ≤ length scanned.entry.structural_indexes.now) }
+    ensures built { OnOk result (IsWritten K.bytes max_depth (S.held_nodes sink.new)) }
+    ensures refused { IfErr result (λ e. IsTokenFault e × (descent K.bytes max_depth ≡ Err e)) }
 {
     let copy = copy_for(input, scanned);
-    let (sink, built) = if copy == PLAIN {
+    let built = if copy == PLAIN {
         build_copy::<K, S, PLAIN>(input, scanned, stack, sink, max_depth)
     } else if copy == CLOSED {
         build_copy::<K, S, CLOSED>(input, scanned, stack, sink, max_depth)
@@ -91,8 +91,8 @@ pub fn build_tape<'de, K: Original, S: NodeSink<'de>>(
         build_copy::<K, S, ANY>(input, scanned, stack, sink, max_depth)
     };
     match built {
-        Ok(()) => (sink, Ok(())),
-        Err(fault) => (sink, Err(fault.into_error())),
+        Ok(()) => Ok(()),
+        Err(fault) => Err(fault.into_error()),
     }
 }
 
@@ -125,26 +125,25 @@ fn copy_for(input: &[u8], scanned: Scanned<'_>) -> usize
     CLOSED
 }
 
-// The copy of this number: a function of its own, with the sink in it, so that the state of both stays in
-// registers.
+// The copy of this number: a function of its own, so that its state stays in registers.
 #[inline(never)]
 fn build_copy<'de, K: Original, S: NodeSink<'de>, const COPY: usize>(
     input: &'de mut [u8],
     scanned: Scanned<'_>,
     stack: &mut [StackState],
-    sink: S,
+    sink: &mut S,
     max_depth: usize,
-) -> (S, std::result::Result<(), Fault>)
+) -> std::result::Result<(), Fault>
     requires input { input.old ≡ K.bytes }
     requires scanned { IsScanOf K.bytes scanned }
     requires copy { IsForCopy COPY K.bytes scanned.structural_indexes.now }
     requires capacities { HasCapacity scanned.structural_indexes.now max_depth stack.old
-        (S.node_room sink) }
-    requires empty { S.held_nodes sink ≡ [] }
-    ensures room { S.node_room result.0 ≡ S.node_room sink }
-    ensures lender { S.lender result.0 ≡ S.lender sink }
+        (S.node_room sink.old) }
+    requires empty { S.held_nodes sink.old ≡ [] }
+    ensures room { S.node_room sink.new ≡ S.node_room sink.old }
+    ensures lender { S.lender sink.new ≡ S.lender sink.old }
     ensures tape { IsTape K.bytes scanned.entry.structural_indexes.now max_depth
-        (S.held_nodes result.0) result.1 }
+        (S.held_nodes sink.new) result }
 {
     let input = if COPY == PLAIN {
         Input::plain(input)
@@ -157,7 +156,5 @@ fn build_copy<'de, K: Original, S: NodeSink<'de>, const COPY: usize>(
         ends_closed: COPY != ANY,
         max_depth,
     };
-    let mut sink = sink;
-    let built = machine.build::<K, S>(route, &mut sink);
-    (sink, built)
+    machine.build::<K, S>(route, sink)
 }

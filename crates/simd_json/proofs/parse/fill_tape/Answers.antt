@@ -28,7 +28,7 @@ returns-in-Err-clause-parse g c =
     let few = bytes-short count limit held (subst (λ n. n < nodes_enough count limit) (ap (λ t. t.capacity) c.clear.ensures) asked) in
     parse-short c.refuse.result c.args.s.now limit (bytes_listed limit held) (capacity c.args.buffers.now) count _ _ _
     c.refuse.ensures.refused found.whole c.in-Err.ensures.fault.0 few
-    (ap length (c.structural_indexes-positions.ensures ∙ found.positions))
+    (ap length (c.structural_indexes-positions.ensures ∙ found.listed))
     (ap (λ t. t.nodes) c.refuse.ensures.nodes)
     (ap (λ r. r.positions) c.refuse.ensures.positions)
 
@@ -41,4 +41,4 @@ returns-clause-parse g c =
     c.build.ensures.few
     c.build.ensures.empty
     (subst (λ l. IfErr c.build.result (λ e. IsRefused c.args.s.now l e × IsOfToken e)) found.limit c.build.ensures.fault)
-    (ap (λ r. r.positions) c.build.ensures.kept ∙ found.found.positions)
+    (ap (λ r. r.positions) c.build.ensures.kept ∙ found.found.listed)

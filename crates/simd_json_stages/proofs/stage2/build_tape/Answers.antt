@@ -13,13 +13,13 @@ returns-in-Ok-clause-built g c =
     let limit = c.args.max_depth in
     let held = g.S.NodeSink.held_nodes in
     let ps = c.args.scanned.structural_indexes.now in
-    let copy = c.if-copy-eq-PLAIN.sink in
-    let tape : IsTape b ps limit (held copy.0) copy.1 = elim c.if-copy-eq-PLAIN.branch [
-      | then-copy-eq-PLAIN w ↦ rw w.sink-is w.build_copy.ensures.tape
-      | else-copy-eq-PLAIN+then-copy-eq-CLOSED w ↦ rw w.sink-is w.build_copy-then-copy-eq-CLOSED.ensures.tape
-      | else-copy-eq-PLAIN+else-copy-eq-CLOSED w ↦ rw w.sink-is w.build_copy-else-copy-eq-CLOSED.ensures.tape
+    let nodes = held c.if-copy-eq-PLAIN.sink in
+    let tape : IsTape b ps limit nodes c.if-copy-eq-PLAIN.built = elim c.if-copy-eq-PLAIN.branch [
+      | then-copy-eq-PLAIN w ↦ rw (w.sink-is, w.built-is) w.build_copy-built.ensures.tape
+      | else-copy-eq-PLAIN+then-copy-eq-CLOSED w ↦ rw (w.sink-is, w.built-is) w.build_copy.ensures.tape
+      | else-copy-eq-PLAIN+else-copy-eq-CLOSED w ↦ rw (w.sink-is, w.built-is) w.build_copy-else-copy-eq-CLOSED.ensures.tape
     ] in
-    descent-built b limit (held copy.0) (subst (λ ps. IsBuilt b ps limit (held copy.0)) c.requires.scanned.positions
+    descent-built b limit nodes (subst (λ ps. IsBuilt b ps limit nodes) c.requires.scanned.positions
     (rw c.in-Ok.is at tape.built))
 
 pub returns-in-Err-clause-refused : goal.returns-in-Err-clause-refused
@@ -27,12 +27,12 @@ returns-in-Err-clause-refused g c =
     let b = g.K.Original.bytes in
     let limit = c.args.max_depth in
     let ps = c.args.scanned.structural_indexes.now in
-    let copy = c.if-copy-eq-PLAIN.sink in
+    let nodes = g.S.NodeSink.held_nodes c.if-copy-eq-PLAIN.sink in
     let fault = c.in-Err.fault in
-    let tape : IsTape b ps limit (g.S.NodeSink.held_nodes copy.0) copy.1 = elim c.if-copy-eq-PLAIN.branch [
-      | then-copy-eq-PLAIN w ↦ rw w.sink-is w.build_copy.ensures.tape
-      | else-copy-eq-PLAIN+then-copy-eq-CLOSED w ↦ rw w.sink-is w.build_copy-then-copy-eq-CLOSED.ensures.tape
-      | else-copy-eq-PLAIN+else-copy-eq-CLOSED w ↦ rw w.sink-is w.build_copy-else-copy-eq-CLOSED.ensures.tape
+    let tape : IsTape b ps limit nodes c.if-copy-eq-PLAIN.built = elim c.if-copy-eq-PLAIN.branch [
+      | then-copy-eq-PLAIN w ↦ rw (w.sink-is, w.built-is) w.build_copy-built.ensures.tape
+      | else-copy-eq-PLAIN+then-copy-eq-CLOSED w ↦ rw (w.sink-is, w.built-is) w.build_copy.ensures.tape
+      | else-copy-eq-PLAIN+else-copy-eq-CLOSED w ↦ rw (w.sink-is, w.built-is) w.build_copy-else-copy-eq-CLOSED.ensures.tape
     ] in
     let refused = descent-refused b limit fault (subst (λ ps. IsFirstFault b ps limit fault) c.requires.scanned.positions
     (rw c.in-Err.is at tape.refused)) in
