@@ -27,7 +27,8 @@ use Rattle.simd_json.specs.Reserved.{bytes_listed}
 use Rattle.simd_json_stages.specs.Building.{IsWritten}
 use Rattle.simd_json_stages.specs.NodesEnough.{nodes_enough}
 use Rattle.simd_json_stages.specs.Refusals.{IsTokenFault}
-use Rattle.simd_json.proofs.ParseLaws.{few-positions, refused-token, refused-whole, written-parsed}
+use Rattle.simd_json.specs.Tapes.{IsTape}
+use Rattle.simd_json.proofs.ParseLaws.{few-positions, refused-token, refused-whole, tape-parsed, written-parsed}
 
 -- ---- what a fault carries
 
@@ -157,6 +158,17 @@ parse-built (Ok x) b limit capacity nodes listed p few empty refused l =
     parse-at None None nodes nodes (positions b) listed refl refl l (parse-done b limit capacity nodes p few)
 parse-built (Err e) b limit capacity nodes listed p few empty refused l =
     parse-at (Some e) (Some e) [] nodes (positions b) listed refl empty l (parse-token b limit capacity e refused.0 refused.1)
+
+-- what it leaves is a tape, and no empty one after it
+pub built-tape : {A : Type 0} (r : Result A Error) (b : List ℕ) (limit : ℕ) (nodes : List Item)
+    → OnOk r (IsParsed b limit nodes) → OnErr r (nodes ≡ []) → IsTape nodes
+built-tape (Ok x) b limit nodes p empty = tape-parsed b limit nodes p
+built-tape (Err e) b limit nodes p empty = inl empty
+
+pub built-some : {A : Type 0} (r : Result A Error) (b : List ℕ) (limit : ℕ) (nodes : List Item)
+    → OnOk r (IsParsed b limit nodes) → OnOk r (nodes ≢ [])
+built-some (Ok x) b limit nodes p = parsed-some b limit nodes p
+built-some (Err e) b limit nodes p = tt
 
 -- the same with a sink
 pub parse-written : (r : Result (Unit {0}) Error) (b : List ℕ) (limit capacity : ℕ) (nodes : List Item) (listed : List ℕ)

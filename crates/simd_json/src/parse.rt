@@ -18,7 +18,7 @@ use crate::tape::Tape;
 use crate::{DEFAULT_MAX_DEPTH, INPUT_PADDING};
 use simd_json_parts::error::{Error, ErrorType, Result};
 use simd_json_parts::node::Node;
-use simd_json_stages::stage2::{NodeSink, Original, nodes_enough};
+use simd_json_stages::stage2::{ListSink, NodeSink, Original, nodes_enough};
 use std::alloc::Allocator;
 use std::marker::Brand;
 
@@ -310,16 +310,17 @@ fn build<'de, K: Original, A: Allocator, B: Allocator>(
     requires room { nodes_enough (length (positions K.bytes)) buffers.old.limit ≤ vec_capacity list.old }
     requires empty { list.old.items ≡ [] }
     ensures tape { OnOk result (IsParsed K.bytes buffers.old.limit (map item_of list.new.items)) }
-    ensures few { length list.new.items ≤ length (positions K.bytes) }
-    ensures empty { OnErr result (list.new.items ≡ []) }
+    ensures few { length (map item_of list.new.items) ≤ length (positions K.bytes) }
+    ensures empty { OnErr result (map item_of list.new.items ≡ []) }
     ensures kept { buffers.new ≡ buffers.old }
     ensures capacity { vec_capacity list.new ≡ vec_capacity list.old }
     ensures fault { IfErr result (λ e. IsRefused K.bytes buffers.old.limit e × IsOfToken e) }
 {
-    match buffers.build_tape::<K, Vec<Node<'de>, B>>(s, list) {
+    let mut sink = ListSink { list };
+    match buffers.build_tape::<K, ListSink<'_, 'de, B>>(s, &mut sink) {
         Ok(()) => Ok(()),
         Err(e) => {
-            list.clear();
+            sink.list.clear();
             Err(e)
         }
     }

@@ -23,7 +23,7 @@ mod input;
 
 use fault::Fault;
 use machine::Machine;
-pub use nodes::NodeSink;
+pub use nodes::{ListSink, NodeSink};
 use progress::Route;
 pub use scalar::{is_valid_false_atom, is_valid_null_atom, is_valid_true_atom};
 use simd_json_parts::error::Result;

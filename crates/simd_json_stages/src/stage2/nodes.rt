@@ -66,47 +66,53 @@ pub trait NodeSink<'de> {
         ensures { result ≡ is_header (get_or (held_nodes self.now) 0 (static_item StaticNode.Null)) };
 }
 
-/// A list has room for as many nodes as it has capacity for.
-impl<'de, A: Allocator> NodeSink<'de> for Vec<Node<'de>, A> {
-    ghost held_nodes = { λ nodes. map item_of nodes.items };
+/// A list of nodes as a sink, with room for as many nodes as it has capacity for.
+#[derive(Drop)]
+pub struct ListSink<'n, 'de, A: Allocator> {
+    /// The list.
+    pub list: &'n mut Vec<Node<'de>, A>,
+}
 
-    ghost node_room = { λ nodes. vec_capacity nodes };
+impl<'n, 'de, A: Allocator> NodeSink<'de> for ListSink<'n, 'de, A> {
+    ghost held_nodes = { λ nodes. map item_of nodes.list.now.items };
+
+    ghost node_room = { λ nodes. vec_capacity nodes.list.now };
 
     ghost Lender = { ℕ };
 
-    ghost lender = { λ _. 0 };
+    ghost lender = { λ nodes. nodes.list.ghost_name };
 
     #[inline(always)]
     fn len(&self) -> usize {
-        self.as_slice().len()
+        self.list.len()
     }
 
     #[inline(always)]
     fn push_string(&mut self, string: &'de str) {
-        self.push_reserved(Node::String(string));
+        self.list.push_reserved(Node::String(string));
     }
 
     #[inline(always)]
     fn push_decimal(&mut self, literal: &'de str) {
-        self.push_reserved(Node::Decimal(literal));
+        self.list.push_reserved(Node::Decimal(literal));
     }
 
     #[inline(always)]
     fn push_static(&mut self, value: StaticNode) {
-        self.push_reserved(Node::Static(value));
+        self.list.push_reserved(Node::Static(value));
     }
 
     #[inline(always)]
     fn push_header(&mut self, container: Container) {
-        self.push_reserved(container.header(0, 0));
+        self.list.push_reserved(container.header(0, 0));
     }
 
     #[inline(always)]
     fn set_counts(&mut self, header: usize, container: Container, len: usize, count: usize) {
-        self[header] = container.header(len, count);
+        self.list[header] = container.header(len, count);
     }
 
     fn starts_with_header(&self) -> bool {
-        matches!(self[0], Node::Array { .. } | Node::Object { .. })
+        matches!(self.list[0], Node::Array { .. } | Node::Object { .. })
     }
 }

@@ -1,10 +1,7 @@
-use Rattle.std.proofs.Common.{◌∙◌, ◌≤◌, ap, length, rules, subst, sym, take}
-use Rattle.std.specs.Result.{OnOk, result_err}
-use Rattle.simd_json_parts.specs.InputFaults.{input_fault}
-use Rattle.simd_json_parts.specs.Positions.{positions}
-use Rattle.simd_json.specs.Capacities.{capacity}
+use Rattle.std.proofs.Common.{◌∙◌, ap, refl, subst}
+use Rattle.std.specs.Result.{result_err}
+use Rattle.simd_json.specs.Capacities.{HoldsScan, capacity}
 use Rattle.simd_json.specs.Parsed.{IsParse, written}
-use Rattle.simd_json_stages.specs.NodesEnough.{nodes_enough}
 use Rattle.simd_json.proofs.ParseEnds.{nodes-within, parse-unread, parse-written, unwritten}
 use Rattle.simd_json.proofs.parse.fill_sink.Goals as goal
 
@@ -19,28 +16,21 @@ returns-in_err-find_positions-clause-parse g c =
     (parse-unread r c.args.s.now buffers.limit (capacity buffers) _ _ _ err (unwritten r _ held err)
     c.in_err-find_positions.ensures.empty.0 c.in_err-find_positions.ensures.fault)
 
-pub write_nodes-requires : goal.write_nodes-requires
-write_nodes-requires g c κs =
-    let found = c.in_ok-find_positions.ensures in
-    let bytes = g.K.Original.bytes in
-    let inside = c.buffers.inside in
-    let is = ap (λ r. r.positions) c.buffers.view_is ∙ found.found.0 ∙ ap positions c.requires.input in
-    let none = sym (ap input_fault c.requires.input) ∙ found.found.1 in
-    let enough = subst (λ ps. nodes_enough (length ps) inside.max_depth ≤ g.S.NodeSink.node_room c.args.sink.now)
-    (sym (ap (take inside.used) c.deref.ensures.value ∙ is)) (nodes-within bytes inside.max_depth _ none c.requires.room) in
-    (search rules, (search rules, (search rules, (search rules, (none, (enough, (search rules, c.requires.empty)))))))
+pub build_tape-requires : goal.build_tape-requires
+build_tape-requires g c κs =
+    let b = g.K.Original.bytes in
+    let buffers = c.find_positions.new.self in
+    let scan = subst (λ b. HoldsScan b buffers) c.requires.input c.in_ok-find_positions.ensures.found in
+    ((refl, tt), (c.requires.input, (scan, (nodes-within b buffers.limit _ scan.whole c.requires.room, c.requires.empty))))
 
 pub returns-clause-parse : goal.returns-clause-parse
 returns-clause-parse g c =
-    let found = c.in_ok-find_positions.ensures in
-    let r = c.write_nodes.result in
-    let bytes = g.K.Original.bytes in
-    let inside = c.buffers.inside in
-    let held = g.S.NodeSink.held_nodes c.write_nodes.new.sink in
-    let none = sym (ap input_fault c.requires.input) ∙ found.found.1 in
-    let is = ap (λ r. r.positions) c.buffers.view_is ∙ found.found.0 ∙ ap positions c.requires.input in
-    subst (λ limit. IsParse bytes limit (capacity c.args.buffers.now) (result_err r) (written r held)
-    (take inside.used inside.structural_indexes.items)) (ap (λ r. r.limit) c.buffers.view_is ∙ found.limit)
-    (parse-written r bytes inside.max_depth _ held _ none c.write_nodes.ensures.built
-    (subst (λ ps. OnOk r (length held ≤ length ps)) (ap (take inside.used) c.deref.ensures.value ∙ is) c.write_nodes.ensures.few)
-    c.write_nodes.ensures.refused is)
+    let b = g.K.Original.bytes in
+    let buffers = c.find_positions.new.self in
+    let r = c.build_tape.result in
+    let held = g.S.NodeSink.held_nodes c.build_tape.new.sink in
+    let scan = subst (λ b. HoldsScan b buffers) c.requires.input c.in_ok-find_positions.ensures.found in
+    subst (λ limit. IsParse b limit (capacity c.args.buffers.now) (result_err r) (written r held) c.build_tape.new.self.positions)
+    c.in_ok-find_positions.ensures.limit
+    (parse-written r b buffers.limit _ held _ scan.whole c.build_tape.ensures.built c.build_tape.ensures.few
+    c.build_tape.ensures.refused (ap (λ r. r.positions) c.build_tape.ensures.same ∙ scan.listed))

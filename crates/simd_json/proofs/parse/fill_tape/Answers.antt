@@ -1,11 +1,12 @@
-use Rattle.std.proofs.Common.{◌∙◌, ◌<◌, ap, length, subst}
+use Rattle.std.proofs.Common.{◌∙◌, ◌<◌, ap, length, map, subst}
+use Rattle.simd_json_parts.specs.Nodes.{item_of}
 use Rattle.std.specs.Result.{IfErr, OnOk}
 use Rattle.simd_json_parts.specs.FaultKinds.{IsOfToken}
 use Rattle.simd_json.specs.Parsed.{IsParsed, IsRefused}
 use Rattle.simd_json.specs.Capacities.{capacity}
 use Rattle.simd_json.specs.Reserved.{bytes_listed}
 use Rattle.simd_json_stages.specs.NodesEnough.{nodes_enough}
-use Rattle.simd_json.proofs.ParseEnds.{bytes-short, parse-built, parse-short, parse-unlisted}
+use Rattle.simd_json.proofs.ParseEnds.{built-some, built-tape, bytes-short, parse-built, parse-short, parse-unlisted}
 use Rattle.simd_json.proofs.parse.fill_tape.Goals as goal
 
 pub returns-in_err-find_positions-clause-parse : goal.returns-in_err-find_positions-clause-parse
@@ -32,12 +33,21 @@ returns-in-Err-clause-parse g c =
     (ap (λ t. t.nodes) c.refuse.ensures.nodes)
     (ap (λ r. r.positions) c.refuse.ensures.positions)
 
+pub invariant_of-tape : goal.invariant_of-tape
+invariant_of-tape g c =
+    built-tape c.build.result c.args.s.now _ (map item_of c.build.new.list.items) c.build.ensures.tape c.build.ensures.empty
+
+pub returns-clause-some : goal.returns-clause-some
+returns-clause-some g c =
+    built-some c.build.result c.args.s.now _ (map item_of c.build.new.list.items) c.build.ensures.tape
+
 pub returns-clause-parse : goal.returns-clause-parse
 returns-clause-parse g c =
     let found = c.in_ok-find_positions.ensures in
     let limit = c.args.buffers.now.limit in
-    parse-built c.build.result c.args.s.now limit _ _ _
-    (subst (λ l. OnOk c.build.result (IsParsed c.args.s.now l c.build.new.tape.nodes)) found.limit c.build.ensures.tape)
+    let nodes = map item_of c.build.new.list.items in
+    parse-built c.build.result c.args.s.now limit _ nodes _
+    (subst (λ l. OnOk c.build.result (IsParsed c.args.s.now l nodes)) found.limit c.build.ensures.tape)
     c.build.ensures.few
     c.build.ensures.empty
     (subst (λ l. IfErr c.build.result (λ e. IsRefused c.args.s.now l e × IsOfToken e)) found.limit c.build.ensures.fault)
