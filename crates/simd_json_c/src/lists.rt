@@ -76,12 +76,12 @@ fn count<K: Original>(buffers: &mut Buffers, input: &mut [u8]) -> Result<()>
         (result_err result) ns buffers.new.positions }
     ensures kept { (buffers.new.limit ≡ buffers.old.limit) × KeepsCapacities buffers.old buffers.new }
 {
-    let sink = Counted {
+    let mut sink = Counted {
         count: 0,
         is_container: false,
         noted: Noted::of(&()),
     };
-    fill_sink::<K, Counted, Global>(input, buffers, sink).1
+    fill_sink::<K, Counted, Global>(input, buffers, &mut sink)
 }
 
 // How much a document needs, and what is known of its nodes.
@@ -111,7 +111,7 @@ fn write<K: Original>(
     ensures kept { (buffers.new.limit ≡ buffers.old.limit) × KeepsCapacities buffers.old buffers.new }
 {
     let noted = Noted::of(&(&*nodes, &*text));
-    let sink = CallerSink {
+    let mut sink = CallerSink {
         nodes,
         count: 0,
         text,
@@ -119,7 +119,7 @@ fn write<K: Original>(
         is_container: false,
         noted,
     };
-    let (sink, result) = fill_sink::<K, CallerSink<'_>, Global>(input, buffers, sink);
+    fill_sink::<K, CallerSink<'_>, Global>(input, buffers, &mut sink)?;
     let CallerSink {
         nodes: _nodes,
         count,
@@ -128,7 +128,6 @@ fn write<K: Original>(
         is_container: _,
         noted,
     } = sink;
-    result?;
     let room = Room {
         nodes: count,
         text: used,
