@@ -120,7 +120,7 @@ impl Location {
 ///     Ok(location.map(|location| location.line()))
 /// }
 /// ```
-#[tactic(auto, unfolding(simd_json_parts::specs::Answer::answer, simd_json_parts::specs::InputFaults::input_fault))]
+#[tactic(auto, using(crate::proofs::ParseLaws::large_answered))]
 pub fn locate<A: Allocator + Copy>(
     alloc: A,
     input: &[u8],
