@@ -19,7 +19,3 @@ mod Ends
 mod Splitting
 mod StringScan
 mod ByteBefore
-mod WalkedTokens
-mod WalkedSteps
-mod WalkedLoops
-mod WalkedRoot

@@ -1,10 +1,11 @@
 -- From what the steps of a parse find to what the definitions answer.
-use Rattle.std.proofs.Common.{◌≡◌, ◌∙◌, ap, sym, ◌≤◌, ℕ, List, length, true, Some, None, Ok, Err, arith, Result, map, inl, inr}
+use Rattle.std.proofs.Common.{◌≡◌, ◌∙◌, ap, sym, ◌<◌, ◌≤◌, ℕ, List, length, true, Some, None, Ok, Err, arith, Result, map, inl, inr}
 use Rattle.std.proofs.Common.{false, refl, is_some}
 use Rattle.std.specs.Result.{is_err, MatchResult}
 use Rattle.std.proofs.lemmas.Bool.{false≢true}
 use Rattle.std.proofs.lemmas.List.Sums.{length-filter, count_by-le-length}
 use Rattle.std.proofs.lemmas.List.FromFn.{length-range_with_len}
+use Rattle.simd_json_scalars.proofs.Positions.ScannedInputs.{too_large}
 use Rattle.simd_json_theorems.proofs.Complete.Answer.{answer-Denotes}
 use Rattle.simd_json_theorems.proofs.Faults.Kinds.{input-fault, token-fault}
 use Rattle.simd_json_theorems.proofs.Faults.Root.{fault-reported}
@@ -17,7 +18,8 @@ use Rattle.simd_json_parts.specs.Document.{Document}
 use Rattle.simd_json_parts.specs.ErrorKinds.{is_unexpected_token}
 use Rattle.simd_json_parts.specs.FaultKinds.{is_input_kind}
 use Rattle.simd_json_parts.specs.Grammar.{Denotes}
-use Rattle.simd_json_parts.specs.Limits.{WithinLimits}
+use Rattle.simd_json_parts.specs.Faults.{whole_fault}
+use Rattle.simd_json_parts.specs.Limits.{WithinLimits, max_length}
 use Rattle.simd_json_parts.specs.Nodes.{Item, item_of}
 use Rattle.simd_json_parts.specs.declared.node.Node.{Node}
 use Rattle.simd_json_stages.specs.Building.{IsListed, IsWritten}
@@ -34,6 +36,9 @@ use Rattle.simd_json_parts.specs.declared.error.ErrorType.TheVariants as errors
 pub fault-answered : (b : List ℕ) (limit : ℕ) (e : Error) → input_fault b ≡ Some e → answer b limit ≡ Err e
 unfolding answer
 fault-answered b limit e is = ap (λ o. fault_or o (descent b limit)) is
+
+pub large_answered : (b : List ℕ) (limit : ℕ) → max_length < length b → answer b limit ≡ Err (whole_fault errors.InputTooLarge)
+large_answered b limit large = fault-answered b limit (whole_fault errors.InputTooLarge) (too_large b large)
 
 pub none-answered : (b : List ℕ) (limit : ℕ) → input_fault b ≡ None → answer b limit ≡ descent b limit
 unfolding answer

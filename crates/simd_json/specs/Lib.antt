@@ -24,5 +24,3 @@ pub mod Splitting
 pub mod Locations
 pub mod Reasons
 pub mod Messages
-pub mod Walked
-pub mod WalkedNext

@@ -1,21 +1,21 @@
 //! Where an input is wrong and why, for people.
-ghost use Rattle.std.specs.Prelude.{◌≡◌};
-ghost use Rattle.simd_json.specs.Reasons.{location_of};
+ghost use Rattle.std.specs.Prelude.{◌≡◌, ◌≤◌, length, IfOk, OnErr};
+ghost use Rattle.simd_json.specs.Reasons.{found_in, location_of};
+ghost use Rattle.simd_json_parts.specs.Limits.{max_length};
 
 mod context;
 mod display;
-mod find;
 mod place;
 mod reason;
 mod scan;
-mod tokens;
-mod walk;
 
+use crate::buffers::Buffers;
+use crate::parse::to_tape_with_buffers;
 use context::reason_for;
-pub use find::locate;
 use place::{byte_of, column, line};
 pub use reason::Reason;
-use simd_json_parts::error::Error;
+use simd_json_parts::error::{Error, ErrorType};
+use std::alloc::{AllocError, Allocator};
 
 /// An error, and for people where it is in the input and why: a line and a column for an editor, and a
 /// [`Reason`] in words.
@@ -98,5 +98,46 @@ impl Location {
         ensures { result ≡ self.now.reason }
     {
         self.reason
+    }
+}
+
+/// Looks for the error of the bytes as one document, with at most `max_depth` containers open at a time, and
+/// for its place. Returns `None` where they are a document within the limits, else the location of the error
+/// that [`to_tape_with_buffers`](crate::to_tape_with_buffers) returns where memory suffices.
+///
+/// `input` holds the bytes as they were before a parse. They are copied and the copy is parsed, in the time and
+/// the memory that these take; an input that is too large is not copied. Whoever has parsed the bytes already
+/// has the error, and needs [`Location::new`] alone.
+///
+/// Returns `AllocError` where an allocation fails. So `OutOfMemory` is never the error of a location.
+///
+/// ```
+/// use simd_json::locate;
+/// use std::alloc::AllocError;
+///
+/// fn line_of_error(rt: &impl AllocGlobal) -> Result<Option<usize>, AllocError> {
+///     let location = locate(rt.alloc(), b"[1,\n2,]", 1024)?;
+///     Ok(location.map(|location| location.line()))
+/// }
+/// ```
+#[tactic(auto, using(crate::proofs::ParseLaws::large_answered))]
+pub fn locate<A: Allocator + Copy>(
+    alloc: A,
+    input: &[u8],
+    max_depth: usize,
+) -> Result<Option<Location>, AllocError>
+    ensures found { IfOk result (λ found. found ≡ found_in input.now max_depth) }
+    ensures size { OnErr result (length input.now ≤ max_length) }
+{
+    if input.len() > u32::MAX as usize {
+        let error = Error::generic(ErrorType::InputTooLarge);
+        return Ok(Some(Location::new(input, error)));
+    }
+    let mut copy = Vec::from_slice(alloc, input)?;
+    let mut buffers = Buffers::empty(alloc, max_depth);
+    match to_tape_with_buffers(copy.as_mut_slice(), &mut buffers).err() {
+        None => Ok(None),
+        Some(e) if *e.error() == ErrorType::OutOfMemory => Err(AllocError),
+        Some(e) => Ok(Some(Location::new(input, e))),
     }
 }

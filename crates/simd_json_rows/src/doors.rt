@@ -165,7 +165,7 @@ fn steps(alloc: Global, parsed: std::result::Result<Deserializer<'_>, Error>) ->
 
 // The error that is located, or the tape of a document.
 fn located_error(alloc: Global, input: &[u8], limit: usize, tape: &str) -> Result<String> {
-    match locate(input, limit) {
+    match locate(alloc, input, limit)? {
         Some(location) => listing::error(alloc, location.error()),
         None => Ok(tape.to_string(alloc)?),
     }
@@ -180,7 +180,7 @@ pub fn located(alloc: Global, input: &[u8], limit: usize) -> Result<String> {
         Some(error) => Some(Location::new(input, error)),
         None => None,
     };
-    let location = locate(input, limit);
+    let location = locate(alloc, input, limit)?;
     if location != parsed {
         bail!("locate returns the place of another error");
     }

@@ -8,4 +8,3 @@ pub mod Steps
 pub mod Decoding
 pub mod Plain
 pub mod Reader
-pub mod Passing

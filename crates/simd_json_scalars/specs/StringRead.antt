@@ -16,8 +16,3 @@ further i (Err e) = Err (error_of (i + e.index) e.character e.error)
 abbrev pub IsStringAt : List ℕ → ℕ → Result ParsedString BadEscape → Type 0
 IsStringAt b i (Ok t) = (string_at b i ≡ Ok (t.string.now, i + t.len)) × (t.rest.now ≡ drop (i + t.len) b)
 IsStringAt b i (Err bad) = string_at b i ≡ Err (escape_fault (i + bad.offset) bad.letter)
-
--- how many bytes the string was written in, or the same fault
-abbrev pub IsStringLenAt : List ℕ → ℕ → Result ℕ BadEscape → Type 0
-IsStringLenAt b i (Ok len) = (string : List ℕ) × (string_at b i ≡ Ok (string, i + len))
-IsStringLenAt b i (Err bad) = string_at b i ≡ Err (escape_fault (i + bad.offset) bad.letter)

@@ -5,14 +5,14 @@ ghost use Rattle.simd_json_parts.specs.Bytes.{quote, byte_at};
 ghost use Rattle.simd_json_parts.specs.StringAt.{closing_quote};
 ghost use Rattle.simd_json_scalars.specs.StringContent.{is_plain};
 ghost use Rattle.simd_json_scalars.specs.StringDecoded.{IsOpen, IsDecoded, IsLeft};
-ghost use Rattle.simd_json_scalars.specs.StringRead.{IsStringAt, IsStringLenAt};
+ghost use Rattle.simd_json_scalars.specs.StringRead.{IsStringAt};
 
 mod escapes;
 mod runs;
 #[cfg(test)]
 mod tests;
 
-use escapes::{escape, unescape_one};
+use escapes::unescape_one;
 use runs::{move_plain, plain_end};
 
 /// A string, taken off the front of the unread bytes.
@@ -61,30 +61,6 @@ pub fn parse_str<'de>(unread: &'de mut [u8]) -> Result<ParsedString<'de>, BadEsc
         Ok(ends) => Ok(share(unread, ends.written, ends.read)),
         Err(bad) => Err(bad),
     }
-}
-
-/// Reads the same string without decoding it: returns how many bytes it was written in, or the first invalid
-/// escape. Nothing is written, and no memory is taken.
-pub fn string_len(bytes: &[u8]) -> Result<usize, BadEscape>
-    requires opening { byte_at bytes.now 0 ≡ quote }
-    requires closing { closing_quote bytes.now 0 < length bytes.now }
-    ensures read { (b : List ℕ) (i : ℕ) → drop i b ≡ bytes.now → IsStringLenAt b i result }
-    ensures within { MatchResult result (λ len. len ≤ length bytes.now)
-        (λ bad. bad.offset < length bytes.now) }
-{
-    let mut read = plain_end(bytes, 1);
-    while bytes[read] == b'\\' {
-        match escape(&bytes[read..]) {
-            Some((_, more)) => read = plain_end(bytes, read + 1 + more),
-            None => {
-                return Err(BadEscape {
-                    letter: bytes[read + 1],
-                    offset: read,
-                });
-            }
-        }
-    }
-    Ok(read + 1)
 }
 
 // The bytes after the opening quote up to `end` as a string, and those after the closing quote.

@@ -28,7 +28,7 @@ pub(super) fn unescape_one(unread: &mut [u8], ends: Ends) -> Option<Ends>
 
 // The character of the escape at the front, and how many bytes of it follow the backslash. The table is asked
 // first, since most escapes are of one letter.
-pub(super) fn escape(bytes: &[u8]) -> Option<(char, usize)>
+fn escape(bytes: &[u8]) -> Option<(char, usize)>
     requires { 2 ≤ length bytes.now }
     ensures value { MatchOption result (escape_at bytes.now ≡ None)
         (λ e. escape_at bytes.now ≡ Some (encode_utf8 e.0, e.1)) }

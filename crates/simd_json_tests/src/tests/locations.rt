@@ -1,6 +1,8 @@
 // Places of errors that no row has; worked ones are in tests/vectors/places.txt.
-use crate::tests::memory::MEMORY;
+use crate::tests::memory::{MEMORY, ballast};
+use linked_list_allocator::LocalHeap;
 use simd_json::{Error, ErrorType, Location, Reason, locate};
+use std::alloc::{AllocError, Allocator};
 use std::process::Abort;
 
 // A kind that no input of `locate` has.
@@ -55,23 +57,64 @@ fn nested(rt: &(impl AllocGlobal + Abort), count: usize, closed: usize) -> Vec<u
 }
 
 // At which byte an input is refused, and why.
-fn place(input: &[u8], depth: usize) -> Option<(usize, Reason)> {
-    match locate(input, depth) {
-        Some(location) => Some((location.byte(), location.reason())),
-        None => None,
+fn place<A: Allocator + Copy>(
+    alloc: A,
+    input: &[u8],
+    depth: usize,
+) -> Result<Option<(usize, Reason)>, AllocError> {
+    match locate(alloc, input, depth)? {
+        Some(location) => Ok(Some((location.byte(), location.reason()))),
+        None => Ok(None),
     }
 }
 
-// One call keeps 64 containers open.
+// On either side of the 64 containers for which a parse has a stack without an allocation.
 #[test]
-fn deep_inputs_are_walked(rt: HostRuntime) {
+fn places_in_deep_inputs(rt: HostRuntime) {
     for count in [1, 63, 64, 65, 128, 129, 1024] {
         let text = nested(&rt, count, count);
-        assert_same!(&rt; place(text.as_slice(), 1024), None, count);
+        assert_same!(&rt; place(rt.alloc(), text.as_slice(), 1024), Ok(None), count);
         let shallow = count - 1;
-        assert_same!(&rt; place(text.as_slice(), shallow), Some((shallow, Reason::TooDeep)), count);
+        let too_deep = Ok(Some((shallow, Reason::TooDeep)));
+        assert_same!(&rt; place(rt.alloc(), text.as_slice(), shallow), too_deep, count);
         let open = nested(&rt, count, shallow);
-        let end = count + shallow;
-        assert_same!(&rt; place(open.as_slice(), 1024), Some((end, Reason::EndOfInput)), count);
+        let end = Ok(Some((count + shallow, Reason::EndOfInput)));
+        assert_same!(&rt; place(rt.alloc(), open.as_slice(), 1024), end, count);
     }
+}
+
+// Each heap leaves more memory than the one before it, so that another allocation fails, and then none. Where one
+// fails this is the error, and no place is returned; all memory is given back.
+fn assert_allocations_fail(
+    rt: &(impl AllocGlobal + Abort),
+    input: &[u8],
+    wanted: Option<(usize, Reason)>,
+) {
+    let heap = LocalHeap::new(rt.alloc(), 1 << 13).expect(rt, MEMORY);
+    let mut failed = 0u32;
+    for units in 0..200 {
+        let full = ballast(rt, &heap, units * 16);
+        let found = place(&heap, input, 8);
+        drop(full);
+        assert_same!(rt; heap.used(), 0, units);
+        if found.is_err() {
+            failed = failed.saturating_add(1);
+        } else {
+            assert_same!(rt; found, Ok(wanted), units);
+        }
+    }
+    assert_that!(rt; failed > 0, input);
+    assert_that!(rt; failed < 200, input);
+    assert_same!(rt; place(&heap, input, 8), Ok(wanted), input);
+}
+
+#[test]
+fn each_allocation_fails(rt: HostRuntime) {
+    assert_allocations_fail(&rt, b"[[1,\"\\n\"],{\"\\u0061\":[4]},5,6,7,8,9]", None);
+    let end = Some((20, Reason::ExpectedElementEnd(b'5')));
+    assert_allocations_fail(&rt, b"[[1],{\"\\u0061\":[4]} 5,6,7,8,9]", end);
+    let deep = Some((8, Reason::TooDeep));
+    assert_allocations_fail(&rt, b"[[[[[[[[[1,2]]]]]]]]]", deep);
+    let byte = Some((5, Reason::NotUtf8(0xff)));
+    assert_allocations_fail(&rt, b"[1,2,\xff]", byte);
 }
