@@ -28,7 +28,7 @@
  * returns, but for what a parser keeps; in a signal handler, or in the forked child of a process with threads, these can't
  * be called, and so neither can this library.
  *
- * Pointers are to memory of the caller, which a call uses until it returns. The pieces may not overlap. A pointer may be
+ * Pointers are to memory of the caller, which a call uses until it returns. Regions may not overlap. A pointer may be
  * null where its length is 0. Nothing past a length is read or written.
  *
  * INPUT IS OVERWRITTEN: escapes are decoded in place, and afterwards its contents are unspecified. Pass a copy of what is
@@ -84,7 +84,7 @@ enum {
     SIMD_JSON_PARSER_CLOSED = 20
 };
 
-/* Where an input is refused: a byte offset into it, and the byte there. Index 0 and SIMD_JSON_NO_CHARACTER where the
+/* Where an input is rejected: a byte offset into it, and the byte there. Index 0 and SIMD_JSON_NO_CHARACTER where the
  * error is of the whole input, and where there is none. */
 typedef struct {
     size_t index;

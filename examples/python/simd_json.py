@@ -27,7 +27,7 @@ class Room(ctypes.Structure):
 
 
 class Refused(ValueError):
-    """The input is no document within the limits."""
+    """The input is not a document within the limits."""
 
     def __init__(self, name, status, place):
         super().__init__(f"{name} at character {place.index}")
@@ -69,7 +69,7 @@ class Library:
         raise Refused(self.status_name(status), status, place)
 
     def check(self, data, max_depth=1024):
-        """Raises Refused where the bytes are no document."""
+        """Raises Refused where the bytes are not a document."""
         place = Place()
         status = self._check(ctypes.create_string_buffer(data, len(data)), len(data), max_depth, byref(place))
         if status:

@@ -1,14 +1,14 @@
-//! A reader or a writer, and what has happened to it.
+//! A reader or a writer that records failures and its end.
 use simd_json_print::text::Target;
 use std::io;
 use std::io::{Read, Write};
 use std::marker::Model;
 
-/// A reader or a writer that remembers whether a call on it failed, and whether it came to its end. Its own calls
-/// alone set these flags, [`failed`](Channel::failed) and [`ended`](Channel::ended).
+/// A reader or a writer that records whether a call on it failed, and whether it ended. Only its
+/// own calls set these flags, [`failed`](Channel::failed) and [`ended`](Channel::ended).
 ///
-/// A [`Port`](crate::Port) is one that [`run`](crate::run) alone reads and writes. This is for a program that does so
-/// itself: text is written to it as to any [`Target`].
+/// A [`Port`](crate::Port) is read and written only by [`run`](crate::run). This is for a program
+/// that does so itself: text is written to it as to any [`Target`].
 #[derive(Drop)]
 pub struct Channel<T> {
     inner: T,
@@ -27,7 +27,7 @@ impl<T> Model for Channel<T> {
 impl<T> Channel<T> {
     ghost use Rattle.std.specs.Prelude.{◌≡◌, false};
 
-    /// A reader or a writer on which no call failed, and that has not come to its end.
+    /// A reader or a writer that has neither failed nor ended.
     pub fn new(inner: T) -> Channel<T>
         ensures { result ≡ record { inner = inner; failed = false; ended = false } }
     {
@@ -68,7 +68,7 @@ impl<R: Read> Channel<R> {
 
     /// Reads some bytes into the front of a buffer, as `Read::read` does.
     ///
-    /// Fails where the reader does. The channel has failed then.
+    /// Returns the reader's error. The channel has failed then.
     pub fn read(&mut self, buf: &mut [u8]) -> io::Result<usize>
         ensures bound { ReadsAtMost result buf.new }
         ensures bytes { ReadConsumes (R.remaining self.old.inner) (R.remaining self.new.inner)
@@ -86,7 +86,7 @@ impl<R: Read> Channel<R> {
     }
 }
 
-// No other way leads to the writer, so that no failure goes unrecorded.
+// The only access to the writer, so that no failure goes unrecorded.
 impl<W: Write> Target for Channel<W> {
     ghost use Rattle.std.specs.Prelude.{◌≡◌, Some};
     ghost use Rattle.simd_json_print.specs.Texts.{Takes};

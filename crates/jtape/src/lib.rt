@@ -1,8 +1,8 @@
-//! From the bytes of a reader to the lines of a writer: one JSON document, or a stream of lines, printed as a
-//! mode asks.
+//! From the bytes of a reader to the lines of a writer: one JSON document, or JSON Lines, printed
+//! in the form of a mode.
 //!
-//! [`run`] reads and writes through two [`Port`]s, which remember what failed and what ended. [`settings`]
-//! says which mode words ask for, and [`status`] which status a program ends with:
+//! [`run`] reads and writes through two [`Port`]s, which record what failed and what ended.
+//! [`settings`] parses a program's arguments, and [`status`] is the exit status:
 //!
 //! ```
 //! use jtape::{Answer, Mode, Port, run};
@@ -15,8 +15,8 @@
 //! }
 //! ```
 //!
-//! Of ` [ 1, 2 ] ` it returns `Ok(true)` and the bytes `[1,2]` and a line feed. Of `[1,]`, which is refused, it
-//! returns `Err(RunFault::Refused(e))` and no byte, and `e` is displayed as
+//! For ` [ 1, 2 ] ` it returns `Ok(true)`, and the bytes `[1,2]` and a line feed. `[1,]` is
+//! rejected: it returns `Err(RunFault::Refused(e))` and no bytes; `e` is displayed as
 //! `InternalError at character 3 (']')`.
 //!
 //! The program is a crate of its own, `jtape_main`, since a crate is either a library or a program.

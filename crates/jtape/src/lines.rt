@@ -25,8 +25,8 @@ pub(crate) fn put_lines<T: Target, const SIZE: usize>(
     }
 }
 
-// The kinds are tested one by one, by how often they come: a test costs less than a jump by a table,
-// which a function of all of them would get.
+// The kinds are tested one by one, by how often they come: a test costs less than the jump table
+// that one function for all of them would get.
 #[inline(always)]
 fn put_line<T: Target, const SIZE: usize>(text: &mut Text<'_, T, SIZE>, node: &Node<'_>)
     ensures { Adds T.place text.old text.new (line (item_of node.now)) }
@@ -87,7 +87,7 @@ fn put_other<T: Target, const SIZE: usize>(text: &mut Text<'_, T, SIZE>, node: &
     }
 }
 
-// The kind is known where this is inlined, so no length is asked for.
+// The kind is known where this is inlined, so no length is computed.
 #[inline(always)]
 fn put_header<T: Target, const SIZE: usize>(
     text: &mut Text<'_, T, SIZE>,

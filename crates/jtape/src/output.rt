@@ -1,4 +1,4 @@
-//! From an input to all that is written of it.
+//! From an input to its output.
 ghost use Rattle.std.specs.Prelude.{◌≡◌, ◌≢◌, ◌⊎◌, true, false, List, ℕ, map, take, IfErr, OnOk, OnErr, Ok};
 ghost use Rattle.std.specs.Io.KnownBytes.{Appends};
 ghost use Rattle.jtape.specs.Output.{document_output, printed, nothing_printed};
@@ -23,9 +23,9 @@ use std::io::Write;
 // How many bytes are collected for the writer.
 pub(crate) const PIECE: usize = 65_536;
 
-// Writes what the layout shows of an input that is read as one document, or a beginning of it where the
-// writer fails. All memory is taken before the first byte is written, so that nothing is written where an
-// allocation fails.
+// Writes an input, read as one document, in a layout, or a prefix of that if the writer fails. All
+// memory is allocated before the first byte is written, so that nothing is written if an allocation
+// fails.
 pub(crate) fn write_output<A: Allocator + Copy, W: Write>(
     a: A,
     layout: Layout,
@@ -49,8 +49,8 @@ pub(crate) fn write_output<A: Allocator + Copy, W: Write>(
     print(writer, layout, tape.nodes(), buffers.structural_indexes())
 }
 
-// Writes what the layout shows of a document, from its nodes and from the positions of its bytes. It stands
-// apart, since the parse is slower where both are compiled as one function.
+// Writes a document in a layout, from its nodes and structural indexes. A function of its own:
+// compiled as one, the parse is slower.
 #[inline(never)]
 fn print<W: Write>(
     writer: &mut Channel<W>,

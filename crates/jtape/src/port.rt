@@ -1,9 +1,10 @@
-//! A reader or a writer that a run alone uses.
+//! A reader or a writer that only a run uses.
 use crate::channel::Channel;
 use std::marker::Model;
 
-/// A reader or a writer for [`run`](crate::run), and whether a call on it failed and whether it came to its end. The
-/// run's own calls alone set these flags, [`failed`](Port::failed) and [`ended`](Port::ended).
+/// A reader or a writer for [`run`](crate::run) that records whether a call on it failed and
+/// whether it ended. Only the run's own calls set these flags, [`failed`](Port::failed) and
+/// [`ended`](Port::ended).
 #[derive(Drop)]
 pub struct Port<T> {
     pub(crate) channel: Channel<T>,
@@ -29,8 +30,8 @@ impl<T> Port<T> {
         }
     }
 
-    /// Whether a read or a write through the port returned an error, or a write wrote 0 bytes of a non-empty
-    /// buffer.
+    /// Whether a read or a write through the port returned an error, or a write wrote 0 bytes of a
+    /// non-empty buffer.
     pub fn failed(&self) -> bool
         ensures { result ≡ self.now.failed }
     {

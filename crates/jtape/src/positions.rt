@@ -1,11 +1,11 @@
-//! The lines of positions.
+//! The lines of mode `positions`.
 ghost use Rattle.jtape.specs.Lines.{number_lines};
 ghost use Rattle.simd_json_print.specs.Texts.{Adds};
 
 use simd_json::StaticNode;
 use simd_json_print::text::{Target, Text};
 
-// Puts a line for each position.
+// Puts a line for each structural index.
 pub(crate) fn put_positions<T: Target, const SIZE: usize>(
     text: &mut Text<'_, T, SIZE>,
     positions: &[u32],

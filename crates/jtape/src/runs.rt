@@ -1,4 +1,4 @@
-//! From a reader's bytes to a writer's, and what is said of how that ended: a line, and a status.
+//! From a reader's bytes to a writer's, and how that ended: a message and an exit status.
 ghost use Rattle.std.specs.Prelude.{◌≡◌, ◌≢◌, ◌↔◌, ◌⊎◌, ◌<◌, ℕ, List, Option, length};
 ghost use Rattle.std.specs.Prelude.{true, false, IfOk, IfErr, OnOk, Err};
 ghost use Rattle.std.specs.Io.KnownBytes.{Consumes, IsAtEnd, Keeps};
@@ -19,15 +19,14 @@ use std::io::{Read, Write};
 
 type Result<T> = std::result::Result<T, RunFault>;
 
-/// What a run returns. `Ok` says whether all that was read is printed: `false` is for modes that print many
-/// documents, and go on after one that is refused. A mode of one document refuses it as a fault, and its `Ok`
-/// is `true`.
+/// What a run returns. `Ok(false)`: in mode `Lines` some lines were rejected, and the others
+/// printed. A mode of one document returns `Ok(true)`, or its error.
 pub type Answer = Result<bool>;
 
 /// Why a run wrote less than all of its output.
 #[derive(Debug, Drop, PartialEq)]
 pub enum RunFault {
-    /// The input was refused, or an allocation failed.
+    /// The input was rejected, or an allocation failed.
     Refused(Error),
     /// The reader failed.
     Read,
@@ -74,8 +73,8 @@ impl fmt::Display for RunFault {
     }
 }
 
-/// The status that a run ends with: 0 where all is well, 1 where the input is refused or an allocation
-/// failed, 3 where the reader or the writer failed.
+/// The exit status of a run: 0 if all was printed, 1 if an input was rejected or an allocation
+/// failed, 3 if the reader or the writer failed.
 pub fn status(answer: &Answer) -> u8
     ensures { result ≡ status_of answer.now }
 {
@@ -86,17 +85,17 @@ pub fn status(answer: &Answer) -> u8
     }
 }
 
-/// Reads to the reader's end, and writes the document in the form of the mode. At most `depth` containers may
-/// be open at a time. What is written and returned is a function of mode, depth limit and input, unless an
-/// allocation fails (`OutOfMemory`), the reader (`Read`) or the writer (`Write`).
+/// Reads to the reader's end, and writes the document in the form of the mode. At most `depth`
+/// containers may be open at a time. Output and result are a function of mode, depth limit and
+/// input, unless an allocation (`OutOfMemory`), the reader (`Read`) or the writer (`Write`) fails.
 ///
-/// Nothing is written before the reader's port has ended, nor where the input is refused, nor after
-/// `OutOfMemory` or `Read`; after `Write` a prefix of the output was written. Returns `Read` exactly where the
-/// reader's port has failed, and `Write` exactly where the writer's has.
+/// Nothing is written before the reader's port has ended, nor if the input is rejected, nor after
+/// `OutOfMemory` or `Read`; after `Write` a prefix of the output was written. Returns `Read`
+/// exactly if the reader's port has failed, and `Write` exactly if the writer's has.
 ///
-/// In mode `Lines` each piece between line feeds is a document of its own, or blank. A refused one becomes a
-/// line with its error; reading continues, and `Ok(false)` is returned. Where an allocation fails at a piece,
-/// the text of all pieces before it was written, and nothing else.
+/// In mode `Lines` each line is a document of its own, or blank. For a rejected one its error is
+/// printed; reading continues, and `Ok(false)` is returned. If an allocation fails at a line, the
+/// text of all lines before it was written, and nothing else.
 ///
 /// ```
 /// use jtape::{Mode, Port, run, status};
@@ -144,11 +143,11 @@ pub fn run<A: Allocator + Copy, R: Read, W: Write>(
     }
 }
 
-// How many bytes are asked of the reader at a time.
+// How many bytes are read at a time.
 const BLOCK: usize = 16_384;
 
-// How many are reserved once a whole block was read. An allocator that gets so much from the system by itself
-// grows it with no copy, and what is never touched takes no memory.
+// How many are reserved once a whole block was read. An allocator that maps so large a list by
+// itself grows it without a copy, and bytes that are never written take no memory.
 const MORE: usize = 262_144;
 
 // Reads to the reader's end.

@@ -1,8 +1,9 @@
-//! Mode `lines`: what is written of each piece between line feeds. One set of lists serves all pieces, and one
+//! Mode `lines`: the text of each line of the input. One set of lists serves all lines, and one
 //! text is written.
 //!
-//! A piece's parse and its error's line allocate before any byte of the piece is put. At which piece an allocation
-//! failed no contract can say, since the allocator is not seen from outside; tests do.
+//! The parse of a line and the text of its error allocate before any byte of it is put. No contract
+//! can say at which line an allocation failed, since the allocator is not seen from outside; tests
+//! do.
 ghost use Rattle.std.specs.Prelude.{◌≡◌, ◌≢◌, ◌++◌, ◌∷◌, [], false, is_some, string_bytes, IfOk, IfErr, OnOk, OnErr, Err};
 ghost use Rattle.std.specs.Io.KnownBytes.{Appends};
 ghost use Rattle.jtape.specs.Output.{stream_output};
@@ -24,8 +25,8 @@ use simd_json_print::text::{Target, Text};
 use std::alloc::{AllocError, Allocator};
 use std::io::Write;
 
-// Writes the text of each piece, in the input's order, and returns whether each is clean: blank, or a
-// document. Where an allocation fails, the texts of all earlier pieces are written first.
+// Writes the text of each line, in the input's order, and returns whether each is clean: blank, or
+// a document. If an allocation fails, the texts of all earlier lines are written first.
 pub(crate) fn write_stream<A: Allocator + Copy, W: Write>(
     a: A,
     depth: usize,
@@ -48,8 +49,9 @@ pub(crate) fn write_stream<A: Allocator + Copy, W: Write>(
     }
 }
 
-// Puts the text of each piece, and returns whether each is clean, which is left open where the target fails:
-// that ends it at once. Where an allocation fails, nothing is put of that piece and of later ones.
+// Puts the text of each line, and returns whether each is clean. It ends early if the target fails;
+// the result is then unspecified. If an allocation fails, nothing of that line and later ones is
+// put.
 fn put_stream<A: Allocator + Copy, T: Target, const SIZE: usize>(
     a: A,
     depth: usize,
@@ -78,7 +80,7 @@ fn put_stream<A: Allocator + Copy, T: Target, const SIZE: usize>(
     Ok(all_clean)
 }
 
-// What all pieces use one after another.
+// The lists and texts that one line after another uses.
 #[derive(Drop)]
 struct Stream<'de, A: Allocator> {
     buffers: Buffers<A>,
@@ -100,8 +102,8 @@ impl<'de, A: Allocator + Copy> Stream<'de, A> {
 }
 
 impl<'de, A: Allocator> Stream<'de, A> {
-    // Puts the text of one piece, and returns whether the piece is clean. Where an allocation fails, nothing
-    // of it is put.
+    // Puts the text of one line, and returns whether the line is clean. If an allocation fails,
+    // nothing of it is put.
     fn put<T: Target, const SIZE: usize>(
         &mut self,
         piece: &'de mut [u8],
@@ -130,7 +132,7 @@ impl<'de, A: Allocator> Stream<'de, A> {
         }
     }
 
-    // Makes the line of a fault, before anything of it is put. Want of memory has none: it is passed on.
+    // Formats the line of an error before any of it is put. `OutOfMemory` becomes `AllocError`.
     fn tell(&mut self, e: &Error) -> Result<(), AllocError>
         ensures line { OnOk result (string_bytes self.new.fault
             ≡ answer_text (Err e.now) ++ line_feed ∷ []) }

@@ -1,4 +1,4 @@
-//! What the program's words ask for.
+//! The program's arguments.
 ghost use Rattle.std.specs.Prelude.{◌≡◌, map, string_bytes};
 ghost use Rattle.std.specs.Char.{is_ascii_digit};
 ghost use Rattle.std.specs.List.{list_all};
@@ -7,7 +7,7 @@ ghost use Rattle.jtape.specs.Settings.{mode_of, number_of, settings_of};
 
 use simd_json::DEFAULT_MAX_DEPTH;
 
-/// What is printed, and of what: of the input as one document, or in mode `Lines` of each of its lines.
+/// What is printed: of the input as one document, or in mode `Lines` of each of its lines.
 #[derive(Clone, Copy, Debug, Drop, PartialEq, Eq)]
 pub enum Mode {
     /// A line for each node of the tape.
@@ -18,8 +18,8 @@ pub enum Mode {
     Compact,
     /// The document with a line for each member, and a line feed.
     Pretty,
-    /// For each line that is not blank its document as by `Compact`, or a line that begins with `! ` and says
-    /// its error.
+    /// For each line that is not blank its document as by `Compact`, or a line with `! ` and its
+    /// error.
     Lines,
 }
 
@@ -33,7 +33,7 @@ pub(crate) enum Layout {
 }
 
 impl Mode {
-    // How the input is printed as one document. `None` where each of its lines is a document.
+    // How the input is printed as one document, or `None` if each of its lines is a document.
     pub(crate) fn layout(self) -> Option<Layout>
         ensures { result ≡ layout_of self }
     {
@@ -47,9 +47,9 @@ impl Mode {
     }
 }
 
-/// What the words after the program's name ask for: a mode, which is `tape`, `positions`, `compact`, `pretty`
-/// or `lines`, and after it, or not, how many containers may be open at a time, in digits; without it
-/// [`DEFAULT_MAX_DEPTH`] may. `None` where they are not understood.
+/// Parses the arguments after the program's name: a mode, `tape`, `positions`, `compact`, `pretty`
+/// or `lines`, and optionally the depth limit in digits, else [`DEFAULT_MAX_DEPTH`]. Returns `None`
+/// for any others.
 pub fn settings(words: &[String]) -> Option<(Mode, usize)>
     ensures { result ≡ settings_of (map string_bytes words.now) }
 {
@@ -73,8 +73,7 @@ fn mode_named(word: &str) -> Option<Mode>
     }
 }
 
-/// The number of a word that has digits alone, of which there is one at least. `None` for any other word, and
-/// where the number is 2^64 or more.
+/// The number of a word of one or more digits, or `None` for any other word and for 2^64 or more.
 pub fn number_named(word: &str) -> Option<usize>
     ensures { result ≡ number_of word.now }
 {

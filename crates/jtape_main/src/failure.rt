@@ -1,4 +1,4 @@
-//! What the arguments ask for, and how the program ends: with a line on standard error or none, and a status.
+//! The program's arguments, and how it ends: a line on standard error or none, and a status.
 ghost use Rattle.std.specs.Prelude.{◌≡◌, map, string_bytes, IfOk, IfErr, Err};
 ghost use Rattle.jtape_main.specs.Failures.{requested_of, exit_status_of};
 ghost use Rattle.jtape_main.specs.declared.failure.Failure.TheVariants.{Usage};
@@ -40,8 +40,8 @@ impl fmt::Display for Failure {
     }
 }
 
-/// What the program's arguments ask for, of which the first is its name. Returns `Usage` where they can't be
-/// read, or where [`settings`] does not understand the words after the name.
+/// Parses the program's arguments, of which the first is its name. Returns `Usage` if they can't be
+/// read, or if [`settings`] returns `None` for the others.
 pub fn requested(arguments: io::Result<Vec<String>>) -> Result<(Mode, usize), Failure>
     ensures requested { IfOk arguments (λ words. result ≡ requested_of (map string_bytes words.items)) }
     ensures unread { IfErr arguments (λ _. result ≡ Err Usage) }

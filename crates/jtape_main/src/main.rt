@@ -1,6 +1,6 @@
-//! `jtape MODE [DEPTH]` reads one JSON document from standard input, or a stream of lines, and prints it as
-//! the mode asks. The library `jtape` reads and writes; here are the arguments, the line on standard error
-//! and the status.
+//! `jtape MODE [DEPTH]` reads one JSON document from standard input, or JSON Lines, and prints it
+//! in the form of the mode. The library `jtape` reads and writes; here are the arguments, the line
+//! on standard error and the status.
 #![tactic(auto)]
 
 mod failure;

@@ -7,7 +7,8 @@ use std::io::{Read, Write};
 use std::process::Abort;
 use std::test::Fail;
 
-// `assert_eq!` and `assert!` as calls: a call is proved in far less time than the code that those expand to.
+// `assert_eq!` and `assert!` as calls: a call is proved in far less time than the code that those
+// expand to.
 macro_rules! assert_same {
     ($rt:expr; $found:expr, $wanted:expr $(,)?) => {
         crate::tests::same($rt, stringify!($found), $found, $wanted)

@@ -1,7 +1,7 @@
-//! `pick POINTER` reads JSON Lines from standard input and prints, of each line, the value that a JSON Pointer
-//! (RFC 6901) names there, as compact text on a line of its own. Of another line it prints nothing, or with
-//! `pick -m POINTER` its number and what is missing. It stops, with status 3, where reading, writing or an
-//! allocation fails.
+//! `pick POINTER` reads JSON Lines from standard input and prints the value of a JSON Pointer (RFC
+//! 6901) in each line, as compact text on a line of its own. For a line without one it prints
+//! nothing, or with `pick -m POINTER` its number and what is missing. It stops with status 3 if
+//! reading, writing or an allocation fails.
 #![tactic(auto)]
 
 use anyhow::Result;

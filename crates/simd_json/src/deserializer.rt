@@ -19,10 +19,11 @@ use simd_json_parts::node::Node;
 use std::alloc::{Allocator, Global};
 use std::marker::Model;
 
-/// A tape and a position on it: [`next_`](Deserializer::next_) gives one node after another, in preorder.
+/// A tape and a position on it: [`next_`](Deserializer::next_) returns one node after another, in
+/// preorder.
 ///
-/// A new one is at node 0, as one that is [restarted](Deserializer::restart) does, so it is
-/// [at its end](Deserializer::is_at_end) exactly if its tape is empty.
+/// A new or [restarted](Deserializer::restart) one is at the first node, or
+/// [at the end](Deserializer::is_at_end) if its tape is empty.
 #[derive(Debug, Drop)]
 pub struct Deserializer<'de, A: Allocator = Global> {
     tape: Tape<'de, A>,
@@ -38,12 +39,12 @@ impl<'de, A: Allocator> Model for Deserializer<'de, A> {
 }
 
 impl<'de, A: Allocator + Copy> Deserializer<'de, A> {
-    /// Reads a document as [`to_tape`] does, with the same errors, and is at its first node.
+    /// Reads a document as [`to_tape`] does, with the same errors, and starts at its first node.
     ///
     /// ```
     /// use simd_json::{Deserializer, Node};
     ///
-    /// // The strings of a document, names too.
+    /// // The strings of a document, keys too.
     /// fn count_strings(rt: &impl AllocGlobal) -> simd_json::Result<usize> {
     ///     let mut input = *b"{\"name\":\"tape\",\"sizes\":[1,[2,3],4]}";
     ///     let mut nodes = Deserializer::from_slice(rt.alloc(), &mut input)?;
@@ -68,9 +69,9 @@ impl<'de, A: Allocator + Copy> Deserializer<'de, A> {
         Ok(Deserializer::from_tape(to_tape(a, input)?))
     }
 
-    /// Reads a document as [`to_tape_with_buffers`] does, with the same errors, and is at its first node.
-    /// The tape takes its memory from the allocator of the buffers, and these are left as by
-    /// [`to_tape_with_buffers`].
+    /// Reads a document as [`to_tape_with_buffers`] does, with the same errors and effects on the
+    /// buffers, and starts at its first node. The tape takes its memory from the allocator of the
+    /// buffers.
     pub fn from_slice_with_buffers(
         input: &'de mut [u8],
         buffers: &mut Buffers<A>,
@@ -87,14 +88,14 @@ impl<'de, A: Allocator + Copy> Deserializer<'de, A> {
 }
 
 impl<'de, A: Allocator> Deserializer<'de, A> {
-    /// Starts at the first node of the tape, which is as it was.
+    /// Starts at the first node of the tape.
     pub fn from_tape(tape: Tape<'de, A>) -> Deserializer<'de, A>
         ensures { result ≡ steps_from tape.entry }
     {
         Deserializer { tape, position: 0 }
     }
 
-    /// The tape, as it was, wherever the position is.
+    /// Returns the tape, whatever the position.
     pub fn into_tape(self) -> Tape<'de, A>
         ensures { result ≡ self.entry.tape }
     {
@@ -102,7 +103,7 @@ impl<'de, A: Allocator> Deserializer<'de, A> {
         tape
     }
 
-    /// The document of the tape, which has one: it is not empty. The position does not matter.
+    /// The document of the tape, whatever the position. Requires that the tape is not empty.
     pub fn as_value(&self) -> Value<'_, 'de>
         requires { self.now.tape.nodes ≢ [] }
         ensures { listing (doc result) ≡ self.now.tape.nodes }
@@ -117,7 +118,7 @@ impl<'de, A: Allocator> Deserializer<'de, A> {
         self.position = 0;
     }
 
-    /// The node at the position, which is not at the end, and moves on by one.
+    /// Returns the node at the position and advances. Requires that the end is not reached.
     pub fn next_(&mut self) -> Node<'de>
         requires { self.old.position < length self.old.tape.nodes }
         ensures node { slice_get self.old.tape.nodes self.old.position ≡ Some (item_of result) }
@@ -128,7 +129,7 @@ impl<'de, A: Allocator> Deserializer<'de, A> {
         node
     }
 
-    /// Whether no node is left.
+    /// Whether all nodes have been returned.
     pub fn is_at_end(&self) -> bool
         ensures { IsFalse result ↔ (self.now.position < length self.now.tape.nodes) }
     {

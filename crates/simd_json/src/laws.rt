@@ -1,5 +1,5 @@
-//! Laws of what a parse leaves, of which the entry points have one statement, and of the documents of
-//! values. Each function has an empty body: its contract is the law, and what it says is proved.
+//! Laws of the statement that all entry points share, and of the documents of values. Each function
+//! has an empty body: its contract is the law.
 ghost use Rattle.std.specs.Prelude.{◌≡◌, ◌≤◌, ◌↔◌, ◌∷◌, ℕ, List, length, take};
 ghost use Rattle.std.specs.Prelude.{Option, Some, None, Ok, IsSome};
 ghost use Rattle.std.specs.Result.{result_err};
@@ -22,8 +22,8 @@ ghost use Rattle.simd_json.specs.Viewed.{doc};
 ghost use Rattle.simd_json.specs.declared.value.tape.value.Value.{Value};
 ghost use Rattle.simd_json_parts.specs.declared.error.Error.{Error};
 
-/// A parse in which no allocation fails returns the result of the definitions, with the nodes of their
-/// document, and it lists the positions that belong to this result.
+/// A parse in which no allocation fails returns the result of the definitions, with the nodes of
+/// their document, and lists the structural indexes that belong to this result.
 pub fn parses_are_answers()
     ensures { (b : List ℕ) (limit capacity : ℕ) (fault : Option Error)
         (nodes : List Item) (listed : List ℕ)
@@ -32,9 +32,9 @@ pub fn parses_are_answers()
         × (listed ≡ positions_after b (result_err (answer b limit))) }
 {}
 
-/// So two parses of the same bytes within the same limit agree, whichever entry point they take and whatever
-/// buffers and tape held. A parse of the padded form is one of its document's bytes, and what the padding
-/// holds does not matter.
+/// So two parses of the same bytes with the same limit agree, whatever the entry point and whatever
+/// buffers and tape held. A parse of the padded form is one of its document's bytes, whatever the
+/// padding holds.
 pub fn parses_agree()
     ensures same { (b : List ℕ) (limit capacity capacity2 : ℕ) (fault fault2 : Option Error)
         (nodes nodes2 : List Item) (listed listed2 : List ℕ)
@@ -60,13 +60,13 @@ pub fn capacity_suffices()
         → IsParse b limit capacity fault nodes listed → length b ≤ capacity → HasMemory fault }
 {}
 
-/// Where no list gets shorter and the limit stays, there is as much capacity as before.
+/// If no list gets shorter and the limit stays, capacity does not shrink.
 pub fn kept_lists_keep_capacity()
     ensures { (old new : Capacities) → new.limit ≡ old.limit → KeepsCapacities old new
         → capacity old ≤ capacity new }
 {}
 
-/// A fault has a character exactly where it is a token's: where the input as a whole has none.
+/// An error has a character exactly if it is a token's: if the input as a whole has no error.
 pub fn faults_of_tokens_have_characters()
     ensures { (b : List ℕ) (limit : ℕ) (e : Error) → IsRefused b limit e
         → (IsSome e.character ↔ (input_fault b ≡ None)) }
@@ -85,19 +85,20 @@ pub fn values_stand_for_parsed_documents()
         → Denotes b d × WithinLimits b d limit × (answer b limit ≡ Ok d) }
 {}
 
-/// The values that are at most so many levels beneath a value are all, where the value is no deeper.
+/// The values at most `n` levels beneath a value are all of them, if the value is no deeper than
+/// `n`.
 pub fn descendants_within_the_depth_are_all()
     ensures { (d : Document) (n : ℕ) → depth d ≤ n → beneath n d ≡ descendants d }
 {}
 
-/// The first node of a listing says how many nodes lie beneath it, and how many members the document has.
+/// The first node of a listing has the number of nodes beneath it and of the document's members.
 pub fn headers_count_nodes_and_members()
     ensures { (d : Document) (header : Item) (beneath : List Item) → listing d ≡ header ∷ beneath
         → (length beneath ≡ count_of header) × (len_of header ≡ member_count d) }
 {}
 
-/// What a value is printed as, parsed again within a limit of no less than its depth, is the document of the
-/// value with no sign on a zero, which is equal to it. So it is wherever memory is found and the text is not
+/// The printed text of a value, parsed again with a limit of at least its depth, is the value's
+/// document, with zeros unsigned, which is equal to it: unless an allocation fails or the text is
 /// too long.
 pub fn printed_values_are_parsed_again()
     ensures compact { (v : Value) (limit capacity : ℕ) (fault : Option Error)

@@ -16,8 +16,8 @@ pub(crate) fn recycled<'old, 'new, A: Allocator>(mut list: Vec<Node<'old>, A>) -
     ManuallyDrop::into_inner(transmuted(ManuallyDrop::new(list)))
 }
 
-// The same list, which has no node, as one of nodes of another lifetime. Its words are read as they are: none
-// of them points into an input.
+// The same list, which is empty, as a list of nodes of another lifetime. Its words are
+// reinterpreted: none of them points into an input.
 fn transmuted<'old, 'new, A: Allocator>(
     list: ManuallyDrop<Vec<Node<'old>, A>>,
 ) -> ManuallyDrop<Vec<Node<'new>, A>>

@@ -1,5 +1,5 @@
-//! What a program in C calls to time the parser: a text with new buffers, and many texts with buffers that
-//! are kept.
+//! What a program in C calls to time the parser: a text with new buffers, and many texts with
+//! buffers that are kept.
 //!
 //! A text is a pointer and a length. A [`Global`] takes no bytes, so C passes nothing for it:
 //!
@@ -9,8 +9,8 @@
 //! int64_t simd_json_bench_scan_all(const uint8_t *texts, size_t size, size_t stride, size_t len);
 //! ```
 //!
-//! Each returns a count, or -1 where a text was refused, or -2 where an allocation failed or the count is too
-//! great. The last two take texts of `len` bytes, one at the front of each whole `stride` of
+//! Each returns a count, -1 if a text was rejected, or -2 if an allocation failed or the count is
+//! too great. The last two take texts of `len` bytes, one at the front of each whole `stride` of
 //! `texts`.
 #![tactic(auto)]
 
@@ -74,7 +74,7 @@ fn parse_all(alloc: Global, texts: &mut [u8], stride: usize, len: usize) -> Resu
     Ok(nodes)
 }
 
-/// The first stage alone, with lists that are kept. Returns the number of structural positions.
+/// The first stage alone, with lists that are kept. Returns the number of structural indexes.
 #[unsafe(no_mangle)]
 pub extern "C" fn simd_json_bench_scan_all(
     alloc: Global,

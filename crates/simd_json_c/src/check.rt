@@ -16,7 +16,7 @@ fn check(alloc: Global, input: &mut [u8], max_depth: usize) -> Result<i32>
     Lists::new(alloc, max_depth)?.check(input)
 }
 
-/// Whether the input is a document of at most `max_depth` open containers.
+/// Whether the input is a document with at most `max_depth` containers open at a time.
 #[unsafe(no_mangle)]
 pub extern "C" fn simd_json_check(
     alloc: Global,

@@ -1,4 +1,4 @@
-//! Bytes that are copied into a slice: a few without a call.
+//! Copies bytes into a slice: a few without a call.
 ghost use Rattle.std.specs.Prelude.{◌≡◌, ◌≤◌, ◌+◌, ◌++◌, drop, length, take};
 
 use std::simd::prelude::*;
@@ -52,7 +52,7 @@ fn append_few(text: &mut [u8], at: usize, bytes: &[u8])
     }
 }
 
-// The first N bytes and the last N, which may overlap.
+// Copies the first N bytes and the last N, which may overlap.
 #[inline(always)]
 fn append_ends<const N: usize>(text: &mut [u8], at: usize, bytes: &[u8])
     requires vector { N ≤ 64 }

@@ -1,5 +1,5 @@
-//! A box of lists, or none, as C holds it. Small functions turn the pointer into the box and back, each proved by
-//! hand; the rest is safe code.
+//! An optional box of lists, as C holds it. Small functions turn the pointer into the box and back,
+//! each proved by hand; the rest is safe code.
 ghost use Rattle.std.specs.Prelude.{◌≡◌, ◌≢◌, Option, Some, None};
 ghost use Rattle.simd_json_c.specs.Holding.{held};
 ghost use Rattle.simd_json_c.specs.declared.lists.Lists.{Lists};
@@ -9,8 +9,8 @@ use crate::loose::Loose;
 use std::alloc::Global;
 use std::marker::Model;
 
-/// Owns the lists that its pointer is to, where there are any.
-// Dropped, it forgets them: only one with no lists is.
+/// Owns the lists that its pointer refers to, if any. Not exported.
+// Dropping it would leak them: only one without lists is dropped.
 #[repr(C)]
 #[derive(Drop)]
 pub struct Held {

@@ -1,7 +1,7 @@
-//! What a program in C calls: `include/simd_json.h` declares and documents each export.
+//! The exports for C: `include/simd_json.h` declares and documents each.
 //!
-//! A slice is a pointer and a length. A [`Global`](std::alloc::Global) takes no bytes, so C passes nothing for
-//! it. No export requires anything of its arguments.
+//! A slice is a pointer and a length. A [`Global`](std::alloc::Global) has no bytes, so C passes
+//! nothing for it. No export has a precondition.
 #![tactic(auto)]
 
 mod check;

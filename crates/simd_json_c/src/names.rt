@@ -52,7 +52,7 @@ fn name_of_kind(kind: u32) -> &'static [u8]
     }
 }
 
-// Puts a name where there is room for it, and returns its length.
+// Copies a name if there is room for it, and returns its length.
 fn lend_name(name: &[u8], out: &mut [u8]) -> usize
     ensures { IsNamed name.now result out.old out.new }
 {

@@ -10,9 +10,9 @@ use simd_json::StaticNode;
 pub struct Node {
     /// What it is, by the header's numbers.
     pub kind: u32,
-    /// How many bytes its text has, or how many members follow it.
+    /// The length of its text in bytes, or its number of members.
     pub len: usize,
-    /// Where its text begins, how many nodes are beneath it, or the lower 64 bits of its number.
+    /// The start of its text, the number of nodes beneath it, or the lower 64 bits of its number.
     pub value: u64,
     /// The upper 64 bits of its number.
     pub high: u64,
@@ -53,7 +53,7 @@ pub(crate) fn span_of(kind: u32, len: usize, value: usize) -> Node
     }
 }
 
-// Of a value of a kind that is known where this is called: the others fall away.
+// The node of a value. Its kind is known where this is inlined, so the other cases disappear.
 #[inline(always)]
 pub(crate) fn static_of(value: StaticNode) -> Node
     ensures { result ≡ static_node value }
@@ -83,7 +83,7 @@ fn number(kind: u32, value: u64, high: u64) -> Node
     }
 }
 
-// Of a number of 128 bits, and of all else `null`.
+// The node of a number of 128 bits; `null` for any other value.
 #[cold]
 #[inline(never)]
 fn wide_of(value: &StaticNode) -> Node

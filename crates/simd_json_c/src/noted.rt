@@ -1,11 +1,11 @@
-//! What proofs know of nodes, beside the memory that they are written to.
+//! A ghost record of the nodes written so far.
 ghost use Rattle.std.specs.Prelude.{◌≡◌};
 ghost use base.Fml.{ftrue};
 ghost use Rattle.simd_json_c.specs.Notes.{Note};
 
 use std::marker::Model;
 
-// It has no bytes and owns nothing: only a clause ties `note`.
+// It has no bytes at run time. Only clauses determine `note`.
 #[derive(Drop)]
 pub(crate) struct Noted {
     pub(crate) ghost note: { Note },
@@ -16,7 +16,7 @@ impl Model for Noted {
 }
 
 impl Noted {
-    // What the caller's proof says, of what it shows.
+    // The record that the caller's proof chooses; `seen` makes its values available to that proof.
     #[inline(always)]
     pub(crate) fn of<T>(seen: &T) -> Noted
         ghost note: { Note }

@@ -1,7 +1,7 @@
-//! A parser that C keeps: its lists serve one parse after another.
+//! A parser that C keeps: its lists are used by one parse after another.
 //!
-//! It is a box, held as a pointer and a flag. A struct of zeros is closed, so there is no null to test, and `open`
-//! has no pointer to return.
+//! It is a box, held as a pointer and a flag. A struct of zeros is a closed parser, so null is
+//! never tested, and `open` returns no pointer.
 ghost use Rattle.std.specs.Prelude.{◌≡◌, Some, None, is_some, MatchOption, IfSome};
 ghost use Rattle.simd_json_c.specs.Kept.{IsCheckedWith, IsOpened, IsTapeWith, new_lists};
 
@@ -13,7 +13,7 @@ use crate::status::{OUT_OF_MEMORY, PARSER_CLOSED, Place, reported};
 use std::alloc::Global;
 use std::mem::replace;
 
-/// An open parser, or a closed one, as one of zeros is.
+/// An open or a closed parser; one of zeros is closed.
 #[repr(C)]
 #[derive(Drop)]
 pub struct Parser {
@@ -74,7 +74,7 @@ pub extern "C" fn simd_json_open(alloc: Global, parser: &mut Parser, max_depth: 
     }
 }
 
-/// Whether the input is a document of at most as many open containers as the parser was opened for.
+/// Whether the input is a document within the depth limit that the parser was opened with.
 #[unsafe(no_mangle)]
 pub extern "C" fn simd_json_parser_check(
     alloc: Global,
@@ -94,7 +94,8 @@ pub extern "C" fn simd_json_parser_check(
     }
 }
 
-/// Writes the nodes of a document, and the texts of its strings and decimals, to the caller's memory.
+/// Writes the nodes of a document, and the texts of its strings and decimals, to the caller's
+/// memory.
 #[unsafe(no_mangle)]
 pub extern "C" fn simd_json_parser_tape(
     alloc: Global,

@@ -1,5 +1,5 @@
-//! The printed text of a document. With too little room nothing is written but how much is needed, so a text is
-//! made first and then copied.
+//! The printed text of a document. If the room is too small, only the needed size is written, so a
+//! text is made first and then copied.
 ghost use Rattle.std.specs.Prelude.{◌≤◌, IfOk, IfErr, length, string_bytes};
 ghost use Rattle.simd_json_c.specs.Calls.{IsCompact, IsPretty, IsPrinted, IsTextOf, IsTextPut, IsUnprinted};
 ghost use Rattle.simd_json_parts.specs.Printed.{compact, pretty};
@@ -28,7 +28,7 @@ fn pretty_text(alloc: Global, input: &mut [u8], max_depth: usize) -> Result<Stri
     tape.as_value().encode_pp(alloc)
 }
 
-// Puts the text where there is room for it, and returns the status.
+// Copies the text if there is room for it, and returns the status.
 fn lend_text(text: &[u8], out: &mut [u8], needed: &mut usize) -> i32
     ensures { IsTextPut text.now result needed.new out.old out.new }
 {

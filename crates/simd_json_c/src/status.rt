@@ -5,13 +5,13 @@ ghost use Rattle.simd_json_c.specs.Statuses.{number_of, place_of, status_of};
 
 use simd_json::{Error, ErrorType, Result};
 
-/// Where an input is refused.
+/// Where an input is rejected.
 #[repr(C)]
 #[derive(Clone, Copy, Drop)]
 pub struct Place {
-    /// A byte offset, 0 where there is no place.
+    /// The byte offset of the error; 0 if there is no place.
     pub index: usize,
-    /// The byte there, `u32::MAX` where there is none.
+    /// The byte there, or `u32::MAX` if there is none.
     pub character: u32,
 }
 
@@ -24,7 +24,7 @@ pub(crate) const TOO_LITTLE_ROOM: i32 = 19;
 // The parser is closed.
 pub(crate) const PARSER_CLOSED: i32 = 20;
 
-// Each kind that a parse reports has a number of its own.
+// Each kind of error that a parse returns has its own number.
 fn number(kind: &ErrorType) -> i32
     ensures { result ≡ pos (number_of kind.now) }
 {

@@ -28,7 +28,8 @@ fn tape(
     Lists::new(alloc, max_depth)?.tape(input, nodes, text, room)
 }
 
-/// Writes the nodes of a document, and the texts of its strings and decimals, to the caller's memory.
+/// Writes the nodes of a document, and the texts of its strings and decimals, to the caller's
+/// memory.
 #[unsafe(no_mangle)]
 pub extern "C" fn simd_json_tape(
     alloc: Global,

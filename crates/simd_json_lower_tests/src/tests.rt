@@ -2,7 +2,8 @@
 use std::fmt::Debug;
 use std::process::Abort;
 
-// `assert_eq!` and `assert!` as calls: a call is proved in far less time than the code that those expand to.
+// `assert_eq!` and `assert!` as calls: a call is proved in far less time than the code that those
+// expand to.
 macro_rules! assert_same {
     ($rt:expr; $found:expr, $wanted:expr $(,)?) => {
         crate::tests::same($rt, stringify!($found), $found, $wanted)

@@ -1,4 +1,5 @@
-//! Classes of bytes (RFC 8259, section 2), hexadecimal digits, and characters as UTF-8 (RFC 3629, section 3).
+//! Classes of bytes (RFC 8259, section 2), hexadecimal digits, and characters as UTF-8 (RFC 3629,
+//! section 3).
 ghost use Rattle.std.specs.Prelude.{◌≡◌, ◌≤◌, ◌++◌, if◌then◌else◌, not, length, drop, slice_index};
 ghost use Rattle.std.specs.Prelude.{encode_utf8};
 ghost use Rattle.std.specs.Char.{len_utf8, is_digit, digit_value};
@@ -6,9 +7,10 @@ ghost use Rattle.std.specs.List.{list_all};
 ghost use Rattle.simd_json_parts.specs.Bytes.{is_terminator, is_whitespace, byte_at};
 ghost use Rattle.simd_json_parts.specs.Strings.{hex_value};
 
-/// Whether the byte is structural, `[ ] { } : ,`, or whitespace: space, tab, line feed or carriage return.
+/// Whether the byte is structural, `[ ] { } : ,`, or whitespace: space, tab, line feed or carriage
+/// return.
 ///
-/// A number, `true`, `false` and `null` end before such a byte, and before no other.
+/// A number, `true`, `false` and `null` end only before such a byte.
 #[inline]
 pub fn is_structural_or_whitespace(c: u8) -> bool
     ensures { result ≡ is_terminator c }
@@ -16,7 +18,8 @@ pub fn is_structural_or_whitespace(c: u8) -> bool
     TERMINATORS[c as usize]
 }
 
-/// Whether the byte is neither structural nor whitespace: the opposite of [`is_structural_or_whitespace`].
+/// Whether the byte is neither structural nor whitespace: the opposite of
+/// [`is_structural_or_whitespace`].
 pub fn is_not_structural_or_whitespace(c: u8) -> bool
     ensures { result ≡ not (is_terminator c) }
 {
@@ -46,9 +49,9 @@ pub fn byte_or_space(bytes: &[u8], i: usize) -> u8
     if i < bytes.len() { bytes[i] } else { b' ' }
 }
 
-/// The number that four hexadecimal digits spell, in either case; none if one of them is no such digit.
+/// The number that four hexadecimal digits of either case spell, or `None` if one is not a digit.
 ///
-/// No digit is looked at by itself: one test of the sum shows whether all four are digits.
+/// One test of the sum shows whether all four are digits.
 #[inline]
 pub fn hex_to_u32_nocheck(digits: [u8; 4]) -> Option<u32>
     ensures { result ≡ hex_value (slice_index digits 0) (slice_index digits 1)
@@ -61,7 +64,7 @@ pub fn hex_to_u32_nocheck(digits: [u8; 4]) -> Option<u32>
     if value < NONE { Some(value) } else { None }
 }
 
-/// Writes the character's UTF-8 at the front of `bytes`, and nothing after it; returns its number of bytes.
+/// Writes the character's UTF-8 at the front of `bytes`, and returns its number of bytes.
 #[inline]
 pub fn codepoint_to_utf8(cp: char, bytes: &mut [u8]) -> usize
     requires { len_utf8 cp ≤ length bytes.old }
@@ -90,7 +93,7 @@ pub fn codepoint_to_utf8(cp: char, bytes: &mut [u8]) -> usize
     }
 }
 
-// Of each byte, from 0 on, whether it is structural or whitespace.
+// For each byte from 0 on, whether it is structural or whitespace.
 const TERMINATORS: [bool; 256] = [
     NO, NO, NO, NO, NO, NO, NO, NO, NO, YES, YES, NO, NO, YES, NO, NO, NO, NO, NO, NO, NO, NO, NO,
     NO, NO, NO, NO, NO, NO, NO, NO, NO, YES, NO, NO, NO, NO, NO, NO, NO, NO, NO, NO, NO, YES, NO,
@@ -109,7 +112,7 @@ const YES: bool = true;
 
 const NO: bool = false;
 
-// What a byte counts that is no hexadecimal digit: more than four digits can spell.
+// The value of a byte that is not a hexadecimal digit: more than four digits can spell.
 const NONE: u32 = 0x10000;
 
 // The value of each byte as a hexadecimal digit.

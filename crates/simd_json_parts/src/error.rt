@@ -1,4 +1,4 @@
-//! What a parse refuses, where, and why.
+//! Why a parse rejects an input, and where.
 ghost use Rattle.std.specs.Prelude.{◌≡◌};
 ghost use Rattle.simd_json_parts.specs.Faults.{error_of, whole_fault};
 
@@ -13,18 +13,25 @@ pub type Result<T> = std::result::Result<T, Error>;
 
 /// The kinds of error.
 ///
-/// Two are equal if they are the same kind and hold equal fields.
+/// A parse returns, for an input as a whole, `InsufficientPadding`, `InputTooLarge`, `InvalidUtf8`,
+/// `Syntax`, `Eof` or `OutOfMemory`; at a token, `InternalError`, `ExpectedArrayContent`,
+/// `ExpectedObjectContent`, `ExpectedObjectKey`, `ExpectedObjectColon`, `Syntax`, `TrailingData`,
+/// `DepthLimitExceeded`, `ExpectedTrue`, `ExpectedFalse`, `ExpectedNull`, `InvalidNumber`,
+/// `InvalidEscape` or `InvalidUnicodeCodepoint`. The other kinds are kept for the names of the Rust
+/// crate: no parse returns them.
+///
+/// Two are equal if they are the same kind with equal fields.
 #[derive(Debug, Drop, PartialEq, Eq)]
 pub enum ErrorType {
-    /// Another kind of value was expected than the one that was met; either may be unknown.
+    /// A value of another kind was expected: the expected kind and the value's, if known.
     Unexpected(Option<ValueType>, Option<ValueType>),
     /// The input has more than 4,294,967,295 bytes.
     InputTooLarge,
-    /// The padded form was given fewer than 64 bytes after the document.
+    /// Fewer than 64 bytes follow the document in the padded form.
     InsufficientPadding,
     /// An allocation failed.
     OutOfMemory,
-    /// The key of a map is of a type that cannot be one.
+    /// The key of a map is of a type that cannot be a key.
     BadKeyType,
     /// An array was expected.
     ExpectedArray,
@@ -62,7 +69,7 @@ pub enum ErrorType {
     ExpectedUnsigned,
     /// A value was expected, or there is input after the root container.
     InternalError,
-    /// A backslash in a string is followed by no letter of an escape (RFC 8259, section 7).
+    /// A backslash in a string is not followed by the letter of an escape (RFC 8259, section 7).
     InvalidEscape,
     /// The exponent of a number is malformed.
     InvalidExponent,
@@ -72,25 +79,26 @@ pub enum ErrorType {
     InvalidUtf8,
     /// Malformed `\u` escape.
     InvalidUnicodeEscape,
-    /// A `\u` escape names no character, alone or with the one after it (RFC 8259, section 7).
+    /// A `\u` escape is malformed, or a lone surrogate (RFC 8259, section 7).
     InvalidUnicodeCodepoint,
-    /// The key of an object is no string.
+    /// The key of an object is not a string.
     KeyMustBeAString,
     /// No structural character was found.
     NoStructure,
     /// The parser failed.
     Parser,
-    /// The input holds no token.
+    /// The input has no token: it is empty, or only whitespace.
     Eof,
     /// A message of a serializer or a deserializer.
     Serde(String),
-    /// A string is left open or holds a byte below 0x20, or the input ends where a token is expected.
+    /// A string has no end or contains a byte below 0x20, or the input ends where a token is
+    /// expected.
     Syntax,
     /// There is input after the root scalar.
     TrailingData,
     /// A character was not expected.
     UnexpectedCharacter,
-    /// A string is left open.
+    /// A string has no end.
     UnterminatedString,
     /// A `,` or a `]` was expected after an element.
     ExpectedArrayContent,
@@ -106,7 +114,7 @@ pub enum ErrorType {
     SimdUnsupported,
 }
 
-/// What went wrong, and where.
+/// An error: its kind, and where it is in the input.
 ///
 /// Each error has exactly one of four classes: [`is_io`](Error::is_io), [`is_eof`](Error::is_eof),
 /// [`is_syntax`](Error::is_syntax) and [`is_data`](Error::is_data).
@@ -118,7 +126,7 @@ pub struct Error {
 }
 
 impl Error {
-    /// An error of this kind at this byte of the input, with the character there.
+    /// An error of this kind at this byte offset of the input, with the character there.
     pub fn new(index: usize, character: Option<char>, error: ErrorType) -> Error
         ensures { result ≡ error_of index character error }
     {
@@ -129,21 +137,21 @@ impl Error {
         }
     }
 
-    /// An error of this kind that has no place: index 0, no character.
+    /// An error of this kind of the whole input: index 0, no character.
     pub fn generic(error: ErrorType) -> Error
         ensures { result ≡ whole_fault error }
     {
         Error::new(0, None, error)
     }
 
-    /// Byte offset of the error.
+    /// The byte offset of the error, from 0; 0 if the error is of the whole input.
     pub fn index(&self) -> usize
         ensures { result ≡ self.now.index }
     {
         self.index
     }
 
-    /// The byte at that offset, as a code point; none where the error is of the whole input.
+    /// The byte at that offset, as a code point, or `None` if the error is of the whole input.
     pub fn character(&self) -> Option<char>
         ensures { result ≡ self.now.character }
     {

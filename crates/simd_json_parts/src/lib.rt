@@ -1,6 +1,7 @@
-//! The definitions that every contract of the workspace cites (`specs/`), and the types that its crates share.
+//! The definitions that every contract of the workspace cites (`specs/`), and the types that its
+//! crates share.
 //!
-//! - [`error`]: what a parse refuses, where, and why.
+//! - [`error`]: why a parse rejects an input, and where.
 //! - [`node`]: the nodes of a tape.
 //! - [`charutils`]: classes of bytes, hexadecimal digits, characters as UTF-8.
 #![tactic(auto)]

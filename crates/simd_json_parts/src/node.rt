@@ -51,9 +51,10 @@ impl ValueType {
     }
 }
 
-/// A value of fixed size: no string, no decimal, no container.
+/// A value of fixed size: null, a truth value or an integer.
 ///
-/// Two are equal if both are null, the same truth value, or integers of the same number, of whatever kinds.
+/// Two are equal if both are null, the same truth value, or integers of the same number, of
+/// whatever kinds.
 #[derive(Clone, Copy, Debug, Drop)]
 pub enum StaticNode {
     /// `null`.
@@ -144,19 +145,19 @@ impl Default for StaticNode {
 pub enum Node<'input> {
     /// A string or a key, with its escapes decoded.
     String(&'input str),
-    /// An object of `len` pairs, with `count` nodes beneath it: for each pair its key and then the value's
-    /// nodes.
+    /// An object of `len` pairs, with `count` nodes beneath it: for each pair its key and then the
+    /// value's nodes.
     Object {
-        /// How many pairs the object has.
+        /// The number of pairs.
         len: usize,
-        /// How many nodes follow that belong to it.
+        /// The number of nodes after this one that belong to it.
         count: usize,
     },
     /// An array of `len` values, with `count` nodes beneath it.
     Array {
-        /// How many values the array has.
+        /// The number of values.
         len: usize,
-        /// How many nodes follow that belong to it.
+        /// The number of nodes after this one that belong to it.
         count: usize,
     },
     /// A null, a truth value or an integer.
@@ -166,7 +167,7 @@ pub enum Node<'input> {
 }
 
 impl Node<'_> {
-    /// The kind of the value that the node begins.
+    /// The kind of the value that begins with the node. A key has the kind `String`.
     pub fn value_type(&self) -> ValueType
         ensures { result ≡ item_type (item_of self.now) }
     {

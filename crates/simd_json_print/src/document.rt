@@ -1,5 +1,6 @@
-//! The printed text of a document, from its nodes: compact, or pretty with a line for each member. 64 nested
-//! containers take at most 672 bytes of stack. That there is enough of it is not proved.
+//! The printed text of a document, from its nodes: compact, or pretty with a line for each member.
+//! An open container takes about 11 bytes of stack, at most 672 for 64. That the stack suffices is
+//! not proved.
 ghost use Rattle.std.specs.Prelude.{◌≡◌, ◌++◌, ℕ, map, take, OnOk, OnErr};
 ghost use Rattle.std.specs.Io.KnownBytes.{Appends};
 ghost use Rattle.simd_json_parts.specs.Document.{Document};
@@ -19,8 +20,9 @@ use std::alloc::{AllocError, Allocator};
 use std::io;
 use std::io::Write;
 
-// How many bytes are collected for a writer, or for a list, whose growth is then asked for once for so many.
-// They are on the stack and filled with zeros first, which a small document pays for.
+// How many bytes are collected before they are written, or appended to a list, which grows once for
+// all of them. The buffer is on the stack and first filled with zeros, which a small document pays
+// for.
 const PIECE: usize = 4096;
 
 /// Puts the compact text of the document that the nodes list.
@@ -43,8 +45,8 @@ pub fn put_pretty<T: Target, const SIZE: usize>(out: &mut Text<'_, T, SIZE>, nod
 
 /// Appends the compact text of the document that the nodes list.
 ///
-/// Returns an error where an allocation fails. `out` then begins with what it held, and a part of the text may
-/// follow.
+/// Returns an error if an allocation fails. `out` then has its old contents, and a part of the text
+/// may follow.
 pub fn append_compact<A: Allocator>(
     out: &mut Vec<u8, A>,
     nodes: &[Node<'_>],
@@ -58,8 +60,8 @@ pub fn append_compact<A: Allocator>(
 
 /// Appends the pretty text of the document that the nodes list.
 ///
-/// Returns an error where an allocation fails. `out` then begins with what it held, and a part of the text may
-/// follow.
+/// Returns an error if an allocation fails. `out` then has its old contents, and a part of the text
+/// may follow.
 pub fn append_pretty<A: Allocator>(
     out: &mut Vec<u8, A>,
     nodes: &[Node<'_>],
@@ -73,8 +75,8 @@ pub fn append_pretty<A: Allocator>(
 
 /// Writes the compact text of the document that the nodes list.
 ///
-/// Where the writer fails, or writes 0 bytes of a non-empty buffer, printing ends at once with the writer's error,
-/// or one of kind `WriteZero`. What was written by then is a prefix of the text. It allocates no memory.
+/// Returns the writer's first error, or one of kind `WriteZero` if it writes 0 bytes of a non-empty
+/// buffer. What was written by then is a prefix of the text. Allocates nothing.
 pub fn write_compact<W: Write>(writer: &mut W, nodes: &[Node<'_>]) -> io::Result<()>
     ensures written { (d : Document) → map item_of nodes.now ≡ listing d
         → OnOk result (Appends (W.contents writer.old) (W.contents writer.new) (compact d)) }
@@ -90,8 +92,8 @@ pub fn write_compact<W: Write>(writer: &mut W, nodes: &[Node<'_>]) -> io::Result
 
 /// Writes the pretty text of the document that the nodes list.
 ///
-/// Where the writer fails, or writes 0 bytes of a non-empty buffer, printing ends at once with the writer's error,
-/// or one of kind `WriteZero`. What was written by then is a prefix of the text. It allocates no memory.
+/// Returns the writer's first error, or one of kind `WriteZero` if it writes 0 bytes of a non-empty
+/// buffer. What was written by then is a prefix of the text. Allocates nothing.
 pub fn write_pretty<W: Write>(writer: &mut W, nodes: &[Node<'_>]) -> io::Result<()>
     ensures written { (d : Document) → map item_of nodes.now ≡ listing d
         → OnOk result (Appends (W.contents writer.old) (W.contents writer.new) (pretty d)) }
@@ -105,11 +107,11 @@ pub fn write_pretty<W: Write>(writer: &mut W, nodes: &[Node<'_>]) -> io::Result<
     out.finish()
 }
 
-/// Appends a string as it is printed (RFC 8259, section 7): between quotes, with a quote, a backslash and what is
-/// below 0x20 escaped.
+/// Appends a string as it is printed (RFC 8259, section 7): between quotes, with quotes,
+/// backslashes and bytes below 0x20 escaped.
 ///
-/// Returns an error where an allocation fails. `out` then begins with what it held, and a part of the string may
-/// follow.
+/// Returns an error if an allocation fails. `out` then has its old contents, and a part of the
+/// string may follow.
 pub fn append_quoted<A: Allocator>(
     out: &mut Vec<u8, A>,
     string: &str,
@@ -122,7 +124,7 @@ pub fn append_quoted<A: Allocator>(
 
 /// Writes a string as [`append_quoted`] appends it.
 ///
-/// Fails as [`write_compact`] does, and leaves what that leaves.
+/// Returns the errors of [`write_compact`]; what was written by then is a prefix of the string.
 pub fn write_quoted<W: Write>(writer: &mut W, string: &str) -> io::Result<()>
     ensures written { OnOk result
         (Appends (W.contents writer.old) (W.contents writer.new) (quoted string.now)) }

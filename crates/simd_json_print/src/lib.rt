@@ -1,7 +1,8 @@
 //! The printed text of a tape.
 //!
-//! - [`document`]: the compact and the pretty text of a document, from its nodes, and a quoted string.
-//! - [`text`]: text on its way to a writer, in pieces.
+//! - [`document`]: the compact and the pretty text of a document, from its nodes, and a quoted
+//!   string.
+//! - [`text`]: buffered text output.
 #![tactic(auto)]
 
 pub mod document;

@@ -1,4 +1,4 @@
-//! Buffered text output: text is collected, and written to its target in pieces.
+//! Buffered text output.
 ghost use Rattle.std.specs.Prelude.{◌≡◌, ◌≢◌, ◌++◌, ℕ, ℤ, unsigned_abs};
 ghost use Rattle.std.specs.Fmt.{decimal, signed_decimal};
 ghost use Rattle.simd_json_parts.specs.declared.node.StaticNode.TheVariants as fixed;
@@ -14,16 +14,18 @@ use simd_json_parts::node::StaticNode;
 use std::io;
 use std::io::{ErrorKind, Write};
 
-/// What text is written to: any writer, or a type that remembers whether a write failed.
-// A function over any `Write` can't state that a failure came from the writer.
+/// A destination for text: any [`Write`], or a type that records whether a write failed, so that
+/// contracts can speak of it.
+// A contract over any `Write` can't state that a failure came from the writer.
 pub trait Target {
     ghost use Rattle.simd_json_print.specs.Texts.{Place, Takes};
 
     ghost place: { Self → Place };
 
-    /// Takes some of the bytes, from the first one on, and returns how many, as `Write::write` does.
+    /// Writes some of the bytes, from the first one on, and returns how many, as `Write::write`
+    /// does.
     ///
-    /// Fails where the writer does.
+    /// Returns the writer's error.
     fn take_some(&mut self, bytes: &[u8]) -> io::Result<usize>
         ensures { Takes (place self.old) (place self.new) result bytes.now };
 }
@@ -38,12 +40,30 @@ impl<W: Write> Target for W {
     }
 }
 
-/// Buffered text output: at most `SIZE` bytes are collected, and written as soon as no more fit, and by
-/// [`finish`](Text::finish).
+/// Buffered text output to a target. `SIZE` is the size of the buffer in bytes: it lies in the
+/// value itself, and is written when it is full, and by [`finish`](Text::finish).
 ///
-/// Where the target fails, or writes 0 bytes of a non-empty buffer, it is not called again, and all further text
-/// is dropped. It allocates no memory.
-// So the walk over a document need not test a result after each token.
+/// After the target fails, or writes 0 bytes of a non-empty buffer, it is not called again, and all
+/// further text is dropped. Allocates nothing.
+///
+/// `front` and `back` are the text around a token, such as quotes, brackets or a comma: of at most
+/// 8 bytes each they are put faster than by calls of their own.
+///
+/// ```
+/// use simd_json_parts::node::StaticNode;
+/// use simd_json_print::text::Text;
+/// use std::io;
+///
+/// // Writes ["a\nb",-1] with the line feed as an escape.
+/// fn pair(out: &mut Vec<u8>) -> io::Result<()> {
+///     let mut text = Text::<_, 64>::new(out);
+///     text.put_string(b"[\"", "a\nb", b"\",");
+///     text.put_static(b"", StaticNode::I64(-1), b"]");
+///     text.finish()
+/// }
+/// ```
+// Errors wait for `finish`, so that the walk over a document need not test a result after each
+// token.
 #[derive(Drop)]
 pub struct Text<'w, T: Target, const SIZE: usize> {
     target: &'w mut T,
@@ -56,7 +76,7 @@ impl<'w, T: Target, const SIZE: usize> Text<'w, T, SIZE> {
     ghost use Rattle.simd_json_print.specs.Layout.{static_text};
     ghost use Rattle.simd_json_print.specs.Texts.{Place, Adds, HasGiven};
 
-    /// With nothing collected.
+    /// An empty buffer in front of `target`.
     pub fn new(target: &'w mut T) -> Text<'w, T, SIZE>
         ensures same_target { result.target.ghost_name ≡ target.entry.ghost_name }
         ensures empty { HasGiven T.place (T.place target.old) result [] }
@@ -68,7 +88,7 @@ impl<'w, T: Target, const SIZE: usize> Text<'w, T, SIZE> {
         }
     }
 
-    /// Puts these bytes, as they are.
+    /// Appends bytes.
     #[inline(always)]
     pub fn put(&mut self, bytes: &[u8])
         ensures { Adds T.place self.old self.new bytes.now }
@@ -78,7 +98,7 @@ impl<'w, T: Target, const SIZE: usize> Text<'w, T, SIZE> {
         }
     }
 
-    // What does not fit, and what is dropped.
+    // Appends bytes that do not fit; drops them after a failure.
     #[cold]
     #[inline(never)]
     fn put_past(&mut self, bytes: &[u8])
@@ -93,7 +113,7 @@ impl<'w, T: Target, const SIZE: usize> Text<'w, T, SIZE> {
         }
     }
 
-    // Writes what is collected.
+    // Writes the collected bytes.
     fn send(&mut self)
         ensures emptied { IfNone self.new.fault (self.new.pieces ≡ []) }
         ensures sent { Adds T.place self.old self.new [] }
@@ -110,7 +130,7 @@ impl<'w, T: Target, const SIZE: usize> Text<'w, T, SIZE> {
         }
     }
 
-    /// Puts these bytes between `front` and `back`, all as they are.
+    /// Appends `front`, bytes and `back`.
     #[inline(always)]
     pub fn put_between(&mut self, front: &[u8], bytes: &[u8], back: &[u8])
         ensures { Adds T.place self.old self.new (front.now ++ (bytes.now ++ back.now)) }
@@ -120,7 +140,7 @@ impl<'w, T: Target, const SIZE: usize> Text<'w, T, SIZE> {
         }
     }
 
-    // The same of any number of bytes, one part after the other.
+    // The same for any number of bytes, one part after the other.
     #[inline(never)]
     fn put_parts(&mut self, front: &[u8], bytes: &[u8], back: &[u8])
         ensures { Adds T.place self.old self.new (front.now ++ (bytes.now ++ back.now)) }
@@ -130,7 +150,7 @@ impl<'w, T: Target, const SIZE: usize> Text<'w, T, SIZE> {
         self.put(back);
     }
 
-    /// Puts null, a truth value or an integer between `front` and `back`.
+    /// Appends null, a truth value or an integer between `front` and `back`.
     #[inline(always)]
     pub fn put_static(&mut self, front: &[u8], value: StaticNode, back: &[u8])
         ensures { Adds T.place self.old self.new (front.now ++ (static_text value ++ back.now)) }
@@ -152,8 +172,8 @@ impl<'w, T: Target, const SIZE: usize> Text<'w, T, SIZE> {
         }
     }
 
-    // What is no integer of 64 bits. Out of line, so that the kinds of values stay a chain of tests and become
-    // no jump by a table.
+    // Any value but an integer of 64 bits. Not inlined, so that the kinds are a chain of tests and
+    // not a jump table.
     #[inline(never)]
     fn put_word(&mut self, front: &[u8], value: StaticNode, back: &[u8])
         requires unsigned { (n : ℕ) → value ≢ fixed.U64 n }
@@ -173,7 +193,8 @@ impl<'w, T: Target, const SIZE: usize> Text<'w, T, SIZE> {
         }
     }
 
-    // An integer that has 128 bits or might not fit. Its digits are made apart and then copied.
+    // An integer of 128 bits, or one that might not fit. Its digits are made in a buffer of their
+    // own and copied.
     #[cold]
     #[inline(never)]
     fn put_integer<I: Integer>(&mut self, front: &[u8], number: I, back: &[u8])
@@ -183,8 +204,8 @@ impl<'w, T: Target, const SIZE: usize> Text<'w, T, SIZE> {
         self.put_parts(front, buffer.format(number).as_bytes(), back);
     }
 
-    /// Whether the target has failed, so that further text is dropped. A failure shows when collected text is
-    /// written.
+    /// Whether the target has failed, so that further text is dropped. A failure is seen only when
+    /// collected text is written.
     #[inline(always)]
     pub fn has_failed(&self) -> bool
         ensures { result ≡ is_some self.now.fault }
@@ -192,10 +213,10 @@ impl<'w, T: Target, const SIZE: usize> Text<'w, T, SIZE> {
         self.fault.is_some()
     }
 
-    /// Writes what is left.
+    /// Writes the rest of the text.
     ///
-    /// Returns an error where the target failed, now or before: its own error, or one of kind `WriteZero`. What
-    /// was written by then is a prefix of all that was put.
+    /// Returns the target's first error, of this or an earlier write, or one of kind `WriteZero`.
+    /// What was written by then is a prefix of all text.
     pub fn finish(self) -> io::Result<()>
         ensures { (start : Place) (bytes : List ℕ) → HasGiven T.place start self.entry bytes
             → HasEnded result start (T.place self.exit.0.now) bytes }
@@ -219,7 +240,7 @@ fn minus_of(number: i64) -> &'static [u8]
     if number < 0 { b"-" } else { b"" }
 }
 
-// An error ends it at once, and so does a target that takes no byte.
+// Stops at an error, and at a target that takes 0 bytes.
 fn write_all<T: Target>(target: &mut T, bytes: &[u8]) -> io::Result<()>
     ensures { HasEnded result (T.place target.old) (T.place target.new) bytes.now }
 {

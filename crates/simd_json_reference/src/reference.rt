@@ -1,5 +1,5 @@
-//! What bytes say as JSON (RFC 8259), found slowly: each rule by itself, one byte after another. It is there to
-//! be compared with the parser, and shares nothing with it but the names of the errors.
+//! What bytes say as JSON (RFC 8259), found slowly: each rule by itself, one byte after another. It
+//! is there to be compared with the parser, and shares nothing with it but the names of the errors.
 mod bytes;
 mod descent;
 mod scalars;
@@ -11,8 +11,8 @@ use descent::Descent;
 use simd_json::{Error, Node, Result, StaticNode};
 use std::alloc::Global;
 
-// An entry of a tape. A string lies between two indexes of the decoded text, a decimal between two of the
-// input.
+// An entry of a tape. A string lies between two indexes of the decoded text, a decimal between two
+// of the input.
 #[derive(Clone, Copy, Debug, Drop)]
 pub(crate) enum Item {
     Null,
@@ -24,7 +24,8 @@ pub(crate) enum Item {
     Object { len: usize, count: usize },
 }
 
-// The first fault, if there is one; without one the items; the positions, but after a fault of the whole.
+// The first error, if there is one, else the items; the structural indexes, except after an error
+// of the whole.
 #[derive(Drop)]
 pub(crate) struct Answer {
     pub(crate) fault: Option<Error>,
@@ -33,7 +34,7 @@ pub(crate) struct Answer {
     text: Vec<u8>,
 }
 
-// What the bytes say, where so many containers may be open.
+// What the bytes say, within a depth limit.
 pub(crate) fn read(alloc: Global, bytes: &[u8], limit: usize) -> Result<Answer> {
     let positions = whole::positions(alloc, bytes)?;
     if let Some(kind) = whole::whole_fault(bytes, !positions.is_empty()) {

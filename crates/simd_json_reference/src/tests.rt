@@ -10,7 +10,8 @@ mod tokens;
 
 type Tested = std::result::Result<(), Fail>;
 
-// Short documents and refusals of each sort, and one that is longer than a block of 64 bytes.
+// Short documents and rejected inputs of each sort, and one that is longer than a block of 64
+// bytes.
 fn inputs() -> [&'static [u8]; 20] {
     [
         b"{\"the_answer\": 42}",
@@ -53,8 +54,8 @@ impl Kept {
     }
 }
 
-// Compares a parse into a tape that holds another document already with the reference: fault, nodes and
-// positions.
+// Compares a parse into a tape that holds another document with the reference: error, nodes and
+// structural indexes.
 fn compare_within(
     rt: &(impl AllocGlobal + Abort),
     input: &[u8],

@@ -1,4 +1,4 @@
-//! Bytes as a row has them: `%XX` is a byte, `%(N:TEXT)` a text so many times.
+//! Bytes as a row has them: `%XX` is a byte, `%(N:TEXT)` a text `N` times.
 use anyhow::{Context, Result};
 use std::alloc::{AllocError, Global};
 

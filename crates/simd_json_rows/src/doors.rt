@@ -37,7 +37,8 @@ impl Answer {
     }
 }
 
-/// The tape of an input or its error, and what the ways return that differ. `used` has the same limit.
+/// The tape of an input or its error, and what the ways return that differ. `used` has the same
+/// limit.
 pub fn parse(alloc: Global, used: &mut Buffers, input: &[u8], limit: usize) -> Result<String> {
     let mut new = Buffers::with_max_depth(alloc, 0, limit)?;
     let first = with_buffers(alloc, input, &mut new)?;
@@ -114,7 +115,7 @@ fn refilled(alloc: Global, input: &[u8], buffers: &mut Buffers) -> Result<String
     filled_with(alloc, parsed, &tape)
 }
 
-// A quote would go on with a document that it was taken for a part of.
+// A quote would continue a document that it was taken for a part of.
 fn padded_with_quotes(alloc: Global, input: &[u8], buffers: &mut Buffers) -> Result<String> {
     let mut copy = Vec::from_slice(alloc, input)?;
     copy.resize(input.len().saturating_add(INPUT_PADDING), b'"')?;

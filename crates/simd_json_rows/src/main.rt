@@ -1,5 +1,6 @@
-//! `simd_json_rows` reads rows of worked inputs from standard input and prints each with the result that it finds,
-//! so a file of rows is right where it comes out unchanged. CONTRIBUTING has the form of a row.
+//! `simd_json_rows` reads rows of worked inputs from standard input and prints each with the result
+//! that it finds, so a file of rows is right where it comes out unchanged. CONTRIBUTING has the
+//! form of a row.
 #![tactic(auto)]
 
 mod bytes;

@@ -1,4 +1,4 @@
-//! A row, and what is asked in it.
+//! A row, and its question.
 use crate::bytes::{decoded, encoded};
 use crate::pointers::pointed;
 use crate::{doors, printing};
@@ -6,7 +6,8 @@ use anyhow::{Result, bail};
 use simd_json::{Buffers, DEFAULT_MAX_DEPTH};
 use std::alloc::Global;
 
-/// What lasts from row to row: buffers, as long as rows have their limit, and the document that pointers look into.
+/// What lasts from row to row: buffers, as long as rows have their limit, and the document that
+/// pointers look into.
 #[derive(Drop)]
 pub struct Rows {
     alloc: Global,

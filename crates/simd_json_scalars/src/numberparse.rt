@@ -22,25 +22,25 @@ pub use short::parse_short;
 /// The front of some bytes, read as a number.
 #[derive(Clone, Copy, Debug, Drop, PartialEq, Eq)]
 pub enum Number {
-    /// An integer, as a node, whose literal has so many bytes.
+    /// An integer, as a node, and the length of its literal.
     Integer(StaticNode, usize),
-    /// A number with a fraction or an exponent, whose literal has so many bytes.
+    /// A number with a fraction or an exponent: the length of its literal.
     Decimal(usize),
-    /// No number, or an integer out of range: the fault is reported so many bytes after the first.
+    /// Not a number, or an integer out of range: the offset of the error from the first byte.
     Invalid(usize),
 }
 
-/// The same in two words, for a reader that knows the first byte, and so the sign. An integer
-/// of more than nineteen bytes is left to [`parse_long`], so that readers of shorter ones know no 128 bits.
+/// A number without its sign, small enough for two registers. Integers of more than 19 bytes are
+/// left to [`parse_long`], so that others need no 128-bit arithmetic.
 #[derive(Clone, Copy, Debug, Drop, PartialEq, Eq)]
 pub enum Numeral {
     /// An integer of this magnitude, which 64 bits hold; [`integer_node`] makes its node.
     Integer(u64),
-    /// An integer whose literal has so many bytes, in range or not; [`parse_long`] reads it.
+    /// A longer integer, in range or not: the length of its literal, which [`parse_long`] reads.
     Long(usize),
-    /// A number with a fraction or an exponent, whose literal has so many bytes.
+    /// A number with a fraction or an exponent: the length of its literal.
     Decimal(usize),
-    /// No number, or an integer out of range: the fault is reported so many bytes after the first.
+    /// Not a number, or an integer out of range: the offset of the error from the first byte.
     Invalid(usize),
 }
 
@@ -51,9 +51,8 @@ pub fn is_integer(c: u8) -> bool
     c.is_ascii_digit()
 }
 
-/// Reads the number at the front of `bytes`, which are the rest of an input from some index on: an integer in
-/// range, a decimal, or where it is refused. A number ends before a structural character, whitespace or the
-/// end.
+/// Reads the number at the front of `bytes`, the rest of an input. A number ends before a
+/// structural character, whitespace or the end.
 pub fn parse_number(bytes: &[u8]) -> Number
     ensures { (b : List ℕ) (i : ℕ) → drop i b ≡ bytes.now → IsNumberAt b i result }
 {
@@ -72,7 +71,7 @@ pub fn parse_number(bytes: &[u8]) -> Number
     }
 }
 
-/// Reads the same number, without the node and the length of an integer. A caller that goes on at the next
+/// Reads the same number, without an integer's node and length: a caller that continues at the next
 /// token needs neither.
 #[cold]
 #[inline(never)]

@@ -15,37 +15,37 @@ mod tests;
 use escapes::unescape_one;
 use runs::{move_plain, plain_end};
 
-/// A string, taken off the front of the unread bytes.
-// Where a result holds it, its first number shares its place with an error's byte, and the references stay
+/// A string, split off the front of the unread bytes.
+// In a `Result` its first number shares its place with an error's byte, so the references stay
 // whole.
 #[derive(Debug, Drop)]
 pub struct ParsedString<'de> {
-    /// How many bytes it was written in, both quotes among them.
+    /// The number of bytes that it was written in, with both quotes.
     pub len: usize,
-    /// The string, in the bytes it was written in.
+    /// The decoded string, in the bytes that it was written in.
     pub string: &'de str,
-    /// The bytes after its closing quote, as they stood.
+    /// The bytes after its closing quote, unchanged.
     pub rest: &'de mut [u8],
 }
 
 /// The first invalid escape.
 #[derive(Clone, Copy, Debug, Drop, PartialEq, Eq)]
 pub struct BadEscape {
-    /// The byte after the backslash. If it is `u`, no character has the number or the numbers after it.
+    /// The byte after the backslash. If it is `u`, the escape is malformed or a lone surrogate.
     pub letter: u8,
-    /// The offset of its backslash from the opening quote.
+    /// The offset of the backslash from the opening quote.
     pub offset: usize,
 }
 
 /// Reads the string whose opening quote is the first of the unread bytes (RFC 8259, section 7).
 ///
-/// Returns the string, how many bytes it was written in, and the untouched bytes after its closing quote; or
-/// the first invalid escape, by its backslash's offset and the byte after it. The bytes are UTF-8, and a
-/// closing quote follows. A string without an escape is shared; after the first escape its
-/// characters are moved down, and nothing is ever written ahead of what has been read.
+/// Returns the string, the number of bytes that it was written in, and the bytes after its closing
+/// quote; or the first invalid escape. Requires UTF-8 and a closing quote. A string without an
+/// escape is shared; after the first escape its characters are moved down, and nothing is written
+/// ahead of what has been read.
 ///
-/// Of `"caf\u00e9", 1` the string is `café`, of 11 bytes, and `, 1` is left; of `"\q"` the escape at offset 1
-/// is invalid.
+/// From `"caf\u00e9", 1` the string is `café`, of 11 bytes, and `, 1` is left; in `"\q"` the escape
+/// at offset 1 is invalid.
 #[inline(never)]
 pub fn parse_str<'de>(unread: &'de mut [u8]) -> Result<ParsedString<'de>, BadEscape>
     requires opening { byte_at unread.old 0 ≡ quote }
@@ -78,7 +78,7 @@ fn share<'de>(unread: &'de mut [u8], end: usize, closing: usize) -> ParsedString
     ParsedString { len, string, rest }
 }
 
-// Up to where the bytes are read, and up to where their string is written.
+// The ends of what is read, and of the string that is written.
 #[derive(Clone, Copy, Debug, Drop, PartialEq, Eq)]
 struct Ends {
     read: usize,

@@ -1,5 +1,5 @@
-//! Tests of `simd_json` through public calls alone. Worked inputs are rows in `tests/vectors`. Other crates need nothing of
-//! it.
+//! Tests of `simd_json` through public calls alone. Worked inputs are rows in `tests/vectors`.
+//! Other crates need nothing of it.
 #![tactic(auto)]
 
 #[cfg(test)]

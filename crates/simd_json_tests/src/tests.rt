@@ -7,7 +7,8 @@ use std::fmt::Debug;
 use std::process::Abort;
 use std::test::Fail;
 
-// `assert_eq!` and `assert!` as calls: a call is proved in far less time than the code that those expand to.
+// `assert_eq!` and `assert!` as calls: a call is proved in far less time than the code that those
+// expand to.
 macro_rules! assert_same {
     ($rt:expr; $found:expr, $wanted:expr $(,)?) => {
         crate::tests::same($rt, stringify!($found), $found, $wanted)
@@ -74,7 +75,7 @@ fn tape_of<'de>(rt: &(impl AllocGlobal + Abort), input: &'de mut [u8]) -> Tape<'
     tape
 }
 
-// A piece so many times, between two others.
+// A text a number of times, between two others.
 fn text(
     alloc: Global,
     before: &[u8],

@@ -1,4 +1,5 @@
-//! Laws of the definitions. Each function has an empty body: its contract is the law, which is proved.
+//! Laws of the definitions. Each function has an empty body: its contract is the law, which is
+//! proved.
 ghost use Rattle.std.specs.Prelude.{◌≡◌, ◌↔◌, ◌<◌, ◌+◌, ◌++◌, ◌⊎◌, ℕ, suc, List, take, IsUtf8, Some, None};
 ghost use Rattle.std.specs.Prelude.{Ok, Err, true, ◌≢◌};
 ghost use Rattle.std.specs.Cmp.{IsEquivalence};
@@ -46,7 +47,8 @@ pub use tokens::{
     strings_have_positions, tokens_stand_at_positions,
 };
 
-/// A listing is a first node and as many more as its `count` says, with as many members as its `len`.
+/// A listing is a first node and as many more as its `count` says, with as many members as its
+/// `len`.
 pub fn listings_are_headed()
     ensures { (d : Document) → IsHeaded d }
 {}
@@ -57,14 +59,14 @@ pub fn listings_are_of_one_document()
         → (d ≡ e) × (xs ≡ ys) }
 {}
 
-/// Equality of documents is an equivalence: they are equal exactly if they are the same but for the sign of a
-/// zero.
+/// Equality of documents is an equivalence: they are equal exactly if they are the same but for the
+/// sign of a zero.
 pub fn equality_is_an_equivalence()
     ensures equivalence { IsEquivalence equal }
     ensures same { (d e : Document) → (equal d e ≡ true) ↔ (normalized d ≡ normalized e) }
 {}
 
-/// The result is the fault of the whole input where there is one, and else the descent's.
+/// The result is the error of the whole input if there is one, else the descent's.
 pub fn input_faults_come_first()
     ensures fault { (b : List ℕ) (limit : ℕ) (e : Error) → input_fault b ≡ Some e
         → answer b limit ≡ Err e }
@@ -72,8 +74,8 @@ pub fn input_faults_come_first()
         → answer b limit ≡ descent b limit }
 {}
 
-/// The bound on the turns of the descent is never met: elements and members are read as by equations that
-/// have none.
+/// The bound on the turns of the descent is never met: elements and members are read as by
+/// equations that have none.
 pub fn turns_are_enough()
     ensures elements { (b : List ℕ) (missing : Error) (levels : ℕ) (ts : List Token)
         → elements_by b missing (value_from b missing levels) ts
@@ -86,9 +88,9 @@ pub fn turns_are_enough()
         (members_by b missing (value_from b missing levels) ExpectedObjectKey) kind ts }
 {}
 
-/// Each refusal is of a named kind: a fault of the whole input is of one of four, at index 0 and without a
-/// character, and a fault of a token is of one of fourteen, with a character. For the padded form padding may
-/// be lacking too.
+/// Each error has a named kind: one of four for the whole input, at index 0 and without a
+/// character, or one of fourteen for a token, with a character. In the padded form padding may be
+/// lacking too.
 pub fn refusals_are_of_named_kinds()
     ensures input { (b : List ℕ) (e : Error) → input_fault b ≡ Some e → IsOfInput e }
     ensures token { (b : List ℕ) (limit : ℕ) (e : Error) → descent b limit ≡ Err e → IsOfToken e }
@@ -106,14 +108,14 @@ pub fn kinds_have_one_class()
         × (syntax ≢ shape) }
 {}
 
-/// What is accepted is a document: the whole input denotes it, and its length, its nesting and its integers are
-/// within the limits. So nothing outside the grammar is ever accepted.
+/// What is accepted is a document: the whole input denotes it, and its length, its nesting and its
+/// integers are within the limits. So nothing outside the grammar is ever accepted.
 pub fn answers_are_documents()
     ensures { (b : List ℕ) (limit : ℕ) (d : Document) → answer b limit ≡ Ok d
         → Denotes b d × WithinLimits b d limit }
 {}
 
-/// What bytes denote can be spelled: its decimals are literals, and its strings and names are UTF-8.
+/// What bytes denote can be spelled: its decimals are literals, and its strings and keys are UTF-8.
 pub fn documents_can_be_spelled()
     ensures { (b : List ℕ) (d : Document) → Denotes b d → IsSpellable d }
 {}
@@ -129,36 +131,38 @@ pub fn documents_are_answered()
         → answer b limit ≡ Ok d }
 {}
 
-/// Bytes denote one document at most, however deep it nests and however great its integers are: the grammar
-/// is unambiguous.
+/// Bytes denote one document at most, however deep it nests and however great its integers are: the
+/// grammar is unambiguous.
 pub fn bytes_denote_one_document()
     ensures { (b : List ℕ) (d e : Document) → Denotes b d → Denotes b e → d ≡ e }
 {}
 
-/// No fault is reported late: where the input has no fault of the whole, the bytes before the index of a
-/// fault go on to a document. So up to there nothing is wrong yet.
+/// No error is reported late: if the input as a whole has no error, the bytes before the index of
+/// an error begin some document. So up to there nothing is wrong yet.
 pub fn faults_are_not_reported_late()
     ensures { (b : List ℕ) (limit : ℕ) (e : Error) → input_fault b ≡ None → descent b limit ≡ Err e
         → IsBeginning (take e.index b) }
 {}
 
-/// No token is refused early after an element (`ExpectedArrayContent`), where a key is expected
-/// (`ExpectedObjectContent`, `ExpectedObjectKey`), after a key (`ExpectedObjectColon`) or after a member
-/// (`ExpectedObjectContent`): the bytes go on to no document once they have the first byte of that token.
+/// No token is rejected early after an element (`ExpectedArrayContent`), where a key is expected
+/// (`ExpectedObjectContent`, `ExpectedObjectKey`), after a key (`ExpectedObjectColon`) or after a
+/// member (`ExpectedObjectContent`): the bytes begin no document once they have the first byte of
+/// that token.
 pub fn unexpected_tokens_are_not_reported_early()
     ensures { (b : List ℕ) (limit : ℕ) (e : Error) → input_fault b ≡ None → descent b limit ≡ Err e
         → is_unexpected_token e.error ≡ true
         → IsBeginning (take (suc e.index) b) → ⊥ }
 {}
 
-/// Documents are equal exactly if their nodes are, one by one: so one comparison of nodes compares values.
+/// Documents are equal exactly if their nodes are, one by one: so one comparison of nodes compares
+/// values.
 pub fn documents_are_compared_node_by_node()
     ensures { (d e : Document) → same_items (listing d) (listing e) ≡ equal d e }
 {}
 
-/// An accessor and its `try_` form agree, also at a key: one returns a value exactly where the other does,
-/// and then the same. Where there is none, the refusal names the kind that the accessor expects and the kind
-/// that the value has.
+/// An accessor and its `try_` form agree, also at a key: one returns a value exactly if the other
+/// does, and then the same. Otherwise the error has the kind that the accessor expects and the kind
+/// of the value.
 pub fn accessors_agree<T>()
     ensures value { (t : Accessor T) (d : Document) (x : T) → (try_as_t t d ≡ Ok x) ↔ (as_t t d ≡ Some x) }
     ensures refused { (t : Accessor T) (d : Document) → as_t t d ≡ None

@@ -53,7 +53,7 @@ fn failing_readers_print_nothing(rt: HostRuntime) {
     }
 }
 
-// Is interrupted at its second call, and then goes on.
+// Is interrupted at its second call, and then continues.
 #[derive(Drop)]
 struct Interrupted<'a> {
     rest: &'a [u8],
@@ -91,7 +91,7 @@ fn interrupted_reads_end_the_run(rt: HostRuntime) {
     }
 }
 
-// Takes at most three bytes a call. After so many calls it takes none, or fails.
+// Takes at most three bytes a call. After a number of calls it takes none, or fails.
 #[derive(Drop)]
 struct Full {
     taken: Vec<u8>,
@@ -120,8 +120,8 @@ impl Write for Full {
     }
 }
 
-// A run over `[1,2]`, a byte a read, into such a writer. What it took is a beginning of the output, three bytes a
-// call. Where it failed, it is called no more.
+// A run over `[1,2]`, a byte a read, into such a writer. What it took is a beginning of the output,
+// three bytes a call. Where it failed, it is called no more.
 fn assert_begun(
     rt: &(impl AllocGlobal + Abort),
     mode: Mode,
@@ -170,7 +170,7 @@ fn failing_writers_are_reported(rt: HostRuntime) {
     }
 }
 
-// Takes so many bytes in all, and then none.
+// Takes a number of bytes in all, and then none.
 #[derive(Drop)]
 struct Short {
     taken: Vec<u8>,

@@ -1,4 +1,5 @@
-// Allocations that are refused: each heap is larger than the one before it, so that another one fails, and then none.
+// Allocations that fail: each heap is larger than the one before it, so that another one fails, and
+// then none.
 use crate::tests::ends::Slow;
 use crate::tests::{Ran, Tested, run_from};
 use jtape::{Mode, RunFault};
@@ -9,7 +10,8 @@ use std::test::Fail;
 
 const LONG: &[u8] = b"[1,\"\\n\",[2,3,4],5,6,7,8,9,10,11,12,13,14,15,16,1.5]";
 
-// An allocation of the input, of the positions and the tape, or of the output is refused, and nothing is written.
+// An allocation of the input, of the structural indexes and the tape, or of the output fails, and
+// nothing is written.
 #[test]
 fn each_growth_is_refused(rt: HostRuntime) -> Tested {
     let rows: [(Mode, &[u8], &[u8]); 4] = [
@@ -36,8 +38,9 @@ fn each_growth_is_refused(rt: HostRuntime) -> Tested {
 
 const HEAP: usize = 16_384;
 
-// How often an allocation failed, and how often none did, where others left more and more of a heap. The output begins
-// and ends with these. Once the others gave back what they had, a run over the same heap prints all.
+// How often an allocation failed, and how often none did, where others left more and more of a
+// heap. The output begins and ends with these. Once the others gave back what they had, a run over
+// the same heap prints all.
 fn run_in_heaps(
     rt: &(impl AllocGlobal + Abort),
     mode: Mode,
@@ -93,8 +96,8 @@ fn assert_whole_or_silent(
     }
 }
 
-// A list as the writer: its growth is refused at one of its pieces, and then at none. What was there stays in
-// front, and a beginning of the lines after it.
+// A list as the writer: its growth fails at one of its writes, and then at none. What was there
+// stays in front, and a beginning of the lines after it.
 #[test]
 fn lists_that_cannot_grow_hold_a_beginning(rt: HostRuntime) -> Tested {
     let mut input = Vec::from_slice(rt.alloc(), b"[")?;

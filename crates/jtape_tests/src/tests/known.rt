@@ -1,6 +1,6 @@
-// Inputs of which it is known what a run over them returns and writes. In the texts control pictures stand for control
-// characters, as `␊` for a line feed. A loop over the lines of a text is proved in far less time than an array of as many
-// rows.
+// Inputs of which it is known what a run over them returns and writes. In the texts control
+// pictures stand for control characters, as `␊` for a line feed. A loop over the lines of a text is
+// proved in far less time than an array of as many rows.
 use crate::tests::{ALL, OF_DOCUMENTS, Tested, run_over};
 use jtape::{Mode, status};
 use std::alloc::{AllocError, Global};
@@ -48,7 +48,7 @@ lines 1024 @ 1␍␊2␊ @ 1␊2␊
 lines 1024 @ {"a":␍ 1}␍␊␍␊[␉2 ]␍␊ @ {"a":1}␊[2]␊
 lines 2 @ [[]]␊[1]␊ @ [[]]␊[1]␊"#;
 
-// Likewise of streams with pieces that are refused.
+// The same for streams with lines that are rejected.
 const PRINTED_WITH_ERRORS: &str =
     r#"lines 1024 @ {"a": 1}␊␊[1,]␊ 2  @ {"a":1}␊! InternalError at character 3 (']')␊2␊
 lines 1024 @ [1,]␊[1,] @ ! InternalError at character 3 (']')␊! InternalError at character 3 (']')␊
@@ -61,7 +61,7 @@ lines 0 @ 7␊[]␊ @ 7␊! DepthLimitExceeded at character 0 ('[')␊
 lines 1 @ [[]]␊[1]␊ @ ! DepthLimitExceeded at character 1 ('[')␊[1]␊
 lines 1 @ [[]]␊[] @ ! DepthLimitExceeded at character 1 ('[')␊[]␊"#;
 
-// A line for each input that every mode refuses: the depth limit, the input, and its error.
+// A line for each input that every mode rejects: the depth limit, the input, and its error.
 const REFUSED: &str = r#"0 @ [] @ DepthLimitExceeded at character 0 ('[')
 1 @ [[]] @ DepthLimitExceeded at character 1 ('[')
 1024 @ x "a @ Syntax at character 0
@@ -116,7 +116,7 @@ fn controlled(alloc: Global, text: &str) -> Result<String, AllocError> {
     Ok(controlled)
 }
 
-// What a run returns where all is printed, or but for the pieces that are refused.
+// What a run returns where all is printed, or all but the lines that are rejected.
 fn assert_printed(
     rt: &(impl AllocGlobal + Abort),
     mode: Mode,
@@ -177,7 +177,7 @@ fn known_inputs_are_printed(rt: HostRuntime) -> Tested {
     Ok(())
 }
 
-// What is blank is no document, but a stream of no lines.
+// A blank input is not a document, but a stream without lines.
 #[test]
 fn blanks_are_no_documents(rt: HostRuntime) -> Tested {
     let rows: [&[u8]; 2] = [b"", b" \t\r\n"];

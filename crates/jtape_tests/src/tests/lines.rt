@@ -1,4 +1,4 @@
-// Mode `lines`: pieces of each length, and where a growth is refused.
+// Mode `lines`: lines of each length, and growths that fail.
 use crate::tests::{Tested, run_from};
 use jtape::{Mode, RunFault};
 use linked_list_allocator::LocalHeap;
@@ -7,7 +7,7 @@ use std::io::{self, Write};
 use std::process::Abort;
 use std::test::Fail;
 
-// Strings of up to so many letters, one a line.
+// Strings of up to a number of letters, one a line.
 fn strings(rt: &impl AllocGlobal, lengths: usize) -> std::result::Result<Vec<u8>, Fail> {
     let mut input = Vec::new(rt.alloc());
     for length in 0..lengths {
@@ -38,8 +38,8 @@ impl Write for Counting {
     }
 }
 
-// Pieces of each length, wherever a block of the parser's begins: they are printed as they are, in 64 KiB and
-// more a call.
+// Lines of each length, wherever a block of the parser's begins: they are printed as they are, in
+// 64 KiB and more a call.
 #[test]
 fn pieces_have_each_length(rt: HostRuntime) -> Tested {
     let rows = [(0, 0), (1, 1), (70, 1), (700, 4)];
@@ -58,11 +58,11 @@ fn pieces_have_each_length(rt: HostRuntime) -> Tested {
     Ok(())
 }
 
-// A piece, and what is written of it.
+// A line, and what is written for it.
 type Piece = (&'static str, &'static str);
 
-// Of these later pieces mostly need more than earlier ones, and of those below the last one does: structural indexes, nodes, open
-// containers, blocks with a backslash, and the line of an error.
+// Of these later lines mostly need more than earlier ones, and of those below the last one does:
+// structural indexes, nodes, open containers, blocks with a backslash, and the line of an error.
 const GROWING: &[Piece] = &[
     ("[1]", "[1]\n"),
     ("\"\\n\"", "\"\\n\"\n"),
@@ -110,8 +110,8 @@ const LAST_HAS_ESCAPES: &[Piece] = &[
     ),
 ];
 
-// A run over the first of these pieces, and whether it had memory for them. Blank lines follow, so that the input has as
-// many bytes as all pieces.
+// A run over the first of these lines, and whether it had memory for them. Blank lines follow, so
+// that the input has as many bytes as all lines.
 fn run_first(
     rt: &(impl AllocGlobal + Abort),
     bytes: usize,
@@ -142,7 +142,8 @@ fn run_first(
     Ok((has_memory, ran.writer.into_inner()))
 }
 
-// For how many of the pieces from the front a heap of so many bytes has memory. `None` where it has none for the input.
+// For how many of the first lines a heap of this size has memory. `None` if it has none for the
+// input.
 fn count_with_memory(
     rt: &(impl AllocGlobal + Abort),
     bytes: usize,
@@ -159,8 +160,9 @@ fn count_with_memory(
     Ok(found)
 }
 
-// Each heap is larger than the one before it, so that another allocation fails, and then none. Where one fails, exactly
-// the text of the pieces before was written. Returns in how many heaps the last piece lacked memory.
+// Each heap is larger than the one before it, so that another allocation fails, and then none.
+// Where one fails, exactly the text of the lines before was written. Returns in how many heaps
+// memory was lacking for the last line.
 fn assert_stopped(
     rt: &(impl AllocGlobal + Abort),
     pieces: &[Piece],

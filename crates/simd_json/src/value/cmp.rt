@@ -3,8 +3,9 @@ mod map;
 
 use crate::value::tape::Value;
 
-/// Two values are equal if they have the same shape and order and the same truth values, their integers the
-/// same numbers whatever their kinds, and their decimals, strings and keys the same bytes.
+/// Two values are equal if they have the same shape and order and the same truth values, their
+/// integers the same numbers whatever their kinds, and their decimals, strings and keys the same
+/// bytes.
 impl PartialEq for Value<'_, '_> {
     ghost use Rattle.std.specs.Cmp.{on_per, partial_equiv_from_equiv};
     ghost use Rattle.std.specs.Ordering.{on};
@@ -38,21 +39,21 @@ impl<'tape, 'input> Value<'tape, 'input> {
     ghost use Rattle.simd_json_parts.specs.Accessors as accessors;
     ghost use Rattle.simd_json_parts.specs.Accessors.{as_t, eq_t};
 
-    /// Whether the value is null.
+    /// Whether the value is null; `false` for any other kind.
     pub fn eq_null(&self) -> bool
         ensures { result ≡ is_some (as_t accessors.null (doc self.now)) }
     {
         self.as_null().is_some()
     }
 
-    /// Whether the value is that truth value.
+    /// Whether the value is that truth value; `false` for any other kind.
     pub fn eq_bool(&self, other: bool) -> bool
         ensures { result ≡ eq_t beq accessors.bool other (doc self.now) }
     {
         self.as_bool() == Some(other)
     }
 
-    /// Whether the value is that string.
+    /// Whether the value is that string, with its escapes decoded; `false` for any other kind.
     ///
     /// ```
     /// use simd_json::tape::Value;

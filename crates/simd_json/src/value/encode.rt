@@ -16,15 +16,16 @@ impl Value<'_, '_> {
 
     /// The compact text of the value: a JSON text (RFC 8259) with no whitespace between its tokens.
     ///
-    /// A decimal is its literal, as it was written, and an integer its digits, with `-` before a negative
-    /// one. In strings and keys a quote, a backslash and what is below 0x20 are escaped, and nothing else
-    /// (section 7). The text denotes a value that is equal to this one and nests as deep, so parsed again it
+    /// A decimal is printed as its literal, an integer as its digits, with `-` before a negative
+    /// one. In strings and keys only quotes, backslashes and bytes below 0x20 are escaped (section
+    /// 7). The text denotes a value that is equal to this one and nests as deep, so parsed again it
     /// is that value.
     ///
-    /// Each container that is open while it prints takes about 11 bytes of the machine's stack, so 8 MB of it
-    /// are enough for 780,000 nested arrays. The depth limit of the parse bounds how many there are.
+    /// Each open container takes about 11 bytes of the stack while it is printed, so 8 MB are
+    /// enough for 780,000 nested arrays. The depth limit of the parse bounds their number.
     ///
-    /// Returns `OutOfMemory`, at index 0 without a character, where an allocation fails, and no other error.
+    /// Returns `OutOfMemory`, at index 0 without a character, if an allocation fails, and no other
+    /// error.
     ///
     /// ```
     /// fn shortened(rt: &impl AllocGlobal) -> simd_json::Result<String> {
@@ -44,11 +45,12 @@ impl Value<'_, '_> {
         Ok(unsafe { String::from_utf8_unchecked(text) })
     }
 
-    /// The pretty text of the value: as [`encode`](Value::encode), but each member of an array or object that
-    /// has some is on a line of its own, after two spaces for each container that is open there, with `:
-    /// ` between a key and its value. A line ends with 0x0A, the last one with nothing.
+    /// The pretty text of the value: as [`encode`](Value::encode), but each member is on a line of
+    /// its own, indented by two spaces for each open container, with `: ` between a key and its
+    /// value. Lines end with 0x0A, except the last one.
     ///
-    /// Returns `OutOfMemory`, at index 0 without a character, where an allocation fails, and no other error.
+    /// Returns `OutOfMemory`, at index 0 without a character, if an allocation fails, and no other
+    /// error.
     ///
     /// ```
     /// fn on_lines(rt: &impl AllocGlobal) -> simd_json::Result<String> {
@@ -72,12 +74,11 @@ impl Value<'_, '_> {
         Ok(unsafe { String::from_utf8_unchecked(text) })
     }
 
-    /// Writes the text of [`encode`](Value::encode). It takes no memory but the machine's stack, as much as
-    /// that does.
+    /// Writes the text of [`encode`](Value::encode). Allocates nothing, and takes as much stack.
     ///
-    /// A writer that fails ends it at once with its own error, one that is `Interrupted` too; one that takes
-    /// no byte of a piece that is not empty ends it with an error of kind `WriteZero`. What was written by
-    /// then is a prefix of the text.
+    /// Returns the writer's first error, also `Interrupted`, or one of kind `WriteZero` if the
+    /// writer takes 0 bytes of a non-empty buffer. What was written by then is a prefix of the
+    /// text.
     ///
     /// ```
     /// use simd_json::tape::Value;
@@ -98,8 +99,8 @@ impl Value<'_, '_> {
         write_compact(w, self.nodes())
     }
 
-    /// Writes the text of [`encode_pp`](Value::encode_pp). It takes no memory but the machine's stack, as
-    /// [`encode`](Value::encode) does.
+    /// Writes the text of [`encode_pp`](Value::encode_pp). Allocates nothing, and takes as much
+    /// stack as [`encode`](Value::encode).
     ///
     /// The errors are those of [`write`](Value::write), and leave a prefix of this text.
     ///

@@ -22,11 +22,11 @@ use std::alloc::{Allocator, Global};
 use std::marker::Model;
 pub use value::Value;
 
-/// The nodes of one document in preorder, or no node.
+/// The nodes of one document in preorder, or none.
 ///
-/// A scalar is one node. A container is a header with `len`, the number of its members, and `count`, the
-/// number of all nodes beneath it, and then its members' nodes; a pair of an object is its key's node and
-/// then its value's nodes.
+/// A scalar is one node. A container is a header followed by its members' nodes: `len` is the
+/// number of members, `count` the number of all nodes beneath. A pair of an object is its key's
+/// node, then its value's nodes.
 #[derive(Debug, Drop)]
 pub struct Tape<'input, A: Allocator = Global> {
     pub(crate) list: Vec<Node<'input>, A>,
@@ -60,28 +60,28 @@ impl<'input, A: Allocator> Tape<'input, A> {
         Ok(Tape { list })
     }
 
-    /// A tape with no node and no capacity, to be filled. It takes no memory.
+    /// A tape without nodes or capacity, to be filled. Allocates nothing.
     pub fn empty(a: A) -> Tape<'input, A>
         ensures { result ≡ record { nodes = []; capacity = 0 } }
     {
         Tape { list: Vec::new(a) }
     }
 
-    /// Whether the tape has no node.
+    /// Whether the tape has no nodes.
     pub fn is_empty(&self) -> bool
         ensures { IsTrue result ↔ (self.now.nodes ≡ []) }
     {
         self.list.is_empty()
     }
 
-    /// The nodes, in preorder.
+    /// The nodes of the document, in preorder; none where the tape is empty.
     pub fn nodes(&self) -> &[Node<'input>]
         ensures { map item_of result.now ≡ self.now.nodes }
     {
         self.list.as_slice()
     }
 
-    /// The document of the tape, which has one: it is not empty.
+    /// The document of the tape. Requires that the tape is not empty.
     ///
     /// ```
     /// // How many sizes the document lists.
@@ -102,8 +102,8 @@ impl<'input, A: Allocator> Tape<'input, A> {
         Value::new(self.list.as_slice())
     }
 
-    /// Reserves capacity for as many nodes in all, so for inputs of as many bytes, since no node takes less
-    /// than a byte. Changes no node, and gives up no capacity.
+    /// Reserves capacity for `nodes` nodes in total: enough for any input of `nodes` bytes. The
+    /// nodes stay as they are, and capacity never shrinks.
     ///
     /// Returns `OutOfMemory` where an allocation fails.
     pub fn reserve(&mut self, nodes: usize) -> Result<()>
@@ -119,14 +119,15 @@ impl<'input, A: Allocator> Tape<'input, A> {
         Ok(())
     }
 
-    // No node, and the capacity that was there.
+    // Removes all nodes, and keeps the capacity.
     pub(crate) fn clear(&mut self)
         ensures { self.new ≡ record { nodes = []; capacity = self.old.capacity } }
     {
         self.list.clear();
     }
 
-    /// An empty tape for inputs of another lifetime, with the capacity of this one. It takes no memory.
+    /// An empty tape for inputs of another lifetime, with the capacity of this one. Allocates
+    /// nothing.
     pub fn reset<'new>(self) -> Tape<'new, A>
         ensures { result ≡ record { nodes = []; capacity = self.entry.capacity } }
     {

@@ -46,7 +46,7 @@ fn compares_fields(rt: HostRuntime) -> std::result::Result<(), Fail> {
     Ok(())
 }
 
-// A list with capacity for so many numbers.
+// A list with capacity for this many numbers.
 fn list_of_capacity(alloc: Global, capacity: usize) -> Result<Vec<u64>> {
     Ok(Vec::with_capacity(alloc, capacity)?)
 }

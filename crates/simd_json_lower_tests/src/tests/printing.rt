@@ -32,7 +32,7 @@ fn documents_are_appended(rt: HostRuntime) -> std::result::Result<(), Fail> {
     Ok(())
 }
 
-// A text of several pieces, and the containers that are empty.
+// A text longer than the buffer, and the containers that are empty.
 #[test]
 fn long_and_empty_texts_are_written(rt: HostRuntime) -> std::result::Result<(), Fail> {
     let mut nodes = Vec::new(rt.alloc());
@@ -62,7 +62,7 @@ fn long_and_empty_texts_are_written(rt: HostRuntime) -> std::result::Result<(), 
     Ok(())
 }
 
-// Takes at most three bytes at a time, in so many calls.
+// Takes at most three bytes at a time, in this many calls.
 #[derive(Drop)]
 struct Full {
     taken: Vec<u8>,
@@ -89,8 +89,8 @@ impl Write for Full {
     }
 }
 
-// The compact text has 26 bytes, so 9 calls take it all. A writer that takes fewer ends it with its own
-// error.
+// The compact text has 26 bytes, so 9 calls take it all. A writer that takes fewer ends it with its
+// own error.
 #[test]
 fn failing_writers_end_it(rt: HostRuntime) {
     for fails in [false, true] {
@@ -124,7 +124,7 @@ fn pretty_text_is_written(rt: HostRuntime) -> std::result::Result<(), Fail> {
     Ok(())
 }
 
-// As many open containers as make a line of several pieces.
+// As many open containers as make a line of several calls.
 #[test]
 fn deep_lines_begin_with_their_spaces(rt: HostRuntime) -> std::result::Result<(), Fail> {
     for depth in [1, 15, 16, 17, 40usize] {

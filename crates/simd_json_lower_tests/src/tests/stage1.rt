@@ -27,7 +27,7 @@ fn text(
     Ok(text)
 }
 
-// The positions, and the blocks with a backslash, in lists that grow from nothing.
+// The structural indexes, and the blocks with a backslash, in lists that grow from nothing.
 fn found(alloc: Global, text: &[u8]) -> Result<(Vec<u32>, Vec<u32>)> {
     let mut positions = Vec::new(alloc);
     let mut blocks = Vec::new(alloc);

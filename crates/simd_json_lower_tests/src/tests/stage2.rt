@@ -13,7 +13,8 @@ use std::test::Fail;
 mod atoms;
 mod capacity;
 
-// The tape of an input, by the first stage, in a list with capacity for just as many nodes as are enough.
+// The tape of an input, by the first stage, in a list with capacity for just as many nodes as are
+// enough.
 fn tape_of<'de>(alloc: Global, input: &'de mut [u8], max_depth: usize) -> Result<Vec<Node<'de>>> {
     list_of::<Brand>(alloc, input, max_depth)
 }

@@ -81,8 +81,8 @@ fn texts_are_whole_wherever_they_are_cut(rt: HostRuntime) -> std::result::Result
     Ok(())
 }
 
-// A string of each length up to 100, with a quote at each of its places and at none, between what stands
-// around it.
+// A string of each length up to 100, with a quote at each of its places and at none, between what
+// stands around it.
 #[test]
 fn strings_stand_between_what_is_around_them(rt: HostRuntime) -> std::result::Result<(), Fail> {
     for len in 0..100usize {
@@ -138,7 +138,7 @@ fn assert_static(
     Ok(())
 }
 
-// The least and the greatest number of so many digits.
+// The least and the greatest number of each number of digits.
 #[test]
 fn numbers_have_their_digits(rt: HostRuntime) -> std::result::Result<(), Fail> {
     let mut least = Vec::from_slice(rt.alloc(), b"1")?;
@@ -157,7 +157,7 @@ fn numbers_have_their_digits(rt: HostRuntime) -> std::result::Result<(), Fail> {
     Ok(())
 }
 
-// The greatest and the least of each kind, and what is no number.
+// The greatest and the least of each kind, and values that are not numbers.
 #[test]
 fn values_have_their_texts(rt: HostRuntime) -> std::result::Result<(), Fail> {
     let rows: [(StaticNode, &[u8]); 9] = [

@@ -5,7 +5,7 @@ ghost use Rattle.simd_json_parts.specs.ErrorKinds.{class_of, io, eof, syntax, sh
 use super::{Error, ErrorType};
 
 impl Error {
-    /// Whether memory was lacking, or the call did not allow for the input.
+    /// Whether an allocation failed, or the input is too large or lacks its padding.
     pub fn is_io(&self) -> bool
         ensures { IsTrue result ↔ (class_of self.now.error ≡ io) }
     {
@@ -15,14 +15,15 @@ impl Error {
         )
     }
 
-    /// Whether the input ended before its first token.
+    /// Whether the input ended before its first token: `Eof`.
     pub fn is_eof(&self) -> bool
         ensures { IsTrue result ↔ (class_of self.now.error ≡ eof) }
     {
         matches!(self.error, ErrorType::Eof)
     }
 
-    /// Whether a value is not of the expected shape.
+    /// Whether a value is not of the expected shape. Of a parse: `ExpectedTrue`, `ExpectedFalse`,
+    /// `ExpectedNull` or `DepthLimitExceeded`.
     pub fn is_data(&self) -> bool
         ensures { IsTrue result ↔ (class_of self.now.error ≡ shape) }
     {
@@ -47,7 +48,7 @@ impl Error {
         )
     }
 
-    /// Whether the input is no JSON text.
+    /// Whether the input is not a JSON text for another reason: all other kinds.
     pub fn is_syntax(&self) -> bool
         ensures { IsTrue result ↔ (class_of self.now.error ≡ syntax) }
     {

@@ -1,4 +1,4 @@
-//! What is printed of an error, of its kind, and of the kind of a value.
+//! The printed text of an error, of its kind, and of the kind of a value.
 ghost use Rattle.std.specs.Prelude.{◌≡◌};
 ghost use Rattle.simd_json_parts.specs.ErrorKinds.{expected_words};
 
@@ -134,7 +134,7 @@ impl fmt::Display for TryTypeError {
     }
 }
 
-// The kind that was asked for: an integer has to fit its type.
+// The expected kind: an integer has to fit its type.
 fn expected_words(kind: ValueType) -> &'static str
     ensures { result.now ≡ expected_words kind }
 {

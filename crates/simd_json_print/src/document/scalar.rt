@@ -1,4 +1,4 @@
-//! What is between the brackets: scalars, keys, and where a line begins.
+//! Tokens: scalars, keys and line breaks.
 ghost use Rattle.simd_json_parts.specs.Bytes.{comma, left_brace, left_bracket, quote, space};
 ghost use Rattle.simd_json_parts.specs.Nodes.{item_of, string_item};
 ghost use Rattle.simd_json_parts.specs.Printed.{quoted, new_line};
@@ -13,7 +13,7 @@ use simd_json_parts::node::Node;
 // A line feed and the spaces of 16 open containers.
 const LINE: &[u8] = b"\n                                ";
 
-/// A scalar, or a container with nothing in it. Out of line, since the walk is smaller so.
+/// Puts a scalar, or an empty container. Not inlined: the walk is smaller so.
 #[inline(never)]
 pub(crate) fn put_leaf<T: Target, const SIZE: usize>(out: &mut Text<'_, T, SIZE>, node: &Node<'_>)
     ensures { Adds T.place out.old out.new (leaf_text (item_of node.now)) }
@@ -31,8 +31,8 @@ pub(crate) fn put_leaf<T: Target, const SIZE: usize>(out: &mut Text<'_, T, SIZE>
     }
 }
 
-/// The key of a member, from its node: what is before it, its line in pretty text, and the colon after it; in
-/// compact text as one piece.
+/// Puts the key of a member with the bracket or comma before it, in pretty text a new line, and the
+/// colon after it. Compact text takes one call.
 #[inline(never)]
 pub(crate) fn put_name<T: Target, const SIZE: usize, const PRETTY: bool>(
     out: &mut Text<'_, T, SIZE>,
@@ -57,7 +57,7 @@ pub(crate) fn put_name<T: Target, const SIZE: usize, const PRETTY: bool>(
     }
 }
 
-/// A leaf of an array, and what is before it; in compact text as one piece.
+/// Puts a leaf of an array with the bracket or comma before it. Compact text takes one call.
 #[inline(never)]
 pub(crate) fn put_element<T: Target, const SIZE: usize, const PRETTY: bool>(
     out: &mut Text<'_, T, SIZE>,
@@ -87,8 +87,8 @@ pub(crate) fn put_element<T: Target, const SIZE: usize, const PRETTY: bool>(
     }
 }
 
-/// What is before a member or an element, and then a quote: the bracket before the first one, and a comma
-/// before each other.
+/// The text before a member or an element, and a quote: the bracket before the first one, a comma
+/// before others.
 #[inline(always)]
 pub(crate) fn front_of(is_first: bool, is_object: bool) -> &'static [u8]
     ensures { result.now ≡ cond is_first (cond is_object left_brace left_bracket) comma ∷ quote ∷ [] }
@@ -102,8 +102,8 @@ pub(crate) fn front_of(is_first: bool, is_object: bool) -> &'static [u8]
     }
 }
 
-/// A line feed, and two spaces for each open container; as one piece where fewer than 16 are open. Out of line as
-/// [`put_leaf`] is.
+/// Puts a line feed, and two spaces for each open container; one call if fewer than 16 are open.
+/// Not inlined, as [`put_leaf`].
 #[inline(never)]
 pub(crate) fn put_new_line<T: Target, const SIZE: usize>(out: &mut Text<'_, T, SIZE>, depth: usize)
     ensures { Adds T.place out.old out.new (new_line depth) }
@@ -114,7 +114,7 @@ pub(crate) fn put_new_line<T: Target, const SIZE: usize>(out: &mut Text<'_, T, S
     }
 }
 
-// The spaces of so many times 16 containers.
+// The spaces of `times` times 16 containers.
 #[inline(never)]
 fn put_spaces<T: Target, const SIZE: usize>(out: &mut Text<'_, T, SIZE>, times: usize)
     ensures { Adds T.place out.old out.new

@@ -14,20 +14,20 @@ use crate::document::scalar::{front_of, put_element, put_leaf, put_name, put_new
 use crate::text::{Target, Text};
 use simd_json_parts::node::Node;
 
-// How many containers one call keeps open. What is nested deeper is printed by another call, so that a
-// container takes about ten bytes of the machine's stack, and no memory.
+// How many containers one call keeps open. Another call prints what is nested deeper, so that a
+// container takes about 11 bytes of stack, and no memory.
 const OPEN: usize = 64;
 
 // The containers that one call has open, the outermost first.
 #[derive(Drop)]
 struct Nesting {
-    // How many nodes are left when each ends.
+    // For each, how many nodes are left when it ends.
     ends: [usize; OPEN],
     are_objects: [bool; OPEN],
     count: usize,
 }
 
-/// Puts the value that the nodes are, with `depth` containers open around it.
+/// Puts the value of the nodes, inside `depth` open containers.
 #[cycle(value)]
 pub(crate) fn put_value<T: Target, const SIZE: usize, const PRETTY: bool>(
     out: &mut Text<'_, T, SIZE>,
@@ -107,8 +107,8 @@ struct Unprinted<'tape, 'input> {
     nodes: &'tape [Node<'input>],
 }
 
-// The elements of an array that are leaves, up to its end or the first container. What is left, and whether
-// nothing of the array is printed.
+// Puts the elements of an array up to its end or the first container that is not empty. Returns the
+// nodes that are left, and whether nothing of the array is printed.
 #[inline(always)]
 fn put_elements<'tape, 'input, T: Target, const SIZE: usize, const PRETTY: bool>(
     out: &mut Text<'_, T, SIZE>,
@@ -144,8 +144,8 @@ fn put_elements<'tape, 'input, T: Target, const SIZE: usize, const PRETTY: bool>
     (left, is_still_first)
 }
 
-// What is in front of a value: a bracket or a comma, its line in pretty text, and in an object its key.
-// Returns the nodes from the value on.
+// Puts the text before a value: a bracket or a comma, in pretty text a new line, and in an object
+// the key. Returns the nodes from the value on.
 #[inline(always)]
 fn put_before<'tape, 'input, T: Target, const SIZE: usize, const PRETTY: bool>(
     out: &mut Text<'_, T, SIZE>,
@@ -177,7 +177,8 @@ fn put_before<'tape, 'input, T: Target, const SIZE: usize, const PRETTY: bool>(
     left
 }
 
-// The value, or what it begins with if it is a container. The nodes after it, and whether it is open now.
+// Puts a value, or opens it if it is a container. Returns the nodes after that, and whether it was
+// opened.
 #[inline(always)]
 #[cycle(value)]
 fn put_next<'tape, 'input, T: Target, const SIZE: usize, const PRETTY: bool>(
@@ -216,7 +217,7 @@ fn put_next<'tape, 'input, T: Target, const SIZE: usize, const PRETTY: bool>(
     (Unprinted { nodes: others }, false)
 }
 
-// How many nodes a node says lie beneath it.
+// The number of nodes beneath a node, by its header.
 #[inline(always)]
 fn beneath(node: &Node<'_>) -> usize
     ensures { result ≡ count_of (item_of node.now) }

@@ -6,10 +6,10 @@ ghost use Rattle.simd_json_parts.specs.Printed.{escaped_byte};
 use crate::text::stores::{DIGITS, FEW, store_bytes, store_digits, store_few, store_vectors};
 use std::marker::Model;
 
-// How many bytes may stand in front of a few, and after them.
+// The greatest length of `front` and `back` on the fast path.
 const MARKS: usize = 8;
 
-// What is not yet handed over, at most `SIZE` bytes.
+// The bytes that are not written yet, at most `SIZE`.
 #[derive(Drop)]
 pub(super) struct Pieces<const SIZE: usize> {
     bytes: [u8; SIZE],
@@ -36,7 +36,7 @@ impl<const SIZE: usize> Pieces<SIZE> {
         }
     }
 
-    // These bytes, where they fit.
+    // Appends bytes if they fit.
     #[inline(always)]
     pub(super) fn collect(&mut self, bytes: &[u8]) -> bool
         ensures collected { IsTrue result → self.new ≡ self.old ++ bytes.now }
@@ -50,8 +50,8 @@ impl<const SIZE: usize> Pieces<SIZE> {
         true
     }
 
-    // Whether so many bytes are few, with little in front of them and after them, and there is capacity for
-    // all.
+    // Whether the fast path applies: at most `FEW` bytes, short `front` and `back`, and capacity
+    // for all.
     #[inline(always)]
     fn holds(&self, front: &[u8], len: usize, back: &[u8]) -> bool
         ensures few { IsTrue result → len ≤ 32 }
@@ -64,8 +64,8 @@ impl<const SIZE: usize> Pieces<SIZE> {
         front.len() + len + back.len() <= SIZE - self.used
     }
 
-    // A few bytes, between what is in front of them and after them, where they fit, and those of a string
-    // only if none is to be escaped. They are tested as they are stored, and what is stored counts only then.
+    // Appends a few bytes between `front` and `back` if they fit; those of a string only if none
+    // needs an escape. They are tested as they are stored, and count only then.
     #[inline(always)]
     pub(super) fn collect_few(
         &mut self,
@@ -92,7 +92,7 @@ impl<const SIZE: usize> Pieces<SIZE> {
         true
     }
 
-    // A number in decimal after its sign, likewise.
+    // Appends a number in decimal after its sign, likewise.
     #[inline(always)]
     pub(super) fn collect_decimal(
         &mut self,
@@ -117,7 +117,8 @@ impl<const SIZE: usize> Pieces<SIZE> {
         true
     }
 
-    // The bytes in front of the first one that is to be escaped, as far as they fit. How many they are.
+    // Appends the bytes before the first that needs an escape, as far as they fit, and returns
+    // their number.
     #[inline(always)]
     pub(super) fn collect_run(&mut self, string: &[u8]) -> usize
         ensures within { result ≤ length string.now }
@@ -151,7 +152,7 @@ impl<const SIZE: usize> Pieces<SIZE> {
         self.used = 0;
     }
 
-    // Nothing fits any more.
+    // Makes the buffer full, so that nothing fits any more.
     pub(super) fn close(&mut self) {
         self.used = SIZE;
     }

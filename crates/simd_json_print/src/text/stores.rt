@@ -1,4 +1,4 @@
-//! Bytes that are stored in a slice: any bytes, strings that are tested on the way, and numbers in decimal.
+//! Stores bytes in a slice: any bytes, strings that are tested on the way, and numbers in decimal.
 ghost use Rattle.std.specs.Prelude.{◌≡◌, ◌+◌, ◌<◌, ◌≤◌, ◌++◌, flat_map, length, map, take, drop, IsTrue};
 ghost use Rattle.std.specs.Fmt.{decimal};
 ghost use Rattle.std.specs.Simd.Lanes.{mask_l};
@@ -35,7 +35,7 @@ fn store_many(all: &mut [u8], at: usize, bytes: &[u8])
     all[at..at + bytes.len()].copy_from_slice(bytes);
 }
 
-// At most 32 bytes. Whether none of them is to be escaped.
+// Stores at most 32 bytes. Returns whether none needs an escape.
 #[inline(always)]
 pub(super) fn store_few(all: &mut [u8], at: usize, bytes: &[u8]) -> bool
     requires few { length bytes.now ≤ 32 }
@@ -60,7 +60,7 @@ pub(super) fn store_few(all: &mut [u8], at: usize, bytes: &[u8]) -> bool
     }
 }
 
-// The first N bytes and the last N, which overlap.
+// Stores the first N bytes and the last N, which may overlap.
 #[inline(always)]
 fn store_ends<const N: usize>(all: &mut [u8], at: usize, bytes: &[u8]) -> bool
     requires few { N ≤ 64 }
@@ -76,7 +76,7 @@ fn store_ends<const N: usize>(all: &mut [u8], at: usize, bytes: &[u8]) -> bool
     front == 0 && back == 0
 }
 
-// N bytes from an index on. A bit for each of them, whether it is to be escaped.
+// Stores N bytes from an index on. Returns a bit for each, set if it needs an escape.
 #[inline(always)]
 pub(super) fn store_marked<const N: usize>(
     all: &mut [u8],
@@ -99,9 +99,9 @@ pub(super) fn store_marked<const N: usize>(
     escapes.to_bitmask()
 }
 
-// Stores, of at least N bytes, those in front of the first one that is to be escaped: N at a time, and then the
-// last N, which overlap those before. How many they are. An escape is a way out and not a smaller step, so that
-// no vector waits for the mask of the one before.
+// Stores bytes, of which there are at least N, up to the first that needs an escape, and returns
+// their number: N at a time, and then the last N, which may overlap those before. An escape ends
+// the loop and does not shorten a step, so that no vector waits for the mask of the one before.
 #[inline(always)]
 pub(super) fn store_vectors<const N: usize>(all: &mut [u8], at: usize, bytes: &[u8]) -> usize
     requires few { (0 < N) × (N ≤ 64) }
@@ -128,10 +128,10 @@ pub(super) fn store_vectors<const N: usize>(all: &mut [u8], at: usize, bytes: &[
     bytes.len()
 }
 
-// How many digits a number has at most.
+// The greatest number of digits.
 pub(super) const DIGITS: usize = 20;
 
-// The digits of a number. Where they end.
+// Stores the digits of a number. Returns their end.
 #[inline(always)]
 pub(super) fn store_digits(all: &mut [u8], at: usize, number: u64) -> usize
     requires room { at + 20 ≤ length all.old }

@@ -1,4 +1,4 @@
-//! Strings that are escaped as they are put (RFC 8259, section 7).
+//! Strings, escaped (RFC 8259, section 7).
 
 use crate::text::{Target, Text};
 
@@ -7,7 +7,7 @@ impl<'w, T: Target, const SIZE: usize> Text<'w, T, SIZE> {
     ghost use Rattle.simd_json_parts.specs.Printed.{escaped_byte};
     ghost use Rattle.simd_json_print.specs.Texts.{Adds};
 
-    /// Puts a string, escaped as it is printed, between `front` and `back`, as the quotes.
+    /// Appends a string with its escapes between `front` and `back`, which have the quotes.
     #[inline(always)]
     pub fn put_string(&mut self, front: &[u8], string: &str, back: &[u8])
         ensures { Adds T.place self.old self.new
@@ -19,8 +19,9 @@ impl<'w, T: Target, const SIZE: usize> Text<'w, T, SIZE> {
         }
     }
 
-    // One that is long, that does not fit, or that has bytes to be escaped: by runs that need no escape, each
-    // with the byte after it, which is to be escaped, or for which there is no capacity.
+    // A string that is long, does not fit or needs escapes: run after run without escapes, each
+    // with the byte after it, which needs an escape or does not fit. `collect_few` may have stored
+    // a short one already; it is stored again.
     #[inline(never)]
     fn put_escaped(&mut self, front: &[u8], string: &[u8], back: &[u8])
         ensures { Adds T.place self.old self.new
@@ -39,7 +40,7 @@ impl<'w, T: Target, const SIZE: usize> Text<'w, T, SIZE> {
         self.put(back);
     }
 
-    // Any byte, escaped where it is to be.
+    // Any byte, escaped if it needs it.
     fn put_byte(&mut self, byte: u8)
         ensures { Adds T.place self.old self.new (escaped_byte byte) }
     {
@@ -58,8 +59,8 @@ impl<'w, T: Target, const SIZE: usize> Text<'w, T, SIZE> {
 // The lower-case hexadecimal digits.
 const DIGITS: [u8; 16] = *b"0123456789abcdef";
 
-// What follows the backslash of an escaped byte: `u` where that is its number, and none, 0, where the byte is
-// written as it is.
+// The letter after the backslash of an escaped byte: `u` if its number follows, and 0 if the byte
+// is not escaped.
 const LETTERS: [u8; 256] = [
     b'u', b'u', b'u', b'u', b'u', b'u', b'u', b'u', b'b', b't', b'n', b'u', b'f', b'r', b'u', b'u',
     b'u', b'u', b'u', b'u', b'u', b'u', b'u', b'u', b'u', b'u', b'u', b'u', b'u', b'u', b'u', b'u',

@@ -24,7 +24,7 @@ pub(super) fn is_end(bytes: &[u8], i: usize) -> bool {
     is_whitespace(at(bytes, i)) || is_structural(at(bytes, i))
 }
 
-// A fault with the byte at its index.
+// An error with the byte at its index.
 pub(super) fn fault(bytes: &[u8], i: usize, kind: ErrorType) -> Error {
     Error::new(i, Some(char::from(at(bytes, i))), kind)
 }

@@ -45,7 +45,7 @@ impl<'a> Descent<'a> {
         }
     }
 
-    // Reads a document within so many levels.
+    // Reads a document of at most `levels` levels.
     pub(super) fn document(&mut self, levels: usize) -> Result<()> {
         let (first, byte) = self.token(0)?;
         let end = self.value(first, levels)?;
@@ -112,7 +112,8 @@ impl<'a> Descent<'a> {
         Ok(next.saturating_add(1))
     }
 
-    // Reads a key whose quote is at an index, a colon and a value. Returns the index after the value.
+    // Reads a key whose quote is at an index, a colon and a value. Returns the index after the
+    // value.
     #[cycle(descent)]
     fn member(&mut self, start: usize, levels: usize) -> Result<usize> {
         let end = self.string(start)?;

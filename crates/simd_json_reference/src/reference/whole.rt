@@ -1,5 +1,5 @@
-//! What is asked of the input as a whole, each index by itself: its encoding, its quotes, its structural
-//! positions.
+//! Rules of the input as a whole, each index by itself: its encoding, its quotes, its structural
+//! indexes.
 use super::bytes::{at, is_structural, is_whitespace};
 use simd_json::{ErrorType, Result};
 use std::alloc::Global;
@@ -91,7 +91,7 @@ fn is_position(bytes: &[u8], i: usize) -> bool {
     begins && !is_inside(bytes, i)
 }
 
-// The structural positions.
+// The structural indexes.
 pub(super) fn positions(alloc: Global, bytes: &[u8]) -> Result<Vec<u32>> {
     let mut positions = Vec::new(alloc);
     for (index, i) in (0..bytes.len()).zip(0..=u32::MAX) {
@@ -111,7 +111,7 @@ fn has_control_inside(bytes: &[u8]) -> bool {
     false
 }
 
-// The first fault of the whole, in the stated order; each is at index 0, without a character.
+// The first error of the whole, in the stated order; each is at index 0, without a character.
 pub(super) fn whole_fault(bytes: &[u8], has_position: bool) -> Option<ErrorType> {
     if !is_utf8(bytes) {
         return Some(ErrorType::InvalidUtf8);

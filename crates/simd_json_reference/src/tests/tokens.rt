@@ -8,7 +8,7 @@ fn tokens() -> [&'static [u8]; TOKENS] {
     [b"[", b"]", b"{", b"}", b",", b":", b"\"a\"", b"1", b"true"]
 }
 
-// The text of so many tokens that a number stands for, whose digits are the tokens.
+// The text of a number of tokens, which are the digits of another number.
 fn compare_text(
     rt: &(impl AllocGlobal + Abort),
     number: usize,

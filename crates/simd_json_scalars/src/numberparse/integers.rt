@@ -1,4 +1,5 @@
-//! Integers: the magnitude of one of nineteen bytes or fewer, and longer ones, or what puts them out of range.
+//! Integers: the magnitude of one of at most 19 bytes, and longer ones, or where they leave the
+//! range.
 ghost use Rattle.std.specs.Prelude.{◌≡◌, ◌+◌, ◌++◌, ◌≤◌, ◌<◌, ℕ, List, length, take, drop, false, nat_le};
 ghost use Rattle.std.specs.Prelude.{MatchResult, IsTrue};
 ghost use Rattle.std.specs.Str.Parse.{AllDigits, digits_value};
@@ -14,7 +15,7 @@ use super::Numeral;
 use simd_json_parts::charutils::byte_or_space;
 use simd_json_parts::node::StaticNode;
 
-// A literal in front of a terminator or the end. Nineteen bytes fit 64 bits, whatever their sign.
+// A literal before a terminator or the end. At most 19 bytes fit 64 bits, whatever their sign.
 #[inline(always)]
 pub(super) fn integer(literal: &[u8]) -> Numeral
     requires { Matches integer_literal literal.now }
@@ -28,8 +29,8 @@ pub(super) fn integer(literal: &[u8]) -> Numeral
     Numeral::Integer(short_magnitude(&literal[minus as usize..]))
 }
 
-/// Reads the integer at the front of `bytes` whose literal is `len` bytes long: its node, or, where it is out of
-/// range, how many bytes after the first the fault is reported.
+/// Reads the integer at the front of `bytes` whose literal has `len` bytes: returns its node or, if
+/// it is out of range, the offset of the error from the first byte.
 #[cold]
 #[inline(never)]
 pub fn parse_long(bytes: &[u8], len: usize) -> Result<StaticNode, usize>
@@ -40,7 +41,7 @@ pub fn parse_long(bytes: &[u8], len: usize) -> Result<StaticNode, usize>
     long_integer(&bytes[..len])
 }
 
-// A literal in front of a terminator or the end, of any length.
+// A literal of any length before a terminator or the end.
 fn long_integer(literal: &[u8]) -> Result<StaticNode, usize>
     requires { Matches integer_literal literal.now }
     ensures { (b : List ℕ) (i : ℕ) (rest : List ℕ) → drop i b ≡ literal.now ++ rest
@@ -126,7 +127,7 @@ fn wide_magnitude(digits: &[u8]) -> u128
     high as u128 * power as u128 + low as u128
 }
 
-// The value, or the index of the first digit with which it passes 2^128 - 1.
+// The value, or the index of the first digit with which it exceeds 2^128 - 1.
 fn long_magnitude(digits: &[u8]) -> Result<u128, usize>
     requires { AllDigits 10 digits.now }
     ensures { MatchResult result (λ value. value ≡ digits_value 10 digits.now)

@@ -1,4 +1,4 @@
-//! Reads a number at one look at 32 bytes.
+//! Reads a number by one vector of 32 bytes.
 ghost use Rattle.std.specs.Prelude.{◌≡◌, ◌+◌, ◌≤◌, ◌<◌, ◌&&◌, ℕ, List, length, take, drop, map};
 ghost use Rattle.std.specs.Prelude.{if◌then◌else◌, IfSome, true};
 ghost use Rattle.std.specs.Char.{is_ascii_digit};
@@ -18,7 +18,8 @@ use super::plain::{exponent_end, parse_plainly};
 use simd_json_parts::charutils::{byte_or_space, is_structural_or_whitespace};
 use std::simd::prelude::*;
 
-// The number at the front of 32 bytes or more. Where these do not show the whole, it is read byte by byte.
+// The number at the front of 32 bytes or more, read byte by byte if the first 32 do not show the
+// whole.
 #[inline(never)]
 pub(super) fn parse_by_look(bytes: &[u8]) -> Numeral
     requires { 32 ≤ length bytes.now }
@@ -48,7 +49,8 @@ pub(super) fn parse_by_look(bytes: &[u8]) -> Numeral
     parse_exponent(bytes, end)
 }
 
-// The end of the decimal whose point has this index, where the first 32 bytes show it: digits, and a terminator.
+// The end of the decimal whose point has this index, if digits and a terminator are among the first
+// 32 bytes.
 #[inline(always)]
 pub(super) fn fraction_end(bytes: &[u8], point: usize) -> Option<usize>
     requires { (32 ≤ length bytes.now) × (point < 32) }
@@ -63,8 +65,8 @@ pub(super) fn fraction_end(bytes: &[u8], point: usize) -> Option<usize>
     Some(end)
 }
 
-// A number whose integer part, with a fraction or without, ends at `from` and not before a terminator: it has
-// an exponent, or it is refused.
+// A number whose integer part, with or without a fraction, ends at `from`, not before a terminator:
+// it has an exponent, or is invalid.
 #[cold]
 #[inline(never)]
 fn parse_exponent(bytes: &[u8], from: usize) -> Numeral
@@ -80,7 +82,7 @@ fn parse_exponent(bytes: &[u8], from: usize) -> Numeral
     }
 }
 
-// A bit for each of the bytes, whether it is no digit.
+// A bit for each byte, set if it is not a digit.
 #[inline]
 fn non_digits(bytes: u8x32) -> u64
     ensures { result ≡ mask_l (map is_no_digit bytes) }
@@ -90,7 +92,7 @@ fn non_digits(bytes: u8x32) -> u64
         .to_bitmask()
 }
 
-// Where the digits from an index on end, if that is among the first 32 bytes: there is a bit for each.
+// The end of the digits from an index on, if it is among the first 32 bytes.
 #[inline]
 fn run_end(stops: u64, from: usize) -> usize
     requires { from ≤ 32 }

@@ -1,4 +1,4 @@
-//! Reads a number byte by byte: what is left at the end of an input, long numbers and most that are refused.
+//! Reads a number byte by byte: at the end of an input, long numbers and most invalid ones.
 ghost use Rattle.std.specs.Prelude.{◌≡◌, ◌+◌, ◌==◌, ◌≤◌, ℕ, List, length, take, drop, if◌then◌else◌};
 ghost use Rattle.std.specs.Char.{is_ascii_digit};
 ghost use Rattle.std.specs.List.{prefix_len};
@@ -53,7 +53,8 @@ fn digits_end(bytes: &[u8], from: usize) -> usize
     end
 }
 
-// The end of the integer part: `from` itself where there is none. A leading zero is the whole of it.
+// The end of the integer part: `from` itself if there are no digits. A leading zero is the whole of
+// it.
 pub(super) fn int_end(bytes: &[u8], from: usize) -> usize
     requires { from ≤ length bytes.now }
     ensures value { result ≡ (if byte_at bytes.now from == 48 then from + 1
@@ -67,7 +68,8 @@ pub(super) fn int_end(bytes: &[u8], from: usize) -> usize
     }
 }
 
-// The end of the fraction and the exponent, of which each may be left out; `Err` is where one breaks off.
+// The end of the fraction and the exponent, each of which may be absent; `Err` is where one breaks
+// off.
 fn literal_end(bytes: &[u8], from: usize) -> Result<usize, usize>
     requires { from ≤ length bytes.now }
     ensures { let n = longest_prefix (optional frac then optional exp) (drop from bytes.now) in

@@ -10,12 +10,12 @@ use super::Numeral;
 use super::look::{fraction_end, parse_by_look};
 use simd_json_parts::charutils::is_structural_or_whitespace;
 
-/// Reads the number at the front where it is short: an integer of one to eight digits, or a decimal with as many
-/// before its point that ends within 32 bytes. Returns `None` for any other, which [`parse_numeral`] reads, and
-/// where fewer than 32 bytes are left.
+/// Reads a short number at the front: an integer of one to eight digits, or a decimal with as many
+/// before its point that ends within 32 bytes. Returns `None` for any other, which
+/// [`parse_numeral`] reads, and if fewer than 32 bytes are left.
 ///
-/// It is read in the caller's code, without a loop. [`parse_numeral`] is a function apart, marked as rare, so that
-/// LLVM keeps what the caller's loop holds in registers, and saves it at that call alone.
+/// Inlined, and without a loop. [`parse_numeral`] is not inlined and is marked as rare, so that
+/// LLVM keeps the state of the caller's loop in registers, and saves it only at that call.
 ///
 /// [`parse_numeral`]: super::parse_numeral
 #[inline(always)]
@@ -42,8 +42,8 @@ pub fn parse_short(bytes: &[u8]) -> Option<Numeral>
     Some(Numeral::Integer(value_of_digits(word, len)))
 }
 
-// The number at the front, where a look at eight bytes does not show the whole. Two words show an integer of
-// nine to sixteen digits: the second is read again from where its last eight digits begin.
+// The number at the front, if eight bytes do not show the whole. Two words show an integer of nine
+// to sixteen digits: the second is read again from where its last eight digits begin.
 #[inline]
 pub(super) fn parse_longer(bytes: &[u8]) -> Numeral
     requires { 32 ≤ length bytes.now }
@@ -67,9 +67,10 @@ pub(super) fn parse_longer(bytes: &[u8]) -> Numeral
     Numeral::Integer(value_of_digits(first, more) * 100_000_000 + low)
 }
 
-// The number at the front, where a look at sixteen bytes does not show the whole. Three words show an integer
-// of 17 digits or more whose literal has 19 bytes at most, so that 64 bits hold it: the last two are read again
-// from where its last sixteen digits begin. It is a function apart, since its registers would slow parse_longer.
+// The number at the front, if sixteen bytes do not show the whole. Three words show an integer of
+// 17 digits or more whose literal has at most 19 bytes, so that it fits 64 bits: the last two are
+// read again from where its last sixteen digits begin. Not inlined: its registers would slow
+// `parse_longer`.
 #[inline(never)]
 fn parse_longest(bytes: &[u8]) -> Numeral
     requires { 32 ≤ length bytes.now }
@@ -95,7 +96,8 @@ fn parse_longest(bytes: &[u8]) -> Numeral
     Numeral::Integer((high * 100_000_000 + middle) * 100_000_000 + low)
 }
 
-// The eight bytes from an index on, the first lowest. A digit becomes its value, another byte 10 or more.
+// The eight bytes from an index on, the first lowest. A digit becomes its value, any other byte 10
+// or more.
 #[inline(always)]
 pub(super) fn digit_word(bytes: &[u8], at: usize) -> u64
     requires { at + 8 ≤ length bytes.now }
@@ -114,8 +116,8 @@ pub(super) fn digit_word(bytes: &[u8], at: usize) -> u64
     ]) ^ 0x3030_3030_3030_3030
 }
 
-// How many of the eight are digits, up to the first that is none. No digit carries into the byte after it, so
-// the lowest bit is that of the first byte of 10 or more.
+// The number of digits before the first other byte, or eight. No digit carries into the byte after
+// it, so the lowest bit is that of the first byte of 10 or more.
 #[inline(always)]
 pub(super) fn digits_len(word: u64) -> usize
     ensures most { result ≤ 8 }
@@ -125,9 +127,9 @@ pub(super) fn digits_len(word: u64) -> usize
     stops.trailing_zeros() as usize / 8
 }
 
-// The number that the first `len` of the eight spell. They are moved up behind zeros and joined to pairs, and
-// two multiplications add the pairs, each times its power of 100, in the upper half, as in simdjson after J. Lee,
-// "Fast numeric string to int".
+// The number that the first `len` of the eight spell. They are moved up behind zeros and joined to
+// pairs; two multiplications add the pairs, each times its power of 100, in the upper half, as in
+// simdjson after J. Lee, "Fast numeric string to int".
 #[inline(always)]
 pub(super) fn value_of_digits(word: u64, len: usize) -> u64
     requires some { 0 < len }

@@ -98,7 +98,7 @@ fn numbers_are_read(rt: HostRuntime) {
     assert!(rt; matches!(parse_number(b"-0"), Number::Integer(StaticNode::I64(0), 2)));
 }
 
-// Of so many digits that no integer has them.
+// Of more digits than an integer has.
 #[test]
 fn long_numbers_are_refused(rt: HostRuntime) {
     let mut digits = [b'9'; 10_001];
@@ -140,7 +140,7 @@ fn ten_bytes_are_digits(rt: HostRuntime) {
     }
 }
 
-// Whether one look at 32 bytes reads what is read byte by byte, where so many bytes follow.
+// Whether one look at 32 bytes reads what is read byte by byte, where this many bytes follow.
 fn agrees(
     rt: &HostRuntime,
     number: &[u8],
@@ -200,8 +200,8 @@ fn numbers_of_every_length_are_read_at_one_look(rt: HostRuntime) -> std::result:
     Ok(())
 }
 
-// What digits are read as, by the grammar, after a minus or none and before a byte or the end: no digit, no
-// point and no mark of an exponent follows.
+// What digits are read as, by the grammar, after a minus or none and before a byte or the end: no
+// digit, no point and no mark of an exponent follows.
 fn numeral_of(digits: &[u8], minus: usize, next: Option<&u8>) -> Numeral {
     let len = minus.wrapping_add(digits.len());
     let mut magnitude = 0u64;

@@ -9,7 +9,7 @@ ghost use Rattle.simd_json_scalars.specs.StringDecoded.{IsOpen, IsDecoded};
 use super::Ends;
 use simd_json_parts::charutils::{codepoint_to_utf8, hex_to_u32_nocheck};
 
-// The escape at the backslash up to which the bytes are read.
+// Decodes the escape at the backslash where reading has arrived.
 pub(super) fn unescape_one(unread: &mut [u8], ends: Ends) -> Option<Ends>
     requires goes_on { IsOpen unread.old ends.read }
     requires backslash { byte_at unread.old ends.read ≡ backslash }
@@ -26,8 +26,8 @@ pub(super) fn unescape_one(unread: &mut [u8], ends: Ends) -> Option<Ends>
     Some(Ends { read, written })
 }
 
-// The character of the escape at the front, and how many bytes of it follow the backslash. The table is asked
-// first, since most escapes are of one letter.
+// The character of the escape at the front, and how many of its bytes follow the backslash. The
+// table comes first, since most escapes have one letter.
 fn escape(bytes: &[u8]) -> Option<(char, usize)>
     requires { 2 ≤ length bytes.now }
     ensures value { MatchOption result (escape_at bytes.now ≡ None)
@@ -44,8 +44,8 @@ fn escape(bytes: &[u8]) -> Option<(char, usize)>
     None
 }
 
-// The character of each letter after a backslash, or 0; backspace is 8, and form feed 12. A look-up costs
-// less than the indirect jump of a `match`.
+// The character of each letter after a backslash, or 0; backspace is 8, form feed 12. A look-up
+// costs less than the indirect jump of a `match`.
 const ESCAPED: [u8; 256] = [
     0, 0, 0, 0, 0, 0, 0, 0, 0, 0, 0, 0, 0, 0, 0, 0, 0, 0, 0, 0, 0, 0, 0, 0, 0, 0, 0, 0, 0, 0, 0, 0,
     0, 0, b'"', 0, 0, 0, 0, 0, 0, 0, 0, 0, 0, 0, 0, b'/', 0, 0, 0, 0, 0, 0, 0, 0, 0, 0, 0, 0, 0, 0,
@@ -58,7 +58,7 @@ const ESCAPED: [u8; 256] = [
     0, 0, 0, 0, 0, 0, 0, 0, 0, 0,
 ];
 
-// A code unit, or two that are a high and a low surrogate.
+// A code unit, or a high and a low surrogate.
 fn unicode_escape(bytes: &[u8]) -> Option<(char, usize)>
     ensures value { let piece =
         unicode_piece (code_unit_at bytes.now) (code_unit_at (drop 6 bytes.now)) in
@@ -78,7 +78,7 @@ fn unicode_escape(bytes: &[u8]) -> Option<(char, usize)>
     Some((character, 11))
 }
 
-// The number of a `\u` escape at the front.
+// The code unit of a `\u` escape at the front.
 fn code_unit(bytes: &[u8]) -> Option<u32>
     ensures value { result ≡ code_unit_at bytes.now }
     ensures bounds { IfSome result (λ u. (u < 65536) × (6 ≤ length bytes.now)) }

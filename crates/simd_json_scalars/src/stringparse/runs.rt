@@ -1,4 +1,4 @@
-//! Runs of bytes between escapes: where they end, and how they are moved down.
+//! Runs of bytes between escapes: finds their ends, and moves them down.
 ghost use Rattle.std.specs.Prelude.{◌≡◌, ◌≤◌, ◌<◌, ◌+◌, ◌-◌, ◌++◌, length, take, drop, map};
 ghost use Rattle.std.specs.List.{prefix_len, copy_within};
 ghost use Rattle.std.specs.Simd.Lanes.{mask_l};
@@ -7,7 +7,7 @@ ghost use Rattle.simd_json_scalars.specs.StringContent.{content, is_plain, is_st
 use super::Ends;
 use std::simd::prelude::*;
 
-// The bytes up to the next quote or backslash, moved down while it is looked for, 32 bytes at a time.
+// Moves the bytes up to the next quote or backslash down, 32 at a time, while it is looked for.
 #[inline]
 pub(super) fn move_plain(bytes: &mut [u8], from: usize, to: usize) -> Ends
     requires inside { from + length (content (drop from bytes.old)) < length bytes.old }
@@ -42,8 +42,8 @@ pub(super) fn move_plain(bytes: &mut [u8], from: usize, to: usize) -> Ends
     }
 }
 
-// Moves at most 32 bytes, from `from` to `end`, down to an index: from 8 on as the first 8 and the last 8,
-// from 16 on as the first 16 and the last 16.
+// Moves at most 32 bytes, from `from` to `end`, down to an index: 16 or more as the first 16 and
+// the last 16, 8 or more as the first 8 and the last 8.
 #[inline]
 fn move_few(bytes: &mut [u8], from: usize, end: usize, to: usize)
     requires { (to ≤ from) × (from ≤ end) × (end ≤ length bytes.old) × (end ≤ from + 32) }
@@ -83,7 +83,7 @@ pub(super) fn plain_end(bytes: &[u8], from: usize) -> usize
     plain_end_slowly(bytes, end)
 }
 
-// A bit for each of the bytes, whether it is a quote or a backslash.
+// A bit for each byte, set if it is a quote or a backslash.
 #[inline]
 fn stops(bytes: u8x32) -> u64
     ensures { result ≡ mask_l (map is_stop bytes) }

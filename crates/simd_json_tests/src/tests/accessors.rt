@@ -26,8 +26,8 @@ const EXPECTED: [ValueType; 11] = [
 
 const NONE: Each = [None; 11];
 
-// The number as the widest one with a sign. Here and below a call takes the place of `map` with a function, since
-// it is proved in less time.
+// The number as the widest one with a sign. Here and below a call takes the place of `map` with a
+// function, since it is proved in less time.
 fn widened<T: Drop>(number: Option<T>) -> Option<i128>
 where
     i128: From<T>,
@@ -166,7 +166,8 @@ fn eq_each(value: &Value<'_, '_>, number: i128) -> [bool; 11] {
     ]
 }
 
-// What each integer accessor answers of the value with the key `k` of a document, which is of the kind `got`.
+// What each integer accessor answers of the value with the key `k` of a document, which is of the
+// kind `got`.
 fn assert_each(
     rt: &(impl AllocGlobal + Abort),
     document: &Value<'_, '_>,
@@ -191,7 +192,7 @@ fn assert_each(
     }
 }
 
-// Where the key is missing, and where there is no object.
+// Where the key is missing, and where the value is not an object.
 fn assert_missing(rt: &impl Abort, document: &Value<'_, '_>, member: &Value<'_, '_>) {
     assert_same!(rt; get_each(document, "missing"), NONE);
     assert_same!(rt; try_get_each(document, "missing"), [Ok(None); 11]);
@@ -225,7 +226,8 @@ fn from_bits(with_sign: u32, without: u32, number: i128) -> Each {
     ]
 }
 
-// A document, its number, and the bits that it takes with a sign and without; 256 where none suffice.
+// A document, its number, and the bits that it takes with a sign and without; 256 where none
+// suffice.
 type Integer = (&'static [u8], i128, u32, u32);
 
 const INTEGERS: [Integer; 21] = [

@@ -4,7 +4,7 @@ use simd_json::tape::Value;
 use simd_json::to_tape;
 use std::process::Abort;
 
-// What is at most so many levels beneath a value.
+// The values at most a number of levels beneath a value.
 const AT_MOST_1: [&str; 3] = [
     "{\"a\":[1,{\"b\":[]},\"x\"],\"c\":null}",
     "[1,{\"b\":[]},\"x\"]",

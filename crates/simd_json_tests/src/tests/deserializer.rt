@@ -58,7 +58,7 @@ fn tapes_are_handed_on(rt: HostRuntime) -> Tested {
     Ok(())
 }
 
-// An input, what is printed of its refusal, and the class of that: io, eof, syntax or data.
+// An input, the printed text of its error, and the class of that: io, eof, syntax or data.
 type Refused = (&'static [u8], &'static str, [bool; 4]);
 
 const REFUSED: [Refused; 6] = [
@@ -109,7 +109,7 @@ fn refusals_are_printed_and_classed(rt: HostRuntime) -> Tested {
     Ok(())
 }
 
-// Limit and positions are those of the buffers.
+// Limit and structural indexes are those of the buffers.
 #[test]
 fn buffers_are_used_again(rt: HostRuntime) -> Tested {
     let deep = Error::new(1, Some('['), ErrorType::DepthLimitExceeded);

@@ -1,4 +1,4 @@
-// Growths that are refused, each in turn.
+// Growths that fail, each in turn.
 use crate::tests::memory::{MEMORY, ballast};
 use linked_list_allocator::LocalHeap;
 use simd_json::{
@@ -45,7 +45,8 @@ fn reserve_both(heap: &LocalHeap) -> Result<usize> {
     Ok(tape.nodes().len().saturating_add(12))
 }
 
-// A call that takes memory of the heap, by its number; how many nodes it leaves, 13 where it leaves none.
+// A call that takes memory of the heap, by its number; how many nodes it leaves, 13 where it leaves
+// none.
 fn call(number: u32, heap: &LocalHeap, input: &mut [u8]) -> Result<usize> {
     match number {
         0 => parse_fresh(heap, input),
@@ -59,8 +60,8 @@ fn call(number: u32, heap: &LocalHeap, input: &mut [u8]) -> Result<usize> {
     }
 }
 
-// Whether the call is refused a growth with so many bytes left. If so, it returns `OutOfMemory`; with memory
-// the same call returns what it usually does.
+// Whether a growth of the call fails with this many bytes left. If so, it returns `OutOfMemory`;
+// with memory the same call returns what it usually does.
 fn is_call_refused(
     rt: &(impl AllocGlobal + Abort),
     number: u32,
@@ -78,7 +79,7 @@ fn is_call_refused(
     is_out_of_memory(rt, number, answer, 13)
 }
 
-// Whether a call was refused memory; otherwise it returned so many nodes.
+// Whether an allocation of a call failed; otherwise it returned this many nodes.
 fn is_out_of_memory(rt: &impl Abort, number: u32, answer: Result<usize>, nodes: usize) -> bool {
     let is_refused = answer.is_err();
     let wanted = if is_refused {
@@ -90,7 +91,8 @@ fn is_out_of_memory(rt: &impl Abort, number: u32, answer: Result<usize>, nodes: 
     is_refused
 }
 
-// Each heap leaves more free memory than the one before it, so that another growth is refused, and then none.
+// Each heap leaves more free memory than the one before it, so that another growth fails, and then
+// none.
 fn refuses_growths(rt: &(impl AllocGlobal + Abort), input: &[u8]) {
     for number in 0..8 {
         let mut refused = 0u32;
@@ -149,8 +151,9 @@ fn padded(rt: &(impl AllocGlobal + Abort), input: &[u8]) -> Vec<u8> {
     text
 }
 
-// A parse after another one, with so many bytes left in the heap; whether a growth was refused. Where one
-// was, nothing is listed, and the tape is empty. The same buffers and tape serve once there is memory.
+// A parse after another one, with this many bytes left in the heap; whether a growth failed. Where
+// one did, nothing is listed, and the tape is empty. The same buffers and tape serve once there is
+// memory.
 fn is_refused(rt: &(impl AllocGlobal + Abort), form: u32, left: usize) -> bool {
     let (mut first, mut second) = (padded(rt, b"[\"\\n\"]"), padded(rt, LARGER));
     let mut third = padded(rt, LARGER);

@@ -12,7 +12,7 @@ pub(super) const MEMORY: &str = "there is memory";
 
 type Ballast<'h> = Vec<Vec<u8, &'h LocalHeap>>;
 
-// Takes what is free in the heap, but for so many bytes in one piece.
+// Takes all free memory of the heap but this many bytes in one block.
 pub(super) fn ballast<'h>(
     rt: &(impl AllocGlobal + Abort),
     heap: &'h LocalHeap,
@@ -58,7 +58,7 @@ fn assert_refused(rt: &impl Abort, answer: &Result<()>, nodes: usize, positions:
     assert_same!(rt; positions.len(), 18);
 }
 
-// With capacity for their bytes, documents and refusals alternate while every growth is refused.
+// With capacity for their bytes, documents and rejected inputs alternate while every growth fails.
 #[test]
 fn reserved_parses_take_no_memory(rt: HostRuntime) {
     let mut pieces = alternating(&rt);
@@ -84,7 +84,7 @@ fn reserved_parses_take_no_memory(rt: HostRuntime) {
     assert_same!(&rt; documents, 50);
 }
 
-// Of 10 nodes, of 9, and two that are refused.
+// Of 10 nodes, of 9, and two that are rejected.
 const LINES: &[u8] = b"{\"level\":\"info\",\"text\":\"\\u0041\\n\",\"n\":[1,-2,3.5]}\n\
     [[[[[[[[[]]]]]]]]]\n[1,]\n\"\n";
 
@@ -121,8 +121,8 @@ fn a_log_takes_no_memory(rt: HostRuntime) {
     assert_same!(&rt; heap.used(), used);
 }
 
-// Reads each line into one buffer, and parses it over one tape; how many nodes the lines have, and how many of
-// them are refused.
+// Reads each line into one buffer, and parses it over one tape; how many nodes the lines have, and
+// how many of them are rejected.
 fn count<R: BufRead, A: Allocator, B: Allocator, C: Allocator>(
     reader: &mut R,
     line: &mut Vec<u8, A>,
@@ -166,8 +166,8 @@ fn a_stream_takes_no_memory(rt: HostRuntime) {
     assert_same!(&rt; (heap.used(), heap.free()), (used, 0));
 }
 
-// A tape is filled again for an input of another lifetime. What it listed is gone, after an error too, and a
-// growth that is refused leaves its capacity.
+// A tape is filled again for an input of another lifetime. What it listed is gone, after an error
+// too, and a growth that fails leaves its capacity.
 #[test]
 fn a_tape_is_refilled(rt: HostRuntime) {
     let heap = LocalHeap::new(rt.alloc(), 1 << 16).expect(&rt, MEMORY);
@@ -193,7 +193,7 @@ fn a_tape_is_refilled(rt: HostRuntime) {
     assert_capacity_stays(&rt, &heap, &mut buffers, tape)
 }
 
-// A growth that is refused leaves the capacity of three nodes.
+// A growth that fails leaves the capacity of three nodes.
 fn assert_capacity_stays(
     rt: &(impl AllocGlobal + Abort),
     heap: &LocalHeap,
@@ -238,7 +238,7 @@ fn assert_no_memory(rt: &impl Abort, answer: Result<()>) {
     assert_same!(rt; answer, Err(Error::generic(ErrorType::OutOfMemory)));
 }
 
-// A reservation that is refused changes nothing that is listed.
+// A reservation that fails changes nothing that is listed.
 #[test]
 fn reservations_are_refused(rt: HostRuntime) {
     let mut input = *b"[1,2]";
@@ -260,8 +260,8 @@ fn reservations_are_refused(rt: HostRuntime) {
     assert_same!(&rt; tape.nodes().len(), 3);
 }
 
-// Buffers know the depth limit, so a reservation of both takes fewer nodes than one of the tape for as many
-// bytes: half as many, and half as many as containers may be open.
+// Buffers know the depth limit, so a reservation of both takes fewer nodes than one of the tape for
+// as many bytes: half as many, and half as many as containers may be open.
 #[test]
 fn both_are_reserved_by_the_depth_limit(rt: HostRuntime) {
     let heap = LocalHeap::new(rt.alloc(), 1 << 16).expect(&rt, MEMORY);
@@ -277,7 +277,7 @@ fn both_are_reserved_by_the_depth_limit(rt: HostRuntime) {
     assert_no_memory(&rt, tape.reserve(1500));
 }
 
-// A refusal for size, padding or encoding comes also where no memory is left.
+// An error of size, padding or encoding is returned also where no memory is left.
 #[test]
 fn encoding_is_told_without_memory(rt: HostRuntime) {
     let mut input = *b"[\xff]";

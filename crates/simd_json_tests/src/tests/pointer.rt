@@ -1,4 +1,5 @@
-// JSON Pointers (RFC 6901) that are split, and recipes; worked ones are in tests/vectors/pointers.txt.
+// JSON Pointers (RFC 6901) that are split, and recipes; worked ones are in
+// tests/vectors/pointers.txt.
 use crate::tests::tape_of;
 use simd_json::{Pointer, PointerError, PointerExpected, ValueType};
 use std::slice;
@@ -130,7 +131,8 @@ mod floats {
     use simd_json::tape::Value;
     use std::num::{nearest_i64_to_f64, nearest_u64_to_f64};
 
-    // A decimal, or an integer of at most 64 bits, as the nearest float. None past the greatest float, as for `1e309`.
+    // A decimal, or an integer of at most 64 bits, as the nearest float. None past the greatest
+    // float, as for `1e309`.
     pub(super) fn float(value: &Value<'_, '_>) -> Option<f64> {
         if let Some(literal) = value.as_decimal() {
             let number: f64 = fast_float::parse(literal).ok()?;

@@ -27,8 +27,8 @@ fn text_of<'h>(
 
 const HEAP: usize = 8192;
 
-// Whether an allocation of the text fails where others left so many bytes of a heap, or somewhat less. Once these gave
-// back what they had, the call succeeds over the same heap.
+// Whether an allocation of the text fails where others left so many bytes of a heap, or somewhat
+// less. Once these gave back what they had, the call succeeds over the same heap.
 fn fails_within(
     rt: &(impl AllocGlobal + Abort),
     value: &Value<'_, '_>,

@@ -8,13 +8,14 @@ const ODD: &[u8] =
     b"\"\\\\\\\\\\\\\\\\\\\\\\\\\\\\\\\\\\\\\\\\\\\\\\\\\\\\\\\\\\\\\\\\\\\\\\\\\\\\\\\\\
     \\\\\\\\\\\\\\\\\\\\\\\\\\\\\\\\\\\\\\\\\\\\\\\\\\\"";
 
-// Inputs that leave buffers and a tape in different states; what each is parsed as is in tests/vectors/depth.txt.
+// Inputs that leave buffers and a tape in different states; what each is parsed as is in
+// tests/vectors/depth.txt.
 const INPUTS: [&[u8]; 10] = [
     b"[[1]]", b"[[[1]]]", b"[\"", b"[1,2]", b"[", b"", b"[\xff]", b"\\\"", b"\\\"\"", ODD,
 ];
 
-// What buffers and tape held does not matter: after each of them, each has the error, the nodes and the structural
-// indexes that it has over new ones.
+// What buffers and tape held does not matter: after each of them, each has the error, the nodes and
+// the structural indexes that it has over new ones.
 #[test]
 fn what_was_parsed_before_does_not_matter(rt: HostRuntime) -> Tested {
     let mut used = Buffers::with_max_depth(rt.alloc(), 0, 2)?;

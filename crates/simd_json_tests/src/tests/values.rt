@@ -6,8 +6,8 @@ use simd_json::{
 };
 use std::process::Abort;
 
-// An integer that is written without `-`, of a value that is there. Here and below a call takes the place of
-// `and_then` with a function, since it is proved in less time.
+// An integer that is written without `-`, of a value that is there. Here and below a call takes the
+// place of `and_then` with a function, since it is proved in less time.
 fn number(value: Option<Value<'_, '_>>) -> Option<u64> {
     match value {
         Some(value) => value.as_u64(),

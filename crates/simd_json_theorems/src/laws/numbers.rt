@@ -16,7 +16,7 @@ pub fn patterns_are_sets()
     ensures { (p : Pattern) (bs : List ℕ) → (matches p bs ≡ true) ↔ Matches p bs }
 {}
 
-/// The longest prefix is one that goes on to a list of the set, and no longer prefix does.
+/// The longest prefix begins a list of the set, and no longer prefix does.
 pub fn longest_prefixes()
     ensures begins { (p : Pattern) (bs : List ℕ) → is_possible p ≡ true
         → Begins p (take (longest_prefix p bs) bs) }

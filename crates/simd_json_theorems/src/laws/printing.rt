@@ -9,9 +9,9 @@ ghost use Rattle.simd_json_parts.specs.Limits.{depth, max_length, IntegersFit};
 ghost use Rattle.simd_json_parts.specs.Printed.{compact, pretty};
 ghost use Rattle.simd_json_theorems.specs.Spellable.{IsSpellable};
 
-/// A printed text denotes the document that is printed, with no sign on a zero: a document that is equal to
-/// it, and nests as deep. So it is for each document whose decimals are literals, whose strings and names are
-/// UTF-8, and whose integers are in the ranges of their signs.
+/// A printed text denotes the document that is printed, with no sign on a zero: a document that is
+/// equal to it, and nests as deep. So it is for each document whose decimals are literals, whose
+/// strings and keys are UTF-8, and whose integers are in the ranges of their signs.
 pub fn printed_texts_denote_their_documents()
     ensures compact { (d : Document) → IsSpellable d → IntegersFit d → Denotes (compact d) (normalized d) }
     ensures pretty { (d : Document) → IsSpellable d → IntegersFit d → Denotes (pretty d) (normalized d) }
@@ -53,8 +53,8 @@ pub fn compact_texts_are_shortest()
     ensures { (b : List ℕ) (d : Document) → Denotes b d → IntegersFit d → length (compact d) ≤ length b }
 {}
 
-/// So a document that is accepted can be printed and read again within the same limits: compactly always, and pretty
-/// where that text is not too long.
+/// So a document that is accepted can be printed and read again within the same limits: compactly
+/// always, and pretty where that text is not too long.
 pub fn answers_are_printed_and_read_again()
     ensures compact { (b : List ℕ) (limit : ℕ) (d : Document) → answer b limit ≡ Ok d
         → answer (compact d) limit ≡ Ok (normalized d) }

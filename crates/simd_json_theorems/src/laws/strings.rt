@@ -14,16 +14,17 @@ pub fn pieces_spell_one_string()
         → encode_utf8_all cs ≡ encode_utf8_all ds }
 {}
 
-/// A string literal of the grammar at an index is read as its string, up to its closing quote, whatever is
-/// before and after it.
+/// A string literal of the grammar at an index is read as its string, up to its closing quote,
+/// whatever is before and after it.
 pub fn strings_are_read()
     ensures { (b : List ℕ) (i : ℕ) (content rest cs : List ℕ)
         → drop i b ≡ quote ∷ (content ++ quote ∷ rest) → ArePieces content cs
         → string_at b i ≡ Ok (encode_utf8_all cs, suc (suc i + length content)) }
 {}
 
-/// Of the content of a string, which is UTF-8 without a control byte and without a quote that would end it, a
-/// prefix is read that is pieces, as the string of their characters, and no longer prefix is pieces.
+/// Of the content of a string, which is UTF-8 without a control byte and without a quote that would
+/// end it, a prefix is read that is pieces, as the string of their characters, and no longer prefix
+/// is pieces.
 pub fn longest_pieces()
     ensures pieces { (bs : List ℕ) → IsUtf8 bs → ((i : ℕ) → i < length bs → 32 ≤ byte_at bs i)
         → ((i : ℕ) → i < length bs → IsFalse (is_real_quote bs i))
@@ -33,8 +34,8 @@ pub fn longest_pieces()
         → n + length (read_pieces 0 bs).1 ≤ length bs }
 {}
 
-/// A string is determined by the bytes from its opening quote on, which are UTF-8 if all are: what is
-/// before does not matter.
+/// A string is determined by the bytes from its opening quote on, which are UTF-8 if all are: what
+/// is before does not matter.
 pub fn strings_stand_by_themselves()
     ensures string { (b : List ℕ) (i : ℕ) → byte_at b i ≡ quote
         → string_at b i ≡ further i (string_at (drop i b) 0) }

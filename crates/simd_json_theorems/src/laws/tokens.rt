@@ -16,23 +16,24 @@ pub fn positions_rise()
         ↔ ((i < length b) × IsTrue (is_position b i)) }
 {}
 
-/// Where some byte is inside a string, and so where some string is bad, there is a position. So an input
-/// without positions has no bad string, and it does not matter which of these two faults is looked for first.
+/// Where some byte is inside a string, and so where some string is bad, there is a position. So an
+/// input without positions has no bad string, and it does not matter which of these two errors is
+/// looked for first.
 pub fn strings_have_positions()
     ensures inside { (b : List ℕ) (i : ℕ) → i < length b → IsTrue (is_inside b i)
         → positions b ≢ [] }
     ensures bad { (b : List ℕ) → IsTrue (has_bad_string b) → positions b ≢ [] }
 {}
 
-/// Tokens are at positions: the tokens that the descent reads, up to the first that has a fault or is
-/// stray, are those at the positions, one after another. So what lies between positions hides no token and no
-/// fault.
+/// Tokens are at positions: the tokens that the descent reads, up to the first that has an error or
+/// is stray, are those at the positions, one after another. So what lies between positions hides no
+/// token and no error.
 pub fn tokens_stand_at_positions()
     ensures { (b : List ℕ) → tokens b ≡ tokens_along b (positions b) }
 {}
 
-/// The first byte of each token that the descent reads is a position, no other byte of it is one, and between
-/// its end and the next position there is only whitespace.
+/// The first byte of each token that the descent reads is a position, no other byte of it is one,
+/// and between its end and the next position there is only whitespace.
 pub fn only_whitespace_stands_between_tokens()
     ensures first { (b : List ℕ) (t : Token) → Contains (tokens b) t
         → Contains (positions b) t.index }
@@ -44,8 +45,8 @@ pub fn only_whitespace_stands_between_tokens()
         → IsTrue (is_whitespace (byte_at b k)) }
 {}
 
-/// So a string that is closed ends at the byte before the next position, or before the end of the input,
-/// where that byte is a quote: its closing quote is known without reading it.
+/// So a string that is closed ends at the byte before the next position, or before the end of the
+/// input, where that byte is a quote: its closing quote is known without reading it.
 pub fn strings_end_before_the_next_position()
     ensures { (b : List ℕ) (t : Token) (next : ℕ) → Contains (tokens b) t
         → byte_at b t.index ≡ quote → closing_quote b t.index < length b
@@ -54,8 +55,8 @@ pub fn strings_end_before_the_next_position()
         → byte_at b (next - 1) ≡ quote → closing_quote b t.index + 1 ≡ next }
 {}
 
-/// At each position the descent reads a token, unless it has stopped at a token before, which has a fault or
-/// is stray.
+/// At each position the descent reads a token, unless it has stopped at a token before, which has
+/// an error or is stray.
 pub fn positions_without_a_token_lie_after_a_fault()
     ensures { (b : List ℕ) (i : ℕ) → Contains (positions b) i
         → ((t : Token) × Contains (tokens b) t × (t.index ≡ i))

@@ -1,4 +1,4 @@
-//! Strings, arrays and objects: the forms of the accessors that hand out views, and look-up with errors.
+//! Accessors of strings, arrays and objects, and look-up with errors.
 use crate::value::tape::{Array, Object, Value};
 use simd_json_parts::node::{TryTypeError, ValueType};
 
@@ -24,23 +24,24 @@ impl<'tape, 'input> Value<'tape, 'input> {
         self.try_as_str()
     }
 
-    /// The array that the value is, or an error that expects `Array`.
+    /// The value as an array, or an error that expects `Array`.
     pub fn try_as_array(&self) -> Result<Array<'tape, 'input>, TryTypeError>
         ensures { ok_map items result ≡ try_as_t accessors.array (doc self.now) }
     {
         self.or_refusal(self.as_array(), ValueType::Array)
     }
 
-    /// The object that the value is, or an error that expects `Object`.
+    /// The value as an object, or an error that expects `Object`.
     pub fn try_as_object(&self) -> Result<Object<'tape, 'input>, TryTypeError>
         ensures { ok_map entries result ≡ try_as_t accessors.object (doc self.now) }
     {
         self.or_refusal(self.as_object(), ValueType::Object)
     }
 
-    /// The first value with the key, or `None` where there is none.
+    /// The first value with the key, or `None` where the key is missing. Linear time, as
+    /// [`get`](Value::get).
     ///
-    /// Returns an error that expects `Object` where the value is no object.
+    /// Returns an error that expects `Object` where the value is not an object.
     pub fn try_get(&self, k: &str) -> Result<Option<Value<'tape, 'input>>, TryTypeError>
         ensures { ok_map (option_map doc) result ≡ views.try_get k.now (doc self.now) }
     {
@@ -48,9 +49,10 @@ impl<'tape, 'input> Value<'tape, 'input> {
         Ok(self.get(k))
     }
 
-    /// The value with that index, or `None` where there are not so many.
+    /// The value at an index, or `None` where it is past the end. Linear time, as
+    /// [`get_idx`](Value::get_idx).
     ///
-    /// Returns an error that expects `Array` where the value is no array.
+    /// Returns an error that expects `Array` where the value is not an array.
     pub fn try_get_idx(&self, i: usize) -> Result<Option<Value<'tape, 'input>>, TryTypeError>
         ensures { ok_map (option_map doc) result ≡ views.try_get_idx i (doc self.now) }
     {
@@ -58,24 +60,26 @@ impl<'tape, 'input> Value<'tape, 'input> {
         Ok(self.get_idx(i))
     }
 
-    /// The array at the key: of the first value with it, or `None` where that is no array.
+    /// The first value with the key as an array, or `None` where it is not one, the key is missing
+    /// or the value is not an object.
     pub fn get_array(&self, k: &str) -> Option<Array<'tape, 'input>>
         ensures { option_map items result ≡ get_t accessors.array k.now (doc self.now) }
     {
         self.get(k)?.as_array()
     }
 
-    /// The object at the key: of the first value with it, or `None` where that is no object.
+    /// The first value with the key as an object, or `None` where it is not one, the key is missing
+    /// or the value is not an object.
     pub fn get_object(&self, k: &str) -> Option<Object<'tape, 'input>>
         ensures { option_map entries result ≡ get_t accessors.object k.now (doc self.now) }
     {
         self.get(k)?.as_object()
     }
 
-    /// The array at the key, or `None` where the key is missing.
+    /// The first value with the key as an array, or `None` where the key is missing.
     ///
-    /// Returns an error that expects `Object` where the value is no object, and one that expects `Array`
-    /// where the first value with the key is no array.
+    /// Returns an error that expects `Object` where the value is not an object, and one that
+    /// expects `Array` where the first value with the key is not an array.
     pub fn try_get_array(&self, k: &str) -> Result<Option<Array<'tape, 'input>>, TryTypeError>
         ensures { ok_map (option_map items) result ≡ try_get_t accessors.array k.now (doc self.now) }
     {
@@ -84,10 +88,10 @@ impl<'tape, 'input> Value<'tape, 'input> {
             .transpose()
     }
 
-    /// The object at the key, or `None` where the key is missing.
+    /// The first value with the key as an object, or `None` where the key is missing.
     ///
-    /// Returns an error that expects `Object` where the value is no object, or where the first value with the
-    /// key is none.
+    /// Returns an error that expects `Object` where the value or the first value with the key is
+    /// not an object.
     pub fn try_get_object(&self, k: &str) -> Result<Option<Object<'tape, 'input>>, TryTypeError>
         ensures { ok_map (option_map entries) result ≡ try_get_t accessors.object k.now (doc self.now) }
     {

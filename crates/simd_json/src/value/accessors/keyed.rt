@@ -1,5 +1,5 @@
-//! `get_T`: the first value with a key, as a `T`. It is `None` where the value is no object, where the key is
-//! missing, and where that first value is no `T`.
+//! `get_T`: the first value with a key, as a `T`. `None` where the value is not an object, where
+//! the key is missing, and where that first value is not a `T`.
 use crate::value::tape::Value;
 
 impl<'tape, 'input> Value<'tape, 'input> {
@@ -8,98 +8,98 @@ impl<'tape, 'input> Value<'tape, 'input> {
     ghost use Rattle.simd_json_parts.specs.Accessors as accessors;
     ghost use Rattle.simd_json_parts.specs.Accessors.{get_t};
 
-    /// The truth value at the key.
+    /// The truth value at the key, or `None`.
     pub fn get_bool(&self, k: &str) -> Option<bool>
         ensures { result ≡ get_t accessors.bool k.now (doc self.now) }
     {
         self.get(k)?.as_bool()
     }
 
-    /// The integer at the key, where it fits `i8`.
+    /// The integer at the key, if it fits `i8`, else `None`.
     pub fn get_i8(&self, k: &str) -> Option<i8>
         ensures { result ≡ get_t accessors.i8 k.now (doc self.now) }
     {
         self.get(k)?.as_i8()
     }
 
-    /// The integer at the key, where it fits `i16`.
+    /// The integer at the key, if it fits `i16`, else `None`.
     pub fn get_i16(&self, k: &str) -> Option<i16>
         ensures { result ≡ get_t accessors.i16 k.now (doc self.now) }
     {
         self.get(k)?.as_i16()
     }
 
-    /// The integer at the key, where it fits `i32`.
+    /// The integer at the key, if it fits `i32`, else `None`.
     pub fn get_i32(&self, k: &str) -> Option<i32>
         ensures { result ≡ get_t accessors.i32 k.now (doc self.now) }
     {
         self.get(k)?.as_i32()
     }
 
-    /// The integer at the key, where it fits `i64`.
+    /// The integer at the key, if it fits `i64`, else `None`.
     pub fn get_i64(&self, k: &str) -> Option<i64>
         ensures { result ≡ get_t accessors.i64 k.now (doc self.now) }
     {
         self.get(k)?.as_i64()
     }
 
-    /// The integer at the key, where it fits `i128`.
+    /// The integer at the key, if it fits `i128`, else `None`.
     pub fn get_i128(&self, k: &str) -> Option<i128>
         ensures { result ≡ get_t accessors.i128 k.now (doc self.now) }
     {
         self.get(k)?.as_i128()
     }
 
-    /// The integer at the key, where it fits `u8`.
+    /// The integer at the key, if it fits `u8`, else `None`.
     pub fn get_u8(&self, k: &str) -> Option<u8>
         ensures { result ≡ get_t accessors.u8 k.now (doc self.now) }
     {
         self.get(k)?.as_u8()
     }
 
-    /// The integer at the key, where it fits `u16`.
+    /// The integer at the key, if it fits `u16`, else `None`.
     pub fn get_u16(&self, k: &str) -> Option<u16>
         ensures { result ≡ get_t accessors.u16 k.now (doc self.now) }
     {
         self.get(k)?.as_u16()
     }
 
-    /// The integer at the key, where it fits `u32`.
+    /// The integer at the key, if it fits `u32`, else `None`.
     pub fn get_u32(&self, k: &str) -> Option<u32>
         ensures { result ≡ get_t accessors.u32 k.now (doc self.now) }
     {
         self.get(k)?.as_u32()
     }
 
-    /// The integer at the key, where it fits `u64`.
+    /// The integer at the key, if it fits `u64`, else `None`.
     pub fn get_u64(&self, k: &str) -> Option<u64>
         ensures { result ≡ get_t accessors.u64 k.now (doc self.now) }
     {
         self.get(k)?.as_u64()
     }
 
-    /// The integer at the key, where it is not negative.
+    /// The integer at the key, if it is not negative, else `None`.
     pub fn get_u128(&self, k: &str) -> Option<u128>
         ensures { result ≡ get_t accessors.u128 k.now (doc self.now) }
     {
         self.get(k)?.as_u128()
     }
 
-    /// The integer at the key, where it fits `usize`.
+    /// The integer at the key, if it fits `usize`, else `None`.
     pub fn get_usize(&self, k: &str) -> Option<usize>
         ensures { result ≡ get_t accessors.usize k.now (doc self.now) }
     {
         self.get(k)?.as_usize()
     }
 
-    /// The string at the key.
+    /// The string at the key, or `None`.
     pub fn get_str(&self, k: &str) -> Option<&'input str>
         ensures { option_map (λ s. s.now) result ≡ get_t accessors.str k.now (doc self.now) }
     {
         self.get(k)?.as_str()
     }
 
-    /// The literal of the decimal at the key.
+    /// The literal of the decimal at the key, or `None`.
     pub fn get_decimal(&self, k: &str) -> Option<&'input str>
         ensures { option_map (λ s. s.now) result ≡ get_t accessors.decimal k.now (doc self.now) }
     {

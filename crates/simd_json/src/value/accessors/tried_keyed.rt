@@ -1,6 +1,6 @@
-//! `try_get_T`: the first value with a key, as a `T`. It is `None` where the key is missing, an error that
-//! expects `Object` where the value is no object, and the error of `try_as_T` where that first value is no
-//! `T`.
+//! `try_get_T`: the first value with a key, as a `T`. `None` where the key is missing; an error
+//! that expects `Object` where the value is not an object, and the error of `try_as_T` where that
+//! first value is not a `T`.
 use crate::value::tape::Value;
 use simd_json_parts::node::TryTypeError;
 
@@ -11,7 +11,7 @@ impl<'tape, 'input> Value<'tape, 'input> {
     ghost use Rattle.simd_json_parts.specs.Accessors as accessors;
     ghost use Rattle.simd_json_parts.specs.Accessors.{try_get_t};
 
-    /// The truth value at the key.
+    /// The truth value at the key, or an error; `None` if the key is missing.
     pub fn try_get_bool(&self, k: &str) -> Result<Option<bool>, TryTypeError>
         ensures { result ≡ try_get_t accessors.bool k.now (doc self.now) }
     {
@@ -20,35 +20,35 @@ impl<'tape, 'input> Value<'tape, 'input> {
             .transpose()
     }
 
-    /// The integer at the key, where it fits `i8`.
+    /// The integer at the key, if it fits `i8`, else an error; `None` if the key is missing.
     pub fn try_get_i8(&self, k: &str) -> Result<Option<i8>, TryTypeError>
         ensures { result ≡ try_get_t accessors.i8 k.now (doc self.now) }
     {
         self.try_get(k)?.map(|value| value.try_as_i8()).transpose()
     }
 
-    /// The integer at the key, where it fits `i16`.
+    /// The integer at the key, if it fits `i16`, else an error; `None` if the key is missing.
     pub fn try_get_i16(&self, k: &str) -> Result<Option<i16>, TryTypeError>
         ensures { result ≡ try_get_t accessors.i16 k.now (doc self.now) }
     {
         self.try_get(k)?.map(|value| value.try_as_i16()).transpose()
     }
 
-    /// The integer at the key, where it fits `i32`.
+    /// The integer at the key, if it fits `i32`, else an error; `None` if the key is missing.
     pub fn try_get_i32(&self, k: &str) -> Result<Option<i32>, TryTypeError>
         ensures { result ≡ try_get_t accessors.i32 k.now (doc self.now) }
     {
         self.try_get(k)?.map(|value| value.try_as_i32()).transpose()
     }
 
-    /// The integer at the key, where it fits `i64`.
+    /// The integer at the key, if it fits `i64`, else an error; `None` if the key is missing.
     pub fn try_get_i64(&self, k: &str) -> Result<Option<i64>, TryTypeError>
         ensures { result ≡ try_get_t accessors.i64 k.now (doc self.now) }
     {
         self.try_get(k)?.map(|value| value.try_as_i64()).transpose()
     }
 
-    /// The integer at the key, where it fits `i128`.
+    /// The integer at the key, if it fits `i128`, else an error; `None` if the key is missing.
     pub fn try_get_i128(&self, k: &str) -> Result<Option<i128>, TryTypeError>
         ensures { result ≡ try_get_t accessors.i128 k.now (doc self.now) }
     {
@@ -57,14 +57,14 @@ impl<'tape, 'input> Value<'tape, 'input> {
             .transpose()
     }
 
-    /// The integer at the key, where it fits `u8`.
+    /// The integer at the key, if it fits `u8`, else an error; `None` if the key is missing.
     pub fn try_get_u8(&self, k: &str) -> Result<Option<u8>, TryTypeError>
         ensures { result ≡ try_get_t accessors.u8 k.now (doc self.now) }
     {
         self.try_get(k)?.map(|value| value.try_as_u8()).transpose()
     }
 
-    /// The integer at the key, where it fits `u16`.
+    /// The integer at the key, if it fits `u16`, else an error; `None` if the key is missing.
     ///
     /// ```
     /// use simd_json::TryTypeError;
@@ -80,21 +80,21 @@ impl<'tape, 'input> Value<'tape, 'input> {
         self.try_get(k)?.map(|value| value.try_as_u16()).transpose()
     }
 
-    /// The integer at the key, where it fits `u32`.
+    /// The integer at the key, if it fits `u32`, else an error; `None` if the key is missing.
     pub fn try_get_u32(&self, k: &str) -> Result<Option<u32>, TryTypeError>
         ensures { result ≡ try_get_t accessors.u32 k.now (doc self.now) }
     {
         self.try_get(k)?.map(|value| value.try_as_u32()).transpose()
     }
 
-    /// The integer at the key, where it fits `u64`.
+    /// The integer at the key, if it fits `u64`, else an error; `None` if the key is missing.
     pub fn try_get_u64(&self, k: &str) -> Result<Option<u64>, TryTypeError>
         ensures { result ≡ try_get_t accessors.u64 k.now (doc self.now) }
     {
         self.try_get(k)?.map(|value| value.try_as_u64()).transpose()
     }
 
-    /// The integer at the key, where it is not negative.
+    /// The integer at the key, if it is not negative, else an error; `None` if the key is missing.
     pub fn try_get_u128(&self, k: &str) -> Result<Option<u128>, TryTypeError>
         ensures { result ≡ try_get_t accessors.u128 k.now (doc self.now) }
     {
@@ -103,7 +103,7 @@ impl<'tape, 'input> Value<'tape, 'input> {
             .transpose()
     }
 
-    /// The integer at the key, where it fits `usize`.
+    /// The integer at the key, if it fits `usize`, else an error; `None` if the key is missing.
     pub fn try_get_usize(&self, k: &str) -> Result<Option<usize>, TryTypeError>
         ensures { result ≡ try_get_t accessors.usize k.now (doc self.now) }
     {
@@ -112,14 +112,14 @@ impl<'tape, 'input> Value<'tape, 'input> {
             .transpose()
     }
 
-    /// The string at the key.
+    /// The string at the key, or an error; `None` if the key is missing.
     pub fn try_get_str(&self, k: &str) -> Result<Option<&'input str>, TryTypeError>
         ensures { ok_map (option_map (λ s. s.now)) result ≡ try_get_t accessors.str k.now (doc self.now) }
     {
         self.try_get(k)?.map(|value| value.try_as_str()).transpose()
     }
 
-    /// The literal of the decimal at the key.
+    /// The literal of the decimal at the key, or an error; `None` if the key is missing.
     pub fn try_get_decimal(&self, k: &str) -> Result<Option<&'input str>, TryTypeError>
         ensures { ok_map (option_map (λ s. s.now)) result ≡ try_get_t accessors.decimal k.now (doc self.now) }
     {

@@ -18,12 +18,13 @@ impl<'tape, 'input> Value<'tape, 'input> {
     ghost use Rattle.simd_json_parts.specs.Document.{Document};
     ghost use Rattle.simd_json_parts.specs.MapEquality.{equals_map};
 
-    /// Whether the value is an object that says what the map says: it has as many pairs as the map, its keys
-    /// are distinct, each is in the map, and `same` says yes of the map's value and the object's for each.
+    /// Whether the value is an object with the map's keys and equal values: it has as many pairs as
+    /// the map, its keys are distinct, each is in the map, and `same` returns `true` for the map's
+    /// value and the object's.
     ///
-    /// It takes no memory. It looks each key up once, and then, where all of that holds, compares each key
-    /// with the keys after it, so its time grows with the square of the number of pairs; of keys that differ
-    /// in length no byte is read.
+    /// Allocates nothing. Each key is looked up once. If all of that holds, each key is compared
+    /// with those after it, so time grows with the square of the number of pairs; keys that differ
+    /// in length are not read.
     ///
     /// ```
     /// use simd_json::tape::Value;
@@ -52,7 +53,7 @@ impl<'tape, 'input> Value<'tape, 'input> {
     }
 }
 
-// Whether each key is in the map, with a value that is the same.
+// Whether each key is in the map, with the same value.
 fn is_in<'tape, 'input, T, S: BuildHasher, F: Fn(&T, &Value<'_, 'input>) -> bool>(
     object: Object<'tape, 'input>,
     map: &HashMap<String, T, S>,
@@ -75,7 +76,7 @@ fn is_in<'tape, 'input, T, S: BuildHasher, F: Fn(&T, &Value<'_, 'input>) -> bool
     true
 }
 
-// What `same` says of the two. The call is by itself, so that its condition can be stated.
+// Calls `same`. A function of its own, so that the call's condition can be stated.
 fn ask<'input, T, F: Fn(&T, &Value<'_, 'input>) -> bool>(
     same: &F,
     wanted: &T,
@@ -87,7 +88,7 @@ fn ask<'input, T, F: Fn(&T, &Value<'_, 'input>) -> bool>(
     same(wanted, value)
 }
 
-// Whether no key comes twice.
+// Whether no key occurs twice.
 fn has_distinct_keys(object: Object<'_, '_>) -> bool
     ensures { result ≡ has_distinct_names (pairs object.entry) }
 {

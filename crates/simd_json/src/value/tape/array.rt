@@ -25,10 +25,11 @@ impl<'tape, 'input> Array<'tape, 'input> {
     ghost use Rattle.simd_json.specs.Viewed.{doc, docs};
     ghost use Rattle.simd_json_parts.specs.Document.{no_elements, element, elements};
 
-    /// The value at an index, or `None` where the array has no more than `index` values.
+    /// The value at an index, in time linear in the index, or `None` where the array has no more
+    /// than `index` values.
     ///
-    /// The values before it are passed over, each in one step whatever it holds: to look at all of them, use
-    /// [`iter`](Array::iter).
+    /// The values before it are passed over, each in one step whatever it holds. To look at all of
+    /// them, use [`iter`](Array::iter).
     pub fn get(&self, index: usize) -> Option<Value<'tape, 'input>>
         ensures { option_map doc result ≡ slice_get (elements (docs self.now)) index }
     {
@@ -42,7 +43,7 @@ impl<'tape, 'input> Array<'tape, 'input> {
         Iter { left: *self }
     }
 
-    /// How many values the array has. It is read at once.
+    /// The number of values; constant time.
     pub fn len(&self) -> usize
         ensures { result ≡ length (elements (docs self.now)) }
     {
@@ -92,7 +93,7 @@ impl<'tape, 'input> IntoIterator for &Array<'tape, 'input> {
     }
 }
 
-/// An iterator over the values of an array, in order. A step reads one header.
+/// An iterator over the values of an array, in order. A step takes constant time.
 #[derive(Clone, Copy, Debug)]
 pub struct Iter<'tape, 'input> {
     left: Array<'tape, 'input>,

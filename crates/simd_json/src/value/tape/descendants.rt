@@ -8,7 +8,7 @@ use crate::value::tape::Value;
 use simd_json_parts::node::Node;
 use std::iter::FusedIterator;
 
-// Documents in a row, of which the key of a pair is one.
+// Documents in a row; the key of a pair counts as one.
 #[derive(Clone, Copy, Debug)]
 struct Row<'tape, 'input> {
     nodes: &'tape [Node<'input>],
@@ -46,7 +46,7 @@ impl<'tape, 'input> Row<'tape, 'input> {
         Some((value, Row { nodes }))
     }
 
-    // The others than the first document.
+    // All but the first document.
     fn without_first(self) -> Row<'tape, 'input>
         ensures { in_row result ≡ others 1 (in_row self.entry) }
     {
@@ -81,7 +81,7 @@ impl Level {
     ghost use Rattle.simd_json.specs.declared.value.tape.descendants.Level.{Level};
     ghost use Rattle.simd_json_parts.specs.Document.{Elements, element};
 
-    // The level of a container, or `None` of a scalar.
+    // The level of a container, or `None` for a scalar.
     fn of(value: &Value<'_, '_>) -> Option<Level>
         ensures { MatchOption result (children (doc value.now) ≡ [])
             (λ l. (n : ℕ) (ls : List Level) (ds : Elements)
@@ -117,7 +117,7 @@ impl Level {
     }
 }
 
-// From `innermost` on, the containers that are open, each in the next one.
+// The open containers, from `innermost` on, each inside the next one.
 #[derive(Debug, Drop)]
 struct Levels<const DEPTH: usize> {
     all: [Level; DEPTH],
@@ -133,8 +133,8 @@ impl<const DEPTH: usize> Levels<DEPTH> {
     ghost use Rattle.simd_json.specs.Viewed.{doc};
     ghost use Rattle.simd_json_parts.specs.Document.{Elements, element};
 
-    // Takes the next member off the innermost container that has one left, and leaves those within it that have
-    // none. Returns whether the member begins with a key.
+    // Closes the containers that are finished, and takes the next member of the innermost one that
+    // is left. Returns whether the member begins with a key.
     fn begin_member(&mut self) -> bool
         ensures { (ds : Elements)
             → left_open self.old ds ≡ left_begun self.new (cond result (others 1 ds) ds) }
@@ -147,7 +147,8 @@ impl<const DEPTH: usize> Levels<DEPTH> {
         self.all[self.innermost].is_object
     }
 
-    // Opens the value where it is a container and a level is left for it. Returns whether it did.
+    // Opens the value if it is a container and a level is left for it. Returns whether it was
+    // opened.
     fn enter(&mut self, value: &Value<'_, '_>) -> bool
         ensures { (ds : Elements)
             → beneath self.old.innermost (doc value.now) ++ left_open self.old ds

@@ -2,9 +2,9 @@
 ghost use Rattle.std.specs.Prelude.{◌≡◌, ◌+◌, ◌≤◌, bytes_eq, drop, length, take};
 ghost use Rattle.std.specs.Int.{from_le_bytes, to_le_bytes, w16, w32, w64};
 
-// Whether two keys of one length are the same: the first word and the last, which may overlap, cover up to 16
-// bytes. `==` prepares places of four words before the loop over keys, which costs a short look-up more than
-// the rest.
+// Whether two keys of one length are the same. The first and the last word, which may overlap,
+// cover up to 16 bytes. `==` sets four words up before the loop over keys, which costs more than
+// the rest of a short look-up.
 #[inline(always)]
 pub(super) fn is_same(key: &str, other: &str) -> bool
     requires { length key.now ≡ length other.now }

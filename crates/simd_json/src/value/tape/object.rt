@@ -10,7 +10,8 @@ use crate::value::tape::key::is_same;
 use simd_json_parts::node::Node;
 use std::iter::FusedIterator;
 
-/// An object on a tape: a list of pairs of a key and a value, in the document's order. A key may come twice.
+/// An object on a tape: a list of pairs of a key and a value, in the document's order. A key may
+/// occur more than once.
 #[derive(Clone, Copy, Debug)]
 pub struct Object<'tape, 'input> {
     pub(super) len: usize,
@@ -27,17 +28,17 @@ impl<'tape, 'input> Object<'tape, 'input> {
     ghost use Rattle.simd_json_parts.specs.Document.{no_members, member, members};
     ghost use Rattle.simd_json_parts.specs.Views.{first_with, keys, values};
 
-    /// The value of the first pair with that key, or `None` where there is none.
+    /// The value of the first pair with that key, or `None` where the key is missing. Linear time.
     ///
-    /// The pairs before it are passed over, each in one step whatever its value holds. A key is compared with
-    /// the bytes of another of the same length alone.
+    /// The pairs before it are passed over, each in one step whatever its value holds. Only the
+    /// bytes of keys of the same length are compared.
     pub fn get(&self, k: &str) -> Option<Value<'tape, 'input>>
         ensures { option_map doc result ≡ first_with k.now (pairs self.now) }
     {
         self.find(k)
     }
 
-    // The same, made a part of the caller: a step of a JSON Pointer is then no dearer than a call of `get`.
+    // The same, inlined: a step of a JSON Pointer then costs no more than a call of `get`.
     #[inline(always)]
     pub(crate) fn find(&self, k: &str) -> Option<Value<'tape, 'input>>
         ensures { option_map doc result ≡ first_with k.now (pairs self.now) }
@@ -71,7 +72,7 @@ impl<'tape, 'input> Object<'tape, 'input> {
         Values { left: *self }
     }
 
-    /// How many pairs the object has. It is read at once.
+    /// The number of pairs; constant time.
     pub fn len(&self) -> usize
         ensures { result ≡ length (members (pairs self.now)) }
     {
@@ -128,7 +129,7 @@ impl<'tape, 'input> IntoIterator for &Object<'tape, 'input> {
     }
 }
 
-/// An iterator over the pairs of an object, in order. A step reads a key and one header.
+/// An iterator over the pairs of an object, in order. A step takes constant time.
 #[derive(Clone, Copy, Debug)]
 pub struct Iter<'tape, 'input> {
     left: Object<'tape, 'input>,

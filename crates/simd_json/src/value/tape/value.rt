@@ -12,9 +12,37 @@ use crate::value::tape::descendants::Descendants;
 use crate::value::tape::object::Object;
 use simd_json_parts::node::{Node, StaticNode, ValueType};
 
-/// A document on a tape, or a document within it. Each call reads its nodes.
+/// A document on a tape, or a document within it: a `Copy` reference to its nodes. Only `encode`
+/// and `encode_pp` allocate.
 ///
-/// It is a copy of a reference, and no call of it takes memory but those that print.
+/// # Typed accessors
+///
+/// | call | if the value is a `T` | if it is not | no such key | not an object |
+/// |---|---|---|---|---|
+/// | `as_T()` | `Some` | `None` | | |
+/// | `try_as_T()` | `Ok` | `Err` | | |
+/// | `get_T(key)` | `Some` | `None` | `None` | `None` |
+/// | `try_get_T(key)` | `Ok(Some)` | `Err` | `Ok(None)` | `Err`, expects `Object` |
+///
+/// The last two read the first value with the key, in linear time. An error, `TryTypeError`, has
+/// the kind that `T` expects and the kind of the value. `null` has no call with a key.
+///
+/// | `T` | the value is a `T` if it is | an error expects |
+/// |---|---|---|
+/// | `null`, as `()` | null | `Null` |
+/// | `bool` | a truth value | `Bool` |
+/// | `i8`, `i16`, `i32`, `i64` | an integer that fits the type, of whatever kind | `I64` |
+/// | `i128` | an integer that fits the type | `I128` |
+/// | `u8`, `u16`, `u32`, `u64`, `usize` | an integer that fits the type, of whatever kind | `U64` |
+/// | `u128` | an integer that is not negative | `U128` |
+/// | `str` | a string, with its escapes decoded | `String` |
+/// | `decimal`, as `&str` | a number with a fraction or an exponent: its literal | `Decimal` |
+/// | `array`, `object` | an array, an object | `Array`, `Object` |
+///
+/// A number is an integer or a decimal by how it is written (RFC 8259, section 6): `1.0` is a
+/// decimal. An integer fits by its number alone: `-0` is 0 for each type.
+///
+/// # Example
 ///
 /// ```
 /// use simd_json::tape::Value;
@@ -69,7 +97,7 @@ impl<'tape, 'input> Value<'tape, 'input> {
         }
     }
 
-    // Of the nodes of one document.
+    // Makes a value of the nodes of one document.
     pub(super) fn new(nodes: &'tape [Node<'input>]) -> Value<'tape, 'input>
         requires listed { IsListing (map item_of nodes.now) }
         requires printable { ArePrintable nodes.now }
@@ -78,7 +106,7 @@ impl<'tape, 'input> Value<'tape, 'input> {
         Value { nodes }
     }
 
-    // The first value, and the nodes after it.
+    // Splits nodes into the first value and the nodes after it.
     pub(super) fn split(
         nodes: &'tape [Node<'input>],
     ) -> (Value<'tape, 'input>, &'tape [Node<'input>])
@@ -100,7 +128,7 @@ impl<'tape, 'input> Value<'tape, 'input> {
         self.nodes[0]
     }
 
-    // All of them.
+    // All nodes of the value.
     pub(crate) fn nodes(&self) -> &'tape [Node<'input>]
         ensures nodes { result.now ≡ self.now.nodes.now }
         ensures few { length result.now < 2 ^ 64 }
@@ -136,7 +164,7 @@ impl<'tape, 'input> Value<'tape, 'input> {
         matches!(self.node(), Node::Object { .. })
     }
 
-    /// The array that the value is, or `None` where it is of another kind.
+    /// The value as an array, or `None` where it is of another kind.
     pub fn as_array(&self) -> Option<Array<'tape, 'input>>
         ensures kind { is_some result ≡ is_array (doc self.now) }
         ensures array { IfSome result (λ a. doc self.now ≡ array (docs a)) }
@@ -158,7 +186,7 @@ impl<'tape, 'input> Value<'tape, 'input> {
         self.as_array()
     }
 
-    /// The object that the value is, or `None` where it is of another kind.
+    /// The value as an object, or `None` where it is of another kind.
     pub fn as_object(&self) -> Option<Object<'tape, 'input>>
         ensures kind { is_some result ≡ is_object (doc self.now) }
         ensures object { IfSome result (λ o. doc self.now ≡ object (pairs o)) }
@@ -180,34 +208,36 @@ impl<'tape, 'input> Value<'tape, 'input> {
         self.as_object()
     }
 
-    /// The value of the first pair with that key, where the value is an object that has one.
+    /// The value of the first pair with that key, or `None` where the value is not an object or has
+    /// no such pair. Linear time: see [`Object::get`].
     pub fn get(&self, k: &str) -> Option<Value<'tape, 'input>>
         ensures { option_map doc result ≡ get k.now (doc self.now) }
     {
         self.as_object()?.get(k)
     }
 
-    /// The value at an index, where the value is an array that has more than `i` values.
+    /// The value at an index, or `None` where the value is not an array or has no more than `i`
+    /// values. Linear time: see [`Array::get`].
     pub fn get_idx(&self, i: usize) -> Option<Value<'tape, 'input>>
         ensures { option_map doc result ≡ get_idx i (doc self.now) }
     {
         self.as_array()?.get(i)
     }
 
-    /// Whether the value is an object that has a pair with that key: whether [`get`](Value::get) returns a
-    /// value.
+    /// Whether the value is an object that has a pair with that key: whether [`get`](Value::get)
+    /// returns one. Linear time.
     pub fn contains_key(&self, k: &str) -> bool
         ensures { result ≡ contains_key k.now (doc self.now) }
     {
         self.get(k).is_some()
     }
 
-    /// An iterator over the value and the values beneath it, at most `DEPTH` levels down, in the document's
-    /// order: each container before its members. A container on the lowest level is returned, but not its
-    /// members. Keys are no values.
+    /// An iterator over the value and the values beneath it, at most `DEPTH` levels down, in the
+    /// document's order: each container before its members. A container on the lowest level is
+    /// returned, but not its members. Keys are not among them.
     ///
-    /// With a `DEPTH` of no less than the depth limit of the parse these are all values. The iterator allocates
-    /// nothing and has 16 bytes for each level.
+    /// With a `DEPTH` of at least the parse's depth limit these are all values. The iterator
+    /// allocates nothing and has 16 bytes for each level.
     ///
     /// ```
     /// use simd_json::tape::Value;
@@ -231,8 +261,8 @@ impl<'tape, 'input> Value<'tape, 'input> {
     }
 }
 
-// How many nodes the document has that the nodes begin with. A `match` would become a jump by a table, which costs a
-// look-up more than all else at each pair that it passes over.
+// The number of nodes of the document that these nodes begin with. Not a `match`: its jump table
+// would cost more than the rest of a look-up.
 fn size(nodes: &[Node<'_>]) -> usize
     requires { (d : Document) × StandsFor nodes.now d }
     ensures { (d : Document) (rest : List Item) → map item_of nodes.now ≡ listing d ++ rest

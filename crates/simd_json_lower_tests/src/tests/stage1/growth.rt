@@ -1,10 +1,10 @@
-//! Each growth of the lists is refused in turn, and none is asked for before the encoding is known.
+//! Each growth of the lists fails in turn, and none is tried before the encoding is known.
 use super::*;
 use linked_list_allocator::LocalHeap;
 
-// The lengths that the lists have where a growth is refused, one after another, as the heap gets larger by
-// steps. Where no growth is refused, the answer is the wanted one; lists that have capacity for all from the
-// start ask for no more.
+// The lengths that the lists have where a growth fails, one after another, as the heap gets larger
+// by steps. Where no growth fails, the result is the wanted one; lists that have capacity for all
+// from the start ask for no more.
 fn refused_lengths(
     rt: &(impl AllocGlobal + Abort),
     text: &[u8],
@@ -35,7 +35,8 @@ fn refused_lengths(
     Ok(refused)
 }
 
-// No growth is asked for where both lists are as long as the input has bytes and blocks, whatever they hold.
+// No growth is tried where both lists are as long as the input has bytes and blocks, whatever they
+// hold.
 fn needs_no_growth(rt: &(impl AllocGlobal + Abort), text: &[u8], want: Found) -> Tested {
     let heap = LocalHeap::new(
         rt.alloc(),
@@ -102,8 +103,8 @@ fn each_growth_of_one_window_is_refused(rt: HostRuntime) -> Tested {
     Ok(())
 }
 
-// The list of positions grows again where a later window has more than was guessed, and the list of blocks
-// too.
+// The list of structural indexes grows again where a later window has more than was guessed, and
+// the list of blocks too.
 #[test]
 fn each_growth_of_several_windows_is_refused(rt: HostRuntime) -> Tested {
     let mut text = text(rt.alloc(), b"", b' ', 8192, b"")?;
@@ -123,7 +124,7 @@ fn each_growth_of_several_windows_is_refused(rt: HostRuntime) -> Tested {
     needs_no_growth(&rt, &text, want)
 }
 
-// A fault of the encoding comes first, wherever it stands and however little memory there is.
+// An error of the encoding comes first, wherever it is and however little memory there is.
 #[test]
 fn the_encoding_comes_before_memory(rt: HostRuntime) -> Tested {
     for at in [0usize, 63, 64, 8190, 8191, 8192, 8193, 16_383, 19_999] {
@@ -148,7 +149,8 @@ fn the_encoding_comes_before_memory(rt: HostRuntime) -> Tested {
     Ok(())
 }
 
-// With capacity from the start, windows are tested one by one, and characters across their ends are whole.
+// With capacity from the start, windows are tested one by one, and characters across their ends are
+// whole.
 #[test]
 fn characters_across_windows_are_read(rt: HostRuntime) -> Tested {
     for character in ["\u{e9}", "\u{20ac}", "\u{1f600}"] {

@@ -20,7 +20,7 @@ impl Numbers {
         (self.next() >> 11) as usize % end.max(1)
     }
 
-    // A text of up to so many bytes out of some.
+    // A text of up to this many bytes out of some.
     fn text(
         &mut self,
         alloc: Global,
@@ -35,7 +35,7 @@ impl Numbers {
     }
 }
 
-// Texts of up to so many bytes out of some, with lists that are kept from one to the next.
+// Texts of up to this many bytes out of some, with lists that are kept from one to the next.
 fn agree(
     rt: &(impl AllocGlobal + Abort),
     seed: u64,
@@ -70,7 +70,7 @@ fn agrees_on_random_texts(rt: HostRuntime) -> Tested {
     agree(&rt, 0x9e37_79b9_7f4a_7c15, 200_000, 301, b"\\\"a ,\n")
 }
 
-// Few quotes and backslashes, so that most strings are not refused.
+// Few quotes and backslashes, so that most strings are not rejected.
 #[test]
 fn agrees_on_mostly_plain_texts(rt: HostRuntime) -> Tested {
     let bytes = b"aaaaaaaaaaaa        ,,,,::{}[]1234\t\r\\\"\"";

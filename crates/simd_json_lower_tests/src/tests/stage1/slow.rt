@@ -32,8 +32,8 @@ fn ends_token(text: &[u8], i: usize, is_inside: bool) -> bool {
     is_whitespace_at(text, i) || is_real_quote(text, i) || (is_structural_at(text, i) && !is_inside)
 }
 
-// A structural character outside, an opening quote, or the first byte of another token. No whitespace is one
-// of these.
+// A structural character outside, an opening quote, or the first byte of another token. No
+// whitespace is one of these.
 fn starts_token(text: &[u8], i: usize, was_inside: bool, is_inside: bool) -> bool {
     if is_whitespace_at(text, i) {
         return false;

@@ -2,8 +2,8 @@ use super::tape_of;
 use simd_json_stages::stage2::nodes_enough;
 use std::test::Fail;
 
-// By input, number of positions and depth limit: how many nodes are enough, and how many of them the tape
-// takes, unless it is refused. That of `[[[[1` is, with its fifth node written.
+// By input, number of structural indexes and depth limit: how many nodes are enough, and how many
+// of them the tape takes, unless the input is rejected. `[[[[1` is, with its fifth node written.
 #[test]
 fn so_many_nodes_are_enough(rt: HostRuntime) -> std::result::Result<(), Fail> {
     let rows = [

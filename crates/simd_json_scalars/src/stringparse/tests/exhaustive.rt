@@ -1,8 +1,8 @@
 //! Strings by the thousand, beside a plain reader that writes into other memory.
 use super::*;
 
-// What the definition says of a string, read plainly: its end, or the index and the letter of its first bad
-// escape.
+// What the definition says of a string, read plainly: its end, or the index and the letter of its
+// first bad escape.
 #[derive(Clone, Copy, Debug, Drop)]
 enum Expected {
     ParsedString(usize),
@@ -16,7 +16,7 @@ fn byte_or_space(bytes: &[u8], i: usize) -> u8 {
     }
 }
 
-// First the closing quote, then one piece after another, into other memory.
+// First the closing quote, then one character after another, into other memory.
 fn reference(bytes: &[u8], string: &mut Vec<u8>) -> std::result::Result<Expected, Fail> {
     let mut end = 1;
     let mut is_escaped = false;
