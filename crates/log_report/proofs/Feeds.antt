@@ -10,8 +10,9 @@ use Rattle.memchr.specs.Find.{IsFirstByte, is_byte}
 use Rattle.jtape.proofs.Pieces.{has_none, is-equal, none-before, pieces-cut, pieces-last}
 use Rattle.jtape.specs.Pieces.{pieces}
 use Rattle.simd_json_parts.specs.Bytes.{line_feed}
-use Rattle.log_report.specs.Report.{Report, with_line, with_lines}
-use Rattle.log_report.specs.Runs.{State, after}
+use Rattle.log_report.specs.Report.{Report, no_line, report_of, with_line, with_lines}
+use Rattle.log_report.specs.Runs.{Begins, State, after}
+use Rattle.log_report.proofs.Begun.{begins-grown, grows-line}
 use Rattle.log_report.proofs.Shown.{long-line}
 
 pub after-append : (key : List ℕ) (longest : ℕ) (s : State) (a b : List ℕ)
@@ -110,6 +111,14 @@ pub ends : (key : List ℕ) (longest : ℕ) (b : List ℕ) (r : Report) (p : Lis
 ends key longest [] r p none =
     ap (λ u. with_lines key longest r (pieces u)) (append-nil p) ∙ ap (with_lines key longest r) (pieces-last p none)
 ends key longest (x ∷ b) r p none = ends-step key longest r p x b (x == line_feed) none refl (ends key longest b)
+
+-- what was begun of the refusals of lines that have ended, was of those of the input
+pub begins-report : (held holds : Option (List ℕ)) (key : List ℕ) (longest : ℕ) (input : List ℕ)
+    → Begins held holds (after key longest (no_line, []) input).0.refusals → Begins held holds (report_of key longest input).refusals
+begins-report held holds key longest input begun =
+    let s = after key longest (no_line, []) input in
+    subst (λ r. Begins held holds r.refusals) (sym (ends key longest input no_line [] refl))
+    (begins-grown held holds s.0 _ (grows-line key longest s.0 s.1) begun)
 
 -- ---- the line that is kept
 

@@ -1,4 +1,5 @@
 mod Answered
+mod Begun
 mod Feeds
 mod Orders
 mod Places

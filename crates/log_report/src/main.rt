@@ -5,7 +5,9 @@
 ghost use Rattle.std.specs.Prelude.{◌≡◌, false, IfOk, OnOk, map, option_map, string_bytes};
 ghost use Rattle.log_report.specs.Failures.{settings_of, line_of, status_of};
 ghost use Rattle.log_report.specs.declared.Failure.TheVariants.{Resources};
+ghost use Rattle.log_report.specs.Report.{refusal_line};
 ghost use Rattle.log_report.specs.Runs.{Adds, AddsValue, After, Ends, IsRefused, IsStart, Prints, Reports, TakesLine};
+ghost use Rattle.log_report.specs.Runs.{Begins, BeginsBlock, BeginsLine, BeginsReport};
 
 use arrayvec::ArrayVec;
 use bumpalo::Bump;
@@ -155,8 +157,9 @@ impl<'k, A: Allocator + Copy> Lines<'k, A> {
 
     // Counts the lines that end in the block, and keeps the one that begins, up to one byte more than it may have.
     fn take<E: Write>(&mut self, block: &[u8], line: &mut Vec<u8, A>, err: &mut Channel<E>) -> Ended
-        ensures { Ends err.old err.new (After E.contents self.old self.new err.old err.new
-            line.old.items line.new.items block.now) result }
+        ensures { Ends err.old err.new
+            (After E.contents self.old self.new err.old err.new line.old.items line.new.items block.now)
+            (BeginsBlock E.contents self.old err.old err.new line.old.items block.now) result }
     {
         let mut rest = block;
         loop {
@@ -174,7 +177,8 @@ impl<'k, A: Allocator + Copy> Lines<'k, A> {
 
     // Counts a line. Of one that is too long, its first bytes are enough, one more than it may have.
     fn count<E: Write>(&mut self, line: &mut [u8], err: &mut Channel<E>) -> Ended
-        ensures { Ends err.old err.new (TakesLine E.contents self.old self.new err.old err.new line.old) result }
+        ensures { Ends err.old err.new (TakesLine E.contents self.old self.new err.old err.new line.old)
+            (BeginsLine E.contents self.old err.old err.new line.old) result }
     {
         self.number = self.number.saturating_add(1);
         if line.len() > self.longest {
@@ -194,7 +198,9 @@ impl<'k, A: Allocator + Copy> Lines<'k, A> {
 
     // Counts the last line as refused, and names it. Without an error it is too long.
     fn refuse<E: Write>(&mut self, error: Option<Error>, err: &mut Channel<E>) -> Ended
-        ensures { Ends err.old err.new (IsRefused E.contents self.old self.new err.old err.new error) result }
+        ensures { Ends err.old err.new (IsRefused E.contents self.old self.new err.old err.new error)
+            (Begins (E.contents err.old.inner) (E.contents err.new.inner)
+            (refusal_line self.old.longest self.old.number error)) result }
     {
         self.all_taken = false;
         self.add(b"!", 1)?;
@@ -242,7 +248,8 @@ impl<'k, A: Allocator + Copy> Lines<'k, A> {
 
     // Writes a line for each text under which lines count, the greatest count first.
     fn write<W: Write>(&mut self, out: &mut Channel<W>) -> Ended
-        ensures printed { Ends out.old out.new (Prints W.contents self.old out.old out.new) result }
+        ensures printed { Ends out.old out.new (Prints W.contents self.old out.old out.new)
+            (BeginsReport W.contents self.old out.old out.new) result }
         ensures taken { self.new.all_taken ≡ self.old.all_taken }
     {
         self.counts.sort_by(|_, count, _, other| other.cmp(count))?;

@@ -1,12 +1,12 @@
 use Rattle.std.proofs.Common.{◌≡◌, ◌∙◌, [], ap, false, rules, subst}
 use Rattle.std.proofs.lemmas.Result.{on_ok_weaker}
 use Rattle.std.specs.Io.KnownBytes.{Appends}
-use Rattle.std.specs.Prelude.{MatchResult, OnOk, Some}
+use Rattle.std.specs.Prelude.{OnOk, Some}
 use Rattle.simd_json_print.specs.Texts.{Place}
 use Rattle.log_report.specs.Report.{refusal_line}
-use Rattle.log_report.specs.Runs.{IsRefused, fault_of}
+use Rattle.log_report.specs.Runs.{Begins, IsRefused}
 use Rattle.log_report.proofs.Refused.{for-error, for-length}
-use Rattle.log_report.proofs.Written.{ended, mapped}
+use Rattle.log_report.proofs.Written.{EndsIn, ended, mapped}
 use Rattle.log_report.proofs.Lines.refuse.Goals as goal
 use Rattle.log_report.proofs.Lines.refuse.Goals.{in-None, in-Some+in-Serde-2, in-Some+in-Unexpected-2}
 
@@ -34,15 +34,15 @@ returns g c = λ sound.
     c.as_slice.ensures.value
     ∙ subst (λ r. OnOk r (c.match-error-3.line.items ≡ refusal_line longest number error)) named written
     ∙ ap (λ l. refusal_line l.longest l.number error) added.same in
-    let fact : MatchResult c.map_err-2.result
-    (λ _. (c.finish.new.self.0.failed ≡ false) × IsRefused g.E.Write.contents c.args.self.now c.add.new.self c.args.err.now
-    c.finish.new.self.0 c.args.error)
-    (λ failure. failure ≡ fault_of c.finish.new.self.0.failed) =
-    ended c.finish.result c.map_err-2.result _ _ _ _ _ _ _
+    let fact : EndsIn c.map_err-2.result c.finish.new.self.0.failed
+    (IsRefused g.E.Write.contents c.args.self.now c.add.new.self c.args.err.now c.finish.new.self.0 c.args.error)
+    (Begins start.held (g.E.Write.contents c.finish.new.self.0.inner)
+    (refusal_line c.args.self.now.longest c.args.self.now.number error)) =
+    ended c.finish.result c.map_err-2.result _ _ _ _ _ _ _ _
     (c.finish.ensures start _ (c.put.ensures.given start [] c.new-text.ensures.empty))
     c.map_err-2.ensures.cases (λ e d h. search rules) (λ named. record {
       counts = added.counts;
       same = added.same;
       named = subst (λ bytes. Appends start.held (g.E.Write.contents c.finish.new.self.0.inner) bytes) line named;
-    }) sound in
+    }) (λ failed begun. subst (Begins start.held (g.E.Write.contents c.finish.new.self.0.inner)) line begun) sound in
     search rules
