@@ -82,3 +82,10 @@ grows-after key longest s (x ∷ bytes) =
 
 pub begins-grown : (held holds : Option (List ℕ)) (r s : Report) → Grows r s → Begins held holds r.refusals → Begins held holds s.refusals
 begins-grown held holds r s g begun = subst (Begins held holds) g.all (begins-more held holds r.refusals g.more begun)
+
+-- of lines that have ended in a block, and of the whole block
+pub begins-block : (held holds : Option (List ℕ)) (key : List ℕ) (longest : ℕ) (s t : State) (block rest : List ℕ)
+    → after key longest t rest ≡ after key longest s block → Begins held holds t.0.refusals
+    → Begins held holds (after key longest s block).0.refusals
+begins-block held holds key longest s t block rest same begun =
+    subst (λ u. Begins held holds u.0.refusals) same (begins-grown held holds t.0 _ (grows-after key longest t rest) begun)

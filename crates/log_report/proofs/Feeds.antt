@@ -1,5 +1,5 @@
 -- Lines that end in a block.
-use Rattle.std.proofs.Common.{◌≡◌, ◌∙◌, refl, ap, sym, arith, ℕ, zero, suc, ◌+◌, ◌-◌, ◌<◌, ◌≤◌, List, [], ◌∷◌, ◌++◌, append_assoc}
+use Rattle.std.proofs.Common.{◌≡◌, ◌∙◌, refl, ap, sym, subst, arith, ℕ, zero, suc, ◌+◌, ◌-◌, ◌<◌, ◌≤◌, List, [], ◌∷◌, ◌++◌, append_assoc}
 use Rattle.std.proofs.Common.{append-nil, take, drop, length, length-drop, Bool, true, false, not, ◌&&◌, ◌==◌, cond, min, nat_lt}
 use Rattle.std.proofs.Common.{Option, Some, None}
 use Rattle.std.specs.Prelude.{slice_index, unwrap_or}
@@ -159,9 +159,15 @@ kept-step longest room n line begun bytes false short is same least =
     let fits : length line ≤ longest = ltb-false longest (length line) short in
     kept-short longest n line begun bytes is fits (least ∙ ap (min (length bytes)) (omega (arith, same, fits)))
 
-pub kept : (longest room n : ℕ) (line begun bytes : List ℕ) → line ≡ take (longest + 1) begun → room ≡ longest + 1 - length line
+kept : (longest room n : ℕ) (line begun bytes : List ℕ) → line ≡ take (longest + 1) begun → room ≡ longest + 1 - length line
     → n ≡ min (length bytes) room → line ++ take n bytes ≡ take (longest + 1) (begun ++ bytes)
 kept longest room n line begun bytes = kept-step longest room n line begun bytes (nat_lt longest (length line)) refl
+
+-- more bytes of it, as far as there is room
+pub kept-more : (longest most n : ℕ) (line begun bytes items : List ℕ) → most ≡ longest → line ≡ take (longest + 1) begun
+    → n ≡ min (length bytes) (most + 1 - length line) → items ≡ line ++ take n bytes → items ≡ take (longest + 1) (begun ++ bytes)
+kept-more longest most n line begun bytes items same is least added =
+    added ∙ kept longest _ n line begun bytes is refl (subst (λ m. n ≡ min (length bytes) (m + 1 - length line)) same least)
 
 -- a line that is cut after its longest and one byte more is as long as too long a line
 cut-step : (key : List ℕ) (longest : ℕ) (r : Report) (line : List ℕ) (t : Bool) → nat_lt longest (length line) ≡ t
@@ -176,6 +182,14 @@ cut-step key longest r line false is =
 pub cut-line : (key : List ℕ) (longest : ℕ) (r : Report) (line : List ℕ)
     → with_line key longest r (take (longest + 1) line) ≡ with_line key longest r line
 cut-line key longest r line = cut-step key longest r line (nat_lt longest (length line)) refl
+
+-- the last bytes of it
+pub kept-last : (key : List ℕ) (longest most n : ℕ) (r : Report) (line begun bytes items : List ℕ) → most ≡ longest
+    → line ≡ take (longest + 1) begun → n ≡ min (length bytes) (most + 1 - length line) → items ≡ line ++ take n bytes
+    → with_line key longest r items ≡ with_line key longest r (begun ++ bytes)
+kept-last key longest most n r line begun bytes items same is least added =
+    ap (with_line key longest r) (kept-more longest most n line begun bytes items same is least added)
+    ∙ cut-line key longest r (begun ++ bytes)
 
 pub none-kept : (n : ℕ) → [] ≡ take {A = ℕ} n []
 none-kept n = sym (take-all n [] (omega arith))
