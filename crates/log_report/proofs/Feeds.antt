@@ -112,14 +112,6 @@ ends key longest [] r p none =
     ap (λ u. with_lines key longest r (pieces u)) (append-nil p) ∙ ap (with_lines key longest r) (pieces-last p none)
 ends key longest (x ∷ b) r p none = ends-step key longest r p x b (x == line_feed) none refl (ends key longest b)
 
--- what was begun of the refusals of lines that have ended, was of those of the input
-pub begins-report : (held holds : Option (List ℕ)) (key : List ℕ) (longest : ℕ) (input : List ℕ)
-    → Begins held holds (after key longest (no_line, []) input).0.refusals → Begins held holds (report_of key longest input).refusals
-begins-report held holds key longest input begun =
-    let s = after key longest (no_line, []) input in
-    subst (λ r. Begins held holds r.refusals) (sym (ends key longest input no_line [] refl))
-    (begins-grown held holds s.0 _ (grows-line key longest s.0 s.1) begun)
-
 -- ---- the line that is kept
 
 take-all : (n : ℕ) (b : List ℕ) → length b ≤ n → take n b ≡ b
@@ -193,3 +185,20 @@ kept-last key longest most n r line begun bytes items same is least added =
 
 pub none-kept : (n : ℕ) → [] ≡ take {A = ℕ} n []
 none-kept n = sym (take-all n [] (omega arith))
+
+-- ---- the report of an input that was read so far
+
+-- with the last line, of which the first bytes are kept
+pub report-last : (key : List ℕ) (longest : ℕ) (input kept : List ℕ) → kept ≡ take (longest + 1) (after key longest (no_line, []) input).1
+    → with_line key longest (after key longest (no_line, []) input).0 kept ≡ report_of key longest input
+report-last key longest input kept is =
+    let s = after key longest (no_line, []) input in
+    ap (with_line key longest s.0) is ∙ cut-line key longest s.0 s.1 ∙ sym (ends key longest input no_line [] refl)
+
+-- what was begun of the refusals of lines that have ended, was of those of the input
+pub begins-report : (held holds : Option (List ℕ)) (key : List ℕ) (longest : ℕ) (input : List ℕ)
+    → Begins held holds (after key longest (no_line, []) input).0.refusals → Begins held holds (report_of key longest input).refusals
+begins-report held holds key longest input begun =
+    let s = after key longest (no_line, []) input in
+    subst (λ r. Begins held holds r.refusals) (sym (ends key longest input no_line [] refl))
+    (begins-grown held holds s.0 _ (grows-line key longest s.0 s.1) begun)
