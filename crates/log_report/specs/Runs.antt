@@ -30,24 +30,25 @@ pub record HasRun (key : List ℕ) (longest : ℕ) (before after held holds name
 abbrev pub Begins : Option (List ℕ) → Option (List ℕ) → List ℕ → Type 0
 Begins held holds bytes = (count : ℕ) × Appends held holds (take count bytes)
 
--- Likewise, after an error: of all that was read, a beginning of the report was written, and a beginning of its refused lines named.
-pub record HasBegun (key : List ℕ) (longest : ℕ) (before after held holds named names : Option (List ℕ)) : Type 0 where
+-- Of such a run that ended in an error, and whether the report's writer failed: of what was read, a beginning of the report was
+-- written, and a beginning of its refused lines named. It is no byte of the report unless its writer failed, and then all was read.
+pub record HasBegun (key : List ℕ) (longest : ℕ) (before after held holds named names : Option (List ℕ)) (failed : Bool) : Type 0 where
   pub input : List ℕ
   pub read : Consumes before after input
   pub report : Begins held holds (report_text (report_of key longest input).counts)
   pub refusals : Begins named names (report_of key longest input).refusals
+  pub unwritten : failed ≡ false → Keeps held holds
+  pub end : failed ≡ true → IsAtEnd after
 
 -- Of a run over ports, of what is known of their bytes: a report is that of what was read, and reading failed exactly where the
--- reader did, writing exactly where one of the writers did. After an error no byte of the report was written, unless its writer
--- failed.
+-- reader did, writing exactly where one of the writers did.
 pub record Reports {R W E : Type 0} (remaining : R → Option (List ℕ)) (written : W → Option (List ℕ)) (naming : E → Option (List ℕ))
     (key : List ℕ) (longest : ℕ)
     (reader reads : Watched R) (report reports : Watched W) (refusals refuses : Watched E) (result : Result Bool Failure) : Type 0 where
   pub run : OnOk result (HasRun key longest (remaining reader.inner) (remaining reads.inner) (written report.inner) (written reports.inner)
       (naming refusals.inner) (naming refuses.inner) result)
   pub begun : OnErr result (HasBegun key longest (remaining reader.inner) (remaining reads.inner) (written report.inner)
-      (written reports.inner) (naming refusals.inner) (naming refuses.inner))
-  pub unwritten : reports.failed ≡ false → OnErr result (Keeps (written report.inner) (written reports.inner))
+      (written reports.inner) (naming refusals.inner) (naming refuses.inner) reports.failed)
   pub read : (result ≡ Err Read) ↔ (reads.failed ≡ true)
   pub write : (result ≡ Err Write) ↔ ((reports.failed || refuses.failed) ≡ true)
 
