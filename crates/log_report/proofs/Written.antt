@@ -6,7 +6,7 @@ use Rattle.std.specs.Prelude.{IsErrAnd, MatchResult, is_err, ◌||◌}
 use Rattle.simd_json_print.specs.Texts.{HasEnded}
 use Rattle.log_report.specs.Runs.{Begins, fault_of}
 use Rattle.log_report.specs.declared.Failure.{Failure}
-use Rattle.log_report.specs.declared.Failure.TheVariants.{Read, Write}
+use Rattle.log_report.specs.declared.Failure.TheVariants.{Write}
 
 some-is : {x y : Bool} → Some x ≡ Some y → x ≡ y
 some-is is = cc

@@ -89,7 +89,8 @@ fn ending(ended: &Result<bool, Failure>) -> (u8, Option<&'static str>)
 // the report. Returns whether no line was refused; one of more than `longest` bytes is.
 //
 // Fails with `Read` where reading fails, with `Write` where writing does, and with `Resources` where there is
-// no memory for the start, or the input does not end within 2^64 - 1 blocks.
+// no memory for the start, or the input does not end within 2^64 - 1 blocks. After an error a prefix of the names of
+// refused lines was written, and of the report none, or a prefix where its writer failed.
 fn run<A: Allocator + Copy, R: Read, W: Write, E: Write>(
     a: A,
     key: &str,
@@ -211,9 +212,9 @@ impl<'k, A: Allocator + Copy> Lines<'k, A> {
             None => writeln!(line, "line {number}: longer than {longest} bytes"),
         };
         named.map_err(|_| Failure::Resources)?;
-        let mut text = Text::<Channel<E>, 256>::new(err);
-        text.put(line.as_slice());
-        text.finish().map_err(|_| Failure::Write)
+        let mut name = Text::<Channel<E>, 256>::new(err);
+        name.put(line.as_slice());
+        name.finish().map_err(|_| Failure::Write)
     }
 
     // Counts a line with this value at the key, under `*` if its text has more than 1,024 bytes.

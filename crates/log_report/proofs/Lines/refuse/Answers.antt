@@ -1,4 +1,4 @@
-use Rattle.std.proofs.Common.{◌≡◌, ◌∙◌, [], ap, false, rules, subst}
+use Rattle.std.proofs.Common.{◌≡◌, ◌∙◌, [], ap, rules, subst}
 use Rattle.std.proofs.lemmas.Result.{on_ok_weaker}
 use Rattle.std.specs.Io.KnownBytes.{Appends}
 use Rattle.std.specs.Prelude.{OnOk, Some}
@@ -39,7 +39,7 @@ returns g c = λ sound.
     (Begins start.held (g.E.Write.contents c.finish.new.self.0.inner)
     (refusal_line c.args.self.now.longest c.args.self.now.number error)) =
     ended c.finish.result c.map_err-2.result _ _ _ _ _ _ _ _
-    (c.finish.ensures start _ (c.put.ensures.given start [] c.new-text.ensures.empty))
+    (c.finish.ensures start _ (c.put.ensures.given start [] c.new-name.ensures.empty))
     c.map_err-2.ensures.cases (λ e d h. search rules) (λ named. record {
       counts = added.counts;
       same = added.same;
