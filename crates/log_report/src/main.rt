@@ -261,7 +261,10 @@ impl<'k, A: Allocator + Copy> Lines<'k, A> {
                 text.put_between(b"", label.as_slice(), b"\n");
             }
         }
-        text.finish().map_err(|_| Failure::Write)
+        match text.finish() {
+            Ok(()) => Ok(()),
+            Err(_) => Err(Failure::Write),
+        }
     }
 }
 
