@@ -3,7 +3,6 @@ mod Begun
 mod Feeds
 mod Orders
 mod Places
-mod Refused
 mod Reported
 mod Shown
 mod Written

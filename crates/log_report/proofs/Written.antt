@@ -1,4 +1,4 @@
--- What a port holds after a text went through it, and what is returned then.
+-- What a call returns, and what a read gave.
 use Rattle.std.proofs.Common.{◌≡◌, ◌∙◌, ap, refl, sym, subst, ℕ, List, ◌++◌, append-nil, take, Bool, false, true, Option, Some, Result, Ok, Err}
 use Rattle.std.proofs.KnownBytes.{Consumes-kept, Consumes-trans}
 use Rattle.std.specs.Io.KnownBytes.{Appends, Consumes, ReadConsumes}
@@ -8,24 +8,9 @@ use Rattle.log_report.specs.Runs.{Begins, fault_of}
 use Rattle.log_report.specs.declared.Failure.{Failure}
 use Rattle.log_report.specs.declared.Failure.TheVariants.{Write}
 
-some-is : {x y : Bool} → Some x ≡ Some y → x ≡ y
-some-is is = cc
-
 -- what a call on such a port ends in: P or Q
 abbrev pub EndsIn : Result Unit Failure → Bool → Type 0 → Type 0 → Type 0
 EndsIn q new P Q = MatchResult q (λ _. (new ≡ false) × P) (λ failure. (failure ≡ fault_of new) × Q)
-
--- at the end of a text whose error becomes `Write`
-pub ended : {E : Type 0} (r : Result Unit E) (q : Result Unit Failure) (post : E → Failure → Type 0) (held holds : Option (List ℕ))
-    (old new : Bool) (bytes : List ℕ) (P Q : Type 0)
-    → HasEnded r (record { held = held; failed = Some old }) (record { held = holds; failed = Some new }) bytes
-    → MatchResult r (λ u. q ≡ Ok u) (λ e. IsErrAnd q (post e)) → ((e : E) (d : Failure) → post e d → d ≡ Write)
-    → (Appends held holds bytes → P) → (new ≡ true → Begins held holds bytes → Q) → old ≡ false → EndsIn q new P Q
-ended (Ok u) q post held holds old new bytes P Q ends is says then left sound =
-    subst (λ q. EndsIn q new P Q) (sym is) (some-is ends.1 ∙ sound, then ends.0)
-ended (Err e) (Ok u) post held holds old new bytes P Q ends is says then left sound = absurd is
-ended (Err e) (Err d) post held holds old new bytes P Q ends is says then left sound =
-    (says e d is ∙ ap fault_of (sym (some-is ends.1)), left (some-is ends.1) ends.0)
 
 -- what follows of a call
 pub weaker : (r : Result Unit Failure) (new : Bool) (P Q S T : Type 0) → (P → S) → (Q → T) → EndsIn r new P Q → EndsIn r new S T

@@ -205,16 +205,26 @@ impl<'k, A: Allocator + Copy> Lines<'k, A> {
     {
         self.all_taken = false;
         self.add(b"!", 1)?;
-        let mut line = ArrayVec::<u8, 256>::new();
-        let (number, longest) = (self.number, self.longest);
-        let named = match error {
-            Some(e) => writeln!(line, "line {number}: {e}"),
-            None => writeln!(line, "line {number}: longer than {longest} bytes"),
-        };
-        named.map_err(|_| Failure::Resources)?;
+        let line = self.refusal(error).map_err(|_| Failure::Resources)?;
         let mut name = Text::<Channel<E>, 256>::new(err);
         name.put(line.as_slice());
-        name.finish().map_err(|_| Failure::Write)
+        match name.finish() {
+            Ok(()) => Ok(()),
+            Err(_) => Err(Failure::Write),
+        }
+    }
+
+    // The line that names the last line as refused.
+    fn refusal(&self, error: Option<Error>) -> io::Result<ArrayVec<u8, 256>>
+        ensures { IfOk result (λ line. line.items ≡ refusal_line self.now.longest self.now.number error) }
+    {
+        let mut line = ArrayVec::<u8, 256>::new();
+        let (number, longest) = (self.number, self.longest);
+        match error {
+            Some(e) => writeln!(line, "line {number}: {e}")?,
+            None => writeln!(line, "line {number}: longer than {longest} bytes")?,
+        }
+        Ok(line)
     }
 
     // Counts a line with this value at the key, under `*` if its text has more than 1,024 bytes.
