@@ -1,5 +1,7 @@
 -- What the answer of a line is.
-use Rattle.std.proofs.Common.{◌≡◌, ◌∙◌, ap, sym, inl, inr, ℕ, List, Some, Ok, Err}
+use Rattle.std.proofs.Common.{◌≡◌, ◌∙◌, ap, sym, subst, inl, inr, ℕ, ◌≤◌, List, length, false, Some, Result, Ok, Err}
+use Rattle.std.specs.Result.{result_err}
+use Rattle.jtape.specs.Pieces.{is_blank}
 use Rattle.simd_json.proofs.Listed.{known}
 use Rattle.simd_json.specs.MaxDepth.{default_max_depth}
 use Rattle.simd_json.specs.Memory.{HasMemory}
@@ -9,6 +11,8 @@ use Rattle.simd_json_parts.specs.Document.{Document}
 use Rattle.simd_json_parts.specs.Listing.{listing}
 use Rattle.simd_json_parts.specs.Nodes.{Item}
 use Rattle.simd_json_parts.specs.declared.error.Error.{Error}
+use Rattle.log_report.specs.Report.{Report, next, with_answer, with_line, with_refusal}
+use Rattle.log_report.proofs.Shown.{short-line}
 
 pub answered : (b : List ℕ) (limit : ℕ) (nodes : List Item) (d : Document) → IsParsed b limit nodes → limit ≡ default_max_depth
     → listing d ≡ nodes → answer b default_max_depth ≡ Ok d
@@ -20,3 +24,15 @@ pub answered-error : (b : List ℕ) (limit capacity : ℕ) (e : Error) (nodes : 
     → HasMemory (Some e) → limit ≡ default_max_depth → answer b default_max_depth ≡ Err e
 answered-error b limit capacity e nodes listed p has is =
     ap (answer b) (sym is) ∙ elim p.refused [ inl refused ↦ refused.answered | inr lacks ↦ absurd (has (ap Some lacks.0.0)) ]
+
+-- of a line that is refused
+pub refused-line : (key : List ℕ) (longest : ℕ) (r : Report) (line : List ℕ) (limit capacity : ℕ) (answer : Result Unit Error) (e : Error)
+    (nodes : List Item) (listed : List ℕ)
+    → answer ≡ Err e → IsParse line limit capacity (result_err answer) nodes listed → HasMemory (result_err answer)
+    → limit ≡ default_max_depth → length line ≤ longest → is_blank line ≡ false
+    → with_refusal longest (next r) (Some e) ≡ with_line key longest r line
+refused-line key longest r line limit capacity answer e nodes listed is parse has limited fits some =
+    ap (with_answer key longest (next r)) (sym (answered-error line limit capacity e nodes listed
+    (subst (λ a. IsParse line limit capacity (result_err a) nodes listed) is parse)
+    (subst (λ a. HasMemory (result_err a)) is has) limited))
+    ∙ short-line key longest r line false fits some

@@ -1,5 +1,5 @@
 -- Lines that end in a block.
-use Rattle.std.proofs.Common.{◌≡◌, ◌∙◌, refl, ap, sym, arith, ℕ, zero, suc, ◌+◌, ◌-◌, ◌<◌, ◌≤◌, List, [], ◌∷◌, ◌++◌, append_assoc}
+use Rattle.std.proofs.Common.{◌≡◌, ◌∙◌, refl, ap, sym, subst, arith, ℕ, zero, suc, ◌+◌, ◌-◌, ◌<◌, ◌≤◌, List, [], ◌∷◌, ◌++◌, append_assoc}
 use Rattle.std.proofs.Common.{append-nil, take, drop, length, length-drop, Bool, true, false, not, ◌&&◌, ◌==◌, cond, min, nat_lt}
 use Rattle.std.proofs.Common.{Option, Some, None}
 use Rattle.std.specs.Prelude.{slice_index, unwrap_or}
@@ -10,8 +10,9 @@ use Rattle.memchr.specs.Find.{IsFirstByte, is_byte}
 use Rattle.jtape.proofs.Pieces.{has_none, is-equal, none-before, pieces-cut, pieces-last}
 use Rattle.jtape.specs.Pieces.{pieces}
 use Rattle.simd_json_parts.specs.Bytes.{line_feed}
-use Rattle.log_report.specs.Report.{Report, with_line, with_lines}
-use Rattle.log_report.specs.Runs.{State, after}
+use Rattle.log_report.specs.Report.{Report, no_line, report_of, with_line, with_lines}
+use Rattle.log_report.specs.Runs.{Begins, State, after}
+use Rattle.log_report.proofs.Begun.{begins-grown, grows-line}
 use Rattle.log_report.proofs.Shown.{long-line}
 
 pub after-append : (key : List ℕ) (longest : ℕ) (s : State) (a b : List ℕ)
@@ -150,9 +151,15 @@ kept-step longest room n line begun bytes false short is same least =
     let fits : length line ≤ longest = ltb-false longest (length line) short in
     kept-short longest n line begun bytes is fits (least ∙ ap (min (length bytes)) (omega (arith, same, fits)))
 
-pub kept : (longest room n : ℕ) (line begun bytes : List ℕ) → line ≡ take (longest + 1) begun → room ≡ longest + 1 - length line
+kept : (longest room n : ℕ) (line begun bytes : List ℕ) → line ≡ take (longest + 1) begun → room ≡ longest + 1 - length line
     → n ≡ min (length bytes) room → line ++ take n bytes ≡ take (longest + 1) (begun ++ bytes)
 kept longest room n line begun bytes = kept-step longest room n line begun bytes (nat_lt longest (length line)) refl
+
+-- more bytes of it, as far as there is room
+pub kept-more : (longest most n : ℕ) (line begun bytes items : List ℕ) → most ≡ longest → line ≡ take (longest + 1) begun
+    → n ≡ min (length bytes) (most + 1 - length line) → items ≡ line ++ take n bytes → items ≡ take (longest + 1) (begun ++ bytes)
+kept-more longest most n line begun bytes items same is least added =
+    added ∙ kept longest _ n line begun bytes is refl (subst (λ m. n ≡ min (length bytes) (m + 1 - length line)) same least)
 
 -- a line that is cut after its longest and one byte more is as long as too long a line
 cut-step : (key : List ℕ) (longest : ℕ) (r : Report) (line : List ℕ) (t : Bool) → nat_lt longest (length line) ≡ t
@@ -168,5 +175,30 @@ pub cut-line : (key : List ℕ) (longest : ℕ) (r : Report) (line : List ℕ)
     → with_line key longest r (take (longest + 1) line) ≡ with_line key longest r line
 cut-line key longest r line = cut-step key longest r line (nat_lt longest (length line)) refl
 
+-- the last bytes of it
+pub kept-last : (key : List ℕ) (longest most n : ℕ) (r : Report) (line begun bytes items : List ℕ) → most ≡ longest
+    → line ≡ take (longest + 1) begun → n ≡ min (length bytes) (most + 1 - length line) → items ≡ line ++ take n bytes
+    → with_line key longest r items ≡ with_line key longest r (begun ++ bytes)
+kept-last key longest most n r line begun bytes items same is least added =
+    ap (with_line key longest r) (kept-more longest most n line begun bytes items same is least added)
+    ∙ cut-line key longest r (begun ++ bytes)
+
 pub none-kept : (n : ℕ) → [] ≡ take {A = ℕ} n []
 none-kept n = sym (take-all n [] (omega arith))
+
+-- ---- the report of an input that was read so far
+
+-- with the last line, of which the first bytes are kept
+pub report-last : (key : List ℕ) (longest : ℕ) (input kept : List ℕ) → kept ≡ take (longest + 1) (after key longest (no_line, []) input).1
+    → with_line key longest (after key longest (no_line, []) input).0 kept ≡ report_of key longest input
+report-last key longest input kept is =
+    let s = after key longest (no_line, []) input in
+    ap (with_line key longest s.0) is ∙ cut-line key longest s.0 s.1 ∙ sym (ends key longest input no_line [] refl)
+
+-- what was begun of the refusals of lines that have ended, was of those of the input
+pub begins-report : (held holds : Option (List ℕ)) (key : List ℕ) (longest : ℕ) (input : List ℕ)
+    → Begins held holds (after key longest (no_line, []) input).0.refusals → Begins held holds (report_of key longest input).refusals
+begins-report held holds key longest input begun =
+    let s = after key longest (no_line, []) input in
+    subst (λ r. Begins held holds r.refusals) (sym (ends key longest input no_line [] refl))
+    (begins-grown held holds s.0 _ (grows-line key longest s.0 s.1) begun)

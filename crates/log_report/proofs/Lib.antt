@@ -1,8 +1,8 @@
 mod Answered
+mod Begun
 mod Feeds
 mod Orders
 mod Places
-mod Refused
 mod Reported
 mod Shown
 mod Written

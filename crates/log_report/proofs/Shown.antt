@@ -8,13 +8,14 @@ use Rattle.simd_json_parts.specs.Answer.{answer}
 use Rattle.simd_json_parts.specs.declared.error.Error.{Error}
 use Rattle.simd_json_print.proofs.Texts.{appends-then}
 use Rattle.log_report.specs.Report.{Report, next, refusal_line, with_answer, with_line, with_refusal}
-use Rattle.log_report.specs.Runs.{Adds, IsRefused, Shows}
+use Rattle.log_report.specs.Runs.{Adds, Begins, IsRefused, Shows}
 use Rattle.log_report.specs.Table.{counted, one_more, refused}
 use Rattle.jtape.specs.Ports.{Watched}
 use Rattle.simd_json.specs.Capacities.{Capacities}
 use Rattle.simd_json.specs.Reserved.{IsReserved}
 use Rattle.simd_json.specs.Tapes.{Listed}
 use Rattle.log_report.specs.declared.Lines.{Lines}
+use Rattle.log_report.proofs.Begun.{begins-all, begins-grown, begins-then, grows-line}
 
 abbrev rest_of : List ℕ → ℕ → Report → List ℕ → Bool → Report
 rest_of key longest r line blank = cond blank (next r) (with_answer key longest (next r) (answer line default_max_depth))
@@ -109,3 +110,21 @@ refused-over {A} naming old new tape refusals refuses error h = record
 
 pub reserved-as : (len : ℕ) (b c : Capacities) (t u : Listed) → c ≡ b → u ≡ t → IsReserved len b t → IsReserved len c u
 reserved-as len b c t u is same reserved = subst (λ x. IsReserved len x u) (sym is) (subst (IsReserved len b) (sym same) reserved)
+
+-- ---- after a call that failed
+
+-- of a refused line, whose name was begun
+pub begins-refused : {A E : Type 0} (naming : E → Option (List ℕ)) (old : Lines A) (refusals refuses : Watched E) (held : Option (List ℕ))
+    (key : List ℕ) (longest : ℕ) (r : Report) (error : Option Error) → Shows old held (naming refusals.inner) key longest r
+    → Begins (naming refusals.inner) (naming refuses.inner) (refusal_line old.longest old.number error)
+    → Begins held (naming refuses.inner) (with_refusal longest r error).refusals
+begins-refused naming old refusals refuses held key longest r error shown begun =
+    begins-then held (naming refusals.inner) (naming refuses.inner) r.refusals _ shown.refusals
+    (subst (λ n. Begins (naming refusals.inner) (naming refuses.inner) (refusal_line n r.number error)) shown.most
+    (subst (λ n. Begins (naming refusals.inner) (naming refuses.inner) (refusal_line old.longest n error)) shown.number begun))
+
+-- of any line, before its name
+pub begins-line : {A : Type 0} (lines : Lines A) (held holds : Option (List ℕ)) (key : List ℕ) (longest : ℕ) (r : Report) (line : List ℕ)
+    → Shows lines held holds key longest r → Begins held holds (with_line key longest r line).refusals
+begins-line lines held holds key longest r line shown =
+    begins-grown held holds r _ (grows-line key longest r line) (begins-all held holds r.refusals shown.refusals)

@@ -1,5 +1,5 @@
 -- What a run leaves.
-use Rattle.std.specs.Prelude.{◌≡◌, ◌↔◌, ◌||◌, ◌+◌, ◌++◌, ℕ, List, [], ◌∷◌, take, map, Bool, true, false, ◌==◌, Option, option_map, OnOk}
+use Rattle.std.specs.Prelude.{◌≡◌, ◌↔◌, ◌||◌, ◌+◌, ◌++◌, ℕ, List, [], ◌∷◌, take, map, Bool, true, false, ◌==◌, Option, option_map, OnOk, OnErr}
 use Rattle.std.specs.Prelude.{Result, Ok, Err, MatchResult, Vec, if◌then◌else◌}
 use Rattle.std.specs.Io.KnownBytes.{Appends, Consumes, IsAtEnd, Keeps}
 use Rattle.jtape.specs.Ports.{Watched}
@@ -26,16 +26,31 @@ pub record HasRun (key : List ℕ) (longest : ℕ) (before after held holds name
   pub refusals : Appends named names (report_of key longest input).refusals
   pub returned : result ≡ Ok (report_of key longest input).all_taken
 
+-- of a writer that held and holds these: a beginning of the bytes was written
+abbrev pub Begins : Option (List ℕ) → Option (List ℕ) → List ℕ → Type 0
+Begins held holds bytes = (count : ℕ) × Appends held holds (take count bytes)
+
+-- Of such a run that ended in an error, and whether the report's writer failed: of what was read, a beginning of the report was
+-- written, and a beginning of its refused lines named. It is no byte of the report unless its writer failed, and then all was read.
+pub record HasBegun (key : List ℕ) (longest : ℕ) (before after held holds named names : Option (List ℕ)) (failed : Bool) : Type 0 where
+  pub input : List ℕ
+  pub read : Consumes before after input
+  pub report : Begins held holds (report_text (report_of key longest input).counts)
+  pub refusals : Begins named names (report_of key longest input).refusals
+  pub unwritten : failed ≡ false → Keeps held holds
+  pub end : failed ≡ true → IsAtEnd after
+
 -- Of a run over ports, of what is known of their bytes: a report is that of what was read, and reading failed exactly where the
--- reader did, writing exactly where one of the writers did; where reading failed no byte of the report was written.
+-- reader did, writing exactly where one of the writers did.
 pub record Reports {R W E : Type 0} (remaining : R → Option (List ℕ)) (written : W → Option (List ℕ)) (naming : E → Option (List ℕ))
     (key : List ℕ) (longest : ℕ)
     (reader reads : Watched R) (report reports : Watched W) (refusals refuses : Watched E) (result : Result Bool Failure) : Type 0 where
   pub run : OnOk result (HasRun key longest (remaining reader.inner) (remaining reads.inner) (written report.inner) (written reports.inner)
       (naming refusals.inner) (naming refuses.inner) result)
+  pub begun : OnErr result (HasBegun key longest (remaining reader.inner) (remaining reads.inner) (written report.inner)
+      (written reports.inner) (naming refusals.inner) (naming refuses.inner) reports.failed)
   pub read : (result ≡ Err Read) ↔ (reads.failed ≡ true)
   pub write : (result ≡ Err Write) ↔ ((reports.failed || refuses.failed) ≡ true)
-  pub unread : result ≡ Err Read → Keeps (written report.inner) (written reports.inner)
 
 -- ---- what private clauses cite
 
@@ -44,10 +59,10 @@ abbrev pub fault_of : Bool → Failure
 fault_of true = Write
 fault_of false = Resources
 
--- of such a call: P, and the port has not failed; or a failure
-abbrev pub Ends : {T : Type 0} → Watched T → Watched T → Type 0 → Result Unit Failure → Type 0
-Ends old new P result =
-    old.failed ≡ false → MatchResult result (λ _. (new.failed ≡ false) × P) (λ failure. failure ≡ fault_of new.failed)
+-- of such a call: P, and the port has not failed; or a failure, and Q
+abbrev pub Ends : {T : Type 0} → Watched T → Watched T → Type 0 → Type 0 → Result Unit Failure → Type 0
+Ends old new P Q result =
+    old.failed ≡ false → MatchResult result (λ _. (new.failed ≡ false) × P) (λ failure. (failure ≡ fault_of new.failed) × Q)
 
 abbrev pub shown : {A : Type 0} → Vec ℕ A × ℕ → Count
 shown entry = (entry.0.items, entry.1)
@@ -67,6 +82,11 @@ AddsValue old new value = Adds old new (value_label (option_map doc value)) 1
 -- of a writer of what is known: the report is written
 abbrev pub Prints : {A W : Type 0} → (W → Option (List ℕ)) → Lines A → Watched W → Watched W → Type 0
 Prints written lines out outs = Appends (written out.inner) (written outs.inner) (report_text (counts_of lines))
+
+-- of a call that fails: a beginning of it was, and of any other writer than one that failed nothing
+pub record BeginsReport {A W : Type 0} (written : W → Option (List ℕ)) (lines : Lines A) (out outs : Watched W) : Type 0 where
+  pub begun : Begins (written out.inner) (written outs.inner) (report_text (counts_of lines))
+  pub unwritten : outs.failed ≡ false → Keeps (written out.inner) (written outs.inner)
 
 -- of a writer of what is known: the last line counts as refused, and is named
 pub record IsRefused {A E : Type 0} (naming : E → Option (List ℕ)) (old new : Lines A) (refusals refuses : Watched E)
@@ -97,6 +117,12 @@ TakesLine naming old new refusals refuses line =
     → Shows old held (naming refusals.inner) key longest r → Shows new held (naming refuses.inner) key longest
     (with_line key longest r line)
 
+-- of a call that fails: of any report that was shown, with this line, a beginning of the refusals was written
+abbrev pub BeginsLine : {A E : Type 0} → (E → Option (List ℕ)) → Lines A → Watched E → Watched E → List ℕ → Type 0
+BeginsLine naming old refusals refuses line =
+    (held : Option (List ℕ)) (key : List ℕ) (longest : ℕ) (r : Report)
+    → Shows old held (naming refusals.inner) key longest r → Begins held (naming refuses.inner) (with_line key longest r line).refusals
+
 -- a report, and the line that has begun
 abbrev pub State : Type 0
 State = Report × List ℕ
@@ -119,3 +145,9 @@ After naming old new refusals refuses line kept block =
     (held : Option (List ℕ)) (key : List ℕ) (longest : ℕ) (s : State)
     → IsAt old line held (naming refusals.inner) key longest s → IsAt new kept held (naming refuses.inner) key longest
     (after key longest s block)
+
+-- of a call that fails: after this block, likewise
+abbrev pub BeginsBlock : {A E : Type 0} → (E → Option (List ℕ)) → Lines A → Watched E → Watched E → List ℕ → List ℕ → Type 0
+BeginsBlock naming old refusals refuses line block =
+    (held : Option (List ℕ)) (key : List ℕ) (longest : ℕ) (s : State)
+    → IsAt old line held (naming refusals.inner) key longest s → Begins held (naming refuses.inner) (after key longest s block).0.refusals

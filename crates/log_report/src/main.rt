@@ -5,7 +5,9 @@
 ghost use Rattle.std.specs.Prelude.{◌≡◌, false, IfOk, OnOk, map, option_map, string_bytes};
 ghost use Rattle.log_report.specs.Failures.{settings_of, line_of, status_of};
 ghost use Rattle.log_report.specs.declared.Failure.TheVariants.{Resources};
+ghost use Rattle.log_report.specs.Report.{refusal_line};
 ghost use Rattle.log_report.specs.Runs.{Adds, AddsValue, After, Ends, IsRefused, IsStart, Prints, Reports, TakesLine};
+ghost use Rattle.log_report.specs.Runs.{Begins, BeginsBlock, BeginsLine, BeginsReport};
 
 use arrayvec::ArrayVec;
 use bumpalo::Bump;
@@ -88,7 +90,8 @@ fn ending(ended: &Result<bool, Failure>) -> (u8, Option<&'static str>)
 // the report. Returns whether no line was refused; one of more than `longest` bytes is.
 //
 // Fails with `Read` where reading fails, with `Write` where writing does, and with `Resources` where there is
-// no memory for the start, or the input does not end within 2^64 - 1 blocks.
+// no memory for the start, or the input does not end within 2^64 - 1 blocks. After an error a prefix of the names of
+// refused lines was written, and of the report none, or a prefix where its writer failed.
 fn run<A: Allocator + Copy, R: Read, W: Write, E: Write>(
     a: A,
     key: &str,
@@ -156,8 +159,9 @@ impl<'k, A: Allocator + Copy> Lines<'k, A> {
 
     // Counts the lines that end in the block, and keeps the one that begins, up to one byte more than it may have.
     fn take<E: Write>(&mut self, block: &[u8], line: &mut Vec<u8, A>, err: &mut Channel<E>) -> Ended
-        ensures { Ends err.old err.new (After E.contents self.old self.new err.old err.new
-            line.old.items line.new.items block.now) result }
+        ensures { Ends err.old err.new
+            (After E.contents self.old self.new err.old err.new line.old.items line.new.items block.now)
+            (BeginsBlock E.contents self.old err.old err.new line.old.items block.now) result }
     {
         let mut rest = block;
         loop {
@@ -175,7 +179,8 @@ impl<'k, A: Allocator + Copy> Lines<'k, A> {
 
     // Counts a line. Of one that is too long, its first bytes are enough, one more than it may have.
     fn count<E: Write>(&mut self, line: &mut [u8], err: &mut Channel<E>) -> Ended
-        ensures { Ends err.old err.new (TakesLine E.contents self.old self.new err.old err.new line.old) result }
+        ensures { Ends err.old err.new (TakesLine E.contents self.old self.new err.old err.new line.old)
+            (BeginsLine E.contents self.old err.old err.new line.old) result }
     {
         self.number = self.number.saturating_add(1);
         if line.len() > self.longest {
@@ -195,20 +200,32 @@ impl<'k, A: Allocator + Copy> Lines<'k, A> {
 
     // Counts the last line as refused, and names it. Without an error it is too long.
     fn refuse<E: Write>(&mut self, error: Option<Error>, err: &mut Channel<E>) -> Ended
-        ensures { Ends err.old err.new (IsRefused E.contents self.old self.new err.old err.new error) result }
+        ensures { Ends err.old err.new (IsRefused E.contents self.old self.new err.old err.new error)
+            (Begins (E.contents err.old.inner) (E.contents err.new.inner)
+            (refusal_line self.old.longest self.old.number error)) result }
     {
         self.all_taken = false;
         self.add(b"!", 1)?;
+        let line = self.refusal(error).map_err(|_| Failure::Resources)?;
+        let mut name = Text::<Channel<E>, 256>::new(err);
+        name.put(line.as_slice());
+        match name.finish() {
+            Ok(()) => Ok(()),
+            Err(_) => Err(Failure::Write),
+        }
+    }
+
+    // The line that names the last line as refused.
+    fn refusal(&self, error: Option<Error>) -> io::Result<ArrayVec<u8, 256>>
+        ensures { IfOk result (λ line. line.items ≡ refusal_line self.now.longest self.now.number error) }
+    {
         let mut line = ArrayVec::<u8, 256>::new();
         let (number, longest) = (self.number, self.longest);
-        let named = match error {
-            Some(e) => writeln!(line, "line {number}: {e}"),
-            None => writeln!(line, "line {number}: longer than {longest} bytes"),
-        };
-        named.map_err(|_| Failure::Resources)?;
-        let mut text = Text::<Channel<E>, 256>::new(err);
-        text.put(line.as_slice());
-        text.finish().map_err(|_| Failure::Write)
+        match error {
+            Some(e) => writeln!(line, "line {number}: {e}")?,
+            None => writeln!(line, "line {number}: longer than {longest} bytes")?,
+        }
+        Ok(line)
     }
 
     // Counts a line with this value at the key, under `*` if its text has more than 1,024 bytes.
@@ -243,7 +260,8 @@ impl<'k, A: Allocator + Copy> Lines<'k, A> {
 
     // Writes a line for each text under which lines count, the greatest count first.
     fn write<W: Write>(&mut self, out: &mut Channel<W>) -> Ended
-        ensures printed { Ends out.old out.new (Prints W.contents self.old out.old out.new) result }
+        ensures printed { Ends out.old out.new (Prints W.contents self.old out.old out.new)
+            (BeginsReport W.contents self.old out.old out.new) result }
         ensures taken { self.new.all_taken ≡ self.old.all_taken }
     {
         self.counts.sort_by(|_, count, _, other| other.cmp(count))?;
@@ -254,7 +272,10 @@ impl<'k, A: Allocator + Copy> Lines<'k, A> {
                 text.put_between(b"", label.as_slice(), b"\n");
             }
         }
-        text.finish().map_err(|_| Failure::Write)
+        match text.finish() {
+            Ok(()) => Ok(()),
+            Err(_) => Err(Failure::Write),
+        }
     }
 }
 
