@@ -8,9 +8,10 @@ mod options;
 mod report;
 
 use checker::Checker;
+use jtape::Channel;
 use options::{Options, asked};
 use report::{Ended, check_input};
-use std::io::{BufWriter, Read, Write};
+use std::io::Read;
 use std::process::ExitCode;
 use std::{env, fs, io};
 
@@ -63,13 +64,13 @@ fn check_files(rt: &HostRuntime, options: &Options<'_>) -> Ended {
     let mut ended = Ended::Clean;
     for file in options.files() {
         let checked = check_file(rt, &mut checker, file, options.has_lines(), width);
+        ended = ended.and(Ended::of(&checked));
         match checked {
-            Ok(clean) => ended = ended.and(if clean { Ended::Clean } else { Ended::Refused }),
+            Ok(_) => {}
             // Who reads the output has had enough of it.
-            Err(e) if e.kind() == io::ErrorKind::BrokenPipe => return ended.and(Ended::Refused),
+            Err(e) if e.kind() == io::ErrorKind::BrokenPipe => return ended,
             Err(e) => {
                 let _ = eprintln!(rt; "jcheck: {file}: {e}");
-                ended = Ended::Failed;
             }
         }
     }
@@ -84,10 +85,8 @@ fn check_file(
     width: usize,
 ) -> io::Result<bool> {
     let input = read_input(rt, file)?;
-    let mut out = BufWriter::new(rt.alloc(), io::writer(rt))?;
-    let clean = check_input(checker, &mut out, file, input.as_slice(), has_lines, width)?;
-    out.flush()?;
-    Ok(clean)
+    let mut out = Channel::new(io::writer(rt));
+    check_input(checker, &mut out, file, input.as_slice(), has_lines, width)
 }
 
 // The bytes of a file, or of standard input for `-`.

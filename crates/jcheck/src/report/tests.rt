@@ -5,9 +5,9 @@ use std::test::Fail;
 // What is written of an input, and whether it is clean.
 fn written(rt: &impl AllocGlobal, input: &[u8], has_lines: bool) -> Result<(bool, String), Fail> {
     let mut checker = Checker::new(rt.alloc(), 4)?;
-    let mut out = Vec::new(rt.alloc());
+    let mut out = Channel::new(Vec::new(rt.alloc()));
     let clean = check_input(&mut checker, &mut out, "f", input, has_lines, 80)?;
-    Ok((clean, String::from_utf8(out)?))
+    Ok((clean, String::from_utf8(out.into_inner())?))
 }
 
 // Of an input, what is written; it is clean where nothing is.

@@ -1,0 +1,4 @@
+mod Characters
+mod Puts
+mod Texts
+mod Written
