@@ -10,7 +10,7 @@ mod report;
 use checker::Checker;
 use jtape::Channel;
 use options::{Options, asked};
-use report::{Ended, check_input};
+use report::{Ended, check_each, check_input, is_closed};
 use std::io::Read;
 use std::process::ExitCode;
 use std::{env, fs, io};
@@ -51,7 +51,6 @@ fn terminal_width(rt: &HostRuntime) -> usize {
     }
 }
 
-// Checks each file, and goes on after one that can't be read.
 fn check_files(rt: &HostRuntime, options: &Options<'_>) -> Ended {
     let mut checker = match Checker::new(rt.alloc(), options.depth()) {
         Ok(checker) => checker,
@@ -60,21 +59,24 @@ fn check_files(rt: &HostRuntime, options: &Options<'_>) -> Ended {
             return Ended::Failed;
         }
     };
-    let width = terminal_width(rt);
-    let mut ended = Ended::Clean;
-    for file in options.files() {
-        let checked = check_file(rt, &mut checker, file, options.has_lines(), width);
-        ended = ended.and(Ended::of(&checked));
-        match checked {
-            Ok(_) => {}
-            // Who reads the output has had enough of it.
-            Err(e) if e.kind() == io::ErrorKind::BrokenPipe => return ended,
-            Err(e) => {
-                let _ = eprintln!(rt; "jcheck: {file}: {e}");
-            }
-        }
+    let (has_lines, width) = (options.has_lines(), terminal_width(rt));
+    check_each(
+        |file| {
+            let checked = check_file(rt, &mut checker, file, has_lines, width);
+            print_failure(rt, file, &checked);
+            checked
+        },
+        options.files(),
+    )
+}
+
+// Who has closed the output has had enough of it.
+fn print_failure(rt: &HostRuntime, file: &str, checked: &io::Result<bool>) {
+    if let Err(e) = checked
+        && !is_closed(checked)
+    {
+        let _ = eprintln!(rt; "jcheck: {file}: {e}");
     }
-    ended
 }
 
 fn check_file(

@@ -2,7 +2,7 @@
 ghost use Rattle.std.specs.Prelude.{◌≡◌, [], false, is_none, is_some, string_bytes, IfOk, IfErr, OnOk, OnErr};
 ghost use Rattle.std.specs.Io.KnownBytes.{Appends};
 ghost use Rattle.std.specs.List.{list_all};
-ghost use Rattle.jcheck.specs.Endings.{ended_of, status_of, worse};
+ghost use Rattle.jcheck.specs.Endings.{HasChecked, ended_of, is_closed, status_of, worse};
 ghost use Rattle.jcheck.specs.Reports.{is_clean, is_clean_line, line_text, lines_text, output_of, report, whole_text};
 ghost use Rattle.jcheck.specs.Writings.{HasPart, HasStopped};
 ghost use Rattle.jtape.specs.Pieces.{pieces};
@@ -45,8 +45,8 @@ impl Ended {
         }
     }
 
-    /// How an input ended whose check ended so. That nobody reads the output any more is no failure.
-    pub fn of(checked: &io::Result<bool>) -> Ended
+    // After a check that returned this.
+    fn of(checked: &io::Result<bool>) -> Ended
         ensures { result ≡ ended_of checked.now }
     {
         match checked {
@@ -68,6 +68,36 @@ impl Ended {
             (Ended::Failed, _) => Ended::Failed,
         }
     }
+}
+
+/// Whether nobody reads the output any more.
+pub fn is_closed(checked: &io::Result<bool>) -> bool
+    ensures { result ≡ is_closed checked.now }
+{
+    match checked {
+        Ok(_) => false,
+        Err(e) => e.kind() == ErrorKind::BrokenPipe,
+    }
+}
+
+/// Checks the files one after another, and returns the worst of how they ended. It goes on after an error,
+/// unless nobody reads the output any more: that is no failure, but the other files are left.
+pub fn check_each<'a, F: FnMut(&'a str) -> io::Result<bool>>(
+    mut check: F,
+    files: &[&'a str],
+) -> Ended
+    requires { F.IsAlwaysCallable check }
+    ensures { HasChecked F.step check files.now result }
+{
+    let mut ended = Ended::Clean;
+    for file in files {
+        let checked = check(*file);
+        ended = ended.and(Ended::of(&checked));
+        if is_closed(&checked) {
+            return ended;
+        }
+    }
+    ended
 }
 
 /// Checks an input as one document, or each of its lines as one, and writes the place and the reason of each
