@@ -178,8 +178,7 @@ fn put_whole<T: Target, const SIZE: usize>(
         line: location.line(),
         byte: location.byte(),
     };
-    let report = place.report(checker.alloc(), input, &location, width)?;
-    text.put(report.as_bytes());
+    place.put(checker.alloc(), text, input, &location, width)?;
     Ok(false)
 }
 
@@ -245,8 +244,7 @@ fn put_line<T: Target, const SIZE: usize>(
         byte: start.byte.saturating_add(location.byte()),
         ..start
     };
-    let report = place.report(checker.alloc(), line, &location, width)?;
-    text.put(report.as_bytes());
+    place.put(checker.alloc(), text, line, &location, width)?;
     Ok(false)
 }
 
@@ -259,6 +257,24 @@ struct Place<'a> {
 }
 
 impl Place<'_> {
+    // Puts what is said of an error here. Where an allocation fails, nothing is put.
+    fn put<T: Target, const SIZE: usize>(
+        self,
+        alloc: Global,
+        text: &mut Text<'_, T, SIZE>,
+        checked: &[u8],
+        location: &Location,
+        width: usize,
+    ) -> Result<(), AllocError>
+        ensures put { OnOk result (Adds T.place text.old text.new
+            (report self.entry.file.now width self.entry.line self.entry.byte checked.now location.now)) }
+        ensures none { OnErr result (Adds T.place text.old text.new []) }
+    {
+        let report = self.report(alloc, checked, location, width)?;
+        text.put(report.as_bytes());
+        Ok(())
+    }
+
     // What is said of an error here: where and why, and the text around it in the bytes that were checked.
     fn report(
         self,
