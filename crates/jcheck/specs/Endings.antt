@@ -1,5 +1,9 @@
 -- How the program ends, and its status.
-use Rattle.std.specs.Prelude.{ℕ}
+use Rattle.std.specs.Prelude.{◌≡◌, ℕ, List, [], ◌∷◌, Bool, true, false, if◌then◌else◌, Result, Ok, Err}
+use Rattle.std.specs.IoError.{error_kind}
+use Rattle.std.specs.declared.io.Error.{Error}
+use Rattle.std.specs.declared.io.ErrorKind.{ErrorKind}
+use Rattle.std.specs.declared.io.ErrorKind.TheVariants.{BrokenPipe}
 use Rattle.jcheck.specs.declared.report.Ended.{Ended}
 use Rattle.jcheck.specs.declared.report.Ended.TheVariants.{Clean, Refused, Failed}
 
@@ -14,3 +18,44 @@ worse Clean other = other
 worse Refused Clean = Refused
 worse Refused other = other
 worse Failed other = Failed
+
+-- ---- what the check of a file returned: whether it is clean, or an error
+
+-- a closed pipe: nobody reads the output any more
+abbrev pub is_pipe : ErrorKind → Bool
+is_pipe BrokenPipe = true
+is_pipe _ = false
+
+abbrev pub is_closed : Result Bool Error → Bool
+is_closed (Ok clean) = false
+is_closed (Err e) = is_pipe (error_kind e)
+
+abbrev pub ended_of : Result Bool Error → Ended
+ended_of (Ok true) = Clean
+ended_of (Ok false) = Refused
+ended_of (Err e) = if is_pipe (error_kind e) then Refused else Failed
+
+-- after more checks
+abbrev pub ended_after : Ended → List (Result Bool Error) → Ended
+ended_after ended [] = ended
+ended_after ended (r ∷ rs) = ended_after (worse ended (ended_of r)) rs
+
+-- ---- checks of files, each of which changes a state
+
+abbrev pub OnClosed : Bool → Type 0 → Type 0 → Type 0
+OnClosed true P Q = P
+OnClosed false P Q = Q
+
+-- the files were checked in turn, and this was returned: up to the first after which nobody reads the output any more
+abbrev pub Checks : {S X : Type 0} → (S → X → Result Bool Error → S → Type 0) → S → List X → List (Result Bool Error) → S → Type 0
+Checks step s [] [] last = s ≡ last
+Checks step s [] (r ∷ rs) last = ⊥
+Checks step s (x ∷ xs) [] last = ⊥
+Checks {S} step s (x ∷ xs) (r ∷ rs) last = (t : S) × step s x r t × OnClosed (is_closed r) ((rs ≡ []) × (t ≡ last)) (Checks step t xs rs last)
+
+-- and the program ends as the worst of them
+pub record HasChecked {S X : Type 0} (step : S → X → Result Bool Error → S → Type 0) (s : S) (files : List X) (ended : Ended) : Type 0 where
+  pub results : List (Result Bool Error)
+  pub last : S
+  pub checks : Checks step s files results last
+  pub worst : ended ≡ ended_after Clean results

@@ -1,1 +1,4 @@
 pub mod Endings
+pub mod Excerpts
+pub mod Reports
+pub mod Writings

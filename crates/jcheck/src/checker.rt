@@ -31,6 +31,11 @@ impl<'t> Checker<'t> {
         }
     }
 
+    /// The allocator.
+    pub fn alloc(&self) -> Global {
+        self.alloc
+    }
+
     /// The place and the reason of the first error, or `None` of a document.
     pub fn check(&mut self, input: &[u8]) -> Result<Option<Location>, AllocError>
         ensures found { IfOk result (λ found. found ≡ found_in input.now self.old.buffers.limit) }

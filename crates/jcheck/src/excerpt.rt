@@ -1,74 +1,125 @@
 //! The text of a line around a place, and a caret under it.
-ghost use Rattle.std.specs.Prelude.{◌≤◌, length};
+ghost use Rattle.std.specs.Prelude.{◌≡◌, ◌≤◌, IfOk, drop, length, string_bytes, take};
+ghost use Rattle.std.specs.List.{after_last, before_first, position_or_len};
+ghost use Rattle.simd_json.specs.Locations.{begins_character, is_line_feed};
+ghost use Rattle.jcheck.specs.Excerpts.{back, characters, excerpt, first_characters, front, last_characters, shown};
 
-use std::io::{self, Write};
+use std::alloc::{AllocError, Global};
 
-/// Writes a line with the characters around a byte of the input that are in its line, and a line with a caret
-/// under that byte. At most `width` characters are shown, half of them before the byte. Control characters are
-/// shown as spaces, and what is not UTF-8 as U+FFFD.
-pub fn write_excerpt<W: Write>(
-    out: &mut W,
-    input: &[u8],
-    byte: usize,
-    width: usize,
-) -> io::Result<()> {
+/// A line with the characters around a byte of the input that are in its line, and a line with a caret under
+/// that byte. At most `width` characters are shown, half of them before the byte. Control characters are shown
+/// as spaces, and what is not UTF-8 as U+FFFD.
+///
+/// Fails where an allocation does.
+pub fn excerpt(alloc: Global, input: &[u8], byte: usize, width: usize) -> Result<String, AllocError>
+    ensures { IfOk result (λ text. string_bytes text ≡ excerpt width input.now byte) }
+{
     let place = byte.min(input.len());
-    let start = step_back(input, place, width / 2);
-    let end = step_on(input, start, width);
-    for chunk in input[start..end].utf8_chunks() {
-        for c in chunk.valid().chars() {
-            let shown = if c.is_control() { ' ' } else { c };
-            write!(out, "{shown}")?;
-        }
-        if !chunk.invalid().is_empty() {
-            write!(out, "\u{fffd}")?;
-        }
-    }
-    writeln!(out)?;
-    for byte in &input[start..place] {
-        if begins_character(*byte) {
-            write!(out, " ")?;
-        }
-    }
-    writeln!(out, "^")
+    let (before, after) = input.split_at(place);
+    let start = front_start(before, width / 2);
+    let indent = characters(&before[start..]);
+    let end = back_end(after, width.saturating_sub(indent));
+    let text = shown(alloc, &input[start..place + end])?;
+    let indent = " ".repeat(alloc, indent)?;
+    format!(in alloc; "{text}\n{indent}^\n")
 }
 
-// The index at most `most` characters before a place, in its line.
-fn step_back(input: &[u8], place: usize, most: usize) -> usize
-    requires { place ≤ length input.now }
-    ensures { result ≤ place }
+// The index in the bytes after which at most so many characters are left, all in the last line.
+fn front_start(before: &[u8], most: usize) -> usize
+    ensures front { drop result before.now ≡ after_last is_line_feed (last_characters most before.now) }
+    ensures bound { result ≤ length before.now }
 {
-    let mut start = place;
+    let start = step_back(before, most);
+    start + line_start(&before[start..])
+}
+
+// The index in the bytes before which there are at most so many characters, all in the first line.
+fn back_end(after: &[u8], most: usize) -> usize
+    ensures back { take result after.now ≡ before_first is_line_feed (first_characters most after.now) }
+    ensures bound { result ≤ length after.now }
+{
+    let end = step_on(after, most);
+    line_end(&after[..end])
+}
+
+// The index after which so many characters are left, or 0 where there are fewer.
+fn step_back(bytes: &[u8], most: usize) -> usize
+    ensures left { drop result bytes.now ≡ last_characters most bytes.now }
+    ensures bound { result ≤ length bytes.now }
+{
+    let mut start = bytes.len();
     let mut count = 0usize;
-    while start > 0 && count < most && input[start - 1] != b'\n' {
+    while start > 0 && count < most {
         start -= 1;
-        if begins_character(input[start]) {
+        if begins_character(bytes[start]) {
             count += 1;
         }
     }
     start
 }
 
-// The index after at most `most` characters, in the line of `start`.
-fn step_on(input: &[u8], start: usize, most: usize) -> usize
-    requires { start ≤ length input.now }
-    ensures { (start ≤ result) × (result ≤ length input.now) }
+// The index before which there are so many characters, or all.
+fn step_on(bytes: &[u8], most: usize) -> usize
+    ensures passed { take result bytes.now ≡ first_characters most bytes.now }
+    ensures bound { result ≤ length bytes.now }
 {
-    let mut end = start;
-    let mut count = 0usize;
-    while end < input.len() && input[end] != b'\n' {
-        if begins_character(input[end]) {
-            if count == most {
+    let mut end = 0usize;
+    let mut left = most;
+    while end < bytes.len() {
+        if begins_character(bytes[end]) {
+            if left == 0 {
                 break;
             }
-            count += 1;
+            left -= 1;
         }
         end += 1;
     }
     end
 }
 
+// The index after the last line feed, or 0.
+fn line_start(bytes: &[u8]) -> usize
+    ensures start { drop result bytes.now ≡ after_last is_line_feed bytes.now }
+    ensures bound { result ≤ length bytes.now }
+{
+    let mut start = bytes.len();
+    while start > 0 && bytes[start - 1] != b'\n' {
+        start -= 1;
+    }
+    start
+}
+
+// The index of the first line feed, or the length.
+fn line_end(bytes: &[u8]) -> usize
+    ensures end { result ≡ position_or_len is_line_feed bytes.now }
+    ensures bound { result ≤ length bytes.now }
+{
+    let mut end = 0;
+    while end < bytes.len() && bytes[end] != b'\n' {
+        end += 1;
+    }
+    end
+}
+
+fn characters(bytes: &[u8]) -> usize
+    ensures { result ≡ characters bytes.now }
+{
+    bytes.iter().filter(|c| begins_character(**c)).count()
+}
+
 // Whether the byte is no later one of its character (RFC 3629, section 3).
-fn begins_character(byte: u8) -> bool {
+fn begins_character(byte: u8) -> bool
+    ensures { result ≡ begins_character byte }
+{
     !matches!(byte, 0x80..=0xbf)
+}
+
+// The text of the bytes, all of it visible.
+fn shown(alloc: Global, bytes: &[u8]) -> Result<String, AllocError>
+    ensures { IfOk result (λ text. string_bytes text ≡ shown bytes.now) }
+{
+    let text = String::from_utf8_lossy(alloc, bytes)?;
+    text.chars()
+        .map(|c| if c.is_control() { ' ' } else { c })
+        .collect(alloc)
 }

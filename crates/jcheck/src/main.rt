@@ -8,9 +8,10 @@ mod options;
 mod report;
 
 use checker::Checker;
+use jtape::Channel;
 use options::{Options, asked};
-use report::{Ended, check_input};
-use std::io::{BufWriter, Read, Write};
+use report::{Ended, check_each, check_input, is_closed};
+use std::io::Read;
 use std::process::ExitCode;
 use std::{env, fs, io};
 
@@ -50,7 +51,6 @@ fn terminal_width(rt: &HostRuntime) -> usize {
     }
 }
 
-// Checks each file, and goes on after one that can't be read.
 fn check_files(rt: &HostRuntime, options: &Options<'_>) -> Ended {
     let mut checker = match Checker::new(rt.alloc(), options.depth()) {
         Ok(checker) => checker,
@@ -59,21 +59,24 @@ fn check_files(rt: &HostRuntime, options: &Options<'_>) -> Ended {
             return Ended::Failed;
         }
     };
-    let width = terminal_width(rt);
-    let mut ended = Ended::Clean;
-    for file in options.files() {
-        let checked = check_file(rt, &mut checker, file, options.has_lines(), width);
-        match checked {
-            Ok(clean) => ended = ended.and(if clean { Ended::Clean } else { Ended::Refused }),
-            // Who reads the output has had enough of it.
-            Err(e) if e.kind() == io::ErrorKind::BrokenPipe => return ended.and(Ended::Refused),
-            Err(e) => {
-                let _ = eprintln!(rt; "jcheck: {file}: {e}");
-                ended = Ended::Failed;
-            }
-        }
+    let (has_lines, width) = (options.has_lines(), terminal_width(rt));
+    check_each(
+        |file| {
+            let checked = check_file(rt, &mut checker, file, has_lines, width);
+            print_failure(rt, file, &checked);
+            checked
+        },
+        options.files(),
+    )
+}
+
+// Who has closed the output has had enough of it.
+fn print_failure(rt: &HostRuntime, file: &str, checked: &io::Result<bool>) {
+    if let Err(e) = checked
+        && !is_closed(checked)
+    {
+        let _ = eprintln!(rt; "jcheck: {file}: {e}");
     }
-    ended
 }
 
 fn check_file(
@@ -84,10 +87,8 @@ fn check_file(
     width: usize,
 ) -> io::Result<bool> {
     let input = read_input(rt, file)?;
-    let mut out = BufWriter::new(rt.alloc(), io::writer(rt))?;
-    let clean = check_input(checker, &mut out, file, input.as_slice(), has_lines, width)?;
-    out.flush()?;
-    Ok(clean)
+    let mut out = Channel::new(io::writer(rt));
+    check_input(checker, &mut out, file, input.as_slice(), has_lines, width)
 }
 
 // The bytes of a file, or of standard input for `-`.

@@ -1,12 +1,26 @@
 //! What is written of an input, and how the program ends.
-ghost use Rattle.std.specs.Prelude.{◌≡◌, ◌↔◌, false, IfOk, IsTrue, None};
-ghost use Rattle.jcheck.specs.Endings.{status_of, worse};
+ghost use Rattle.std.specs.Prelude.{◌≡◌, [], false, is_none, is_some, string_bytes, IfOk, IfErr, OnOk, OnErr};
+ghost use Rattle.std.specs.Io.KnownBytes.{Appends};
+ghost use Rattle.std.specs.List.{list_all};
+ghost use Rattle.jcheck.specs.Endings.{HasChecked, ended_of, is_closed, status_of, worse};
+ghost use Rattle.jcheck.specs.Reports.{is_clean, is_clean_line, line_text, lines_text, output_of, report, whole_text};
+ghost use Rattle.jcheck.specs.Writings.{HasPart, HasStopped};
+ghost use Rattle.jtape.specs.Pieces.{pieces};
 ghost use Rattle.simd_json.specs.Reasons.{found_in};
+ghost use Rattle.simd_json_parts.specs.Bytes.{is_whitespace};
+ghost use Rattle.simd_json_print.specs.Texts.{Adds};
 
 use crate::checker::Checker;
-use crate::excerpt::write_excerpt;
+use crate::excerpt::excerpt;
+use jtape::Channel;
+use memchr::memchr;
 use simd_json::Location;
-use std::io::{self, Write};
+use simd_json_print::text::{Target, Text};
+use std::alloc::{AllocError, Global};
+use std::io::{self, ErrorKind, Write};
+
+// How many bytes are collected before they are written.
+const PIECE: usize = 8192;
 
 /// How the program ends.
 #[derive(Clone, Copy, Debug, PartialEq, Eq)]
@@ -31,6 +45,18 @@ impl Ended {
         }
     }
 
+    // After a check that returned this.
+    fn of(checked: &io::Result<bool>) -> Ended
+        ensures { result ≡ ended_of checked.now }
+    {
+        match checked {
+            Ok(true) => Ended::Clean,
+            Ok(false) => Ended::Refused,
+            Err(e) if e.kind() == ErrorKind::BrokenPipe => Ended::Refused,
+            Err(_) => Ended::Failed,
+        }
+    }
+
     /// After another input that ended so.
     pub fn and(self, other: Ended) -> Ended
         ensures { result ≡ worse self other }
@@ -44,68 +70,186 @@ impl Ended {
     }
 }
 
+/// Whether nobody reads the output any more.
+pub fn is_closed(checked: &io::Result<bool>) -> bool
+    ensures { result ≡ is_closed checked.now }
+{
+    match checked {
+        Ok(_) => false,
+        Err(e) => e.kind() == ErrorKind::BrokenPipe,
+    }
+}
+
+/// Checks the files one after another, and returns the worst of how they ended. It goes on after an error,
+/// unless nobody reads the output any more: that is no failure, but the other files are left.
+pub fn check_each<'a, F: FnMut(&'a str) -> io::Result<bool>>(
+    mut check: F,
+    files: &[&'a str],
+) -> Ended
+    requires { F.IsAlwaysCallable check }
+    ensures { HasChecked F.step check files.now result }
+{
+    let mut ended = Ended::Clean;
+    for file in files {
+        let checked = check(*file);
+        ended = ended.and(Ended::of(&checked));
+        if is_closed(&checked) {
+            return ended;
+        }
+    }
+    ended
+}
+
 /// Checks an input as one document, or each of its lines as one, and writes the place and the reason of each
 /// error, with at most `width` characters of its line. Returns whether there is none.
 ///
-/// Returns an error where the writer or an allocation fails.
+/// Returns an error where the writer or an allocation fails. A beginning of the output is written then.
 pub fn check_input<W: Write>(
     checker: &mut Checker<'_>,
-    out: &mut W,
+    out: &mut Channel<W>,
     file: &str,
     input: &[u8],
     has_lines: bool,
     width: usize,
 ) -> io::Result<bool>
-    ensures { has_lines ≡ false → IfOk result (λ clean. IsTrue clean
-        ↔ (found_in input.now checker.old.buffers.limit ≡ None)) }
+    requires { out.old.failed ≡ false }
+    ensures clean { IfOk result (λ clean. clean
+        ≡ is_clean input.now has_lines checker.old.buffers.limit) }
+    ensures written { OnOk result ((out.new.failed ≡ false)
+        × Appends (W.contents out.old.inner) (W.contents out.new.inner)
+        (output_of file.now input.now has_lines width checker.old.buffers.limit)) }
+    ensures stopped { IfErr result (λ e. HasStopped e out.new.failed
+        (W.contents out.old.inner) (W.contents out.new.inner)
+        (output_of file.now input.now has_lines width checker.old.buffers.limit)) }
+    ensures limit { checker.new.buffers.limit ≡ checker.old.buffers.limit }
+{
+    let mut text = Text::<Channel<W>, PIECE>::new(out);
+    let put = put_input(checker, &mut text, file, input, has_lines, width);
+    text.finish()?;
+    Ok(put?)
+}
+
+// Puts what is found of an input, and returns whether that is nothing, which is left open where the target
+// fails: that ends it at once. Where an allocation fails, a beginning is put.
+fn put_input<T: Target, const SIZE: usize>(
+    checker: &mut Checker<'_>,
+    text: &mut Text<'_, T, SIZE>,
+    file: &str,
+    input: &[u8],
+    has_lines: bool,
+    width: usize,
+) -> Result<bool, AllocError>
+    ensures clean { IfOk result (λ clean. is_some text.new.fault ≡ false
+        → clean ≡ is_clean input.now has_lines checker.old.buffers.limit) }
+    ensures put { OnOk result (Adds T.place text.old text.new
+        (output_of file.now input.now has_lines width checker.old.buffers.limit)) }
+    ensures stopped { OnErr result (HasPart T.place text.old text.new
+        (output_of file.now input.now has_lines width checker.old.buffers.limit)) }
+    ensures limit { checker.new.buffers.limit ≡ checker.old.buffers.limit }
 {
     if has_lines {
-        return check_lines(checker, out, file, input, width);
-    }
-    match checker.check(input)? {
-        None => Ok(true),
-        Some(location) => {
-            let place = Place {
-                file,
-                line: location.line(),
-                byte: location.byte(),
-            };
-            place.write(out, input, &location, width)?;
-            Ok(false)
-        }
+        put_lines(checker, text, file, input, width)
+    } else {
+        put_whole(checker, text, file, input, width)
     }
 }
 
-// Checks each line that is not blank as a document of its own.
-fn check_lines<W: Write>(
+// The same of an input that is one document.
+fn put_whole<T: Target, const SIZE: usize>(
     checker: &mut Checker<'_>,
-    out: &mut W,
+    text: &mut Text<'_, T, SIZE>,
     file: &str,
     input: &[u8],
     width: usize,
-) -> io::Result<bool> {
+) -> Result<bool, AllocError>
+    ensures clean { IfOk result (λ clean. clean
+        ≡ is_none (found_in input.now checker.old.buffers.limit)) }
+    ensures put { OnOk result (Adds T.place text.old text.new
+        (whole_text file.now width input.now (found_in input.now checker.old.buffers.limit))) }
+    ensures stopped { OnErr result (HasPart T.place text.old text.new
+        (whole_text file.now width input.now (found_in input.now checker.old.buffers.limit))) }
+    ensures limit { checker.new.buffers.limit ≡ checker.old.buffers.limit }
+{
+    let Some(location) = checker.check(input)? else {
+        return Ok(true);
+    };
+    let place = Place {
+        file,
+        line: location.line(),
+        byte: location.byte(),
+    };
+    place.put(checker.alloc(), text, input, &location, width)?;
+    Ok(false)
+}
+
+// The same of an input of which each line is one.
+fn put_lines<T: Target, const SIZE: usize>(
+    checker: &mut Checker<'_>,
+    text: &mut Text<'_, T, SIZE>,
+    file: &str,
+    input: &[u8],
+    width: usize,
+) -> Result<bool, AllocError>
+    ensures clean { IfOk result (λ clean. is_some text.new.fault ≡ false
+        → clean ≡ list_all (is_clean_line checker.old.buffers.limit) (pieces input.now)) }
+    ensures put { OnOk result (Adds T.place text.old text.new
+        (lines_text file.now width checker.old.buffers.limit 1 0 (pieces input.now))) }
+    ensures stopped { OnErr result (HasPart T.place text.old text.new
+        (lines_text file.now width checker.old.buffers.limit 1 0 (pieces input.now))) }
+    ensures limit { checker.new.buffers.limit ≡ checker.old.buffers.limit }
+{
     let mut clean = true;
-    let mut start = 0usize;
-    let mut number = 0usize;
-    for line in input.split(|byte| *byte == b'\n') {
-        number = number.saturating_add(1);
-        if !is_blank(line)
-            && let Some(location) = checker.check(line)?
-        {
-            let place = Place {
-                file,
-                line: number,
-                byte: start.saturating_add(location.byte()),
-            };
-            place.write(out, line, &location, width)?;
-            clean = false;
+    let mut place = Place {
+        file,
+        line: 1,
+        byte: 0,
+    };
+    let mut rest = input;
+    while let Some(end) = memchr(b'\n', rest) {
+        let (line, after) = rest.split_at(end);
+        clean &= put_line(checker, text, place, line, width)?;
+        if text.has_failed() {
+            return Ok(false);
         }
-        start = start.saturating_add(line.len()).saturating_add(1);
+        place.line += 1;
+        place.byte += end + 1;
+        rest = after.split_at(1).1;
     }
+    clean &= put_line(checker, text, place, rest, width)?;
     Ok(clean)
 }
 
-// Where in a file something is refused.
+// Puts what is found of a line that begins at this place, and returns whether that is nothing.
+fn put_line<T: Target, const SIZE: usize>(
+    checker: &mut Checker<'_>,
+    text: &mut Text<'_, T, SIZE>,
+    start: Place<'_>,
+    line: &[u8],
+    width: usize,
+) -> Result<bool, AllocError>
+    ensures clean { IfOk result (λ clean. clean ≡ is_clean_line checker.old.buffers.limit line.now) }
+    ensures put { OnOk result (Adds T.place text.old text.new
+        (line_text start.entry.file.now width checker.old.buffers.limit
+        start.entry.line start.entry.byte line.now)) }
+    ensures none { OnErr result (Adds T.place text.old text.new []) }
+    ensures limit { checker.new.buffers.limit ≡ checker.old.buffers.limit }
+{
+    if is_blank(line) {
+        return Ok(true);
+    }
+    let Some(location) = checker.check(line)? else {
+        return Ok(true);
+    };
+    let place = Place {
+        byte: start.byte.saturating_add(location.byte()),
+        ..start
+    };
+    place.put(checker.alloc(), text, line, &location, width)?;
+    Ok(false)
+}
+
+// A place in a file.
+#[derive(Clone, Copy)]
 struct Place<'a> {
     file: &'a str,
     line: usize,
@@ -113,29 +257,51 @@ struct Place<'a> {
 }
 
 impl Place<'_> {
-    // Writes where and why, and the line's text with a caret.
-    fn write<W: Write>(
+    // Puts what is said of an error here. Where an allocation fails, nothing is put.
+    fn put<T: Target, const SIZE: usize>(
         self,
-        out: &mut W,
-        input: &[u8],
+        alloc: Global,
+        text: &mut Text<'_, T, SIZE>,
+        checked: &[u8],
         location: &Location,
         width: usize,
-    ) -> io::Result<()> {
+    ) -> Result<(), AllocError>
+        ensures put { OnOk result (Adds T.place text.old text.new
+            (report self.entry.file.now width self.entry.line self.entry.byte checked.now location.now)) }
+        ensures none { OnErr result (Adds T.place text.old text.new []) }
+    {
+        let report = self.report(alloc, checked, location, width)?;
+        text.put(report.as_bytes());
+        Ok(())
+    }
+
+    // What is said of an error here: where and why, and the text around it in the bytes that were checked.
+    fn report(
+        self,
+        alloc: Global,
+        checked: &[u8],
+        location: &Location,
+        width: usize,
+    ) -> Result<String, AllocError>
+        ensures { IfOk result (λ text. string_bytes text
+            ≡ report self.entry.file.now width self.entry.line self.entry.byte
+            checked.now location.now) }
+    {
         let Place { file, line, byte } = self;
         let column = location.column();
         let reason = location.reason();
         let kind = location.error().error();
-        writeln!(
-            out,
-            "{file}:{line}:{column}: {reason} [{kind} at byte {byte}]"
-        )?;
-        write_excerpt(out, input, location.byte(), width)
+        let excerpt = excerpt(alloc, checked, location.byte(), width)?;
+        format!(in alloc; "{file}:{line}:{column}: {reason} [{kind} at byte {byte}]\n{excerpt}")
     }
 }
 
 // Whether it is empty, or whitespace alone.
-fn is_blank(line: &[u8]) -> bool {
-    line.iter()
+fn is_blank(bytes: &[u8]) -> bool
+    ensures { result ≡ list_all is_whitespace bytes.now }
+{
+    bytes
+        .iter()
         .all(|byte| matches!(*byte, b' ' | b'\t' | b'\n' | b'\r'))
 }
 

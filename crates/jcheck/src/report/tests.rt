@@ -5,9 +5,9 @@ use std::test::Fail;
 // What is written of an input, and whether it is clean.
 fn written(rt: &impl AllocGlobal, input: &[u8], has_lines: bool) -> Result<(bool, String), Fail> {
     let mut checker = Checker::new(rt.alloc(), 4)?;
-    let mut out = Vec::new(rt.alloc());
+    let mut out = Channel::new(Vec::new(rt.alloc()));
     let clean = check_input(&mut checker, &mut out, "f", input, has_lines, 80)?;
-    Ok((clean, String::from_utf8(out)?))
+    Ok((clean, String::from_utf8(out.into_inner())?))
 }
 
 // Of an input, what is written; it is clean where nothing is.
@@ -99,6 +99,63 @@ fn lines_have_their_numbers(rt: HostRuntime) -> Result<(), Fail> {
     Ok(())
 }
 
+// Takes so many bytes, and then fails.
+#[derive(Drop)]
+struct Short {
+    taken: Vec<u8>,
+    room: usize,
+}
+
+impl Write for Short {
+    fn write(&mut self, buf: &[u8]) -> io::Result<usize> {
+        if self.room == 0 {
+            return Err(io::Error::from(ErrorKind::StorageFull));
+        }
+        let piece = &buf[..buf.len().min(self.room)];
+        self.taken.extend_from_slice(piece)?;
+        self.room -= piece.len();
+        Ok(piece.len())
+    }
+
+    fn flush(&mut self) -> io::Result<()> {
+        Ok(())
+    }
+}
+
+// The writer's error is returned, and it has taken all that it had room for.
+fn assert_stopped(
+    rt: &(impl AllocGlobal + Abort),
+    input: &[u8],
+    text: &str,
+    has_lines: bool,
+) -> Result<(), Fail> {
+    let mut checker = Checker::new(rt.alloc(), 4)?;
+    for room in 0..text.len() {
+        let taken = Vec::new(rt.alloc());
+        let mut out = Channel::new(Short { taken, room });
+        let checked = check_input(&mut checker, &mut out, "f", input, has_lines, 80);
+        let kind = checked.map_err(|e| e.kind());
+        assert_eq!(rt; kind, Err(ErrorKind::StorageFull));
+        assert_eq!(rt;
+            Some(out.into_inner().taken.as_slice()),
+            text.as_bytes().get(..room)
+        );
+    }
+    Ok(())
+}
+
+// A writer that is full at each of its bytes in turn.
+#[test]
+fn failed_writes_end_the_check(rt: HostRuntime) -> Result<(), Fail> {
+    for (input, text) in &REFUSED {
+        assert_stopped(&rt, input, text, false)?;
+    }
+    for (input, text) in &LINES {
+        assert_stopped(&rt, input, text, true)?;
+    }
+    Ok(())
+}
+
 // The worst of all inputs decides.
 #[test]
 fn ends_have_statuses(rt: HostRuntime) {
@@ -107,4 +164,31 @@ fn ends_have_statuses(rt: HostRuntime) {
     assert_eq!(rt; Ended::Clean.and(Ended::Refused).status(), 1);
     assert_eq!(rt; Ended::Failed.and(Ended::Refused).status(), 3);
     assert_eq!(rt; Ended::Refused.and(Ended::Failed).status(), 3);
+}
+
+// How many files are checked, and the status of them all, where their checks return these in turn.
+fn checked(results: [io::Result<bool>; 3]) -> (usize, u8) {
+    let mut count = 0usize;
+    let ended = check_each(
+        |_file| {
+            let result = results[count % 3];
+            count = count.saturating_add(1);
+            result
+        },
+        &["a", "b", "c"],
+    );
+    (count, ended.status())
+}
+
+// A file that can't be read does not keep the others from being checked, but a closed pipe does.
+#[test]
+fn files_are_checked_in_turn(rt: HostRuntime) {
+    let missing = Err(io::Error::from(ErrorKind::NotFound));
+    let closed = Err(io::Error::from(ErrorKind::BrokenPipe));
+    assert_eq!(rt; checked([Ok(true), Ok(true), Ok(true)]), (3, 0));
+    assert_eq!(rt; checked([Ok(true), Ok(false), Ok(true)]), (3, 1));
+    assert_eq!(rt; checked([missing, Ok(false), Ok(true)]), (3, 3));
+    assert_eq!(rt; checked([Ok(false), Ok(true), missing]), (3, 3));
+    assert_eq!(rt; checked([Ok(true), closed, missing]), (2, 1));
+    assert_eq!(rt; checked([missing, closed, Ok(true)]), (2, 3));
 }

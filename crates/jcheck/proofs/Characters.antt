@@ -1,0 +1,46 @@
+-- The first and the last characters of a list of bytes, as loops over an index find them.
+use Rattle.std.proofs.Common.{◌≡◌, ◌∙◌, refl, ap, sym, arith, ℕ, zero, suc, ◌+◌, ◌-◌, ◌<◌, ◌≤◌, List, [], ◌∷◌, ◌++◌, take, drop, length}
+use Rattle.std.proofs.Common.{Bool, true, false, cond, count_by, get_or}
+use Rattle.std.specs.Prelude.{nat_le, nat_lt}
+use Rattle.std.proofs.lemmas.Bool.{le-leb, lt-leb}
+use Rattle.std.proofs.lemmas.List.Sums.{sum_by-cons}
+use Rattle.simd_json.specs.Locations.{begins_character}
+use Rattle.jcheck.specs.Excerpts.{begun, characters, first_characters, last_characters}
+
+pub characters-cons : (x : ℕ) (s : List ℕ) → characters (x ∷ s) ≡ begun x + characters s
+characters-cons x s = sum_by-cons begun x s
+
+-- there are no more of them after byte k
+pub characters-drop : (k : ℕ) (s : List ℕ) → characters (drop k s) ≤ characters s
+characters-drop zero s = omega arith
+characters-drop (suc k) [] = omega arith
+characters-drop (suc k) (x ∷ s) = omega (arith, characters-drop k s, characters-cons x s)
+
+last-stays : (n : ℕ) (x : ℕ) (s : List ℕ) → characters s < n → last_characters n (x ∷ s) ≡ x ∷ s
+last-stays n x s few = grind arith
+
+last-drops : (n : ℕ) (x : ℕ) (s : List ℕ) → n ≤ characters s → last_characters n (x ∷ s) ≡ last_characters n s
+last-drops n x s many = grind arith
+
+-- From byte k on there are n of them, unless that is the first byte; from the next one on fewer.
+pub last-from : (n : ℕ) (s : List ℕ) (k : ℕ) → (0 < k → n ≤ characters (drop k s))
+    → (k < length s → characters (drop (suc k) s) < n) → last_characters n s ≡ drop k s
+last-from n [] zero many few = refl
+last-from n [] (suc k) many few = refl
+last-from n (x ∷ s) zero many few = last-stays n x s (few (omega arith))
+last-from n (x ∷ s) (suc k) many few =
+    last-drops n x s (omega (arith, many (omega arith), characters-drop k s))
+    ∙ last-from n s k (λ _. many (omega arith)) (λ h. few (omega arith))
+
+-- ---- at an index
+
+first-stops : (n : ℕ) (x : ℕ) (s : List ℕ) → begins_character x ≡ true → n ≡ 0 → first_characters n (x ∷ s) ≡ []
+first-stops n x s begins none = grind arith
+
+first-goes : (n : ℕ) (x : ℕ) (s : List ℕ) → begins_character x ≡ true → 0 < n
+    → first_characters n (x ∷ s) ≡ x ∷ first_characters (n - 1) s
+first-goes n x s begins some = grind arith
+
+first-stays : (n : ℕ) (x : ℕ) (s : List ℕ) → begins_character x ≡ false
+    → first_characters n (x ∷ s) ≡ x ∷ first_characters n s
+first-stays n x s later = grind arith

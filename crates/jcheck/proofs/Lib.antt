@@ -1,0 +1,5 @@
+mod Characters
+mod Checked
+mod Puts
+mod Texts
+mod Written

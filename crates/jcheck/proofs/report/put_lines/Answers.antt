@@ -1,0 +1,68 @@
+use Rattle.std.proofs.Common.{◌∙◌, ◌+◌, [], arith, drop, length, refl, sym}
+use Rattle.jcheck.proofs.Puts.{all-put, and-true, clean-more, line-done, others-lost}
+use Rattle.jcheck.proofs.report.put_lines.Goals as goal
+use Rattle.jtape.proofs.Pieces.{found-cut, not_found-last}
+use Rattle.jcheck.specs.Reports.{is_clean_line, lines_text}
+use Rattle.jtape.specs.Pieces.{pieces}
+use Rattle.std.specs.List.{list_all}
+
+pub returns-then-has_failed-clause-put : goal.returns-then-has_failed-clause-put
+returns-then-has_failed-clause-put g c =
+    let split = c.split_at in
+    let line = split.result.0.now in
+    let after = split.result.1.now in
+    let rest = c.loop-end.rest.now in
+    let whole = lines_text c.args.file.now c.args.width c.args.checker.now.buffers.limit 1 0 (pieces c.args.input.now) in
+    let cut = found-cut rest line after (drop 1 after) c.in-Some.end c.in-Some.ensures split.ensures.front split.ensures.back refl in
+    let done =
+    line-done c.args.file.now c.loop-end.place.file.now c.args.width c.args.checker.now.buffers.limit c.loop-end.checker.buffers.limit
+    c.loop-end.place.line c.loop-end.place.byte (c.loop-end.place.line + 1) (c.loop-end.place.byte + length line + 1) line
+    (pieces (drop 1 after)) (pieces rest) {whole = whole} c.loop-end.invariant.file c.loop-end.invariant.limit cut refl refl c.loop-end.invariant.done
+    c.in_ok-clean.ensures.put in
+    others-lost {whole = whole} (sym c.has_failed.ensures ∙ c.if-has_failed.true) done
+
+pub loop-end-preserved : goal.loop-end-preserved
+loop-end-preserved g c =
+    let split = c.split_at in
+    let line = split.result.0.now in
+    let more = c.split_at-in-Some.result.1.now in
+    let rest = c.loop-end.rest.now in
+    let limit = c.args.checker.now.buffers.limit in
+    let cut =
+    found-cut rest line split.result.1.now more c.in-Some.end c.in-Some.ensures split.ensures.front split.ensures.back
+    c.split_at-in-Some.ensures.back in
+    let put = c.in_ok-clean.ensures in
+    let whole = lines_text c.args.file.now c.args.width limit 1 0 (pieces c.args.input.now) in
+    let clean = list_all (is_clean_line limit) (pieces c.args.input.now) in
+    record {
+      limit = put.limit ∙ c.loop-end.invariant.limit;
+      file = c.loop-end.invariant.file;
+      line = omega (arith, c.loop-end.invariant.line, split.ensures.back_len, c.split_at-in-Some.ensures.back_len);
+      byte = omega (arith, c.loop-end.invariant.byte, split.ensures.back_len, c.split_at-in-Some.ensures.back_len);
+      done =
+          line-done c.args.file.now c.loop-end.place.file.now c.args.width limit c.loop-end.checker.buffers.limit
+          c.loop-end.place.line c.loop-end.place.byte _ _ line (pieces more) (pieces rest) {whole = whole} c.loop-end.invariant.file
+          c.loop-end.invariant.limit cut refl (omega (arith, split.ensures.front_len)) c.loop-end.invariant.done put.put;
+      clean =
+          clean-more limit c.loop-end.checker.buffers.limit c.loop-end.clean c.in_ok-clean.field-0 line (pieces more) (pieces rest)
+          {whole = clean} c.loop-end.invariant.limit cut put.clean c.loop-end.invariant.clean;
+    }
+
+pub returns-clause-clean : goal.returns-clause-clean
+returns-clause-clean g c _ =
+    let rest = c.loop-end.rest.now in
+    let clean = list_all (is_clean_line c.args.checker.now.buffers.limit) (pieces c.args.input.now) in
+    sym (and-true _)
+    ∙ clean-more c.args.checker.now.buffers.limit c.loop-end.checker.buffers.limit c.loop-end.clean c.in_ok-clean-2.field-0 rest []
+    (pieces rest) {whole = clean} c.loop-end.invariant.limit (not_found-last rest c.in_default.ensures) c.in_ok-clean-2.ensures.clean
+    c.loop-end.invariant.clean
+
+pub returns-clause-put : goal.returns-clause-put
+returns-clause-put g c =
+    let rest = c.loop-end.rest.now in
+    let whole = lines_text c.args.file.now c.args.width c.args.checker.now.buffers.limit 1 0 (pieces c.args.input.now) in
+    all-put {whole = whole}
+    (line-done c.args.file.now c.loop-end.place.file.now c.args.width c.args.checker.now.buffers.limit c.loop-end.checker.buffers.limit
+    c.loop-end.place.line c.loop-end.place.byte (c.loop-end.place.line + 1) (c.loop-end.place.byte + length rest + 1) rest [] (pieces rest)
+    {whole = whole} c.loop-end.invariant.file c.loop-end.invariant.limit (not_found-last rest c.in_default.ensures) refl refl c.loop-end.invariant.done
+    c.in_ok-clean-2.ensures.put)

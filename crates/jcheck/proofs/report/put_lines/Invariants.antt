@@ -1,0 +1,23 @@
+use Rattle.std.proofs.Common.{◌≡◌, ◌+◌, ◌≤◌, length}
+use Rattle.std.specs.Prelude.{◌&&◌}
+use Rattle.std.specs.List.{list_all}
+use Rattle.jcheck.specs.Reports.{is_clean_line, lines_text}
+use Rattle.jcheck.proofs.Puts.{IsDone}
+use Rattle.jcheck.proofs.report.put_lines.Given as goal
+use Rattle.jtape.specs.Pieces.{pieces}
+
+abbrev pub invariant-loop-end : goal.invariant-loop-end
+invariant-loop-end g l = record {
+  limit : l.checker.buffers.limit ≡ l.fn.checker.buffers.limit;
+  file : l.place.file.now ≡ l.file;
+  line : l.place.line + length l.rest ≤ length l.input + 1;
+  byte : l.place.byte + length l.rest ≡ length l.input;
+  done : IsDone g.T.Target.place l.fn.text l.text
+      (lines_text l.file l.width l.fn.checker.buffers.limit l.place.line l.place.byte (pieces l.rest))
+      (lines_text l.file l.width l.fn.checker.buffers.limit 1 0 (pieces l.input));
+  clean : (l.clean && list_all (is_clean_line l.fn.checker.buffers.limit) (pieces l.rest))
+      ≡ list_all (is_clean_line l.fn.checker.buffers.limit) (pieces l.input);
+}
+
+abbrev pub decreases-loop-end : goal.decreases-loop-end
+decreases-loop-end g l = length l.rest

@@ -1,0 +1,64 @@
+-- What is written of an input, and whether it is clean: functions of the input, its file's name, the width and the depth limit.
+use Rattle.std.specs.Prelude.{ℕ, ◌+◌, ◌-◌, ◌^◌, min, List, [], ◌∷◌, ◌++◌, length, codes, Bool, ◌||◌, Option, None, Some, is_none, if◌then◌else◌}
+use Rattle.std.specs.Fmt.{decimal}
+use Rattle.std.specs.List.{list_all}
+use Rattle.jcheck.specs.Excerpts.{excerpt}
+use Rattle.jtape.specs.Pieces.{pieces, is_blank}
+use Rattle.simd_json.specs.Messages.{reason_text}
+use Rattle.simd_json.specs.Reasons.{found_in}
+use Rattle.simd_json.specs.declared.location.Location.{Location}
+use Rattle.simd_json_parts.specs.Bytes.{line_feed}
+use Rattle.simd_json_parts.specs.ErrorKinds.{kind_text}
+
+-- FILE:LINE:COLUMN: REASON [KIND at byte BYTE]
+abbrev pub words : List ℕ → ℕ → ℕ → Location → List ℕ
+words file line byte l =
+    file ++ codes ":" ++ decimal line ++ codes ":" ++ decimal l.column ++ codes ": " ++ reason_text l.reason
+    ++ codes " [" ++ kind_text l.error.error ++ codes " at byte " ++ decimal byte ++ codes "]"
+
+-- of an error at this line and byte of its file: the words, and the text around it in the bytes that were checked
+abbrev pub report : List ℕ → ℕ → ℕ → ℕ → List ℕ → Location → List ℕ
+report file width line byte checked l = words file line byte l ++ (line_feed ∷ []) ++ excerpt width checked l.byte
+
+-- ---- of an input that is one document
+
+abbrev pub whole_text : List ℕ → ℕ → List ℕ → Option Location → List ℕ
+whole_text file width input None = []
+whole_text file width input (Some l) = report file width l.line l.byte input l
+
+-- ---- of lines, each a document of its own
+
+-- the place in the file, as far as 64 bits hold it
+abbrev pub place_after : ℕ → ℕ → ℕ
+place_after start byte = min (start + byte) (2 ^ 64 - 1)
+
+abbrev pub found_text : List ℕ → ℕ → ℕ → ℕ → List ℕ → Option Location → List ℕ
+found_text file width number start line None = []
+found_text file width number start line (Some l) = report file width number (place_after start l.byte) line l
+
+-- of the line with this number, which begins at byte `start`
+abbrev pub line_text : List ℕ → ℕ → ℕ → ℕ → ℕ → List ℕ → List ℕ
+line_text file width limit number start line =
+    if is_blank line then [] else found_text file width number start line (found_in line limit)
+
+-- of that line and those after it
+abbrev pub lines_text : List ℕ → ℕ → ℕ → ℕ → ℕ → List (List ℕ) → List ℕ
+lines_text file width limit number start [] = []
+lines_text file width limit number start (line ∷ more) =
+    line_text file width limit number start line
+    ++ lines_text file width limit (number + 1) (start + length line + 1) more
+
+-- it is blank or a document
+abbrev pub is_clean_line : ℕ → List ℕ → Bool
+is_clean_line limit line = is_blank line || is_none (found_in line limit)
+
+-- ---- of an input
+
+abbrev pub output_of : List ℕ → List ℕ → Bool → ℕ → ℕ → List ℕ
+output_of file input has_lines width limit =
+    if has_lines then lines_text file width limit 1 0 (pieces input)
+    else whole_text file width input (found_in input limit)
+
+abbrev pub is_clean : List ℕ → Bool → ℕ → Bool
+is_clean input has_lines limit =
+    if has_lines then list_all (is_clean_line limit) (pieces input) else is_none (found_in input limit)
