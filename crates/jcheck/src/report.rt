@@ -7,7 +7,6 @@ ghost use Rattle.jcheck.specs.Reports.{is_clean, is_clean_line, line_text, lines
 ghost use Rattle.jcheck.specs.Writings.{HasPart, HasStopped};
 ghost use Rattle.jtape.specs.Pieces.{pieces};
 ghost use Rattle.simd_json.specs.Reasons.{found_in};
-ghost use Rattle.simd_json_parts.specs.Bytes.{is_whitespace};
 ghost use Rattle.simd_json_print.specs.Texts.{Adds};
 
 use crate::checker::Checker;
@@ -15,6 +14,7 @@ use crate::excerpt::excerpt;
 use jtape::Channel;
 use memchr::memchr;
 use simd_json::Location;
+use simd_json_parts::charutils::is_blank;
 use simd_json_print::text::{Target, Text};
 use std::alloc::{AllocError, Global};
 use std::io::{self, ErrorKind, Write};
@@ -294,15 +294,6 @@ impl Place<'_> {
         let excerpt = excerpt(alloc, checked, location.byte(), width)?;
         format!(in alloc; "{file}:{line}:{column}: {reason} [{kind} at byte {byte}]\n{excerpt}")
     }
-}
-
-// Whether it is empty, or whitespace alone.
-fn is_blank(bytes: &[u8]) -> bool
-    ensures { result ≡ list_all is_whitespace bytes.now }
-{
-    bytes
-        .iter()
-        .all(|byte| matches!(*byte, b' ' | b'\t' | b'\n' | b'\r'))
 }
 
 #[cfg(test)]
