@@ -1,4 +1,26 @@
-//! From bytes to structural positions, and to the blocks that hold a backslash.
+//! The first stage: from bytes to structural indexes, and to the blocks that hold a backslash.
+//!
+//! A structural index is the byte index of the opening quote of a string or, outside strings, of a
+//! structural character or of the first byte of another token. They are found as in simdjson
+//! (G. Langdale and D. Lemire, "Parsing Gigabytes of JSON per Second", VLDB Journal 28 (2019),
+//! section 3.1): a block of 64 bytes becomes words with a bit for each byte, and all else is
+//! arithmetic on words. The modules, with the steps of that section:
+//!
+//! ```text
+//! classes    64 bytes → a word for each class               vectorized classification
+//! words      → the escaped bytes, by runs of backslashes    quoted substrings
+//!            → the bytes inside strings, by prefix XOR      quoted substrings
+//!            → the starts of tokens                         pseudo-structural characters
+//! writing    a word → indexes in the list                   index extraction
+//! encoding   UTF-8, a window at a time                      character encoding
+//! scan       the order of all this: windows of 8 KiB, groups of eight blocks, what is left
+//! capacity   memory for the two lists
+//! ```
+//!
+//! Where it differs from simdjson: eight blocks are taken at a time, each step over all of them;
+//! the prefix XOR is computed by shifts; the input needs no padding; the lists grow with what is
+//! found; and blocks with a backslash are listed, so that stage 2 need not search most strings for
+//! escapes. As there, an index is a `u32`.
 ghost use Rattle.std.specs.Prelude.{◌≡◌, ◌≤◌, ◌⊎◌, length, take, Some, None, IfOk, IfErr};
 ghost use Rattle.simd_json_parts.specs.InputFaults.{input_fault};
 ghost use Rattle.simd_json_parts.specs.Positions.{positions};
@@ -16,32 +38,45 @@ mod scan;
 mod words;
 mod writing;
 
-/// How many bytes a block has. The last block of an input may have fewer.
+/// The number of bytes of a block. The last block of an input may have fewer.
 pub const BLOCK_LEN: usize = 64;
 
-/// How much of the two lists is in use.
+/// How many entries of the two lists are in use, from their front. A call of
+/// [`find_structural_bits`](Stage1Parse::find_structural_bits) returns it.
 #[derive(Clone, Copy, Debug, PartialEq, Eq)]
 pub struct Found {
-    /// How many structural positions there are.
+    /// The number of structural indexes of the input.
     pub positions: usize,
-    /// How many blocks hold a backslash.
+    /// The number of its blocks of 64 bytes that hold a backslash.
     pub escape_blocks: usize,
 }
 
-/// A way to find the structural positions of an input.
+/// The first stage of a parse: it finds the structural indexes of an input.
+///
+/// The trait states what every implementation must find. [`BlockStage1Parse`] is the one that
+/// parses use.
 pub trait Stage1Parse {
-    /// Writes the structural positions of `input` to the front of one list, and to the front of the other the
-    /// numbers of the blocks of 64 bytes that hold a backslash, so that a string in other blocks is known to
-    /// have no escape. Both rise, and it returns how many there are. The lists grow by what is found, and
-    /// are filled a step ahead of it.
+    /// Lists the structural indexes of `input` at the front of `structural_indexes`, each as a byte
+    /// index into `input`. At the front of `escape_blocks` it lists the blocks of 64 bytes that
+    /// hold a backslash, each by its number: block `n` begins at byte `64 * n`. A string that lies
+    /// in other blocks has no escape.
     ///
-    /// Returns the fault of the whole input, if it has one: `InputTooLarge` where it has more than
-    /// 4,294,967,295 bytes, `InvalidUtf8` where it is not UTF-8 (RFC 3629), `Syntax` where a string is left
-    /// open or holds a byte below 0x20 (RFC 8259, section 7), `Eof` where there is no position. `OutOfMemory`
-    /// comes where a growth was refused, which is asked for only once size and encoding are known to be
-    /// right, and only where the list of positions is shorter than the input, or the other shorter than the
-    /// input's number of blocks. After an error nothing of either list is in use; what they hold is of no
-    /// meaning, and they are no shorter than before.
+    /// Both are ascending. Returns how many entries of each list are in use; what follows them is
+    /// unspecified. A list that is too short grows with what is found, and some way ahead of it.
+    ///
+    /// Returns the error of the whole input, if it has one:
+    ///
+    /// - `InputTooLarge`: it has more than 4,294,967,295 bytes
+    /// - `InvalidUtf8`: it is not UTF-8 (RFC 3629)
+    /// - `Syntax`: a string is left open or holds a byte below 0x20 (RFC 8259, section 7)
+    /// - `Eof`: it has no structural index
+    ///
+    /// Returns `OutOfMemory` if a list cannot grow. That is tried only after size and encoding have
+    /// been checked, and only where `structural_indexes` has fewer entries than `input` has bytes,
+    /// or `escape_blocks` fewer than `input` has blocks.
+    ///
+    /// After an error no entry of either list is in use, and their contents are unspecified. In any
+    /// case they are no shorter than before.
     fn find_structural_bits<A: Allocator>(
         input: &[u8],
         structural_indexes: &mut Vec<u32, A>,
@@ -60,7 +95,8 @@ pub trait Stage1Parse {
         ensures block_capacity { length escape_blocks.old.items ≤ length escape_blocks.new.items };
 }
 
-/// A block of 64 bytes after another, by lanes and words.
+/// The first stage by blocks of 64 bytes: vectors of 32 bytes tell the classes of bytes apart, and
+/// the rest is arithmetic on words of 64 bits.
 pub struct BlockStage1Parse;
 
 impl Stage1Parse for BlockStage1Parse {

@@ -1,4 +1,9 @@
-// Capacity in the lists of a scan. They grow by what is found, and are filled a step ahead of it.
+//! Memory for the two lists of the first stage.
+//!
+//! simdjson allocates for the worst case, an index for each byte, before it scans. Here a list grows
+//! with what is found, by half or by what is guessed from the input so far. A list is kept filled,
+//! since stores go to entries below its length: a step ahead of what is found, so that entries are
+//! filled shortly before they are overwritten.
 ghost use Rattle.std.specs.Prelude.{◌≡◌, ◌≤◌, ◌<◌, length, take, IfErr, OnOk};
 ghost use Rattle.simd_json_parts.specs.Faults.{whole_fault};
 ghost use Rattle.simd_json_parts.specs.declared.error.ErrorType.{ErrorType};
@@ -6,11 +11,11 @@ ghost use Rattle.simd_json_parts.specs.declared.error.ErrorType.{ErrorType};
 use simd_json_parts::error::Result;
 use std::alloc::Allocator;
 
-// How far ahead of what is needed a list is filled: what is filled is still in the cache when it is written
-// over.
+// How many entries more than are needed a list is filled with: they are still in the cache when
+// they are overwritten.
 const STEP: usize = 32_768;
 
-// Makes a list longer, as `grow` says.
+// Makes a list longer, as `grow` says. Not inlined, since it is rarely needed.
 #[inline(never)]
 fn lengthen<A: Allocator>(
     list: &mut Vec<u32, A>,
@@ -34,9 +39,10 @@ fn lengthen<A: Allocator>(
     Ok(())
 }
 
-// Makes a list as long as is needed, and longer by a step, but `max_len` long at most. Where it has no
-// capacity for that it gets more by half, or what is guessed. What it held stays, refused or not. A list that
-// is kept is mostly long enough, so that test is compiled into each caller.
+// Makes a list at least `need` long, and longer by a step, but at most `max_len` long. If its
+// capacity is less than `need`, it gets half as much again, or `guess` if that is more. It keeps
+// what it held, also when allocation fails. A list that is used again is mostly long enough, so
+// that test is compiled into each caller.
 #[inline(always)]
 pub(super) fn grow<A: Allocator>(
     list: &mut Vec<u32, A>,

@@ -1,6 +1,12 @@
-// Three words that tell the classes of 64 bytes apart, by table look-ups on the halves of a byte: the
-// vectorized classification of G. Langdale and D. Lemire, "Parsing Gigabytes of JSON per Second", VLDB
-// Journal 28 (2019).
+//! The classes of the 64 bytes of a block, as words with a bit for each byte: the vectorized
+//! classification of G. Langdale and D. Lemire, "Parsing Gigabytes of JSON per Second", VLDB Journal
+//! 28 (2019), section 3.1.
+//!
+//! The paper looks up both halves of a byte and joins the results. Here, as in later versions of
+//! simdjson, the low half alone is looked up, in a table with the one byte of the class that has it,
+//! and the result is compared with the byte. Unlike there, the quote is in both tables: bytes of
+//! both classes are quotes, and two comparisons tell three classes apart. A third one finds control
+//! bytes. Bit `i` of a word is that of byte `i`.
 ghost use Rattle.std.specs.Prelude.{◌≡◌, ◌==◌, ◌<◌, ℕ, map, slice_index};
 ghost use Rattle.std.specs.List.{list_any};
 ghost use Rattle.std.specs.Simd.Lanes.{mask_l};
@@ -10,28 +16,37 @@ ghost use Rattle.simd_json_stages.specs.Words.{HasBits};
 
 use std::simd::prelude::*;
 
-// By the low half of a byte: the whitespace or quote that has it, or else a byte with another low half.
+// Indexed by the low half of a byte: the whitespace or quote with that low half. Elsewhere a byte
+// with another low half (100, 17, 113, 2, 112 as in simdjson), which no byte that is looked up there
+// equals. A table for each of the two 16-byte lanes of a vector.
 const SPACE_OR_QUOTE: [u8; 32] = [
     b' ', 100, b'"', 100, 17, 100, 113, 2, 100, b'\t', b'\n', 112, 100, b'\r', 100, 100, b' ', 100,
     b'"', 100, 17, 100, 113, 2, 100, b'\t', b'\n', 112, 100, b'\r', 100, 100,
 ];
-// The same of a quote or structural character, of which `| 0x20` makes both brackets one.
+// The same of a quote or structural character, compared with the byte `| 0x20`, which makes `[` and
+// `{` one, and `]` and `}`. Elsewhere 0, which no byte `| 0x20` equals.
 const OP_OR_QUOTE: [u8; 32] = [
     0, 0, b'"', 0, 0, 0, 0, 0, 0, 0, b':', b'{', b',', b'}', 0, 0, 0, 0, b'"', 0, 0, 0, 0, 0, 0, 0,
     b':', b'{', b',', b'}', 0, 0,
 ];
 
-// A bit for each byte of a class. `op_or_quote` also has 0x02, 0x0C and 0x1A, which `control` tells apart.
+// What `classes` finds in the 64 bytes of a block.
 #[derive(Clone, Copy, Drop)]
 pub(super) struct ClassWords {
+    // a bit for each byte that is whitespace or a quote
     pub(super) space_or_quote: u64,
+    // a bit for each structural character and quote, and for 0x02, 0x0C and 0x1A, which `control`
+    // tells apart
     pub(super) op_or_quote: u64,
+    // a bit for each byte below 0x20
     pub(super) control: u64,
-    // Not 0 where a byte is no ASCII.
+    // not 0 if a byte is not ASCII; which one is not said
     pub(super) high: u64,
+    // whether one of the bytes is a backslash
     pub(super) has_backslash: bool,
 }
 
+// A bit for each of 32 bytes that is whitespace or a quote.
 #[inline(always)]
 fn space_or_quote(v: u8x32) -> u64
     ensures { result ≡ mask_l (map is_space_or_quote v) }
@@ -40,6 +55,7 @@ fn space_or_quote(v: u8x32) -> u64
         .to_bitmask()
 }
 
+// A bit for each of 32 bytes that is a structural character or a quote, or 0x02, 0x0C or 0x1A.
 #[inline(always)]
 fn op_or_quote(v: u8x32) -> u64
     ensures { result ≡ mask_l (map is_op_or_quote v) }
@@ -49,6 +65,7 @@ fn op_or_quote(v: u8x32) -> u64
         .to_bitmask()
 }
 
+// The classes of the bytes of a block, 32 at a time.
 #[inline(always)]
 pub(super) fn classes(bytes: &[u8; 64]) -> ClassWords
     ensures space_or_quote { HasBits result.space_or_quote
@@ -81,6 +98,7 @@ pub(super) fn has_backslash(bytes: &[u8; 64]) -> bool
     (low.simd_eq(backslash) | high.simd_eq(backslash)).to_bitmask() != 0
 }
 
+// A bit for each backslash.
 #[inline(always)]
 pub(super) fn backslashes(bytes: &[u8; 64]) -> u64
     ensures { HasBits result (λ i. slice_index bytes.now i == backslash) }

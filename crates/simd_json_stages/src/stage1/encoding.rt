@@ -1,14 +1,20 @@
-// How far an input is known to be UTF-8 (RFC 3629): a window at a time after the scan, and all of the rest
-// before any memory is taken. A window of ASCII alone needs no test. The test is `simdutf8`'s: J. Keiser and
-// D. Lemire, "Validating UTF-8 In Less Than One Instruction Per Byte", Software: Practice and Experience 51
-// (2021).
+//! How far an input is known to be UTF-8 (RFC 3629).
+//!
+//! The test is that of `simdutf8`: J. Keiser and D. Lemire, "Validating UTF-8 In Less Than One
+//! Instruction Per Byte", Software: Practice and Experience 51 (2021). simdjson tests each block
+//! while it is scanned. Here a window of 8 KiB is tested after its scan, and one that is all ASCII,
+//! as the scan has found, not at all. Before a list grows, all of the input that is left is tested
+//! at once, so that an input that is not UTF-8 is rejected before any memory is taken.
+//!
+//! In this module `checked` is the number of bytes at the front that are known to be UTF-8, and all
+//! indexes count bytes of the input.
 ghost use Rattle.std.specs.Prelude.{◌≡◌, ◌≤◌, ◌<◌, ℕ, List, length, take, true, IfOk, IfErr, IsUtf8};
 ghost use Rattle.simd_json_parts.specs.Bytes.{byte_at};
 ghost use Rattle.simd_json_stages.specs.Scans.{IsBadEncoding};
 
 use simd_json_parts::error::{Error, ErrorType, Result};
 
-// One byte back, where no character begins at an index.
+// Steps back one byte if `at` is inside a character.
 fn back_in_character(input: &[u8], at: usize) -> usize
     ensures { (result ≤ at) × (length input.now ≤ at → result ≡ at) }
 {
@@ -18,7 +24,8 @@ fn back_in_character(input: &[u8], at: usize) -> usize
     }
 }
 
-// Where the character begins that may go on past an index: it has three bytes before it at most.
+// Returns the start of the character that `end` would split, or `end` itself: in UTF-8 at most
+// three bytes of such a character are before `end`.
 fn character_start(input: &[u8], end: usize) -> usize
     ensures { (result ≤ end) × (length input.now ≤ end → result ≡ end) }
 {
@@ -28,7 +35,7 @@ fn character_start(input: &[u8], end: usize) -> usize
     )
 }
 
-// All that is left to be tested. Returns the input's length.
+// Checks the input from `checked` to its end, and returns its length.
 #[inline(never)]
 pub(super) fn check_rest(input: &[u8], checked: usize) -> Result<usize>
     requires within { checked ≤ length input.now }
@@ -43,7 +50,8 @@ pub(super) fn check_rest(input: &[u8], checked: usize) -> Result<usize>
     }
 }
 
-// What is not tested yet of the bytes before an index, which a character may go on past.
+// Checks the input from `checked` to `end`, or to the start of a character that `end` would split.
+// Returns how far that is. If that part is not UTF-8, checking the whole rest decides.
 #[inline(never)]
 fn check_up_to(input: &[u8], checked: usize, end: usize) -> Result<usize>
     requires within { checked ≤ length input.now }
@@ -60,9 +68,10 @@ fn check_up_to(input: &[u8], checked: usize, end: usize) -> Result<usize>
     check_rest(input, checked)
 }
 
-// The bytes of a window, and those before it that are not tested yet. Returns how far the input is known to
-// be UTF-8 then, which is where a character begins, and the end only at the input's end. Most windows need no
-// test, so this much of it is compiled into each caller.
+// Checks the input up to the end of the window from `start` to `end`, unless the window is all ASCII
+// and all before it is checked. Returns how far the input is known to be UTF-8 then; if the window
+// ends the input, that is its end. Most windows need no test, so this much is compiled into each
+// caller.
 #[inline(always)]
 pub(super) fn check_window(
     input: &[u8],

@@ -1,4 +1,14 @@
-// A scan of a whole input: its whole blocks in windows, and then what is left.
+//! The scan of a whole input: the order in which the steps of the first stage are applied.
+//!
+//! Its whole blocks of 64 bytes come first, in windows of 128 blocks: before each window the lists get
+//! memory for all that it may hold, and after it its encoding is checked. What is left, fewer than 64
+//! bytes, is scanned as a block that is filled up with spaces, so that the input needs no padding, as
+//! it does in simdjson. Inputs of fewer than eight whole blocks take a shorter path.
+//!
+//! A block passes two steps, whose states are kept apart, since eight blocks take the first step
+//! before one takes the second: it is classified, and listed if it holds a backslash, and its
+//! structural indexes are written. Control bytes inside strings are collected in a word, which is
+//! looked at once, at the end.
 ghost use Rattle.std.specs.Prelude.{◌≡◌, ◌+◌, ◌*◌, ◌/◌, ◌^◌, ◌<◌, ◌≤◌, ◌⊎◌, ℕ, List, length, take, drop};
 ghost use Rattle.std.specs.Prelude.{IfOk, IfErr, IsTrue, IsUtf8};
 ghost use Rattle.std.specs.Int.{from_bool};
@@ -22,18 +32,20 @@ use simd_json_parts::error::Result;
 use std::alloc::Allocator;
 use windows::{WINDOW, Window, capacity_for, scan_few, scan_window};
 
-// What is kept from one block to the next of those that are looked at by themselves.
+// The state of the first step after some blocks.
 #[derive(Clone, Copy, Drop)]
 struct Classifying {
-    // 1 where the next byte is escaped, else 0.
+    // 1 if the first byte of the next block is escaped, else 0
     escaped: u64,
-    // Not 0 where a byte of the last window is no ASCII.
+    // not 0 if a byte of the current window is not ASCII
     high: u64,
+    // how many entries of the list of blocks with a backslash are in use
     listed: usize,
 }
 
 impl Classifying {
-    // After the next block, which has this number and is classified: it is listed where it holds a backslash.
+    // Returns the state after the next block, whose number is `number` and in which `found` was
+    // found. Lists it if it holds a backslash.
     #[inline(always)]
     fn with_block(self, found: Classified, number: usize, listed: &mut [u32]) -> Classifying
         requires short { number < 2 ^ 32 }
@@ -51,17 +63,20 @@ impl Classifying {
     }
 }
 
-// What is kept from one block to the next of those whose positions are written.
+// The state of the second step after some blocks.
 #[derive(Clone, Copy, Drop)]
 struct Placing {
+    // what the last block hands to the next
     carry: Carry,
-    // Not 0 where a control byte is inside.
+    // not 0 if some block has a control byte inside a string
     bad: u64,
+    // how many entries of the list of structural indexes are in use
     used: usize,
 }
 
 impl Placing {
-    // Writes the positions of the next block, which has this number.
+    // Writes the structural indexes of the next block, whose number is `number`, and returns the
+    // state after it.
     #[inline(always)]
     fn place_block(self, parts: Parts, control: u64, number: usize, out: &mut [u32]) -> Placing
         requires short { 64 * (number + 1) ≤ 2 ^ 32 }
@@ -79,13 +94,16 @@ impl Placing {
     }
 }
 
-// What is known after some whole blocks.
+// The state of a scan after some whole blocks.
 #[derive(Clone, Copy, Drop)]
 pub(super) struct ScanState {
+    // of the first step
     classifying: Classifying,
+    // of the second
     placing: Placing,
 }
 
+// The state before the first block.
 const START: ScanState = ScanState {
     classifying: Classifying {
         escaped: 0,
@@ -102,7 +120,8 @@ const START: ScanState = ScanState {
     },
 };
 
-// The whole blocks, and how far the input is known to be UTF-8 after them.
+// Scans the whole blocks. Returns the state after them, and how many bytes of the input are known to
+// be UTF-8 then.
 #[inline(always)]
 pub(super) fn scan_blocks<A: Allocator>(
     input: &[u8],
@@ -153,8 +172,8 @@ pub(super) fn scan_blocks<A: Allocator>(
     Ok((done, checked))
 }
 
-// The same of fewer blocks than a group has. They are one window, before which nothing is known, so that LLVM
-// keeps what it carries in registers.
+// The same for fewer blocks than a group has: one window without a loop over windows, so that LLVM
+// keeps the state in registers.
 #[inline(always)]
 fn scan_short<A: Allocator>(
     input: &[u8],
@@ -197,8 +216,9 @@ fn scan_short<A: Allocator>(
     Ok((done, checked))
 }
 
-// The block that the rest after the whole blocks begins, and spaces fill up. Where the input has 64 bytes the
-// last of them are read in place, since vectors that read a copy wait until its pieces are stored.
+// Classifies the block of the bytes after the whole blocks, `rest`, followed by spaces. If the input
+// has at least 64 bytes, its last 64 are read in place: vectors that read a copy would wait until its
+// pieces are stored.
 #[inline(always)]
 fn classify_rest(input: &[u8], rest: &[u8], before: u64) -> Classified
     requires rest { rest.now ≡ drop (length input.now / 64 * 64) input.now }
@@ -215,8 +235,9 @@ fn classify_rest(input: &[u8], rest: &[u8], before: u64) -> Classified
     }
 }
 
-// What is after the whole blocks, as a block that spaces fill up. Returns whether some string is bad, and how
-// many positions and blocks with a backslash there are.
+// Scans the bytes after the whole blocks, `rest`, as a block that is filled up with spaces. Returns
+// whether some string of the input is left open or holds a control byte, and how many structural
+// indexes and blocks with a backslash the input has.
 #[inline(always)]
 pub(super) fn scan_rest<A: Allocator>(
     input: &[u8],

@@ -1,6 +1,22 @@
-// The words of a block: from classes to positions, 64 bytes at a time, as in G. Langdale and D. Lemire,
-// "Parsing Gigabytes of JSON per Second", VLDB Journal 28 (2019): escapes, quoted strings and token starts by
-// arithmetic.
+//! The words of a block: from classes to structural indexes by arithmetic, as in G. Langdale and
+//! D. Lemire, "Parsing Gigabytes of JSON per Second", VLDB Journal 28 (2019), section 3.1. Bit `i` of
+//! a word is that of byte `i` of the block.
+//!
+//! - **Escaped bytes** follow an odd run of backslashes. A sum carries through each run to the bit
+//!   after it, whose parity, with that of the run's start, says whether the run is odd. The paper
+//!   adds twice, for runs from even and from odd bits; here one sum does, as in later versions of
+//!   simdjson. A block without a backslash skips this.
+//! - **Strings** lie between quotes that are not escaped: the prefix XOR of the quotes is set from an
+//!   opening quote up to the byte before its closing one. The paper multiplies without carry by all
+//!   ones; here six shifts do the same.
+//! - **Starts of tokens** outside strings: structural characters, opening quotes, and each other byte
+//!   that is not whitespace and does not continue such a token. The paper calls the latter
+//!   pseudo-structural characters.
+//!
+//! A block needs three bits from the one before: whether its first byte is escaped, whether it begins
+//! inside a string, and whether its first byte may continue a token. The work is split by that:
+//! `classify` needs the first, `find_parts` none, so that several blocks run at once, and
+//! `find_starts` the other two. It also finds control bytes inside strings, which are errors.
 ghost use Rattle.std.specs.Prelude.{◌≡◌, ◌==◌, ◌+◌, ◌-◌, ◌<◌, ◌++◌, ℕ, List, drop, replicate, Bool};
 ghost use Rattle.std.specs.List.{list_any};
 ghost use Rattle.simd_json_parts.specs.Bytes.{backslash};
@@ -12,55 +28,75 @@ ghost use Rattle.simd_json_stages.specs.Blocks.{AreStarts, AreParts, AreClassifi
 
 use super::classes::{backslashes, classes};
 
+// The bits of even index.
 const EVEN: u64 = 0x5555_5555_5555_5555;
 
+// What `find_escaped` finds in a block.
 #[derive(Clone, Copy, Drop)]
 struct Escaped {
+    // a bit for each byte that is escaped
     escaped: u64,
+    // 1 if the first byte after the block is escaped, else 0
     next: u64,
 }
 
-// What is found in a block by itself: a bit for each byte of a class, and for each that is escaped. `next` is
-// 1 where the byte after the block is escaped, else 0; `high` is not 0 where a byte is no ASCII.
+// What `classify` finds in a block: the words of its classes and its escaped bytes. It depends on
+// the block before only by whether its first byte is escaped.
 #[derive(Clone, Copy, Drop)]
 pub(super) struct Classified {
+    // a bit for each byte that is whitespace or a quote, escaped or not
     pub(super) space_or_quote: u64,
+    // a bit for each structural character and quote, and for 0x02, 0x0C and 0x1A
     pub(super) op_or_quote: u64,
+    // a bit for each byte below 0x20
     pub(super) control: u64,
+    // a bit for each byte that is escaped
     pub(super) escaped: u64,
+    // 1 if the first byte after the block is escaped, else 0
     pub(super) next: u64,
+    // not 0 if a byte is not ASCII
     pub(super) high: u64,
+    // whether one of the bytes is a backslash
     pub(super) has_backslash: bool,
 }
 
-// What is known of a block without what precedes it: a bit for each byte that goes on with a token
-// wherever it is, for each whitespace and for each quote that is not escaped, and in `parity` for each
-// byte with an odd number of these quotes up to it.
+// What `find_parts` finds in a block without what precedes it.
 #[derive(Clone, Copy, Drop)]
 pub(super) struct Parts {
+    // a bit for each byte with an odd number of quotes up to it that are not escaped: inside a
+    // string, if the block begins outside
     pub(super) parity: u64,
+    // a bit for each other byte than structural characters, whitespace and such quotes: outside
+    // strings it is part of a number, a word or stray text
     pub(super) plain: u64,
+    // a bit for each whitespace
     pub(super) space: u64,
+    // a bit for each quote that is not escaped
     pub(super) quote: u64,
 }
 
-// What one block passes on to the next besides its escape. `inside` is 0 or all ones, `plain` 0 or 1.
+// What one block hands to the next, besides whether its first byte is escaped.
 #[derive(Clone, Copy, Drop)]
 pub(super) struct Carry {
+    // all ones if the block ends inside a string, else 0
     pub(super) inside: u64,
+    // 1 if its last byte is plain (see `Parts`), else 0
     pub(super) plain: u64,
 }
 
-// A bit for each position of a block, one for each byte below 0x20 that is inside, and what the next block
-// has to know.
+// What `find_starts` finds in a block.
 #[derive(Clone, Copy, Drop)]
 pub(super) struct BlockStarts {
+    // a bit for each structural index
     pub(super) starts: u64,
+    // a bit for each byte below 0x20 inside a string
     pub(super) bad: u64,
+    // for the next block
     pub(super) carry: Carry,
 }
 
-// The bytes after an odd run of backslashes. `before` is 1 where the first byte is one, else 0.
+// Finds the bytes after an odd run of backslashes. `before` is 1 if the first byte is escaped, else
+// 0: then it begins no run.
 #[inline(always)]
 fn find_escaped(backslash: u64, before: u64) -> Escaped
     ensures { (c : Bool) → before ≡ from_bool c → (HasBits result.escaped (escaped_in c backslash))
@@ -76,7 +112,8 @@ fn find_escaped(backslash: u64, before: u64) -> Escaped
     }
 }
 
-// Each bit is the xor of all up to it: the carry-less product with all ones, by shifts.
+// Each bit of the result is the xor of all bits up to it: the carry-less product with all ones, by
+// shifts.
 #[inline(always)]
 fn prefix_xor(x: u64) -> u64
     ensures { HasBits result (λ i. parity x (i + 1)) }
@@ -89,7 +126,8 @@ fn prefix_xor(x: u64) -> u64
     e ^ (e << 32)
 }
 
-// The classes of a block, and what is escaped in it. `before` is 1 where its first byte is, else 0.
+// Finds the classes of a block and its escaped bytes. `before` is 1 if its first byte is escaped,
+// else 0.
 #[inline(always)]
 pub(super) fn classify(bytes: &[u8; 64], before: u64) -> Classified
     ensures classified { (b : List ℕ) (i : ℕ) → IsBlock b i bytes.now → before ≡ from_bool (is_escaped_at b i)
@@ -117,7 +155,8 @@ pub(super) fn classify(bytes: &[u8; 64], before: u64) -> Classified
     }
 }
 
-// The bits at the end of a word, so many, at its front.
+// The upper `len` bits of a word, moved to its lower end. Two shifts, since a shift by 64 would be
+// out of range.
 #[inline(always)]
 fn last_bits(word: u64, len: usize) -> u64
     requires { len < 64 }
@@ -126,8 +165,8 @@ fn last_bits(word: u64, len: usize) -> u64
     (word >> 1) >> (63 - len)
 }
 
-// As `classify`, of a block that the last of these bytes begin, so many, and spaces fill up: its words are
-// those of the bytes, moved. Only `high` is of all the bytes.
+// Like `classify`, for a block of the last `len` of these bytes followed by spaces: its words are
+// those of the bytes, moved. Only `high` is that of all 64 bytes.
 #[inline(always)]
 pub(super) fn classify_last(bytes: &[u8; 64], len: usize, before: u64) -> Classified
     requires { len < 64 }
@@ -155,7 +194,7 @@ pub(super) fn classify_last(bytes: &[u8; 64], len: usize, before: u64) -> Classi
     }
 }
 
-// What is known of a block from its words alone.
+// Finds what a block's words say without those of the block before.
 #[inline(always)]
 pub(super) fn find_parts(space_or_quote: u64, op_or_quote: u64, control: u64, escaped: u64) -> Parts
     ensures { (b : List ℕ) (i : ℕ) → HasClasses b i space_or_quote op_or_quote control escaped
@@ -174,7 +213,9 @@ pub(super) fn find_parts(space_or_quote: u64, op_or_quote: u64, control: u64, es
     }
 }
 
-// The positions of a block, from what precedes it.
+// Finds the structural indexes of a block, from what the block before hands to it. A byte is none if
+// it is plain and follows a plain one, if it is whitespace, or if it is inside a string or its
+// closing quote.
 #[inline(always)]
 pub(super) fn find_starts(parts: Parts, control: u64, carry: Carry) -> BlockStarts
     ensures { (b : List ℕ) (i : ℕ) → AreParts b i parts → IsControl b i control → IsCarried b i carry

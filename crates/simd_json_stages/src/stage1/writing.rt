@@ -1,5 +1,10 @@
-// The indexes of a block's positions, from the word of their bits to the list: several at a time whether they
-// are there or not, as simdjson's index extraction.
+//! From the word of a block to indexes in the list: the index extraction of G. Langdale and D. Lemire,
+//! "Parsing Gigabytes of JSON per Second", VLDB Journal 28 (2019), section 3.1.
+//!
+//! The lowest set bit is found by `trailing_zeros` and cleared, several times in a row whether there
+//! are as many bits or not: stores beyond the last bit are overwritten by those of the next block.
+//! Then the only branches are on how many bits a word has. simdjson stores eight at a time; here it
+//! is four, and a word with more than 16 bits is finished one by one.
 ghost use Rattle.std.specs.Prelude.{◌≡◌, ◌+◌, ◌^◌, ◌<◌, ◌≤◌, ◌++◌, [], ◌∷◌, ℕ, List, length, take};
 ghost use Rattle.std.specs.Prelude.{if◌then◌else◌, IsTrue};
 ghost use Rattle.std.specs.Int.{from_bool};
@@ -7,8 +12,8 @@ ghost use Rattle.std.specs.Int.RustNames.{count_ones};
 ghost use Rattle.simd_json_stages.specs.Words.{set_bits};
 ghost use Rattle.simd_json_stages.specs.Stored.{IsStored};
 
-// Stores the index of the lowest bit, and returns the others. Where there is no bit what is stored has no
-// meaning.
+// Stores the index of the lowest bit at `out[at]`, and returns the other bits. `base` is the index
+// of the block's first byte. If no bit is set, the stored value is unspecified.
 #[inline(always)]
 fn store_lowest(out: &mut [u32], at: usize, base: u32, bits: u64) -> u64
     requires capacity { at < length out.old }
@@ -21,7 +26,7 @@ fn store_lowest(out: &mut [u32], at: usize, base: u32, bits: u64) -> u64
     bits & bits.wrapping_sub(1)
 }
 
-// The same four times, with no branch.
+// `store_lowest` four times, without a branch.
 #[inline(always)]
 fn store_four(out: &mut [u32], at: usize, base: u32, bits: u64) -> u64
     requires capacity { at + 4 ≤ length out.old }
@@ -36,8 +41,8 @@ fn store_four(out: &mut [u32], at: usize, base: u32, bits: u64) -> u64
     store_lowest(out, at + 3, base, bits)
 }
 
-// Writes the indexes of a word's bits after those that are in use, and returns how many are in use then. Most
-// blocks have a few, so the branches are on their number, and some stores are in vain.
+// Appends the indexes of a word's bits to the `used` entries in use, and returns how many are in
+// use then. Up to four entries after these may be overwritten.
 #[inline(always)]
 pub(super) fn write(out: &mut [u32], used: usize, base: u32, bits: u64) -> usize
     requires capacity { used + 64 ≤ length out.old }
@@ -65,7 +70,7 @@ pub(super) fn write(out: &mut [u32], used: usize, base: u32, bits: u64) -> usize
     write_exactly(out, used + 16, base, rest)
 }
 
-// The same one by one, and nothing in vain.
+// Like `write`, but one by one, and no other entry is overwritten.
 #[inline(always)]
 pub(super) fn write_exactly(out: &mut [u32], used: usize, base: u32, bits: u64) -> usize
     requires capacity { used + count_ones bits ≤ length out.old }
@@ -82,7 +87,7 @@ pub(super) fn write_exactly(out: &mut [u32], used: usize, base: u32, bits: u64) 
     end
 }
 
-// Writes the number of a block that holds a backslash after those that are in use, and nothing for another.
+// Appends the number of a block to the `used` entries in use if the block holds a backslash.
 // Returns how many are in use then.
 #[inline(always)]
 pub(super) fn list_block(listed: &mut [u32], used: usize, number: u32, has_backslash: bool) -> usize

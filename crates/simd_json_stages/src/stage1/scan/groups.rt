@@ -1,6 +1,14 @@
-// Eight blocks at a time: first what is known of each by itself, then the arithmetic on their words, which
-// is the same for each and needs no other, so that LLVM does several at once, and at last their positions in
-// order. A group, or its first half, that is all inside a string has none, and is passed over.
+//! The scan of groups of eight blocks, in three loops:
+//!
+//! 1. `classify_group`: the classes of each block and its escaped bytes, and the list of blocks with a
+//!    backslash.
+//! 2. `part_group`: the arithmetic that needs no other block. It is the same for each, so LLVM does
+//!    several blocks at once by vectors.
+//! 3. `place_group`: the structural indexes, from left to right.
+//!
+//! simdjson does all three for one block before the next. Splitting them lets the second run in
+//! vectors, at the cost of storing the words between. Also, the first half of a group, or all but its
+//! last block, is skipped in step 3 if it lies inside a string: it has no structural index.
 ghost use Rattle.std.specs.Prelude.{◌≡◌, ◌≢◌, ◌+◌, ◌-◌, ◌*◌, ◌%◌, ◌^◌, ◌<◌, ◌≤◌, ℕ, List, length};
 ghost use Rattle.simd_json_stages.specs.Blocks.{AreBlocks, CanList, IsAscii};
 ghost use Rattle.simd_json_stages.specs.Blocks.{IsClassified, IsPlaced, IsScanned};
@@ -10,45 +18,56 @@ use super::windows::Window;
 use super::{Classifying, Placing, ScanState};
 use crate::stage1::words::{Carry, Parts, classify, find_parts};
 
-// How many blocks a group has.
+// The number of blocks of a group.
 pub(super) const GROUP: usize = 8;
 
-// How many its first half has.
+// The number of blocks of its first half.
 const HALF: usize = GROUP / 2;
 
-// Its last block, which is placed even where all others are passed over: the loop that places runs at least
-// once, so LLVM keeps what it carries in the same registers.
+// The last block of a group. It is placed even if all others are skipped: then the loop that places
+// runs at least once, and LLVM keeps its state in the same registers.
 const LAST: usize = GROUP - 1;
 
 // A word for each block of a group.
 type Words = [u64; GROUP];
 
-// The classes of each block.
+// What the first loop finds, a word for each block: the fields of `Classified` that the others need.
 #[derive(Clone, Copy, Drop)]
 struct GroupClasses {
+    // the bits of whitespace and quotes
     space_or_quote: Words,
+    // the bits of structural characters and quotes, and of 0x02, 0x0C and 0x1A
     op_or_quote: Words,
+    // the bits of bytes below 0x20
     control: Words,
+    // the bits of escaped bytes
     escaped: Words,
 }
 
-// The parts of each.
+// What the second loop finds, a word for each block: the fields of `Parts`.
 #[derive(Clone, Copy, Drop)]
 struct GroupParts {
+    // the bits with an odd number of quotes up to them
     parity: Words,
+    // the bits of bytes of numbers, words and stray text
     plain: Words,
+    // the bits of whitespace
     space: Words,
+    // the bits of quotes that are not escaped
     quote: Words,
 }
 
-// Room for the words of a group, which one group after another takes.
+// Memory for the words of one group, used by one group after another.
 #[derive(Clone, Copy, Drop)]
 struct Group {
+    // of the first loop
     classes: GroupClasses,
+    // of the second
     parts: GroupParts,
 }
 
 impl Group {
+    // The memory before the first group.
     const EMPTY: Group = Group {
         classes: GroupClasses {
             space_or_quote: [0; GROUP],
@@ -65,7 +84,8 @@ impl Group {
     };
 }
 
-// What is known of each block by itself. Those with a backslash are listed.
+// The first loop: classifies the blocks of the group from number `first` on, and lists those with a
+// backslash.
 fn classify_group(
     blocks: &[[u8; 64]],
     first: usize,
@@ -99,7 +119,7 @@ fn classify_group(
     now
 }
 
-// The arithmetic on their words.
+// The second loop: the parts of each block from its classes.
 fn part_group(classes: &GroupClasses, parts: &mut GroupParts)
     ensures { (b : List ℕ) (first : ℕ)
         → HaveClasses b first 8 classes.now.space_or_quote classes.now.op_or_quote
@@ -122,7 +142,7 @@ fn part_group(classes: &GroupClasses, parts: &mut GroupParts)
     }
 }
 
-// Not 0 where one of the first blocks has a quote that is not escaped.
+// Not 0 if one of the first `end` blocks has a quote that is not escaped.
 fn quotes_before(group: &GroupParts, end: usize) -> u64
     requires within { end ≤ 8 }
     ensures { (b : List ℕ) (first : ℕ)
@@ -138,8 +158,8 @@ fn quotes_before(group: &GroupParts, end: usize) -> u64
     quotes
 }
 
-// Past the first blocks, which are all inside a string: they have no positions, and each of their control
-// bytes is bad.
+// Skips the first `end` blocks, which are all inside a string: they have no structural index, and each
+// of their control bytes is bad. Returns the state after them.
 fn pass_blocks(group: &GroupParts, control: &Words, end: usize, before: Placing) -> Placing
     requires within { (0 < end) × (end ≤ 8) }
     requires inside { before.carry.inside ≢ 0 }
@@ -165,7 +185,8 @@ fn pass_blocks(group: &GroupParts, control: &Words, end: usize, before: Placing)
     }
 }
 
-// How many blocks of a group are passed over, and what is known after them.
+// Skips the first blocks of the group if they lie inside a string. Returns how many, and the state
+// after them.
 fn pass_group(group: &GroupParts, control: &Words, before: Placing) -> (usize, Placing)
     ensures few { result.0 ≤ 8 }
     ensures used { result.1.used ≡ before.used }
@@ -173,7 +194,8 @@ fn pass_group(group: &GroupParts, control: &Words, before: Placing) -> (usize, P
         → HaveParts b first 8 group.now.parity group.now.plain group.now.space group.now.quote
         → IsPlaced b first before out → IsPlaced b (first + result.0) result.1 out }
 {
-    // Quotes first: nearly each half has one, while every other group begins inside a string.
+    // The test for quotes comes first: nearly each half has one, while every other group begins
+    // inside a string.
     if quotes_before(group, HALF) == 0 && before.carry.inside != 0 {
         if quotes_before(group, LAST) == 0 {
             return (LAST, pass_blocks(group, control, LAST, before));
@@ -183,7 +205,7 @@ fn pass_group(group: &GroupParts, control: &Words, before: Placing) -> (usize, P
     (0, before)
 }
 
-// Their positions, from left to right.
+// The third loop: writes the structural indexes of the group from block number `first` on.
 fn place_group(
     first: usize,
     group: &GroupParts,
@@ -212,7 +234,7 @@ fn place_group(
     now
 }
 
-// A group, into lists with capacity for all that it may have.
+// Scans the group from block number `first` on. The lists have room for all that it may hold.
 fn scan_group(
     blocks: &[[u8; 64]],
     first: usize,
@@ -250,7 +272,8 @@ fn scan_group(
     }
 }
 
-// The groups of a window that has nothing else, likewise.
+// Scans a window that consists of whole groups, likewise. Not inlined, so that the loops get the
+// registers.
 #[inline(never)]
 pub(super) fn scan_groups(
     blocks: &[[u8; 64]],

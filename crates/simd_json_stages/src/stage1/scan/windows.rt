@@ -1,4 +1,8 @@
-// Windows of some blocks: capacity for what each may have, and its scan.
+//! Windows of up to 128 blocks, which are 8 KiB: memory for all that a window may hold, and its scan.
+//!
+//! Within a window no store needs a test of capacity, and nothing is tested for UTF-8; both are done
+//! between windows. Groups of eight blocks come first, and what is left of a window is scanned block by
+//! block. Whatever is scanned is still in the first-level cache when its encoding is checked.
 ghost use Rattle.std.specs.Prelude.{◌≡◌, ◌+◌, ◌-◌, ◌*◌, ◌^◌, ◌<◌, ◌≤◌, ◌⊎◌};
 ghost use Rattle.std.specs.Prelude.{ℕ, List, length, take, IfOk, IfErr, IsFalse, IsUtf8};
 ghost use Rattle.simd_json_parts.specs.Limits.{max_length};
@@ -15,17 +19,19 @@ use crate::stage1::words::{classify, find_parts};
 use simd_json_parts::error::Result;
 use std::alloc::Allocator;
 
-// Blocks between two looks at the encoding and at the capacity of the lists: 8 KiB.
+// The number of blocks between two checks of encoding and capacity: 8 KiB.
 pub(super) const WINDOW: usize = 128;
 
-// The blocks from one to another.
+// Some blocks in a row.
 #[derive(Clone, Copy, Drop)]
 pub(super) struct Window {
+    // the number of its first block
     pub(super) first: usize,
+    // the number of the block after its last one
     pub(super) end: usize,
 }
 
-// The blocks from one to another one at a time, into lists with capacity for all that they may have.
+// Scans the blocks of a window one at a time. The lists have room for all that they may hold.
 #[inline(always)]
 pub(super) fn scan_few(
     blocks: &[[u8; 64]],
@@ -67,7 +73,7 @@ pub(super) fn scan_few(
     }
 }
 
-// The blocks of a window, into lists with capacity for all that they may have.
+// Scans the blocks of a window, whole groups first. The lists have room for all that they may hold.
 #[inline(always)]
 pub(super) fn scan_window(
     blocks: &[[u8; 64]],
@@ -104,7 +110,7 @@ pub(super) fn scan_window(
     scan_few(blocks, rest, out, listed, done)
 }
 
-// Whether one of the blocks of a window holds a backslash.
+// Whether a block of the window holds a backslash.
 #[inline(never)]
 fn have_backslash(blocks: &[[u8; 64]], window: Window) -> bool
     requires within { (window.first ≤ window.end) × (window.end ≤ length blocks.now) }
@@ -120,9 +126,12 @@ fn have_backslash(blocks: &[[u8; 64]], window: Window) -> bool
     false
 }
 
-// Capacity for all that a window may have. Before a list grows, all of the input is known to be UTF-8. The
-// list of positions grows by how many there were so far. With new lists, an input of one window that has no
-// backslash leaves the list of blocks empty, which is one allocation less.
+// Makes room in the lists for all that a window may hold. Before a list grows, the whole input is
+// checked to be UTF-8. Returns how many bytes are known to be.
+//
+// The list of structural indexes grows to a guess from how many there were so far. If the lists are
+// new, and the input is one window without a backslash, the list of blocks stays empty, which saves
+// an allocation.
 #[inline(always)]
 pub(super) fn capacity_for<A: Allocator>(
     input: &[u8],
