@@ -1,4 +1,6 @@
-//! Lists that parses use one after another.
+//! The memory that parses use one after another: the two lists that the first stage fills, and the stack
+//! of the second. The lists are kept filled to their length, which only grows, so that a parse stores
+//! into them without a test of capacity; how many entries are in use is counted apart.
 ghost use Rattle.std.specs.Prelude.{◌≡◌, ◌≤◌, ◌<◌, ◌⊎◌, [], length, max, take};
 ghost use Rattle.std.specs.Prelude.{OnOk, OnErr, IfOk, IfErr, Some, Err};
 ghost use Rattle.std.specs.Vec.{vec_capacity};
@@ -20,23 +22,28 @@ use simd_json_stages::stage2::{NodeSink, Original, Scanned, StackState, build_ta
 use std::alloc::{Allocator, Global};
 use std::marker::Model;
 
-// How many containers may be open with a stack that is not kept, so that the first parse of a short input takes no
-// memory for one. A later parse takes it, since filling this one costs a tenth of the time of a short input.
+// The length of a stack in local memory. Up to as many open containers the first parse allocates no
+// stack. A later parse does, since filling this one costs a tenth of the time of a short input.
 const FEW_OPEN: usize = 64;
 
-/// What parses use one after another: the lists of the structural positions and of the blocks that hold a
-/// backslash, and the stack of the open containers, of which there may be so many.
+/// The memory that parses use one after another, and their depth limit: the lists of the structural
+/// indexes and of the blocks that hold a backslash, and the stack of the open containers.
 ///
-/// Each list grows by what an input needs, and is never given up. What buffers held before does not change a
-/// result.
-// The lists are kept filled up to their capacity.
+/// Each list grows by what an input needs, and never shrinks. What buffers held before does not change
+/// a result.
 #[derive(Drop)]
 pub struct Buffers<A: Allocator = Global> {
+    // structural indexes (byte indexes into the input), and entries not in use
     pub(crate) structural_indexes: Vec<u32, A>,
+    // how many of these are in use, from the front
     pub(crate) used: usize,
+    // numbers of blocks of 64 bytes that hold a backslash, and entries not in use
     pub(crate) escape_blocks: Vec<u32, A>,
+    // how many of these are in use, from the front
     pub(crate) used_blocks: usize,
+    // the stack of the second stage, in use only during a parse
     pub(crate) stack: Vec<StackState, A>,
+    // how many containers may be open at a time
     pub(crate) max_depth: usize,
 }
 
@@ -54,7 +61,7 @@ impl<A: Allocator> Model for Buffers<A> {
 }
 
 impl<A: Allocator + Copy> Buffers<A> {
-    /// Buffers with which at most [`DEFAULT_MAX_DEPTH`] containers may be open at a time. See
+    /// Returns buffers with which at most [`DEFAULT_MAX_DEPTH`] containers may be open at a time. See
     /// [`with_max_depth`](Buffers::with_max_depth).
     pub fn new(a: A, input_len: usize) -> Result<Buffers<A>>
         ensures made { IfOk result (λ buffers. buffers ≡ new_buffers input_len default_max_depth) }
@@ -63,14 +70,15 @@ impl<A: Allocator + Copy> Buffers<A> {
         Buffers::with_max_depth(a, input_len, DEFAULT_MAX_DEPTH)
     }
 
-    /// Buffers with which at most `max_depth` containers may be open at a time; 0 leaves scalars alone.
+    /// Returns buffers with which at most `max_depth` containers may be open at a time; 0 allows scalars
+    /// only.
     ///
-    /// They list no position. There is capacity for the positions that an input of `input_len` bytes may have
-    /// (more than 4,294,967,295 count as that number, the greatest size of an input), and none for open
-    /// containers yet: the depth limit costs nothing before an input is as deep. `input_len` is a hint, and
-    /// may be 0: what an input needs beyond it is grown by the parse.
+    /// They list no structural index. They have capacity for those that an input of `input_len` bytes
+    /// may have (more than 4,294,967,295 count as that number, the greatest size of an input), and none
+    /// for open containers yet: the depth limit costs nothing before an input is as deep. `input_len` is
+    /// a hint, and may be 0: a parse allocates what an input needs beyond it.
     ///
-    /// Returns `OutOfMemory` where an allocation fails.
+    /// Returns `OutOfMemory` if an allocation fails.
     pub fn with_max_depth(a: A, input_len: usize, max_depth: usize) -> Result<Buffers<A>>
         ensures made { IfOk result (λ buffers. buffers ≡ new_buffers input_len max_depth) }
         ensures fault { IfErr result (λ e. IsOutOfMemory e × (0 < input_len)) }
@@ -80,7 +88,7 @@ impl<A: Allocator + Copy> Buffers<A> {
         Ok(buffers)
     }
 
-    // Lists nothing, and takes no memory.
+    // Buffers that list nothing. Allocates nothing.
     pub(crate) fn empty(a: A, max_depth: usize) -> Buffers<A>
         ensures { result ≡ new_buffers 0 max_depth }
     {
@@ -96,11 +104,11 @@ impl<A: Allocator + Copy> Buffers<A> {
 }
 
 impl<A: Allocator> Buffers<A> {
-    /// The structural positions of the input that was read last: the index of the opening quote of each
-    /// string, and outside strings of each structural character and of the first byte of each other token.
-    /// They rise.
+    /// Returns the structural indexes of the input that was read last: the byte index of the opening
+    /// quote of each string and, outside strings, of each structural character and of the first byte of
+    /// each other token. In ascending order.
     ///
-    /// There are none before the first parse, and none after one that returned an error without a character.
+    /// Empty before the first parse, and after one that returned an error without a character.
     pub fn structural_indexes(&self) -> &[u32]
         ensures { result.now ≡ self.now.positions }
     {
@@ -108,12 +116,13 @@ impl<A: Allocator> Buffers<A> {
     }
 
     /// Reserves capacity for inputs of up to `input_len` bytes (more than 4,294,967,295 count as that
-    /// number): for their positions, and for as many open containers as they can have within the depth limit.
+    /// number): for their structural indexes, and for as many open containers as they can have within
+    /// the depth limit.
     ///
-    /// With as much capacity on the tape, which [`reserve`](crate::reserve) sees to, no parse of such an input
-    /// returns `OutOfMemory`, however many follow. The positions that are listed stay.
+    /// With as much capacity on the tape, which [`reserve`](crate::reserve) sees to, no parse of such an
+    /// input returns `OutOfMemory`, however many follow. The structural indexes that are listed stay.
     ///
-    /// Returns `OutOfMemory` where an allocation fails; what capacity has been reserved by then stays.
+    /// Returns `OutOfMemory` if an allocation fails; what capacity has been reserved by then stays.
     pub fn reserve(&mut self, input_len: usize) -> Result<()>
         ensures capacity { OnOk result (capped input_len ≤ capacity self.new) }
         ensures kept { KeepsCapacities self.old self.new }
@@ -125,7 +134,7 @@ impl<A: Allocator> Buffers<A> {
         lengthen(&mut self.stack, len.min(self.max_depth), StackState::EMPTY)
     }
 
-    // Reserves capacity for the positions of so many bytes, and for their blocks.
+    // Reserves capacity for the structural indexes and the blocks of `len` bytes.
     fn reserve_lists(&mut self, len: usize) -> Result<()>
         ensures kept { KeepsCapacities self.old self.new }
         ensures same { ListsSame self.old self.new × (self.new.stack_capacity ≡ self.old.stack_capacity) }
@@ -138,7 +147,7 @@ impl<A: Allocator> Buffers<A> {
         lengthen(&mut self.escape_blocks, len.div_ceil(BLOCK_LEN), 0)
     }
 
-    // Lists nothing, and keeps its capacity.
+    // Empties what is listed, and keeps its capacity.
     pub(crate) fn clear(&mut self)
         ensures { self.new ≡ record self.old { positions = []; blocks = [] } }
     {
@@ -146,9 +155,10 @@ impl<A: Allocator> Buffers<A> {
         self.used_blocks = 0;
     }
 
-    // Lists the structural positions of the input and its blocks that hold a backslash, and reserves capacity
-    // for the containers that can open at the positions within the limit; new buffers reserve none for a few.
-    // Returns the fault of the whole input, or `OutOfMemory` where a growth was refused, and lists nothing then.
+    // Lists the structural indexes of the input and its blocks that hold a backslash, and reserves
+    // capacity for the containers that they can open within the limit; new buffers reserve none for up
+    // to `FEW_OPEN`. Returns the error of the whole input, or `OutOfMemory` if an allocation fails, and
+    // lists nothing then.
     pub(crate) fn find_positions(&mut self, input: &[u8]) -> Result<()>
         ensures found { OnOk result (HoldsScan input.now self.new) }
         ensures empty { OnErr result ((self.new.positions ≡ []) × (self.new.blocks ≡ [])) }
@@ -173,8 +183,8 @@ impl<A: Allocator> Buffers<A> {
         Ok(())
     }
 
-    // The second stage, over what the last scan found: the nodes of the input in a sink. The stack is the one that
-    // is kept, or, where that is too short, one for a few containers.
+    // Runs the second stage over what the last scan listed, and writes the nodes of the input to a sink.
+    // The stack is the buffers' own or, if that is too short, a local one for `FEW_OPEN` containers.
     #[inline(always)]
     pub(crate) fn build_tape<'de, K: Original, S: NodeSink<'de>>(
         &mut self,
@@ -206,8 +216,8 @@ impl<A: Allocator> Buffers<A> {
     }
 }
 
-// Makes the list as long as `len` at least: lists are kept filled up to their capacity, so that a store into
-// them needs no memory. What it held stays, and where a growth is refused it is as it was.
+// Makes the list at least `len` long: lists are kept filled, so that a store into them needs no memory.
+// What it held stays. If an allocation fails the list is unchanged.
 pub(crate) fn lengthen<T: Copy, A: Allocator>(
     list: &mut Vec<T, A>,
     len: usize,

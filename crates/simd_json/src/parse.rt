@@ -1,4 +1,5 @@
-//! The entry points.
+//! The entry points. Each finds the structural indexes of its input into the buffers (`find_positions`),
+//! and then builds nodes from them, into a tape (`build`) or a sink (`build_tape` of the buffers).
 ghost use Rattle.std.specs.Prelude.{◌≡◌, ◌≢◌, ◌≤◌, ◌<◌, [], ℕ, List, length, map, vec_capacity};
 ghost use Rattle.std.specs.Prelude.{IfErr, IfOk, OnOk, OnErr, None, Err};
 ghost use Rattle.std.specs.Result.{result_err};
@@ -22,24 +23,26 @@ use simd_json_stages::stage2::{ListSink, NodeSink, Original, nodes_enough};
 use std::alloc::Allocator;
 use std::marker::Brand;
 
-/// Reads the bytes of one document (RFC 8259) as a tape, with at most [`DEFAULT_MAX_DEPTH`] containers open
-/// at a time.
+/// Reads the bytes of one document (RFC 8259) as a tape, with at most [`DEFAULT_MAX_DEPTH`] containers
+/// open at a time.
 ///
-/// Returns the first error if the bytes are no such document, in this order:
+/// Returns the first error if the bytes are not such a document, in this order:
 ///
-/// - `InputTooLarge`: they are more than 4,294,967,295; `InvalidUtf8`: they are not UTF-8; `Syntax`: a string
-///   is left open or has a byte below 0x20 inside (section 7); `Eof`: there is nothing but whitespace. These
-///   are reported at index 0, without a character, and where one applies no token is looked at.
-/// - Of the tokens, read from the left, the first that is refused, with an index and the character there:
+/// - Errors of the whole input, reported at index 0 and without a character, before any token is read:
+///   `InputTooLarge` for more than 4,294,967,295 bytes, `InvalidUtf8` if they are not UTF-8, `Syntax`
+///   if a string is left open or has a byte below 0x20 inside (section 7), `Eof` if there is nothing
+///   but whitespace.
+/// - The first token that is rejected, from the left, with an index and the character there:
 ///   `InternalError`, `ExpectedArrayContent`, `ExpectedObjectContent`, `ExpectedObjectKey`,
-///   `ExpectedObjectColon` or `TrailingData` where another token is expected (sections 2, 4 and 5), `Syntax`
-///   where none is left, `ExpectedTrue`, `ExpectedFalse` or `ExpectedNull` (section 3), `InvalidNumber`
-///   (section 6), `InvalidEscape` at a backslash, with the byte after it, and `InvalidUnicodeCodepoint` at a
-///   backslash, with the character `u` (section 7), and `DepthLimitExceeded` at the bracket that opens one
-///   container too many (section 9).
+///   `ExpectedObjectColon` or `TrailingData` where another token is expected (sections 2, 4 and 5),
+///   `Syntax` where none is left, `ExpectedTrue`, `ExpectedFalse` or `ExpectedNull` (section 3),
+///   `InvalidNumber` (section 6), `InvalidEscape` at a backslash, with the byte after it, and
+///   `InvalidUnicodeCodepoint` at a backslash, with the character `u` (section 7), and
+///   `DepthLimitExceeded` at the bracket that opens a container beyond the limit (section 9).
 ///
-/// `OutOfMemory`, at index 0 without a character, comes where an allocation fails, and only where size and
-/// encoding are right. After an error there is no tape, and what `s` holds is of no meaning.
+/// `OutOfMemory`, at index 0 and without a character, is returned if an allocation fails, and only if
+/// size and encoding are right. After an error there is no tape, and the contents of `s` are
+/// unspecified.
 ///
 /// ```
 /// fn first_len(rt: &impl AllocGlobal) -> simd_json::Result<usize> {
@@ -57,11 +60,12 @@ pub fn to_tape<'de, A: Allocator + Copy>(a: A, s: &'de mut [u8]) -> Result<Tape<
     to_tape_with_buffers(s, &mut buffers)
 }
 
-/// Reads a document as [`to_tape`] does, but within the depth limit of the buffers and with their lists. The
-/// tape takes its memory from the allocator of the buffers.
+/// Reads a document as [`to_tape`] does, but within the depth limit of the buffers and with their
+/// lists. The tape takes its memory from the allocator of the buffers.
 ///
-/// The errors are those of [`to_tape`]. After one without a character `structural_indexes` of the buffers is
-/// empty; else it lists the positions of `s`. The buffers can be used again after every call.
+/// The errors are those of [`to_tape`]. After one without a character `structural_indexes` of the
+/// buffers is empty; otherwise it lists the structural indexes of `s`. The buffers can be used again
+/// after every call.
 ///
 /// ```
 /// use simd_json::{Buffers, to_tape_with_buffers};
@@ -88,15 +92,15 @@ pub fn to_tape_with_buffers<'de, A: Allocator + Copy>(
     Ok(tape)
 }
 
-/// Reads a document into a tape that is there already, within the depth limit of the buffers and with their
-/// lists. What buffers and tape held before does not matter.
+/// Reads a document into a tape that is there already, within the depth limit of the buffers and with
+/// their lists. What buffers and tape held before does not matter.
 ///
 /// The errors are those of [`to_tape`]. After one the tape is empty. After one without a character
-/// `structural_indexes` of the buffers is empty too; else it lists the positions of `s`. Buffers and tape can
-/// be used again after every call.
+/// `structural_indexes` of the buffers is empty too; otherwise it lists the structural indexes of `s`.
+/// Buffers and tape can be used again after every call.
 ///
-/// Where buffers and tape have capacity for as many bytes as `s` has, as after [`reserve`], `OutOfMemory` is
-/// not returned. No parse gives up capacity.
+/// If buffers and tape have capacity for as many bytes as `s` has, as after [`reserve`], `OutOfMemory`
+/// is not returned. No parse gives up capacity.
 ///
 /// ```
 /// use simd_json::{Buffers, Tape, fill_tape, reserve};
@@ -133,15 +137,18 @@ pub fn fill_tape<'de, A: Allocator, B: Allocator>(
     build::<Brand, A, B>(s, buffers, &mut tape.list)
 }
 
-/// Reads a document as [`fill_tape`] does, and writes its nodes to an empty sink in place of a tape: to a form of
-/// the caller's own, in one pass. The sink has room for 4,294,967,295 nodes, since no document has more.
+/// Reads a document as [`fill_tape`] does, and writes its nodes to an empty sink in place of a tape: to
+/// a form of the caller's own, in one pass. [`NodeSink`] has an example of a sink. It has room for
+/// 4,294,967,295 nodes, since no document has more.
 ///
-/// The errors are those of [`to_tape`]. After one without a character the sink is as it was; after another it may
-/// hold nodes that were written before the error. In any case its room and what it borrows stay the same. Where
-/// the buffers have capacity for as many bytes as `s` has, `OutOfMemory` is not returned.
+/// The errors are those of [`to_tape`]. After one without a character the sink is as it was; after
+/// another it may hold nodes that were written before the error. In any case its room and what it
+/// borrows stay the same. If the buffers have capacity for as many bytes as `s` has, `OutOfMemory` is
+/// not returned.
 ///
-/// `K` names the bytes of `s` as they were given: the contract speaks of these, and strings are decoded in place.
-/// The function that makes the sink is generic over `K`, and is called with [`Brand`](std::marker::Brand).
+/// `K` names the bytes of `s` as they were given (see [`Original`]): the contract speaks of these, and
+/// strings are decoded in place. The function that makes the sink is generic over `K`, and is called
+/// with [`Brand`](std::marker::Brand).
 pub fn fill_sink<'de, K: Original, S: NodeSink<'de>, A: Allocator>(
     s: &'de mut [u8],
     buffers: &mut Buffers<A>,
@@ -162,12 +169,12 @@ pub fn fill_sink<'de, K: Original, S: NodeSink<'de>, A: Allocator>(
     buffers.build_tape::<K, S>(s, sink)
 }
 
-/// Reads the document in the first `len` bytes of `s` into a tape, as [`fill_tape`] does, where at least
+/// Reads the document in the first `len` bytes of `s` into a tape, as [`fill_tape`] does, if at least
 /// [`INPUT_PADDING`] bytes follow it. What these hold does not matter, and they stay as they are.
 ///
-/// Returns `InsufficientPadding`, at index 0 without a character and before anything else is looked at, where
-/// fewer follow; the other errors are those of [`to_tape`] on the document. Tape and buffers are left as by
-/// [`fill_tape`].
+/// If fewer follow, it returns `InsufficientPadding` at index 0 and without a character, before
+/// anything is read. The other errors are those of [`to_tape`] on the document. Tape and buffers are
+/// left as by [`fill_tape`].
 ///
 /// ```
 /// use simd_json::{Buffers, INPUT_PADDING, Tape, fill_tape_padded};
@@ -203,12 +210,14 @@ pub fn fill_tape_padded<'de, A: Allocator, B: Allocator>(
     fill_tape(document, buffers, tape)
 }
 
-/// Reads a document as [`fill_tape`] does, over the tape of an input of another lifetime, and returns the
-/// result beside a tape of this one, with the capacity of the other and of what the parse reserved. So a loop
-/// reads each of its inputs into one buffer; with `fill_tape` they would all have to live at a time.
+/// Reads a document as [`fill_tape`] does, into the memory of a tape of another lifetime. Returns the
+/// result and a tape of this lifetime, with the capacity of the other and of what the parse reserved.
+/// So a loop can read each of its inputs into one buffer; with `fill_tape` they would all have to live
+/// at the same time.
 ///
-/// The errors are those of [`to_tape`]; after one the tape is empty. The tape borrows from `s`, which can be
-/// written again once it is [`reset`](Tape::reset) or dropped. A reservation outlives all of this.
+/// The errors are those of [`to_tape`]; after one the tape is empty. The tape borrows from `s`, which
+/// can be written again once the tape is [`reset`](Tape::reset) or dropped. A reservation outlives all
+/// of this.
 ///
 /// ```
 /// use simd_json::{Buffers, Tape, refill_tape, reserve};
@@ -247,12 +256,13 @@ pub fn refill_tape<'de, A: Allocator, B: Allocator>(
     (answer, tape)
 }
 
-/// Reserves capacity in buffers and tape for inputs of up to `input_len` bytes (more than 4,294,967,295 count
-/// as that number): after it no parse of such an input with both of them returns `OutOfMemory`, however many
-/// follow, and whether or not the tape is reset between them. What is listed stays, and so does capacity.
+/// Reserves capacity in buffers and tape for inputs of up to `input_len` bytes (more than 4,294,967,295
+/// count as that number): after it no parse of such an input with both of them returns `OutOfMemory`,
+/// however many follow, and whether or not the tape is reset between them. What is listed stays, and so
+/// does capacity.
 ///
-/// It takes about 28 bytes for each byte of `input_len`, and 48 for each container that may be open. Returns
-/// `OutOfMemory` where an allocation fails; what has been reserved by then stays.
+/// It takes about 28 bytes for each byte of `input_len`, and 48 for each container that may be open.
+/// Returns `OutOfMemory` if an allocation fails; what has been reserved by then stays.
 ///
 /// ```
 /// use simd_json::{Buffers, Tape, fill_tape, reserve};
@@ -284,7 +294,8 @@ pub fn reserve<A: Allocator, B: Allocator>(
     tape.reserve(nodes_enough(positions, buffers.max_depth))
 }
 
-// What a refusal without a character leaves: no position is listed, and the tape is empty.
+// Returns an error without a character, after which no structural index is listed and the tape is
+// empty.
 fn refuse<A: Allocator, B: Allocator>(
     e: Error,
     buffers: &mut Buffers<A>,
@@ -299,7 +310,7 @@ fn refuse<A: Allocator, B: Allocator>(
     Err(e)
 }
 
-// The second stage into a list, where all capacity is reserved. After an error the list is empty.
+// Runs the second stage into a list with enough capacity. After an error the list is empty.
 fn build<'de, K: Original, A: Allocator, B: Allocator>(
     s: &'de mut [u8],
     buffers: &mut Buffers<A>,

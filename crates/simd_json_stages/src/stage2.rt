@@ -1,8 +1,31 @@
-//! From structural indexes to nodes.
+//! The second stage: from structural indexes to nodes.
 //!
-//! `machine` goes from token to token, `progress` has how far it is, `stack` the containers that are open, `input`
-//! what it reads from, `nodes` what it writes to, `string` and `scalar` the values of one node, and `fault` what it
-//! refuses.
+//! As in G. Langdale and D. Lemire, "Parsing Gigabytes of JSON per Second", VLDB Journal 28 (2019),
+//! section 3.2, a state machine goes from one structural index to the next, with a stack of the open
+//! containers. The way of a parse:
+//!
+//! ```text
+//! build_tape             chooses one of three copies of the machine by the input
+//! └ build_copy           borrows the input, plain or with escapes
+//!   └ Machine::build     the root's first token, and then a loop round the next three
+//!     ├ next_member      closes containers, up to the next member or the end of the root
+//!     ├ elements         reads elements of an array   ┐ up to a container that opens
+//!     └ members          reads members of an object   ┘ in it, or to its end
+//!       ├ read_key       a key and its colon, in an object
+//!       ├ read_value     a scalar, or the opening bracket of a container
+//!       │ └ push_string, push_scalar, push_number, push_header    append a node to the sink
+//!       └ after_member   a comma, or the closing bracket: set_counts in the sink
+//! ```
+//!
+//! Beside `machine`, `progress` holds how far it is, `stack` the open containers, `input` what it
+//! reads, `nodes` what it writes to, `string` and `scalar` the values of one node, and `fault` how it
+//! rejects a token.
+//!
+//! Where it differs from simdjson: nodes go to a sink of the caller's choice, not to words of a tape;
+//! strings are not copied into a buffer, but shared with the input, and decoded in place if they have
+//! escapes; a string that ends before the next backslash is not read at
+//! all, since its closing quote is the last one before the next structural index; a number with a
+//! fraction or an exponent is kept as its literal.
 ghost use Rattle.std.specs.Prelude.{◌≡◌, ◌≤◌, [], length, Err, OnOk, IfErr};
 ghost use Rattle.simd_json_parts.specs.Descent.{descent};
 ghost use Rattle.simd_json_stages.specs.Building.{IsWritten};
@@ -31,9 +54,9 @@ pub use stack::{Container, StackState};
 pub use input::Original;
 use input::Input;
 
-/// How many nodes are enough for the tape of so many structural positions, with so many containers open at
-/// most: one for each container that may be open, and one for every other of the positions that are left.
-/// Never more than there are positions.
+/// Returns how many nodes are enough for a tape of an input with `positions` structural indexes, if at
+/// most `max_depth` containers are open at a time: one for each container that may be open, and one
+/// for every other structural index that is left. Never more than `positions`.
 #[tactic(auto, unfolding(crate::specs::NodesEnough::nodes_enough))]
 pub fn nodes_enough(positions: usize, max_depth: usize) -> usize
     ensures enough { result ≡ nodes_enough positions max_depth }
@@ -43,25 +66,28 @@ pub fn nodes_enough(positions: usize, max_depth: usize) -> usize
     open + (positions - open).div_ceil(2)
 }
 
-/// What the first stage found in an input.
+/// What the first stage found in an input: the entries in use of the two lists that
+/// [`find_structural_bits`](crate::stage1::Stage1Parse::find_structural_bits) fills.
 #[derive(Clone, Copy, Debug, Drop)]
 pub struct Scanned<'s> {
-    /// The structural indexes, in ascending order.
+    /// The structural indexes: byte indexes into the input, in ascending order.
     pub structural_indexes: &'s [u32],
-    /// The numbers of the blocks of 64 bytes that hold a backslash, in ascending order.
+    /// The blocks of 64 bytes that hold a backslash, by number and in ascending order: block `n`
+    /// begins at byte `64 * n`.
     pub escape_blocks: &'s [u32],
 }
 
-/// Writes the nodes of an input to an empty sink, which has room for as many as [`nodes_enough`] says. `stack` holds
-/// what is kept of open containers.
+/// Writes the nodes of an input to an empty sink, which has room for as many as [`nodes_enough`]
+/// returns for it. `stack` is as long as `max_depth` or as the list of structural indexes, whichever is
+/// less; what it holds does not matter.
 ///
-/// The nodes are the listing of the document that the descent reads. An error is the descent's own fault, with
-/// the index and the character that belong to it; none is of the whole input, and none is for lack of memory.
-/// After one the sink holds the nodes that were written before it.
+/// The nodes are those of the document that the input is, in preorder. An error is that of the first
+/// token that is rejected, with its index and character; it is never one of the whole input and never
+/// `OutOfMemory`. After an error the sink holds the nodes that were written before it.
 ///
-/// `K` names the bytes of the input as they were given. The function that makes the sink is generic over it, and
-/// is called with [`Brand`](std::marker::Brand): a proof can't pick the bytes at a call with a bound that names a
-/// lifetime.
+/// `K` names the bytes of the input as they were given, for contracts (see [`Original`]). The function
+/// that makes the sink is generic over it, and is called with [`Brand`](std::marker::Brand): a proof
+/// can't pick the bytes at a call with a bound that names a lifetime.
 #[inline(always)]
 pub fn build_tape<'de, K: Original, S: NodeSink<'de>>(
     input: &'de mut [u8],
@@ -96,19 +122,19 @@ pub fn build_tape<'de, K: Original, S: NodeSink<'de>>(
     }
 }
 
-// There is a copy of the machine for each case of whether the input has a backslash, and of whether its last
-// token closes a container, so that the loops do not ask.
+// The machine is compiled three times, so that its loops need not test what is known beforehand.
 
-// No backslash, and the last token closes a container.
+// The input has no backslash, so it is borrowed whole. Its last token is a closing bracket, so another
+// token follows each one that is not.
 const PLAIN: usize = 0;
 
-// The same, and there may be backslashes.
+// The input has backslashes. Its last token is a closing bracket.
 const CLOSED: usize = 1;
 
-// Any input.
+// Any other input, such as a scalar by itself.
 const ANY: usize = 2;
 
-// The number of the copy for an input.
+// Chooses the copy of the machine for an input.
 #[inline(always)]
 fn copy_for(input: &[u8], scanned: Scanned<'_>) -> usize
     requires { IsScanOf input.now scanned }
@@ -125,7 +151,8 @@ fn copy_for(input: &[u8], scanned: Scanned<'_>) -> usize
     CLOSED
 }
 
-// The copy of this number: a function of its own, so that its state stays in registers.
+// Runs the copy of the machine with number `COPY`. Not inlined: each copy then keeps its state in
+// registers.
 #[inline(never)]
 fn build_copy<'de, K: Original, S: NodeSink<'de>, const COPY: usize>(
     input: &'de mut [u8],

@@ -1,16 +1,22 @@
-//! Tokens that are refused.
+//! How the machine rejects a token.
+//!
+//! A fault is an error of a token, without what all of them share, so that the machine's steps can
+//! return it in registers. It becomes an [`Error`] once, when the machine has ended. Errors of the
+//! whole input are found by the first stage, and are no faults.
 ghost use Rattle.std.specs.Prelude.{◌≡◌};
 ghost use Rattle.simd_json_parts.specs.Faults.{fault_with};
 ghost use Rattle.simd_json_stages.specs.Refusals.{error_type};
 
 use simd_json_parts::error::{Error, ErrorType};
 
-// A token that is refused: its index, its first byte and the kind of the fault. It is small, so that the
-// steps hand it back cheaply.
+// Where and why a token was rejected.
 #[derive(Clone, Copy, Drop)]
 pub(crate) struct Fault {
+    // the byte index in the input, of the token or of a byte in it
     pub(crate) index: usize,
+    // the byte there, or a space at the end of the input; in a bad escape that after the backslash
     pub(crate) byte: u8,
+    // what is wrong with it
     pub(crate) kind: FaultKind,
 }
 
@@ -40,7 +46,7 @@ impl Fault {
     }
 }
 
-// The kinds of token faults.
+// What can be wrong with a token, by the names of `ErrorType`.
 #[derive(Clone, Copy, Drop)]
 pub(crate) enum FaultKind {
     InternalError,

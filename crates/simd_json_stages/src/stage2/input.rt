@@ -1,5 +1,13 @@
-//! The input that the machine reads, and the strings and numbers that are shared from
-//! them.
+//! The input that the machine reads, and the strings and numbers that nodes share with it.
+//!
+//! An input without a backslash is borrowed whole. Otherwise strings are decoded in place, as no escape
+//! is shorter than its character: what has been read is split off the front of the bytes that are left,
+//! for good, so that a string that was decoded is never read again. simdjson copies each string to a
+//! buffer instead (section 3.2 of the paper that `stage2` names).
+//!
+//! A string has no escape if it ends before the next backslash, which a walk along the blocks of the
+//! first stage finds. It is shared without a look at its bytes: its closing quote is the last quote
+//! before the next structural index, since only whitespace lies between.
 ghost use Rattle.std.specs.Prelude.{◌≡◌, ◌≤◌, ◌<◌, ◌+◌, ◌-◌, ◌*◌, ◌^◌};
 ghost use Rattle.std.specs.Prelude.{ℕ, List, [], suc, length, slice_index, take, drop, MatchResult, Ok, Err};
 ghost use Rattle.std.specs.Prelude.{IsTrue, IsFalse, true, false};
@@ -17,9 +25,13 @@ use simd_json_scalars::stringparse::{BadEscape, parse_str};
 use std::marker::Brand;
 use std::simd::prelude::*;
 
-/// The bytes of an input as they were given, of which the contracts speak: a name for proofs alone, since strings
-/// are decoded in place. Where a call passes [`Brand`], its proof picks the bytes.
+/// The bytes of an input as they were given, before strings are decoded in place: a type that names them
+/// in contracts. It has no values, and at run time it is nothing.
+///
+/// Functions that parse are generic over it, and require that the input is `K.bytes`. A caller passes
+/// [`Brand`], and its proof picks the bytes at that call.
 pub trait Original {
+    // The bytes.
     ghost bytes: { List ℕ };
 }
 
@@ -27,23 +39,25 @@ impl Original for Brand {
     ghost bytes = { [] };
 }
 
-// An input without a backslash is shared as a whole. Another one is lent for writing, since its strings are
-// decoded in the bytes they were written in: what is shared is split off from the front, for good.
+// The input, or what is left of it. All indexes are of bytes of the whole input.
 #[derive(Drop)]
 pub(crate) struct Input<'m, 'de> {
+    // whether the input is borrowed whole: then it has no backslash
     pub(crate) is_plain: bool,
-    // All of the input, where it is shared; else nothing.
+    // the whole input if `is_plain`, else empty
     pub(crate) shared: &'de [u8],
-    // Else the bytes of the input from this index on, and the backslashes ahead.
+    // if not `is_plain`, the bytes that are left, for reading and writing; else empty
     pub(crate) rest: &'de mut [u8],
+    // the index of the first byte of `rest`
     pub(crate) at: usize,
+    // the walk along the backslashes in `rest`
     pub(crate) escapes: Escapes<'m>,
-    // The index of the end of the input. Lengths are computed from it, so that none is carried along.
+    // the index of the end of the input, from which lengths are computed
     pub(crate) end: usize,
 }
 
 impl<'m, 'de> Input<'m, 'de> {
-    // An input without a backslash.
+    // Borrows whole an input without a backslash.
     #[inline(always)]
     pub(crate) fn plain(input: &'de [u8]) -> Input<'static, 'de>
         ensures { (b : List ℕ) → input.now ≡ b → PlainFrom b 0 (length b) → Reads b result 0 }
@@ -62,7 +76,7 @@ impl<'m, 'de> Input<'m, 'de> {
         }
     }
 
-    // An input with its blocks that hold a backslash.
+    // Borrows an input for writing. `escape_blocks` are the numbers of its blocks with a backslash.
     #[inline(always)]
     pub(crate) fn with_escapes(input: &'de mut [u8], escape_blocks: &'m [u32]) -> Input<'m, 'de>
         ensures { (b : List ℕ) → input.old ≡ b → escape_blocks.now ≡ backslash_blocks b
@@ -83,6 +97,7 @@ impl<'m, 'de> Input<'m, 'de> {
         }
     }
 
+    // The byte at index i, which was not split off.
     #[inline(always)]
     pub(crate) fn byte(&self, i: usize) -> u8
         requires { HasBytes self.now i 1 }
@@ -94,7 +109,7 @@ impl<'m, 'de> Input<'m, 'de> {
         self.rest[i - self.at]
     }
 
-    // All from index i on.
+    // All bytes from index i on.
     #[inline(always)]
     pub(crate) fn from(&self, i: usize) -> &[u8]
         requires { HasBytes self.now i 0 }
@@ -106,7 +121,7 @@ impl<'m, 'de> Input<'m, 'de> {
         &self.rest[i - self.at..self.end - self.at]
     }
 
-    // So many bytes from index i on, as a string.
+    // Returns the `len` bytes from index i on as a string, and splits off all up to its end.
     #[inline(always)]
     pub(crate) fn share(&mut self, i: usize, len: usize) -> &'de str
         requires { HasString self.old i len }
@@ -122,7 +137,7 @@ impl<'m, 'de> Input<'m, 'de> {
         unsafe { str::from_utf8_unchecked(&prefix[start..]) }
     }
 
-    // The bytes up to an index, split off.
+    // Splits off the bytes up to index i.
     #[inline(always)]
     fn split(&mut self, i: usize) -> &'de mut [u8]
         requires ahead { self.old.at ≤ i }
@@ -140,7 +155,9 @@ impl<'m, 'de> Input<'m, 'de> {
         prefix
     }
 
-    // Whether the string from index `at` may have an escape before index `end`.
+    // Whether the string from index `at` may have an escape before index `end`. Past the mark this is
+    // true without a search if fewer than 32 bytes are left, so the last strings may be decoded although
+    // they have none.
     #[inline(always)]
     pub(crate) fn may_have_escape(&mut self, at: usize, end: usize) -> bool
         requires { HasBytes self.old at 0 }
@@ -160,8 +177,8 @@ impl<'m, 'de> Input<'m, 'de> {
         self.escapes.mark < end
     }
 
-    // Whether one of the 32 bytes from index `at` on is a backslash, or may be. Where escapes are dense this
-    // finds the next one at less cost than a walk to it.
+    // Whether one of the 32 bytes from index `at` on is a backslash; also true if fewer than 32 are left.
+    // If escapes are dense this finds the next one at less cost than the walk.
     #[inline(always)]
     fn is_near_backslash(&self, at: usize) -> bool
         requires { HasBytes self.now at 0 }
@@ -170,7 +187,7 @@ impl<'m, 'de> Input<'m, 'de> {
         rest.len() < 32 || (u8x32::from_slice(rest).simd_eq(u8x32::splat(b'\\'))).to_bitmask() != 0
     }
 
-    // The walk along the backslashes, its mark at the first from index `at` on.
+    // The walk along the backslashes, with its mark at the first one from index `at` on.
     #[inline(always)]
     fn escapes_from(&self, at: usize) -> Escapes<'m>
         requires lent { IsFalse self.now.is_plain }
@@ -183,8 +200,8 @@ impl<'m, 'de> Input<'m, 'de> {
         Escapes { blocks, next, mark }
     }
 
-    // The index of the last quote before index `end`: it closes the string whose opening quote has index
-    // `at`. Mostly it is right before `end`, which is tested apart: the loop also counts its steps.
+    // The index of the last quote before index `end`, which closes the string whose opening quote has
+    // index `at`. Usually it is right before `end`. That is tested before the loop, which is slower.
     #[inline(always)]
     fn last_quote(&self, at: usize, end: usize) -> usize
         requires { HasQuoted self.now at end }
@@ -201,8 +218,8 @@ impl<'m, 'de> Input<'m, 'de> {
         last
     }
 
-    // The string whose opening quote has index `at`, where it has no escape. The last quote before index
-    // `end` closes it, so that none of its bytes is read.
+    // Shares the string whose opening quote has index `at`, and which has no escape. The last quote
+    // before index `end` closes it, so its bytes are not read.
     #[inline(always)]
     pub(crate) fn share_string(&mut self, at: usize, end: usize) -> &'de str
         requires { HasPlain self.old at end }
@@ -214,9 +231,9 @@ impl<'m, 'de> Input<'m, 'de> {
         self.share(at + 1, closing - (at + 1))
     }
 
-    // The string whose opening quote has index `at`, or its first invalid escape. It is decoded in the bytes
-    // it was written in, out of line. That call takes the bytes alone, since whatever is lent to it stays in
-    // memory.
+    // Decodes in place the string whose opening quote has index `at`. Returns it, or its first invalid
+    // escape. `parse_str` is not inlined. It takes the bytes and not `self`, since what is passed by
+    // reference to such a call is kept in memory.
     #[inline(always)]
     pub(crate) fn parse_string(&mut self, at: usize) -> Result<&'de str, BadEscape>
         requires lent { IsFalse self.old.is_plain }
@@ -236,18 +253,21 @@ impl<'m, 'de> Input<'m, 'de> {
     }
 }
 
-// A walk along the backslashes, beside the walk through the input: from where it is up to `mark` there is
-// none.
+// A walk along the backslashes, beside the walk through the input.
 #[derive(Clone, Copy, Drop)]
 pub(crate) struct Escapes<'a> {
+    // the numbers of the blocks of 64 bytes that hold a backslash, ascending
     pub(crate) blocks: &'a [u32],
+    // the place in `blocks` of the first one that was not passed
     pub(crate) next: usize,
+    // an index: from where the walk is up to it there is no backslash
     pub(crate) mark: usize,
 }
 
-// The number of the first block that does not lie before an index, and where the first backslash from there
-// on is, or past every input where there is none. `rest` is the input from index `base` on. It is out of
-// line, and takes no more than it reads, since whatever is lent to such a call stays in memory.
+// The place in `blocks` of the first one, from `next` on, that does not end before index `at`, and the
+// index of the first backslash from `at` on, or the greatest number if none is left. `rest` is the
+// input from index `base` on. Not inlined. It takes slices and numbers, not the `Input`: what is passed
+// by reference to such a call is kept in memory.
 #[inline(never)]
 fn next_backslash(
     blocks: &[u32],
@@ -270,7 +290,7 @@ fn next_backslash(
     }
 }
 
-// The number of the first block, from this one on, that does not lie before an index.
+// The place in `blocks` of the first one, from `next` on, that does not end before index `at`.
 fn passed(blocks: &[u32], next: usize, at: usize) -> usize
     ensures { (b : List ℕ) → ArePassed b blocks.now next at → ArePassed b blocks.now result at }
 {
@@ -281,7 +301,8 @@ fn passed(blocks: &[u32], next: usize, at: usize) -> usize
     next
 }
 
-// Where the block of this number in the list begins, or past every input where there is none.
+// The index at which the block at place `next` of the list begins, or the greatest number if the list
+// has no such place.
 #[inline(always)]
 fn start(blocks: &[u32], next: usize) -> usize
     ensures { next < length blocks.now → result ≡ 64 * slice_index blocks.now next }

@@ -1,5 +1,6 @@
-//! The machine: a loop for the elements of an array, one for the members of an object, and one round both. Between
-//! two tokens it is in one of three states:
+//! The machine: a loop for the elements of an array, one for the members of an object, and one round
+//! both, which goes on where a container opens or closes. So inside one container its kind is known
+//! beforehand. Between two tokens the machine is in one of three states:
 //!
 //! ```text
 //! value         read a scalar, an empty array or an empty object     →  after a value
@@ -26,18 +27,20 @@ use super::string::push_string;
 use super::input::{Original, Input};
 use std::result::Result;
 
-// What the machine changes: what is left of the input, and what is kept of open containers. The nodes are lent
-// beside it, since the prover can't follow, through a struct, a list of values that share the input. Whatever
-// takes the machine is inlined, so that its fields stay in registers.
+// What the machine changes besides the sink. That is passed beside it, since the prover can't follow,
+// through a struct, a list of values that share the input. All functions that take the machine are
+// inlined, so that its fields stay in registers.
 #[derive(Drop)]
 pub(crate) struct Machine<'m, 'de> {
+    // what is left of the input
     pub(crate) input: Input<'m, 'de>,
+    // the open containers: the first `depth` entries (see `Progress`) are in use
     pub(crate) stack: &'m mut [StackState],
 }
 
 impl<'de> Machine<'_, 'de> {
-    // The key at the last token, and its colon, and on to the first token of the member's value. Where no key
-    // is there, the fault is of this kind.
+    // Appends the key at the last token, reads its colon, and goes on to the first token of the value. If
+    // the last token is no string, the fault is of this kind.
     #[inline(always)]
     fn read_key<K: Original, S: NodeSink<'de>>(
         &mut self,
@@ -69,7 +72,8 @@ impl<'de> Machine<'_, 'de> {
         Ok(value)
     }
 
-    // The container that opens at the last token: the token after it shows whether it is empty.
+    // Opens the container whose opening bracket is the last token. An empty one is complete at once, as
+    // the next token shows, and takes no entry of the stack.
     #[inline(always)]
     #[tactic(auto, unfolding(crate::specs::NodesEnough::nodes_enough))]
     fn open<K: Original, S: NodeSink<'de>>(
@@ -115,7 +119,8 @@ impl<'de> Machine<'_, 'de> {
         }))
     }
 
-    // The value whose first token is the last one.
+    // Reads the value whose first token is the last one: a scalar whole, a container up to its first
+    // member.
     #[inline(always)]
     fn read_value<K: Original, S: NodeSink<'de>>(
         &mut self,
@@ -149,8 +154,8 @@ impl<'de> Machine<'_, 'de> {
         Ok(Step::Read(p.with_value()))
     }
 
-    // After a member of a container of this kind: a comma and the first token of the next member, or the
-    // closing bracket.
+    // Reads on after a member of a container of this kind: a comma and the first token of the next
+    // member, or the closing bracket.
     #[inline(always)]
     #[tactic(auto, unfolding(crate::specs::NodesEnough::nodes_enough))]
     fn after_member<K: Original, S: NodeSink<'de>>(
@@ -182,7 +187,8 @@ impl<'de> Machine<'_, 'de> {
         Ok(Following::Closed(close(self.stack, nodes, q, container)))
     }
 
-    // After a value closing brackets and a comma, or the end of the root; in a new container nothing.
+    // Closes containers up to the next comma and reads the token after it, or reports the end of the
+    // root. Does nothing in a container that was just opened.
     #[inline(always)]
     #[tactic(auto, unfolding(crate::specs::NodesEnough::nodes_enough))]
     fn next_member<K: Original, S: NodeSink<'de>>(
@@ -217,8 +223,8 @@ impl<'de> Machine<'_, 'de> {
         Ok(NextMember::End)
     }
 
-    // The elements of an array, from the first token of one on, up to a container that opens in it or to its
-    // end.
+    // Reads the elements of an array, from the first token of one on, up to a container that opens in it
+    // or to its end.
     #[inline(always)]
     fn elements<K: Original, S: NodeSink<'de>>(
         &mut self,
@@ -250,7 +256,7 @@ impl<'de> Machine<'_, 'de> {
         }
     }
 
-    // The members of an object, likewise. Where the first has no key, the fault is of this kind.
+    // Reads the members of an object, likewise. If the first has no key, the fault is of this kind.
     #[inline(always)]
     fn members<K: Original, S: NodeSink<'de>>(
         &mut self,
@@ -286,7 +292,7 @@ impl<'de> Machine<'_, 'de> {
         }
     }
 
-    // The tape of the tokens at the positions, from the first value on.
+    // Appends the nodes of the tokens at the structural indexes, from the root's first token on.
     #[inline(always)]
     pub(super) fn build<K: Original, S: NodeSink<'de>>(
         &mut self,

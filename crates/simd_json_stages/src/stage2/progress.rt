@@ -1,4 +1,9 @@
-//! How far the machine is.
+//! How far the machine is: a small value that each step takes and returns, so that it stays in
+//! registers.
+//!
+//! The last token is the one at the structural index that was read last. A token is known by its index
+//! and its first byte. The machine of simdjson's paper jumps from state to state by `goto`; here `Step`,
+//! `Following` and `NextMember` say where to go on.
 ghost use Rattle.std.specs.Prelude.{◌≡◌, ◌≢◌, ◌<◌, ◌≤◌, ◌+◌, ◌^◌, ℕ, List, length, get_or};
 ghost use Rattle.std.specs.Prelude.{IfOk, IfErr, IsTrue, IsFalse};
 ghost use Rattle.simd_json_parts.specs.Bytes.{byte_at};
@@ -11,17 +16,19 @@ use super::stack::Container;
 use super::input::Input;
 use std::result::Result;
 
-// What stays as it is on the way through the tokens: their positions, whether the last of them holds a closing
-// bracket, and how many containers may be open.
+// What stays the same on the way through the tokens.
 #[derive(Clone, Copy, Drop)]
 pub(crate) struct Route<'m> {
+    // the structural indexes: byte indexes into the input, ascending
     pub(crate) indexes: &'m [u32],
+    // whether the token at the last of them is known to be a closing bracket
     pub(crate) ends_closed: bool,
+    // how many containers may be open at a time
     pub(crate) max_depth: usize,
 }
 
 impl Route<'_> {
-    // The position of this number, or the end of the input.
+    // The structural index `number` in the list, or the end of the input if there are fewer.
     #[inline(always)]
     pub(super) fn position_or_end(self, number: usize, end: usize) -> usize
         requires { IsTrue self.ends_closed → number < length self.indexes.now }
@@ -35,21 +42,25 @@ impl Route<'_> {
     }
 }
 
-// The index and the first byte of the last token, what the innermost open container is, how many positions are
-// read, how many containers are open, and how many members the innermost has. It
-// begins as a fault does, so that a result which holds either one keeps it in the same registers.
+// How far the machine is. The first two fields lie as in `Fault`: a `Result` of both shares registers.
 #[derive(Clone, Copy, Drop)]
 pub(crate) struct Progress {
+    // the byte index of the last token in the input
     pub(crate) at: usize,
+    // its first byte
     pub(crate) byte: u8,
+    // the kind of the innermost open container; if none is open, `Array`
     pub(crate) container: Container,
+    // how many structural indexes were read: the place of the next one in the list
     pub(crate) read: usize,
+    // how many containers are open
     pub(crate) depth: usize,
+    // how many members of the innermost container were read; if none is open, 1 after the root, else 0
     pub(crate) len: usize,
 }
 
 impl Progress {
-    // One more member of the innermost container is read.
+    // Counts one more member of the innermost container.
     #[inline(always)]
     pub(super) fn with_value(self) -> Progress
         requires { self.len < 2 ^ 63 }
@@ -61,8 +72,8 @@ impl Progress {
         }
     }
 
-    // Whether no token is left. Where the last of all is a closing bracket, after any other token one is
-    // left.
+    // Whether no token is left. If the last of all is a closing bracket, a token follows any other one,
+    // which saves the comparison with the list's length.
     #[inline(always)]
     pub(super) fn is_last(self, indexes: &[u32], ends_closed: bool) -> bool
         requires within { self.read ≤ length indexes.now }
@@ -77,7 +88,7 @@ impl Progress {
         self.read == indexes.len()
     }
 
-    // The token after the last one. Where none is left, the fault is at the last one.
+    // Goes on to the next token. If none is left, the fault is `Syntax` at the last one.
     #[inline(always)]
     pub(super) fn next_token(self, input: &Input, route: Route) -> Result<Progress, Fault>
         ghost b: { List ℕ }
@@ -98,7 +109,7 @@ impl Progress {
         })
     }
 
-    // The fault at the last token.
+    // A fault of this kind at the last token.
     #[inline(always)]
     pub(super) fn fault(self, kind: FaultKind) -> Fault
         ensures { result ≡ record { kind = kind; index = self.at; byte = self.byte } }
@@ -110,7 +121,7 @@ impl Progress {
         }
     }
 
-    // The fault at the last token where it is after the root.
+    // The fault of a token after the root, which is a container or a scalar.
     #[cold]
     pub(super) fn fault_after_root(self, is_container: bool) -> Fault
         ensures { result ≡ record { kind = end_kind is_container; index = self.at; byte = self.byte } }
@@ -123,24 +134,30 @@ impl Progress {
     }
 }
 
-// After a value's first token: inside a new container, before its first member, or past a complete value.
+// What reading a value from its first token on led to.
 #[derive(Clone, Copy, Drop)]
 pub(super) enum Step {
+    // a container was opened: at the first token of its first member
     Opened(Progress),
+    // the value is complete: at its last token
     Read(Progress),
 }
 
-// What follows a member: another one, or the end of its container.
+// What follows a member.
 #[derive(Clone, Copy, Drop)]
 pub(super) enum Following {
+    // another one: at its first token
     Next(Progress),
+    // the end of its container: at the closing bracket, as a member of the parent
     Closed(Progress),
 }
 
-// What the machine goes on with: a member of the innermost container, where in an object a fault of this kind is
-// reported if it has no key, or nothing, at the end of the root.
+// What the machine goes on with.
 #[derive(Clone, Copy, Drop)]
 pub(super) enum NextMember {
+    // a member of the innermost container, at its first token, and in an object the kind of fault if
+    // that is no key
     Next(Progress, FaultKind),
+    // nothing: the root is complete, and no token is left
     End,
 }

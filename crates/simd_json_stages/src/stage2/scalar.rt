@@ -1,4 +1,9 @@
-//! Scalars that are no strings become nodes.
+//! Numbers and words become nodes.
+//!
+//! Booleans are compared four letters at a time. Numbers are read by `numberparse`, their digits by
+//! words of eight bytes, as in section 3.2 of the paper that `stage2` names: short ones by `parse_short`,
+//! which is inlined, and others by `parse_numeral`. Unlike simdjson, a number with a fraction or an
+//! exponent is only checked, and its node holds the literal; integers have up to 128 bits.
 ghost use Rattle.std.specs.Prelude.{◌≡◌, ◌<◌, ◌≤◌, ◌+◌, ◌^◌, ◌==◌, ◌&&◌, ◌||◌, ℕ, List, length, drop};
 ghost use Rattle.std.specs.Prelude.{[], ◌∷◌, ◌++◌, nat_eq, codes, true, false, MatchOption, MatchResult};
 ghost use Rattle.std.specs.Prelude.{IfErr, OnOk};
@@ -23,36 +28,39 @@ use simd_json_scalars::numberparse::{
     Numeral, integer_node, is_integer, parse_long, parse_numeral, parse_short,
 };
 
-/// Whether the bytes begin with `true`, and end there or go on with a structural character or whitespace.
+/// Returns whether the bytes begin with `true`, and end there or go on with a structural character or
+/// whitespace.
 pub fn is_valid_true_atom(bytes: &[u8]) -> bool
     ensures { result ≡ (starts_with nat_eq bytes.now (codes "true") && is_terminator (byte_at bytes.now 4)) }
 {
     bytes.starts_with(b"true") && ends_at(bytes, 4)
 }
 
-/// Whether the bytes begin with `false`, and end there or go on with a structural character or whitespace.
+/// Returns whether the bytes begin with `false`, and end there or go on with a structural character or
+/// whitespace.
 pub fn is_valid_false_atom(bytes: &[u8]) -> bool
     ensures { result ≡ (starts_with nat_eq bytes.now (codes "false") && is_terminator (byte_at bytes.now 5)) }
 {
     bytes.starts_with(b"false") && ends_at(bytes, 5)
 }
 
-/// Whether the bytes begin with `null`, and end there or go on with a structural character or whitespace.
+/// Returns whether the bytes begin with `null`, and end there or go on with a structural character or
+/// whitespace.
 pub fn is_valid_null_atom(bytes: &[u8]) -> bool
     ensures { result ≡ (starts_with nat_eq bytes.now (codes "null") && is_terminator (byte_at bytes.now 4)) }
 {
     bytes.starts_with(b"null") && ends_at(bytes, 4)
 }
 
-// Whether a scalar may end before the byte at this index: the end reads as a space.
+// Whether a scalar may end before the byte at index `at`; the end of the input is read as a space.
 fn ends_at(bytes: &[u8], at: usize) -> bool
     ensures { result ≡ is_terminator (byte_at bytes.now at) }
 {
     is_structural_or_whitespace(byte_or_space(bytes, at))
 }
 
-// The scalar at the last token, which is no string, becomes the next node. Each kind has a branch that stores
-// its own node, a constant but for a number: one that is joined from branches is copied piece by piece.
+// Appends the scalar at the last token, which is not a string. Each kind has a branch that stores its
+// own node: a node that is chosen by branches and then stored is copied field by field.
 #[inline(always)]
 pub(super) fn push_scalar<'de, K: Original, S: NodeSink<'de>>(
     input: &mut Input<'_, 'de>,
@@ -85,9 +93,9 @@ pub(super) fn push_scalar<'de, K: Original, S: NodeSink<'de>>(
     Ok(())
 }
 
-// The boolean at the front, before a structural character, whitespace or the end. Which of the two it may be
-// is computed from the first letter: a branch on it would be guessed wrong in every other one of mixed
-// booleans.
+// Reads the boolean at the front, if a structural character, whitespace or the end follows it. Which of
+// the two it may be is computed from the first letter: a branch on it would be mispredicted for every
+// other one of mixed booleans.
 #[inline(always)]
 fn parse_boolean(bytes: &[u8]) -> Option<bool>
     ensures { MatchOption result ((is_boolean true bytes.now ≡ false) × (is_boolean false bytes.now ≡ false))
@@ -108,12 +116,12 @@ fn parse_boolean(bytes: &[u8]) -> Option<bool>
     Some(is_true == 1)
 }
 
-// Four letters as a word, the first lowest. A `t` has bit 4, and an `f` has not.
+// Four letters as a word, the first in the lowest byte. Bit 4 is set in a `t` and not in an `f`.
 const TRUE: u32 = 0x6575_7274;
 
 const FALS: u32 = 0x736c_6166;
 
-// The same near the end of the input.
+// The same with fewer than six bytes left.
 #[cold]
 fn parse_last_boolean(bytes: &[u8]) -> Option<bool>
     ensures { MatchOption result ((is_boolean true bytes.now ≡ false) × (is_boolean false bytes.now ≡ false))
@@ -128,7 +136,7 @@ fn parse_last_boolean(bytes: &[u8]) -> Option<bool>
     None
 }
 
-// The fault at a token where there is no scalar that begins with its byte.
+// The fault of a token that is no scalar, by its first byte.
 #[cold]
 fn no_scalar(at: usize, byte: u8) -> Fault
     ensures { result ≡ record { kind = refused_kind byte; index = at; byte = byte } }
@@ -146,7 +154,7 @@ fn no_scalar(at: usize, byte: u8) -> Fault
     }
 }
 
-// The number at the last token becomes the next node.
+// Appends the number at the last token.
 #[inline(always)]
 fn push_number<'de, K: Original, S: NodeSink<'de>>(
     input: &mut Input<'_, 'de>,
@@ -169,7 +177,7 @@ fn push_number<'de, K: Original, S: NodeSink<'de>>(
     Ok(())
 }
 
-// The number at the last token, of any length, becomes the next node.
+// Appends the number at the last token, of any length.
 #[inline(always)]
 fn push_longer_number<'de, K: Original, S: NodeSink<'de>>(
     input: &mut Input<'_, 'de>,
@@ -194,8 +202,8 @@ fn push_longer_number<'de, K: Original, S: NodeSink<'de>>(
     Ok(())
 }
 
-// The integer of this magnitude whose literal begins with this byte becomes the next node. Each kind is
-// stored by itself, as in `push_scalar`.
+// Appends the integer of this magnitude whose literal begins with byte `first`. Each kind is stored by
+// itself, as in `push_scalar`.
 #[inline(always)]
 fn push_integer<'de, S: NodeSink<'de>>(nodes: &mut S, first: u8, magnitude: u64)
     requires fits { magnitude ≤ max_magnitude_64 (first == minus_sign) }
@@ -212,8 +220,8 @@ fn push_integer<'de, S: NodeSink<'de>>(nodes: &mut S, first: u8, magnitude: u64)
     }
 }
 
-// The integer at the front whose literal has so many bytes, or its fault. What is left of the input begins
-// with it, at index `at`.
+// Reads the integer at the front of `rest`, whose literal has `len` bytes, or returns its fault. `rest`
+// is the input from index `at` on.
 #[cold]
 #[inline(never)]
 fn read_long(rest: &[u8], at: usize, len: usize) -> std::result::Result<StaticNode, Fault>
@@ -229,7 +237,8 @@ fn read_long(rest: &[u8], at: usize, len: usize) -> std::result::Result<StaticNo
     }
 }
 
-// The fault of a number that is refused so far after its first byte; the end of the input reads as a space.
+// The fault of a number that is rejected `offset` bytes after its first one; the end of the input is
+// read as a space.
 #[cold]
 fn invalid_number(rest: &[u8], at: usize, offset: usize) -> Fault
     requires { at + length rest.now < 2 ^ 64 }

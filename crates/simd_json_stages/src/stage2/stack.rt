@@ -1,4 +1,8 @@
-//! The stack of the containers that are open.
+//! The stack of the open containers.
+//!
+//! As in simdjson, nesting is kept in a list and not in calls, so that a deep input can't exhaust the
+//! program's stack. What is known of the innermost container is in `Progress`; an entry is
+//! written when a container opens in it, and read when that one closes.
 ghost use Rattle.std.specs.Prelude.{◌≡◌, ◌<◌, ◌≤◌, ◌+◌, ◌-◌, true, length, get_or};
 ghost use Rattle.simd_json_parts.specs.Nodes.{item_of, static_item};
 ghost use Rattle.simd_json_stages.specs.Building.{closer, header_of, is_header, content_kind, patch, top};
@@ -8,15 +12,18 @@ use super::nodes::NodeSink;
 use super::progress::Progress;
 use simd_json_parts::node::{Node, StaticNode};
 
-/// The two kinds of containers.
+/// The two kinds of containers. The second stage passes it to the calls of a
+/// [`NodeSink`](super::NodeSink).
 #[derive(Clone, Copy, Debug, Drop)]
 pub enum Container {
+    /// An array, `[..]`: its members are its elements.
     Array,
+    /// An object, `{..}`: its members are pairs of a key and a value.
     Object,
 }
 
 impl Container {
-    // The byte that closes it.
+    // Its closing bracket.
     #[inline(always)]
     pub(super) fn closer(self) -> u8
         ensures { result ≡ closer self }
@@ -27,7 +34,7 @@ impl Container {
         }
     }
 
-    // The header node of one.
+    // The header of one with `len` members and `count` nodes beneath it.
     #[inline(always)]
     pub(super) fn header<'de>(self, len: usize, count: usize) -> Node<'de>
         ensures { item_of result ≡ header_of self len count }
@@ -38,7 +45,7 @@ impl Container {
         }
     }
 
-    // The fault of a token that may not stand after one of its members.
+    // What is wrong with a token after one of its members that is no comma and does not close it.
     pub(super) fn content_kind(self) -> FaultKind
         ensures { result ≡ content_kind self }
     {
@@ -49,19 +56,21 @@ impl Container {
     }
 }
 
-/// What is kept of an open container, and of its parent while it is open.
+/// What is kept of an open container and its parent: an entry of the stack that
+/// [`build_tape`](super::build_tape) works with. The caller makes the stack of
+/// [`EMPTY`](StackState::EMPTY) entries; the second stage writes them.
 #[derive(Clone, Copy, Debug, Drop)]
 pub struct StackState {
-    /// The index of its header among the nodes.
+    /// The index of the container's header among the nodes.
     pub header: usize,
-    /// What its parent is.
+    /// The kind of its parent; of the root `Array`.
     pub outer: Container,
-    /// How many members its parent has so far.
+    /// The number of members of its parent that were read before it; of the root 0.
     pub len: usize,
 }
 
 impl StackState {
-    /// Of no container: what a stack is filled with.
+    /// An entry of no container, to fill a stack with.
     pub const EMPTY: StackState = StackState {
         header: 0,
         outer: Container::Array,
@@ -69,8 +78,8 @@ impl StackState {
     };
 }
 
-// The innermost container is closed at the last token: its header is patched, and it is one more member of
-// its parent.
+// Closes the innermost container at the last token: sets the counts of its header, and counts it as
+// one more member of its parent. Returns the progress in the parent.
 #[inline(always)]
 pub(super) fn close<'de, S: NodeSink<'de>>(
     stack: &[StackState],

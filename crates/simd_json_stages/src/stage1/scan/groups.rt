@@ -6,8 +6,8 @@
 //!    several blocks at once by vectors.
 //! 3. `place_group`: the structural indexes, from left to right.
 //!
-//! simdjson does all three for one block before the next. Splitting them lets the second run in
-//! vectors, at the cost of storing the words between. Also, the first half of a group, or all but its
+//! simdjson takes one or two blocks through all of this before the next. Here the second loop runs in
+//! vectors, at the cost of storing the words in between. Also, the first half of a group, or all but its
 //! last block, is skipped in step 3 if it lies inside a string: it has no structural index.
 ghost use Rattle.std.specs.Prelude.{◌≡◌, ◌≢◌, ◌+◌, ◌-◌, ◌*◌, ◌%◌, ◌^◌, ◌<◌, ◌≤◌, ℕ, List, length};
 ghost use Rattle.simd_json_stages.specs.Blocks.{AreBlocks, CanList, IsAscii};
@@ -272,8 +272,7 @@ fn scan_group(
     }
 }
 
-// Scans a window that consists of whole groups, likewise. Not inlined, so that the loops get the
-// registers.
+// Scans a window that consists of whole groups, likewise.
 #[inline(never)]
 pub(super) fn scan_groups(
     blocks: &[[u8; 64]],
