@@ -11,12 +11,12 @@ pub struct Checker<'t> {
     alloc: Global,
     buffers: Buffers,
     tape: Option<Tape<'t, Global>>,
-    // what is parsed in place of the input, since a parse decodes strings where they stand
+    // a copy of the input, which is parsed in its place, since a parse decodes strings in place
     copy: Vec<u8>,
 }
 
 impl<'t> Checker<'t> {
-    /// A checker of documents of up to so many open containers.
+    /// Returns a checker of documents with at most `depth` containers open at a time.
     pub fn new(alloc: Global, depth: usize) -> Result<Checker<'t>, AllocError>
         ensures { IfOk result (λ checker. checker.buffers.limit ≡ depth) }
     {
@@ -36,7 +36,7 @@ impl<'t> Checker<'t> {
         self.alloc
     }
 
-    /// The place and the reason of the first error, or `None` of a document.
+    /// Returns the place and the reason of the first error, or `None` if the input is a document.
     pub fn check(&mut self, input: &[u8]) -> Result<Option<Location>, AllocError>
         ensures found { IfOk result (λ found. found ≡ found_in input.now self.old.buffers.limit) }
         ensures limit { self.new.buffers.limit ≡ self.old.buffers.limit }

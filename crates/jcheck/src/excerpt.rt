@@ -6,11 +6,11 @@ ghost use Rattle.jcheck.specs.Excerpts.{back, characters, excerpt, first_charact
 
 use std::alloc::{AllocError, Global};
 
-/// A line with the characters around a byte of the input that are in its line, and a line with a caret under
-/// that byte. At most `width` characters are shown, half of them before the byte. Control characters are shown
-/// as spaces, and what is not UTF-8 as U+FFFD.
+/// Returns a line with the characters around a byte of the input that are in its line, and a line
+/// with a caret under that byte. At most `width` characters are shown, half of them before the
+/// byte. Control characters are shown as spaces, and what is not UTF-8 as U+FFFD.
 ///
-/// Fails where an allocation does.
+/// Returns `AllocError` if an allocation fails.
 pub fn excerpt(alloc: Global, input: &[u8], byte: usize, width: usize) -> Result<String, AllocError>
     ensures { IfOk result (λ text. string_bytes text ≡ excerpt width input.now byte) }
 {

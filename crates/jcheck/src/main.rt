@@ -1,5 +1,5 @@
-//! `jcheck [--depth N] [--lines] [FILE..]` says of each file whether it is a JSON document, and of one that is
-//! not where and why.
+//! `jcheck [--depth N] [--lines] [FILE..]` checks whether each file is a JSON document, and prints
+//! where and why one is not.
 #![tactic(auto)]
 
 mod checker;

@@ -36,8 +36,8 @@ impl<'a> Options<'a> {
     }
 }
 
-/// What the words ask for, of which the first is the program's name. The error is the text of `--help` or
-/// `--version`, or says what is not understood.
+/// Returns what the arguments ask for; the first word is the program's name. The error is the text
+/// of `--help` or `--version`, or says what is not understood.
 pub fn asked<'a>(alloc: Global, words: &'a [String]) -> Result<Options<'a>, Error> {
     let matches = command(alloc)?.try_get_matches_from(words)?;
     let mut files = Vec::new(alloc);

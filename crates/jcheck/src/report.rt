@@ -1,4 +1,4 @@
-//! What is written of an input, and how the program ends.
+//! What is written about an input, and how the program ends.
 ghost use Rattle.std.specs.Prelude.{◌≡◌, [], false, is_none, is_some, string_bytes, IfOk, IfErr, OnOk, OnErr};
 ghost use Rattle.std.specs.Io.KnownBytes.{Appends};
 ghost use Rattle.std.specs.List.{list_all};
@@ -27,14 +27,14 @@ const PIECE: usize = 8192;
 pub enum Ended {
     /// Each input is a document.
     Clean,
-    /// An input was refused.
+    /// An input was rejected.
     Refused,
-    /// A file can't be read, or what is to be said of one can't be written.
+    /// A file can't be read, or a report can't be written.
     Failed,
 }
 
 impl Ended {
-    /// The status of the program.
+    /// Returns the exit status of the program.
     pub fn status(self) -> u8
         ensures { result ≡ status_of self }
     {
@@ -45,7 +45,7 @@ impl Ended {
         }
     }
 
-    // After a check that returned this.
+    // How the program ends after a check that returned this.
     fn of(checked: &io::Result<bool>) -> Ended
         ensures { result ≡ ended_of checked.now }
     {
@@ -57,7 +57,7 @@ impl Ended {
         }
     }
 
-    /// After another input that ended so.
+    /// Returns how the program ends after two inputs: the worse of the two.
     pub fn and(self, other: Ended) -> Ended
         ensures { result ≡ worse self other }
     {
@@ -70,7 +70,7 @@ impl Ended {
     }
 }
 
-/// Whether nobody reads the output any more.
+/// Returns whether nobody reads the output any more.
 pub fn is_closed(checked: &io::Result<bool>) -> bool
     ensures { result ≡ is_closed checked.now }
 {
@@ -80,8 +80,9 @@ pub fn is_closed(checked: &io::Result<bool>) -> bool
     }
 }
 
-/// Checks the files one after another, and returns the worst of how they ended. It goes on after an error,
-/// unless nobody reads the output any more: that is no failure, but the other files are left.
+/// Checks the files one after another, and returns the worst of how they ended. An error does not
+/// stop it, unless nobody reads the output any more: that is not a failure, but the other files are
+/// skipped.
 pub fn check_each<'a, F: FnMut(&'a str) -> io::Result<bool>>(
     mut check: F,
     files: &[&'a str],
@@ -100,10 +101,12 @@ pub fn check_each<'a, F: FnMut(&'a str) -> io::Result<bool>>(
     ended
 }
 
-/// Checks an input as one document, or each of its lines as one, and writes the place and the reason of each
-/// error, with at most `width` characters of its line. Returns whether there is none.
+/// Checks an input as one document, or each of its lines as one, and writes the place and the
+/// reason of each error, with at most `width` characters of its line. Returns whether there is
+/// none.
 ///
-/// Returns an error where the writer or an allocation fails. A beginning of the output is written then.
+/// Returns an error if the writer or an allocation fails. A beginning of the output is written
+/// then.
 pub fn check_input<W: Write>(
     checker: &mut Checker<'_>,
     out: &mut Channel<W>,
@@ -129,8 +132,8 @@ pub fn check_input<W: Write>(
     Ok(put?)
 }
 
-// Puts what is found of an input, and returns whether that is nothing, which is left open where the target
-// fails: that ends it at once. Where an allocation fails, a beginning is put.
+// Appends the report on an input, and returns whether it is empty. If the target fails, this ends
+// at once, and the result is unspecified. If an allocation fails, a beginning was appended.
 fn put_input<T: Target, const SIZE: usize>(
     checker: &mut Checker<'_>,
     text: &mut Text<'_, T, SIZE>,
@@ -154,7 +157,7 @@ fn put_input<T: Target, const SIZE: usize>(
     }
 }
 
-// The same of an input that is one document.
+// The same for an input that is one document.
 fn put_whole<T: Target, const SIZE: usize>(
     checker: &mut Checker<'_>,
     text: &mut Text<'_, T, SIZE>,
@@ -182,7 +185,7 @@ fn put_whole<T: Target, const SIZE: usize>(
     Ok(false)
 }
 
-// The same of an input of which each line is one.
+// The same for an input of which each line is one.
 fn put_lines<T: Target, const SIZE: usize>(
     checker: &mut Checker<'_>,
     text: &mut Text<'_, T, SIZE>,
@@ -219,7 +222,7 @@ fn put_lines<T: Target, const SIZE: usize>(
     Ok(clean)
 }
 
-// Puts what is found of a line that begins at this place, and returns whether that is nothing.
+// Appends the report on a line that begins at this place, and returns whether it is empty.
 fn put_line<T: Target, const SIZE: usize>(
     checker: &mut Checker<'_>,
     text: &mut Text<'_, T, SIZE>,
@@ -251,13 +254,16 @@ fn put_line<T: Target, const SIZE: usize>(
 // A place in a file.
 #[derive(Clone, Copy)]
 struct Place<'a> {
+    // the name of the file
     file: &'a str,
+    // the line: from 1
     line: usize,
+    // the byte offset in the file
     byte: usize,
 }
 
 impl Place<'_> {
-    // Puts what is said of an error here. Where an allocation fails, nothing is put.
+    // Appends the report on an error here. If an allocation fails, nothing is appended.
     fn put<T: Target, const SIZE: usize>(
         self,
         alloc: Global,
@@ -275,7 +281,8 @@ impl Place<'_> {
         Ok(())
     }
 
-    // What is said of an error here: where and why, and the text around it in the bytes that were checked.
+    // The report on an error here: where and why, and the text around it in the bytes that were
+    // checked.
     fn report(
         self,
         alloc: Global,

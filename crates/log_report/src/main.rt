@@ -1,5 +1,5 @@
-//! `log_report KEY [BYTES]` counts the lines of JSON Lines on standard input by their value at a key, in memory
-//! that does not depend on how many there are. docs/LINES.md says what it prints.
+//! `log_report KEY [BYTES]` counts the lines of JSON Lines on standard input by their value at a
+//! key, in memory that does not depend on how many there are. docs/LINES.md says what it prints.
 #![tactic(auto)]
 
 ghost use Rattle.std.specs.Prelude.{◌≡◌, false, IfOk, OnOk, map, option_map, string_bytes};
@@ -60,7 +60,8 @@ fn program(rt: &HostRuntime) -> Result<bool, Failure> {
     run(rt.alloc(), key, longest, &mut input, &mut out, &mut err)
 }
 
-// The key, and how many bytes a line may have, by default 65,536. The first word is the program's name.
+// The key, and how many bytes a line may have, by default 65,536. The first word is the program's
+// name.
 fn settings(words: &[String]) -> Option<(&str, usize)>
     ensures { option_map (λ r. (r.0.now, r.1)) result ≡ settings_of (map string_bytes words.now) }
 {
@@ -86,12 +87,13 @@ fn ending(ended: &Result<bool, Failure>) -> (u8, Option<&'static str>)
     }
 }
 
-// Counts the lines of the reader by their value at the key, names each refused line on `refusals`, and writes
-// the report. Returns whether no line was refused; one of more than `longest` bytes is.
+// Counts the lines of the reader by their value at the key, names each rejected line on `refusals`,
+// and writes the report. Returns whether no line was rejected; one of more than `longest` bytes is.
 //
-// Fails with `Read` where reading fails, with `Write` where writing does, and with `Resources` where there is
-// no memory for the start, or the input does not end within 2^64 - 1 blocks. After an error a prefix of the names of
-// refused lines was written, and of the report none, or a prefix where its writer failed.
+// Fails with `Read` if reading fails, with `Write` if writing does, and with `Resources` if an
+// allocation of the start fails, or if the input does not end within 2^64 - 1 blocks. After an
+// error a prefix of the names of rejected lines was written, and of the report nothing, or a prefix
+// if its writer failed.
 fn run<A: Allocator + Copy, R: Read, W: Write, E: Write>(
     a: A,
     key: &str,
@@ -106,8 +108,8 @@ fn run<A: Allocator + Copy, R: Read, W: Write, E: Write>(
     ensures { Reports R.remaining W.contents E.contents key.now longest
         reader.old reader.new report.old report.new refusals.old refusals.new result }
 {
-    // For each byte of the longest line 24 on the tape, somewhat over 4 in the buffers and 1 in the line, and 2 MB for
-    // texts and for the sort of their counts.
+    // For each byte of the longest line 24 on the tape, somewhat over 4 in the buffers and 1 in the
+    // line, and 2 MB for texts and for the sort of their counts.
     let arena = Bump::try_with_capacity(a, longest.saturating_mul(30).saturating_add(1 << 21))?;
     let mut lines = Lines::new(&arena, key, longest).map_err(|_| Failure::Resources)?;
     let mut line = Vec::with_capacity(&arena, longest.saturating_add(1))?;
@@ -157,7 +159,8 @@ impl<'k, A: Allocator + Copy> Lines<'k, A> {
         Ok(lines)
     }
 
-    // Counts the lines that end in the block, and keeps the one that begins, up to one byte more than it may have.
+    // Counts the lines that end in the block, and keeps the one that begins, up to one byte more
+    // than it may have.
     fn take<E: Write>(&mut self, block: &[u8], line: &mut Vec<u8, A>, err: &mut Channel<E>) -> Ended
         ensures { Ends err.old err.new
             (After E.contents self.old self.new err.old err.new line.old.items line.new.items block.now)
@@ -177,7 +180,8 @@ impl<'k, A: Allocator + Copy> Lines<'k, A> {
         }
     }
 
-    // Counts a line. Of one that is too long, its first bytes are enough, one more than it may have.
+    // Counts a line. Of one that is too long, the first bytes are enough: one more than it may
+    // have.
     fn count<E: Write>(&mut self, line: &mut [u8], err: &mut Channel<E>) -> Ended
         ensures { Ends err.old err.new (TakesLine E.contents self.old self.new err.old err.new line.old)
             (BeginsLine E.contents self.old err.old err.new line.old) result }
@@ -198,7 +202,7 @@ impl<'k, A: Allocator + Copy> Lines<'k, A> {
         Ok(())
     }
 
-    // Counts the last line as refused, and names it. Without an error it is too long.
+    // Counts the last line as rejected, and names it. Without an error it is too long.
     fn refuse<E: Write>(&mut self, error: Option<Error>, err: &mut Channel<E>) -> Ended
         ensures { Ends err.old err.new (IsRefused E.contents self.old self.new err.old err.new error)
             (Begins (E.contents err.old.inner) (E.contents err.new.inner)
@@ -215,7 +219,7 @@ impl<'k, A: Allocator + Copy> Lines<'k, A> {
         }
     }
 
-    // The line that names the last line as refused.
+    // The line that names the last line as rejected.
     fn refusal(&self, error: Option<Error>) -> io::Result<ArrayVec<u8, 256>>
         ensures { IfOk result (λ line. line.items ≡ refusal_line self.now.longest self.now.number error) }
     {
@@ -243,7 +247,7 @@ impl<'k, A: Allocator + Copy> Lines<'k, A> {
         }
     }
 
-    // Counts so many lines more under this text, or under `*` where all places for texts are taken.
+    // Counts `more` lines under this text, or under `*` if all places for texts are taken.
     fn add(&mut self, text: &[u8], more: u64) -> Result<(), AllocError>
         ensures { OnOk result (Adds self.old self.new text.now more) }
     {

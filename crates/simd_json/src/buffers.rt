@@ -1,6 +1,6 @@
-//! The memory that parses use one after another: the two lists that the first stage fills, and the stack
-//! of the second. The lists are kept filled to their length, which only grows, so that a parse stores
-//! into them without a test of capacity; how many entries are in use is counted apart.
+//! The memory that parses use one after another: the two lists that the first stage fills, and the
+//! stack of the second. A parse stores into entries that are there already, so their lengths only
+//! grow; how many entries are in use is counted apart.
 ghost use Rattle.std.specs.Prelude.{◌≡◌, ◌≤◌, ◌<◌, ◌⊎◌, [], length, max, take};
 ghost use Rattle.std.specs.Prelude.{OnOk, OnErr, IfOk, IfErr, Some, Err};
 ghost use Rattle.std.specs.Vec.{vec_capacity};
@@ -29,8 +29,8 @@ const FEW_OPEN: usize = 64;
 /// The memory that parses use one after another, and their depth limit: the lists of the structural
 /// indexes and of the blocks that hold a backslash, and the stack of the open containers.
 ///
-/// Each list grows by what an input needs, and never shrinks. What buffers held before does not change
-/// a result.
+/// Each list grows by what an input needs, and never shrinks. What buffers held before does not
+/// change a result.
 #[derive(Drop)]
 pub struct Buffers<A: Allocator = Global> {
     // structural indexes (byte indexes into the input), and entries not in use
@@ -61,8 +61,8 @@ impl<A: Allocator> Model for Buffers<A> {
 }
 
 impl<A: Allocator + Copy> Buffers<A> {
-    /// Returns buffers with which at most [`DEFAULT_MAX_DEPTH`] containers may be open at a time. See
-    /// [`with_max_depth`](Buffers::with_max_depth).
+    /// Returns buffers with which at most [`DEFAULT_MAX_DEPTH`] containers may be open at a time.
+    /// See [`with_max_depth`](Buffers::with_max_depth).
     pub fn new(a: A, input_len: usize) -> Result<Buffers<A>>
         ensures made { IfOk result (λ buffers. buffers ≡ new_buffers input_len default_max_depth) }
         ensures fault { IfErr result (λ e. IsOutOfMemory e × (0 < input_len)) }
@@ -70,13 +70,14 @@ impl<A: Allocator + Copy> Buffers<A> {
         Buffers::with_max_depth(a, input_len, DEFAULT_MAX_DEPTH)
     }
 
-    /// Returns buffers with which at most `max_depth` containers may be open at a time; 0 allows scalars
-    /// only.
+    /// Returns buffers with which at most `max_depth` containers may be open at a time; 0 allows
+    /// scalars only.
     ///
-    /// They list no structural index. They have capacity for those that an input of `input_len` bytes
-    /// may have (more than 4,294,967,295 count as that number, the greatest size of an input), and none
-    /// for open containers yet: the depth limit costs nothing before an input is as deep. `input_len` is
-    /// a hint, and may be 0: a parse allocates what an input needs beyond it.
+    /// They list no structural index. They have capacity for those that an input of `input_len`
+    /// bytes may have (more than 4,294,967,295 count as that number, the greatest size of an
+    /// input), and none for open containers yet: the depth limit costs nothing before an input is
+    /// as deep. `input_len` is a hint, and may be 0: a parse allocates what an input needs beyond
+    /// it.
     ///
     /// Returns `OutOfMemory` if an allocation fails.
     pub fn with_max_depth(a: A, input_len: usize, max_depth: usize) -> Result<Buffers<A>>
@@ -104,9 +105,9 @@ impl<A: Allocator + Copy> Buffers<A> {
 }
 
 impl<A: Allocator> Buffers<A> {
-    /// Returns the structural indexes of the input that was read last: the byte index of the opening
-    /// quote of each string and, outside strings, of each structural character and of the first byte of
-    /// each other token. In ascending order.
+    /// Returns the structural indexes of the input that was read last: the byte index of the
+    /// opening quote of each string and, outside strings, of each structural character and of the
+    /// first byte of each other token. In ascending order.
     ///
     /// Empty before the first parse, and after one that returned an error without a character.
     pub fn structural_indexes(&self) -> &[u32]
@@ -115,12 +116,13 @@ impl<A: Allocator> Buffers<A> {
         &self.structural_indexes[..self.used]
     }
 
-    /// Reserves capacity for inputs of up to `input_len` bytes (more than 4,294,967,295 count as that
-    /// number): for their structural indexes, and for as many open containers as they can have within
-    /// the depth limit.
+    /// Reserves capacity for inputs of up to `input_len` bytes (more than 4,294,967,295 count as
+    /// that number): for their structural indexes, and for as many open containers as they can have
+    /// within the depth limit.
     ///
-    /// With as much capacity on the tape, which [`reserve`](crate::reserve) sees to, no parse of such an
-    /// input returns `OutOfMemory`, however many follow. The structural indexes that are listed stay.
+    /// With as much capacity on the tape, which [`reserve`](crate::reserve) sees to, no parse of
+    /// such an input returns `OutOfMemory`, however many follow. The structural indexes that are
+    /// listed stay.
     ///
     /// Returns `OutOfMemory` if an allocation fails; what capacity has been reserved by then stays.
     pub fn reserve(&mut self, input_len: usize) -> Result<()>
@@ -156,9 +158,9 @@ impl<A: Allocator> Buffers<A> {
     }
 
     // Lists the structural indexes of the input and its blocks that hold a backslash, and reserves
-    // capacity for the containers that they can open within the limit; new buffers reserve none for up
-    // to `FEW_OPEN`. Returns the error of the whole input, or `OutOfMemory` if an allocation fails, and
-    // lists nothing then.
+    // capacity for the containers that they can open within the limit; new buffers reserve none for
+    // up to `FEW_OPEN`. Returns the error of the whole input, or `OutOfMemory` if an allocation
+    // fails, and lists nothing then.
     pub(crate) fn find_positions(&mut self, input: &[u8]) -> Result<()>
         ensures found { OnOk result (HoldsScan input.now self.new) }
         ensures empty { OnErr result ((self.new.positions ≡ []) × (self.new.blocks ≡ [])) }
@@ -183,8 +185,9 @@ impl<A: Allocator> Buffers<A> {
         Ok(())
     }
 
-    // Runs the second stage over what the last scan listed, and writes the nodes of the input to a sink.
-    // The stack is the buffers' own or, if that is too short, a local one for `FEW_OPEN` containers.
+    // Runs the second stage over what the last scan listed, and writes the nodes of the input to a
+    // sink. The stack is the buffers' own or, if that is too short, a local one for `FEW_OPEN`
+    // containers.
     #[inline(always)]
     pub(crate) fn build_tape<'de, K: Original, S: NodeSink<'de>>(
         &mut self,
@@ -216,8 +219,8 @@ impl<A: Allocator> Buffers<A> {
     }
 }
 
-// Makes the list at least `len` long: lists are kept filled, so that a store into them needs no memory.
-// What it held stays. If an allocation fails the list is unchanged.
+// Makes the list at least `len` long: lists are kept filled, so that a store into them needs no
+// memory. What it held stays. If an allocation fails the list is unchanged.
 pub(crate) fn lengthen<T: Copy, A: Allocator>(
     list: &mut Vec<T, A>,
     len: usize,

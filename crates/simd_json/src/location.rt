@@ -17,8 +17,8 @@ pub use reason::Reason;
 use simd_json_parts::error::{Error, ErrorType};
 use std::alloc::{AllocError, Allocator};
 
-/// An error, and for people where it is in the input and why: a line and a column for an editor, and a
-/// [`Reason`] in words.
+/// An error, and for people where it is in the input and why: a line and a column for an editor,
+/// and a [`Reason`] in words.
 #[derive(Debug, Drop, PartialEq, Eq)]
 pub struct Location {
     error: Error,
@@ -29,14 +29,16 @@ pub struct Location {
 }
 
 impl Location {
-    /// Finds where in the input an error of its parse is, and why it was refused. `input` holds the bytes as
-    /// they were before the parse, which may have decoded strings in place. No memory is taken.
+    /// Finds where in the input an error of its parse is, and why it was rejected. `input` holds
+    /// the bytes as they were before the parse, which may have decoded strings in place. Allocates
+    /// nothing.
     ///
-    /// An error with a character is at its index. Of one of the whole input the place is looked for:
+    /// An error with a character is at its index. For one of the whole input the place is found by
+    /// a scan:
     ///
     /// - `InvalidUtf8`: the first byte that begins no UTF-8 character (RFC 3629)
-    /// - `Syntax`: the first control byte inside a string, or the opening quote of the string that is left
-    ///   open (RFC 8259, section 7), whichever comes first
+    /// - `Syntax`: the first control byte inside a string, or the opening quote of the string that
+    ///   is left open (RFC 8259, section 7), whichever comes first
     /// - `Eof`: the end of the input
     /// - `InputTooLarge`: the first byte too many
     ///
@@ -93,7 +95,7 @@ impl Location {
         self.column
     }
 
-    /// Why the input is refused.
+    /// Why the input is rejected.
     pub fn reason(&self) -> Reason
         ensures { result ≡ self.now.reason }
     {
@@ -101,15 +103,15 @@ impl Location {
     }
 }
 
-/// Looks for the error of the bytes as one document, with at most `max_depth` containers open at a time, and
-/// for its place. Returns `None` where they are a document within the limits, else the location of the error
-/// that [`to_tape_with_buffers`](crate::to_tape_with_buffers) returns where memory suffices.
+/// Checks whether the bytes are one document, with at most `max_depth` containers open at a time,
+/// and finds the place of the error if not. Returns `None` if they are, otherwise the location of
+/// the error that [`to_tape_with_buffers`](crate::to_tape_with_buffers) returns if memory suffices.
 ///
-/// `input` holds the bytes as they were before a parse. They are copied and the copy is parsed, in the time and
-/// the memory that these take; an input that is too large is not copied. Whoever has parsed the bytes already
-/// has the error, and needs [`Location::new`] alone.
+/// `input` holds the bytes as they were before a parse. They are copied and the copy is parsed, in
+/// the time and the memory that these take; an input that is too large is not copied. A caller who
+/// has parsed the bytes already has the error, and needs only [`Location::new`].
 ///
-/// Returns `AllocError` where an allocation fails. So `OutOfMemory` is never the error of a location.
+/// Returns `AllocError` if an allocation fails. So `OutOfMemory` is never the error of a location.
 ///
 /// ```
 /// use simd_json::locate;

@@ -1,5 +1,6 @@
-//! The entry points. Each finds the structural indexes of its input into the buffers (`find_positions`),
-//! and then builds nodes from them, into a tape (`build`) or a sink (`build_tape` of the buffers).
+//! The entry points. Each finds the structural indexes of its input into the buffers
+//! (`find_positions`), and then builds nodes from them, into a tape (`build`) or a sink
+//! (`build_tape` of the buffers).
 ghost use Rattle.std.specs.Prelude.{◌≡◌, ◌≢◌, ◌≤◌, ◌<◌, [], ℕ, List, length, map, vec_capacity};
 ghost use Rattle.std.specs.Prelude.{IfErr, IfOk, OnOk, OnErr, None, Err};
 ghost use Rattle.std.specs.Result.{result_err};
@@ -23,15 +24,15 @@ use simd_json_stages::stage2::{ListSink, NodeSink, Original, nodes_enough};
 use std::alloc::Allocator;
 use std::marker::Brand;
 
-/// Reads the bytes of one document (RFC 8259) as a tape, with at most [`DEFAULT_MAX_DEPTH`] containers
-/// open at a time.
+/// Reads the bytes of one document (RFC 8259) as a tape, with at most [`DEFAULT_MAX_DEPTH`]
+/// containers open at a time.
 ///
 /// Returns the first error if the bytes are not such a document, in this order:
 ///
-/// - Errors of the whole input, reported at index 0 and without a character, before any token is read:
-///   `InputTooLarge` for more than 4,294,967,295 bytes, `InvalidUtf8` if they are not UTF-8, `Syntax`
-///   if a string is left open or has a byte below 0x20 inside (section 7), `Eof` if there is nothing
-///   but whitespace.
+/// - Errors of the whole input, reported at index 0 and without a character, before any token is
+///   read: `InputTooLarge` for more than 4,294,967,295 bytes, `InvalidUtf8` if they are not UTF-8,
+///   `Syntax` if a string is left open or has a byte below 0x20 inside (section 7), `Eof` if there
+///   is nothing but whitespace.
 /// - The first token that is rejected, from the left, with an index and the character there:
 ///   `InternalError`, `ExpectedArrayContent`, `ExpectedObjectContent`, `ExpectedObjectKey`,
 ///   `ExpectedObjectColon` or `TrailingData` where another token is expected (sections 2, 4 and 5),
@@ -40,8 +41,8 @@ use std::marker::Brand;
 ///   `InvalidUnicodeCodepoint` at a backslash, with the character `u` (section 7), and
 ///   `DepthLimitExceeded` at the bracket that opens a container beyond the limit (section 9).
 ///
-/// `OutOfMemory`, at index 0 and without a character, is returned if an allocation fails, and only if
-/// size and encoding are right. After an error there is no tape, and the contents of `s` are
+/// `OutOfMemory`, at index 0 and without a character, is returned if an allocation fails, and only
+/// if size and encoding are right. After an error there is no tape, and the contents of `s` are
 /// unspecified.
 ///
 /// ```
@@ -64,8 +65,8 @@ pub fn to_tape<'de, A: Allocator + Copy>(a: A, s: &'de mut [u8]) -> Result<Tape<
 /// lists. The tape takes its memory from the allocator of the buffers.
 ///
 /// The errors are those of [`to_tape`]. After one without a character `structural_indexes` of the
-/// buffers is empty; otherwise it lists the structural indexes of `s`. The buffers can be used again
-/// after every call.
+/// buffers is empty; otherwise it lists the structural indexes of `s`. The buffers can be used
+/// again after every call.
 ///
 /// ```
 /// use simd_json::{Buffers, to_tape_with_buffers};
@@ -92,15 +93,15 @@ pub fn to_tape_with_buffers<'de, A: Allocator + Copy>(
     Ok(tape)
 }
 
-/// Reads a document into a tape that is there already, within the depth limit of the buffers and with
-/// their lists. What buffers and tape held before does not matter.
+/// Reads a document into a tape that is there already, within the depth limit of the buffers and
+/// with their lists. What buffers and tape held before does not matter.
 ///
 /// The errors are those of [`to_tape`]. After one the tape is empty. After one without a character
-/// `structural_indexes` of the buffers is empty too; otherwise it lists the structural indexes of `s`.
-/// Buffers and tape can be used again after every call.
+/// `structural_indexes` of the buffers is empty too; otherwise it lists the structural indexes of
+/// `s`. Buffers and tape can be used again after every call.
 ///
-/// If buffers and tape have capacity for as many bytes as `s` has, as after [`reserve`], `OutOfMemory`
-/// is not returned. No parse gives up capacity.
+/// If buffers and tape have capacity for as many bytes as `s` has, as after [`reserve`],
+/// `OutOfMemory` is not returned. No parse gives up capacity.
 ///
 /// ```
 /// use simd_json::{Buffers, Tape, fill_tape, reserve};
@@ -137,18 +138,18 @@ pub fn fill_tape<'de, A: Allocator, B: Allocator>(
     build::<Brand, A, B>(s, buffers, &mut tape.list)
 }
 
-/// Reads a document as [`fill_tape`] does, and writes its nodes to an empty sink in place of a tape: to
-/// a form of the caller's own, in one pass. [`NodeSink`] has an example of a sink. It has room for
-/// 4,294,967,295 nodes, since no document has more.
+/// Reads a document as [`fill_tape`] does, and writes its nodes to an empty sink in place of a
+/// tape: to a form of the caller's own, in one pass. [`NodeSink`] has an example of a sink. It has
+/// room for 4,294,967,295 nodes, since no document has more.
 ///
 /// The errors are those of [`to_tape`]. After one without a character the sink is as it was; after
 /// another it may hold nodes that were written before the error. In any case its room and what it
-/// borrows stay the same. If the buffers have capacity for as many bytes as `s` has, `OutOfMemory` is
-/// not returned.
+/// borrows stay the same. If the buffers have capacity for as many bytes as `s` has, `OutOfMemory`
+/// is not returned.
 ///
-/// `K` names the bytes of `s` as they were given (see [`Original`]): the contract speaks of these, and
-/// strings are decoded in place. The function that makes the sink is generic over `K`, and is called
-/// with [`Brand`](std::marker::Brand).
+/// `K` names the bytes of `s` as they were given (see [`Original`]): the contract speaks of these,
+/// and strings are decoded in place. The function that makes the sink is generic over `K`, and is
+/// called with [`Brand`](std::marker::Brand).
 pub fn fill_sink<'de, K: Original, S: NodeSink<'de>, A: Allocator>(
     s: &'de mut [u8],
     buffers: &mut Buffers<A>,
@@ -169,12 +170,13 @@ pub fn fill_sink<'de, K: Original, S: NodeSink<'de>, A: Allocator>(
     buffers.build_tape::<K, S>(s, sink)
 }
 
-/// Reads the document in the first `len` bytes of `s` into a tape, as [`fill_tape`] does, if at least
-/// [`INPUT_PADDING`] bytes follow it. What these hold does not matter, and they stay as they are.
+/// Reads the document in the first `len` bytes of `s` into a tape, as [`fill_tape`] does, if at
+/// least [`INPUT_PADDING`] bytes follow it. What these hold does not matter, and they stay as they
+/// are.
 ///
 /// If fewer follow, it returns `InsufficientPadding` at index 0 and without a character, before
-/// anything is read. The other errors are those of [`to_tape`] on the document. Tape and buffers are
-/// left as by [`fill_tape`].
+/// anything is read. The other errors are those of [`to_tape`] on the document. Tape and buffers
+/// are left as by [`fill_tape`].
 ///
 /// ```
 /// use simd_json::{Buffers, INPUT_PADDING, Tape, fill_tape_padded};
@@ -210,14 +212,14 @@ pub fn fill_tape_padded<'de, A: Allocator, B: Allocator>(
     fill_tape(document, buffers, tape)
 }
 
-/// Reads a document as [`fill_tape`] does, into the memory of a tape of another lifetime. Returns the
-/// result and a tape of this lifetime, with the capacity of the other and of what the parse reserved.
-/// So a loop can read each of its inputs into one buffer; with `fill_tape` they would all have to live
-/// at the same time.
+/// Reads a document as [`fill_tape`] does, into the memory of a tape of another lifetime. Returns
+/// the result and a tape of this lifetime, with the capacity of the other and of what the parse
+/// reserved. So a loop can read each of its inputs into one buffer; with `fill_tape` they would all
+/// have to live at the same time.
 ///
-/// The errors are those of [`to_tape`]; after one the tape is empty. The tape borrows from `s`, which
-/// can be written again once the tape is [`reset`](Tape::reset) or dropped. A reservation outlives all
-/// of this.
+/// The errors are those of [`to_tape`]; after one the tape is empty. The tape borrows from `s`,
+/// which can be written again once the tape is [`reset`](Tape::reset) or dropped. A reservation
+/// outlives all of this.
 ///
 /// ```
 /// use simd_json::{Buffers, Tape, refill_tape, reserve};
@@ -256,13 +258,13 @@ pub fn refill_tape<'de, A: Allocator, B: Allocator>(
     (answer, tape)
 }
 
-/// Reserves capacity in buffers and tape for inputs of up to `input_len` bytes (more than 4,294,967,295
-/// count as that number): after it no parse of such an input with both of them returns `OutOfMemory`,
-/// however many follow, and whether or not the tape is reset between them. What is listed stays, and so
-/// does capacity.
+/// Reserves capacity in buffers and tape for inputs of up to `input_len` bytes (more than
+/// 4,294,967,295 count as that number): after it no parse of such an input with both of them
+/// returns `OutOfMemory`, however many follow, and whether or not the tape is reset between them.
+/// What is listed stays, and so does capacity.
 ///
-/// It takes about 28 bytes for each byte of `input_len`, and 48 for each container that may be open.
-/// Returns `OutOfMemory` if an allocation fails; what has been reserved by then stays.
+/// It takes about 28 bytes for each byte of `input_len`, and 48 for each container that may be
+/// open. Returns `OutOfMemory` if an allocation fails; what has been reserved by then stays.
 ///
 /// ```
 /// use simd_json::{Buffers, Tape, fill_tape, reserve};

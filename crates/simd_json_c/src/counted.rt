@@ -1,4 +1,4 @@
-//! A sink that keeps nothing: of a document it is known then that it is one.
+//! A sink that counts nodes and keeps none: a parse into it checks that an input is a document.
 ghost use Rattle.std.specs.Prelude.{◌≡◌, length};
 ghost use Rattle.simd_json_parts.specs.Limits.{max_length};
 ghost use Rattle.simd_json_c.specs.Loans.{is_headed};
@@ -6,11 +6,14 @@ ghost use Rattle.simd_json_c.specs.Loans.{is_headed};
 use crate::noted::Noted;
 use simd_json::{Container, NodeSink, StaticNode};
 
+// The counts of a sink without nodes.
 #[derive(Drop)]
 pub(crate) struct Counted {
+    // how many nodes were appended
     pub(crate) count: usize,
-    // Whether the first node is the header of a container.
+    // whether the first node is the header of a container
     pub(crate) is_container: bool,
+    // the ghost record of the nodes
     pub(crate) noted: Noted,
     ghost counted: { count ≡ length noted.note.items },
     ghost headed: { is_container ≡ is_headed noted.note.items },

@@ -1,4 +1,5 @@
-//! What parses use one after another.
+//! The memory that parses use one after another, and the two ways of a parse in the C library: a
+//! check, which counts nodes ([`Counted`]), and a tape in the caller's memory ([`CallerSink`]).
 ghost use Rattle.std.specs.Prelude.{◌≡◌, ◌≤◌, pos, List, [], length, min, IfOk, IfErr, MatchResult, Some, None};
 ghost use Rattle.std.specs.Result.{result_err};
 ghost use Rattle.simd_json.specs.Capacities.{KeepsCapacities, capacity};
@@ -21,10 +22,12 @@ use std::marker::Brand;
 /// Buffers whose memory the next parse uses.
 #[derive(Drop)]
 pub struct Lists {
+    // the lists of the first stage, the stack of the second, and the depth limit
     pub(crate) buffers: Buffers,
 }
 
 impl Lists {
+    // Lists with this depth limit, which hold no memory yet.
     pub(crate) fn new(alloc: Global, max_depth: usize) -> Result<Lists>
         ensures { MatchResult result (λ lists. lists ≡ new_lists max_depth) (λ _. ⊥) }
     {
@@ -32,7 +35,7 @@ impl Lists {
         Ok(Lists { buffers })
     }
 
-    // Whether the input is a document.
+    // Returns 0 if the input is a document, or its error.
     pub(crate) fn check(&mut self, input: &mut [u8]) -> Result<i32>
         ensures read { (ns : List Item) × IsReadWith self.old input.old (result_err result) ns self.new }
         ensures zero { IfOk result (λ status. status ≡ pos 0) }
@@ -42,7 +45,8 @@ impl Lists {
         Ok(0)
     }
 
-    // The nodes of a document, and their texts, in the caller's memory.
+    // Writes the nodes of a document and their texts to the caller's memory, and to `room` how much
+    // of both they need. Returns 0, or `TOO_LITTLE_ROOM` if one of them does not fit.
     pub(crate) fn tape(
         &mut self,
         input: &mut [u8],
@@ -69,7 +73,7 @@ impl Lists {
     }
 }
 
-// Counts the nodes of a document.
+// Parses the input, and keeps none of its nodes.
 fn count<K: Original>(buffers: &mut Buffers, input: &mut [u8]) -> Result<()>
     requires { input.old ≡ K.bytes }
     ensures read { (ns : List Item) × IsParse K.bytes buffers.old.limit (capacity buffers.old)
@@ -84,14 +88,16 @@ fn count<K: Original>(buffers: &mut Buffers, input: &mut [u8]) -> Result<()>
     fill_sink::<K, Counted, Global>(input, buffers, &mut sink)
 }
 
-// How much a document needs, and what is known of its nodes.
+// What `write` returns.
 #[derive(Drop)]
 struct Written {
+    // how many nodes and bytes of text the document needs
     room: Room,
+    // the ghost record of its nodes
     noted: Noted,
 }
 
-// Writes the nodes of a document, and their texts, as far as they fit.
+// Writes the nodes of a document and their texts, as far as they fit.
 fn write<K: Original>(
     buffers: &mut Buffers,
     input: &mut [u8],

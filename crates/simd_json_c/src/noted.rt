@@ -1,11 +1,12 @@
-//! A ghost record of the nodes written so far.
+//! A ghost record of the nodes that were appended so far. The contract of a sink speaks of its
+//! nodes, also of those that did not fit or were not kept.
 ghost use Rattle.std.specs.Prelude.{◌≡◌};
 ghost use base.Fml.{ftrue};
 ghost use Rattle.simd_json_c.specs.Notes.{Note};
 
 use std::marker::Model;
 
-// It has no bytes at run time. Only clauses determine `note`.
+// The record. It has no bytes at run time, and only clauses determine `note`.
 #[derive(Drop)]
 pub(crate) struct Noted {
     pub(crate) ghost note: { Note },

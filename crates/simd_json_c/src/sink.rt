@@ -1,5 +1,5 @@
-//! What the second stage writes to the memory of a program in C. What doesn't fit is counted, so that the program
-//! learns how much room it needs.
+//! The sink of the C library: the second stage writes to memory of the caller. What does not fit is
+//! counted, so that the caller learns how much room it needs.
 ghost use Rattle.std.specs.Prelude.{◌≡◌, ◌≤◌, ◌<◌, ◌+◌, ◌++◌, ℕ, List, drop, length, min, slice_set, take};
 ghost use Rattle.simd_json_parts.specs.Nodes.{static_item};
 ghost use Rattle.simd_json_parts.specs.Limits.{max_length};
@@ -12,16 +12,20 @@ use crate::nodes::{Node, span_of, static_of};
 use crate::noted::Noted;
 use simd_json::{Container, NodeSink, StaticNode};
 
-// Nodes and texts in lent memory, and how many there are, written or not.
+// Nodes and texts in the caller's memory, and how many there are, written or not.
 #[derive(Drop)]
 pub(crate) struct CallerSink<'t> {
+    // the caller's memory for nodes
     pub(crate) nodes: &'t mut [Node],
+    // how many nodes were appended, whether they fit or not
     pub(crate) count: usize,
+    // the caller's memory for the bytes of strings and decimals, one after another
     pub(crate) text: &'t mut [u8],
-    // How many bytes the texts have, or the greatest number.
+    // how many bytes these have, whether they fit or not, or the greatest number
     pub(crate) used: usize,
-    // Whether the first node is the header of a container.
+    // whether the first node is the header of a container
     pub(crate) is_container: bool,
+    // the ghost record of the nodes, written or not
     pub(crate) noted: Noted,
     ghost counted: { count ≡ length noted.note.items },
     ghost measured: { used ≡ min (length (texts noted.note.items)) 18446744073709551615 },
@@ -33,8 +37,8 @@ pub(crate) struct CallerSink<'t> {
 }
 
 impl CallerSink<'_> {
-    // A string or a decimal is the next node. Out of line, since the machine comes here from many places, and
-    // would be too large to be inlined itself.
+    // Appends a string or a decimal. Not inlined, since the machine calls it from many places, and
+    // would become too large to be inlined itself.
     #[inline(never)]
     fn put_text(&mut self, is_decimal: bool, bytes: &[u8])
         requires { length self.old.noted.note.items < max_length }
@@ -106,7 +110,7 @@ impl<'de, 't> NodeSink<'de> for CallerSink<'t> {
     }
 }
 
-// A string or a decimal of so many bytes, that begin at an index.
+// The node of a string or a decimal whose `len` bytes begin at index `start` of the texts.
 #[inline(always)]
 fn text_node(is_decimal: bool, len: usize, start: usize) -> Node
     ensures { (t : List ℕ) → length t ≡ len → result ≡ node_of start (text_item is_decimal t) }
@@ -118,7 +122,7 @@ fn text_node(is_decimal: bool, len: usize, start: usize) -> Node
     }
 }
 
-// The header of a container, of so many members and nodes beneath it.
+// The header of a container with `len` members and `count` nodes beneath it.
 #[inline(always)]
 fn header_node(container: Container, len: usize, count: usize) -> Node
     ensures { (start : ℕ) → result ≡ node_of start (header_of container len count) }
@@ -129,7 +133,7 @@ fn header_node(container: Container, len: usize, count: usize) -> Node
     }
 }
 
-// A node, where it fits.
+// Writes a node at index `at` if it fits.
 #[inline(always)]
 fn write_node(nodes: &mut [Node], at: usize, node: Node)
     ensures fits { at < length nodes.old → nodes.new ≡ slice_set nodes.old at node }
@@ -140,7 +144,7 @@ fn write_node(nodes: &mut [Node], at: usize, node: Node)
     }
 }
 
-// A text, where it fits.
+// Writes a text from index `at` on if it fits.
 #[inline(always)]
 fn write_text(text: &mut [u8], at: usize, bytes: &[u8])
     ensures front { at + length bytes.now ≤ length text.old
@@ -154,8 +158,8 @@ fn write_text(text: &mut [u8], at: usize, bytes: &[u8])
     }
 }
 
-// A node and its text, each where it fits. Both at a time, since between the two writes there is more of nodes
-// than of texts.
+// Writes a node and its text, each if it fits. One call: between the two writes the sink's
+// invariant does not hold.
 #[inline(always)]
 fn write_both(
     nodes: &mut [Node],

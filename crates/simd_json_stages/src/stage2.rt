@@ -1,8 +1,8 @@
 //! The second stage: from structural indexes to nodes.
 //!
 //! As in G. Langdale and D. Lemire, "Parsing Gigabytes of JSON per Second", VLDB Journal 28 (2019),
-//! section 3.2, a state machine goes from one structural index to the next, with a stack of the open
-//! containers. The way of a parse:
+//! section 3.2, a state machine goes from one structural index to the next, with a stack of the
+//! open containers. The way of a parse:
 //!
 //! ```text
 //! build_tape             chooses one of three copies of the machine by the input
@@ -18,14 +18,14 @@
 //! ```
 //!
 //! Beside `machine`, `progress` holds how far it is, `stack` the open containers, `input` what it
-//! reads, `nodes` what it writes to, `string` and `scalar` the values of one node, and `fault` how it
-//! rejects a token.
+//! reads, `nodes` what it writes to, `string` and `scalar` the values of one node, and `fault` how
+//! it rejects a token.
 //!
-//! Where it differs from simdjson: nodes go to a sink of the caller's choice, not to words of a tape;
-//! strings are not copied into a buffer, but shared with the input, and decoded in place if they have
-//! escapes; a string that ends before the next backslash is not read at
-//! all, since its closing quote is the last one before the next structural index; a number with a
-//! fraction or an exponent is kept as its literal.
+//! Where it differs from simdjson: nodes go to a sink of the caller's choice, not to words of a
+//! tape; strings are not copied into a buffer, but shared with the input, and decoded in place if
+//! they have escapes; a string that ends before the next backslash is not read at all, since its
+//! closing quote is the last one before the next structural index; a number with a fraction or an
+//! exponent is kept as its literal.
 ghost use Rattle.std.specs.Prelude.{◌≡◌, ◌≤◌, [], length, Err, OnOk, IfErr};
 ghost use Rattle.simd_json_parts.specs.Descent.{descent};
 ghost use Rattle.simd_json_stages.specs.Building.{IsWritten};
@@ -54,9 +54,9 @@ pub use stack::{Container, StackState};
 pub use input::Original;
 use input::Input;
 
-/// Returns how many nodes are enough for a tape of an input with `positions` structural indexes, if at
-/// most `max_depth` containers are open at a time: one for each container that may be open, and one
-/// for every other structural index that is left. Never more than `positions`.
+/// Returns how many nodes are enough for a tape of an input with `positions` structural indexes, if
+/// at most `max_depth` containers are open at a time: one for each container that may be open, and
+/// one for every other structural index that is left. Never more than `positions`.
 #[tactic(auto, unfolding(crate::specs::NodesEnough::nodes_enough))]
 pub fn nodes_enough(positions: usize, max_depth: usize) -> usize
     ensures enough { result ≡ nodes_enough positions max_depth }
@@ -78,16 +78,17 @@ pub struct Scanned<'s> {
 }
 
 /// Writes the nodes of an input to an empty sink, which has room for as many as [`nodes_enough`]
-/// returns for it. `stack` is as long as `max_depth` or as the list of structural indexes, whichever is
-/// less; what it holds does not matter.
+/// returns for it. `stack` is as long as `max_depth` or as the list of structural indexes,
+/// whichever is less; what it holds does not matter.
 ///
-/// The nodes are those of the document that the input is, in preorder. An error is that of the first
-/// token that is rejected, with its index and character; it is never one of the whole input and never
-/// `OutOfMemory`. After an error the sink holds the nodes that were written before it.
+/// The nodes are those of the document that the input is, in preorder. An error is that of the
+/// first token that is rejected, with its index and character; it is never one of the whole input
+/// and never `OutOfMemory`. After an error the sink holds the nodes that were written before it.
 ///
-/// `K` names the bytes of the input as they were given, for contracts (see [`Original`]). The function
-/// that makes the sink is generic over it, and is called with [`Brand`](std::marker::Brand): a proof
-/// can't pick the bytes at a call with a bound that names a lifetime.
+/// `K` names the bytes of the input as they were given, for contracts (see [`Original`]). The
+/// function that makes the sink is generic over it, and is called with
+/// [`Brand`](std::marker::Brand): a proof can't pick the bytes at a call with a bound that names a
+/// lifetime.
 #[inline(always)]
 pub fn build_tape<'de, K: Original, S: NodeSink<'de>>(
     input: &'de mut [u8],
@@ -124,8 +125,8 @@ pub fn build_tape<'de, K: Original, S: NodeSink<'de>>(
 
 // The machine is compiled three times, so that its loops need not test what is known beforehand.
 
-// The input has no backslash, so it is borrowed whole. Its last token is a closing bracket, so another
-// token follows each one that is not.
+// The input has no backslash, so it is borrowed whole. Its last token is a closing bracket, so
+// another token follows each one that is not.
 const PLAIN: usize = 0;
 
 // The input has backslashes. Its last token is a closing bracket.

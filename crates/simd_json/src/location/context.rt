@@ -1,4 +1,4 @@
-//! What the bytes around an error say of its reason.
+//! The reason of an error, from the bytes around it.
 ghost use Rattle.std.specs.Prelude.{◌≡◌, drop, if◌then◌else◌};
 ghost use Rattle.simd_json.specs.Locations.{bad_string, is_control_inside};
 ghost use Rattle.simd_json.specs.Reasons.{byte_before, closes_root, ends_range, expects_value};
@@ -23,7 +23,7 @@ pub(super) fn reason_for(input: &[u8], error: &Error) -> Reason
     }
 }
 
-// Of an error without a character.
+// The reason of an error without a character.
 fn whole_reason(input: &[u8], kind: &ErrorType) -> Reason
     ensures { result ≡ whole_reason input.now kind.now }
 {
@@ -38,7 +38,7 @@ fn whole_reason(input: &[u8], kind: &ErrorType) -> Reason
     }
 }
 
-// Of an error with a character, by the bytes around its index.
+// The reason of an error with a character, by the bytes around its index.
 fn token_reason(input: &[u8], i: usize, kind: &ErrorType) -> Reason
     ensures { result ≡ token_reason input.now i kind.now }
 {
@@ -62,7 +62,7 @@ fn token_reason(input: &[u8], i: usize, kind: &ErrorType) -> Reason
     }
 }
 
-// Of a bad string: it holds a control byte, or is left open.
+// The reason of a bad string: it holds a control byte, or is left open.
 fn string_reason(input: &[u8]) -> Reason
     ensures { result ≡ (if is_control_inside input.now (bad_string input.now)
         then reasons.ControlCharacter (byte_at input.now (bad_string input.now)) else reasons.OpenString) }
@@ -114,7 +114,7 @@ fn expects_value(before: Option<u8>, found: u8) -> bool
     }
 }
 
-// Of what is neither a key nor the end in an object.
+// The reason of a token in an object that is neither a key nor its end.
 fn object_reason(input: &[u8], i: usize) -> Reason
     ensures { result ≡ object_reason (byte_before input.now i) (byte_at input.now i) }
 {
@@ -125,7 +125,7 @@ fn object_reason(input: &[u8], i: usize) -> Reason
     }
 }
 
-// Of a number that is refused at an index.
+// The reason of a number that is rejected at index i.
 fn number_reason(input: &[u8], i: usize) -> Reason
     ensures { result ≡ (if ends_range input.now i then reasons.IntegerOutOfRange
         else reasons.MalformedNumber) }
@@ -137,7 +137,8 @@ fn number_reason(input: &[u8], i: usize) -> Reason
     }
 }
 
-// Whether an integer passes its range at an index: after two digits, at another or at the number's end.
+// Whether an integer passes its range at index i: after two digits, at another or at the number's
+// end.
 fn ends_range(input: &[u8], i: usize) -> bool
     ensures { result ≡ ends_range input.now i }
 {
@@ -148,7 +149,7 @@ fn ends_range(input: &[u8], i: usize) -> bool
         && (found.is_ascii_digit() || is_structural_or_whitespace(found))
 }
 
-// Of a `\u` that the text begins with.
+// The reason of a bad `\u` escape at the front of the text.
 fn unicode_reason(text: &[u8]) -> Reason
     ensures { result ≡ (if has_hex_digits text.now then reasons.LoneSurrogate
         else reasons.MalformedUnicodeEscape) }
@@ -161,7 +162,7 @@ fn unicode_reason(text: &[u8]) -> Reason
     }
 }
 
-// The last byte before an index that is no whitespace.
+// The last byte before index i that is not whitespace.
 fn byte_before(input: &[u8], i: usize) -> Option<u8>
     ensures { result ≡ byte_before input.now i }
 {

@@ -67,7 +67,7 @@ fn line_start(bytes: &[u8]) -> usize
     start
 }
 
-// Whether the byte is no later one of its character (RFC 3629, section 3).
+// Whether the byte is not a later one of its character (RFC 3629, section 3).
 fn begins_character(byte: u8) -> bool
     ensures { result ≡ begins_character byte }
 {

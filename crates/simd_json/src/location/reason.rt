@@ -1,6 +1,7 @@
-//! Why an input is refused, in words.
+//! Why an input is rejected, in words.
 
-/// Why an input is refused: what was expected at the place of the error, and the byte that was found there.
+/// Why an input is rejected: what was expected at the place of the error, and the byte that was
+/// found there.
 #[derive(Debug, Clone, Copy, PartialEq, Eq)]
 pub enum Reason {
     /// The input has more than 4,294,967,295 bytes.
@@ -45,7 +46,7 @@ pub enum Reason {
     IntegerOutOfRange,
     /// A number is malformed (RFC 8259, section 6).
     MalformedNumber,
-    /// A backslash is followed by this byte, which no escape has (RFC 8259, section 7).
+    /// A backslash is followed by this byte, which is not that of an escape (RFC 8259, section 7).
     UnknownEscape(u8),
     /// A `\u` is not followed by four hexadecimal digits.
     MalformedUnicodeEscape,

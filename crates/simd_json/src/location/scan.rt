@@ -37,8 +37,8 @@ impl Strings {
     }
 }
 
-// The first control byte inside a string or the opening quote of the string that is left open; the length
-// where all strings are right.
+// The first control byte inside a string or the opening quote of the string that is left open; the
+// length where all strings are right.
 pub(super) fn bad_string(input: &[u8]) -> usize
     ensures { result ≡ bad_string input.now }
 {

@@ -1,9 +1,9 @@
 //! Memory for the two lists of the first stage.
 //!
-//! simdjson allocates for the worst case, an index for each byte, before it scans. Here a list grows
-//! with what is found, by half or by what is guessed from the input so far. A list is kept filled,
-//! since stores go to entries below its length: a step ahead of what is found, so that entries are
-//! filled shortly before they are overwritten.
+//! simdjson allocates for the worst case, an index for each byte, before it scans. Here a list
+//! grows with what is found, by half or by what is guessed from the input so far. A list is kept
+//! filled, since stores go to entries below its length: a step ahead of what is found, so that
+//! entries are filled shortly before they are overwritten.
 ghost use Rattle.std.specs.Prelude.{◌≡◌, ◌≤◌, ◌<◌, length, take, IfErr, OnOk};
 ghost use Rattle.simd_json_parts.specs.Faults.{whole_fault};
 ghost use Rattle.simd_json_parts.specs.declared.error.ErrorType.{ErrorType};

@@ -1,12 +1,12 @@
 //! The classes of the 64 bytes of a block, as words with a bit for each byte: the vectorized
-//! classification of G. Langdale and D. Lemire, "Parsing Gigabytes of JSON per Second", VLDB Journal
-//! 28 (2019), section 3.1.
+//! classification of G. Langdale and D. Lemire, "Parsing Gigabytes of JSON per Second", VLDB
+//! Journal 28 (2019), section 3.1.
 //!
 //! The paper looks up both halves of a byte and joins the results. Here, as in later versions of
-//! simdjson, the low half alone is looked up, in a table with the one byte of the class that has it,
-//! and the result is compared with the byte. Unlike there, the quote is in both tables: bytes of
-//! both classes are quotes, and two comparisons tell three classes apart. A third one finds control
-//! bytes. Bit `i` of a word is that of byte `i`.
+//! simdjson, the low half alone is looked up, in a table with the one byte of the class that has
+//! it, and the result is compared with the byte. Unlike there, the quote is in both tables: bytes
+//! of both classes are quotes, and two comparisons tell three classes apart. A third one finds
+//! control bytes. Bit `i` of a word is that of byte `i`.
 ghost use Rattle.std.specs.Prelude.{◌≡◌, ◌==◌, ◌<◌, ℕ, map, slice_index};
 ghost use Rattle.std.specs.List.{list_any};
 ghost use Rattle.std.specs.Simd.Lanes.{mask_l};
@@ -17,8 +17,8 @@ ghost use Rattle.simd_json_stages.specs.Words.{HasBits};
 use std::simd::prelude::*;
 
 // Indexed by the low half of a byte: the whitespace or quote with that low half. Elsewhere a byte
-// with another low half (100, 17, 113, 2, 112 as in simdjson), which no byte that is looked up there
-// equals. A table for each of the two 16-byte lanes of a vector.
+// with another low half (100, 17, 113, 2, 112 as in simdjson), which no byte that is looked up
+// there equals. A table for each of the two 16-byte lanes of a vector.
 const SPACE_OR_QUOTE: [u8; 32] = [
     b' ', 100, b'"', 100, 17, 100, 113, 2, 100, b'\t', b'\n', 112, 100, b'\r', 100, 100, b' ', 100,
     b'"', 100, 17, 100, 113, 2, 100, b'\t', b'\n', 112, 100, b'\r', 100, 100,

@@ -1,9 +1,9 @@
 //! The scan of a whole input: the order in which the steps of the first stage are applied.
 //!
-//! Its whole blocks of 64 bytes come first, in windows of 128 blocks: before each window the lists get
-//! memory for all that it may hold, and after it its encoding is checked. What is left, fewer than 64
-//! bytes, is scanned as a block that is filled up with spaces, so that the input needs no padding, as
-//! it does in simdjson. Inputs of fewer than eight whole blocks take a shorter path.
+//! Its whole blocks of 64 bytes come first, in windows of 128 blocks: before each window the lists
+//! get memory for all that it may hold, and after it its encoding is checked. What is left, fewer
+//! than 64 bytes, is scanned as a block that is filled up with spaces, so that the input needs no
+//! padding, as it does in simdjson. Inputs of fewer than eight whole blocks take a shorter path.
 //!
 //! A block passes two steps, whose states are kept apart, since eight blocks take the first step
 //! before one takes the second: it is classified, and listed if it holds a backslash, and its
@@ -120,8 +120,8 @@ const START: ScanState = ScanState {
     },
 };
 
-// Scans the whole blocks. Returns the state after them, and how many bytes of the input are known to
-// be UTF-8 then.
+// Scans the whole blocks. Returns the state after them, and how many bytes of the input are known
+// to be UTF-8 then.
 #[inline(always)]
 pub(super) fn scan_blocks<A: Allocator>(
     input: &[u8],
@@ -216,9 +216,9 @@ fn scan_short<A: Allocator>(
     Ok((done, checked))
 }
 
-// Classifies the block of the bytes after the whole blocks, `rest`, followed by spaces. If the input
-// has at least 64 bytes, its last 64 are read in place: vectors that read a copy would wait until its
-// pieces are stored.
+// Classifies the block of the bytes after the whole blocks, `rest`, followed by spaces. If the
+// input has at least 64 bytes, its last 64 are read in place: vectors that read a copy would wait
+// until its pieces are stored.
 #[inline(always)]
 fn classify_rest(input: &[u8], rest: &[u8], before: u64) -> Classified
     requires rest { rest.now ≡ drop (length input.now / 64 * 64) input.now }

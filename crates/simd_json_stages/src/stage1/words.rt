@@ -1,21 +1,21 @@
-//! The words of a block: from classes to structural indexes by arithmetic, as in G. Langdale and
-//! D. Lemire, "Parsing Gigabytes of JSON per Second", VLDB Journal 28 (2019), section 3.1. Bit `i` of
+//! The words of a block: from classes to structural indexes by arithmetic, as in G. Langdale and D.
+//! Lemire, "Parsing Gigabytes of JSON per Second", VLDB Journal 28 (2019), section 3.1. Bit `i` of
 //! a word is that of byte `i` of the block.
 //!
 //! - **Escaped bytes** follow an odd run of backslashes. A sum carries through each run to the bit
 //!   after it, whose parity, with that of the run's start, says whether the run is odd. The paper
 //!   adds twice, for runs from even and from odd bits; here one sum does, as in later versions of
 //!   simdjson. A block without a backslash skips this.
-//! - **Strings** lie between quotes that are not escaped: the prefix XOR of the quotes is set from an
-//!   opening quote up to the byte before its closing one. The paper multiplies without carry by all
-//!   ones; here six shifts do the same.
-//! - **Starts of tokens** outside strings: structural characters, opening quotes, and each other byte
-//!   that is not whitespace and does not continue such a token. The paper calls the latter
+//! - **Strings** lie between quotes that are not escaped: the prefix XOR of the quotes is set from
+//!   an opening quote up to the byte before its closing one. The paper multiplies without carry by
+//!   all ones; here six shifts do the same.
+//! - **Starts of tokens** outside strings: structural characters, opening quotes, and each other
+//!   byte that is not whitespace and does not continue such a token. The paper calls the latter
 //!   pseudo-structural characters.
 //!
-//! A block needs three bits from the one before: whether its first byte is escaped, whether it begins
-//! inside a string, and whether its first byte may continue a token. The work is split by that:
-//! `classify` needs the first, `find_parts` none, so that several blocks run at once, and
+//! A block needs three bits from the one before: whether its first byte is escaped, whether it
+//! begins inside a string, and whether its first byte may continue a token. The work is split by
+//! that: `classify` needs the first, `find_parts` none, so that several blocks run at once, and
 //! `find_starts` the other two. It also finds control bytes inside strings, which are errors.
 ghost use Rattle.std.specs.Prelude.{◌≡◌, ◌==◌, ◌+◌, ◌-◌, ◌<◌, ◌++◌, ℕ, List, drop, replicate, Bool};
 ghost use Rattle.std.specs.List.{list_any};
@@ -213,8 +213,8 @@ pub(super) fn find_parts(space_or_quote: u64, op_or_quote: u64, control: u64, es
     }
 }
 
-// Finds the structural indexes of a block, from what the block before hands to it. A byte is none if
-// it is plain and follows a plain one, if it is whitespace, or if it is inside a string or its
+// Finds the structural indexes of a block, from what the block before hands to it. A byte is none
+// if it is plain and follows a plain one, if it is whitespace, or if it is inside a string or its
 // closing quote.
 #[inline(always)]
 pub(super) fn find_starts(parts: Parts, control: u64, carry: Carry) -> BlockStarts

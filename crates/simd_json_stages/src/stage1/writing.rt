@@ -1,10 +1,10 @@
-//! From the word of a block to indexes in the list: the index extraction of G. Langdale and D. Lemire,
-//! "Parsing Gigabytes of JSON per Second", VLDB Journal 28 (2019), section 3.1.
+//! From the word of a block to indexes in the list: the index extraction of G. Langdale and D.
+//! Lemire, "Parsing Gigabytes of JSON per Second", VLDB Journal 28 (2019), section 3.1.
 //!
-//! The lowest set bit is found by `trailing_zeros` and cleared, several times in a row whether there
-//! are as many bits or not: stores beyond the last bit are overwritten by those of the next block.
-//! Then the only branches are on how many bits a word has. simdjson stores eight at a time; here it
-//! is four, and a word with more than 16 bits is finished one by one.
+//! The lowest set bit is found by `trailing_zeros` and cleared, several times in a row whether
+//! there are as many bits or not: stores beyond the last bit are overwritten by those of the next
+//! block. Then the only branches are on how many bits a word has. simdjson stores eight at a time;
+//! here it is four, and a word with more than 16 bits is finished one by one.
 ghost use Rattle.std.specs.Prelude.{◌≡◌, ◌+◌, ◌^◌, ◌<◌, ◌≤◌, ◌++◌, [], ◌∷◌, ℕ, List, length, take};
 ghost use Rattle.std.specs.Prelude.{if◌then◌else◌, IsTrue};
 ghost use Rattle.std.specs.Int.{from_bool};

@@ -1,13 +1,13 @@
 //! The input that the machine reads, and the strings and numbers that nodes share with it.
 //!
-//! An input without a backslash is borrowed whole. Otherwise strings are decoded in place, as no escape
-//! is shorter than its character: what has been read is split off the front of the bytes that are left,
-//! for good, so that a string that was decoded is never read again. simdjson copies each string to a
-//! buffer instead (section 3.2 of the paper that `stage2` names).
+//! An input without a backslash is borrowed whole. Otherwise strings are decoded in place, as no
+//! escape is shorter than its character: what has been read is split off the front of the bytes
+//! that are left, for good, so that a string that was decoded is never read again. simdjson copies
+//! each string to a buffer instead (section 3.2 of the paper that `stage2` names).
 //!
-//! A string has no escape if it ends before the next backslash, which a walk along the blocks of the
-//! first stage finds. It is shared without a look at its bytes: its closing quote is the last quote
-//! before the next structural index, since only whitespace lies between.
+//! A string has no escape if it ends before the next backslash, which a walk along the blocks of
+//! the first stage finds. It is shared without a look at its bytes: its closing quote is the last
+//! quote before the next structural index, since only whitespace lies between.
 ghost use Rattle.std.specs.Prelude.{◌≡◌, ◌≤◌, ◌<◌, ◌+◌, ◌-◌, ◌*◌, ◌^◌};
 ghost use Rattle.std.specs.Prelude.{ℕ, List, [], suc, length, slice_index, take, drop, MatchResult, Ok, Err};
 ghost use Rattle.std.specs.Prelude.{IsTrue, IsFalse, true, false};
@@ -25,11 +25,11 @@ use simd_json_scalars::stringparse::{BadEscape, parse_str};
 use std::marker::Brand;
 use std::simd::prelude::*;
 
-/// The bytes of an input as they were given, before strings are decoded in place: a type that names them
-/// in contracts. It has no values, and at run time it is nothing.
+/// The bytes of an input as they were given, before strings are decoded in place: a type that names
+/// them in contracts. It has no values, and at run time it is nothing.
 ///
-/// Functions that parse are generic over it, and require that the input is `K.bytes`. A caller passes
-/// [`Brand`], and its proof picks the bytes at that call.
+/// Functions that parse are generic over it, and require that the input is `K.bytes`. A caller
+/// passes [`Brand`], and its proof picks the bytes at that call.
 pub trait Original {
     // The bytes.
     ghost bytes: { List ℕ };
@@ -155,9 +155,9 @@ impl<'m, 'de> Input<'m, 'de> {
         prefix
     }
 
-    // Whether the string from index `at` may have an escape before index `end`. Past the mark this is
-    // true without a search if fewer than 32 bytes are left, so the last strings may be decoded although
-    // they have none.
+    // Whether the string from index `at` may have an escape before index `end`. Past the mark this
+    // is true without a search if fewer than 32 bytes are left, so the last strings may be decoded
+    // although they have none.
     #[inline(always)]
     pub(crate) fn may_have_escape(&mut self, at: usize, end: usize) -> bool
         requires { HasBytes self.old at 0 }
@@ -177,8 +177,8 @@ impl<'m, 'de> Input<'m, 'de> {
         self.escapes.mark < end
     }
 
-    // Whether one of the 32 bytes from index `at` on is a backslash; also true if fewer than 32 are left.
-    // If escapes are dense this finds the next one at less cost than the walk.
+    // Whether one of the 32 bytes from index `at` on is a backslash; also true if fewer than 32 are
+    // left. If escapes are dense this finds the next one at less cost than the walk.
     #[inline(always)]
     fn is_near_backslash(&self, at: usize) -> bool
         requires { HasBytes self.now at 0 }
@@ -200,8 +200,9 @@ impl<'m, 'de> Input<'m, 'de> {
         Escapes { blocks, next, mark }
     }
 
-    // The index of the last quote before index `end`, which closes the string whose opening quote has
-    // index `at`. Usually it is right before `end`. That is tested before the loop, which is slower.
+    // The index of the last quote before index `end`, which closes the string whose opening quote
+    // has index `at`. Usually it is right before `end`. That is tested before the loop, which is
+    // slower.
     #[inline(always)]
     fn last_quote(&self, at: usize, end: usize) -> usize
         requires { HasQuoted self.now at end }
@@ -231,9 +232,9 @@ impl<'m, 'de> Input<'m, 'de> {
         self.share(at + 1, closing - (at + 1))
     }
 
-    // Decodes in place the string whose opening quote has index `at`. Returns it, or its first invalid
-    // escape. `parse_str` is not inlined. It takes the bytes and not `self`, since what is passed by
-    // reference to such a call is kept in memory.
+    // Decodes in place the string whose opening quote has index `at`. Returns it, or its first
+    // invalid escape. `parse_str` is not inlined. It takes the bytes and not `self`, since what is
+    // passed by reference to such a call is kept in memory.
     #[inline(always)]
     pub(crate) fn parse_string(&mut self, at: usize) -> Result<&'de str, BadEscape>
         requires lent { IsFalse self.old.is_plain }
@@ -264,10 +265,10 @@ pub(crate) struct Escapes<'a> {
     pub(crate) mark: usize,
 }
 
-// The place in `blocks` of the first one, from `next` on, that does not end before index `at`, and the
-// index of the first backslash from `at` on, or the greatest number if none is left. `rest` is the
-// input from index `base` on. Not inlined. It takes slices and numbers, not the `Input`: what is passed
-// by reference to such a call is kept in memory.
+// The place in `blocks` of the first one, from `next` on, that does not end before index `at`, and
+// the index of the first backslash from `at` on, or the greatest number if none is left. `rest` is
+// the input from index `base` on. Not inlined. It takes slices and numbers, not the `Input`: what
+// is passed by reference to such a call is kept in memory.
 #[inline(never)]
 fn next_backslash(
     blocks: &[u32],
@@ -301,8 +302,8 @@ fn passed(blocks: &[u32], next: usize, at: usize) -> usize
     next
 }
 
-// The index at which the block at place `next` of the list begins, or the greatest number if the list
-// has no such place.
+// The index at which the block at place `next` of the list begins, or the greatest number if the
+// list has no such place.
 #[inline(always)]
 fn start(blocks: &[u32], next: usize) -> usize
     ensures { next < length blocks.now → result ≡ 64 * slice_index blocks.now next }

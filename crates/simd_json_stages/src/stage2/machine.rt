@@ -1,6 +1,6 @@
-//! The machine: a loop for the elements of an array, one for the members of an object, and one round
-//! both, which goes on where a container opens or closes. So inside one container its kind is known
-//! beforehand. Between two tokens the machine is in one of three states:
+//! The machine: a loop for the elements of an array, one for the members of an object, and one
+//! round both, which goes on where a container opens or closes. So inside one container its kind is
+//! known beforehand. Between two tokens the machine is in one of three states:
 //!
 //! ```text
 //! value         read a scalar, an empty array or an empty object     →  after a value
@@ -27,9 +27,9 @@ use super::string::push_string;
 use super::input::{Original, Input};
 use std::result::Result;
 
-// What the machine changes besides the sink. That is passed beside it, since the prover can't follow,
-// through a struct, a list of values that share the input. All functions that take the machine are
-// inlined, so that its fields stay in registers.
+// What the machine changes besides the sink. That is passed beside it, since the prover can't
+// follow, through a struct, a list of values that share the input. All functions that take the
+// machine are inlined, so that its fields stay in registers.
 #[derive(Drop)]
 pub(crate) struct Machine<'m, 'de> {
     // what is left of the input
@@ -39,8 +39,8 @@ pub(crate) struct Machine<'m, 'de> {
 }
 
 impl<'de> Machine<'_, 'de> {
-    // Appends the key at the last token, reads its colon, and goes on to the first token of the value. If
-    // the last token is no string, the fault is of this kind.
+    // Appends the key at the last token, reads its colon, and goes on to the first token of the
+    // value. If the last token is no string, the fault is of this kind.
     #[inline(always)]
     fn read_key<K: Original, S: NodeSink<'de>>(
         &mut self,
@@ -72,8 +72,8 @@ impl<'de> Machine<'_, 'de> {
         Ok(value)
     }
 
-    // Opens the container whose opening bracket is the last token. An empty one is complete at once, as
-    // the next token shows, and takes no entry of the stack.
+    // Opens the container whose opening bracket is the last token. An empty one is complete at
+    // once, as the next token shows, and takes no entry of the stack.
     #[inline(always)]
     #[tactic(auto, unfolding(crate::specs::NodesEnough::nodes_enough))]
     fn open<K: Original, S: NodeSink<'de>>(
@@ -119,8 +119,8 @@ impl<'de> Machine<'_, 'de> {
         }))
     }
 
-    // Reads the value whose first token is the last one: a scalar whole, a container up to its first
-    // member.
+    // Reads the value whose first token is the last one: a scalar whole, a container up to its
+    // first member.
     #[inline(always)]
     fn read_value<K: Original, S: NodeSink<'de>>(
         &mut self,
@@ -187,8 +187,8 @@ impl<'de> Machine<'_, 'de> {
         Ok(Following::Closed(close(self.stack, nodes, q, container)))
     }
 
-    // Closes containers up to the next comma and reads the token after it, or reports the end of the
-    // root. Does nothing in a container that was just opened.
+    // Closes containers up to the next comma and reads the token after it, or reports the end of
+    // the root. Does nothing in a container that was just opened.
     #[inline(always)]
     #[tactic(auto, unfolding(crate::specs::NodesEnough::nodes_enough))]
     fn next_member<K: Original, S: NodeSink<'de>>(
@@ -223,8 +223,8 @@ impl<'de> Machine<'_, 'de> {
         Ok(NextMember::End)
     }
 
-    // Reads the elements of an array, from the first token of one on, up to a container that opens in it
-    // or to its end.
+    // Reads the elements of an array, from the first token of one on, up to a container that opens
+    // in it or to its end.
     #[inline(always)]
     fn elements<K: Original, S: NodeSink<'de>>(
         &mut self,

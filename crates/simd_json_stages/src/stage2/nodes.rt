@@ -1,8 +1,8 @@
 //! Where the machine writes nodes: a sink, with a call for each kind of node.
 //!
 //! simdjson writes words of 64 bits to a tape of its own (section 3.2 of the paper that `stage2`
-//! names). Here the destination is the caller's choice, and the machine is compiled for each. A header
-//! is appended when its container opens, and its counts are set when it closes.
+//! names). Here the destination is the caller's choice, and the machine is compiled for each. A
+//! header is appended when its container opens, and its counts are set when it closes.
 ghost use Rattle.std.specs.Prelude.{◌≡◌, ◌<◌, true, ℕ, List, [], ◌∷◌, ◌++◌, length, map, get_or, slice_set, vec_capacity};
 ghost use Rattle.simd_json_parts.specs.Nodes.{Item, static_item, string_item, decimal_item, item_of};
 ghost use Rattle.simd_json_stages.specs.Building.{header_of, is_header};
@@ -13,14 +13,14 @@ use std::alloc::Allocator;
 
 /// A destination for the nodes of a document: a list of [`Node`], or a form of the caller's own.
 ///
-/// The second stage appends each node by the call for its kind, in preorder: the header of a container,
-/// then its members; of a member of an object the key, which is a string, and then its value. When a
-/// container that is not empty closes, it sets the counts of its header.
+/// The second stage appends each node by the call for its kind, in preorder: the header of a
+/// container, then its members; of a member of an object the key, which is a string, and then its
+/// value. When a container that is not empty closes, it sets the counts of its header.
 ///
 /// The ghost items say for contracts what a sink holds: `held_nodes` is the list of nodes that were
-/// appended, `node_room` how many it can hold in all, and `lender` names what it borrows. A sink with
-/// nodes of another form needs a proof that ties them to `held_nodes`. One that hands all nodes on to
-/// another sink has the other's items, as this one, which counts strings and keys:
+/// appended, `node_room` how many it can hold in all, and `lender` names what it borrows. A sink
+/// with nodes of another form needs a proof that ties them to `held_nodes`. One that hands all
+/// nodes on to another sink has the other's items, as this one, which counts strings and keys:
 ///
 /// ```
 /// use simd_json_parts::node::StaticNode;
@@ -72,8 +72,8 @@ pub trait NodeSink<'de> {
     // The type of the names of what it borrows.
     ghost Lender: { Type 0 };
 
-    // What it borrows, by name. No call changes that, so that after a parse the owner of the borrowed
-    // memory knows what was written there.
+    // What it borrows, by name. No call changes that, so that after a parse the owner of the
+    // borrowed memory knows what was written there.
     ghost lender: { Self → Self.Lender };
 
     /// Returns how many nodes were appended.
@@ -108,8 +108,8 @@ pub trait NodeSink<'de> {
         ensures room { node_room self.new ≡ node_room self.old }
         ensures put { held_nodes self.new ≡ held_nodes self.old ++ header_of container 0 0 ∷ [] };
 
-    /// Sets the counts of the header at index `header` among the nodes, when its container closes: it
-    /// has `len` members, and `count` nodes beneath it. It is not called for an empty container.
+    /// Sets the counts of the header at index `header` among the nodes, when its container closes:
+    /// it has `len` members, and `count` nodes beneath it. It is not called for an empty container.
     fn set_counts(&mut self, header: usize, container: Container, len: usize, count: usize)
         requires within { header < length (held_nodes self.old) }
         requires header { is_header (get_or (held_nodes self.old) header (static_item StaticNode.Null)) ≡ true }
@@ -123,8 +123,8 @@ pub trait NodeSink<'de> {
         ensures { result ≡ is_header (get_or (held_nodes self.now) 0 (static_item StaticNode.Null)) };
 }
 
-/// A list of nodes as a sink, with room for as many nodes as it has capacity for. The caller makes it of
-/// a list with enough capacity, and no call allocates.
+/// A list of nodes as a sink, with room for as many nodes as it has capacity for. The caller makes
+/// it of a list with enough capacity, and no call allocates.
 #[derive(Drop)]
 pub struct ListSink<'n, 'de, A: Allocator> {
     /// The list that the nodes are appended to.

@@ -1,9 +1,9 @@
 //! How far the machine is: a small value that each step takes and returns, so that it stays in
 //! registers.
 //!
-//! The last token is the one at the structural index that was read last. A token is known by its index
-//! and its first byte. The machine of simdjson's paper jumps from state to state by `goto`; here `Step`,
-//! `Following` and `NextMember` say where to go on.
+//! The last token is the one at the structural index that was read last. A token is known by its
+//! index and its first byte. The machine of simdjson's paper jumps from state to state by `goto`;
+//! here `Step`, `Following` and `NextMember` say where to go on.
 ghost use Rattle.std.specs.Prelude.{◌≡◌, ◌≢◌, ◌<◌, ◌≤◌, ◌+◌, ◌^◌, ℕ, List, length, get_or};
 ghost use Rattle.std.specs.Prelude.{IfOk, IfErr, IsTrue, IsFalse};
 ghost use Rattle.simd_json_parts.specs.Bytes.{byte_at};
@@ -42,7 +42,8 @@ impl Route<'_> {
     }
 }
 
-// How far the machine is. The first two fields lie as in `Fault`: a `Result` of both shares registers.
+// How far the machine is. The first two fields lie as in `Fault`: a `Result` of both shares
+// registers.
 #[derive(Clone, Copy, Drop)]
 pub(crate) struct Progress {
     // the byte index of the last token in the input
@@ -55,7 +56,8 @@ pub(crate) struct Progress {
     pub(crate) read: usize,
     // how many containers are open
     pub(crate) depth: usize,
-    // how many members of the innermost container were read; if none is open, 1 after the root, else 0
+    // how many members of the innermost container were read; if none is open, 1 after the root,
+    // else 0
     pub(crate) len: usize,
 }
 
@@ -72,8 +74,8 @@ impl Progress {
         }
     }
 
-    // Whether no token is left. If the last of all is a closing bracket, a token follows any other one,
-    // which saves the comparison with the list's length.
+    // Whether no token is left. If the last of all is a closing bracket, a token follows any other
+    // one, which saves the comparison with the list's length.
     #[inline(always)]
     pub(super) fn is_last(self, indexes: &[u32], ends_closed: bool) -> bool
         requires within { self.read ≤ length indexes.now }
@@ -155,8 +157,8 @@ pub(super) enum Following {
 // What the machine goes on with.
 #[derive(Clone, Copy, Drop)]
 pub(super) enum NextMember {
-    // a member of the innermost container, at its first token, and in an object the kind of fault if
-    // that is no key
+    // a member of the innermost container, at its first token, and in an object the kind of fault
+    // if that is no key
     Next(Progress, FaultKind),
     // nothing: the root is complete, and no token is left
     End,

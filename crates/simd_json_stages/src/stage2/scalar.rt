@@ -1,9 +1,10 @@
 //! Numbers and words become nodes.
 //!
 //! Booleans are compared four letters at a time. Numbers are read by `numberparse`, their digits by
-//! words of eight bytes, as in section 3.2 of the paper that `stage2` names: short ones by `parse_short`,
-//! which is inlined, and others by `parse_numeral`. Unlike simdjson, a number with a fraction or an
-//! exponent is only checked, and its node holds the literal; integers have up to 128 bits.
+//! words of eight bytes, as in section 3.2 of the paper that `stage2` names: short ones by
+//! `parse_short`, which is inlined, and others by `parse_numeral`. Unlike simdjson, a number with a
+//! fraction or an exponent is only checked, and its node holds the literal; integers have up to 128
+//! bits.
 ghost use Rattle.std.specs.Prelude.{◌≡◌, ◌<◌, ◌≤◌, ◌+◌, ◌^◌, ◌==◌, ◌&&◌, ◌||◌, ℕ, List, length, drop};
 ghost use Rattle.std.specs.Prelude.{[], ◌∷◌, ◌++◌, nat_eq, codes, true, false, MatchOption, MatchResult};
 ghost use Rattle.std.specs.Prelude.{IfErr, OnOk};
@@ -28,24 +29,24 @@ use simd_json_scalars::numberparse::{
     Numeral, integer_node, is_integer, parse_long, parse_numeral, parse_short,
 };
 
-/// Returns whether the bytes begin with `true`, and end there or go on with a structural character or
-/// whitespace.
+/// Returns whether the bytes begin with `true`, and end there or go on with a structural character
+/// or whitespace.
 pub fn is_valid_true_atom(bytes: &[u8]) -> bool
     ensures { result ≡ (starts_with nat_eq bytes.now (codes "true") && is_terminator (byte_at bytes.now 4)) }
 {
     bytes.starts_with(b"true") && ends_at(bytes, 4)
 }
 
-/// Returns whether the bytes begin with `false`, and end there or go on with a structural character or
-/// whitespace.
+/// Returns whether the bytes begin with `false`, and end there or go on with a structural character
+/// or whitespace.
 pub fn is_valid_false_atom(bytes: &[u8]) -> bool
     ensures { result ≡ (starts_with nat_eq bytes.now (codes "false") && is_terminator (byte_at bytes.now 5)) }
 {
     bytes.starts_with(b"false") && ends_at(bytes, 5)
 }
 
-/// Returns whether the bytes begin with `null`, and end there or go on with a structural character or
-/// whitespace.
+/// Returns whether the bytes begin with `null`, and end there or go on with a structural character
+/// or whitespace.
 pub fn is_valid_null_atom(bytes: &[u8]) -> bool
     ensures { result ≡ (starts_with nat_eq bytes.now (codes "null") && is_terminator (byte_at bytes.now 4)) }
 {
@@ -59,8 +60,8 @@ fn ends_at(bytes: &[u8], at: usize) -> bool
     is_structural_or_whitespace(byte_or_space(bytes, at))
 }
 
-// Appends the scalar at the last token, which is not a string. Each kind has a branch that stores its
-// own node: a node that is chosen by branches and then stored is copied field by field.
+// Appends the scalar at the last token, which is not a string. Each kind has a branch that stores
+// its own node: a node that is chosen by branches and then stored is copied field by field.
 #[inline(always)]
 pub(super) fn push_scalar<'de, K: Original, S: NodeSink<'de>>(
     input: &mut Input<'_, 'de>,
@@ -93,9 +94,9 @@ pub(super) fn push_scalar<'de, K: Original, S: NodeSink<'de>>(
     Ok(())
 }
 
-// Reads the boolean at the front, if a structural character, whitespace or the end follows it. Which of
-// the two it may be is computed from the first letter: a branch on it would be mispredicted for every
-// other one of mixed booleans.
+// Reads the boolean at the front, if a structural character, whitespace or the end follows it.
+// Which of the two it may be is computed from the first letter: a branch on it would be
+// mispredicted for every other one of mixed booleans.
 #[inline(always)]
 fn parse_boolean(bytes: &[u8]) -> Option<bool>
     ensures { MatchOption result ((is_boolean true bytes.now ≡ false) × (is_boolean false bytes.now ≡ false))
@@ -202,8 +203,8 @@ fn push_longer_number<'de, K: Original, S: NodeSink<'de>>(
     Ok(())
 }
 
-// Appends the integer of this magnitude whose literal begins with byte `first`. Each kind is stored by
-// itself, as in `push_scalar`.
+// Appends the integer of this magnitude whose literal begins with byte `first`. Each kind is stored
+// by itself, as in `push_scalar`.
 #[inline(always)]
 fn push_integer<'de, S: NodeSink<'de>>(nodes: &mut S, first: u8, magnitude: u64)
     requires fits { magnitude ≤ max_magnitude_64 (first == minus_sign) }
@@ -220,8 +221,8 @@ fn push_integer<'de, S: NodeSink<'de>>(nodes: &mut S, first: u8, magnitude: u64)
     }
 }
 
-// Reads the integer at the front of `rest`, whose literal has `len` bytes, or returns its fault. `rest`
-// is the input from index `at` on.
+// Reads the integer at the front of `rest`, whose literal has `len` bytes, or returns its fault.
+// `rest` is the input from index `at` on.
 #[cold]
 #[inline(never)]
 fn read_long(rest: &[u8], at: usize, len: usize) -> std::result::Result<StaticNode, Fault>
@@ -237,8 +238,8 @@ fn read_long(rest: &[u8], at: usize, len: usize) -> std::result::Result<StaticNo
     }
 }
 
-// The fault of a number that is rejected `offset` bytes after its first one; the end of the input is
-// read as a space.
+// The fault of a number that is rejected `offset` bytes after its first one; the end of the input
+// is read as a space.
 #[cold]
 fn invalid_number(rest: &[u8], at: usize, offset: usize) -> Fault
     requires { at + length rest.now < 2 ^ 64 }

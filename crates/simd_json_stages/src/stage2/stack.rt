@@ -1,7 +1,7 @@
 //! The stack of the open containers.
 //!
-//! As in simdjson, nesting is kept in a list and not in calls, so that a deep input can't exhaust the
-//! program's stack. What is known of the innermost container is in `Progress`; an entry is
+//! As in simdjson, nesting is kept in a list and not in calls, so that a deep input can't exhaust
+//! the program's stack. What is known of the innermost container is in `Progress`; an entry is
 //! written when a container opens in it, and read when that one closes.
 ghost use Rattle.std.specs.Prelude.{◌≡◌, ◌<◌, ◌≤◌, ◌+◌, ◌-◌, true, length, get_or};
 ghost use Rattle.simd_json_parts.specs.Nodes.{item_of, static_item};

@@ -1,14 +1,14 @@
 //! The scan of groups of eight blocks, in three loops:
 //!
-//! 1. `classify_group`: the classes of each block and its escaped bytes, and the list of blocks with a
-//!    backslash.
+//! 1. `classify_group`: the classes of each block and its escaped bytes, and the list of blocks
+//!    with a backslash.
 //! 2. `part_group`: the arithmetic that needs no other block. It is the same for each, so LLVM does
 //!    several blocks at once by vectors.
 //! 3. `place_group`: the structural indexes, from left to right.
 //!
-//! simdjson takes one or two blocks through all of this before the next. Here the second loop runs in
-//! vectors, at the cost of storing the words in between. Also, the first half of a group, or all but its
-//! last block, is skipped in step 3 if it lies inside a string: it has no structural index.
+//! simdjson takes one or two blocks through all of this before the next. Here the second loop runs
+//! in vectors, at the cost of storing the words in between. Also, the first half of a group, or all
+//! but its last block, is skipped in step 3 if it lies inside a string: it has no structural index.
 ghost use Rattle.std.specs.Prelude.{◌≡◌, ◌≢◌, ◌+◌, ◌-◌, ◌*◌, ◌%◌, ◌^◌, ◌<◌, ◌≤◌, ℕ, List, length};
 ghost use Rattle.simd_json_stages.specs.Blocks.{AreBlocks, CanList, IsAscii};
 ghost use Rattle.simd_json_stages.specs.Blocks.{IsClassified, IsPlaced, IsScanned};
@@ -31,7 +31,8 @@ const LAST: usize = GROUP - 1;
 // A word for each block of a group.
 type Words = [u64; GROUP];
 
-// What the first loop finds, a word for each block: the fields of `Classified` that the others need.
+// What the first loop finds, a word for each block: the fields of `Classified` that the others
+// need.
 #[derive(Clone, Copy, Drop)]
 struct GroupClasses {
     // the bits of whitespace and quotes
@@ -158,8 +159,8 @@ fn quotes_before(group: &GroupParts, end: usize) -> u64
     quotes
 }
 
-// Skips the first `end` blocks, which are all inside a string: they have no structural index, and each
-// of their control bytes is bad. Returns the state after them.
+// Skips the first `end` blocks, which are all inside a string: they have no structural index, and
+// each of their control bytes is bad. Returns the state after them.
 fn pass_blocks(group: &GroupParts, control: &Words, end: usize, before: Placing) -> Placing
     requires within { (0 < end) × (end ≤ 8) }
     requires inside { before.carry.inside ≢ 0 }

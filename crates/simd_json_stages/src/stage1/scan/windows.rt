@@ -1,8 +1,9 @@
-//! Windows of up to 128 blocks, which are 8 KiB: memory for all that a window may hold, and its scan.
+//! Windows of up to 128 blocks, which are 8 KiB: memory for all that a window may hold, and its
+//! scan.
 //!
-//! Within a window no store needs a test of capacity, and nothing is tested for UTF-8; both are done
-//! between windows, while the bytes are still in the cache. Groups of eight blocks come first, and
-//! what is left of a window is scanned block by block.
+//! Within a window no store needs a test of capacity, and nothing is tested for UTF-8; both are
+//! done between windows, while the bytes are still in the cache. Groups of eight blocks come first,
+//! and what is left of a window is scanned block by block.
 ghost use Rattle.std.specs.Prelude.{◌≡◌, ◌+◌, ◌-◌, ◌*◌, ◌^◌, ◌<◌, ◌≤◌, ◌⊎◌};
 ghost use Rattle.std.specs.Prelude.{ℕ, List, length, take, IfOk, IfErr, IsFalse, IsUtf8};
 ghost use Rattle.simd_json_parts.specs.Limits.{max_length};
