@@ -24,7 +24,7 @@ pub fn excerpt(alloc: Global, input: &[u8], byte: usize, width: usize) -> Result
     format!(in alloc; "{text}\n{indent}^\n")
 }
 
-// The index in the bytes after which at most so many characters are left, all in the last line.
+// The index in the bytes after which at most `most` characters are left, all in the last line.
 fn front_start(before: &[u8], most: usize) -> usize
     ensures front { drop result before.now ≡ after_last is_line_feed (last_characters most before.now) }
     ensures bound { result ≤ length before.now }
@@ -33,7 +33,7 @@ fn front_start(before: &[u8], most: usize) -> usize
     start + line_start(&before[start..])
 }
 
-// The index in the bytes before which there are at most so many characters, all in the first line.
+// The index in the bytes before which at most `most` characters are, all in the first line.
 fn back_end(after: &[u8], most: usize) -> usize
     ensures back { take result after.now ≡ before_first is_line_feed (first_characters most after.now) }
     ensures bound { result ≤ length after.now }
@@ -42,7 +42,7 @@ fn back_end(after: &[u8], most: usize) -> usize
     line_end(&after[..end])
 }
 
-// The index after which so many characters are left, or 0 where there are fewer.
+// The index after which `most` characters are left, or 0 if there are fewer.
 fn step_back(bytes: &[u8], most: usize) -> usize
     ensures left { drop result bytes.now ≡ last_characters most bytes.now }
     ensures bound { result ≤ length bytes.now }
@@ -58,7 +58,7 @@ fn step_back(bytes: &[u8], most: usize) -> usize
     start
 }
 
-// The index before which there are so many characters, or all.
+// The index before which `most` characters are, or all if there are fewer.
 fn step_on(bytes: &[u8], most: usize) -> usize
     ensures passed { take result bytes.now ≡ first_characters most bytes.now }
     ensures bound { result ≤ length bytes.now }
@@ -107,7 +107,7 @@ fn characters(bytes: &[u8]) -> usize
     bytes.iter().filter(|c| begins_character(**c)).count()
 }
 
-// Whether the byte is no later one of its character (RFC 3629, section 3).
+// Whether the byte is not a later one of its character (RFC 3629, section 3).
 fn begins_character(byte: u8) -> bool
     ensures { result ≡ begins_character byte }
 {

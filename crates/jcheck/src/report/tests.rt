@@ -99,7 +99,7 @@ fn lines_have_their_numbers(rt: HostRuntime) -> Result<(), Fail> {
     Ok(())
 }
 
-// Takes so many bytes, and then fails.
+// Takes some bytes, and then fails.
 #[derive(Drop)]
 struct Short {
     taken: Vec<u8>,

@@ -1,14 +1,15 @@
 //! The machine: a loop for the elements of an array, one for the members of an object, and one
-//! round both, which goes on where a container opens or closes. So inside one container its kind is
-//! known beforehand. Between two tokens the machine is in one of three states:
+//! round both, which chooses between them when a container has opened or closed. So inside one
+//! container its kind is known beforehand. Between two tokens the machine is in one of three
+//! states:
 //!
 //! ```text
-//! value         read a scalar, an empty array or an empty object     →  after a value
-//!               open a container                                     →  value (array), key (object)
-//! key           read a string and a colon                            →  value
-//! after a value a comma, in a container                              →  value (array), key (object)
-//!               the closing bracket of the container                 →  after a value
-//!               the end of the tokens, in no container               →  done
+//! value         read a scalar, an empty array or an empty object  →  after a value
+//!               open a container                                  →  value (array), key (object)
+//! key           read a string and a colon                         →  value
+//! after a value a comma, in a container                           →  value (array), key (object)
+//!               the closing bracket of the container              →  after a value
+//!               the end of the tokens, in no container            →  done
 //! ```
 ghost use Rattle.std.specs.Prelude.{◌≡◌, ◌<◌, ◌≤◌, ◌+◌, ◌*◌, length, IfOk, IfErr, OnOk};
 ghost use Rattle.simd_json_stages.specs.Building.{IsBuilt, AtFirstOrAfter, AtNextOrAfter, IsFirstFault};
@@ -40,7 +41,7 @@ pub(crate) struct Machine<'m, 'de> {
 
 impl<'de> Machine<'_, 'de> {
     // Appends the key at the last token, reads its colon, and goes on to the first token of the
-    // value. If the last token is no string, the fault is of this kind.
+    // value. If the last token is not a string, the fault is of this kind.
     #[inline(always)]
     fn read_key<K: Original, S: NodeSink<'de>>(
         &mut self,

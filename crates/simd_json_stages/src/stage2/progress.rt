@@ -154,11 +154,11 @@ pub(super) enum Following {
     Closed(Progress),
 }
 
-// What the machine goes on with.
+// What the machine reads next.
 #[derive(Clone, Copy, Drop)]
 pub(super) enum NextMember {
     // a member of the innermost container, at its first token, and in an object the kind of fault
-    // if that is no key
+    // if that is not a key
     Next(Progress, FaultKind),
     // nothing: the root is complete, and no token is left
     End,

@@ -137,7 +137,7 @@ fn parse_last_boolean(bytes: &[u8]) -> Option<bool>
     None
 }
 
-// The fault of a token that is no scalar, by its first byte.
+// The fault of a token that is not a scalar, by its first byte.
 #[cold]
 fn no_scalar(at: usize, byte: u8) -> Fault
     ensures { result ≡ record { kind = refused_kind byte; index = at; byte = byte } }

@@ -45,7 +45,7 @@ impl Container {
         }
     }
 
-    // What is wrong with a token after one of its members that is no comma and does not close it.
+    // What is wrong with a token after a member that is neither a comma nor the closing bracket.
     pub(super) fn content_kind(self) -> FaultKind
         ensures { result ≡ content_kind self }
     {
