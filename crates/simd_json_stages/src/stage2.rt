@@ -36,23 +36,23 @@ ghost use Rattle.simd_json_stages.specs.Refusals.{IsTokenFault};
 ghost use Rattle.simd_json_stages.specs.Scans.{IsScanOf};
 
 mod fault;
+mod input;
 mod machine;
 mod nodes;
 mod progress;
 mod scalar;
 mod stack;
 mod string;
-mod input;
 
 use fault::Fault;
+use input::Input;
+pub use input::Original;
 use machine::Machine;
 pub use nodes::{ListSink, NodeSink};
 use progress::Route;
 pub use scalar::{is_valid_false_atom, is_valid_null_atom, is_valid_true_atom};
 use simd_json_parts::error::Result;
 pub use stack::{Container, StackState};
-pub use input::Original;
-use input::Input;
 
 /// Returns how many nodes are enough for a tape of an input with `positions` structural indexes, if
 /// at most `max_depth` containers are open at a time: one for each container that may be open, and

@@ -20,12 +20,12 @@ ghost use Rattle.simd_json_stages.specs.Progresses.{IsWithin, IsWithinNext, reac
 ghost use Rattle.simd_json_stages.specs.Inputs.{Reads};
 
 use super::fault::{Fault, FaultKind};
+use super::input::{Input, Original};
 use super::nodes::NodeSink;
 use super::progress::{Following, NextMember, Progress, Route, Step};
 use super::scalar::push_scalar;
 use super::stack::{Container, StackState, close};
 use super::string::push_string;
-use super::input::{Original, Input};
 use std::result::Result;
 
 // What the machine changes besides the sink. That is passed beside it, since the prover can't

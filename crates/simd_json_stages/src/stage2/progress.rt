@@ -12,8 +12,8 @@ ghost use Rattle.simd_json_stages.specs.Members.{AfterToken};
 ghost use Rattle.simd_json_stages.specs.Progresses.{IsNext};
 
 use super::fault::{Fault, FaultKind};
-use super::stack::Container;
 use super::input::Input;
+use super::stack::Container;
 use std::result::Result;
 
 // What stays the same on the way through the tokens.

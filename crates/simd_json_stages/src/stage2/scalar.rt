@@ -20,9 +20,9 @@ ghost use Rattle.simd_json_stages.specs.Refusals.{refused_kind, number_refusal};
 ghost use Rattle.simd_json_stages.specs.Inputs.{Reads};
 
 use super::fault::{Fault, FaultKind};
+use super::input::{Input, Original};
 use super::nodes::NodeSink;
 use super::progress::Progress;
-use super::input::{Original, Input};
 use simd_json_parts::charutils::{byte_or_space, is_structural_or_whitespace};
 use simd_json_parts::node::StaticNode;
 use simd_json_scalars::numberparse::{
