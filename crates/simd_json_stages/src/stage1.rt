@@ -3,7 +3,7 @@
 //! A structural index is the byte index of the opening quote of a string or, outside strings, of a
 //! structural character or of the first byte of another token. They are found as in simdjson
 //! (G. Langdale and D. Lemire, "Parsing Gigabytes of JSON per Second", VLDB Journal 28 (2019),
-//! section 3.1): a block of 64 bytes becomes words with a bit for each byte, and all else is
+//! section 3.1): a block of 64 bytes becomes words with a bit for each byte, and the rest is
 //! arithmetic on words. The modules, with the steps of that section:
 //!
 //! ```text

@@ -78,7 +78,7 @@ pub struct Scanned<'s> {
 }
 
 /// Writes the nodes of an input to an empty sink, which has room for as many as [`nodes_enough`]
-/// returns for it. `stack` is as long as `max_depth` or as the list of structural indexes,
+/// returns for it. `stack` is at least as long as `max_depth` or as the list of structural indexes,
 /// whichever is less; what it holds does not matter.
 ///
 /// The nodes are those of the document that the input is, in preorder. An error is that of the

@@ -68,10 +68,10 @@ fn check_up_to(input: &[u8], checked: usize, end: usize) -> Result<usize>
     check_rest(input, checked)
 }
 
-// Checks the input up to the end of the window from `start` to `end`, unless the window is all
-// ASCII and all before it is checked. Returns how far the input is known to be UTF-8 then; if the
-// window ends the input, that is its end. Most windows need no test, so this much is compiled into
-// each caller.
+// Checks the input up to the end of the window from `start` to `end`, unless it is checked already,
+// or the window is all ASCII and all before it is checked. Returns how far the input is known to be
+// UTF-8 then; if the window ends the input, that is its end. Most windows need no test, so this
+// much is compiled into each caller.
 #[inline(always)]
 pub(super) fn check_window(
     input: &[u8],

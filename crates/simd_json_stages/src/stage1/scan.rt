@@ -5,10 +5,10 @@
 //! than 64 bytes, is scanned as a block that is filled up with spaces, so that the input needs no
 //! padding, as it does in simdjson. Inputs of fewer than eight whole blocks take a shorter path.
 //!
-//! A block passes two steps, whose states are kept apart, since eight blocks take the first step
-//! before one takes the second: it is classified, and listed if it holds a backslash, and its
-//! structural indexes are written. Control bytes inside strings are collected in a word, which is
-//! looked at once, at the end.
+//! A block passes two steps, whose states are kept apart, since all blocks of a group take the
+//! first step before one takes the second: it is classified, and listed if it holds a backslash,
+//! and its structural indexes are written. Control bytes inside strings are collected in a word,
+//! which is tested once, at the end.
 ghost use Rattle.std.specs.Prelude.{◌≡◌, ◌+◌, ◌*◌, ◌/◌, ◌^◌, ◌<◌, ◌≤◌, ◌⊎◌, ℕ, List, length, take, drop};
 ghost use Rattle.std.specs.Prelude.{IfOk, IfErr, IsTrue, IsUtf8};
 ghost use Rattle.std.specs.Int.{from_bool};

@@ -2,10 +2,11 @@
 //! Lemire, "Parsing Gigabytes of JSON per Second", VLDB Journal 28 (2019), section 3.1. Bit `i` of
 //! a word is that of byte `i` of the block.
 //!
-//! - **Escaped bytes** follow an odd run of backslashes. A sum carries through each run to the bit
-//!   after it, whose parity, with that of the run's start, says whether the run is odd. The paper
-//!   adds twice, for runs from even and from odd bits; here one sum does, as in later versions of
-//!   simdjson. A block without a backslash skips this.
+//! - **Escaped bytes** come right after an odd number of backslashes. Adding to the backslashes the
+//!   starts of the runs that begin at an odd bit carries through these runs and leaves the others
+//!   as they are, which with the parity of a bit tells whether it is escaped. The paper adds twice,
+//!   for runs from even and from odd bits; here one sum does, as in later versions of simdjson. A
+//!   block without a backslash skips this.
 //! - **Strings** lie between quotes that are not escaped: the prefix XOR of the quotes is set from
 //!   an opening quote up to the byte before its closing one. The paper multiplies without carry by
 //!   all ones; here six shifts do the same.
@@ -95,8 +96,8 @@ pub(super) struct BlockStarts {
     pub(super) carry: Carry,
 }
 
-// Finds the bytes after an odd run of backslashes. `before` is 1 if the first byte is escaped, else
-// 0: then it begins no run.
+// Finds the bytes right after an odd number of backslashes. `before` is 1 if the first byte is
+// escaped, else 0; an escaped backslash does not begin a run.
 #[inline(always)]
 fn find_escaped(backslash: u64, before: u64) -> Escaped
     ensures { (c : Bool) → before ≡ from_bool c → (HasBits result.escaped (escaped_in c backslash))
@@ -194,7 +195,7 @@ pub(super) fn classify_last(bytes: &[u8; 64], len: usize, before: u64) -> Classi
     }
 }
 
-// Finds what a block's words say without those of the block before.
+// Finds what the words of a block say by themselves.
 #[inline(always)]
 pub(super) fn find_parts(space_or_quote: u64, op_or_quote: u64, control: u64, escaped: u64) -> Parts
     ensures { (b : List ℕ) (i : ℕ) → HasClasses b i space_or_quote op_or_quote control escaped
@@ -213,9 +214,8 @@ pub(super) fn find_parts(space_or_quote: u64, op_or_quote: u64, control: u64, es
     }
 }
 
-// Finds the structural indexes of a block, from what the block before hands to it. A byte is none
-// if it is plain and follows a plain one, if it is whitespace, or if it is inside a string or its
-// closing quote.
+// Finds the structural indexes of a block, from what the block before hands to it: those of all
+// bytes but plain ones after a plain one, whitespace, the bytes inside strings and closing quotes.
 #[inline(always)]
 pub(super) fn find_starts(parts: Parts, control: u64, carry: Carry) -> BlockStarts
     ensures { (b : List ℕ) (i : ℕ) → AreParts b i parts → IsControl b i control → IsCarried b i carry
