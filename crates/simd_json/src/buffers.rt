@@ -1,6 +1,6 @@
 //! The memory that parses use one after another: the two lists that the first stage fills, and the
-//! stack of the second. A parse stores into entries that are there already, so their lengths only
-//! grow; how many entries are in use is counted apart.
+//! stack of the second. A parse stores into entries that are there already: the lists keep their
+//! lengths between parses, and how many entries are in use is counted apart.
 ghost use Rattle.std.specs.Prelude.{◌≡◌, ◌≤◌, ◌<◌, ◌⊎◌, [], length, max, take};
 ghost use Rattle.std.specs.Prelude.{OnOk, OnErr, IfOk, IfErr, Some, Err};
 ghost use Rattle.std.specs.Vec.{vec_capacity};

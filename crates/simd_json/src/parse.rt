@@ -139,8 +139,8 @@ pub fn fill_tape<'de, A: Allocator, B: Allocator>(
 }
 
 /// Reads a document as [`fill_tape`] does, and writes its nodes to an empty sink in place of a
-/// tape: to a form of the caller's own, in one pass. [`NodeSink`] has an example of a sink. It has
-/// room for 4,294,967,295 nodes, since no document has more.
+/// tape: to a form of the caller's own, in one pass. The sink has room for 4,294,967,295 nodes,
+/// since no document has more. [`NodeSink`] has an example of one.
 ///
 /// The errors are those of [`to_tape`]. After one without a character the sink is as it was; after
 /// another it may hold nodes that were written before the error. In any case its room and what it

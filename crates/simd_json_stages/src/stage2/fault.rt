@@ -1,8 +1,8 @@
 //! How the machine rejects a token.
 //!
-//! A fault is an error of a token, without what all of them share, so that the machine's steps can
-//! return it in registers. It becomes an [`Error`] once, when the machine has ended. Errors of the
-//! whole input are found by the first stage, and are not faults.
+//! A fault is an error of a token, small enough for the machine's steps to return it in registers.
+//! It becomes an [`Error`] once, when the machine has ended. Errors of the whole input are found by
+//! the first stage, and are not faults.
 ghost use Rattle.std.specs.Prelude.{◌≡◌};
 ghost use Rattle.simd_json_parts.specs.Faults.{fault_with};
 ghost use Rattle.simd_json_stages.specs.Refusals.{error_type};

@@ -1,9 +1,10 @@
 //! The input that the machine reads, and the strings and numbers that nodes share with it.
 //!
-//! An input without a backslash is borrowed whole. Otherwise strings are decoded in place, as no
-//! escape is shorter than its character: what has been read is split off the front of the bytes
-//! that are left, for good, so that a string that was decoded is never read again. simdjson copies
-//! each string to a buffer instead (section 3.2 of the paper that `stage2` names).
+//! An input without a backslash whose last token is a closing bracket is borrowed whole. In any
+//! other, strings are decoded in place, since no escape is shorter than the UTF-8 of its character:
+//! what has been read is split off the front of the bytes that are left, for good, so that a string
+//! that was decoded is never read again. simdjson copies each string to a buffer instead (section
+//! 3.2 of the paper that `stage2` names).
 //!
 //! A string has no escape if it ends before the next backslash, which a walk along the blocks of
 //! the first stage finds. It is shared without a look at its bytes: its closing quote is the last
@@ -265,7 +266,7 @@ pub(crate) struct Escapes<'a> {
     pub(crate) mark: usize,
 }
 
-// The place in `blocks` of the first one, from `next` on, that does not end before index `at`, and
+// The place in `blocks` of the first one, from `next` on, that does not lie before index `at`, and
 // the index of the first backslash from `at` on, or the greatest number if none is left. `rest` is
 // the input from index `base` on. Not inlined. It takes slices and numbers, not the `Input`: what
 // is passed by reference to such a call is kept in memory.
@@ -291,7 +292,7 @@ fn next_backslash(
     }
 }
 
-// The place in `blocks` of the first one, from `next` on, that does not end before index `at`.
+// The place in `blocks` of the first one, from `next` on, that does not lie before index `at`.
 fn passed(blocks: &[u32], next: usize, at: usize) -> usize
     ensures { (b : List ℕ) → ArePassed b blocks.now next at → ArePassed b blocks.now result at }
 {

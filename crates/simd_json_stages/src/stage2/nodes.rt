@@ -80,7 +80,7 @@ pub trait NodeSink<'de> {
     fn len(&self) -> usize
         ensures { result ≡ length (held_nodes self.now) };
 
-    /// Appends a string or a key. `string` has no quotes, and its escapes are decoded.
+    /// Appends a string or a key: its text without quotes, with its escapes decoded.
     fn push_string(&mut self, string: &'de str)
         requires { length (held_nodes self.old) < node_room self.old }
         ensures lender { lender self.new ≡ lender self.old }

@@ -150,7 +150,7 @@ pub(super) enum Step {
 pub(super) enum Following {
     // another one: at its first token
     Next(Progress),
-    // the end of its container: at the closing bracket, as a member of the parent
+    // the end of its container: at the closing bracket, which completes a member of the parent
     Closed(Progress),
 }
 
