@@ -156,5 +156,5 @@ fn build_copy<'de, K: Original, S: NodeSink<'de>, const COPY: usize>(
         ends_closed: COPY != ANY,
         max_depth,
     };
-    machine.build::<K, S>(route, sink)
+    machine.build::<K, S, COPY>(route, sink)
 }

@@ -217,10 +217,12 @@ impl<'de> Machine<'_, 'de> {
         Ok(NextMember::End)
     }
 
+    // The loops have a copy for each caller of `build`, since what has one caller alone is inlined.
+
     // The elements of an array, from the first token of one on, up to a container that opens in it or to its
     // end.
     #[inline(always)]
-    fn elements<K: Original, S: NodeSink<'de>>(
+    fn elements<K: Original, S: NodeSink<'de>, const COPY: usize>(
         &mut self,
         route: Route,
         nodes: &mut S,
@@ -252,7 +254,7 @@ impl<'de> Machine<'_, 'de> {
 
     // The members of an object, likewise. Where the first has no key, the fault is of this kind.
     #[inline(always)]
-    fn members<K: Original, S: NodeSink<'de>>(
+    fn members<K: Original, S: NodeSink<'de>, const COPY: usize>(
         &mut self,
         route: Route,
         nodes: &mut S,
@@ -288,7 +290,7 @@ impl<'de> Machine<'_, 'de> {
 
     // The tape of the tokens at the positions, from the first value on.
     #[inline(always)]
-    pub(super) fn build<K: Original, S: NodeSink<'de>>(
+    pub(super) fn build<K: Original, S: NodeSink<'de>, const COPY: usize>(
         &mut self,
         route: Route,
         nodes: &mut S,
@@ -315,8 +317,8 @@ impl<'de> Machine<'_, 'de> {
         'values: loop {
             value = match self.next_member::<K, S>(route, nodes, value)? {
                 NextMember::Next(p, kind) => match p.container {
-                    Container::Array => self.elements::<K, S>(route, nodes, p)?,
-                    Container::Object => self.members::<K, S>(route, nodes, p, kind)?,
+                    Container::Array => self.elements::<K, S, COPY>(route, nodes, p)?,
+                    Container::Object => self.members::<K, S, COPY>(route, nodes, p, kind)?,
                 },
                 NextMember::End => return Ok(()),
             };
