@@ -20,8 +20,8 @@ use simd_json_stages::stage2::{NodeSink, Original, Scanned, StackState, build_ta
 use std::alloc::{Allocator, Global};
 use std::marker::Model;
 
-// How many containers may be open with a stack that is not kept, so that the first parse of a short input takes no
-// memory for one. A later parse takes it, since filling this one costs a tenth of the time of a short input.
+// How many containers may be open before a stack is allocated. Buffers hold as many beside it, so that a parse of a
+// short input allocates none.
 const FEW_OPEN: usize = 64;
 
 /// What parses use one after another: the lists of the structural positions and of the blocks that hold a
@@ -37,6 +37,7 @@ pub struct Buffers<A: Allocator = Global> {
     pub(crate) escape_blocks: Vec<u32, A>,
     pub(crate) used_blocks: usize,
     pub(crate) stack: Vec<StackState, A>,
+    few: [StackState; FEW_OPEN],
     pub(crate) max_depth: usize,
 }
 
@@ -90,6 +91,7 @@ impl<A: Allocator + Copy> Buffers<A> {
             escape_blocks: Vec::new(a),
             used_blocks: 0,
             stack: Vec::new(a),
+            few: [StackState::EMPTY; FEW_OPEN],
             max_depth,
         }
     }
@@ -147,7 +149,7 @@ impl<A: Allocator> Buffers<A> {
     }
 
     // Lists the structural positions of the input and its blocks that hold a backslash, and reserves capacity
-    // for the containers that can open at the positions within the limit; new buffers reserve none for a few.
+    // for the containers that can open at the positions within the limit, where they are not few.
     // Returns the fault of the whole input, or `OutOfMemory` where a growth was refused, and lists nothing then.
     pub(crate) fn find_positions(&mut self, input: &[u8]) -> Result<()>
         ensures found { OnOk result (HoldsScan input.now self.new) }
@@ -158,14 +160,13 @@ impl<A: Allocator> Buffers<A> {
             ⊎ (LacksMemory input.now e × (capacity self.old < length input.now))) }
     {
         self.clear();
-        let are_new = self.structural_indexes.is_empty();
         let found = BlockStage1Parse::find_structural_bits(
             input,
             &mut self.structural_indexes,
             &mut self.escape_blocks,
         )?;
         let open = found.positions.min(self.max_depth);
-        if open > FEW_OPEN || !are_new {
+        if open > FEW_OPEN {
             lengthen(&mut self.stack, open, StackState::EMPTY)?;
         }
         self.used = found.positions;
@@ -173,8 +174,7 @@ impl<A: Allocator> Buffers<A> {
         Ok(())
     }
 
-    // The second stage, over what the last scan found: the nodes of the input in a sink. The stack is the one that
-    // is kept, or, where that is too short, one for a few containers.
+    // The second stage, over what the last scan found: the nodes of the input in a sink.
     #[inline(always)]
     pub(crate) fn build_tape<'de, K: Original, S: NodeSink<'de>>(
         &mut self,
@@ -196,13 +196,8 @@ impl<A: Allocator> Buffers<A> {
             structural_indexes: &self.structural_indexes[..self.used],
             escape_blocks: &self.escape_blocks[..self.used_blocks],
         };
-        let max_depth = self.max_depth;
-        if self.used.min(max_depth) <= self.stack.len() {
-            let stack = self.stack.as_mut_slice();
-            return build_tape::<K, S>(input, scanned, stack, sink, max_depth);
-        }
-        let mut few = [StackState::EMPTY; FEW_OPEN];
-        build_tape::<K, S>(input, scanned, &mut few, sink, max_depth)
+        let stack = self.stack.as_mut_slice();
+        build_tape::<K, S>(input, scanned, stack, &mut self.few, sink, self.max_depth)
     }
 }
 

@@ -299,7 +299,9 @@ fn refuse<A: Allocator, B: Allocator>(
     Err(e)
 }
 
-// The second stage into a list, where all capacity is reserved. After an error the list is empty.
+// The second stage into a list, where all capacity is reserved. After an error the list is empty. The sink is
+// made here, and all that takes it is inlined, so that the pointer to the list stays in a register.
+#[inline(never)]
 fn build<'de, K: Original, A: Allocator, B: Allocator>(
     s: &'de mut [u8],
     buffers: &mut Buffers<A>,

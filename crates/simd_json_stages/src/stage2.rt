@@ -3,7 +3,7 @@
 //! `machine` goes from token to token, `progress` has how far it is, `stack` the containers that are open, `input`
 //! what it reads from, `nodes` what it writes to, `string` and `scalar` the values of one node, and `fault` what it
 //! refuses.
-ghost use Rattle.std.specs.Prelude.{◌≡◌, ◌≤◌, [], length, Err, OnOk, IfErr};
+ghost use Rattle.std.specs.Prelude.{◌≡◌, ◌≤◌, [], length, min, max, Err, OnOk, IfErr};
 ghost use Rattle.simd_json_parts.specs.Descent.{descent};
 ghost use Rattle.simd_json_stages.specs.Building.{IsWritten};
 ghost use Rattle.simd_json_stages.specs.Members.{HasCapacity, IsTape};
@@ -53,7 +53,7 @@ pub struct Scanned<'s> {
 }
 
 /// Writes the nodes of an input to an empty sink, which has room for as many as [`nodes_enough`] says. `stack` holds
-/// what is kept of open containers.
+/// what is kept of open containers, or, where it is too short for all that may open, `few` does.
 ///
 /// The nodes are the listing of the document that the descent reads. An error is the descent's own fault, with
 /// the index and the character that belong to it; none is of the whole input, and none is for lack of memory.
@@ -67,13 +67,15 @@ pub fn build_tape<'de, K: Original, S: NodeSink<'de>>(
     input: &'de mut [u8],
     scanned: Scanned<'_>,
     stack: &mut [StackState],
+    few: &mut [StackState],
     sink: &mut S,
     max_depth: usize,
 ) -> Result<()>
     requires input { input.old ≡ K.bytes }
     requires scanned { IsScanOf K.bytes scanned }
-    requires capacities { HasCapacity scanned.structural_indexes.now max_depth stack.old
-        (S.node_room sink.old) }
+    requires room { nodes_enough (length scanned.structural_indexes.now) max_depth ≤ S.node_room sink.old }
+    requires stack { min (length scanned.structural_indexes.now) max_depth
+        ≤ max (length stack.old) (length few.old) }
     requires empty { S.held_nodes sink.old ≡ [] }
     ensures room { S.node_room sink.new ≡ S.node_room sink.old }
     ensures lender { S.lender sink.new ≡ S.lender sink.old }
@@ -82,6 +84,8 @@ pub fn build_tape<'de, K: Original, S: NodeSink<'de>>(
     ensures built { OnOk result (IsWritten K.bytes max_depth (S.held_nodes sink.new)) }
     ensures refused { IfErr result (λ e. IsTokenFault e × (descent K.bytes max_depth ≡ Err e)) }
 {
+    let depth = scanned.structural_indexes.len().min(max_depth);
+    let stack = stack_for(stack, few, depth);
     let copy = copy_for(input, scanned);
     let built = if copy == PLAIN {
         build_copy::<K, S, PLAIN>(input, scanned, stack, sink, max_depth)
@@ -94,6 +98,19 @@ pub fn build_tape<'de, K: Original, S: NodeSink<'de>>(
         Ok(()) => Ok(()),
         Err(fault) => Err(fault.into_error()),
     }
+}
+
+// Of two stacks the first, or, where it is too short for so many containers, the other.
+#[inline(always)]
+fn stack_for<'s>(
+    stack: &'s mut [StackState],
+    few: &'s mut [StackState],
+    depth: usize,
+) -> &'s mut [StackState]
+    requires { depth ≤ max (length stack.old) (length few.old) }
+    ensures { depth ≤ length result.now }
+{
+    if depth <= stack.len() { stack } else { few }
 }
 
 // There is a copy of the machine for each case of whether the input has a backslash, and of whether its last
@@ -125,8 +142,8 @@ fn copy_for(input: &[u8], scanned: Scanned<'_>) -> usize
     CLOSED
 }
 
-// The copy of this number: a function of its own, so that its state stays in registers.
-#[inline(never)]
+// The copy of this number.
+#[inline(always)]
 fn build_copy<'de, K: Original, S: NodeSink<'de>, const COPY: usize>(
     input: &'de mut [u8],
     scanned: Scanned<'_>,
