@@ -37,7 +37,7 @@ KeepsCapacities old new =
 abbrev pub ListsSame : Capacities → Capacities → Type 0
 ListsSame old new = (new.positions ≡ old.positions) × (new.blocks ≡ old.blocks) × (new.limit ≡ old.limit)
 
--- what the first stage finds in b is listed, and the stack suffices, or one for a few containers does
+-- what the first stage finds in b is listed, and the stack suffices, or what is there for a few containers
 pub record HoldsScan (b : List ℕ) (r : Capacities) : Type 0 where
   pub listed : r.positions ≡ positions b
   pub escapes : r.blocks ≡ backslash_blocks b

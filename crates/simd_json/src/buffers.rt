@@ -22,8 +22,8 @@ use simd_json_stages::stage2::{NodeSink, Original, Scanned, StackState, build_ta
 use std::alloc::{Allocator, Global};
 use std::marker::Model;
 
-// The length of a stack in local memory. Up to as many open containers the first parse allocates no
-// stack. A later parse does, since filling this one costs a tenth of the time of a short input.
+// For how many open containers buffers hold a stack that is not allocated, so that a parse of a short
+// input allocates none.
 const FEW_OPEN: usize = 64;
 
 /// The memory that parses use one after another, and their depth limit: the lists of the structural
@@ -43,6 +43,8 @@ pub struct Buffers<A: Allocator = Global> {
     pub(crate) used_blocks: usize,
     // the stack of the second stage, in use only during a parse
     pub(crate) stack: Vec<StackState, A>,
+    // a stack for a few containers, in place of one that is too short
+    few: [StackState; FEW_OPEN],
     // how many containers may be open at a time
     pub(crate) max_depth: usize,
 }
@@ -99,6 +101,7 @@ impl<A: Allocator + Copy> Buffers<A> {
             escape_blocks: Vec::new(a),
             used_blocks: 0,
             stack: Vec::new(a),
+            few: [StackState::EMPTY; FEW_OPEN],
             max_depth,
         }
     }
@@ -158,9 +161,9 @@ impl<A: Allocator> Buffers<A> {
     }
 
     // Lists the structural indexes of the input and its blocks that hold a backslash, and reserves
-    // capacity for the containers that they can open within the limit; new buffers reserve none for
-    // up to `FEW_OPEN`. Returns the error of the whole input, or `OutOfMemory` if an allocation
-    // fails, and lists nothing then.
+    // capacity for the containers that they can open within the limit, if these are more than
+    // `FEW_OPEN`. Returns the error of the whole input, or `OutOfMemory` if an allocation fails, and
+    // lists nothing then.
     pub(crate) fn find_positions(&mut self, input: &[u8]) -> Result<()>
         ensures found { OnOk result (HoldsScan input.now self.new) }
         ensures empty { OnErr result ((self.new.positions ≡ []) × (self.new.blocks ≡ [])) }
@@ -170,14 +173,13 @@ impl<A: Allocator> Buffers<A> {
             ⊎ (LacksMemory input.now e × (capacity self.old < length input.now))) }
     {
         self.clear();
-        let are_new = self.structural_indexes.is_empty();
         let found = BlockStage1Parse::find_structural_bits(
             input,
             &mut self.structural_indexes,
             &mut self.escape_blocks,
         )?;
         let open = found.positions.min(self.max_depth);
-        if open > FEW_OPEN || !are_new {
+        if open > FEW_OPEN {
             lengthen(&mut self.stack, open, StackState::EMPTY)?;
         }
         self.used = found.positions;
@@ -186,8 +188,7 @@ impl<A: Allocator> Buffers<A> {
     }
 
     // Runs the second stage over what the last scan listed, and writes the nodes of the input to a
-    // sink. The stack is the buffers' own or, if that is too short, a local one for `FEW_OPEN`
-    // containers.
+    // sink.
     #[inline(always)]
     pub(crate) fn build_tape<'de, K: Original, S: NodeSink<'de>>(
         &mut self,
@@ -209,13 +210,8 @@ impl<A: Allocator> Buffers<A> {
             structural_indexes: &self.structural_indexes[..self.used],
             escape_blocks: &self.escape_blocks[..self.used_blocks],
         };
-        let max_depth = self.max_depth;
-        if self.used.min(max_depth) <= self.stack.len() {
-            let stack = self.stack.as_mut_slice();
-            return build_tape::<K, S>(input, scanned, stack, sink, max_depth);
-        }
-        let mut few = [StackState::EMPTY; FEW_OPEN];
-        build_tape::<K, S>(input, scanned, &mut few, sink, max_depth)
+        let stack = self.stack.as_mut_slice();
+        build_tape::<K, S>(input, scanned, stack, &mut self.few, sink, self.max_depth)
     }
 }
 

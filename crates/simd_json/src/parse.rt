@@ -312,7 +312,10 @@ fn refuse<A: Allocator, B: Allocator>(
     Err(e)
 }
 
-// Runs the second stage into a list with enough capacity. After an error the list is empty.
+// Runs the second stage into a list with enough capacity. After an error the list is empty. The sink
+// is made here, and all that takes it is inlined, so that the pointer to the list stays in a
+// register.
+#[inline(never)]
 fn build<'de, K: Original, A: Allocator, B: Allocator>(
     s: &'de mut [u8],
     buffers: &mut Buffers<A>,

@@ -26,7 +26,7 @@
 //! they have escapes; a string that ends before the next backslash is not read at all, since its
 //! closing quote is the last one before the next structural index; a number with a fraction or an
 //! exponent is kept as its literal.
-ghost use Rattle.std.specs.Prelude.{◌≡◌, ◌≤◌, [], length, Err, OnOk, IfErr};
+ghost use Rattle.std.specs.Prelude.{◌≡◌, ◌≤◌, [], length, min, max, Err, OnOk, IfErr};
 ghost use Rattle.simd_json_parts.specs.Descent.{descent};
 ghost use Rattle.simd_json_stages.specs.Building.{IsWritten};
 ghost use Rattle.simd_json_stages.specs.Members.{HasCapacity, IsTape};
@@ -78,8 +78,8 @@ pub struct Scanned<'s> {
 }
 
 /// Writes the nodes of an input to an empty sink, which has room for as many as [`nodes_enough`]
-/// returns for it. `stack` is at least as long as `max_depth` or as the list of structural indexes,
-/// whichever is less; what it holds does not matter.
+/// returns for it. `stack` or else `few` is at least as long as `max_depth` or as the list of
+/// structural indexes, whichever is less; what they hold does not matter.
 ///
 /// The nodes are those of the document that the input is, in preorder. An error is that of the
 /// first token that is rejected, with its index and character; it is never one of the whole input
@@ -94,13 +94,15 @@ pub fn build_tape<'de, K: Original, S: NodeSink<'de>>(
     input: &'de mut [u8],
     scanned: Scanned<'_>,
     stack: &mut [StackState],
+    few: &mut [StackState],
     sink: &mut S,
     max_depth: usize,
 ) -> Result<()>
     requires input { input.old ≡ K.bytes }
     requires scanned { IsScanOf K.bytes scanned }
-    requires capacities { HasCapacity scanned.structural_indexes.now max_depth stack.old
-        (S.node_room sink.old) }
+    requires room { nodes_enough (length scanned.structural_indexes.now) max_depth ≤ S.node_room sink.old }
+    requires stack { min (length scanned.structural_indexes.now) max_depth
+        ≤ max (length stack.old) (length few.old) }
     requires empty { S.held_nodes sink.old ≡ [] }
     ensures room { S.node_room sink.new ≡ S.node_room sink.old }
     ensures lender { S.lender sink.new ≡ S.lender sink.old }
@@ -109,6 +111,8 @@ pub fn build_tape<'de, K: Original, S: NodeSink<'de>>(
     ensures built { OnOk result (IsWritten K.bytes max_depth (S.held_nodes sink.new)) }
     ensures refused { IfErr result (λ e. IsTokenFault e × (descent K.bytes max_depth ≡ Err e)) }
 {
+    let depth = scanned.structural_indexes.len().min(max_depth);
+    let stack = stack_for(stack, few, depth);
     let copy = copy_for(input, scanned);
     let built = if copy == PLAIN {
         build_copy::<K, S, PLAIN>(input, scanned, stack, sink, max_depth)
@@ -121,6 +125,19 @@ pub fn build_tape<'de, K: Original, S: NodeSink<'de>>(
         Ok(()) => Ok(()),
         Err(fault) => Err(fault.into_error()),
     }
+}
+
+// Returns the first of two stacks, or, if it is too short for so deep an input, the other.
+#[inline(always)]
+fn stack_for<'s>(
+    stack: &'s mut [StackState],
+    few: &'s mut [StackState],
+    depth: usize,
+) -> &'s mut [StackState]
+    requires { depth ≤ max (length stack.old) (length few.old) }
+    ensures { depth ≤ length result.now }
+{
+    if depth <= stack.len() { stack } else { few }
 }
 
 // The machine is compiled three times, so that its loops need not test what is known beforehand.
@@ -152,9 +169,8 @@ fn copy_for(input: &[u8], scanned: Scanned<'_>) -> usize
     CLOSED
 }
 
-// Runs the copy of the machine with number `COPY`. Not inlined: each copy then keeps its state in
-// registers.
-#[inline(never)]
+// Runs the copy of the machine with number `COPY`.
+#[inline(always)]
 fn build_copy<'de, K: Original, S: NodeSink<'de>, const COPY: usize>(
     input: &'de mut [u8],
     scanned: Scanned<'_>,
@@ -184,5 +200,5 @@ fn build_copy<'de, K: Original, S: NodeSink<'de>, const COPY: usize>(
         ends_closed: COPY != ANY,
         max_depth,
     };
-    machine.build::<K, S>(route, sink)
+    machine.build::<K, S, COPY>(route, sink)
 }
