@@ -197,21 +197,21 @@ impl<'k, A: Allocator + Copy> Lines<'k, A> {
         Ok(())
     }
 
-    // Counts the last line as refused, and names it. Without an error it is too long.
+    // Names the last line as refused, and counts it. Without an error it is too long.
     fn refuse<E: Write>(&mut self, error: Option<Error>, err: &mut Channel<E>) -> Ended
         ensures { Ends err.old err.new (IsRefused E.contents self.old self.new err.old err.new error)
             (Begins (E.contents err.old.inner) (E.contents err.new.inner)
             (refusal_line self.old.longest self.old.number error)) result }
     {
-        self.all_taken = false;
-        self.add(b"!", 1)?;
         let line = self.refusal(error).map_err(|_| Failure::Resources)?;
         let mut name = Text::<Channel<E>, 256>::new(err);
         name.put(line.as_slice());
-        match name.finish() {
-            Ok(()) => Ok(()),
-            Err(_) => Err(Failure::Write),
+        if name.finish().is_err() {
+            return Err(Failure::Write);
         }
+        self.all_taken = false;
+        self.add(b"!", 1)?;
+        Ok(())
     }
 
     // The line that names the last line as refused.
