@@ -89,8 +89,8 @@ fn ending(ended: &Result<bool, Failure>) -> (u8, Option<&'static str>)
 // the report. Returns whether no line was refused; one of more than `longest` bytes is.
 //
 // Fails with `Read` where reading fails, with `Write` where writing does, and with `Resources` where there is
-// no memory for the start, or the input does not end within 2^64 - 1 blocks. After an error a prefix of the names of
-// refused lines was written, and of the report none, or a prefix where its writer failed.
+// no memory for the start, or the input does not end within 2^64 - 1 blocks. Of the names of refused lines
+// a prefix was written then; of the report nothing, or a prefix where its own writer failed.
 fn run<A: Allocator + Copy, R: Read, W: Write, E: Write>(
     a: A,
     key: &str,
@@ -159,7 +159,8 @@ impl<'k, A: Allocator + Copy> Lines<'k, A> {
     // Counts the lines that end in the block, and keeps the one that begins, up to one byte more than it may have.
     fn take<E: Write>(&mut self, block: &[u8], line: &mut Vec<u8, A>, err: &mut Channel<E>) -> Ended
         ensures { Ends err.old err.new
-            (After E.contents self.old self.new err.old err.new line.old.items line.new.items block.now)
+            (After E.contents self.old self.new err.old err.new
+            line.old.items line.new.items block.now)
             (BeginsBlock E.contents self.old err.old err.new line.old.items block.now) result }
     {
         let mut rest = block;
@@ -216,7 +217,8 @@ impl<'k, A: Allocator + Copy> Lines<'k, A> {
 
     // The line that names the last line as refused.
     fn refusal(&self, error: Option<Error>) -> io::Result<ArrayVec<u8, 256>>
-        ensures { IfOk result (λ line. line.items ≡ refusal_line self.now.longest self.now.number error) }
+        ensures { IfOk result (λ line.
+            line.items ≡ refusal_line self.now.longest self.now.number error) }
     {
         let mut line = ArrayVec::<u8, 256>::new();
         let (number, longest) = (self.number, self.longest);
