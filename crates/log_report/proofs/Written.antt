@@ -1,12 +1,10 @@
 -- What a call returns, and what a read gave.
-use Rattle.std.proofs.Common.{◌≡◌, ◌∙◌, ap, refl, sym, subst, ℕ, List, ◌++◌, append-nil, take, Bool, false, true, Option, Some, Result, Ok, Err}
+use Rattle.std.proofs.Common.{◌≡◌, ◌∙◌, ap, refl, subst, ℕ, List, ◌++◌, append-nil, take, Bool, false, true, Option, Result, Ok, Err}
 use Rattle.std.proofs.KnownBytes.{Consumes-kept, Consumes-trans}
-use Rattle.std.specs.Io.KnownBytes.{Appends, Consumes, ReadConsumes}
+use Rattle.std.specs.Io.KnownBytes.{Consumes, ReadConsumes}
 use Rattle.std.specs.Prelude.{IsErrAnd, MatchResult, is_err, ◌||◌}
-use Rattle.simd_json_print.specs.Texts.{HasEnded}
-use Rattle.log_report.specs.Runs.{Begins, fault_of}
+use Rattle.log_report.specs.Runs.{fault_of}
 use Rattle.log_report.specs.declared.Failure.{Failure}
-use Rattle.log_report.specs.declared.Failure.TheVariants.{Write}
 
 -- what a call on such a port ends in: P or Q
 abbrev pub EndsIn : Result Unit Failure → Bool → Type 0 → Type 0 → Type 0

@@ -1,6 +1,6 @@
 -- What a run leaves.
-use Rattle.std.specs.Prelude.{◌≡◌, ◌↔◌, ◌||◌, ◌+◌, ◌++◌, ℕ, List, [], ◌∷◌, take, map, Bool, true, false, ◌==◌, Option, option_map, OnOk, OnErr}
-use Rattle.std.specs.Prelude.{Result, Ok, Err, MatchResult, Vec, if◌then◌else◌}
+use Rattle.std.specs.Prelude.{◌≡◌, ◌↔◌, ◌||◌, ◌+◌, ◌++◌, ℕ, List, [], ◌∷◌, take, map, Bool, true, false, ◌==◌, Option, option_map}
+use Rattle.std.specs.Prelude.{OnOk, OnErr, Result, Ok, Err, MatchResult, Vec, if◌then◌else◌}
 use Rattle.std.specs.Io.KnownBytes.{Appends, Consumes, IsAtEnd, Keeps}
 use Rattle.jtape.specs.Ports.{Watched}
 use Rattle.simd_json.specs.MaxDepth.{default_max_depth}
@@ -31,7 +31,7 @@ abbrev pub Begins : Option (List ℕ) → Option (List ℕ) → List ℕ → Typ
 Begins held holds bytes = (count : ℕ) × Appends held holds (take count bytes)
 
 -- Of such a run that ended in an error, and whether the report's writer failed: of what was read, a beginning of the report was
--- written, and a beginning of its refused lines named. It is no byte of the report unless its writer failed, and then all was read.
+-- written, and a beginning of its refused lines named. No byte of the report was, unless its writer failed; then all was read.
 pub record HasBegun (key : List ℕ) (longest : ℕ) (before after held holds named names : Option (List ℕ)) (failed : Bool) : Type 0 where
   pub input : List ℕ
   pub read : Consumes before after input
@@ -83,7 +83,7 @@ AddsValue old new value = Adds old new (value_label (option_map doc value)) 1
 abbrev pub Prints : {A W : Type 0} → (W → Option (List ℕ)) → Lines A → Watched W → Watched W → Type 0
 Prints written lines out outs = Appends (written out.inner) (written outs.inner) (report_text (counts_of lines))
 
--- of a call that fails: a beginning of it was, and of any other writer than one that failed nothing
+-- of a call that fails: a beginning of it is, and nothing unless the writer failed
 pub record BeginsReport {A W : Type 0} (written : W → Option (List ℕ)) (lines : Lines A) (out outs : Watched W) : Type 0 where
   pub begun : Begins (written out.inner) (written outs.inner) (report_text (counts_of lines))
   pub unwritten : outs.failed ≡ false → Keeps (written out.inner) (written outs.inner)

@@ -93,7 +93,7 @@ fn ending(ended: &Result<bool, Failure>) -> (u8, Option<&'static str>)
 // Fails with `Read` if reading fails, with `Write` if writing does, and with `Resources` if an
 // allocation of the start fails, or if the input does not end within 2^64 - 1 blocks. After an
 // error a prefix of the names of rejected lines was written, and of the report nothing, or a prefix
-// if its writer failed.
+// if its own writer failed.
 fn run<A: Allocator + Copy, R: Read, W: Write, E: Write>(
     a: A,
     key: &str,
@@ -163,7 +163,8 @@ impl<'k, A: Allocator + Copy> Lines<'k, A> {
     // than it may have.
     fn take<E: Write>(&mut self, block: &[u8], line: &mut Vec<u8, A>, err: &mut Channel<E>) -> Ended
         ensures { Ends err.old err.new
-            (After E.contents self.old self.new err.old err.new line.old.items line.new.items block.now)
+            (After E.contents self.old self.new err.old err.new
+            line.old.items line.new.items block.now)
             (BeginsBlock E.contents self.old err.old err.new line.old.items block.now) result }
     {
         let mut rest = block;
@@ -202,26 +203,27 @@ impl<'k, A: Allocator + Copy> Lines<'k, A> {
         Ok(())
     }
 
-    // Counts the last line as rejected, and names it. Without an error it is too long.
+    // Names the last line as rejected, and counts it. Without an error it is too long.
     fn refuse<E: Write>(&mut self, error: Option<Error>, err: &mut Channel<E>) -> Ended
         ensures { Ends err.old err.new (IsRefused E.contents self.old self.new err.old err.new error)
             (Begins (E.contents err.old.inner) (E.contents err.new.inner)
             (refusal_line self.old.longest self.old.number error)) result }
     {
-        self.all_taken = false;
-        self.add(b"!", 1)?;
         let line = self.refusal(error).map_err(|_| Failure::Resources)?;
         let mut name = Text::<Channel<E>, 256>::new(err);
         name.put(line.as_slice());
-        match name.finish() {
-            Ok(()) => Ok(()),
-            Err(_) => Err(Failure::Write),
+        if name.finish().is_err() {
+            return Err(Failure::Write);
         }
+        self.all_taken = false;
+        self.add(b"!", 1)?;
+        Ok(())
     }
 
     // The line that names the last line as rejected.
     fn refusal(&self, error: Option<Error>) -> io::Result<ArrayVec<u8, 256>>
-        ensures { IfOk result (λ line. line.items ≡ refusal_line self.now.longest self.now.number error) }
+        ensures { IfOk result (λ line.
+            line.items ≡ refusal_line self.now.longest self.now.number error) }
     {
         let mut line = ArrayVec::<u8, 256>::new();
         let (number, longest) = (self.number, self.longest);

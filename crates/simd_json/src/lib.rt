@@ -88,7 +88,7 @@ pub use parse::{
 pub use simd_json_parts::error::{Error, ErrorType, Result};
 pub use simd_json_parts::node::{Node, StaticNode, TryTypeError, ValueType};
 pub use simd_json_print::document::{append_quoted, write_quoted};
-pub use simd_json_stages::stage2::{Container, NodeSink, Original};
+pub use simd_json_stages::stage2::{Container, ListSink, NodeSink, Original};
 pub use value::pointer::{Pointer, PointerError, PointerExpected};
 pub use value::tape;
 pub use value::tape::Tape;

@@ -38,11 +38,16 @@ fn list_of<'de, K: Original>(
     stack.resize(found.positions.min(max_depth), StackState::EMPTY)?;
     let mut nodes = Vec::new(alloc);
     nodes.reserve_exact(nodes_enough(found.positions, max_depth))?;
-    let sink = ListSink { list: &mut nodes };
+    let mut sink = ListSink { list: &mut nodes };
     let stack = stack.as_mut_slice();
-    let (sink, built) = build_tape::<K, ListSink<'_, 'de, Global>>(input, scanned, stack, sink, max_depth);
-    let ListSink { list: _list } = sink;
-    built?;
+    build_tape::<K, ListSink<'_, 'de, Global>>(
+        input,
+        scanned,
+        stack,
+        &mut [],
+        &mut sink,
+        max_depth,
+    )?;
     Ok(nodes)
 }
 
