@@ -1,4 +1,4 @@
-use Rattle.std.proofs.Common.{◌∙◌, ◌≡◌, ◌<◌, ◌++◌, [], ap, length, refl, rules, sym}
+use Rattle.std.proofs.Common.{◌∙◌, ◌≡◌, ◌<◌, [], ap, length, rules}
 use Rattle.std.specs.Str.{chars}
 use Rattle.std.specs.Str.Chunks.{utf8_chunks_rest}
 use Rattle.std.specs.Str.Lossy.{replacement_bytes}

@@ -1,6 +1,6 @@
-use Rattle.std.proofs.Common.{[], ◌∷◌, arith, ap, ◌∙◌, ◌≡◌, zero}
+use Rattle.std.proofs.Common.{[], ◌∷◌, arith, ap, ◌≡◌}
 use Rattle.std.specs.List.{repeat}
-use Rattle.jcheck.proofs.Puts.{all-put, none-done, one-more, none-left}
+use Rattle.jcheck.proofs.Puts.{none-done, one-more, none-left}
 use Rattle.jcheck.proofs.Shown.{repeat-one}
 use Rattle.jcheck.proofs.excerpt.put_spaces.Goals as goal
 use Rattle.simd_json_parts.specs.Bytes.{space}

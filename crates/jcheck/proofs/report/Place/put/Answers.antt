@@ -1,7 +1,7 @@
 use Rattle.std.proofs.Common.{◌≡◌, ◌∙◌, ◌++◌, ◌∷◌, [], ap}
 use Rattle.jcheck.proofs.report.Place.put.Goals as goal
 use Rattle.jcheck.specs.Excerpts.{excerpt}
-use Rattle.jcheck.specs.Reports.{report, words}
+use Rattle.jcheck.specs.Reports.{words}
 use Rattle.simd_json_parts.specs.Bytes.{line_feed}
 use Rattle.simd_json_print.proofs.Texts.{adds-is, adds-then}
 
