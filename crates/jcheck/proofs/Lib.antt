@@ -1,5 +1,6 @@
 mod Characters
 mod Checked
 mod Puts
+mod Shown
 mod Texts
 mod Written

@@ -1,5 +1,5 @@
 -- What is put of the parts of a text, one after another.
-use Rattle.std.proofs.Common.{◌≡◌, ◌∙◌, refl, ap, sym, Bool, true, false, ◌&&◌, ℕ, ◌+◌, List, [], ◌∷◌, ◌++◌, append-nil, append_assoc, length}
+use Rattle.std.proofs.Common.{◌≡◌, ◌∙◌, refl, ap, sym, subst, Bool, true, false, ◌&&◌, ℕ, ◌+◌, List, [], ◌∷◌, ◌++◌, append-nil, append_assoc, length}
 use Rattle.std.specs.Prelude.{is_some}
 use Rattle.std.specs.List.{list_all}
 use Rattle.jcheck.specs.Reports.{is_clean_line, line_text, lines_text}
@@ -90,3 +90,8 @@ clean-more limit own_limit clean is line more all same cut same_is so_far =
 pub and-true : (b : Bool) → (b && true) ≡ b
 and-true true = refl
 and-true false = refl
+
+pub none-left : {T : Type 0} {size : ℕ} {place : T → Place} {a b : Text T size} {later whole : List ℕ} → later ≡ []
+    → IsDone place a b later whole → Adds place a b whole
+none-left {place = place} {a = a} {b = b} {whole = whole} none done =
+    all-put (subst (λ later. IsDone place a b later whole) none done)

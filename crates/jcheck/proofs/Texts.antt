@@ -1,12 +1,12 @@
 -- The texts of a report, as they are formatted.
-use Rattle.std.proofs.Common.{◌≡◌, ◌∙◌, refl, ap, sym, arith, ℕ, ◌+◌, ◌-◌, ◌/◌, ◌≤◌, List, [], ◌∷◌, ◌++◌, take, drop, length, min, append_assoc}
+use Rattle.std.proofs.Common.{◌≡◌, ◌∙◌, ap, sym, arith, ℕ, ◌+◌, ◌-◌, ◌/◌, ◌≤◌, List, [], ◌∷◌, ◌++◌, take, drop, length, min, append_assoc}
 use Rattle.std.specs.Prelude.{codes}
 use Rattle.std.specs.Fmt.{decimal}
 use Rattle.std.specs.List.{after_last, before_first, repeat}
 use Rattle.std.proofs.Math.Seq.{take-add}
 use Rattle.std.proofs.lemmas.List.{drop-append-le, drop-take, drop_min, length-drop, take_all, take_min}
 use Rattle.jcheck.specs.Excerpts.{back, characters, excerpt, first_characters, front, last_characters, shown}
-use Rattle.jcheck.specs.Reports.{report}
+use Rattle.jcheck.specs.Reports.{words}
 use Rattle.simd_json.specs.Locations.{is_line_feed}
 use Rattle.simd_json.specs.Messages.{reason_text}
 use Rattle.simd_json.specs.declared.location.Location.{Location}
@@ -15,25 +15,23 @@ use Rattle.simd_json_parts.specs.Bytes.{line_feed, space}
 use Rattle.simd_json_parts.specs.ErrorKinds.{kind_text}
 use Rattle.simd_json_parts.specs.declared.error.ErrorType.{ErrorType}
 
-abbrev pub formatted : List ℕ → ℕ → ℕ → Reason → ErrorType → ℕ → List ℕ → List ℕ
-formatted file line column reason kind byte text =
+abbrev pub formatted : List ℕ → ℕ → ℕ → Reason → ErrorType → ℕ → List ℕ
+formatted file line column reason kind byte =
     file ++ (codes ":" ++ (decimal line ++ (codes ":" ++ (decimal column ++ (codes ": " ++ (reason_text reason
-    ++ (codes " [" ++ (kind_text kind ++ (codes " at byte " ++ (decimal byte ++ (codes "]" ++ (line_feed ∷ text))))))))))))
+    ++ (codes " [" ++ (kind_text kind ++ (codes " at byte " ++ (decimal byte ++ (codes "]" ++ (line_feed ∷ []))))))))))))
 
-report-laid-out : (file : List ℕ) (width line byte : ℕ) (checked : List ℕ) (l : Location)
-    → formatted file line l.column l.reason l.error.error byte (excerpt width checked l.byte) ≡ report file width line byte checked l
-report-laid-out file width line byte checked l = simp append_assoc
+words-laid-out : (file : List ℕ) (line byte : ℕ) (l : Location)
+    → formatted file line l.column l.reason l.error.error byte ≡ words file line byte l ++ line_feed ∷ []
+words-laid-out file line byte l = simp append_assoc
 
-pub report-is : (file : List ℕ) (width line byte : ℕ) (checked : List ℕ) (l : Location) (column : ℕ) (reason : Reason)
-    (kind : ErrorType) (text : List ℕ) → column ≡ l.column → reason ≡ l.reason → kind ≡ l.error.error
-    → text ≡ excerpt width checked l.byte
-    → formatted file line column reason kind byte text ≡ report file width line byte checked l
-report-is file width line byte checked l column reason kind text column_is reason_is kind_is text_is =
-    ap (λ n. formatted file line n reason kind byte text) column_is
-    ∙ ap (λ r. formatted file line l.column r kind byte text) reason_is
-    ∙ ap (λ k. formatted file line l.column l.reason k byte text) kind_is
-    ∙ ap (formatted file line l.column l.reason l.error.error byte) text_is
-    ∙ report-laid-out file width line byte checked l
+pub words-is : (file : List ℕ) (line byte : ℕ) (l : Location) (column : ℕ) (reason : Reason) (kind : ErrorType) → column ≡ l.column
+    → reason ≡ l.reason → kind ≡ l.error.error
+    → formatted file line column reason kind byte ≡ words file line byte l ++ line_feed ∷ []
+words-is file line byte l column reason kind column_is reason_is kind_is =
+    ap (λ n. formatted file line n reason kind byte) column_is
+    ∙ ap (λ r. formatted file line l.column r kind byte) reason_is
+    ∙ ap (λ k. formatted file line l.column l.reason k byte) kind_is
+    ∙ words-laid-out file line byte l
 
 -- what is shown is the front and the back
 shown-line : (b : List ℕ) (place start end : ℕ) → start ≤ length (take place b) → start ≤ place
@@ -42,19 +40,14 @@ shown-line b place start end within le =
     sym (drop-take start (place + end - start) b) ∙ ap (λ n. drop start (take n b)) (omega arith)
     ∙ ap (drop start) (take-add place end b) ∙ drop-append-le start (take place b) (take end (drop place b)) within
 
-laid-out : (line spaces : List ℕ) → line ++ (line_feed ∷ (spaces ++ (codes "^" ++ (line_feed ∷ []))))
-    ≡ line ++ (line_feed ∷ []) ++ spaces ++ codes "^" ++ (line_feed ∷ [])
-laid-out line spaces = simp append_assoc
-
-pub excerpt-is : (width : ℕ) (b : List ℕ) (i place start end indent left : ℕ) (before after text spaces : List ℕ)
+pub excerpt-is : (width : ℕ) (b : List ℕ) (i place start end indent left : ℕ) (before after : List ℕ)
     → place ≡ min i (length b) → before ≡ take place b → length before ≡ place → after ≡ drop place b → start ≤ length before
     → drop start before ≡ after_last is_line_feed (last_characters (width / 2) before)
     → indent ≡ characters (take (length before - start) (drop start before)) → left ≡ width - indent
     → take end after ≡ before_first is_line_feed (first_characters left after)
-    → text ≡ shown (take (place + end - start) (drop start b)) → spaces ≡ repeat indent (space ∷ [])
-    → text ++ (line_feed ∷ (spaces ++ (codes "^" ++ (line_feed ∷ [])))) ≡ excerpt width b i
-excerpt-is width b i place start end indent left before after text spaces at is_before long is_after within front_is indent_is left_is
-    back_is text_is spaces_is =
+    → shown (take (place + end - start) (drop start b)) ++ (line_feed ∷ []) ++ repeat indent (space ∷ []) ++ (codes "^" ++ (line_feed ∷ []))
+    ≡ excerpt width b i
+excerpt-is width b i place start end indent left before after at is_before long is_after within front_is indent_is left_is back_is =
     let front_of : List ℕ → List ℕ = λ u. after_last is_line_feed (last_characters (width / 2) u) in
     let back_of : ℕ → List ℕ → List ℕ = λ n u. before_first is_line_feed (first_characters (width - n) u) in
     let before_i : before ≡ take i b = is_before ∙ ap (λ n. take n b) at ∙ take_min i b in
@@ -70,7 +63,7 @@ excerpt-is width b i place start end indent left before after text spaces at is_
     shown-line b place start end (omega (arith, ap length is_before)) (omega arith)
     ∙ ap (λ u. drop start u ++ take end (drop place b)) (sym is_before) ∙ ap (λ u. drop start before ++ take end u) (sym is_after)
     ∙ ap (λ u. u ++ take end after) fore ∙ ap (λ u. front width b i ++ u) aft in
-    ap (λ u. u ++ (line_feed ∷ (spaces ++ (codes "^" ++ (line_feed ∷ []))))) (text_is ∙ ap shown line)
-    ∙ ap (λ u. shown (front width b i ++ back width b i) ++ (line_feed ∷ (u ++ (codes "^" ++ (line_feed ∷ [])))))
-    (spaces_is ∙ ap (λ n. repeat n (space ∷ [])) count)
-    ∙ laid-out (shown (front width b i ++ back width b i)) (repeat (characters (front width b i)) (space ∷ []))
+    ap (λ u. shown u ++ (line_feed ∷ []) ++ repeat indent (space ∷ []) ++ (codes "^" ++ (line_feed ∷ []))) line
+    ∙ ap (λ n. shown (front width b i ++ back width b i) ++ (line_feed ∷ []) ++ repeat n (space ∷ []) ++ (codes "^" ++ (line_feed ∷ []))) count
+    ∙ sym (append_assoc (shown (front width b i ++ back width b i) ++ (line_feed ∷ []) ++ repeat (characters (front width b i)) (space ∷ []))
+    (codes "^") (line_feed ∷ []))

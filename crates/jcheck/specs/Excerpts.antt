@@ -39,9 +39,12 @@ back width b i = before_first is_line_feed (first_characters (width - characters
 abbrev pub visible : ℕ → ℕ
 visible c = if is_control c then space else c
 
+abbrev pub visible_text : List ℕ → List ℕ
+visible_text cs = encode_utf8_all (map visible cs)
+
 -- what is not UTF-8 as U+FFFD
 abbrev pub shown : List ℕ → List ℕ
-shown s = encode_utf8_all (map visible (chars (utf8_lossy s)))
+shown s = visible_text (chars (utf8_lossy s))
 
 -- a line of text, and a line with a caret under byte i
 abbrev pub excerpt : ℕ → List ℕ → ℕ → List ℕ

@@ -1,27 +1,33 @@
 //! The text of a line around a place, and a caret under it.
-ghost use Rattle.std.specs.Prelude.{◌≡◌, ◌≤◌, IfOk, drop, length, string_bytes, take};
-ghost use Rattle.std.specs.List.{after_last, before_first, position_or_len};
+ghost use Rattle.std.specs.Prelude.{◌≡◌, ◌≤◌, ◌∷◌, [], chars, drop, length, take};
+ghost use Rattle.std.specs.List.{after_last, before_first, position_or_len, repeat};
+ghost use Rattle.jcheck.specs.Excerpts.{characters, excerpt, first_characters, last_characters, shown, visible, visible_text};
 ghost use Rattle.simd_json.specs.Locations.{begins_character, is_line_feed};
-ghost use Rattle.jcheck.specs.Excerpts.{back, characters, excerpt, first_characters, front, last_characters, shown};
+ghost use Rattle.simd_json_parts.specs.Bytes.{space};
+ghost use Rattle.simd_json_print.specs.Texts.{Adds};
 
-use std::alloc::{AllocError, Global};
+use simd_json_print::text::{Target, Text};
 
-/// Returns a line with the characters around a byte of the input that are in its line, and a line
+/// Appends a line with the characters around a byte of the input that are in its line, and a line
 /// with a caret under that byte. At most `width` characters are shown, half of them before the
 /// byte. Control characters are shown as spaces, and what is not UTF-8 as U+FFFD.
-///
-/// Returns `AllocError` if an allocation fails.
-pub fn excerpt(alloc: Global, input: &[u8], byte: usize, width: usize) -> Result<String, AllocError>
-    ensures { IfOk result (λ text. string_bytes text ≡ excerpt width input.now byte) }
+pub fn put_excerpt<T: Target, const SIZE: usize>(
+    text: &mut Text<'_, T, SIZE>,
+    input: &[u8],
+    byte: usize,
+    width: usize,
+)
+    ensures { Adds T.place text.old text.new (excerpt width input.now byte) }
 {
     let place = byte.min(input.len());
     let (before, after) = input.split_at(place);
     let start = front_start(before, width / 2);
     let indent = characters(&before[start..]);
     let end = back_end(after, width.saturating_sub(indent));
-    let text = shown(alloc, &input[start..place + end])?;
-    let indent = " ".repeat(alloc, indent)?;
-    format!(in alloc; "{text}\n{indent}^\n")
+    put_shown(text, &input[start..place + end]);
+    text.put(b"\n");
+    put_spaces(text, indent);
+    text.put(b"^\n");
 }
 
 // The index in the bytes after which at most `most` characters are left, all in the last line.
@@ -114,12 +120,39 @@ fn begins_character(byte: u8) -> bool
     !matches!(byte, 0x80..=0xbf)
 }
 
-// The text of the bytes, all of it visible.
-fn shown(alloc: Global, bytes: &[u8]) -> Result<String, AllocError>
-    ensures { IfOk result (λ text. string_bytes text ≡ shown bytes.now) }
+// Puts the text of the bytes, all of it visible.
+fn put_shown<T: Target, const SIZE: usize>(text: &mut Text<'_, T, SIZE>, bytes: &[u8])
+    ensures { Adds T.place text.old text.new (shown bytes.now) }
 {
-    let text = String::from_utf8_lossy(alloc, bytes)?;
-    text.chars()
-        .map(|c| if c.is_control() { ' ' } else { c })
-        .collect(alloc)
+    for chunk in bytes.utf8_chunks() {
+        put_visible(text, chunk.valid());
+        if !chunk.invalid().is_empty() {
+            text.put("\u{fffd}".as_bytes());
+        }
+    }
+}
+
+fn put_visible<T: Target, const SIZE: usize>(text: &mut Text<'_, T, SIZE>, characters: &str)
+    ensures { Adds T.place text.old text.new (visible_text (chars characters.now)) }
+{
+    for c in characters.chars() {
+        text.put(visible(c).encode_utf8(&mut [0; 4]).as_bytes());
+    }
+}
+
+// A control character is shown as a space.
+fn visible(c: char) -> char
+    ensures { result ≡ visible c }
+{
+    if c.is_control() { ' ' } else { c }
+}
+
+fn put_spaces<T: Target, const SIZE: usize>(text: &mut Text<'_, T, SIZE>, count: usize)
+    ensures { Adds T.place text.old text.new (repeat count (space ∷ [])) }
+{
+    let mut left = count;
+    while left > 0 {
+        text.put(b" ");
+        left -= 1;
+    }
 }

@@ -1,16 +1,17 @@
 //! What is written about an input, and how the program ends.
-ghost use Rattle.std.specs.Prelude.{◌≡◌, [], false, is_none, is_some, string_bytes, IfOk, IfErr, OnOk, OnErr};
+ghost use Rattle.std.specs.Prelude.{◌≡◌, ◌∷◌, ◌++◌, [], false, is_none, is_some, string_bytes, IfOk, IfErr, OnOk, OnErr};
 ghost use Rattle.std.specs.Io.KnownBytes.{Appends};
 ghost use Rattle.std.specs.List.{list_all};
 ghost use Rattle.jcheck.specs.Endings.{HasChecked, ended_of, is_closed, status_of, worse};
-ghost use Rattle.jcheck.specs.Reports.{is_clean, is_clean_line, line_text, lines_text, output_of, report, whole_text};
+ghost use Rattle.jcheck.specs.Reports.{is_clean, is_clean_line, line_text, lines_text, output_of, report, whole_text, words};
 ghost use Rattle.jcheck.specs.Writings.{HasPart, HasStopped};
 ghost use Rattle.jtape.specs.Pieces.{pieces};
 ghost use Rattle.simd_json.specs.Reasons.{found_in};
+ghost use Rattle.simd_json_parts.specs.Bytes.{line_feed};
 ghost use Rattle.simd_json_print.specs.Texts.{Adds};
 
 use crate::checker::Checker;
-use crate::excerpt::excerpt;
+use crate::excerpt::put_excerpt;
 use jtape::Channel;
 use memchr::memchr;
 use simd_json::Location;
@@ -263,7 +264,8 @@ struct Place<'a> {
 }
 
 impl Place<'_> {
-    // Appends the report on an error here. If an allocation fails, nothing is appended.
+    // Appends the report on an error here: where and why, and the text around it in the bytes that
+    // were checked. If an allocation fails, nothing is appended.
     fn put<T: Target, const SIZE: usize>(
         self,
         alloc: Global,
@@ -276,30 +278,22 @@ impl Place<'_> {
             (report self.entry.file.now width self.entry.line self.entry.byte checked.now location.now)) }
         ensures none { OnErr result (Adds T.place text.old text.new []) }
     {
-        let report = self.report(alloc, checked, location, width)?;
-        text.put(report.as_bytes());
+        let words = self.words(alloc, location)?;
+        text.put(words.as_bytes());
+        put_excerpt(text, checked, location.byte(), width);
         Ok(())
     }
 
-    // The report on an error here: where and why, and the text around it in the bytes that were
-    // checked.
-    fn report(
-        self,
-        alloc: Global,
-        checked: &[u8],
-        location: &Location,
-        width: usize,
-    ) -> Result<String, AllocError>
+    // Where and why, as one line.
+    fn words(self, alloc: Global, location: &Location) -> Result<String, AllocError>
         ensures { IfOk result (λ text. string_bytes text
-            ≡ report self.entry.file.now width self.entry.line self.entry.byte
-            checked.now location.now) }
+            ≡ words self.entry.file.now self.entry.line self.entry.byte location.now ++ line_feed ∷ []) }
     {
         let Place { file, line, byte } = self;
         let column = location.column();
         let reason = location.reason();
         let kind = location.error().error();
-        let excerpt = excerpt(alloc, checked, location.byte(), width)?;
-        format!(in alloc; "{file}:{line}:{column}: {reason} [{kind} at byte {byte}]\n{excerpt}")
+        format!(in alloc; "{file}:{line}:{column}: {reason} [{kind} at byte {byte}]\n")
     }
 }
 

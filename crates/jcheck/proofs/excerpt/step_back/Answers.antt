@@ -1,4 +1,4 @@
-use Rattle.std.proofs.Common.{arith, sym, subst, ◌≤◌, ◌<◌, drop, add-one}
+use Rattle.std.proofs.Common.{arith, sym, subst, ◌<◌, drop, add-one}
 use Rattle.jcheck.specs.Excerpts.{characters}
 use Rattle.jcheck.proofs.Characters.{last-from}
 use Rattle.jcheck.proofs.excerpt.step_back.Goals as goal

@@ -1,4 +1,4 @@
-use Rattle.std.proofs.Common.{◌∙◌, [], List, ℕ, ap, arith, of_calls, sym, Bor}
+use Rattle.std.proofs.Common.{◌∙◌, [], List, ℕ, arith, of_calls, sym, Bor}
 use Rattle.std.proofs.Math.ListN.{drop_of_length-le}
 use Rattle.jcheck.proofs.Checked.{at-close, at-end, cut-at, one-more}
 use Rattle.jcheck.proofs.report.check_each.Goals as goal

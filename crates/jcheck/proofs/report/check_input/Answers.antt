@@ -1,4 +1,4 @@
-use Rattle.std.proofs.Common.{ap, arith, refl, rules}
+use Rattle.std.proofs.Common.{ap, refl, rules}
 use Rattle.std.specs.Prelude.{Some}
 use Rattle.std.proofs.lemmas.Result.{err_from_is_err_and}
 use Rattle.jcheck.proofs.Written.{all-written, failed-written, part-written, port, sound-text}
