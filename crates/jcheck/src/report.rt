@@ -80,8 +80,9 @@ pub fn is_closed(checked: &io::Result<bool>) -> bool
     }
 }
 
-/// Checks the files one after another, and returns the worst of how they ended. It goes on after an error,
-/// unless nobody reads the output any more: that is no failure, but the other files are left.
+/// Checks the files one after another, and returns the worst of how they ended. It goes on after
+/// an error, unless nobody reads the output any more: that is no failure, but the other files are
+/// left.
 pub fn check_each<'a, F: FnMut(&'a str) -> io::Result<bool>>(
     mut check: F,
     files: &[&'a str],
@@ -100,10 +101,11 @@ pub fn check_each<'a, F: FnMut(&'a str) -> io::Result<bool>>(
     ended
 }
 
-/// Checks an input as one document, or each of its lines as one, and writes the place and the reason of each
-/// error, with at most `width` characters of its line. Returns whether there is none.
+/// Checks an input as one document, or each of its lines as one, and writes the place and the
+/// reason of each error, with at most `width` characters of its line. Returns whether there is none.
 ///
-/// Returns an error where the writer or an allocation fails. A beginning of the output is written then.
+/// Returns an error where the writer or an allocation fails. A beginning of the output is written
+/// then.
 pub fn check_input<W: Write>(
     checker: &mut Checker<'_>,
     out: &mut Channel<W>,
@@ -129,8 +131,8 @@ pub fn check_input<W: Write>(
     Ok(put?)
 }
 
-// Puts what is found of an input, and returns whether that is nothing, which is left open where the target
-// fails: that ends it at once. Where an allocation fails, a beginning is put.
+// Puts what is found of an input, and returns whether that is nothing, which is left open where
+// the target fails: that ends it at once. Where an allocation fails, a beginning is put.
 fn put_input<T: Target, const SIZE: usize>(
     checker: &mut Checker<'_>,
     text: &mut Text<'_, T, SIZE>,
@@ -227,7 +229,8 @@ fn put_line<T: Target, const SIZE: usize>(
     line: &[u8],
     width: usize,
 ) -> Result<bool, AllocError>
-    ensures clean { IfOk result (λ clean. clean ≡ is_clean_line checker.old.buffers.limit line.now) }
+    ensures clean { IfOk result (λ clean. clean
+        ≡ is_clean_line checker.old.buffers.limit line.now) }
     ensures put { OnOk result (Adds T.place text.old text.new
         (line_text start.entry.file.now width checker.old.buffers.limit
         start.entry.line start.entry.byte line.now)) }
@@ -257,8 +260,8 @@ struct Place<'a> {
 }
 
 impl Place<'_> {
-    // Puts what is said of an error here: where and why, and the text around it in the bytes that were checked.
-    // Where an allocation fails, nothing is put.
+    // Puts what is said of an error here: where and why, and the text around it in the bytes that
+    // were checked. Where an allocation fails, nothing is put.
     fn put<T: Target, const SIZE: usize>(
         self,
         alloc: Global,
@@ -268,7 +271,8 @@ impl Place<'_> {
         width: usize,
     ) -> Result<(), AllocError>
         ensures put { OnOk result (Adds T.place text.old text.new
-            (report self.entry.file.now width self.entry.line self.entry.byte checked.now location.now)) }
+            (report self.entry.file.now width self.entry.line self.entry.byte
+            checked.now location.now)) }
         ensures none { OnErr result (Adds T.place text.old text.new []) }
     {
         let words = self.words(alloc, location)?;
@@ -280,7 +284,8 @@ impl Place<'_> {
     // Where and why, as one line.
     fn words(self, alloc: Global, location: &Location) -> Result<String, AllocError>
         ensures { IfOk result (λ text. string_bytes text
-            ≡ words self.entry.file.now self.entry.line self.entry.byte location.now ++ line_feed ∷ []) }
+            ≡ words self.entry.file.now self.entry.line self.entry.byte location.now
+            ++ line_feed ∷ []) }
     {
         let Place { file, line, byte } = self;
         let column = location.column();
