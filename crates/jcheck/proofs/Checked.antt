@@ -28,7 +28,8 @@ pub one-more : {S X : Type 0} (step : S → X → Result Bool Error → S → Ty
     → how ≡ ended_of r → next ≡ worse ended how → GoesOn step start files s here ended → GoesOn step start files t others next
 one-more step start files s t x here others r ended how next cut one not_closed of is so_far = λ results last rest.
     let all =
-    so_far (r ∷ results) last (subst (λ ys. Checks step s ys (r ∷ results) last) (sym cut) (t, one, on-open (is_closed r) _ not_closed rest)) in
+    so_far (r ∷ results) last
+    (subst (λ ys. Checks step s ys (r ∷ results) last) (sym cut) (t, one, on-open (is_closed r) _ not_closed rest)) in
     (all.0, all.1, all.2 ∙ ap (λ e. ended_after e results) (sym (is ∙ ap (worse ended) of)))
 
 pub at-end : {S X : Type 0} (step : S → X → Result Bool Error → S → Type 0) (start : S) (files : List X) (s : S) (here : List X)

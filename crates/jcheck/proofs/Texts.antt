@@ -63,7 +63,8 @@ excerpt-is width b i place start end indent left before after at is_before long 
     shown-line b place start end (omega (arith, ap length is_before)) (omega arith)
     ∙ ap (λ u. drop start u ++ take end (drop place b)) (sym is_before) ∙ ap (λ u. drop start before ++ take end u) (sym is_after)
     ∙ ap (λ u. u ++ take end after) fore ∙ ap (λ u. front width b i ++ u) aft in
-    ap (λ u. shown u ++ (line_feed ∷ []) ++ repeat indent (space ∷ []) ++ (codes "^" ++ (line_feed ∷ []))) line
-    ∙ ap (λ n. shown (front width b i ++ back width b i) ++ (line_feed ∷ []) ++ repeat n (space ∷ []) ++ (codes "^" ++ (line_feed ∷ []))) count
-    ∙ sym (append_assoc (shown (front width b i ++ back width b i) ++ (line_feed ∷ []) ++ repeat (characters (front width b i)) (space ∷ []))
-    (codes "^") (line_feed ∷ []))
+    let caret = codes "^" ++ (line_feed ∷ []) in
+    let text = shown (front width b i ++ back width b i) in
+    ap (λ u. shown u ++ (line_feed ∷ []) ++ repeat indent (space ∷ []) ++ caret) line
+    ∙ ap (λ n. text ++ (line_feed ∷ []) ++ repeat n (space ∷ []) ++ caret) count
+    ∙ sym (append_assoc (text ++ (line_feed ∷ []) ++ repeat (characters (front width b i)) (space ∷ [])) (codes "^") (line_feed ∷ []))

@@ -51,7 +51,8 @@ abbrev pub Checks : {S X : Type 0} → (S → X → Result Bool Error → S → 
 Checks step s [] [] last = s ≡ last
 Checks step s [] (r ∷ rs) last = ⊥
 Checks step s (x ∷ xs) [] last = ⊥
-Checks {S} step s (x ∷ xs) (r ∷ rs) last = (t : S) × step s x r t × OnClosed (is_closed r) ((rs ≡ []) × (t ≡ last)) (Checks step t xs rs last)
+Checks {S} step s (x ∷ xs) (r ∷ rs) last =
+    (t : S) × step s x r t × OnClosed (is_closed r) ((rs ≡ []) × (t ≡ last)) (Checks step t xs rs last)
 
 -- and the program ends as the worst of them
 pub record HasChecked {S X : Type 0} (step : S → X → Result Bool Error → S → Type 0) (s : S) (files : List X) (ended : Ended) : Type 0 where

@@ -32,7 +32,8 @@ pub fn put_excerpt<T: Target, const SIZE: usize>(
 
 // The index in the bytes after which at most `most` characters are left, all in the last line.
 fn front_start(before: &[u8], most: usize) -> usize
-    ensures front { drop result before.now ≡ after_last is_line_feed (last_characters most before.now) }
+    ensures front { drop result before.now
+        ≡ after_last is_line_feed (last_characters most before.now) }
     ensures bound { result ≤ length before.now }
 {
     let start = step_back(before, most);
@@ -41,7 +42,8 @@ fn front_start(before: &[u8], most: usize) -> usize
 
 // The index in the bytes before which at most `most` characters are, all in the first line.
 fn back_end(after: &[u8], most: usize) -> usize
-    ensures back { take result after.now ≡ before_first is_line_feed (first_characters most after.now) }
+    ensures back { take result after.now
+        ≡ before_first is_line_feed (first_characters most after.now) }
     ensures bound { result ≤ length after.now }
 {
     let end = step_on(after, most);

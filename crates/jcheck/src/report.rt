@@ -231,7 +231,8 @@ fn put_line<T: Target, const SIZE: usize>(
     line: &[u8],
     width: usize,
 ) -> Result<bool, AllocError>
-    ensures clean { IfOk result (λ clean. clean ≡ is_clean_line checker.old.buffers.limit line.now) }
+    ensures clean { IfOk result (λ clean. clean
+        ≡ is_clean_line checker.old.buffers.limit line.now) }
     ensures put { OnOk result (Adds T.place text.old text.new
         (line_text start.entry.file.now width checker.old.buffers.limit
         start.entry.line start.entry.byte line.now)) }
@@ -275,7 +276,8 @@ impl Place<'_> {
         width: usize,
     ) -> Result<(), AllocError>
         ensures put { OnOk result (Adds T.place text.old text.new
-            (report self.entry.file.now width self.entry.line self.entry.byte checked.now location.now)) }
+            (report self.entry.file.now width self.entry.line self.entry.byte
+            checked.now location.now)) }
         ensures none { OnErr result (Adds T.place text.old text.new []) }
     {
         let words = self.words(alloc, location)?;
@@ -287,7 +289,8 @@ impl Place<'_> {
     // Where and why, as one line.
     fn words(self, alloc: Global, location: &Location) -> Result<String, AllocError>
         ensures { IfOk result (λ text. string_bytes text
-            ≡ words self.entry.file.now self.entry.line self.entry.byte location.now ++ line_feed ∷ []) }
+            ≡ words self.entry.file.now self.entry.line self.entry.byte location.now
+            ++ line_feed ∷ []) }
     {
         let Place { file, line, byte } = self;
         let column = location.column();

@@ -18,7 +18,8 @@ returns g c =
     let spaces = repeat indent (space ∷ []) in
     let caret = codes "^" ++ (line_feed ∷ []) in
     let line =
-    adds-then g.T.Target.place c.args.text.now c.put_shown.new.text c.put.new.self text (line_feed ∷ []) c.put_shown.ensures c.put.ensures in
+    adds-then g.T.Target.place c.args.text.now c.put_shown.new.text c.put.new.self text (line_feed ∷ [])
+    c.put_shown.ensures c.put.ensures in
     let indented =
     adds-then g.T.Target.place c.args.text.now c.put.new.self c.put_spaces.new.text (text ++ (line_feed ∷ [])) spaces line
     c.put_spaces.ensures in

@@ -23,7 +23,8 @@ loop-chunk-preserved-then-not-is_empty g c =
     let all = shown-chunk _ chunk.valid.now _ _ (search rules) steps.0 steps.3.0 steps.3.1 some in
     let valid = adds-is g.T.Target.place c.loop-chunk.text c.put_visible.new.text _ (visible_text (chars chunk.valid.now))
     (ap (λ t. visible_text (chars t)) c.valid.ensures) c.put_visible.ensures in
-    let invalid = adds-is g.T.Target.place c.put_visible.new.text c.put.new.self _ replacement_bytes c.as_bytes.ensures.value c.put.ensures in
+    let invalid =
+    adds-is g.T.Target.place c.put_visible.new.text c.put.new.self _ replacement_bytes c.as_bytes.ensures.value c.put.ensures in
     one-more all c.loop-chunk.invariant
     (adds-then g.T.Target.place c.loop-chunk.text c.put_visible.new.text c.put.new.self (visible_text (chars chunk.valid.now))
     replacement_bytes valid invalid)

@@ -20,7 +20,7 @@ loop-c-preserved g c =
 pub returns : goal.returns
 returns g c =
     let all =
-    YieldsList-end (YieldsList-from_chars c.args.characters.now c.utf8.characters cc) c.loop-c.yielded _ c.loop-c.yielded_by _ _ c.in-None.is
-    c.next.ensures.steps in
+    YieldsList-end (YieldsList-from_chars c.args.characters.now c.utf8.characters cc) c.loop-c.yielded _ c.loop-c.yielded_by _ _
+    c.in-None.is c.next.ensures.steps in
     adds-is g.T.Target.place c.args.text.now c.loop-c.text (visible_text c.loop-c.yielded) _
     (ap visible_text (sym (map-id c.loop-c.yielded) ∙ all.0)) c.loop-c.invariant

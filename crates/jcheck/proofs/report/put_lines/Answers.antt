@@ -17,7 +17,8 @@ returns-then-has_failed-clause-put g c =
     let done =
     line-done c.args.file.now c.loop-end.place.file.now c.args.width c.args.checker.now.buffers.limit c.loop-end.checker.buffers.limit
     c.loop-end.place.line c.loop-end.place.byte (c.loop-end.place.line + 1) (c.loop-end.place.byte + length line + 1) line
-    (pieces (drop 1 after)) (pieces rest) {whole = whole} c.loop-end.invariant.file c.loop-end.invariant.limit cut refl refl c.loop-end.invariant.done
+    (pieces (drop 1 after)) (pieces rest) {whole = whole}
+    c.loop-end.invariant.file c.loop-end.invariant.limit cut refl refl c.loop-end.invariant.done
     c.in_ok-clean.ensures.put in
     others-lost {whole = whole} (sym c.has_failed.ensures ∙ c.if-has_failed.true) done
 
@@ -64,5 +65,6 @@ returns-clause-put g c =
     all-put {whole = whole}
     (line-done c.args.file.now c.loop-end.place.file.now c.args.width c.args.checker.now.buffers.limit c.loop-end.checker.buffers.limit
     c.loop-end.place.line c.loop-end.place.byte (c.loop-end.place.line + 1) (c.loop-end.place.byte + length rest + 1) rest [] (pieces rest)
-    {whole = whole} c.loop-end.invariant.file c.loop-end.invariant.limit (not_found-last rest c.in_default.ensures) refl refl c.loop-end.invariant.done
+    {whole = whole} c.loop-end.invariant.file c.loop-end.invariant.limit
+    (not_found-last rest c.in_default.ensures) refl refl c.loop-end.invariant.done
     c.in_ok-clean-2.ensures.put)
