@@ -1,6 +1,6 @@
 use simd_json_parts::charutils::{
-    byte_or_space, codepoint_to_utf8, hex_to_u32_nocheck, is_blank, is_not_structural_or_whitespace,
-    is_structural_or_whitespace, is_whitespace,
+    byte_or_space, codepoint_to_utf8, hex_to_u32_nocheck, is_blank,
+    is_not_structural_or_whitespace, is_structural_or_whitespace, is_whitespace,
 };
 use std::process::Abort;
 

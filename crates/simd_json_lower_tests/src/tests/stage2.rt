@@ -3,9 +3,7 @@ ghost use Rattle.std.specs.Prelude.{◌≡◌};
 use simd_json_parts::error::Result;
 use simd_json_parts::node::Node;
 use simd_json_stages::stage1::{BlockStage1Parse, Stage1Parse};
-use simd_json_stages::stage2::{
-    ListSink, Original, Scanned, StackState, build_tape, nodes_enough,
-};
+use simd_json_stages::stage2::{ListSink, Original, Scanned, StackState, build_tape, nodes_enough};
 use std::alloc::Global;
 use std::marker::Brand;
 use std::test::Fail;

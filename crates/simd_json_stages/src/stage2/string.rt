@@ -8,9 +8,9 @@ ghost use Rattle.simd_json_stages.specs.Refusals.{error_type};
 ghost use Rattle.simd_json_stages.specs.Inputs.{Reads};
 
 use super::fault::{Fault, FaultKind};
+use super::input::{Input, Original};
 use super::nodes::NodeSink;
 use super::progress::{Progress, Route};
-use super::input::{Original, Input};
 use simd_json_scalars::stringparse::BadEscape;
 use std::result::Result;
 

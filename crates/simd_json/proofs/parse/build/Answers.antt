@@ -12,6 +12,7 @@ returns-in-Ok-clause-tape g c =
 
 pub returns-in-Err-clause-fault : goal.returns-in-Err-clause-fault
 returns-in-Err-clause-fault g c =
-    let refused = (rw c.in-Err.is at c.build_tape.ensures.refused).1 in
-    (refused-token g.K.Original.bytes c.args.buffers.now.limit _ c.requires.scanned.whole refused,
-    token-fault g.K.Original.bytes c.args.buffers.now.limit _ refused)
+    let refused = (rw c.in-Err.is at c.build_tape.ensures.refused).1 in (
+      refused-token g.K.Original.bytes c.args.buffers.now.limit _ c.requires.scanned.whole refused,
+      token-fault g.K.Original.bytes c.args.buffers.now.limit _ refused,
+    )
