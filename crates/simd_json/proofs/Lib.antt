@@ -1,9 +1,7 @@
-mod Fronts
 mod ParseLaws
 mod ParseEnds
 mod ParseAnswers
 mod Reservations
-mod Slashes
 pub mod Listed
 mod Compared
 mod Split
@@ -14,7 +12,6 @@ mod MapCompared
 mod Printable
 mod Encoded
 mod Pointed
-mod Keys
 mod Ends
 mod Splitting
 mod StringScan
@@ -23,3 +20,5 @@ mod WalkedTokens
 mod WalkedSteps
 mod WalkedLoops
 mod WalkedRoot
+mod Keys
+mod Indexes
