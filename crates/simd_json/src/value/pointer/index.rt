@@ -26,7 +26,11 @@ pub(super) fn element<'tape, 'input>(
 fn read_index(token: &str) -> Option<usize>
     ensures { result ≡ option_and_then fits_64 (array_index token.now) }
 {
-    if !is_index(token.as_bytes()) {
+    let digits = token.as_bytes();
+    if digits.len() == 1 && digits[0].is_ascii_digit() {
+        return Some(usize::from(digits[0] - b'0'));
+    }
+    if !is_index(digits) {
         return None;
     }
     token.parse().ok()
