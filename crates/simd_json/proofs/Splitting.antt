@@ -54,8 +54,7 @@ pub count-so-far : (p : List ℕ) (i : ℕ) (ends : List ℕ) (n : ℕ) → n �
     → ends_from 0 (tokens_after p) ≡ take n ends ++ ends_from i (tokens_after (drop i p))
     → token_count p ≡ n + length (tokens_after (drop i p))
 count-so-far p i ends n room so_far =
-    omega
-    (
+    omega (
       arith,
       count-tokens p,
       count-ends 0 (tokens_after p),

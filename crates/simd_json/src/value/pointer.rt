@@ -73,7 +73,11 @@ impl<'tape, 'input> Value<'tape, 'input> {
     pub fn pointer(&self, pointer: &str) -> Option<Value<'tape, 'input>>
         ensures { option_map doc result ≡ result_ok (pointed pointer.now (doc self.now)) }
     {
-        self.try_pointer(pointer).ok()
+        let (reached, followed) = walk(*self, pointer);
+        if followed < pointer.len() {
+            return None;
+        }
+        Some(reached)
     }
 
     /// The value that a JSON Pointer names, as [`pointer`](Value::pointer) returns it.
@@ -83,14 +87,14 @@ impl<'tape, 'input> Value<'tape, 'input> {
         ensures { ok_map doc result ≡ pointed pointer.now (doc self.now) }
     {
         let (reached, followed) = walk(*self, pointer);
-        if followed == pointer.len() {
-            return Ok(reached);
+        if followed < pointer.len() {
+            return Err(PointerError {
+                index: followed,
+                expected: lack(reached, pointer.as_bytes(), followed),
+                got: reached.value_type(),
+            });
         }
-        Err(PointerError {
-            index: followed,
-            expected: lack(reached, pointer.as_bytes(), followed),
-            got: reached.value_type(),
-        })
+        Ok(reached)
     }
 }
 

@@ -16,10 +16,7 @@ pub(super) fn element<'tape, 'input>(
 ) -> Option<Value<'tape, 'input>>
     ensures { option_map doc result ≡ result_ok (element_at (docs array.entry) (array_index token.now)) }
 {
-    let Some(index) = read_index(token) else {
-        return None;
-    };
-    array.get(index)
+    array.get(read_index(token)?)
 }
 
 // The array index that the token is, where 64 bits hold it.

@@ -4,8 +4,8 @@ use Rattle.simd_json.specs.Viewed.{doc}
 use Rattle.simd_json.proofs.Pointed.{some-left, stop-at, stop-kind}
 use Rattle.simd_json.proofs.value.tape.value.Value.try_pointer.Goals as goal
 
-pub returns : goal.returns
-returns c =
+pub returns-then-followed-pointer : goal.returns-then-followed-pointer
+returns-then-followed-pointer c =
     let p = c.args.pointer.now in
     let i = c.walk-followed.result.1 in
     let d = doc c.walk-followed.result.0 in
