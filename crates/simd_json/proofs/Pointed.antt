@@ -1,7 +1,7 @@
 -- A JSON Pointer a token at a time.
-use Rattle.std.proofs.Common.{◌≡◌, ◌≢◌, ◌∙◌, ap, sym, refl, ◌<◌, ◌≤◌, ◌+◌, ◌-◌, ◌*◌, ◌++◌, ℕ, zero, suc, Bool, true, false}
+use Rattle.std.proofs.Common.{◌≡◌, ◌≢◌, ◌∙◌, ap, sym, refl, ◌<◌, ◌≤◌, ◌+◌, ◌-◌, ℕ, suc, Bool, true, false}
 use Rattle.std.proofs.Common.{cond, not, bytes_eq, List, [], ◌∷◌, length, map, take, drop, length-drop}
-use Rattle.std.proofs.Common.{get_or, Some, None, Option, option_map, Result, Ok, Err, arith, ne_eqb, subst, eqb}
+use Rattle.std.proofs.Common.{get_or, Some, None, Option, Result, Ok, Err, arith, ne_eqb}
 use Rattle.std.proofs.lemmas.Bool.{eqb-true, eq-eqb, ltb-false}
 use Rattle.std.proofs.lemmas.List.{drop-drop, drop_all, drop_more, get_or-drop, length-take-le}
 use Rattle.std.proofs.lemmas.List.Sums.{passes_at_first, position_or_len_is, prefix_len-le-length}

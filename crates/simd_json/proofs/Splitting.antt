@@ -1,13 +1,13 @@
 -- A JSON Pointer that is split once.
-use Rattle.std.proofs.Common.{◌≡◌, ◌≢◌, ◌∙◌, ap, sym, refl, subst, ◌<◌, ◌≤◌, ◌+◌, ◌-◌, ℕ, Bool, true, false, cond, List, [], ◌∷◌, arith}
+use Rattle.std.proofs.Common.{◌≡◌, ◌≢◌, ◌∙◌, ap, sym, refl, subst, ◌<◌, ◌≤◌, ◌+◌, ℕ, Bool, false, List, [], ◌∷◌, arith}
 use Rattle.std.proofs.Common.{◌++◌, length, take, drop, set, length-append, get_or, inl, inr, ne_eqb}
-use Rattle.std.specs.Prelude.{◌==◌, ◌&&◌, ◌⊎◌, is_some}
+use Rattle.std.specs.Prelude.{◌&&◌, ◌⊎◌, is_some}
 use Rattle.std.specs.List.{list_all, position_or_len, slice_range}
 use Rattle.std.proofs.lemmas.Bool.{cases_lt}
 use Rattle.std.proofs.lemmas.List.{append_assoc, drop_all, drop_more, length-take-le, take_more_set}
-use Rattle.simd_json.specs.Pointed.{tokens, token_count, unescaped, is_pointer}
+use Rattle.simd_json.specs.Pointed.{token_count, unescaped, is_pointer}
 use Rattle.simd_json.specs.Followed.{IsTokenAt, ends_from, tokens_after}
-use Rattle.simd_json.proofs.Pointed.{at-slash, begins-at, is_slash, token-at, token-len, tokens-some}
+use Rattle.simd_json.proofs.Pointed.{begins-at, is_slash, token-at, token-len, tokens-some}
 
 -- ---- whether the pointer is well formed
 

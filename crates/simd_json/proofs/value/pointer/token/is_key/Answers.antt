@@ -1,4 +1,4 @@
-use Rattle.std.proofs.Common.{◌∙◌, sym, true≢false, arith}
+use Rattle.std.proofs.Common.{sym, true≢false, arith}
 use Rattle.std.proofs.lemmas.List.{drop_all, drop_more}
 use Rattle.simd_json.specs.Pointed.{unescaped}
 use Rattle.simd_json.proofs.Keys.{byte-more, byte-same, end-same}

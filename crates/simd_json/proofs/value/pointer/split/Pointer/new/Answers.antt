@@ -1,4 +1,4 @@
-use Rattle.std.proofs.Common.{◌≡◌, ◌<◌, ◌∙◌, ap, sym, refl, ◌+◌, drop, length, length-set, true, true≢false, arith}
+use Rattle.std.proofs.Common.{◌<◌, ◌∙◌, ap, sym, refl, drop, length, length-set, true≢false, arith}
 use Rattle.std.proofs.lemmas.List.{drop_all}
 use Rattle.std.specs.Prelude.{◌&&◌}
 use Rattle.simd_json.specs.Followed.{tokens_after}

@@ -1,4 +1,4 @@
-use Rattle.std.proofs.Common.{◌∙◌, ap, sym, drop, arith}
+use Rattle.std.proofs.Common.{◌∙◌, ap, sym, drop}
 use Rattle.std.specs.Result.{result_ok}
 use Rattle.simd_json.specs.Viewed.{doc}
 use Rattle.simd_json.proofs.Pointed.{some-left, stop-of}

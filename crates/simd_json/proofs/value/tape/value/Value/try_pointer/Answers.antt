@@ -1,4 +1,4 @@
-use Rattle.std.proofs.Common.{◌≡◌, ◌∙◌, ap, sym, drop, arith}
+use Rattle.std.proofs.Common.{◌∙◌, ap, sym, drop, arith}
 use Rattle.simd_json.specs.Followed.{first_step}
 use Rattle.simd_json.specs.Viewed.{doc}
 use Rattle.simd_json.proofs.Pointed.{some-left, stop-at, stop-kind}
