@@ -149,7 +149,7 @@ fn member<'tape, 'input>(object: Object<'tape, 'input>, token: &str) -> Option<V
     ensures { option_map doc result ≡ result_ok (member_at (pairs object.entry) (unescaped token.now)) }
 {
     if is_plain(token.as_bytes()) {
-        return object.get(token);
+        return object.find(token);
     }
     for (key, value) in object.iter() {
         if is_key(token.as_bytes(), key.as_bytes()) {

@@ -34,6 +34,14 @@ impl<'tape, 'input> Object<'tape, 'input> {
     pub fn get(&self, k: &str) -> Option<Value<'tape, 'input>>
         ensures { option_map doc result ≡ first_with k.now (pairs self.now) }
     {
+        self.find(k)
+    }
+
+    // The same, made a part of the caller: a step of a JSON Pointer is then no dearer than a call of `get`.
+    #[inline(always)]
+    pub(crate) fn find(&self, k: &str) -> Option<Value<'tape, 'input>>
+        ensures { option_map doc result ≡ first_with k.now (pairs self.now) }
+    {
         for (key, value) in self.iter() {
             if key.len() == k.len() && is_same(key, k) {
                 return Some(value);

@@ -9,7 +9,7 @@ use Rattle.simd_json.proofs.value.pointer.member.Goals as goal
 
 pub returns-then-is_plain : goal.returns-then-is_plain
 returns-then-is_plain c =
-    c.get.ensures
+    c.find.ensures
     ∙ sym (member-plain (pairs c.args.object) c.args.token.now
     (subst IsPlain c.as_bytes.ensures.value (c.is_plain.ensures.0 c.if-is_plain.true)))
 

@@ -4,8 +4,8 @@ use Rattle.std.proofs.lemmas.Slice.Eq.{bytes_eq-Decides}
 use Rattle.simd_json_parts.specs.Views.{first_with}
 use Rattle.simd_json.specs.Viewed.{doc, pairs}
 use Rattle.simd_json.proofs.Split.{first_with-pair, members_cancel}
-use Rattle.simd_json.proofs.value.tape.object.Object.get.Goals as goal
-use Rattle.simd_json.proofs.value.tape.object.Object.get.Goals.{else-key-k-via-then-key-k+else-is_same, else-key-k-via-else-key-k}
+use Rattle.simd_json.proofs.value.tape.object.Object.find.Goals as goal
+use Rattle.simd_json.proofs.value.tape.object.Object.find.Goals.{else-key-k-via-then-key-k+else-is_same, else-key-k-via-else-key-k}
 
 pub loop-key-init : goal.loop-key-init
 loop-key-init c =
