@@ -120,6 +120,7 @@ fn walk<'tape, 'input>(value: Value<'tape, 'input>, pointer: &str) -> (Value<'ta
 }
 
 // Where the token ends that the `/` at an index begins, or `None` where none is there.
+#[inline(always)]
 fn token_end(pointer: &[u8], at: usize) -> Option<usize>
     ensures { MatchOption result (at < length pointer.now → slice_index pointer.now at ≢ slash)
         (λ end. IsTokenAt pointer.now at end) }
@@ -135,6 +136,7 @@ fn token_end(pointer: &[u8], at: usize) -> Option<usize>
 }
 
 // The value that a token names in another.
+#[inline(always)]
 fn child<'tape, 'input>(value: Value<'tape, 'input>, token: &str) -> Option<Value<'tape, 'input>>
     ensures { option_map doc result ≡ result_ok (named token.now (doc value.entry)) }
 {
@@ -145,6 +147,7 @@ fn child<'tape, 'input>(value: Value<'tape, 'input>, token: &str) -> Option<Valu
 }
 
 // The value of the first pair with the key that a token is.
+#[inline(always)]
 fn member<'tape, 'input>(object: Object<'tape, 'input>, token: &str) -> Option<Value<'tape, 'input>>
     ensures { option_map doc result ≡ result_ok (member_at (pairs object.entry) (unescaped token.now)) }
 {

@@ -10,6 +10,7 @@ ghost use Rattle.simd_json.specs.Viewed.{doc, docs};
 use crate::value::tape::{Array, Value};
 
 // The element whose index the token is.
+#[inline(always)]
 pub(super) fn element<'tape, 'input>(
     array: Array<'tape, 'input>,
     token: &str,
@@ -20,6 +21,7 @@ pub(super) fn element<'tape, 'input>(
 }
 
 // The array index that the token is, where 64 bits hold it.
+#[inline(always)]
 fn read_index(token: &str) -> Option<usize>
     ensures { result ≡ option_and_then fits_64 (array_index token.now) }
 {
@@ -34,6 +36,7 @@ fn read_index(token: &str) -> Option<usize>
 }
 
 // Whether the token is an array index.
+#[inline(never)]
 pub(super) fn is_index(token: &[u8]) -> bool
     ensures { result ≡ is_array_index token.now }
 {

@@ -4,6 +4,7 @@ ghost use Rattle.simd_json.specs.Followed.{IsPlain};
 ghost use Rattle.simd_json.specs.Pointed.{unescaped};
 
 // Whether there is no `~` in the token: it is the key as it stands.
+#[inline(always)]
 pub(super) fn is_plain(token: &[u8]) -> bool
     ensures { IsTrue result ↔ IsPlain token.now }
 {
@@ -22,6 +23,7 @@ pub(super) fn is_well_formed(token: &[u8]) -> bool
 }
 
 // Whether the token, decoded, is the key.
+#[inline(never)]
 pub(super) fn is_key(token: &[u8], key: &[u8]) -> bool
     ensures { IsTrue result ↔ (unescaped token.now ≡ Some key.now) }
 {
