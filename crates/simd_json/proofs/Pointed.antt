@@ -3,7 +3,7 @@ use Rattle.std.proofs.Common.{◌≡◌, ◌≢◌, ◌∙◌, ap, sym, refl, �
 use Rattle.std.proofs.Common.{cond, not, bytes_eq, List, [], ◌∷◌, length, map, take, drop, length-drop}
 use Rattle.std.proofs.Common.{get_or, Some, None, Option, Result, Ok, Err, arith, ne_eqb}
 use Rattle.std.proofs.lemmas.Bool.{eqb-true, eq-eqb, ltb-false}
-use Rattle.std.proofs.lemmas.List.{drop-drop, drop_all, drop_more, get_or-drop, length-take-le}
+use Rattle.std.proofs.lemmas.List.{drop-drop, drop_all, drop_more, get_or-drop, get_or-take, length-take-le}
 use Rattle.std.proofs.lemmas.List.Sums.{passes_at_first, position_or_len_is, prefix_len-le-length}
 use Rattle.std.specs.Char.{digit_value}
 use Rattle.std.specs.Int.Digits.{number_from_digits}
@@ -18,7 +18,7 @@ use Rattle.simd_json_parts.specs.Views.{first_with, is_array, is_object, value_t
 use Rattle.simd_json_parts.specs.declared.node.ValueType.{ValueType}
 use Rattle.simd_json.specs.Pointed.{with_first, tokens, unescaped, is_array_index, array_index, element_at, member_at, named, stop}
 use Rattle.simd_json.specs.Pointed.{go_on, followed, pointed_from}
-use Rattle.simd_json.specs.Followed.{IsTokenAt, tokens_after, first_of, first_step, fits_64}
+use Rattle.simd_json.specs.Followed.{IsPlain, IsTokenAt, tokens_after, first_of, first_step, fits_64}
 use Rattle.simd_json.specs.declared.value.pointer.PointerError.{PointerError}
 use Rattle.simd_json.specs.declared.value.pointer.PointerExpected.{PointerExpected}
 use Rattle.simd_json.specs.declared.value.pointer.PointerExpected.TheVariants as lacking
@@ -72,6 +72,14 @@ token-to p i e inside slashed within lacks ends =
     (λ less. eq-eqb (get_or q n 0) 47
     (get_or-drop (i + 1) p n 0 ∙ ap (λ m. get_or p m 0) end ∙ ends (omega (arith, less, left, within)))) in
     token-at p i e inside slashed (omega (arith, is, within))
+
+pub plain-to : (p : List ℕ) (i e : ℕ) → (i < e) × (e ≤ length p) → ((k : ℕ) → i + 1 + k < e → get_or p (i + 1 + k) 0 ≢ 126)
+    → IsPlain (slice_range p (i + 1) e)
+plain-to p i e within lacks k less is =
+    let q = drop (i + 1) p in
+    let long = length-take-le (e - (i + 1)) q (omega (arith, within, length-drop (i + 1) p)) in
+    let inside : k < e - (i + 1) = omega (arith, less, long) in
+    lacks k (omega (arith, inside)) (sym (get_or-take (e - (i + 1)) q k 0 inside ∙ get_or-drop (i + 1) p k 0) ∙ is)
 
 pub at-slash : (p : List ℕ) (i e : ℕ) → IsTokenAt p i e → drop i p ≡ 47 ∷ drop (i + 1) p
 at-slash p i e at = drop_more p i 0 at.begins.0 ∙ ap (λ c. c ∷ drop (i + 1) p) at.begins.1

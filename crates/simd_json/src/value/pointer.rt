@@ -1,7 +1,8 @@
 //! JSON Pointer (RFC 6901): the value at a place within another.
-ghost use Rattle.std.specs.Prelude.{◌≡◌, ◌≢◌, ◌≤◌, ◌<◌, Err, MatchOption, None, drop, length, option_map, slice_index};
+ghost use Rattle.std.specs.Prelude.{◌≡◌, ◌≢◌, ◌≤◌, ◌<◌, ◌+◌, Err, MatchOption, None, drop, length, option_map, slice_index, true};
+ghost use Rattle.std.specs.List.{slice_range};
 ghost use Rattle.std.specs.Result.{result_ok};
-ghost use Rattle.simd_json.specs.Followed.{IsTokenAt, first_step};
+ghost use Rattle.simd_json.specs.Followed.{IsPlain, IsTokenAt, first_step};
 ghost use Rattle.simd_json.specs.Pointed.{member_at, named, pointed, pointed_from, unescaped};
 ghost use Rattle.simd_json.specs.Viewed.{doc, pairs};
 ghost use Rattle.simd_json_parts.specs.Bytes.{slash};
@@ -12,7 +13,7 @@ mod split;
 mod token;
 
 use crate::value::pointer::index::{element, is_index};
-use crate::value::pointer::token::{is_key, is_plain, is_well_formed};
+use crate::value::pointer::token::{is_key, is_well_formed};
 use crate::value::tape::{Object, Value};
 use simd_json_parts::node::ValueType;
 pub use split::Pointer;
@@ -109,49 +110,72 @@ fn walk<'tape, 'input>(value: Value<'tape, 'input>, pointer: &str) -> (Value<'ta
     let bytes = pointer.as_bytes();
     let mut reached = value;
     let mut followed = 0;
-    while let Some(end) = token_end(bytes, followed) {
-        let Some(next) = child(reached, &pointer[followed + 1..end]) else {
+    while let Some(token) = next_token(bytes, followed) {
+        let text = &pointer[followed + 1..token.end];
+        let Some(next) = child(reached, text, token.is_plain) else {
             return (reached, followed);
         };
         reached = next;
-        followed = end;
+        followed = token.end;
     }
     (reached, followed)
 }
 
-// Where the token ends that the `/` at an index begins, or `None` where none is there.
+// Where a token of a pointer ends, and whether it is known to have no `~`.
+#[derive(Clone, Copy)]
+struct Found {
+    end: usize,
+    is_plain: bool,
+}
+
+// The token that the `/` at an index begins, or `None` where none is there.
 #[inline(always)]
-fn token_end(pointer: &[u8], at: usize) -> Option<usize>
+fn next_token(pointer: &[u8], at: usize) -> Option<Found>
     ensures { MatchOption result (at < length pointer.now → slice_index pointer.now at ≢ slash)
-        (λ end. IsTokenAt pointer.now at end) }
+        (λ t. IsTokenAt pointer.now at t.end
+        × (t.is_plain ≡ true → IsPlain (slice_range pointer.now (at + 1) t.end))) }
 {
     if at >= pointer.len() || pointer[at] != b'/' {
         return None;
     }
     let mut end = at + 1;
+    let mut is_plain = true;
     while end < pointer.len() && pointer[end] != b'/' {
+        if pointer[end] == b'~' {
+            is_plain = false;
+        }
         end += 1;
     }
-    Some(end)
+    Some(Found { end, is_plain })
 }
 
 // The value that a token names in another.
 #[inline(always)]
-fn child<'tape, 'input>(value: Value<'tape, 'input>, token: &str) -> Option<Value<'tape, 'input>>
+fn child<'tape, 'input>(
+    value: Value<'tape, 'input>,
+    token: &str,
+    is_plain: bool,
+) -> Option<Value<'tape, 'input>>
+    requires { is_plain ≡ true → IsPlain token.now }
     ensures { option_map doc result ≡ result_ok (named token.now (doc value.entry)) }
 {
     if let Some(array) = value.as_array() {
         return element(array, token);
     }
-    member(value.as_object()?, token)
+    member(value.as_object()?, token, is_plain)
 }
 
 // The value of the first pair with the key that a token is.
 #[inline(always)]
-fn member<'tape, 'input>(object: Object<'tape, 'input>, token: &str) -> Option<Value<'tape, 'input>>
+fn member<'tape, 'input>(
+    object: Object<'tape, 'input>,
+    token: &str,
+    is_plain: bool,
+) -> Option<Value<'tape, 'input>>
+    requires { is_plain ≡ true → IsPlain token.now }
     ensures { option_map doc result ≡ result_ok (member_at (pairs object.entry) (unescaped token.now)) }
 {
-    if is_plain(token.as_bytes()) {
+    if is_plain {
         return object.find(token);
     }
     for (key, value) in object.iter() {
@@ -169,10 +193,10 @@ fn lack(value: Value<'_, '_>, pointer: &[u8], followed: usize) -> PointerExpecte
     requires stopped { result_ok (first_step (drop followed pointer.now) (doc value)) ≡ None }
     ensures { first_step (drop followed pointer.now) (doc value.entry) ≡ Err result }
 {
-    let Some(end) = token_end(pointer, followed) else {
+    let Some(token) = next_token(pointer, followed) else {
         return PointerExpected::Slash;
     };
-    let token = &pointer[followed + 1..end];
+    let token = &pointer[followed + 1..token.end];
     if value.is_array() {
         if is_index(token) {
             return PointerExpected::Element;

@@ -3,8 +3,8 @@ ghost use Rattle.std.specs.Prelude.{◌≡◌, ◌≤◌, take, true};
 ghost use Rattle.simd_json.specs.Followed.{ends_from, tokens_after};
 ghost use Rattle.simd_json.specs.Pointed.{is_pointer};
 
-use crate::value::pointer::token::is_well_formed;
-use crate::value::pointer::{child, token_end};
+use crate::value::pointer::token::{is_plain, is_well_formed};
+use crate::value::pointer::{child, next_token};
 use crate::value::tape::Value;
 
 /// A JSON Pointer (RFC 6901), split into at most `N` reference tokens. Nothing is allocated.
@@ -55,15 +55,15 @@ impl<'pointer, const N: usize> Pointer<'pointer, N> {
         let mut len = 0;
         let mut at = 0;
         while at < bytes.len() {
-            let Some(end) = token_end(bytes, at) else {
+            let Some(token) = next_token(bytes, at) else {
                 return None;
             };
-            if len == N || !is_well_formed(&bytes[at + 1..end]) {
+            if len == N || !is_well_formed(&bytes[at + 1..token.end]) {
                 return None;
             }
-            ends[len] = end;
+            ends[len] = token.end;
             len += 1;
-            at = end;
+            at = token.end;
         }
         Some(Pointer {
             text: pointer,
@@ -95,7 +95,8 @@ impl<'tape, 'input> Value<'tape, 'input> {
         let mut reached = *self;
         let mut at = 0;
         for end in &pointer.ends[..pointer.len] {
-            reached = child(reached, &text[at + 1..*end])?;
+            let token = &text[at + 1..*end];
+            reached = child(reached, token, is_plain(token.as_bytes()))?;
             at = *end;
         }
         Some(reached)

@@ -9,9 +9,7 @@ use Rattle.simd_json.proofs.value.pointer.member.Goals as goal
 
 pub returns-then-is_plain : goal.returns-then-is_plain
 returns-then-is_plain c =
-    c.find.ensures
-    ∙ sym (member-plain (pairs c.args.object) c.args.token.now
-    (subst IsPlain c.as_bytes.ensures.value (c.is_plain.ensures.0 c.if-is_plain.true)))
+    c.find.ensures ∙ sym (member-plain (pairs c.args.object) c.args.token.now (c.requires c.if-is_plain.true))
 
 pub loop-key-init : goal.loop-key-init
 loop-key-init c =
@@ -21,8 +19,8 @@ loop-key-init c =
 pub returns-then-is_key : goal.returns-then-is_key
 returns-then-is_key c =
     let t = c.args.token.now in
-    let name = ap unescaped (sym c.as_bytes-in-loop-key.ensures.value) ∙ c.if-is_key.ensures.0 refl
-    ∙ ap Some c.as_bytes-in-loop-key-2.ensures.value in
+    let name = ap unescaped (sym c.as_bytes.ensures.value) ∙ c.if-is_key.ensures.0 refl
+    ∙ ap Some c.as_bytes-in-loop-key.ensures.value in
     sym (member-here (unescaped t) c.in-Some.key.now (doc c.in-Some.value) _ (pairs c.next.new.self.left) c.in-Some.ensures.steps name)
     ∙ c.loop-key.invariant
 
@@ -32,7 +30,7 @@ loop-key-preserved c =
     let key = c.in-Some.key.now in
     let other : unescaped t ≡ Some key → ⊥ =
     λ is. true≢false (sym (c.if-is_key.ensures.1
-    (ap unescaped c.as_bytes-in-loop-key.ensures.value ∙ is ∙ ap Some (sym c.as_bytes-in-loop-key-2.ensures.value)))) in
+    (ap unescaped c.as_bytes.ensures.value ∙ is ∙ ap Some (sym c.as_bytes-in-loop-key.ensures.value)))) in
     sym (member-later (unescaped t) key (doc c.in-Some.value) _ (pairs c.next.new.self.left) c.in-Some.ensures.steps other)
     ∙ c.loop-key.invariant
 

@@ -18,8 +18,8 @@ returns-then-len-clause-formed g c =
             (let count = count-so-far p l.at l.ends l.len (omega (arith, l.invariant.counted, l.invariant.room)) l.invariant.split in
             absurd (omega (arith, is.1, ap token_count same, count, more-tokens p l.at c.loop-at-test.true, w.if-len.true)))
         | then-len-via-else-len+then-not-is_well_formed w ↦
-            sym (l.invariant.formed ∙ formed-at p l.at c.in-Some.end c.in-Some.ensures
-            ∙ ap (λ b. b && is_pointer (drop c.in-Some.end p)) (sym w.is_well_formed.ensures ∙ w.if-not-is_well_formed.true))
+            sym (l.invariant.formed ∙ formed-at p l.at c.in-Some.token.end c.in-Some.ensures.0
+            ∙ ap (λ b. b && is_pointer (drop c.in-Some.token.end p)) (sym w.is_well_formed.ensures ∙ w.if-not-is_well_formed.true))
             ∙ ap is_pointer same ∙ is.0
       ]),
     )
@@ -28,16 +28,16 @@ pub loop-at-preserved : goal.loop-at-preserved
 loop-at-preserved g c =
     let p = c.as_bytes-bytes.result.now in
     let l = c.loop-at in
-    let end = c.in-Some.end in
+    let end = c.in-Some.token.end in
     let room : l.len < length l.ends = omega (arith, c.if-len.false, l.invariant.counted, l.invariant.room) in
     record {
-      within = c.in-Some.ensures.within.1;
+      within = c.in-Some.ensures.0.within.1;
       counted = omega (arith, c.if-len.false, l.invariant.counted);
       room = length-set l.ends l.len end ∙ l.invariant.room;
       formed =
-          l.invariant.formed ∙ formed-at p l.at end c.in-Some.ensures
+          l.invariant.formed ∙ formed-at p l.at end c.in-Some.ensures.0
           ∙ ap (λ b. b && is_pointer (drop end p)) (sym c.if-not-is_well_formed.ensures);
-      split = ends-more p l.at end l.ends l.len c.in-Some.ensures room l.invariant.split;
+      split = ends-more p l.at end l.ends l.len c.in-Some.ensures.0 room l.invariant.split;
     }
 
 pub returns-clause-formed : goal.returns-clause-formed

@@ -8,23 +8,23 @@ use Rattle.simd_json.proofs.Pointed.{boundary, further, some-left, stop-of, stuc
 use Rattle.simd_json.proofs.Splitting.{kept-all, kept-next}
 use Rattle.simd_json.proofs.value.tape.value.Value.at.Goals as goal
 
-pub range-requires-clause-start_le_end : goal.range-requires-clause-start_le_end
-range-requires-clause-start_le_end g c =
+pub range-token-requires-clause-start_le_end : goal.range-token-requires-clause-start_le_end
+range-token-requires-clause-start_le_end g c =
     let l = c.loop-end in
     let s = c.args.pointer.now in
     let next = kept-next c.as_str-text.result.now l.at l.end-index (take s.len s.ends) l.invariant.begins (omega arith) l.invariant.split in
     omega (arith, next.at.within)
 
-pub range-requires-clause-start_boundary : goal.range-requires-clause-start_boundary
-range-requires-clause-start_boundary g c some =
+pub range-token-requires-clause-start_boundary : goal.range-token-requires-clause-start_boundary
+range-token-requires-clause-start_boundary g c some =
     let l = c.loop-end in
     let s = c.args.pointer.now in
     let p = c.as_str-text.result.now in
     let next = kept-next p l.at l.end-index (take s.len s.ends) l.invariant.begins (omega arith) l.invariant.split in
     IsCharBoundary-after_ascii p l.at c.as_str-text.utf8 next.at.begins.0 (omega (arith, next.at.begins.1))
 
-pub range-requires-clause-end_boundary : goal.range-requires-clause-end_boundary
-range-requires-clause-end_boundary g c =
+pub range-token-requires-clause-end_boundary : goal.range-token-requires-clause-end_boundary
+range-token-requires-clause-end_boundary g c =
     let l = c.loop-end in
     let s = c.args.pointer.now in
     let p = c.as_str-text.result.now in
@@ -38,7 +38,7 @@ returns-in_err-reached g c =
     let p = c.as_str-text.result.now in
     let d = doc l.reached in
     let next = kept-next p l.at l.end-index (take s.len s.ends) l.invariant.begins (omega arith) l.invariant.split in
-    let nowhere = ap (λ t. result_ok (named t d)) (sym c.range.ensures.value) ∙ sym c.in_err-reached.ensures in
+    let nowhere = ap (λ t. result_ok (named t d)) (sym c.range-token.ensures.value) ∙ sym c.in_err-reached.ensures in
     ap (option_map doc) c.from_residual.ensures
     ∙ sym
     (ap (λ t. result_ok (pointed t (doc c.args.self.now))) (sym c.as_str-text.ensures) ∙ ap result_ok l.invariant.led
@@ -51,7 +51,7 @@ loop-end-preserved g c =
     let p = c.as_str-text.result.now in
     let d = doc l.reached in
     let next = kept-next p l.at l.end-index (take s.len s.ends) l.invariant.begins (omega arith) l.invariant.split in
-    let leads = ap (λ t. result_ok (named t d)) (sym c.range.ensures.value) ∙ sym c.in_ok-reached.ensures in
+    let leads = ap (λ t. result_ok (named t d)) (sym c.range-token.ensures.value) ∙ sym c.in_ok-reached.ensures in
     record {
       within = next.at.within.1;
       begins = next.at.goes_on;
