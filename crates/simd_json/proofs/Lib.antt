@@ -22,3 +22,4 @@ mod WalkedLoops
 mod WalkedRoot
 mod Keys
 mod Indexes
+mod Fronts

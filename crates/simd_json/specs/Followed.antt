@@ -1,6 +1,6 @@
 -- A JSON Pointer a token at a time. Only private clauses cite it.
 use Rattle.std.specs.Prelude.{◌≡◌, ◌≢◌, ◌<◌, ◌≤◌, ◌+◌, ◌==◌, ◌^◌, ℕ, List, [], ◌∷◌, length, drop, slice_index, nat_lt, if◌then◌else◌}
-use Rattle.std.specs.Prelude.{Option, Some, None, Result, Ok, Err}
+use Rattle.std.specs.Prelude.{Bool, not, ◌||◌, Option, Some, None, Result, Ok, Err}
 use Rattle.std.specs.List.{slice_range}
 use Rattle.simd_json_parts.specs.Bytes.{slash}
 use Rattle.simd_json_parts.specs.Document.{Document}
@@ -37,6 +37,13 @@ ends_from i (t ∷ ts) = (i + 1 + length t) ∷ ends_from (i + 1 + length t) ts
 -- a token without escapes
 abbrev pub IsPlain : List ℕ → Type 0
 IsPlain t = (k : ℕ) → k < length t → slice_index t k ≢ tilde
+
+-- a byte that is one of two, and one that is neither
+abbrev pub is_either : ℕ → ℕ → ℕ → Bool
+is_either a b x = (x == a) || (x == b)
+
+abbrev pub is_neither : ℕ → ℕ → ℕ → Bool
+is_neither a b x = not (is_either a b x)
 
 abbrev pub fits_64 : ℕ → Option ℕ
 fits_64 n = if nat_lt n (2 ^ 64) then Some n else None

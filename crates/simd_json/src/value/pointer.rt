@@ -1,17 +1,19 @@
 //! JSON Pointer (RFC 6901): the value at a place within another.
-ghost use Rattle.std.specs.Prelude.{◌≡◌, ◌≢◌, ◌≤◌, ◌<◌, ◌+◌, Err, MatchOption, None, drop, length, option_map, slice_index, true};
+ghost use Rattle.std.specs.Prelude.{◌≡◌, ◌≢◌, ◌≤◌, ◌<◌, ◌+◌, Err, MatchOption, None, drop, length, option_map, slice_index, true, ◌↔◌, IsTrue};
 ghost use Rattle.std.specs.List.{slice_range};
 ghost use Rattle.std.specs.Result.{result_ok};
 ghost use Rattle.simd_json.specs.Followed.{IsPlain, IsTokenAt, first_step};
-ghost use Rattle.simd_json.specs.Pointed.{member_at, named, pointed, pointed_from, unescaped};
+ghost use Rattle.simd_json.specs.Pointed.{member_at, named, pointed, pointed_from, tilde, unescaped};
 ghost use Rattle.simd_json.specs.Viewed.{doc, pairs};
 ghost use Rattle.simd_json_parts.specs.Bytes.{slash};
 
 mod display;
+mod front;
 mod index;
 mod split;
 mod token;
 
+use crate::value::pointer::front::front_len;
 use crate::value::pointer::index::{element, is_index};
 use crate::value::pointer::token::{is_key, is_well_formed};
 use crate::value::tape::{Object, Value};
@@ -138,15 +140,24 @@ fn next_token(pointer: &[u8], at: usize) -> Option<Found>
     if at >= pointer.len() || pointer[at] != b'/' {
         return None;
     }
-    let mut end = at + 1;
-    let mut is_plain = true;
-    while end < pointer.len() && pointer[end] != b'/' {
-        if pointer[end] == b'~' {
-            is_plain = false;
-        }
-        end += 1;
+    let rest = &pointer[at + 1..];
+    let front = front_len(rest, b'/', b'~');
+    if is_tilde_at(rest, front) {
+        return Some(Found {
+            end: at + 1 + front_len(rest, b'/', b'/'),
+            is_plain: false,
+        });
     }
-    Some(Found { end, is_plain })
+    Some(Found {
+        end: at + 1 + front,
+        is_plain: true,
+    })
+}
+
+fn is_tilde_at(bytes: &[u8], at: usize) -> bool
+    ensures { IsTrue result ↔ ((at < length bytes.now) × (slice_index bytes.now at ≡ tilde)) }
+{
+    at < bytes.len() && bytes[at] == b'~'
 }
 
 // The value that a token names in another.
