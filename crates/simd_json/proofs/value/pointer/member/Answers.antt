@@ -1,5 +1,4 @@
-use Rattle.std.proofs.Common.{◌≡◌, ◌∙◌, ap, sym, refl, Some, subst, true≢false}
-use Rattle.simd_json.specs.Followed.{IsPlain}
+use Rattle.std.proofs.Common.{◌≡◌, ◌∙◌, ap, sym, refl, Some, true≢false}
 use Rattle.simd_json.specs.Pointed.{unescaped}
 use Rattle.simd_json.specs.Viewed.{doc, pairs}
 use Rattle.simd_json.proofs.Keys.{member-plain}
