@@ -189,19 +189,8 @@ fn member<'tape, 'input>(
     if is_plain {
         return object.find(token);
     }
-    find_escaped(object, token.as_bytes())
-}
-
-// The same of any token: each key is compared with it. It is not a part of the walk, which it would make slower.
-#[inline(never)]
-fn find_escaped<'tape, 'input>(
-    object: Object<'tape, 'input>,
-    token: &[u8],
-) -> Option<Value<'tape, 'input>>
-    ensures { option_map doc result ≡ result_ok (member_at (pairs object.entry) (unescaped token.now)) }
-{
     for (key, value) in object.iter() {
-        if is_key(token, key.as_bytes()) {
+        if is_key(token.as_bytes(), key.as_bytes()) {
             return Some(value);
         }
     }
