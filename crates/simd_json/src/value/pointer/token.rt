@@ -23,7 +23,7 @@ pub(super) fn is_well_formed(token: &[u8]) -> bool
 }
 
 // Whether the token, decoded, is the key.
-#[inline(always)]
+#[inline(never)]
 pub(super) fn is_key(token: &[u8], key: &[u8]) -> bool
     ensures { IsTrue result ↔ (unescaped token.now ≡ Some key.now) }
 {
