@@ -1,17 +1,15 @@
 -- How many bytes stand in front of the first that is one of two, seen a vector at a time.
-use Rattle.std.proofs.Common.{◌≡◌, ◌≢◌, ◌∙◌, ap, sym, ◌<◌, ◌≤◌, ◌+◌, ◌-◌, ℕ, zero, suc, Bool, true, false, cond, List, [], ◌∷◌}
-use Rattle.std.proofs.Common.{length, map, take, drop, get_or, subst, arith}
-use Rattle.std.proofs.lemmas.List.{get_or-take, length-take-le}
+use Rattle.std.proofs.Common.{◌≡◌, ◌≢◌, ◌∙◌, ap, sym, ◌<◌, ◌≤◌, ◌+◌, ℕ, zero, suc, Bool, true, false, cond, List, [], ◌∷◌}
+use Rattle.std.proofs.Common.{length, length-drop, map, drop, get_or, subst, ne_eqb, arith}
+use Rattle.std.proofs.lemmas.List.{get_or-drop}
 use Rattle.std.specs.List.{prefix_len, slice_range}
 use Rattle.std.proofs.lemmas.Bool.Decides.{nat_tests}
 use Rattle.std.proofs.lemmas.List.Sums.{prefix_len-le-length, prefix_len_passes, prefix_len_stops}
 use lib.Count.{count_trailing_zeros}
 use lib.Lanes.{chunk, mask_l}
 use Rattle.simd_json_scalars.proofs.Lists.LaneRuns.{run-ends, run-through}
-use Rattle.simd_json.specs.Followed.{IsPlain, first_of, is_either, is_neither, tokens_after}
-use Rattle.simd_json.specs.Pointed.{tokens}
-use Rattle.std.specs.Str.{IsCharBoundary}
-use Rattle.simd_json.proofs.Pointed.{tokens-first}
+use Rattle.simd_json.specs.Followed.{IsPlain, IsTokenAt, is_either, is_neither}
+use Rattle.simd_json.proofs.Pointed.{plain-to, token-to}
 
 -- ---- from an index on
 
@@ -58,44 +56,36 @@ pub front-ends : (c : ℕ) (d : List ℕ) (n : ℕ) → n ≡ prefix_len (is_nei
 front-ends c d n is less =
     ap (λ m. get_or d m 0) is ∙ same c _ (prefix_len_stops (is_neither c c) d 0 (omega (arith, is, less)))
 
-pub range-front : (d : List ℕ) (n : ℕ) → slice_range d 0 n ≡ take n d
-range-front d n = let number : n - 0 ≡ n = omega arith in ap (λ m. take m d) number
+-- ---- the token that ends there
 
--- ---- the first token of what is left of a pointer
+lies-at : (p q : List ℕ) (i k : ℕ) → q ≡ drop (i + 1) p → get_or q k 0 ≡ get_or p (i + 1 + k) 0
+lies-at p q i k is = ap (λ l. get_or l k 0) is ∙ get_or-drop (i + 1) p k 0
 
--- up to the first `/`
-pub slash-split : (p : List ℕ) (n : ℕ) → n ≡ prefix_len (is_neither 47 47) p
-    → tokens p ≡ take n p ∷ tokens_after (drop (length (take n p)) p)
-slash-split p n is =
-    let within : n ≤ length p = omega (arith, is, prefix_len-le-length (is_neither 47 47) p) in
-    tokens-first p n within (λ k less. (front-lacks 47 47 p k (omega (arith, is, less))).0) (front-ends 47 p n is)
-    ∙ ap (λ m. take n p ∷ tokens_after (drop m p)) (sym (length-take-le n p within))
+token-by : (p q : List ℕ) (i n : ℕ) → q ≡ drop (i + 1) p → (i < length p) × (get_or p i 0 ≡ 47) → n ≤ length q
+    → ((k : ℕ) → k < n → get_or q k 0 ≢ 47) → (n < length q → get_or q n 0 ≡ 47) → IsTokenAt p i (i + 1 + n)
+token-by p q i n is begins within lacks ends =
+    let left = length-drop (i + 1) p in
+    token-to p i (i + 1 + n) begins.0 begins.1 (omega arith, omega (arith, begins.0, within, ap length is, left))
+    (λ k less. ne_eqb (get_or p (i + 1 + k) 0) 47 (λ e. lacks k (omega (arith, less)) (lies-at p q i k is ∙ e)))
+    (λ less. sym (lies-at p q i n is) ∙ ends (omega (arith, less, ap length is, left)))
 
--- up to the first `/` or `~`, where no `~` stands there: a token without escapes
-pub record IsPlainFront (p : List ℕ) (n : ℕ) : Type 0 where
-  pub token : first_of (tokens p) ≡ take n p
-  pub len : n ≡ length (first_of (tokens p))
-  pub plain : IsPlain (first_of (tokens p))
-  pub boundary : IsCharBoundary p n
+pub slash-front : (p q : List ℕ) (i n : ℕ) → q ≡ drop (i + 1) p → (i < length p) × (get_or p i 0 ≡ 47)
+    → n ≡ prefix_len (is_neither 47 47) q → IsTokenAt p i (i + 1 + n)
+slash-front p q i n is begins front =
+    token-by p q i n is begins (omega (arith, front, prefix_len-le-length (is_neither 47 47) q))
+    (λ k less. (front-lacks 47 47 q k (omega (arith, less, front))).0) (front-ends 47 q n front)
 
-plain-token : (p : List ℕ) (n : ℕ) → n ≡ prefix_len (is_neither 47 126) p → (n < length p → get_or p n 0 ≢ 126) → IsPlainFront p n
-plain-token p n is other =
-    let front = is_neither 47 126 in
-    let within : n ≤ length p = omega (arith, is, prefix_len-le-length front p) in
-    let lacks : (k : ℕ) → k < n → (get_or p k 0 ≢ 47) × (get_or p k 0 ≢ 126) = λ k less. front-lacks 47 126 p k (omega (arith, is, less)) in
-    let ends : n < length p → get_or p n 0 ≡ 47 =
-    λ less. either 47 126 _ (subst (λ m. front (get_or p m 0) ≡ false) (sym is) (prefix_len_stops front p 0 (omega (arith, is, less))))
-    (other less) in
-    let token : first_of (tokens p) ≡ take n p = ap first_of (tokens-first p n within (λ k less. (lacks k less).0) ends) in
-    let long : length (take n p) ≡ n = length-take-le n p within in
-    record {
-      token = token;
-      len = sym (ap length token ∙ long);
-      plain = subst IsPlain (sym token) (λ k less e. (let inside : k < n = omega (arith, less, long) in
-          (lacks k inside).1 (sym (get_or-take n p k 0 inside) ∙ e)));
-      boundary = (within, λ less high. absurd (omega (arith, ends less, high)));
-    }
-
-pub plain-front : (p q : List ℕ) (n : ℕ) → q ≡ p → n ≡ prefix_len (is_neither 47 126) q → (n < length q → get_or q n 0 ≢ 126)
-    → IsPlainFront p n
-plain-front p q n bytes is other = subst (λ l. IsPlainFront l n) bytes (plain-token q n is other)
+pub plain-front : (p q : List ℕ) (i n : ℕ) → q ≡ drop (i + 1) p → (i < length p) × (get_or p i 0 ≡ 47)
+    → n ≡ prefix_len (is_neither 47 126) q → (n < length q → get_or q n 0 ≢ 126)
+    → IsTokenAt p i (i + 1 + n) × IsPlain (slice_range p (i + 1) (i + 1 + n))
+plain-front p q i n is begins front other =
+    let lacks : (k : ℕ) → k < n → (get_or q k 0 ≢ 47) × (get_or q k 0 ≢ 126) =
+    λ k less. front-lacks 47 126 q k (omega (arith, less, front)) in
+    let ends : n < length q → get_or q n 0 ≡ 47 =
+    λ less. either 47 126 _ (subst (λ m. is_neither 47 126 (get_or q m 0) ≡ false) (sym front)
+    (prefix_len_stops (is_neither 47 126) q 0 (omega (arith, less, front)))) (other less) in
+    let token = token-by p q i n is begins (omega (arith, front, prefix_len-le-length (is_neither 47 126) q))
+    (λ k less. (lacks k less).0) ends in (
+      token,
+      plain-to p i (i + 1 + n) token.within (λ k less e. (lacks k (omega (arith, less))).1 (lies-at p q i k is ∙ e)),
+    )

@@ -1,9 +1,7 @@
-mod Fronts
 mod ParseLaws
 mod ParseEnds
 mod ParseAnswers
 mod Reservations
-mod Slashes
 pub mod Listed
 mod Compared
 mod Split
@@ -14,8 +12,10 @@ mod MapCompared
 mod Printable
 mod Encoded
 mod Pointed
-mod Keys
 mod Ends
 mod Splitting
 mod StringScan
 mod ByteBefore
+mod Keys
+mod Indexes
+mod Fronts

@@ -20,7 +20,6 @@ pub mod MapCompared
 pub mod Pointed
 pub mod PointedText
 pub mod Followed
-pub mod Splitting
 pub mod Locations
 pub mod Reasons
 pub mod Messages

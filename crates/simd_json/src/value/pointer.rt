@@ -1,24 +1,21 @@
 //! JSON Pointer (RFC 6901): the value at a place within another.
-ghost use Rattle.std.specs.Prelude.{◌≡◌, ◌≤◌, ◌<◌, ◌↔◌, IsTrue, None, Err, true, false, drop, length, slice_index, option_map, IfSome};
+ghost use Rattle.std.specs.Prelude.{◌≡◌, ◌≢◌, ◌≤◌, ◌<◌, ◌+◌, Err, MatchOption, None, drop, length, option_map, slice_index, true, ◌↔◌, IsTrue};
+ghost use Rattle.std.specs.List.{slice_range};
 ghost use Rattle.std.specs.Result.{result_ok};
-ghost use Rattle.std.specs.List.{prefix_len};
-ghost use Rattle.simd_json.specs.Answered.{ok_map};
-ghost use Rattle.simd_json.specs.Followed.{AreSlashes, IsPlain, first_of, first_step, is_neither};
-ghost use Rattle.simd_json.specs.Pointed.{tokens, unescaped, member_at, named, pointed, pointed_from, tilde};
+ghost use Rattle.simd_json.specs.Followed.{IsPlain, IsTokenAt, first_step};
+ghost use Rattle.simd_json.specs.Pointed.{member_at, named, pointed, pointed_from, tilde, unescaped};
 ghost use Rattle.simd_json.specs.Viewed.{doc, pairs};
 ghost use Rattle.simd_json_parts.specs.Bytes.{slash};
 
 mod display;
 mod front;
 mod index;
-mod slashes;
 mod split;
 mod token;
 
 use crate::value::pointer::front::front_len;
-use crate::value::pointer::index::{element, is_index, read_index};
-use crate::value::pointer::slashes::slashes;
-use crate::value::pointer::token::{decode, decoded_len, first_token, held, unescaped_byte};
+use crate::value::pointer::index::{element, is_index};
+use crate::value::pointer::token::{is_key, is_well_formed};
 use crate::value::tape::{Object, Value};
 use simd_json_parts::node::ValueType;
 pub use split::Pointer;
@@ -67,8 +64,7 @@ impl<'tape, 'input> Value<'tape, 'input> {
     /// pair of an object, of equal keys the first, with `~1` for `/` and `~0` for `~`; or the index of an
     /// element of an array, in digits without a leading zero.
     ///
-    /// A literal is split by the compiler, and costs about as much as a call of [`get`](Value::get) or
-    /// [`get_idx`](Value::get_idx) for each token. Split another once with [`Pointer::new`] if it is used often.
+    /// It costs little more than a call of [`get`](Value::get) or [`get_idx`](Value::get_idx) for each token.
     ///
     /// ```
     /// use simd_json::tape::Value;
@@ -77,88 +73,32 @@ impl<'tape, 'input> Value<'tape, 'input> {
     ///     config.pointer("/servers/0/port")?.as_u16()
     /// }
     /// ```
-    #[inline(always)]
     pub fn pointer(&self, pointer: &str) -> Option<Value<'tape, 'input>>
         ensures { option_map doc result ≡ result_ok (pointed pointer.now (doc self.now)) }
     {
-        let Some(slashes) = slashes(pointer.as_bytes()) else {
-            return follow(*self, pointer).ok();
-        };
-        follow_plain(*self, pointer, slashes)
+        let (reached, followed) = walk(*self, pointer);
+        if followed < pointer.len() {
+            return None;
+        }
+        Some(reached)
     }
 
     /// The value that a JSON Pointer names, as [`pointer`](Value::pointer) returns it.
     ///
     /// Returns where the pointer stops, and what it lacks there, where it is malformed or leads nowhere.
-    #[inline(always)]
     pub fn try_pointer(&self, pointer: &str) -> Result<Value<'tape, 'input>, PointerError>
         ensures { ok_map doc result ≡ pointed pointer.now (doc self.now) }
     {
-        if let Some(slashes) = slashes(pointer.as_bytes()) {
-            if let Some(value) = follow_plain(*self, pointer, slashes) {
-                return Ok(value);
-            }
+        let (reached, followed) = walk(*self, pointer);
+        if followed < pointer.len() {
+            return Err(PointerError {
+                index: followed,
+                expected: lack(reached, pointer.as_bytes(), followed),
+                got: reached.value_type(),
+            });
         }
-        follow(*self, pointer)
+        Ok(reached)
     }
-}
-
-// Where a pointer with these slashes leads. Its look-up of a key is compiled into the caller, which costs less than
-// a call of `get` for each token.
-#[inline(always)]
-fn follow_plain<'tape, 'input>(
-    value: Value<'tape, 'input>,
-    pointer: &str,
-    slashes: u64,
-) -> Option<Value<'tape, 'input>>
-    requires { AreSlashes pointer.now slashes }
-    ensures { option_map doc result ≡ result_ok (pointed pointer.now (doc value.entry)) }
-{
-    if slashes % 2 == 0 {
-        return None;
-    }
-    let mut reached = value;
-    let mut at = 0;
-    while at < pointer.len() {
-        let len = (slashes >> (at + 1)).trailing_zeros() as usize;
-        reached = plain_child(reached, &pointer[at + 1..at + 1 + len])?;
-        at += 1 + len;
-    }
-    Some(reached)
-}
-
-// The value that a token without `~` names in another.
-#[inline(always)]
-fn plain_child<'tape, 'input>(
-    value: Value<'tape, 'input>,
-    token: &str,
-) -> Option<Value<'tape, 'input>>
-    requires { IsPlain token.now }
-    ensures { option_map doc result ≡ result_ok (named token.now (doc value.entry)) }
-{
-    if let Some(array) = value.as_array() {
-        return element(array, read_index(token.as_bytes()));
-    }
-    value.as_object()?.find(token)
-}
-
-// The value that a JSON Pointer names, or where it stops and what it lacks there.
-#[inline(never)]
-fn follow<'tape, 'input>(
-    value: Value<'tape, 'input>,
-    pointer: &str,
-) -> Result<Value<'tape, 'input>, PointerError>
-    ensures { ok_map doc result ≡ pointed pointer.now (doc value.entry) }
-{
-    let (reached, followed) = walk(value, pointer);
-    if followed < pointer.len() {
-        return Err(PointerError {
-            index: followed,
-            expected: lack(reached, &pointer.as_bytes()[followed..]),
-            got: reached.value_type(),
-        });
-    }
-    Ok(reached)
 }
 
 // As far as the pointer leads: the value there, and how many bytes of the pointer were followed.
@@ -172,123 +112,102 @@ fn walk<'tape, 'input>(value: Value<'tape, 'input>, pointer: &str) -> (Value<'ta
     let bytes = pointer.as_bytes();
     let mut reached = value;
     let mut followed = 0;
-    while stands_at(bytes, followed, b'/') {
-        let Some((next, len)) = step(reached, &pointer[followed + 1..]) else {
+    while let Some(token) = next_token(bytes, followed) {
+        let text = &pointer[followed + 1..token.end];
+        let Some(next) = child(reached, text, token.is_plain) else {
             return (reached, followed);
         };
         reached = next;
-        followed += 1 + len;
+        followed = token.end;
     }
     (reached, followed)
 }
 
-// Whether this byte stands at an index.
-fn stands_at(bytes: &[u8], at: usize, byte: u8) -> bool
-    ensures { IsTrue result ↔ ((at < length bytes.now) × (slice_index bytes.now at ≡ byte)) }
-{
-    at < bytes.len() && bytes[at] == byte
+// Where a token of a pointer ends, and whether it is known to have no `~`.
+#[derive(Clone, Copy)]
+struct Found {
+    end: usize,
+    is_plain: bool,
 }
 
-// The value that the first token of what is left of a pointer names in another, and how long the token is.
-fn step<'tape, 'input>(
+// The token that the `/` at an index begins, or `None` where none is there.
+#[inline(always)]
+fn next_token(pointer: &[u8], at: usize) -> Option<Found>
+    ensures { MatchOption result (at < length pointer.now → slice_index pointer.now at ≢ slash)
+        (λ t. IsTokenAt pointer.now at t.end
+        × (t.is_plain ≡ true → IsPlain (slice_range pointer.now (at + 1) t.end))) }
+{
+    if at >= pointer.len() || pointer[at] != b'/' {
+        return None;
+    }
+    let rest = &pointer[at + 1..];
+    let front = front_len(rest, b'/', b'~');
+    if is_tilde_at(rest, front) {
+        return Some(Found {
+            end: at + 1 + front_len(rest, b'/', b'/'),
+            is_plain: false,
+        });
+    }
+    Some(Found {
+        end: at + 1 + front,
+        is_plain: true,
+    })
+}
+
+fn is_tilde_at(bytes: &[u8], at: usize) -> bool
+    ensures { IsTrue result ↔ ((at < length bytes.now) × (slice_index bytes.now at ≡ tilde)) }
+{
+    at < bytes.len() && bytes[at] == b'~'
+}
+
+// The value that a token names in another.
+#[inline(always)]
+fn child<'tape, 'input>(
     value: Value<'tape, 'input>,
-    left: &str,
-) -> Option<(Value<'tape, 'input>, usize)>
-    ensures named { option_map (λ r. doc r.0) result
-        ≡ result_ok (named (first_of (tokens left.now)) (doc value.entry)) }
-    ensures len { IfSome result (λ r. r.1 ≡ length (first_of (tokens left.now))) }
+    token: &str,
+    is_plain: bool,
+) -> Option<Value<'tape, 'input>>
+    requires { is_plain ≡ true → IsPlain token.now }
+    ensures { option_map doc result ≡ result_ok (named token.now (doc value.entry)) }
 {
     if let Some(array) = value.as_array() {
-        let token = first_token(left.as_bytes());
-        return Some((element(array, read_index(token))?, token.len()));
+        return element(array, token);
     }
-    member(value.as_object()?, left)
+    member(value.as_object()?, token, is_plain)
 }
 
-// The value of the first pair with the key that the first token is.
+// The value of the first pair with the key that a token is.
 #[inline(always)]
 fn member<'tape, 'input>(
     object: Object<'tape, 'input>,
-    left: &str,
-) -> Option<(Value<'tape, 'input>, usize)>
-    ensures named { option_map (λ r. doc r.0) result
-        ≡ result_ok (member_at (pairs object.entry) (unescaped (first_of (tokens left.now)))) }
-    ensures len { IfSome result (λ r. r.1 ≡ length (first_of (tokens left.now))) }
+    token: &str,
+    is_plain: bool,
+) -> Option<Value<'tape, 'input>>
+    requires { is_plain ≡ true → IsPlain token.now }
+    ensures { option_map doc result ≡ result_ok (member_at (pairs object.entry) (unescaped token.now)) }
 {
-    let bytes = left.as_bytes();
-    let len = front_len(bytes, b'/', b'~');
-    if stands_at(bytes, len, b'~') {
-        return escaped_member(object, left, len);
+    if is_plain {
+        return object.find(token);
     }
-    Some((object.find(&left[..len])?, len))
-}
-
-// The same where the token has an escape behind so many bytes. A token with one escape is compared as it stands:
-// what is before it, its byte, and what is after it.
-#[inline(never)]
-fn escaped_member<'tape, 'input>(
-    object: Object<'tape, 'input>,
-    left: &str,
-    before: usize,
-) -> Option<(Value<'tape, 'input>, usize)>
-    requires { before ≡ prefix_len (is_neither slash tilde) left.now }
-    ensures named { option_map (λ r. doc r.0) result
-        ≡ result_ok (member_at (pairs object.entry) (unescaped (first_of (tokens left.now)))) }
-    ensures len { IfSome result (λ r. r.1 ≡ length (first_of (tokens left.now))) }
-{
-    let bytes = left.as_bytes();
-    if stands_at(bytes, before, b'~')
-        && (stands_at(bytes, before + 1, b'0') || stands_at(bytes, before + 1, b'1'))
-    {
-        let rest = &bytes[before + 2..];
-        let after = front_len(rest, b'/', b'~');
-        if !stands_at(rest, after, b'~') {
-            let byte = unescaped_byte(bytes[before + 1]);
-            let value = token::find_around(object, &bytes[..before], byte, &rest[..after])?;
-            return Some((value, before + 2 + after));
+    for (key, value) in object.iter() {
+        if is_key(token.as_bytes(), key.as_bytes()) {
+            return Some(value);
         }
     }
-    decoded_member(object, left)
+    None
 }
 
-// The same of any token, whose key is decoded.
+// What the pointer lacks at the value, from which it does not go on after so many bytes.
 #[cold]
-fn decoded_member<'tape, 'input>(
-    object: Object<'tape, 'input>,
-    left: &str,
-) -> Option<(Value<'tape, 'input>, usize)>
-    ensures named { option_map (λ r. doc r.0) result
-        ≡ result_ok (member_at (pairs object.entry) (unescaped (first_of (tokens left.now)))) }
-    ensures len { IfSome result (λ r. r.1 ≡ length (first_of (tokens left.now))) }
+fn lack(value: Value<'_, '_>, pointer: &[u8], followed: usize) -> PointerExpected
+    requires some { followed < length pointer.now }
+    requires stopped { result_ok (first_step (drop followed pointer.now) (doc value)) ≡ None }
+    ensures { first_step (drop followed pointer.now) (doc value.entry) ≡ Err result }
 {
-    let len = first_token(left.as_bytes()).len();
-    let token = &left[..len];
-    let mut key = [0; 128];
-    let Some(key_len) = decode(token.as_bytes(), &mut key) else {
-        return None;
-    };
-    let key = held(token, &key, key_len);
-    Some((token::find(object, token, key, key_len)?, len))
-}
-
-// What the pointer, of which this is left, lacks at the value, from which it does not go on.
-#[cold]
-fn lack(value: Value<'_, '_>, left: &[u8]) -> PointerExpected
-    requires some { 0 < length left.now }
-    requires stopped { result_ok (first_step left.now (doc value)) ≡ None }
-    ensures { first_step left.now (doc value.entry) ≡ Err result }
-{
-    if left[0] != b'/' {
+    let Some(token) = next_token(pointer, followed) else {
         return PointerExpected::Slash;
-    }
-    lack_within(value, first_token(&left[1..]))
-}
-
-// What the token, which names nothing in the value, lacks there.
-fn lack_within(value: Value<'_, '_>, token: &[u8]) -> PointerExpected
-    requires { result_ok (named token.now (doc value)) ≡ None }
-    ensures { named token.now (doc value.entry) ≡ Err result }
-{
+    };
+    let token = &pointer[followed + 1..token.end];
     if value.is_array() {
         if is_index(token) {
             return PointerExpected::Element;
@@ -296,7 +215,7 @@ fn lack_within(value: Value<'_, '_>, token: &[u8]) -> PointerExpected
         return PointerExpected::Index;
     }
     if value.is_object() {
-        if decoded_len(token).is_some() {
+        if is_well_formed(token) {
             return PointerExpected::Key;
         }
         return PointerExpected::Escape;

@@ -50,7 +50,7 @@ fn front_len_by<const N: usize>(bytes: &[u8], one: u8, other: u8) -> usize
 
 // A bit for each of N bytes from an index on, whether it is one of two.
 #[inline(always)]
-pub(super) fn stops<const N: usize>(bytes: &[u8], from: usize, one: u8, other: u8) -> u64
+fn stops<const N: usize>(bytes: &[u8], from: usize, one: u8, other: u8) -> u64
     requires vector { N ≤ 32 }
     requires within { from + N ≤ length bytes.now }
     ensures { result ≡ mask_l (map (is_either one other) (chunk from N bytes.now)) }

@@ -1,69 +1,42 @@
 //! The array index that a reference token is (RFC 6901, section 4).
-ghost use Rattle.std.specs.Prelude.{◌≡◌, ◌+◌, ◌*◌, ℕ, Option, true, option_and_then, option_map};
+ghost use Rattle.std.specs.Prelude.{◌≡◌, option_and_then, option_map};
 ghost use Rattle.std.specs.Result.{result_ok};
-ghost use Rattle.simd_json.specs.Followed.{fits_64};
-ghost use Rattle.simd_json.specs.Pointed.{is_array_index, array_index, element_at};
-ghost use Rattle.simd_json.specs.Viewed.{doc, docs};
-ghost use Rattle.std.specs.Char.{is_ascii_digit, digit_value};
+ghost use Rattle.std.specs.Char.{is_ascii_digit};
 ghost use Rattle.std.specs.List.{list_all};
+ghost use Rattle.simd_json.specs.Followed.{fits_64};
+ghost use Rattle.simd_json.specs.Pointed.{array_index, element_at, is_array_index};
+ghost use Rattle.simd_json.specs.Viewed.{doc, docs};
 
 use crate::value::tape::{Array, Value};
 
-// The element with an index, which 64 bits hold where there is one.
+// The element whose index the token is.
 #[inline(always)]
 pub(super) fn element<'tape, 'input>(
     array: Array<'tape, 'input>,
-    index: Option<usize>,
+    token: &str,
 ) -> Option<Value<'tape, 'input>>
-    ensures { (i : Option ℕ) → index ≡ option_and_then fits_64 i
-        → option_map doc result ≡ result_ok (element_at (docs array.entry) i) }
+    ensures { option_map doc result ≡ result_ok (element_at (docs array.entry) (array_index token.now)) }
 {
-    let Some(index) = index else {
-        return None;
-    };
-    array.get(index)
+    array.get(read_index(token)?)
 }
 
 // The array index that the token is, where 64 bits hold it.
 #[inline(always)]
-pub(super) fn read_index(token: &[u8]) -> Option<usize>
+fn read_index(token: &str) -> Option<usize>
     ensures { result ≡ option_and_then fits_64 (array_index token.now) }
 {
-    if token.len() == 1 && token[0].is_ascii_digit() {
-        return Some(usize::from(token[0] - b'0'));
+    let digits = token.as_bytes();
+    if digits.len() == 1 && digits[0].is_ascii_digit() {
+        return Some(usize::from(digits[0] - b'0'));
     }
-    read_digits(token)
-}
-
-// The same, digit by digit.
-#[inline(never)]
-fn read_digits(token: &[u8]) -> Option<usize>
-    ensures { result ≡ option_and_then fits_64 (array_index token.now) }
-{
-    if !is_index(token) {
+    if !is_index(digits) {
         return None;
     }
-    let mut index = 0usize;
-    for byte in token {
-        let Some(longer) = with_digit(index, *byte) else {
-            return None;
-        };
-        index = longer;
-    }
-    Some(index)
-}
-
-// The number with one more digit, where 64 bits hold it.
-fn with_digit(number: usize, digit: u8) -> Option<usize>
-    requires { is_ascii_digit digit ≡ true }
-    ensures { result ≡ fits_64 (number * 10 + digit_value digit) }
-{
-    number
-        .checked_mul(10)?
-        .checked_add(usize::from(digit - b'0'))
+    token.parse().ok()
 }
 
 // Whether the token is an array index.
+#[inline(never)]
 pub(super) fn is_index(token: &[u8]) -> bool
     ensures { result ≡ is_array_index token.now }
 {

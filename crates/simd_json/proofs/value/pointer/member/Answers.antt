@@ -1,32 +1,37 @@
-use Rattle.std.proofs.Common.{◌∙◌, ap, sym, option_map, true≢false}
-use Rattle.simd_json_parts.specs.Views.{first_with}
+use Rattle.std.proofs.Common.{◌≡◌, ◌∙◌, ap, sym, refl, Some, true≢false}
+use Rattle.simd_json.specs.Pointed.{unescaped}
 use Rattle.simd_json.specs.Viewed.{doc, pairs}
-use Rattle.simd_json.proofs.Fronts.{plain-front, range-front}
-use Rattle.simd_json.proofs.Splitting.{member-plain}
+use Rattle.simd_json.proofs.Keys.{member-plain}
+use Rattle.simd_json.proofs.Pointed.{found, member-here, member-later, member-none}
+use Rattle.simd_json.proofs.Split.{members_cancel}
 use Rattle.simd_json.proofs.value.pointer.member.Goals as goal
 
-pub range-requires-clause-end_boundary : goal.range-requires-clause-end_boundary
-range-requires-clause-end_boundary c =
-    (plain-front c.args.left.now _ c.front_len-len.result c.as_bytes-bytes.ensures.value c.front_len-len.ensures
-    (λ less e. true≢false (sym (c.if-stands_at.ensures.1 (less, e))))).boundary
+pub returns-then-is_plain : goal.returns-then-is_plain
+returns-then-is_plain c =
+    c.find.ensures ∙ sym (member-plain (pairs c.args.object) c.args.token.now (c.requires c.if-is_plain.true))
 
-pub returns-in_err-find-clause-named : goal.returns-in_err-find-clause-named
-returns-in_err-find-clause-named c =
-    let front = plain-front c.args.left.now _ c.front_len-len.result c.as_bytes-bytes.ensures.value c.front_len-len.ensures
-    (λ less e. true≢false (sym (c.if-stands_at.ensures.1 (less, e)))) in
-    let ms = pairs c.args.object in
-    ap (option_map (λ r. doc r.0)) c.from_residual.ensures ∙ c.in_err-find.ensures
-    ∙ ap (λ t. first_with t ms) (c.range.ensures.value ∙ range-front _ _ ∙ sym front.token) ∙ sym (member-plain ms _ front.plain)
+pub loop-key-init : goal.loop-key-init
+loop-key-init c =
+    ap (λ it. found c.args.token.now (pairs it.left)) c.into_iter-key-iterator.ensures.into_iter_gives
+    ∙ ap (found c.args.token.now) (members_cancel _ (pairs c.args.object) c.iter-key-items.ensures)
 
-pub returns-clause-named : goal.returns-clause-named
-returns-clause-named c =
-    let front = plain-front c.args.left.now _ c.front_len-len.result c.as_bytes-bytes.ensures.value c.front_len-len.ensures
-    (λ less e. true≢false (sym (c.if-stands_at.ensures.1 (less, e)))) in
-    let ms = pairs c.args.object in
-    c.in_ok-find.ensures ∙ ap (λ t. first_with t ms) (c.range.ensures.value ∙ range-front _ _ ∙ sym front.token)
-    ∙ sym (member-plain ms _ front.plain)
+pub returns-then-is_key : goal.returns-then-is_key
+returns-then-is_key c =
+    let t = c.args.token.now in
+    let name = ap unescaped (sym c.as_bytes.ensures.value) ∙ c.if-is_key.ensures.0 refl
+    ∙ ap Some c.as_bytes-in-loop-key.ensures.value in
+    sym (member-here (unescaped t) c.in-Some.key.now (doc c.in-Some.value) _ (pairs c.next.new.self.left) c.in-Some.ensures.steps name)
+    ∙ c.loop-key.invariant
 
-pub returns-clause-len : goal.returns-clause-len
-returns-clause-len c =
-    (plain-front c.args.left.now _ c.front_len-len.result c.as_bytes-bytes.ensures.value c.front_len-len.ensures
-    (λ less e. true≢false (sym (c.if-stands_at.ensures.1 (less, e))))).len
+pub loop-key-preserved : goal.loop-key-preserved
+loop-key-preserved c =
+    let t = c.args.token.now in
+    let key = c.in-Some.key.now in
+    let other : unescaped t ≡ Some key → ⊥ =
+    λ is. true≢false (sym (c.if-is_key.ensures.1
+    (ap unescaped c.as_bytes.ensures.value ∙ is ∙ ap Some (sym c.as_bytes-in-loop-key.ensures.value)))) in
+    sym (member-later (unescaped t) key (doc c.in-Some.value) _ (pairs c.next.new.self.left) c.in-Some.ensures.steps other)
+    ∙ c.loop-key.invariant
+
+pub returns : goal.returns
+returns c = sym (member-none (unescaped c.args.token.now) _ c.in-None.ensures.steps.0) ∙ c.loop-key.invariant

@@ -3,10 +3,10 @@ use Rattle.simd_json.specs.Pointed.{pointed, pointed_from}
 use Rattle.simd_json.specs.Viewed.{doc}
 use Rattle.simd_json.proofs.value.pointer.walk.Given as goal
 
-abbrev pub invariant-loop-bytes : goal.invariant-loop-bytes
-invariant-loop-bytes l =
+abbrev pub invariant-loop-token : goal.invariant-loop-token
+invariant-loop-token l =
     (l.followed ≤ length l.pointer)
     × (pointed l.pointer (doc l.fn.value) ≡ pointed_from l.followed (drop l.followed l.pointer) (doc l.reached))
 
-abbrev pub decreases-loop-bytes : goal.decreases-loop-bytes
-decreases-loop-bytes l = length l.pointer - l.followed
+abbrev pub decreases-loop-token : goal.decreases-loop-token
+decreases-loop-token l = length l.pointer - l.followed

@@ -1,46 +1,70 @@
-use Rattle.std.proofs.Common.{◌≡◌, ◌∙◌, ap, sym, [], map, None, Some, option_map, arith}
+use Rattle.std.proofs.Common.{◌∙◌, ap, sym, option_map, take, arith}
 use Rattle.std.proofs.lemmas.List.{drop_all}
-use Rattle.simd_json.specs.Splitting.{part_of}
+use Rattle.std.proofs.lemmas.Str.{IsCharBoundary-after_ascii}
+use Rattle.std.specs.Result.{result_ok}
+use Rattle.simd_json.specs.Pointed.{named, pointed}
 use Rattle.simd_json.specs.Viewed.{doc}
-use Rattle.simd_json.proofs.Splitting.{led, led-first, kept-first, kept-others, pointed-led}
+use Rattle.simd_json.proofs.Pointed.{boundary, further, some-left, stop-of, stuck-at-token, whole}
+use Rattle.simd_json.proofs.Splitting.{kept-all, kept-next}
 use Rattle.simd_json.proofs.value.tape.value.Value.at.Goals as goal
+
+pub range-token-requires-clause-start_le_end : goal.range-token-requires-clause-start_le_end
+range-token-requires-clause-start_le_end g c =
+    let l = c.loop-end in
+    let s = c.args.pointer.now in
+    let next = kept-next c.as_str-text.result.now l.at l.end-index (take s.len s.ends) l.invariant.begins (omega arith) l.invariant.split in
+    omega (arith, next.at.within)
+
+pub range-token-requires-clause-start_boundary : goal.range-token-requires-clause-start_boundary
+range-token-requires-clause-start_boundary g c some =
+    let l = c.loop-end in
+    let s = c.args.pointer.now in
+    let p = c.as_str-text.result.now in
+    let next = kept-next p l.at l.end-index (take s.len s.ends) l.invariant.begins (omega arith) l.invariant.split in
+    IsCharBoundary-after_ascii p l.at c.as_str-text.utf8 next.at.begins.0 (omega (arith, next.at.begins.1))
+
+pub range-token-requires-clause-end_boundary : goal.range-token-requires-clause-end_boundary
+range-token-requires-clause-end_boundary g c =
+    let l = c.loop-end in
+    let s = c.args.pointer.now in
+    let p = c.as_str-text.result.now in
+    let next = kept-next p l.at l.end-index (take s.len s.ends) l.invariant.begins (omega arith) l.invariant.split in
+    boundary p l.at _ next.at
 
 pub returns-in_err-reached : goal.returns-in_err-reached
 returns-in_err-reached g c =
-    let p = c.args.pointer.now in
-    let d = doc c.args.self.now in
-    let l = c.loop-part in
+    let l = c.loop-end in
+    let s = c.args.pointer.now in
+    let p = c.as_str-text.result.now in
+    let d = doc l.reached in
+    let next = kept-next p l.at l.end-index (take s.len s.ends) l.invariant.begins (omega arith) l.invariant.split in
+    let nowhere = ap (λ t. result_ok (named t d)) (sym c.range-token.ensures.value) ∙ sym c.in_err-reached.ensures in
     ap (option_map doc) c.from_residual.ensures
     ∙ sym
-    (pointed-led p.text.now d p.formed ∙ ap (λ ts. led ts d) (sym p.all) ∙ sym l.invariant.led
-    ∙ led-first (part_of p.text.now) l.left.now c.in-Some.part.now c.in-Some.others.now
-    (doc l.reached) None c.in-Some.ensures.cases.0 c.in_err-reached.ensures)
+    (ap (λ t. result_ok (pointed t (doc c.args.self.now))) (sym c.as_str-text.ensures) ∙ ap result_ok l.invariant.led
+    ∙ stop-of l.at _ d (some-left p l.at next.at.begins.0) (stuck-at-token p l.at _ d next.at nowhere))
 
-pub find-requires : goal.find-requires
-find-requires g c =
-    kept-first c.args.pointer.now.text.now c.loop-part.left.now c.in-Some.part.now c.in-Some.others.now c.in-Some.ensures.cases.0
-    c.loop-part.invariant.kept
-
-pub loop-part-preserved : goal.loop-part-preserved
-loop-part-preserved g c =
-    let p = c.args.pointer.now in
-    let l = c.loop-part in
-    let first = c.in-Some.ensures.cases.0 in
-    let next = Some (doc c.in_ok-reached.reached) in
+pub loop-end-preserved : goal.loop-end-preserved
+loop-end-preserved g c =
+    let l = c.loop-end in
+    let s = c.args.pointer.now in
+    let p = c.as_str-text.result.now in
+    let d = doc l.reached in
+    let next = kept-next p l.at l.end-index (take s.len s.ends) l.invariant.begins (omega arith) l.invariant.split in
+    let leads = ap (λ t. result_ok (named t d)) (sym c.range-token.ensures.value) ∙ sym c.in_ok-reached.ensures in
     record {
-      kept = kept-others p.text.now l.left.now c.in-Some.part.now c.in-Some.others.now first l.invariant.kept;
-      led =
-          sym (led-first (part_of p.text.now) l.left.now c.in-Some.part.now c.in-Some.others.now
-          (doc l.reached) next first c.in_ok-reached.ensures)
-          ∙ l.invariant.led;
+      within = next.at.within.1;
+      begins = next.at.goes_on;
+      split = next.others;
+      led = l.invariant.led ∙ further p l.at _ d (doc c.in_ok-reached.reached) next.at leads;
     }
 
 pub returns : goal.returns
 returns g c =
-    let p = c.args.pointer.now in
-    let d = doc c.args.self.now in
-    let l = c.loop-part in
-    let none : l.left.now ≡ [] = drop_all 0 l.left.now (omega (arith, c.in_default.ensures)) in
+    let l = c.loop-end in
+    let s = c.args.pointer.now in
+    let p = c.as_str-text.result.now in
+    let none = sym l.invariant.split ∙ drop_all l.end-index (take s.len s.ends) (omega arith) in
     sym
-    (pointed-led p.text.now d p.formed ∙ ap (λ ts. led ts d) (sym p.all) ∙ sym l.invariant.led
-    ∙ ap (λ ss. led (map (part_of p.text.now) ss) (doc l.reached)) none)
+    (ap (λ t. result_ok (pointed t (doc c.args.self.now))) (sym c.as_str-text.ensures) ∙ ap result_ok l.invariant.led
+    ∙ ap result_ok (whole l.at p (doc l.reached) (kept-all p l.at none)))

@@ -1,16 +1,13 @@
-use Rattle.std.proofs.Common.{◌≡◌, length, map, take}
-use Rattle.std.specs.Prelude.{All}
-use Rattle.simd_json.specs.Splitting.{IsToken, part_of}
+use Rattle.std.proofs.Common.{◌≡◌, ◌≤◌, ◌<◌, get_or, length, drop, take}
+use Rattle.simd_json.specs.Followed.{ends_from, tokens_after}
+use Rattle.simd_json.specs.Pointed.{pointed, pointed_from}
 use Rattle.simd_json.specs.Viewed.{doc}
-use Rattle.simd_json.proofs.Splitting.{led}
 use Rattle.simd_json.proofs.value.tape.value.Value.at.Given as goal
 
-abbrev pub invariant-loop-part : goal.invariant-loop-part
-invariant-loop-part g l =
-    let tokens = map (part_of l.pointer.text.now) in record {
-      kept : All (IsToken l.pointer.text.now) l.left;
-      led : led (tokens l.left) (doc l.reached) ≡ led (tokens (take l.pointer.len l.pointer.parts)) (doc l.self);
-    }
-
-abbrev pub decreases-loop-part : goal.decreases-loop-part
-decreases-loop-part g l = length l.left
+abbrev pub invariant-loop-end : goal.invariant-loop-end
+invariant-loop-end g l = record {
+  within : l.at ≤ length l.text;
+  begins : l.at < length l.text → get_or l.text l.at 0 ≡ 47;
+  split : drop l.end-index (take l.pointer.len l.pointer.ends) ≡ ends_from l.at (tokens_after (drop l.at l.text));
+  led : pointed l.text (doc l.self) ≡ pointed_from l.at (drop l.at l.text) (doc l.reached);
+}
