@@ -22,7 +22,7 @@ jtape: proved-jtape
 	@sh scripts/prove.sh jtape_main run $(cpu) -- tape < examples/nested-list.json
 	cp crates/jtape_main/out/jtape_main build/jtape
 
-jcheck: proved-simd_json
+jcheck: proved-jtape
 	@nice sh scripts/prove.sh jcheck run $(cpu) -- $(CURDIR)/examples/nested-list.json
 	cp crates/jcheck/out/jcheck build/jcheck
 
