@@ -130,7 +130,8 @@ pub extern "C" fn simd_json_close(alloc: Global, parser: &mut Parser)
     let _lists = replace(parser, Parser::closed(alloc)).into_lists();
 }
 
-/// Owns the lists that its pointer refers to, if any. Not exported.
+/// An optional box of lists, as C holds it: it owns the lists that its pointer refers to, if any. Not
+/// exported.
 // Dropping it would leak them: only one without lists is dropped.
 #[repr(C)]
 #[derive(Drop)]
@@ -176,6 +177,7 @@ impl Held {
     }
 }
 
+// A box as its pointer.
 pub(crate) struct Loose<T, A: Allocator> {
     pub(crate) at: *mut T,
     pub(crate) alloc: A,
