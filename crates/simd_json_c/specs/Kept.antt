@@ -8,7 +8,7 @@ use Rattle.simd_json_c.specs.Statuses.{out_of_memory, parser_closed, place_of}
 use Rattle.simd_json_c.specs.Calls.{IsLent, IsTold}
 use Rattle.simd_json_c.specs.declared.nodes.Node.{Node}
 use Rattle.simd_json_c.specs.declared.nodes.Room.{Room}
-use Rattle.simd_json_c.specs.declared.lists.Lists.{Lists}
+use Rattle.simd_json_c.specs.declared.tape.Lists.{Lists}
 use Rattle.simd_json_c.specs.declared.status.Place.{Place}
 
 -- within the same limit, and no capacity is given up

@@ -4,27 +4,18 @@
 //! nothing for it. No export has a precondition.
 #![tactic(auto)]
 
-mod check;
 mod copies;
-mod counted;
-mod held;
-mod lists;
-mod loose;
-mod names;
 mod nodes;
-mod noted;
 mod parser;
 mod print;
 mod sink;
 mod status;
 mod tape;
 
-pub use check::simd_json_check;
-pub use names::{simd_json_kind_name, simd_json_status_name};
 pub use nodes::{Node, Room};
 pub use parser::{
     Parser, simd_json_close, simd_json_open, simd_json_parser_check, simd_json_parser_tape,
 };
 pub use print::{simd_json_compact, simd_json_pretty};
-pub use status::Place;
-pub use tape::simd_json_tape;
+pub use status::{Place, simd_json_kind_name, simd_json_status_name};
+pub use tape::{simd_json_check, simd_json_tape};

@@ -1,16 +1,19 @@
 //! A parser that C keeps: its lists are used by one parse after another.
 //!
 //! It is a box, held as a pointer and a flag. A struct of zeros is a closed parser, so null is
-//! never tested, and `open` returns no pointer.
-ghost use Rattle.std.specs.Prelude.{◌≡◌, Some, None, is_some, MatchOption, IfSome};
+//! never tested, and `open` returns no pointer. Small functions turn the pointer into the box and
+//! back, each proved by hand; the rest is safe code.
+ghost use Rattle.std.specs.Prelude.{◌≡◌, ◌≢◌, Option, Some, None, is_some, MatchOption, IfSome};
 ghost use Rattle.simd_json_c.specs.Kept.{IsCheckedWith, IsOpened, IsTapeWith, new_lists};
+ghost use Rattle.simd_json_c.specs.Holding.{held};
+ghost use Rattle.simd_json_c.specs.declared.tape.Lists.{Lists};
+ghost use Rattle.std.specs.Box.Ownership.{box_owns};
 
-use crate::held::Held;
-use crate::lists::Lists;
-use crate::loose::Loose;
 use crate::nodes::{Node, Room};
 use crate::status::{OUT_OF_MEMORY, PARSER_CLOSED, Place, reported};
-use std::alloc::Global;
+use crate::tape::Lists;
+use std::alloc::{Allocator, Global};
+use std::marker::Model;
 use std::mem::replace;
 
 /// An open or a closed parser; one of zeros is closed.
@@ -125,4 +128,78 @@ pub extern "C" fn simd_json_close(alloc: Global, parser: &mut Parser)
     ensures { parser.new.held.value ≡ None }
 {
     let _lists = replace(parser, Parser::closed(alloc)).into_lists();
+}
+
+/// An optional box of lists, as C holds it: it owns the lists that its pointer refers to, if any. Not
+/// exported.
+// Dropping it would leak them: only one without lists is dropped.
+#[repr(C)]
+#[derive(Drop)]
+pub struct Held {
+    at: *mut u8,
+    alloc: Global,
+    pub(crate) ghost value: { Option Lists },
+}
+
+impl Model for Held {
+    ghost also_owns = { λ h. held h.alloc h.at h.value };
+}
+
+impl Held {
+    pub(crate) fn empty(alloc: Global) -> Held
+        ensures { result.value ≡ None }
+    {
+        Held {
+            at: std::ptr::null_mut(),
+            alloc,
+        }
+    }
+
+    pub(crate) fn full(lists: Loose<Lists, Global>) -> Held
+        ensures { result.value ≡ Some lists.value }
+    {
+        let Loose { at, alloc } = lists;
+        Held {
+            at: at as *mut u8,
+            alloc,
+        }
+    }
+
+    pub(crate) fn into_loose(self) -> Loose<Lists, Global>
+        requires { self.value ≢ None }
+        ensures { Some result.value ≡ self.value }
+    {
+        let Held { at, alloc } = self;
+        Loose {
+            at: at as *mut Lists,
+            alloc,
+        }
+    }
+}
+
+// A box as its pointer.
+pub(crate) struct Loose<T, A: Allocator> {
+    pub(crate) at: *mut T,
+    pub(crate) alloc: A,
+    pub(crate) ghost value: { T },
+}
+
+impl<T, A: Allocator> Model for Loose<T, A> {
+    ghost also_owns = { λ l. box_owns (A.dealloc_token l.alloc) T.row l.at l.value };
+}
+
+impl<T: Drop, A: Allocator> Loose<T, A> {
+    pub(crate) fn of(value: Box<T, A>) -> Loose<T, A>
+        ensures { result.value ≡ value.value }
+    {
+        let (at, alloc) = Box::into_raw_with_allocator(value);
+        Loose { at, alloc }
+    }
+
+    pub(crate) fn into_box(self) -> Box<T, A>
+        ensures { result.value ≡ self.value }
+    {
+        let Loose { at, alloc } = self;
+        unsafe { Box::from_raw(alloc, at) }
+    }
 }

@@ -1,16 +1,20 @@
-//! The sink of the C library: the second stage writes to memory of the caller. What does not fit is
-//! counted, so that the caller learns how much room it needs.
+//! The sinks of the C library: the caller's memory, where what does not fit is counted, so that the
+//! caller learns how much room it needs, and one that keeps nothing, which checks that an input is a
+//! document. A ghost record says which nodes were appended, also those that did not fit or were not
+//! kept.
 ghost use Rattle.std.specs.Prelude.{◌≡◌, ◌≤◌, ◌<◌, ◌+◌, ◌++◌, ℕ, List, drop, length, min, slice_set, take};
 ghost use Rattle.simd_json_parts.specs.Nodes.{static_item};
 ghost use Rattle.simd_json_parts.specs.Limits.{max_length};
 ghost use Rattle.simd_json_stages.specs.Building.{header_of};
 ghost use Rattle.simd_json_c.specs.Loans.{AreLaid, AreTextsLaid, Loan, is_headed, noting, text_item};
 ghost use Rattle.simd_json_c.specs.Nodes.{node_of, texts};
+ghost use base.Fml.{ftrue};
+ghost use Rattle.simd_json_c.specs.Notes.{Note};
 
 use crate::copies::append;
 use crate::nodes::{Node, span_of, static_of};
-use crate::noted::Noted;
 use simd_json::{Container, NodeSink, StaticNode};
+use std::marker::Model;
 
 // Nodes and texts in the caller's memory, and how many there are, written or not.
 #[derive(Drop)]
@@ -178,4 +182,89 @@ fn write_both(
 {
     write_node(nodes, count, node);
     write_text(text, used, bytes);
+}
+
+// The counts of a sink without nodes.
+#[derive(Drop)]
+pub(crate) struct Counted {
+    // how many nodes were appended
+    pub(crate) count: usize,
+    // whether the first node is the header of a container
+    pub(crate) is_container: bool,
+    // the ghost record of the nodes
+    pub(crate) noted: Noted,
+    ghost counted: { count ≡ length noted.note.items },
+    ghost headed: { is_container ≡ is_headed noted.note.items },
+}
+
+impl<'de> NodeSink<'de> for Counted {
+    ghost held_nodes = { λ s. s.noted.note.items };
+
+    ghost node_room = { λ _. max_length };
+
+    ghost Lender = { Unit {0} };
+
+    ghost lender = { λ _. tt };
+
+    #[inline(always)]
+    fn len(&self) -> usize {
+        self.count
+    }
+
+    #[inline(always)]
+    fn push_string(&mut self, string: &'de str) {
+        self.count += 1;
+        self.noted = Noted::of(&(&self.noted, string));
+    }
+
+    #[inline(always)]
+    fn push_decimal(&mut self, literal: &'de str) {
+        self.count += 1;
+        self.noted = Noted::of(&(&self.noted, literal));
+    }
+
+    #[inline(always)]
+    fn push_static(&mut self, value: StaticNode) {
+        self.count += 1;
+        self.noted = Noted::of(&(&self.noted, value));
+    }
+
+    #[inline(always)]
+    fn push_header(&mut self, container: Container) {
+        self.is_container |= self.count == 0;
+        self.count += 1;
+        self.noted = Noted::of(&(&self.noted, container));
+    }
+
+    #[inline(always)]
+    fn set_counts(&mut self, header: usize, container: Container, len: usize, count: usize) {
+        self.noted = Noted::of(&(&self.noted, header, container, len, count));
+    }
+
+    #[inline(always)]
+    fn starts_with_header(&self) -> bool {
+        self.is_container
+    }
+}
+
+// The record. It has no bytes at run time, and only clauses determine `note`.
+#[derive(Drop)]
+pub(crate) struct Noted {
+    pub(crate) ghost note: { Note },
+}
+
+impl Model for Noted {
+    ghost also_owns = { λ _. ftrue };
+}
+
+impl Noted {
+    // The record that the caller's proof chooses; `seen` makes its values available to that proof.
+    #[inline(always)]
+    pub(crate) fn of<T>(seen: &T) -> Noted
+        ghost note: { Note }
+        ensures { result.note ≡ note }
+    {
+        let _ = seen;
+        Noted {}
+    }
 }

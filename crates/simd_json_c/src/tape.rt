@@ -1,14 +1,20 @@
-//! The nodes of a document.
-ghost use Rattle.std.specs.Prelude.{◌≡◌, ◌≤◌, List, length, IfOk, IfErr, Some, None};
-ghost use Rattle.simd_json_c.specs.Calls.{ArePut, IsRead, IsTape};
-ghost use Rattle.simd_json_c.specs.Nodes.{room_for};
+//! Checks and tapes of documents, with lists that parses use one after another.
+ghost use Rattle.std.specs.Prelude.{◌≡◌, ◌≤◌, List, length, IfOk, IfErr, Some, None, pos, [], min, MatchResult};
+ghost use Rattle.simd_json_c.specs.Calls.{ArePut, IsRead, IsTape, IsChecked};
+ghost use Rattle.simd_json_c.specs.Nodes.{room_for, texts};
 ghost use Rattle.simd_json_parts.specs.Nodes.{Item};
+ghost use Rattle.std.specs.Result.{result_err};
+ghost use Rattle.simd_json.specs.Capacities.{KeepsCapacities, capacity};
+ghost use Rattle.simd_json.specs.Parsed.{IsParse, written};
+ghost use Rattle.simd_json_c.specs.Kept.{IsReadWith, KeepsLists, new_lists};
+ghost use Rattle.simd_json_c.specs.Loans.{AreLaid, AreTextsLaid};
 
-use crate::lists::Lists;
 use crate::nodes::{Node, Room};
-use crate::status::{Place, reported};
-use simd_json::Result;
+use crate::sink::{CallerSink, Counted, Noted};
+use crate::status::{Place, TOO_LITTLE_ROOM, reported};
+use simd_json::{Buffers, Original, Result, fill_sink};
 use std::alloc::Global;
+use std::marker::Brand;
 
 fn tape(
     alloc: Global,
@@ -44,4 +50,146 @@ pub extern "C" fn simd_json_tape(
         nodes.old nodes.new text.old text.new }
 {
     reported(tape(alloc, input, max_depth, nodes, text, room), place)
+}
+
+fn check(alloc: Global, input: &mut [u8], max_depth: usize) -> Result<i32>
+    ensures read { (ns : List Item) × IsRead input.old max_depth (result_err result) ns }
+    ensures zero { IfOk result (λ status. status ≡ pos 0) }
+{
+    Lists::new(alloc, max_depth)?.check(input)
+}
+
+/// Whether the input is a document with at most `max_depth` containers open at a time.
+#[unsafe(no_mangle)]
+pub extern "C" fn simd_json_check(
+    alloc: Global,
+    input: &mut [u8],
+    max_depth: usize,
+    place: &mut Place,
+) -> i32
+    ensures { IsChecked input.old max_depth result place.new }
+{
+    reported(check(alloc, input, max_depth), place)
+}
+
+/// Buffers whose memory the next parse uses.
+#[derive(Drop)]
+pub struct Lists {
+    // the lists of the first stage, the stack of the second, and the depth limit
+    pub(crate) buffers: Buffers,
+}
+
+impl Lists {
+    // Lists with this depth limit, which hold no memory yet.
+    pub(crate) fn new(alloc: Global, max_depth: usize) -> Result<Lists>
+        ensures { MatchResult result (λ lists. lists ≡ new_lists max_depth) (λ _. ⊥) }
+    {
+        let buffers = Buffers::with_max_depth(alloc, 0, max_depth)?;
+        Ok(Lists { buffers })
+    }
+
+    // Returns 0 if the input is a document, or its error.
+    pub(crate) fn check(&mut self, input: &mut [u8]) -> Result<i32>
+        ensures read { (ns : List Item) × IsReadWith self.old input.old (result_err result) ns self.new }
+        ensures zero { IfOk result (λ status. status ≡ pos 0) }
+        ensures kept { KeepsLists self.old self.new }
+    {
+        count::<Brand>(&mut self.buffers, input)?;
+        Ok(0)
+    }
+
+    // Writes the nodes of a document and their texts to the caller's memory, and to `room` how much
+    // of both they need. Returns 0, or `TOO_LITTLE_ROOM` if one of them does not fit.
+    pub(crate) fn tape(
+        &mut self,
+        input: &mut [u8],
+        nodes: &mut [Node],
+        text: &mut [u8],
+        room: &mut Room,
+    ) -> Result<i32>
+        ensures lent { IfOk result (λ status. (ns : List Item) × IsReadWith self.old input.old None ns self.new
+            × (room.new ≡ room_for ns) × ArePut ns status nodes.old nodes.new text.old text.new) }
+        ensures few { IfOk result (λ _.
+            (room.new.nodes ≤ length input.old) × (room.new.text ≤ length input.old)) }
+        ensures refused { IfErr result (λ e. (ns : List Item) × IsReadWith self.old input.old (Some e) ns self.new
+            × (room.new ≡ room.old)) }
+        ensures kept { KeepsLists self.old self.new }
+    {
+        let (nodes_len, text_len) = (nodes.len(), text.len());
+        let needed = write::<Brand>(&mut self.buffers, input, nodes, text)?.room;
+        *room = needed;
+        if needed.nodes <= nodes_len && needed.text <= text_len {
+            Ok(0)
+        } else {
+            Ok(TOO_LITTLE_ROOM)
+        }
+    }
+}
+
+// Parses the input, and keeps none of its nodes.
+fn count<K: Original>(buffers: &mut Buffers, input: &mut [u8]) -> Result<()>
+    requires { input.old ≡ K.bytes }
+    ensures read { (ns : List Item) × IsParse K.bytes buffers.old.limit (capacity buffers.old)
+        (result_err result) ns buffers.new.positions }
+    ensures kept { (buffers.new.limit ≡ buffers.old.limit) × KeepsCapacities buffers.old buffers.new }
+{
+    let mut sink = Counted {
+        count: 0,
+        is_container: false,
+        noted: Noted::of(&()),
+    };
+    fill_sink::<K, Counted, Global>(input, buffers, &mut sink)
+}
+
+// What `write` returns.
+#[derive(Drop)]
+struct Written {
+    // how many nodes and bytes of text the document needs
+    room: Room,
+    // the ghost record of its nodes
+    noted: Noted,
+}
+
+// Writes the nodes of a document and their texts, as far as they fit.
+fn write<K: Original>(
+    buffers: &mut Buffers,
+    input: &mut [u8],
+    nodes: &mut [Node],
+    text: &mut [u8],
+) -> Result<Written>
+    requires { input.old ≡ K.bytes }
+    ensures read { MatchResult result
+        (λ w. IsParse K.bytes buffers.old.limit (capacity buffers.old) None w.noted.note.items buffers.new.positions)
+        (λ e. IsParse K.bytes buffers.old.limit (capacity buffers.old) (Some e) [] buffers.new.positions) }
+    ensures room { IfOk result (λ w. (w.room.nodes ≡ length w.noted.note.items)
+        × (w.room.text ≡ min (length (texts w.noted.note.items)) 18446744073709551615)) }
+    ensures before { IfOk result (λ w. (w.noted.note.nodes_before ≡ nodes.old)
+        × (w.noted.note.text_before ≡ text.old)) }
+    ensures nodes { IfOk result (λ w. AreLaid w.noted.note nodes.new) }
+    ensures text { IfOk result (λ w. AreTextsLaid w.noted.note text.new) }
+    ensures kept { (buffers.new.limit ≡ buffers.old.limit) × KeepsCapacities buffers.old buffers.new }
+{
+    let noted = Noted::of(&(&*nodes, &*text));
+    let mut sink = CallerSink {
+        nodes,
+        count: 0,
+        text,
+        used: 0,
+        is_container: false,
+        noted,
+    };
+    fill_sink::<K, CallerSink<'_>, Global>(input, buffers, &mut sink)?;
+    let CallerSink {
+        nodes: _nodes,
+        count,
+        text: _text,
+        used,
+        is_container: _,
+        noted,
+    } = sink;
+    let room = Room {
+        nodes: count,
+        text: used,
+    };
+    Ok(Written { room, noted })
 }
