@@ -7,7 +7,7 @@ use Rattle.std.proofs.lemmas.Bool.Decides.{nat_tests}
 use Rattle.std.proofs.lemmas.List.Sums.{prefix_len-le-length, prefix_len_passes, prefix_len_stops}
 use lib.Count.{count_trailing_zeros}
 use lib.Lanes.{chunk, mask_l}
-use Rattle.simd_json_scalars.proofs.Lists.LaneRuns.{run-ends, run-through}
+use Rattle.simd_json_parts.proofs.Lists.LaneRuns.{run-ends, run-through}
 use Rattle.simd_json.specs.Followed.{IsPlain, IsTokenAt, is_either, is_neither}
 use Rattle.simd_json.proofs.Pointed.{plain-to, token-to}
 

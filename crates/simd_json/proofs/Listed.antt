@@ -2,9 +2,9 @@
 use Rattle.std.proofs.Common.{◌≡◌, ◌≢◌, ◌∙◌, ap, sym, refl, ℕ, zero, suc, pos, neg_ℤ, Bool, true, List, [], ◌∷◌, ◌++◌, length}
 use Rattle.std.proofs.Common.{get_or, map, drop, append_assoc, arith, inl, inr}
 use Rattle.std.proofs.lemmas.List.{append-nil}
-use Rattle.simd_json_scalars.proofs.Documents.Listing.{IsHeaded-document}
-use Rattle.simd_json_scalars.proofs.Documents.Fronts.{sized}
-use Rattle.simd_json_scalars.proofs.Documents.Integers.{of-integer_node}
+use Rattle.simd_json_parts.proofs.Documents.Listing.{IsHeaded-document}
+use Rattle.simd_json_parts.proofs.Documents.Fronts.{sized}
+use Rattle.simd_json_parts.proofs.Documents.Integers.{of-integer_node}
 use Rattle.simd_json_parts.specs.Document.{Document, null, boolean, integer, decimal, string, array, object, Elements, no_elements}
 use Rattle.simd_json_parts.specs.Document.{element, elements, Members, no_members, member, members}
 use Rattle.simd_json_parts.specs.Integers.{integer_node}
@@ -12,7 +12,7 @@ use Rattle.simd_json_parts.specs.Listing.{listing, elements_listing, members_lis
 use Rattle.simd_json.specs.Tapes.{IsTape}
 use Rattle.simd_json_parts.specs.Views.{member_count}
 use Rattle.simd_json_parts.specs.Nodes.{Item, array_item, object_item, item_of}
-use Rattle.simd_json_scalars.specs.Headers.{count_of, len_of}
+use Rattle.simd_json_parts.specs.Headers.{count_of, len_of}
 use Rattle.simd_json_parts.specs.declared.node.Node.{Node}
 use Rattle.simd_json_parts.specs.declared.node.Node.TheVariants as nodes
 use Rattle.simd_json.specs.Descending.{joined, flat}

@@ -4,7 +4,7 @@ use Rattle.std.proofs.Common.{Option, Ok, Err, refl, arith, cond, Result, min, â
 use Rattle.std.specs.Result.{IsErrAnd, IfErr, IfOk, OnOk, OnErr, result_err}
 use Rattle.std.specs.Str.{is_utf8}
 use Rattle.simd_json_theorems.proofs.Faults.Kinds.{input-fault, token-fault}
-use Rattle.simd_json_scalars.proofs.Positions.ScannedInputs.{fault-by_size, scanned}
+use Rattle.simd_json_parts.proofs.Positions.ScannedInputs.{fault-by_size, scanned}
 use Rattle.std.proofs.lemmas.List.{length-take-le}
 use Rattle.std.proofs.lemmas.Option.{none-some}
 use Rattle.std.proofs.lemmas.Str.{IsUtf8-from_is_utf8}

@@ -5,7 +5,7 @@ use Rattle.std.specs.Result.{is_err, MatchResult}
 use Rattle.std.proofs.lemmas.Bool.{false≢true}
 use Rattle.std.proofs.lemmas.List.Sums.{length-filter, count_by-le-length}
 use Rattle.std.proofs.lemmas.List.FromFn.{length-range_with_len}
-use Rattle.simd_json_scalars.proofs.Positions.ScannedInputs.{too_large}
+use Rattle.simd_json_parts.proofs.Positions.ScannedInputs.{too_large}
 use Rattle.simd_json_theorems.proofs.Complete.Answer.{answer-Denotes}
 use Rattle.simd_json_theorems.proofs.Faults.Kinds.{input-fault, token-fault}
 use Rattle.simd_json_theorems.proofs.Faults.Root.{fault-reported}

@@ -5,8 +5,8 @@ use Rattle.std.proofs.lemmas.Bool.{le-leb, leb-true}
 use Rattle.std.proofs.lemmas.Str.{IsUtf8-from_is_utf8, is_utf8-from_IsUtf8}
 use Rattle.std.proofs.Math.Seq.{take-append_seam, drop-append_seam}
 use Rattle.std.proofs.lemmas.List.Elements.{All-nil, All-cons, All-head, All-tail, All-append, All-take, All-drop, All-map}
-use Rattle.simd_json_scalars.proofs.Documents.Integers.{of-integer_node}
-use Rattle.simd_json_scalars.proofs.Patterns.Sets.{Matches-matches, matches-Matches}
+use Rattle.simd_json_parts.proofs.Documents.Integers.{of-integer_node}
+use Rattle.simd_json_parts.proofs.Patterns.Sets.{Matches-matches, matches-Matches}
 use Rattle.simd_json_parts.specs.Document.{Document, null, boolean, integer, decimal, string, array, object, Elements, no_elements}
 use Rattle.simd_json_parts.specs.Document.{element, Members, no_members, member}
 use Rattle.simd_json_parts.specs.Integers.{max_magnitude, integer_node}

@@ -9,7 +9,7 @@ use Rattle.std.proofs.lemmas.List.Sums.{position_or_len_is, fails_before_first, 
 use Rattle.simd_json.specs.Locations.{bad_string, first_index, is_control_inside, is_left_open}
 use Rattle.simd_json_parts.specs.Bytes.{byte_at, indices, is_control}
 use Rattle.simd_json_parts.specs.Positions.{is_even, backslashes_before, is_real_quote, real_quotes, is_inside}
-use Rattle.simd_json_scalars.proofs.Lists.Parity.{is_even-suc}
+use Rattle.simd_json_parts.proofs.Lists.Parity.{is_even-suc}
 
 not-not : (t : Bool) → not (not t) ≡ t
 not-not true = refl

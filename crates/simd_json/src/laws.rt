@@ -15,7 +15,7 @@ ghost use Rattle.simd_json_parts.specs.Limits.{WithinLimits, depth, max_length};
 ghost use Rattle.simd_json_parts.specs.Listing.{listing};
 ghost use Rattle.simd_json_parts.specs.Views.{member_count};
 ghost use Rattle.simd_json_parts.specs.Nodes.{Item};
-ghost use Rattle.simd_json_scalars.specs.Headers.{count_of, len_of};
+ghost use Rattle.simd_json_parts.specs.Headers.{count_of, len_of};
 ghost use Rattle.simd_json_parts.specs.Printed.{compact, pretty};
 ghost use Rattle.simd_json.specs.PrintedAgain.{IsParsedAgain};
 ghost use Rattle.simd_json.specs.Viewed.{doc};

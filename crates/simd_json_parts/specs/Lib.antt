@@ -31,3 +31,6 @@ pub mod Equality
 pub mod MapEquality
 pub mod Accessors
 pub mod Printed
+-- Where tokens end, and the headers of a listing. They serve proofs, and a law of each.
+pub mod TokensAlong
+pub mod Headers

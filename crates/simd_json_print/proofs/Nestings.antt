@@ -5,12 +5,12 @@ use Rattle.std.proofs.Common.{append_assoc, append-nil, arith}
 use Rattle.std.proofs.lemmas.List.{get_or-set_other, get_or-set_same, length-map, take-map, drop-map}
 use Rattle.std.proofs.lemmas.Grind.{common_steps}
 use Rattle.std.proofs.Math.Seq.{take-append_seam, drop-append_seam}
-use Rattle.simd_json_scalars.proofs.Documents.Fronts.{positive}
+use Rattle.simd_json_parts.proofs.Documents.Fronts.{positive}
 use Rattle.simd_json_parts.specs.Bytes.{comma, left_bracket, right_bracket, left_brace, right_brace}
 use Rattle.simd_json_parts.specs.Document.{Document, Elements, no_elements, element, Members, no_members, member}
 use Rattle.simd_json_parts.specs.Listing.{listing, elements_listing, members_listing}
 use Rattle.simd_json_parts.specs.Nodes.{Item, string_item, item_of}
-use Rattle.simd_json_scalars.specs.Headers.{count_of}
+use Rattle.simd_json_parts.specs.Headers.{count_of}
 use Rattle.simd_json_parts.specs.Printed.{quoted}
 use Rattle.simd_json_parts.specs.declared.node.Node.{Node}
 use Rattle.simd_json_parts.specs.declared.node.Node.TheVariants as nodes

@@ -13,7 +13,7 @@ use lib.Lanes.{chunk, mask_l, zip2, top}
 use Rattle.simd_json_parts.specs.Bytes.{is_control}
 use Rattle.simd_json_scalars.specs.StringContent.{is_stop}
 use Rattle.simd_json_parts.specs.Printed.{escaped_byte}
-use Rattle.simd_json_scalars.proofs.Lists.LaneRuns.{map-same}
+use Rattle.simd_json_parts.proofs.Lists.LaneRuns.{map-same}
 use Rattle.simd_json_print.specs.Unescaped.{needs_escape, AreUnescaped}
 use Rattle.simd_json_print.proofs.Runs.{plain-byte}
 

@@ -2,13 +2,13 @@
 use Rattle.std.proofs.Common.{◌≡◌, ◌∙◌, ap, ap₂, sym, refl, ◌<◌, ◌≤◌, ℕ, zero, suc, Bool, true, false, List, [], ◌∷◌, ◌++◌, length}
 use Rattle.std.proofs.Common.{length-append, map, take, drop, get_or, arith}
 use Rattle.std.specs.Fmt.{signed_decimal}
-use Rattle.simd_json_scalars.proofs.Documents.Fronts.{positive}
-use Rattle.simd_json_scalars.proofs.Documents.Integers.{of-integer_node}
+use Rattle.simd_json_parts.proofs.Documents.Fronts.{positive}
+use Rattle.simd_json_parts.proofs.Documents.Integers.{of-integer_node}
 use Rattle.simd_json_parts.specs.Document.{Document, null, boolean, integer, decimal, string, array, object, no_elements, element}
 use Rattle.simd_json_parts.specs.Document.{no_members, member}
 use Rattle.simd_json_parts.specs.Listing.{listing, elements_listing}
 use Rattle.simd_json_parts.specs.Nodes.{Item, static_item, object_item, item_of}
-use Rattle.simd_json_scalars.specs.Headers.{count_of}
+use Rattle.simd_json_parts.specs.Headers.{count_of}
 use Rattle.simd_json_parts.specs.Integers.{number_of, integer_node}
 use Rattle.simd_json_parts.specs.declared.node.Node.{Node}
 use Rattle.simd_json_parts.specs.declared.node.StaticNode.TheVariants as fixed

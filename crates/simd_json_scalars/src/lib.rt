@@ -1,4 +1,4 @@
-//! The readers of one scalar, and the lemmas that they share with the crates above.
+//! The readers of one scalar.
 //!
 //! - [`numberparse`]: reads one number.
 //! - [`stringparse`]: reads one string.

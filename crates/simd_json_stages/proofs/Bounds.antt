@@ -8,7 +8,7 @@ use Rattle.simd_json_parts.specs.Bytes.{byte_at}
 use Rattle.simd_json_parts.specs.Positions.{positions}
 use Rattle.simd_json_parts.specs.Tokens.{form_end, token_end}
 use Rattle.simd_json_parts.specs.Tokens.{Token, tokens, string_token}
-use Rattle.simd_json_scalars.specs.TokensAlong.{tokens_along}
+use Rattle.simd_json_parts.specs.TokensAlong.{tokens_along}
 use Rattle.simd_json_parts.specs.declared.error.ErrorType.{ErrorType}
 use Rattle.simd_json_parts.specs.Nodes.{Item}
 use Rattle.simd_json_stages.specs.Building.{AtValue, AtName, IsFirstFault}

@@ -13,11 +13,11 @@ use Rattle.simd_json_parts.specs.Faults.{fault_at, fault_with}
 use Rattle.simd_json_parts.specs.Positions.{positions}
 use Rattle.simd_json_parts.specs.Tokens.{Token, Form, begin_array, end_array, begin_object, end_object, name_separator, value_separator}
 use Rattle.simd_json_parts.specs.Tokens.{string_token, scalar, form_at}
-use Rattle.simd_json_scalars.specs.TokensAlong.{goes_on, tokens_along}
+use Rattle.simd_json_parts.specs.TokensAlong.{goes_on, tokens_along}
 use Rattle.simd_json_parts.specs.declared.error.Error.{Error}
 use Rattle.simd_json_parts.specs.declared.error.ErrorType.{ErrorType}
 use Rattle.simd_json_parts.specs.declared.error.ErrorType.TheVariants.{Syntax}
-use Rattle.simd_json_scalars.proofs.Positions.TokensAtPositions.{tokens-positions}
+use Rattle.simd_json_parts.proofs.Positions.TokensAtPositions.{tokens-positions}
 use Rattle.simd_json_stages.specs.Continued.{Open, in_array, in_object, at_value, at_array, at_object, at_name, after_value}
 use Rattle.simd_json_stages.specs.Building.{closer, header_of, frames, top, patch, Holds, HoldsValue, HoldsMembers, closed_with, missing}
 use Rattle.simd_json_stages.specs.Building.{whole, AtValue, AtName, AfterValue, AtMemberOf, AtMember, IsBuilt, IsWritten, IsFirstFault}

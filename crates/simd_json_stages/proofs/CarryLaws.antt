@@ -8,7 +8,7 @@ use Rattle.std.proofs.lemmas.List.{append-nil}
 use Rattle.std.proofs.lemmas.List.Elements.{filter-append}
 use Rattle.simd_json_parts.specs.Bytes.{backslash, byte_at}
 use Rattle.simd_json_parts.specs.Positions.{is_even, backslashes_before, is_real_quote, real_quotes, is_inside}
-use Rattle.simd_json_scalars.proofs.Lists.Parity.{is_even-suc}
+use Rattle.simd_json_parts.proofs.Lists.Parity.{is_even-suc}
 
 not-not : (t : Bool) → not (not t) ≡ t
 not-not true = refl

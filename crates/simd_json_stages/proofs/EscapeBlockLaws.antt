@@ -8,7 +8,7 @@ use Rattle.std.proofs.lemmas.List.Folds.{list_any_none, list_any_at}
 use Rattle.std.proofs.lemmas.List.FromFn.{get_or-range_with_len, length-range_with_len}
 use Rattle.simd_json_parts.specs.Bytes.{backslash, byte_at}
 use Rattle.simd_json_stages.specs.EscapeBlocks.{blocks_in, holds_backslash, backslash_blocks}
-use Rattle.simd_json_scalars.proofs.Positions.Order.{Contains-range_with_len, Contains-filter_from}
+use Rattle.simd_json_parts.proofs.Positions.Order.{Contains-range_with_len, Contains-filter_from}
 use Rattle.std.specs.List.{Contains}
 use Rattle.simd_json_stages.proofs.CarryLaws.{filter-next}
 use Rattle.simd_json_stages.specs.EscapesAhead.{PlainFrom}

@@ -12,13 +12,13 @@ use Rattle.simd_json_parts.specs.Positions.{is_real_quote, is_inside, is_fresh, 
 use Rattle.simd_json_parts.specs.StringAt.{closing_quote}
 use Rattle.simd_json_parts.specs.Tokens.{token_end}
 use Rattle.simd_json_parts.specs.Tokens.{Token, form_at, tokens}
-use Rattle.simd_json_scalars.specs.TokensAlong.{tokens_along}
-use Rattle.simd_json_scalars.proofs.Positions.Between.{no_position-within}
-use Rattle.simd_json_scalars.proofs.Positions.Boundaries.{is_real_quote-fresh}
-use Rattle.simd_json_scalars.proofs.Positions.CleanInputs.{IsClean, IsClean-input}
-use Rattle.simd_json_scalars.proofs.Positions.Order.{IsStrictlyIncreasing-positions, Contains-positions}
+use Rattle.simd_json_parts.specs.TokensAlong.{tokens_along}
+use Rattle.simd_json_parts.proofs.Positions.Between.{no_position-within}
+use Rattle.simd_json_parts.proofs.Positions.Boundaries.{is_real_quote-fresh}
+use Rattle.simd_json_parts.proofs.Positions.CleanInputs.{IsClean, IsClean-input}
+use Rattle.simd_json_parts.proofs.Positions.Order.{IsStrictlyIncreasing-positions, Contains-positions}
 use Rattle.simd_json_scalars.proofs.Strings.Standalone.{closing_quote-inside, utf8-opening}
-use Rattle.simd_json_scalars.proofs.Positions.TokensAtPositions.{tokens-positions}
+use Rattle.simd_json_parts.proofs.Positions.TokensAtPositions.{tokens-positions}
 use Rattle.simd_json_stages.specs.Progresses.{IsRead}
 use Rattle.simd_json_stages.specs.declared.stage2.progress.Progress.{Progress}
 

@@ -12,7 +12,7 @@ use Rattle.simd_json_parts.specs.Descent.{◌>>=◌, is_container, last_index, l
 use Rattle.simd_json_parts.specs.Faults.{fault_at, fault_with}
 use Rattle.simd_json_parts.specs.StringAt.{string_at}
 use Rattle.simd_json_parts.specs.Tokens.{Token, Form, begin_array, begin_object, name_separator, value_separator, string_token, form_at}
-use Rattle.simd_json_scalars.specs.TokensAlong.{goes_on, tokens_along}
+use Rattle.simd_json_parts.specs.TokensAlong.{goes_on, tokens_along}
 use Rattle.simd_json_parts.specs.declared.error.Error.{Error}
 use Rattle.simd_json_parts.specs.declared.error.ErrorType.{ErrorType}
 use Rattle.simd_json_parts.specs.declared.error.ErrorType.TheVariants.{Syntax, DepthLimitExceeded, InternalError, ExpectedObjectKey}

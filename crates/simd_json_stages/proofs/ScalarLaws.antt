@@ -14,7 +14,7 @@ use Rattle.simd_json_parts.specs.NumberAt.{number_at, number_between, integer_or
 use Rattle.simd_json_parts.specs.Derivatives.{matches, longest_prefix}
 use Rattle.simd_json_parts.specs.Numbers.{number_literal, integer_literal, has_minus, magnitude}
 use Rattle.simd_json_parts.specs.Integers.{max_magnitude}
-use Rattle.simd_json_scalars.proofs.Patterns.Sets.{longest_prefix-le}
+use Rattle.simd_json_parts.proofs.Patterns.Sets.{longest_prefix-le}
 use Rattle.simd_json_parts.specs.declared.error.Error.{Error}
 use Rattle.simd_json_parts.specs.Tokens.{Form, begin_array, end_array, begin_object, end_object, name_separator, value_separator}
 use Rattle.simd_json_parts.specs.Tokens.{string_token, scalar, stray, form_of, form_at}

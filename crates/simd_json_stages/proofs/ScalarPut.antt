@@ -23,8 +23,8 @@ use Rattle.simd_json_parts.specs.Tokens.{string_token, scalar, form_at}
 use Rattle.simd_json_parts.specs.declared.error.Error.{Error}
 use Rattle.simd_json_parts.specs.declared.error.ErrorType.{ErrorType}
 use Rattle.simd_json_parts.specs.declared.error.ErrorType.TheVariants.{ExpectedTrue, ExpectedFalse, ExpectedNull, InvalidNumber}
-use Rattle.simd_json_scalars.proofs.Patterns.Bytes.{All-Matches}
-use Rattle.simd_json_scalars.proofs.Patterns.Sets.{matches-Matches, longest_prefix-le}
+use Rattle.simd_json_parts.proofs.Patterns.Bytes.{All-Matches}
+use Rattle.simd_json_parts.proofs.Patterns.Sets.{matches-Matches, longest_prefix-le}
 use Rattle.simd_json_stages.specs.Put.{IsScalarPut, IsNoScalar}
 use Rattle.simd_json_stages.specs.Refusals.{error_type, refused_kind, number_refusal}
 use Rattle.simd_json_parts.specs.declared.node.StaticNode.{StaticNode}

@@ -16,9 +16,9 @@ use Rattle.simd_json_stages.specs.Put.{begins_value}
 use Rattle.simd_json_stages.specs.Continued.{Open, in_array, in_object, elements_onto, members_onto, after_value, at_value, at_array}
 use Rattle.simd_json_stages.specs.Continued.{at_object, at_name}
 use Rattle.simd_json_parts.specs.declared.error.Error.{Error}
-use Rattle.simd_json_scalars.proofs.Descent.ArrayTurns.{elements_by-turn}
-use Rattle.simd_json_scalars.proofs.Descent.ObjectTurns.{members_by-turn}
-use Rattle.simd_json_scalars.proofs.Descent.Shrinking.{value_from-takes}
+use Rattle.simd_json_parts.proofs.Descent.ArrayTurns.{elements_by-turn}
+use Rattle.simd_json_parts.proofs.Descent.ObjectTurns.{members_by-turn}
+use Rattle.simd_json_parts.proofs.Descent.Shrinking.{value_from-takes}
 
 bind-bind : {A B C : Type 0} (r : Result A Error) (f : A → Result B Error) (g : B → Result C Error)
     → ((r >>= f) >>= g) ≡ (r >>= λ x. f x >>= g)

@@ -8,10 +8,10 @@ use Rattle.simd_json_parts.specs.InputFaults.{input_fault}
 use Rattle.simd_json_parts.specs.Positions.{is_even, backslashes_before, is_real_quote, is_inside, is_fresh, is_position, positions}
 use Rattle.simd_json_parts.specs.StringAt.{closing_quote, escape_fault, read_pieces, string_read, string_at}
 use Rattle.simd_json_parts.specs.declared.error.Error.{Error}
-use Rattle.simd_json_scalars.proofs.Positions.Between.{string-ends}
-use Rattle.simd_json_scalars.proofs.Positions.Boundaries.{Boundary, closing_quote-next, closed-inside}
-use Rattle.simd_json_scalars.proofs.Positions.Order.{Contains-positions}
-use Rattle.simd_json_scalars.proofs.Positions.Scan.{is_closed, is_closed-quote, is_closed-other, is_inside-at, is_position-picks}
+use Rattle.simd_json_parts.proofs.Positions.Between.{string-ends}
+use Rattle.simd_json_parts.proofs.Positions.Boundaries.{Boundary, closing_quote-next, closed-inside}
+use Rattle.simd_json_parts.proofs.Positions.Order.{Contains-positions}
+use Rattle.simd_json_parts.proofs.Positions.Scan.{is_closed, is_closed-quote, is_closed-other, is_inside-at, is_position-picks}
 use Rattle.simd_json_stages.specs.Members.{AtString}
 use Rattle.simd_json_stages.specs.Inputs.{IsStringBefore}
 use Rattle.simd_json_stages.specs.Progresses.{IsRead}

@@ -9,7 +9,7 @@ use Rattle.simd_json_parts.specs.Tokens.{Token, Form, begin_array, end_array, be
 use Rattle.simd_json_parts.specs.Tokens.{string_token, scalar, stray, form_of, form_at}
 use Rattle.simd_json_parts.specs.Descent.{last_index}
 use Rattle.simd_json_parts.specs.StringAt.{string_at}
-use Rattle.simd_json_scalars.specs.TokensAlong.{goes_on, tokens_along}
+use Rattle.simd_json_parts.specs.TokensAlong.{goes_on, tokens_along}
 use Rattle.simd_json_stages.specs.Put.{begins_value}
 use Rattle.simd_json_stages.proofs.Places.{token}
 use Rattle.simd_json_stages.proofs.ScalarLaws.{is_no_scalar}

@@ -3,7 +3,7 @@ use Rattle.std.proofs.Common.{◌≡◌, ◌∙◌, ap, ap₂, sym, subst, ◌<�
 use Rattle.std.proofs.Common.{nat_eq, Option, Some, None, IsUtf8, ◌==◌, if◌then◌else◌, refl, arith, ◌⊎◌, inl, inr}
 use Rattle.std.specs.Str.{is_utf8}
 use Rattle.std.proofs.lemmas.Bool.{true≢false}
-use Rattle.simd_json_scalars.proofs.Positions.ScannedInputs.{by_size, fault-by_size, scanned, bad_encoding}
+use Rattle.simd_json_parts.proofs.Positions.ScannedInputs.{by_size, fault-by_size, scanned, bad_encoding}
 use Rattle.simd_json_parts.specs.Faults.{whole_fault}
 use Rattle.simd_json_parts.specs.InputFaults.{has_bad_string, input_fault}
 use Rattle.simd_json_parts.specs.Limits.{max_length}

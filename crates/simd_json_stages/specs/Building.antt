@@ -7,7 +7,7 @@ use Rattle.simd_json_parts.specs.Listing.{listing}
 use Rattle.simd_json_parts.specs.Descent.{◌>>=◌, last_index, root_end, descent}
 use Rattle.simd_json_parts.specs.Faults.{fault_with, fault_at}
 use Rattle.simd_json_parts.specs.Tokens.{Token}
-use Rattle.simd_json_scalars.specs.TokensAlong.{tokens_along}
+use Rattle.simd_json_parts.specs.TokensAlong.{tokens_along}
 use Rattle.simd_json_parts.specs.declared.error.Error.{Error}
 use Rattle.simd_json_parts.specs.declared.error.ErrorType.{ErrorType}
 use Rattle.simd_json_parts.specs.declared.error.ErrorType.TheVariants.{Syntax}

@@ -6,3 +6,4 @@ pub mod Faults
 pub mod Documents
 pub mod Printing
 mod Rows
+mod Computes

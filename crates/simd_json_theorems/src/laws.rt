@@ -14,7 +14,7 @@ ghost use Rattle.simd_json_parts.specs.ErrorKinds.{Class, class_of, io, eof, syn
 ghost use Rattle.simd_json_parts.specs.FaultKinds.{IsOfInput, IsOfToken, IsNamedFault, IsBeginning};
 ghost use Rattle.simd_json_parts.specs.Faults.{whole_fault};
 ghost use Rattle.simd_json_parts.specs.Grammar.{Denotes};
-ghost use Rattle.simd_json_scalars.specs.Headers.{IsHeaded};
+ghost use Rattle.simd_json_parts.specs.Headers.{IsHeaded};
 ghost use Rattle.simd_json_parts.specs.InputFaults.{input_fault};
 ghost use Rattle.simd_json_parts.specs.Limits.{WithinLimits};
 ghost use Rattle.simd_json_parts.specs.Listing.{listing};

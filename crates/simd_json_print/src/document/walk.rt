@@ -4,7 +4,7 @@ ghost use Rattle.std.specs.Prelude.{true, get_or, length, map};
 ghost use Rattle.simd_json_parts.specs.Document.{Document};
 ghost use Rattle.simd_json_parts.specs.Listing.{listing};
 ghost use Rattle.simd_json_parts.specs.Nodes.{item_of};
-ghost use Rattle.simd_json_scalars.specs.Headers.{count_of};
+ghost use Rattle.simd_json_parts.specs.Headers.{count_of};
 ghost use Rattle.simd_json_print.specs.Frames.{Frame, IsAtValue, IsBetween};
 ghost use Rattle.simd_json_print.specs.Frames.{frame_listing, frame_text, has_members};
 ghost use Rattle.simd_json_parts.specs.Printed.{text};

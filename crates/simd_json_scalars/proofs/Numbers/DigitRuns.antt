@@ -11,7 +11,7 @@ use native.Mathlib.Nat.{div-div-eq-div-mul}
 use lib.Lanes.{chunk, mask_l, zip2, top, Each1}
 use lib.Count.{count_trailing_zeros, trailing_of_zero}
 use Rattle.simd_json_scalars.specs.DigitRuns.{is_no_digit}
-use Rattle.simd_json_scalars.proofs.Lists.LaneRuns.{run-ends, map-same}
+use Rattle.simd_json_parts.proofs.Lists.LaneRuns.{run-ends, map-same}
 
 -- ---- the mask
 

@@ -16,8 +16,8 @@ use Rattle.simd_json_parts.specs.Derivatives.{matches, longest_prefix}
 use Rattle.simd_json_parts.specs.Numbers.{number_literal, integer_literal, decimal_literal, has_minus, magnitude}
 use Rattle.simd_json_parts.specs.Integers.{max_magnitude}
 use Rattle.simd_json_parts.specs.NumberAt.{number_at, number_between, integer_or, first_excess}
-use Rattle.simd_json_scalars.proofs.Patterns.Sets.{Matches-matches, matches-Matches}
-use Rattle.simd_json_scalars.proofs.Patterns.Bytes.{byte_at-append, avoids-needs, longest_prefix-append}
+use Rattle.simd_json_parts.proofs.Patterns.Sets.{Matches-matches, matches-Matches}
+use Rattle.simd_json_parts.proofs.Patterns.Bytes.{byte_at-append, avoids-needs, longest_prefix-append}
 
 -- ---- integers and decimals
 

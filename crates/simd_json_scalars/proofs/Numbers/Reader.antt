@@ -17,7 +17,7 @@ use Rattle.simd_json_parts.specs.NumberAt.{number_at, number_between, integer_or
 use Rattle.simd_json_parts.specs.Faults.{fault_at}
 use Rattle.simd_json_parts.specs.declared.error.Error.{Error}
 use Rattle.simd_json_parts.specs.declared.error.ErrorType.TheVariants.{InvalidNumber}
-use Rattle.simd_json_scalars.proofs.Patterns.Sets.{Matches-matches, matches-Matches, longest_prefix-le, matches-never}
+use Rattle.simd_json_parts.proofs.Patterns.Sets.{Matches-matches, matches-Matches, longest_prefix-le, matches-never}
 use Rattle.simd_json_scalars.proofs.Numbers.Literals.{number-integer_or_decimal, number_at-decimal}
 use Rattle.simd_json_scalars.proofs.Numbers.Prefixes.{reported, Leads, Reads}
 use Rattle.simd_json_scalars.proofs.Numbers.Steps.{SignEnd, IsWhole, int-whole, int-none}

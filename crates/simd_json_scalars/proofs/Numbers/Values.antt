@@ -26,7 +26,7 @@ use Rattle.simd_json_scalars.specs.NumeralRead.{IsNumeralAt}
 use Rattle.simd_json_parts.specs.Faults.{fault_at}
 use Rattle.simd_json_parts.specs.declared.error.ErrorType.TheVariants.{InvalidNumber}
 use Rattle.simd_json_scalars.specs.declared.numberparse.Numeral.TheVariants.{Integer}
-use Rattle.simd_json_scalars.proofs.Patterns.Sets.{Matches-matches}
+use Rattle.simd_json_parts.proofs.Patterns.Sets.{Matches-matches}
 use Rattle.simd_json_scalars.proofs.Numbers.Literals.{byte_at-front, integer-number, number_at-integer, number_at-literal}
 use Rattle.simd_json_scalars.proofs.Numbers.Literals.{magnitude-take, first_excess-none}
 

@@ -8,7 +8,7 @@ use Rattle.std.proofs.lemmas.Bool.Decides.{nat_tests}
 use Rattle.simd_json_parts.specs.Strings.{hex_value}
 use Rattle.simd_json_parts.specs.StringAt.{code_unit_at}
 use Rattle.simd_json_scalars.specs.StringContent.{content_from, content}
-use Rattle.simd_json_scalars.proofs.Positions.Boundaries.{no_digit}
+use Rattle.simd_json_parts.proofs.Positions.Boundaries.{no_digit}
 use Rattle.simd_json_scalars.proofs.Strings.Content.{content-nil, content-byte, content-escape, content-dangling}
 
 -- the first n bytes are hexadecimal digits

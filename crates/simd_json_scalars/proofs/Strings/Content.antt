@@ -9,9 +9,9 @@ use Rattle.simd_json_parts.specs.Bytes.{quote, byte_at}
 use Rattle.simd_json_parts.specs.Positions.{is_even, backslashes_before, is_real_quote}
 use Rattle.simd_json_parts.specs.StringAt.{closing_quote, read_pieces, string_read, string_at}
 use Rattle.simd_json_scalars.specs.StringContent.{content_from, content}
-use Rattle.simd_json_scalars.proofs.Lists.Parity.{is_even-suc}
-use Rattle.simd_json_scalars.proofs.Positions.Scan.{range-step}
-use Rattle.simd_json_scalars.proofs.Lists.Drops.{drop-head, drop-tail, drop-inside}
+use Rattle.simd_json_parts.proofs.Lists.Parity.{is_even-suc}
+use Rattle.simd_json_parts.proofs.Positions.Scan.{range-step}
+use Rattle.simd_json_parts.proofs.Lists.Drops.{drop-head, drop-tail, drop-inside}
 
 -- ---- byte by byte
 

@@ -14,7 +14,7 @@ use Rattle.simd_json_parts.specs.StringAt.{escape_at, read_pieces}
 use Rattle.simd_json_scalars.specs.StringContent.{content, is_plain, with_prefix}
 use Rattle.simd_json_scalars.specs.StringDecoded.{IsOpen, IsDecoded, IsLeft}
 use Rattle.simd_json_scalars.specs.declared.stringparse.BadEscape.{BadEscape}
-use Rattle.simd_json_scalars.proofs.Lists.Drops.{drop-further, drop-byte}
+use Rattle.simd_json_parts.proofs.Lists.Drops.{drop-further, drop-byte}
 use Rattle.simd_json_scalars.proofs.Strings.Content.{content-dangling, content-escape}
 use Rattle.simd_json_scalars.proofs.Strings.Steps.{PassesPieces, plain-passes, Escapes, escape-extent, escape-passes, escape-stops}
 

@@ -11,7 +11,7 @@ use Rattle.simd_json_scalars.specs.StringContent.{content, is_plain, with_prefix
 use Rattle.simd_json_scalars.specs.StringDecoded.{IsOpen, IsDecoded, IsLeft}
 use Rattle.simd_json_scalars.specs.declared.stringparse.BadEscape.{BadEscape}
 use Rattle.simd_json_scalars.proofs.Strings.Content.{content-quote, closing_quote-content, string_at-content}
-use Rattle.simd_json_scalars.proofs.Lists.Drops.{drop-further}
+use Rattle.simd_json_parts.proofs.Lists.Drops.{drop-further}
 use Rattle.simd_json_scalars.proofs.Strings.Decoding.{decoded-run}
 
 -- ---- at the start

@@ -11,8 +11,8 @@ use Rattle.simd_json_parts.specs.InputFaults.{has_bad_string}
 use Rattle.simd_json_parts.specs.StringAt.{closing_quote, escape_fault, with_piece, piece_at, read_pieces, string_read, string_at}
 use Rattle.simd_json_scalars.specs.StringContent.{content}
 use Rattle.simd_json_scalars.specs.StringRead.{further}
-use Rattle.simd_json_scalars.proofs.Positions.Boundaries.{closing_quote-next}
-use Rattle.simd_json_scalars.proofs.Positions.Scan.{NoneBetween, is_closed, is_closed-through, is_inside-at}
+use Rattle.simd_json_parts.proofs.Positions.Boundaries.{closing_quote-next}
+use Rattle.simd_json_parts.proofs.Positions.Scan.{NoneBetween, is_closed, is_closed-through, is_inside-at}
 use Rattle.simd_json_scalars.proofs.Strings.Content.{closing_quote-content, string_at-content}
 
 -- what is left of a content is no longer than all of it

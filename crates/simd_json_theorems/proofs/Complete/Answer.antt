@@ -13,13 +13,13 @@ use Rattle.simd_json_parts.specs.InputFaults.{input_fault}
 use Rattle.simd_json_parts.specs.Limits.{max_length, WithinLimits}
 use Rattle.simd_json_parts.specs.Positions.{positions}
 use Rattle.simd_json_parts.specs.Tokens.{tokens}
-use Rattle.simd_json_scalars.specs.TokensAlong.{tokens_along}
+use Rattle.simd_json_parts.specs.TokensAlong.{tokens_along}
 use Rattle.simd_json_parts.specs.declared.error.Error.{Error}
 use Rattle.simd_json_parts.specs.declared.error.ErrorType.TheVariants.{Syntax}
 use Rattle.simd_json_theorems.proofs.Complete.ClosedStrings.{has_bad_string-Denotes}
 use Rattle.simd_json_theorems.proofs.Complete.Documents.{descent-Denotes}
-use Rattle.simd_json_scalars.proofs.Descent.Shrinking.{value_from-takes}
-use Rattle.simd_json_scalars.proofs.Positions.TokensAtPositions.{tokens-positions}
+use Rattle.simd_json_parts.proofs.Descent.Shrinking.{value_from-takes}
+use Rattle.simd_json_parts.proofs.Positions.TokensAtPositions.{tokens-positions}
 use Rattle.simd_json_theorems.proofs.Complete.Utf8Documents.{IsUtf8-Denotes}
 
 -- Where the descent answers a document there is a position: without one no token is read.

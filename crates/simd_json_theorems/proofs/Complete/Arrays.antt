@@ -6,10 +6,10 @@ use Rattle.simd_json_parts.specs.Grammar.{Spaced, Joined, IsValue, AreElements, 
 use Rattle.simd_json_parts.specs.Tokens.{Token, Form, begin_array, end_array, value_separator}
 use Rattle.simd_json_parts.specs.Descent.{◌>>=◌, Reads, element_end, elements_from, elements_by, first_element, array_from, value_from}
 use Rattle.simd_json_parts.specs.declared.error.Error.{Error}
-use Rattle.simd_json_scalars.proofs.Lists.Drops.{drop-tail}
-use Rattle.simd_json_scalars.proofs.Descent.ArrayTurns.{turn, elements_by-turn}
-use Rattle.simd_json_scalars.proofs.Descent.Shrinking.{value_from-takes}
-use Rattle.simd_json_scalars.proofs.Positions.TokensAtPositions.{tokens_at}
+use Rattle.simd_json_parts.proofs.Lists.Drops.{drop-tail}
+use Rattle.simd_json_parts.proofs.Descent.ArrayTurns.{turn, elements_by-turn}
+use Rattle.simd_json_parts.proofs.Descent.Shrinking.{value_from-takes}
+use Rattle.simd_json_parts.proofs.Positions.TokensAtPositions.{tokens_at}
 use Rattle.simd_json_theorems.proofs.Complete.TokensHere.{Ended, Got, ReadsHere, ReadsUpTo, AfterSpace, past_space, spaced, byte_here}
 
 -- A comma or a closing bracket ends what stands before it.

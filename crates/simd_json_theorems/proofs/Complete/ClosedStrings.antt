@@ -12,12 +12,12 @@ use Rattle.simd_json_parts.specs.Grammar.{Denotes}
 use Rattle.simd_json_parts.specs.InputFaults.{has_bad_string}
 use Rattle.simd_json_parts.specs.Positions.{is_even, backslashes_before, real_quotes, is_inside, has_control_inside}
 use Rattle.simd_json_parts.specs.Strings.{IsStringLiteral}
-use Rattle.simd_json_scalars.proofs.Positions.Boundaries.{no_real_quote}
+use Rattle.simd_json_parts.proofs.Positions.Boundaries.{no_real_quote}
 use Rattle.simd_json_theorems.proofs.Complete.Concatenations.{IsClosed, is_unquoted, of_denoted}
-use Rattle.simd_json_scalars.proofs.Lists.Drops.{drop-head, drop-tail}
+use Rattle.simd_json_parts.proofs.Lists.Drops.{drop-head, drop-tail}
 use Rattle.simd_json_theorems.proofs.Literals.Quotes.{run_ends, real_quote, Passed, pass_pieces}
-use Rattle.simd_json_scalars.proofs.Positions.Scan.{NoneBetween, is_closed, is_closed-quote, is_closed-other, is_closed-through}
-use Rattle.simd_json_scalars.proofs.Positions.Scan.{is_inside-at}
+use Rattle.simd_json_parts.proofs.Positions.Scan.{NoneBetween, is_closed, is_closed-quote, is_closed-other, is_closed-through}
+use Rattle.simd_json_parts.proofs.Positions.Scan.{is_inside-at}
 use Rattle.simd_json_theorems.proofs.Complete.StringBytes.{NoControl, NoControl-string}
 
 -- ---- stretches of the input

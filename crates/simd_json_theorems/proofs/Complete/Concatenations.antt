@@ -13,7 +13,7 @@ use Rattle.simd_json_parts.specs.Numbers.{number_literal}
 use Rattle.simd_json_parts.specs.Patterns.{Matches}
 use Rattle.simd_json_parts.specs.Strings.{IsStringLiteral}
 use Rattle.simd_json_scalars.proofs.Numbers.Literals.{integer-number, decimal-number}
-use Rattle.simd_json_scalars.proofs.Patterns.Bytes.{All-Matches}
+use Rattle.simd_json_parts.proofs.Patterns.Bytes.{All-Matches}
 
 -- the set has the empty list, and concatenations of its lists
 pub record IsClosed (P : List ℕ → Type 0) : Type 0 where

@@ -10,7 +10,7 @@ use Rattle.simd_json_parts.specs.Descent.{◌>>=◌, value_from, last_index, roo
 use Rattle.simd_json_parts.specs.Faults.{fault_at}
 use Rattle.simd_json_parts.specs.declared.error.Error.{Error}
 use Rattle.simd_json_parts.specs.declared.error.ErrorType.TheVariants.{Syntax}
-use Rattle.simd_json_scalars.proofs.Positions.TokensAtPositions.{tokens_at}
+use Rattle.simd_json_parts.proofs.Positions.TokensAtPositions.{tokens_at}
 use Rattle.simd_json_theorems.proofs.Complete.TokensHere.{Got, ReadsHere, spaced}
 use Rattle.simd_json_theorems.proofs.Complete.Scalars.{null_reads, boolean_reads, integer_reads, decimal_reads, string_reads}
 use Rattle.simd_json_theorems.proofs.Complete.Arrays.{ElementsRead, array_reads}

@@ -11,11 +11,11 @@ use Rattle.simd_json_parts.specs.Descent.{object_from, value_from}
 use Rattle.simd_json_parts.specs.declared.error.Error.{Error}
 use Rattle.simd_json_parts.specs.declared.error.ErrorType.{ErrorType}
 use Rattle.simd_json_parts.specs.declared.error.ErrorType.TheVariants.{ExpectedObjectKey, ExpectedObjectContent}
-use Rattle.simd_json_scalars.proofs.Lists.Drops.{drop-tail}
-use Rattle.simd_json_scalars.proofs.Descent.ObjectTurns.{rest_after_value, after_colon, rest_after_name, members_by-turn}
+use Rattle.simd_json_parts.proofs.Lists.Drops.{drop-tail}
+use Rattle.simd_json_parts.proofs.Descent.ObjectTurns.{rest_after_value, after_colon, rest_after_name, members_by-turn}
 use Rattle.simd_json_theorems.proofs.Complete.Scalars.{name_reads}
-use Rattle.simd_json_scalars.proofs.Descent.Shrinking.{value_from-takes}
-use Rattle.simd_json_scalars.proofs.Positions.TokensAtPositions.{tokens_at}
+use Rattle.simd_json_parts.proofs.Descent.Shrinking.{value_from-takes}
+use Rattle.simd_json_parts.proofs.Positions.TokensAtPositions.{tokens_at}
 use Rattle.simd_json_theorems.proofs.Complete.TokensHere.{Ended, Got, ReadsHere, ReadsUpTo, AfterSpace, past_space, spaced, byte_here}
 
 -- A comma or a closing brace ends what stands before it.

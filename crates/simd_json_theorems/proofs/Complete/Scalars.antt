@@ -21,12 +21,12 @@ use Rattle.simd_json_parts.specs.Descent.{name_from, value_from}
 use Rattle.simd_json_parts.specs.declared.error.Error.{Error}
 use Rattle.simd_json_parts.specs.declared.error.ErrorType.{ErrorType}
 use Rattle.simd_json_parts.specs.declared.error.ErrorType.TheVariants.{ExpectedTrue, ExpectedFalse, ExpectedNull}
-use Rattle.simd_json_scalars.proofs.Lists.Drops.{drop-head, drop-tail, drop-through}
-use Rattle.simd_json_scalars.proofs.Positions.Boundaries.{apart}
-use Rattle.simd_json_scalars.proofs.Patterns.Bytes.{byte_at-append}
+use Rattle.simd_json_parts.proofs.Lists.Drops.{drop-head, drop-tail, drop-through}
+use Rattle.simd_json_parts.proofs.Positions.Boundaries.{apart}
+use Rattle.simd_json_parts.proofs.Patterns.Bytes.{byte_at-append}
 use Rattle.simd_json_scalars.proofs.Numbers.Literals.{integer-number, decimal-number, number_at-integer, number_at-decimal}
 use Rattle.simd_json_theorems.proofs.Literals.Quotes.{string_at-literal}
-use Rattle.simd_json_scalars.proofs.Positions.TokensAtPositions.{tokens_at}
+use Rattle.simd_json_parts.proofs.Positions.TokensAtPositions.{tokens_at}
 use Rattle.simd_json_theorems.proofs.Complete.TokensHere.{Ended, Got, ReadsHere, string_here, scalar_here}
 
 -- ---- the first byte of a number: `-` or a digit

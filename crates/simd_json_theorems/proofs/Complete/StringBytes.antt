@@ -11,7 +11,7 @@ use Rattle.std.proofs.lemmas.List.Folds.{list_all-append}
 use lib.Utf8.{next}
 use Rattle.simd_json_parts.specs.Bytes.{quote, is_control}
 use Rattle.simd_json_parts.specs.Strings.{escaped_character, IsCodeUnit, IsPiece, ArePieces, IsStringLiteral}
-use Rattle.simd_json_scalars.proofs.Positions.Boundaries.{apart}
+use Rattle.simd_json_parts.proofs.Positions.Boundaries.{apart}
 use Rattle.simd_json_theorems.proofs.Complete.Concatenations.{IsClosed, of_bytes}
 use Rattle.simd_json_theorems.proofs.Literals.Escapes.{AreHexDigits, hex_value-digits}
 

@@ -10,8 +10,8 @@ use Rattle.simd_json_parts.specs.StringAt.{string_at}
 use Rattle.simd_json_parts.specs.Tokens.{Token, Form, string_token, scalar, form_of, form_at, form_end, after_token, tokens_from}
 use Rattle.simd_json_parts.specs.Descent.{Reads}
 use Rattle.simd_json_parts.specs.declared.error.Error.{Error}
-use Rattle.simd_json_scalars.proofs.Lists.Drops.{drop-head, drop-tail, drop-inside}
-use Rattle.simd_json_scalars.proofs.Positions.TokensAtPositions.{tokens_at, tokens_at-space, tokens_at-token, tokens_from-skip}
+use Rattle.simd_json_parts.proofs.Lists.Drops.{drop-head, drop-tail, drop-inside}
+use Rattle.simd_json_parts.proofs.Positions.TokensAtPositions.{tokens_at, tokens_at-space, tokens_at-token, tokens_from-skip}
 
 -- nothing, or a terminator, stands there
 abbrev pub Ended : List ℕ → Type 0

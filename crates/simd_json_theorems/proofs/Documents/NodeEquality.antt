@@ -19,8 +19,8 @@ use Rattle.simd_json_parts.specs.StaticNodes.{truth_of, number_in, same_static}
 use Rattle.simd_json_parts.specs.declared.node.StaticNode.{StaticNode}
 use Rattle.simd_json_parts.specs.declared.node.StaticNode.TheVariants as fixed
 use Rattle.simd_json_theorems.proofs.Documents.Equality.{Decides-equal}
-use Rattle.simd_json_scalars.proofs.Documents.Integers.{number_in-integer_node, truth_of-integer_node}
-use Rattle.simd_json_scalars.proofs.Documents.Listing.{listing_cancel}
+use Rattle.simd_json_parts.proofs.Documents.Integers.{number_in-integer_node, truth_of-integer_node}
+use Rattle.simd_json_parts.proofs.Documents.Listing.{listing_cancel}
 
 -- the node of a number, which has a sign only where it is negative
 abbrev node_of : ℤ → StaticNode

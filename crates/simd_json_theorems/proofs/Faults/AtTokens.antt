@@ -15,7 +15,7 @@ use Rattle.simd_json_parts.specs.FaultKinds.{IsBeginning}
 use Rattle.simd_json_parts.specs.Tokens.{Token, Form, form_of, form_at}
 use Rattle.simd_json_parts.specs.declared.error.Error.{Error}
 use Rattle.simd_json_parts.specs.declared.error.ErrorType.{ErrorType}
-use Rattle.simd_json_scalars.proofs.Lists.Drops.{drop-head}
+use Rattle.simd_json_parts.proofs.Lists.Drops.{drop-head}
 use Rattle.simd_json_theorems.proofs.Faults.Expectations.{IsDocument, IsBeginning-document, IsBeginning-prefix, take-through}
 use Rattle.simd_json_theorems.proofs.Faults.Expectations.{Expects, ExpectsAt, expects-at, expects-after}
 use Rattle.simd_json_theorems.proofs.Sound.FaultsWithin.{FaultWithin}

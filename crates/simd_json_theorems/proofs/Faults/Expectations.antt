@@ -6,7 +6,7 @@ use Rattle.simd_json_parts.specs.Bytes.{is_whitespace, byte_at}
 use Rattle.simd_json_parts.specs.Document.{Document}
 use Rattle.simd_json_parts.specs.Grammar.{IsWhitespace, Denotes}
 use Rattle.simd_json_parts.specs.FaultKinds.{IsBeginning}
-use Rattle.simd_json_scalars.proofs.Lists.Drops.{drop-head}
+use Rattle.simd_json_parts.proofs.Lists.Drops.{drop-head}
 use Rattle.simd_json_theorems.proofs.Unique.LeadingBytes.{NoSpace}
 use Rattle.simd_json_theorems.proofs.Unique.SpacedPrefixes.{space-one}
 use Rattle.simd_json_theorems.proofs.Faults.Follows.{SpaceThen, LeadsTo}

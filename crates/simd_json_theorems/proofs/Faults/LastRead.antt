@@ -7,9 +7,9 @@ use Rattle.std.proofs.Math.Seq.{take-append_seam}
 use Rattle.simd_json_parts.specs.Descent.{last_index, last_read}
 use Rattle.simd_json_parts.specs.Positions.{positions}
 use Rattle.simd_json_parts.specs.Tokens.{Token, tokens, form_at}
-use Rattle.simd_json_scalars.specs.TokensAlong.{tokens_along, goes_on}
-use Rattle.simd_json_scalars.proofs.Positions.Order.{IsStrictlyIncreasing-positions}
-use Rattle.simd_json_scalars.proofs.Positions.TokensAtPositions.{tokens-positions}
+use Rattle.simd_json_parts.specs.TokensAlong.{tokens_along, goes_on}
+use Rattle.simd_json_parts.proofs.Positions.Order.{IsStrictlyIncreasing-positions}
+use Rattle.simd_json_parts.proofs.Positions.TokensAtPositions.{tokens-positions}
 
 -- numbers that rise
 abbrev Rise : List ℕ → Type 0

@@ -15,7 +15,7 @@ use Rattle.simd_json_parts.specs.InputFaults.{input_fault}
 use Rattle.simd_json_parts.specs.Tokens.{Token, tokens}
 use Rattle.simd_json_parts.specs.declared.error.Error.{Error}
 use Rattle.simd_json_parts.specs.declared.error.ErrorType.TheVariants.{Syntax, InternalError, TrailingData}
-use Rattle.simd_json_scalars.proofs.Positions.CleanInputs.{IsClean, IsClean-input}
+use Rattle.simd_json_parts.proofs.Positions.CleanInputs.{IsClean, IsClean-input}
 use Rattle.simd_json_theorems.proofs.Faults.Descent.{value_from-reported}
 use Rattle.simd_json_theorems.proofs.Faults.Expectations.{IsDocument, IsBeginning-prefix, take-through, Expects, ExpectsAt}
 use Rattle.simd_json_theorems.proofs.Faults.AtTokens.{Reported, OkOrReported, bind-OkOrReported, Next, IsBeginning-take}

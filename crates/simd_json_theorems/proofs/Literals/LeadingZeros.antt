@@ -6,7 +6,7 @@ use Rattle.simd_json_parts.specs.Derivatives.{derivative, matches}
 use Rattle.simd_json_parts.specs.Numbers.{number_literal}
 use Rattle.simd_json_parts.specs.Patterns.{never, Matches}
 use Rattle.simd_json_scalars.proofs.Numbers.Steps.{no_digit}
-use Rattle.simd_json_scalars.proofs.Patterns.Sets.{Matches-matches, matches-never}
+use Rattle.simd_json_parts.proofs.Patterns.Sets.{Matches-matches, matches-never}
 
 -- what may follow the zero, at a digit
 no_more : (x : ℕ) → is_ascii_digit x ≡ true → derivative x (derivative 48 number_literal) ≡ never

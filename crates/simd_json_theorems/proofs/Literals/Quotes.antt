@@ -12,9 +12,9 @@ use Rattle.simd_json_parts.specs.Bytes.{quote, backslash}
 use Rattle.simd_json_parts.specs.Strings.{hex_value, IsCodeUnit, IsPiece, ArePieces}
 use Rattle.simd_json_parts.specs.Positions.{is_even, backslashes_before, is_real_quote}
 use Rattle.simd_json_parts.specs.StringAt.{closing_quote, read_pieces, string_read, string_at}
-use Rattle.simd_json_scalars.proofs.Positions.Boundaries.{no_digit}
-use Rattle.simd_json_scalars.proofs.Lists.Parity.{is_even-suc}
-use Rattle.simd_json_scalars.proofs.Lists.Drops.{drop-head, drop-tail, drop-inside}
+use Rattle.simd_json_parts.proofs.Positions.Boundaries.{no_digit}
+use Rattle.simd_json_parts.proofs.Lists.Parity.{is_even-suc}
+use Rattle.simd_json_parts.proofs.Lists.Drops.{drop-head, drop-tail, drop-inside}
 use Rattle.simd_json_theorems.proofs.Literals.Escapes.{AreHexDigits, hex_value-digits}
 use Rattle.simd_json_scalars.proofs.Strings.Pieces.{read_pieces-pieces}
 

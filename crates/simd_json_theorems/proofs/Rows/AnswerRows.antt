@@ -12,7 +12,7 @@ use Rattle.simd_json_parts.specs.declared.error.ErrorType.TheVariants.{ExpectedN
 use Rattle.simd_json_parts.specs.declared.error.ErrorType.TheVariants.{ExpectedObjectKey, ExpectedTrue, InternalError}
 use Rattle.simd_json_parts.specs.declared.error.ErrorType.TheVariants.{InvalidEscape, InvalidNumber, InvalidUnicodeCodepoint}
 use Rattle.simd_json_parts.specs.declared.error.ErrorType.TheVariants.{InvalidUtf8, Syntax, TrailingData}
-use Rattle.simd_json_scalars.proofs.Computes.{computes}
+use Rattle.simd_json_theorems.proofs.Computes.{computes}
 use Rattle.simd_json_theorems.proofs.Rows.Samples.{list, pairs, spaces}
 
 record Row : Type 0 where

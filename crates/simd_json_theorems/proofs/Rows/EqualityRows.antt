@@ -7,7 +7,7 @@ use Rattle.simd_json_parts.specs.Equality.{equal}
 use Rattle.simd_json_parts.specs.MapEquality.{equals_map}
 use Rattle.simd_json_parts.specs.StaticNodes.{same_static}
 use Rattle.simd_json_parts.specs.declared.node.StaticNode.TheVariants as fixed
-use Rattle.simd_json_scalars.proofs.Computes.{computes}
+use Rattle.simd_json_theorems.proofs.Computes.{computes}
 use Rattle.simd_json_theorems.proofs.Rows.Samples.{parsed}
 
 abbrev Row : Type 0

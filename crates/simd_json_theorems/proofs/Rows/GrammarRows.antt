@@ -8,7 +8,7 @@ use Rattle.simd_json_parts.specs.Derivatives.{matches}
 use Rattle.simd_json_parts.specs.Patterns.{Pattern, Matches}
 use Rattle.simd_json_parts.specs.Numbers.{integer_literal, decimal_literal}
 use Rattle.simd_json_parts.specs.Grammar.{IsWhitespace, Spaced, Joined, IsValue, Denotes}
-use Rattle.simd_json_scalars.proofs.Patterns.Sets.{Matches-matches, matches-Matches}
+use Rattle.simd_json_parts.proofs.Patterns.Sets.{Matches-matches, matches-Matches}
 
 -- with no whitespace round it
 bare : {P : List ℕ → Type 0} (bs : List ℕ) → P bs → bs ≡ [] ++ bs ++ [] → Spaced P bs

@@ -5,7 +5,7 @@ use Rattle.simd_json_parts.specs.Limits.{depth}
 use Rattle.simd_json_parts.specs.Listing.{listing}
 use Rattle.simd_json_parts.specs.Nodes.{Item, static_item, decimal_item, string_item, array_item, object_item}
 use Rattle.simd_json_parts.specs.declared.node.StaticNode.TheVariants.{Null, Bool, I64, U64, I128, U128}
-use Rattle.simd_json_scalars.proofs.Computes.{computes}
+use Rattle.simd_json_theorems.proofs.Computes.{computes}
 use Rattle.simd_json_theorems.proofs.Rows.Samples.{parsed, nested}
 
 abbrev Row : Type 0

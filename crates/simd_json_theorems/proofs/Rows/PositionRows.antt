@@ -4,7 +4,7 @@ use Rattle.std.specs.Prelude.{codes}
 use Rattle.std.specs.List.{range_with_len}
 use Rattle.simd_json_parts.specs.Bytes.{quote, backslash}
 use Rattle.simd_json_parts.specs.Positions.{positions}
-use Rattle.simd_json_scalars.proofs.Computes.{computes}
+use Rattle.simd_json_theorems.proofs.Computes.{computes}
 use Rattle.simd_json_theorems.proofs.Rows.Samples.{spaces}
 
 abbrev Row : Type 0

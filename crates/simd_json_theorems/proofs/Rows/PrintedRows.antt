@@ -3,7 +3,7 @@ use Rattle.std.proofs.Common.{◌≡◌, refl, ℕ, List, [], ◌∷◌, ◌++�
 use Rattle.std.specs.Prelude.{codes}
 use Rattle.std.specs.Fmt.{digits}
 use Rattle.simd_json_parts.specs.Printed.{quoted, compact, pretty}
-use Rattle.simd_json_scalars.proofs.Computes.{computes}
+use Rattle.simd_json_theorems.proofs.Computes.{computes}
 use Rattle.simd_json_theorems.proofs.Rows.Samples.{parsed}
 
 abbrev Row : Type 0

@@ -8,7 +8,7 @@ use Rattle.simd_json_parts.specs.Views as views
 use Rattle.simd_json_parts.specs.declared.node.TryTypeError.{TryTypeError}
 use Rattle.simd_json_parts.specs.declared.node.ValueType.{ValueType}
 use Rattle.simd_json_parts.specs.declared.node.ValueType.TheVariants as kinds
-use Rattle.simd_json_scalars.proofs.Computes.{computes}
+use Rattle.simd_json_theorems.proofs.Computes.{computes}
 use Rattle.simd_json_theorems.proofs.Rows.Samples.{list, pairs, parsed}
 
 abbrev number : ℕ → Document

@@ -10,7 +10,7 @@ use Rattle.simd_json_parts.specs.Limits.{WithinLimits, depth, IntegersFit}
 use Rattle.simd_json_parts.specs.declared.error.Error.{Error}
 use Rattle.simd_json_theorems.proofs.Sound.TokensInPlace.{tokens-spelled}
 use Rattle.simd_json_theorems.proofs.Sound.Descent.{descent-sound}
-use Rattle.simd_json_scalars.proofs.Positions.CleanInputs.{IsClean, IsClean-input}
+use Rattle.simd_json_parts.proofs.Positions.CleanInputs.{IsClean, IsClean-input}
 
 -- A document comes from the descent of an input without a fault.
 fault_or-Ok : (o : Option Error) (r : Result Document Error) (d : Document) → fault_or o r ≡ Ok d → (o ≡ None) × (r ≡ Ok d)

@@ -18,7 +18,7 @@ use Rattle.simd_json_parts.specs.NumberAt.{number_at, integer_or, first_excess}
 use Rattle.simd_json_parts.specs.declared.error.Error.{Error}
 use Rattle.simd_json_parts.specs.declared.error.ErrorType.{ErrorType}
 use Rattle.simd_json_parts.specs.declared.error.ErrorType.TheVariants.{ExpectedTrue, ExpectedFalse, ExpectedNull}
-use Rattle.simd_json_scalars.proofs.Patterns.Sets.{matches-Matches, Matches-matches}
+use Rattle.simd_json_parts.proofs.Patterns.Sets.{matches-Matches, Matches-matches}
 use Rattle.simd_json_scalars.proofs.Numbers.Literals.{number-integer_or_decimal}
 use Rattle.simd_json_theorems.proofs.Sound.SpelledTokens.{Accepted, Owned}
 

@@ -8,7 +8,7 @@ use Rattle.simd_json_parts.specs.Grammar.{IsWhitespace, IsValue}
 use Rattle.simd_json_parts.specs.Strings.{IsStringLiteral}
 use Rattle.simd_json_parts.specs.Tokens.{Token, Form, begin_array, end_array, begin_object, end_object, name_separator}
 use Rattle.simd_json_parts.specs.Tokens.{value_separator, string_token, scalar}
-use Rattle.simd_json_scalars.specs.TokensAlong.{goes_on}
+use Rattle.simd_json_parts.specs.TokensAlong.{goes_on}
 use Rattle.simd_json_parts.specs.Descent.{◌>>=◌}
 use Rattle.simd_json_parts.specs.declared.error.Error.{Error}
 

@@ -9,8 +9,8 @@ use Rattle.simd_json_parts.specs.Bytes.{quote, backslash, byte_at}
 use Rattle.simd_json_parts.specs.Strings.{ArePieces}
 use Rattle.simd_json_parts.specs.StringAt.{escape_at, piece_at, with_piece, read_pieces}
 use Rattle.simd_json_parts.specs.Positions.{is_even, backslashes_before, is_real_quote}
-use Rattle.simd_json_scalars.proofs.Lists.Drops.{drop-head}
-use Rattle.simd_json_scalars.proofs.Positions.Scan.{NoneBetween}
+use Rattle.simd_json_parts.proofs.Lists.Drops.{drop-head}
+use Rattle.simd_json_parts.proofs.Positions.Scan.{NoneBetween}
 use Rattle.simd_json_scalars.proofs.Strings.Pieces.{read_piece}
 use Rattle.simd_json_theorems.proofs.Literals.Quotes.{Passed, pass_piece, real_quote}
 use Rattle.simd_json_theorems.proofs.Sound.Escapes.{HasPiece, escape-cases}

@@ -15,14 +15,14 @@ use Rattle.simd_json_parts.specs.declared.error.ErrorType.TheVariants.{InvalidEs
 use Rattle.simd_json_parts.specs.Strings.{ArePieces}
 use Rattle.simd_json_parts.specs.Positions.{is_even, is_real_quote, is_inside}
 use Rattle.simd_json_parts.specs.StringAt.{closing_quote, read_pieces, string_read, string_at}
-use Rattle.simd_json_scalars.proofs.Positions.Boundaries.{Boundary, closing_quote-next, closed-inside}
-use Rattle.simd_json_scalars.proofs.Lists.Drops.{drop-head, drop-through}
+use Rattle.simd_json_parts.proofs.Positions.Boundaries.{Boundary, closing_quote-next, closed-inside}
+use Rattle.simd_json_parts.proofs.Lists.Drops.{drop-head, drop-through}
 use Rattle.simd_json_theorems.proofs.Literals.Quotes.{run_ends}
-use Rattle.simd_json_scalars.proofs.Positions.Scan.{NoneBetween, is_inside-at}
+use Rattle.simd_json_parts.proofs.Positions.Scan.{NoneBetween, is_inside-at}
 use Rattle.simd_json_theorems.proofs.Sound.Tokens.{StringStands}
 use Rattle.simd_json_theorems.proofs.Sound.FaultsWithin.{StringFault}
 use Rattle.simd_json_theorems.proofs.Sound.Strings.{ArePiecesRead, pieces-read}
-use Rattle.simd_json_scalars.proofs.Positions.CleanInputs.{IsClean, control-inside}
+use Rattle.simd_json_parts.proofs.Positions.CleanInputs.{IsClean, control-inside}
 
 -- the string that opens at a boundary of such an input
 module _ (b : List ℕ) (fine : IsClean b) (k : ℕ) (l : k < length b) (at : Boundary b k) (e : (byte_at b k == quote) ≡ true) where

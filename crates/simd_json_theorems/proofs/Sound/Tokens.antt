@@ -9,7 +9,7 @@ use Rattle.simd_json_parts.specs.StringAt.{string_at}
 use Rattle.simd_json_parts.specs.Tokens.{Form, begin_array, end_array, begin_object, end_object, name_separator, value_separator}
 use Rattle.simd_json_parts.specs.Tokens.{string_token, scalar, stray, form_at}
 use Rattle.simd_json_parts.specs.declared.error.Error.{Error}
-use Rattle.simd_json_scalars.proofs.Positions.Boundaries.{Boundary}
+use Rattle.simd_json_parts.proofs.Positions.Boundaries.{Boundary}
 use Rattle.simd_json_theorems.proofs.Sound.SpelledTokens.{IsOwn, Owned}
 use Rattle.simd_json_theorems.proofs.Sound.Scalars.{ScalarStands, atom-stands, number-stands}
 

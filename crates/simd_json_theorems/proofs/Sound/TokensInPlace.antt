@@ -12,11 +12,11 @@ use Rattle.simd_json_parts.specs.Positions.{real_quotes}
 use Rattle.simd_json_parts.specs.Strings.{IsStringLiteral}
 use Rattle.simd_json_parts.specs.Tokens.{Form, begin_array, end_array, begin_object, end_object, name_separator, value_separator}
 use Rattle.simd_json_parts.specs.Tokens.{string_token, scalar, stray, Token, form_at, after_token, tokens_from, tokens}
-use Rattle.simd_json_scalars.specs.TokensAlong.{goes_on}
-use Rattle.simd_json_scalars.proofs.Positions.Boundaries.{Boundary, EndsBefore, boundary-space}
-use Rattle.simd_json_scalars.proofs.Positions.CleanInputs.{IsClean}
-use Rattle.simd_json_scalars.proofs.Positions.TokensAtPositions.{tokens_at, tokens_at-end, tokens_from-skip, tokens_at-space}
-use Rattle.simd_json_scalars.proofs.Positions.TokensAtPositions.{tokens_at-token, IsEnded, IsEnded-form}
+use Rattle.simd_json_parts.specs.TokensAlong.{goes_on}
+use Rattle.simd_json_parts.proofs.Positions.Boundaries.{Boundary, EndsBefore, boundary-space}
+use Rattle.simd_json_parts.proofs.Positions.CleanInputs.{IsClean}
+use Rattle.simd_json_parts.proofs.Positions.TokensAtPositions.{tokens_at, tokens_at-end, tokens_from-skip, tokens_at-space}
+use Rattle.simd_json_parts.proofs.Positions.TokensAtPositions.{tokens_at-token, IsEnded, IsEnded-form}
 use Rattle.simd_json_theorems.proofs.Sound.SpelledTokens.{Accepted, Prefix, IsOwn, AreTokens, Owned}
 use Rattle.simd_json_theorems.proofs.Sound.Tokens.{FormStands, form-stands}
 use Rattle.simd_json_theorems.proofs.Sound.StringsInPlace.{string-stands, string-fault}

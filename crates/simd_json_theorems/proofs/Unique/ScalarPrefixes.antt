@@ -13,7 +13,7 @@ use Rattle.simd_json_parts.specs.Patterns.{Matches}
 use Rattle.simd_json_parts.specs.Strings.{ArePieces, IsStringLiteral}
 use Rattle.simd_json_parts.specs.StringAt.{string_at}
 use Rattle.simd_json_scalars.proofs.Numbers.Literals.{integer-number, decimal-number, integer-not_decimal}
-use Rattle.simd_json_scalars.proofs.Patterns.Bytes.{longest_prefix-append}
+use Rattle.simd_json_parts.proofs.Patterns.Bytes.{longest_prefix-append}
 use Rattle.simd_json_theorems.proofs.Literals.Quotes.{string_at-literal}
 use Rattle.simd_json_theorems.proofs.Unique.SpacedPrefixes.{Ended, append-replace}
 

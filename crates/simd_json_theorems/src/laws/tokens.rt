@@ -7,7 +7,7 @@ ghost use Rattle.simd_json_parts.specs.InputFaults.{has_bad_string};
 ghost use Rattle.simd_json_parts.specs.Positions.{positions, is_position, is_inside};
 ghost use Rattle.simd_json_parts.specs.StringAt.{closing_quote};
 ghost use Rattle.simd_json_parts.specs.Tokens.{Token, token_end, tokens};
-ghost use Rattle.simd_json_scalars.specs.TokensAlong.{tokens_along};
+ghost use Rattle.simd_json_parts.specs.TokensAlong.{tokens_along};
 
 /// Positions rise, and they are the indexes that the definition picks.
 pub fn positions_rise()

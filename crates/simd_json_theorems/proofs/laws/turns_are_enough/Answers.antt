@@ -1,7 +1,7 @@
 use Rattle.simd_json_parts.specs.Descent.{value_from}
-use Rattle.simd_json_scalars.proofs.Descent.ArrayTurns.{elements_by-turn}
-use Rattle.simd_json_scalars.proofs.Descent.ObjectTurns.{members_by-turn}
-use Rattle.simd_json_scalars.proofs.Descent.Shrinking.{value_from-takes}
+use Rattle.simd_json_parts.proofs.Descent.ArrayTurns.{elements_by-turn}
+use Rattle.simd_json_parts.proofs.Descent.ObjectTurns.{members_by-turn}
+use Rattle.simd_json_parts.proofs.Descent.Shrinking.{value_from-takes}
 use Rattle.simd_json_theorems.proofs.laws.turns_are_enough.Goals as goal
 
 pub returns-clause-elements : goal.returns-clause-elements

@@ -1,4 +1,4 @@
-use Rattle.std.proofs.Common.{◌≡◌, ◌≢◌, refl, sym, ap, subst, ◌∙◌, ℕ, ◌+◌, ◌<◌, ◌≤◌, ◌%◌, ◌==◌, ◌⊎◌, inl, inr, List, take, drop}
+use Rattle.std.proofs.Common.{◌≡◌, ◌≢◌, sym, ap, subst, ◌∙◌, ℕ, ◌+◌, ◌≤◌, ◌%◌, ◌==◌, ◌⊎◌, inl, inr, List, take, drop}
 use Rattle.std.proofs.Common.{get_or, true, false, arith}
 use mir.Val.{bool_byte}
 use Rattle.std.specs.Char.{is_ascii_digit}

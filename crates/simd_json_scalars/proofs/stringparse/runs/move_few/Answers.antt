@@ -1,5 +1,5 @@
 use Rattle.std.proofs.Common.{◌-◌, arith}
-use Rattle.simd_json_scalars.proofs.Lists.Moves.{two-stored}
+use Rattle.simd_json_parts.proofs.Lists.Moves.{two-stored}
 use Rattle.simd_json_scalars.proofs.stringparse.runs.move_few.Goals as goal
 
 pub returns-then-len-lt16 : goal.returns-then-len-lt16

@@ -3,9 +3,9 @@ use Rattle.std.specs.List.{prefix_len}
 use lib.Count.{count_trailing_zeros}
 use lib.Lanes.{chunk, put_chunk}
 use Rattle.simd_json_scalars.specs.StringContent.{is_plain, is_stop}
-use Rattle.simd_json_scalars.proofs.Lists.Drops.{drop-further}
-use Rattle.simd_json_scalars.proofs.Lists.LaneRuns.{run-through, run-ends, run-within}
-use Rattle.simd_json_scalars.proofs.Lists.Moves.{Moved, moved-more, moved-rest, moved-ahead, put_chunk-paste}
+use Rattle.simd_json_parts.proofs.Lists.Drops.{drop-further}
+use Rattle.simd_json_parts.proofs.Lists.LaneRuns.{run-through, run-ends, run-within}
+use Rattle.simd_json_parts.proofs.Lists.Moves.{Moved, moved-more, moved-rest, moved-ahead, put_chunk-paste}
 use Rattle.simd_json_scalars.proofs.Strings.Decoding.{run-inside}
 use Rattle.simd_json_scalars.proofs.stringparse.runs.move_plain.Goals as goal
 

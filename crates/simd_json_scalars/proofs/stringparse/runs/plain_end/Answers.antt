@@ -1,7 +1,7 @@
 use Rattle.std.proofs.Common.{refl, sym, ap, ◌∙◌, arith}
 use lib.Count.{count_trailing_zeros}
 use Rattle.simd_json_scalars.specs.StringContent.{is_stop}
-use Rattle.simd_json_scalars.proofs.Lists.LaneRuns.{run-through, run-ends}
+use Rattle.simd_json_parts.proofs.Lists.LaneRuns.{run-through, run-ends}
 use Rattle.simd_json_scalars.proofs.Strings.Decoding.{run-inside}
 use Rattle.simd_json_scalars.proofs.stringparse.runs.plain_end.Goals as goal
 

@@ -1,5 +1,5 @@
 use Rattle.std.proofs.Common.{arith}
-use Rattle.simd_json_scalars.proofs.Lists.LaneRuns.{mask-either}
+use Rattle.simd_json_parts.proofs.Lists.LaneRuns.{mask-either}
 use Rattle.simd_json_scalars.proofs.stringparse.runs.stops.Goals as goal
 
 pub returns : goal.returns

@@ -1,4 +1,4 @@
-use Rattle.simd_json_scalars.proofs.Patterns.Sets.{Begins-longest_prefix, longest_prefix-longest}
+use Rattle.simd_json_parts.proofs.Patterns.Sets.{Begins-longest_prefix, longest_prefix-longest}
 use Rattle.simd_json_theorems.proofs.laws.numbers.longest_prefixes.Goals as goal
 
 pub returns-clause-begins : goal.returns-clause-begins

@@ -1,4 +1,4 @@
-use Rattle.simd_json_scalars.proofs.Patterns.Sets.{Matches-matches, matches-Matches}
+use Rattle.simd_json_parts.proofs.Patterns.Sets.{Matches-matches, matches-Matches}
 use Rattle.simd_json_theorems.proofs.laws.numbers.patterns_are_sets.Goals as goal
 
 pub returns : goal.returns

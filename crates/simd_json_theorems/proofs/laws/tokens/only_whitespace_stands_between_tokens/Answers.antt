@@ -1,4 +1,4 @@
-use Rattle.simd_json_scalars.proofs.Positions.Between.{position-first, no_position-within, whitespace-after}
+use Rattle.simd_json_parts.proofs.Positions.Between.{position-first, no_position-within, whitespace-after}
 use Rattle.simd_json_theorems.proofs.laws.tokens.only_whitespace_stands_between_tokens.Goals as goal
 
 pub returns-clause-first : goal.returns-clause-first

@@ -1,4 +1,4 @@
-use Rattle.simd_json_scalars.proofs.Positions.Order.{IsStrictlyIncreasing-positions, Contains-positions}
+use Rattle.simd_json_parts.proofs.Positions.Order.{IsStrictlyIncreasing-positions, Contains-positions}
 use Rattle.simd_json_theorems.proofs.laws.tokens.positions_rise.Goals as goal
 
 pub returns-clause-rise : goal.returns-clause-rise

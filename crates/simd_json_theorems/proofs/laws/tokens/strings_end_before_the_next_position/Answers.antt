@@ -1,5 +1,5 @@
 use Rattle.std.proofs.Common.{◌-◌, arith}
-use Rattle.simd_json_scalars.proofs.Positions.Between.{string-ends}
+use Rattle.simd_json_parts.proofs.Positions.Between.{string-ends}
 use Rattle.simd_json_theorems.proofs.laws.tokens.strings_end_before_the_next_position.Goals as goal
 
 pub returns : goal.returns

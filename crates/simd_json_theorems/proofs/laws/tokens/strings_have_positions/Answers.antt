@@ -1,4 +1,4 @@
-use Rattle.simd_json_scalars.proofs.Positions.Order.{positions-inside, positions-bad}
+use Rattle.simd_json_parts.proofs.Positions.Order.{positions-inside, positions-bad}
 use Rattle.simd_json_theorems.proofs.laws.tokens.strings_have_positions.Goals as goal
 
 pub returns-clause-inside : goal.returns-clause-inside

@@ -1,6 +1,6 @@
 use Rattle.std.proofs.Common.{arith}
 use Rattle.std.proofs.lemmas.Simd.{length-chunk}
-use Rattle.simd_json_scalars.proofs.Lists.LaneRuns.{mask-either}
+use Rattle.simd_json_parts.proofs.Lists.LaneRuns.{mask-either}
 use Rattle.simd_json.proofs.value.pointer.front.stops.Goals as goal
 
 pub returns : goal.returns

@@ -2,8 +2,8 @@ use Rattle.std.proofs.Common.{◌≡◌, ◌<◌, ◌≤◌, ◌+◌, List, get_
 use Rattle.simd_json_parts.specs.Document.{Document}
 use Rattle.simd_json_parts.specs.Nodes.{item_of}
 use Rattle.simd_json_parts.specs.declared.node.Node.{Node}
-use Rattle.simd_json_scalars.specs.Headers.{count_of}
-use Rattle.simd_json_scalars.proofs.Documents.Fronts.{positive, sized, within}
+use Rattle.simd_json_parts.specs.Headers.{count_of}
+use Rattle.simd_json_parts.proofs.Documents.Fronts.{positive, sized, within}
 use Rattle.simd_json.specs.Tapes.{StandsFor}
 use Rattle.simd_json.proofs.Listed.{sized-scalar}
 use Rattle.simd_json.proofs.value.tape.value.size.Goals as goal

@@ -21,15 +21,15 @@ use Rattle.simd_json_parts.specs.StringAt.{string_at, string_read, closing_quote
 use Rattle.simd_json_parts.specs.Tokens.{Form, begin_array, end_array, begin_object, end_object, name_separator, value_separator}
 use Rattle.simd_json_parts.specs.Tokens.{string_token, scalar, stray, Token, form_at, after_token}
 use Rattle.simd_json_parts.specs.Tokens.{token_or_space, tokens_from, tokens}
-use Rattle.simd_json_scalars.specs.TokensAlong.{goes_on, tokens_along}
+use Rattle.simd_json_parts.specs.TokensAlong.{goes_on, tokens_along}
 use Rattle.simd_json_parts.specs.declared.error.ErrorType.{ErrorType}
 use Rattle.simd_json_parts.specs.declared.error.ErrorType.TheVariants.{ExpectedTrue, ExpectedFalse, ExpectedNull}
-use Rattle.simd_json_scalars.proofs.Patterns.Sets.{matches-Matches, longest_prefix-le}
-use Rattle.simd_json_scalars.proofs.Patterns.Bytes.{All-Matches}
-use Rattle.simd_json_scalars.proofs.Positions.Scan.{positions_from, positions_from-end, positions_from-position}
-use Rattle.simd_json_scalars.proofs.Positions.Scan.{positions_from-other, positions_from-through}
-use Rattle.simd_json_scalars.proofs.Positions.Boundaries.{Boundary, EndsBefore, is_position-space, boundary-space}
-use Rattle.simd_json_scalars.proofs.Positions.Boundaries.{is_position-token, ends-structural, ends-string, ends-run, is_special}
+use Rattle.simd_json_parts.proofs.Patterns.Sets.{matches-Matches, longest_prefix-le}
+use Rattle.simd_json_parts.proofs.Patterns.Bytes.{All-Matches}
+use Rattle.simd_json_parts.proofs.Positions.Scan.{positions_from, positions_from-end, positions_from-position}
+use Rattle.simd_json_parts.proofs.Positions.Scan.{positions_from-other, positions_from-through}
+use Rattle.simd_json_parts.proofs.Positions.Boundaries.{Boundary, EndsBefore, is_position-space, boundary-space}
+use Rattle.simd_json_parts.proofs.Positions.Boundaries.{is_position-token, ends-structural, ends-string, ends-run, is_special}
 
 -- ---- the tokens from index i on
 

@@ -5,7 +5,7 @@ use Rattle.std.proofs.lemmas.List.Edits.{take-paste, drop-paste, length-paste}
 use Rattle.std.proofs.lemmas.Simd.{put_chunk_is, length-chunk, length-put_chunk}
 use lib.Seq.{paste}
 use lib.Lanes.{chunk, put_chunk}
-use Rattle.simd_json_scalars.proofs.Lists.Drops.{drop-further}
+use Rattle.simd_json_parts.proofs.Lists.Drops.{drop-further}
 
 -- of the bytes from `from` on, so many stand at `to`, and nothing after them has changed
 pub record Moved (old new : List ℕ) (from to done : ℕ) : Type 0 where

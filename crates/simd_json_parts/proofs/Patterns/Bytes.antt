@@ -10,7 +10,7 @@ use Rattle.std.proofs.Math.Seq.{take-append_seam}
 use Rattle.simd_json_parts.specs.Bytes.{byte_at}
 use Rattle.simd_json_parts.specs.Patterns.{Pattern, never, empty, range, ◌then◌, ◌or◌, many, Matches, Begins}
 use Rattle.simd_json_parts.specs.Derivatives.{longest_prefix}
-use Rattle.simd_json_scalars.proofs.Patterns.Sets.{Matches-is_possible, Begins-longest_prefix, longest_prefix-longest, longest_prefix-le}
+use Rattle.simd_json_parts.proofs.Patterns.Sets.{Matches-is_possible, Begins-longest_prefix, longest_prefix-longest, longest_prefix-le}
 
 -- the byte after a prefix
 pub byte_at-append : (xs ys : List ℕ) → byte_at (xs ++ ys) (length xs) ≡ byte_at ys 0

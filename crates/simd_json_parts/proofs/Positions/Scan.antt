@@ -5,7 +5,7 @@ use Rattle.std.specs.List.{range_with_len}
 use Rattle.std.proofs.lemmas.Bool.{cases_lt, cond-true, cond-false}
 use Rattle.simd_json_parts.specs.Bytes.{is_whitespace, is_structural, byte_at}
 use Rattle.simd_json_parts.specs.Positions.{is_even, is_real_quote, real_quotes, is_inside, is_fresh, is_position}
-use Rattle.simd_json_scalars.proofs.Lists.Parity.{is_even-suc}
+use Rattle.simd_json_parts.proofs.Lists.Parity.{is_even-suc}
 
 -- No index from k up to m passes.
 abbrev pub NoneBetween : (ℕ → Bool) → ℕ → ℕ → Type 0

@@ -3,11 +3,11 @@ use Rattle.std.proofs.Common.{◌≡◌, ◌∙◌, ap, sym, ◌<◌, ◌≤◌,
 use Rattle.std.proofs.Common.{drop, arith}
 use Rattle.std.proofs.Math.Seq.{take-append_seam, drop-append_seam}
 use Rattle.std.proofs.lemmas.List.{length-map, take-map, drop-map}
-use Rattle.simd_json_scalars.proofs.Documents.Listing.{IsHeaded-document}
+use Rattle.simd_json_parts.proofs.Documents.Listing.{IsHeaded-document}
 use Rattle.simd_json_parts.specs.Document.{Document}
 use Rattle.simd_json_parts.specs.Listing.{listing}
 use Rattle.simd_json_parts.specs.Nodes.{Item, item_of}
-use Rattle.simd_json_scalars.specs.Headers.{count_of}
+use Rattle.simd_json_parts.specs.Headers.{count_of}
 use Rattle.simd_json_parts.specs.declared.node.Node.{Node}
 
 -- it has a node

@@ -11,7 +11,7 @@ use Rattle.simd_json_parts.specs.Descent.{value_with, too_deep, value_from}
 use Rattle.simd_json_parts.specs.declared.error.Error.{Error}
 use Rattle.simd_json_parts.specs.declared.error.ErrorType.{ErrorType}
 use Rattle.simd_json_parts.specs.declared.error.ErrorType.TheVariants.{ExpectedObjectKey, ExpectedObjectContent}
-use Rattle.simd_json_scalars.proofs.Descent.ArrayTurns.{TakesTokens, Leaves}
+use Rattle.simd_json_parts.proofs.Descent.ArrayTurns.{TakesTokens, Leaves}
 
 bind-Leaves : {A B : Type 0} (r : Result A Error) (f : A → Result (B × List Token) Error) (P : A → Type 0) (n : ℕ) → IfOk r P
     → ((x : A) → P x → Leaves (f x) n) → Leaves (r >>= f) n

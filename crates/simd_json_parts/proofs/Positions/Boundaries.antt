@@ -12,8 +12,8 @@ use Rattle.std.specs.List.{All, position_or_len, range_with_len}
 use Rattle.simd_json_parts.specs.StringAt.{closing_quote}
 use Rattle.simd_json_parts.specs.Bytes.{quote, backslash, is_whitespace, is_structural, is_terminator, byte_at}
 use Rattle.simd_json_parts.specs.Positions.{is_even, backslashes_before, is_real_quote, is_inside, is_fresh, is_position}
-use Rattle.simd_json_scalars.proofs.Positions.Scan.{NoneBetween, is_closed, is_closed-quote, is_closed-other, is_closed-through}
-use Rattle.simd_json_scalars.proofs.Positions.Scan.{is_inside-at, is_position-picks}
+use Rattle.simd_json_parts.proofs.Positions.Scan.{NoneBetween, is_closed, is_closed-quote, is_closed-other, is_closed-through}
+use Rattle.simd_json_parts.proofs.Positions.Scan.{is_inside-at, is_position-picks}
 
 -- no string is open before index k, and a token can begin there
 pub record Boundary (b : List ℕ) (k : ℕ) : Type 0 where

@@ -3,14 +3,14 @@ use Rattle.std.proofs.Common.{◌≡◌, refl, sym, ◌∙◌, ap, ℕ, Bool, Li
 use Rattle.std.specs.Prelude.{Some, None}
 use Rattle.simd_json_parts.specs.Document.{Document, null, boolean, integer, decimal, string, array, object, Elements, no_elements}
 use Rattle.simd_json_parts.specs.Document.{element, elements, Members, no_members, member, members}
-use Rattle.simd_json_scalars.specs.Headers.{IsHeaded}
+use Rattle.simd_json_parts.specs.Headers.{IsHeaded}
 use Rattle.simd_json_parts.specs.Integers.{number_of, integer_node}
 use Rattle.simd_json_parts.specs.Listing.{listing, elements_listing, members_listing}
 use Rattle.simd_json_parts.specs.Nodes.{Item, static_item, decimal_item, string_item, array_item, object_item}
 use Rattle.simd_json_parts.specs.StaticNodes.{number_in}
 use Rattle.simd_json_parts.specs.declared.node.StaticNode.{StaticNode}
 use Rattle.simd_json_parts.specs.declared.node.StaticNode.TheVariants as fixed
-use Rattle.simd_json_scalars.proofs.Documents.Integers.{number_in-integer_node, integer_node_cancel}
+use Rattle.simd_json_parts.proofs.Documents.Integers.{number_in-integer_node, integer_node_cancel}
 
 -- A listing is a first node and as many more as its `count` says, with as many members as its `len`.
 pub IsHeaded-document : (d : Document) → IsHeaded d

@@ -13,12 +13,12 @@ use Rattle.simd_json_parts.specs.Positions.{real_quotes, is_position, positions}
 use Rattle.simd_json_parts.specs.StringAt.{closing_quote}
 use Rattle.simd_json_parts.specs.Tokens.{Form, string_token, scalar, stray, Token, form_at, form_end, token_end, after_token}
 use Rattle.simd_json_parts.specs.Tokens.{tokens_from, tokens}
-use Rattle.simd_json_scalars.specs.TokensAlong.{goes_on, tokens_along}
-use Rattle.simd_json_scalars.proofs.Positions.Scan.{NoneBetween}
-use Rattle.simd_json_scalars.proofs.Positions.Boundaries.{Boundary, EndsBefore, is_position-token, boundary-space, ends-string}
-use Rattle.simd_json_scalars.proofs.Positions.Order.{IsStrictlyIncreasing-positions, Contains-positions}
-use Rattle.simd_json_scalars.proofs.Positions.TokensAtPositions.{tokens_at, tokens_at-end, tokens_at-space, tokens_at-token}
-use Rattle.simd_json_scalars.proofs.Positions.TokensAtPositions.{tokens_from-skip, IsEnded, IsEnded-form, tokens-positions}
+use Rattle.simd_json_parts.specs.TokensAlong.{goes_on, tokens_along}
+use Rattle.simd_json_parts.proofs.Positions.Scan.{NoneBetween}
+use Rattle.simd_json_parts.proofs.Positions.Boundaries.{Boundary, EndsBefore, is_position-token, boundary-space, ends-string}
+use Rattle.simd_json_parts.proofs.Positions.Order.{IsStrictlyIncreasing-positions, Contains-positions}
+use Rattle.simd_json_parts.proofs.Positions.TokensAtPositions.{tokens_at, tokens_at-end, tokens_at-space, tokens_at-token}
+use Rattle.simd_json_parts.proofs.Positions.TokensAtPositions.{tokens_from-skip, IsEnded, IsEnded-form, tokens-positions}
 
 -- ---- where a token is read
 

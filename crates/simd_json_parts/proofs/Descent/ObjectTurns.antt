@@ -7,8 +7,8 @@ use Rattle.simd_json_parts.specs.Descent.{◌>>=◌, Reads, name_from, name_end,
 use Rattle.simd_json_parts.specs.declared.error.Error.{Error}
 use Rattle.simd_json_parts.specs.declared.error.ErrorType.{ErrorType}
 use Rattle.simd_json_parts.specs.declared.error.ErrorType.TheVariants.{ExpectedObjectKey}
-use Rattle.simd_json_scalars.proofs.Descent.ArrayTurns.{TakesTokens}
-use Rattle.simd_json_scalars.proofs.Descent.Shrinking.{name_from-leaves, name_end-leaves}
+use Rattle.simd_json_parts.proofs.Descent.ArrayTurns.{TakesTokens}
+use Rattle.simd_json_parts.proofs.Descent.Shrinking.{name_from-leaves, name_end-leaves}
 
 -- what goes on alike from each answer goes on alike
 bind_same : {A B : Type 0} (r : Result A Error) (f g : A → Result B Error) (P : A → Type 0) → IfOk r P
