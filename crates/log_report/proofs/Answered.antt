@@ -2,7 +2,7 @@
 use Rattle.std.proofs.Common.{◌≡◌, ◌∙◌, ap, sym, subst, inl, inr, ℕ, ◌≤◌, List, length, false, Some, Result, Ok, Err}
 use Rattle.std.specs.Result.{result_err}
 use Rattle.jtape.specs.Pieces.{is_blank}
-use Rattle.simd_json.proofs.Listed.{known}
+use Rattle.simd_json.proofs.Views.Listed.{known}
 use Rattle.simd_json.specs.MaxDepth.{default_max_depth}
 use Rattle.simd_json.specs.Memory.{HasMemory}
 use Rattle.simd_json.specs.Parsed.{IsParse, IsParsed}

@@ -1,21 +1,5 @@
-mod ParseLaws
-mod ParseEnds
-mod ParseAnswers
-mod Reservations
-pub mod Listed
-mod Compared
-mod Split
-mod Descending
-mod Beneath
+mod Parses
+pub mod Views
 pub mod Walks
-mod MapCompared
-mod Printable
-mod Encoded
-mod Pointed
-mod Ends
-mod Splitting
-mod StringScan
-mod ByteBefore
-mod Keys
-mod Indexes
-mod Fronts
+mod Pointers
+mod Places

@@ -122,7 +122,7 @@ impl Location {
 ///     Ok(location.map(|location| location.line()))
 /// }
 /// ```
-#[tactic(auto, using(crate::proofs::ParseLaws::large_answered))]
+#[tactic(auto, using(crate::proofs::Parses::ParseLaws::large_answered))]
 pub fn locate<A: Allocator + Copy>(
     alloc: A,
     input: &[u8],

@@ -13,7 +13,7 @@ use Rattle.simd_json_parts.specs.declared.error.Error.{Error}
 use Rattle.simd_json_parts.specs.Printed.{escaped_byte, quoted, text, elements_text, members_text, compact}
 use Rattle.simd_json_theorems.proofs.Printing.Shortest.{compact-shortest}
 use Rattle.simd_json.specs.Parsed.{IsParse, IsParsed}
-use Rattle.simd_json.proofs.Listed.{known}
+use Rattle.simd_json.proofs.Views.Listed.{known}
 use Rattle.simd_json_c.specs.Nodes.{room_for, text_of, texts}
 use Rattle.simd_json_c.specs.declared.nodes.Room.{Room}
 

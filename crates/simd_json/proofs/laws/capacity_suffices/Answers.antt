@@ -1,4 +1,4 @@
-use Rattle.simd_json.proofs.ParseAnswers.{has-memory}
+use Rattle.simd_json.proofs.Parses.ParseAnswers.{has-memory}
 use Rattle.simd_json.proofs.laws.capacity_suffices.Goals as goal
 
 pub returns : goal.returns

@@ -1,4 +1,4 @@
-use Rattle.simd_json.proofs.ParseAnswers.{tokens-have-characters}
+use Rattle.simd_json.proofs.Parses.ParseAnswers.{tokens-have-characters}
 use Rattle.simd_json.proofs.laws.faults_of_tokens_have_characters.Goals as goal
 
 pub returns : goal.returns

@@ -1,4 +1,4 @@
-use Rattle.simd_json.proofs.Listed.{counted}
+use Rattle.simd_json.proofs.Views.Listed.{counted}
 use Rattle.simd_json.proofs.laws.headers_count_nodes_and_members.Goals as goal
 
 pub returns : goal.returns

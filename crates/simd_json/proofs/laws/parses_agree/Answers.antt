@@ -1,6 +1,6 @@
 use Rattle.std.proofs.Common.{subst, take}
 use Rattle.simd_json.specs.Parsed.{IsParse}
-use Rattle.simd_json.proofs.ParseAnswers.{agreed, unpadded}
+use Rattle.simd_json.proofs.Parses.ParseAnswers.{agreed, unpadded}
 use Rattle.simd_json.proofs.laws.parses_agree.Goals as goal
 
 pub returns-clause-same : goal.returns-clause-same

@@ -1,4 +1,4 @@
-use Rattle.simd_json.proofs.ParseAnswers.{as-answered}
+use Rattle.simd_json.proofs.Parses.ParseAnswers.{as-answered}
 use Rattle.simd_json.proofs.laws.parses_are_answers.Goals as goal
 
 pub returns : goal.returns

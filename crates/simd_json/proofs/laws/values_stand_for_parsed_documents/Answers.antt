@@ -2,7 +2,7 @@ use Rattle.std.proofs.Common.{◌≡◌, ◌∙◌, subst, sym, Ok}
 use Rattle.simd_json_parts.specs.Answer.{answer}
 use Rattle.simd_json_parts.specs.Grammar.{Denotes}
 use Rattle.simd_json_parts.specs.Limits.{WithinLimits}
-use Rattle.simd_json.proofs.Listed.{known}
+use Rattle.simd_json.proofs.Views.Listed.{known}
 use Rattle.simd_json.proofs.laws.values_stand_for_parsed_documents.Goals as goal
 
 pub returns : goal.returns

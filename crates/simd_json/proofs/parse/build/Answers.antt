@@ -1,7 +1,7 @@
 use Rattle.std.proofs.Common.{map, rules}
 use Rattle.simd_json_theorems.proofs.Faults.Kinds.{token-fault}
 use Rattle.simd_json_parts.specs.Nodes.{item_of}
-use Rattle.simd_json.proofs.ParseLaws.{refused-token, written-parsed}
+use Rattle.simd_json.proofs.Parses.ParseLaws.{refused-token, written-parsed}
 use Rattle.simd_json.proofs.parse.build.Goals as goal
 
 pub returns-in-Ok-clause-tape : goal.returns-in-Ok-clause-tape

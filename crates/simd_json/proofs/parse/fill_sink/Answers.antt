@@ -2,7 +2,7 @@ use Rattle.std.proofs.Common.{◌∙◌, ap, refl, subst}
 use Rattle.std.specs.Result.{result_err}
 use Rattle.simd_json.specs.Capacities.{HoldsScan, capacity}
 use Rattle.simd_json.specs.Parsed.{IsParse, written}
-use Rattle.simd_json.proofs.ParseEnds.{nodes-within, parse-unread, parse-written, unwritten}
+use Rattle.simd_json.proofs.Parses.ParseEnds.{nodes-within, parse-unread, parse-written, unwritten}
 use Rattle.simd_json.proofs.parse.fill_sink.Goals as goal
 
 pub returns-in_err-find_positions-clause-parse : goal.returns-in_err-find_positions-clause-parse

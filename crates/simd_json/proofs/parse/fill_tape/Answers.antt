@@ -6,7 +6,7 @@ use Rattle.simd_json.specs.Parsed.{IsParsed, IsRefused}
 use Rattle.simd_json.specs.Capacities.{capacity}
 use Rattle.simd_json.specs.Reserved.{bytes_listed}
 use Rattle.simd_json_stages.specs.NodesEnough.{nodes_enough}
-use Rattle.simd_json.proofs.ParseEnds.{built-some, built-tape, bytes-short, parse-built, parse-short, parse-unlisted}
+use Rattle.simd_json.proofs.Parses.ParseEnds.{built-some, built-tape, bytes-short, parse-built, parse-short, parse-unlisted}
 use Rattle.simd_json.proofs.parse.fill_tape.Goals as goal
 
 pub returns-in_err-find_positions-clause-parse : goal.returns-in_err-find_positions-clause-parse

@@ -1,6 +1,6 @@
 use Rattle.std.proofs.Common.{ap, arith, refl}
 use Rattle.std.specs.Result.{result_err}
-use Rattle.simd_json.proofs.Reservations.{reserved-now, reserved-still}
+use Rattle.simd_json.proofs.Parses.Reservations.{reserved-now, reserved-still}
 use Rattle.simd_json.proofs.parse.refill_tape.Goals as goal
 
 pub returns-clause-reserved : goal.returns-clause-reserved

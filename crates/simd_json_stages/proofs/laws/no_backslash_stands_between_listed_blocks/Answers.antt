@@ -1,5 +1,5 @@
 use Rattle.std.proofs.Common.{arith}
-use Rattle.simd_json_stages.proofs.BetweenBlocks.{plain-to_first, plain-to_next}
+use Rattle.simd_json_stages.proofs.Machine.BetweenBlocks.{plain-to_first, plain-to_next}
 use Rattle.simd_json_stages.proofs.laws.no_backslash_stands_between_listed_blocks.Goals as goal
 
 pub returns-clause-first : goal.returns-clause-first

@@ -2,7 +2,7 @@ use Rattle.std.proofs.Common.{ap, subst, ◌∙◌, sym}
 use Rattle.std.specs.Prelude.{Err}
 use Rattle.simd_json_stages.specs.Building.{IsBuilt, IsFirstFault}
 use Rattle.simd_json_stages.specs.Members.{IsTape}
-use Rattle.simd_json_stages.proofs.BuildingSteps.{descent-built, descent-refused}
+use Rattle.simd_json_stages.proofs.Machine.BuildingSteps.{descent-built, descent-refused}
 use Rattle.simd_json_stages.proofs.stage2.build_tape.Goals as goal
 use Rattle.simd_json_stages.proofs.stage2.build_tape.Goals.{then-copy-eq-PLAIN, else-copy-eq-PLAIN+then-copy-eq-CLOSED}
 use Rattle.simd_json_stages.proofs.stage2.build_tape.Goals.{else-copy-eq-PLAIN+else-copy-eq-CLOSED}

@@ -2,9 +2,9 @@ use Rattle.std.proofs.Common.{◌-◌, ◌∙◌, length, sym, inl, inr, arith}
 use Rattle.std.specs.Prelude.{slice_index}
 use Rattle.std.proofs.lemmas.Bool.{eqb-true}
 use Rattle.std.proofs.lemmas.List.{get_or_default}
-use Rattle.simd_json_stages.proofs.Bounds.{inside}
-use Rattle.simd_json_stages.proofs.InputLaws.{no-blocks}
-use Rattle.simd_json_stages.proofs.WholeFaults.{some-listed}
+use Rattle.simd_json_stages.proofs.Machine.Bounds.{inside}
+use Rattle.simd_json_stages.proofs.Machine.InputLaws.{no-blocks}
+use Rattle.simd_json_stages.proofs.Scan.WholeFaults.{some-listed}
 use Rattle.simd_json_stages.proofs.stage2.copy_for.Goals as goal
 use Rattle.simd_json_stages.proofs.stage2.copy_for.Goals.{else-last-ne93-via-then-last-ne93+else-last-ne125}
 use Rattle.simd_json_stages.proofs.stage2.copy_for.Goals.{else-last-ne93-via-else-last-ne93}

@@ -1,7 +1,7 @@
 use Rattle.std.proofs.Common.{◌∙◌, ap, arith, inr, length}
 use Rattle.std.proofs.lemmas.List.{length-take-le}
-use Rattle.simd_json.proofs.ParseEnds.{on-err, right-input, short-stack, unlisted}
-use Rattle.simd_json.proofs.ParseLaws.{few-positions}
+use Rattle.simd_json.proofs.Parses.ParseEnds.{on-err, right-input, short-stack, unlisted}
+use Rattle.simd_json.proofs.Parses.ParseLaws.{few-positions}
 use Rattle.simd_json.proofs.buffers.Buffers.find_positions.Goals as goal
 use Rattle.simd_json_stages.proofs.Exits.{passed-on}
 

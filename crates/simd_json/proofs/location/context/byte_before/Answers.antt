@@ -2,7 +2,7 @@ use Rattle.std.proofs.Common.{◌≡◌, ◌∙◌, ap, arith, sym, suc, ◌-◌
 use Rattle.std.proofs.lemmas.List.{get_or_default}
 use Rattle.simd_json.specs.Reasons.{byte_before}
 use Rattle.simd_json_parts.specs.Bytes.{byte_at, is_whitespace, space}
-use Rattle.simd_json.proofs.ByteBefore.{before-zero, before-white, before-byte, before-min}
+use Rattle.simd_json.proofs.Places.ByteBefore.{before-zero, before-white, before-byte, before-min}
 use Rattle.simd_json.proofs.location.context.byte_before.Goals as goal
 
 pub loop-end-init : goal.loop-end-init

@@ -3,7 +3,7 @@ use Rattle.std.proofs.lemmas.Bool.{cond-true}
 use Rattle.simd_json.specs.Locations.{bad_string, is_control_inside}
 use Rattle.simd_json.specs.declared.location.reason.Reason.TheVariants.{ControlCharacter, OpenString}
 use Rattle.simd_json_parts.specs.Bytes.{byte_at}
-use Rattle.simd_json.proofs.StringScan.{bad-control}
+use Rattle.simd_json.proofs.Places.StringScan.{bad-control}
 use Rattle.simd_json.proofs.location.context.string_reason.Goals as goal
 
 pub returns-then-byte-lt32 : goal.returns-then-byte-lt32

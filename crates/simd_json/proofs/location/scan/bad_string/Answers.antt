@@ -1,6 +1,6 @@
 use Rattle.std.proofs.Common.{◌∙◌, ap, min}
 use Rattle.simd_json.specs.Locations.{bad_string, first_index, is_control_inside, is_left_open}
-use Rattle.simd_json.proofs.StringScan.{first_index-or}
+use Rattle.simd_json.proofs.Places.StringScan.{first_index-or}
 use Rattle.simd_json.proofs.location.scan.bad_string.Goals as goal
 
 pub returns : goal.returns

@@ -1,6 +1,6 @@
 use Rattle.std.proofs.Common.{below_more, length, sym, arith}
 use Rattle.simd_json.specs.Locations.{is_control_inside}
-use Rattle.simd_json.proofs.StringScan.{scan-none, read-after, control-here, control-outside, control-other, first_index-is}
+use Rattle.simd_json.proofs.Places.StringScan.{scan-none, read-after, control-here, control-outside, control-other, first_index-is}
 use Rattle.simd_json.proofs.location.scan.control_inside.Goals as goal
 use Rattle.simd_json.proofs.location.scan.control_inside.Goals.{else-strings-via-then-strings+else-byte-lt32, else-strings-via-else-strings}
 

@@ -1,5 +1,5 @@
 use Rattle.std.proofs.Common.{◌≡◌, ◌<◌, ℕ, false}
-use Rattle.simd_json.proofs.StringScan.{IsScan}
+use Rattle.simd_json.proofs.Places.StringScan.{IsScan}
 use Rattle.simd_json.specs.Locations.{is_control_inside}
 use Rattle.simd_json.proofs.location.scan.control_inside.Given as goal
 

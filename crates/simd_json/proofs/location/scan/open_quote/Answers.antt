@@ -1,5 +1,5 @@
 use Rattle.std.proofs.Common.{◌≡◌, ◌∙◌, ◌+◌, refl, ap, arith, length, sym, subst, if◌then◌else◌}
-use Rattle.simd_json.proofs.StringScan.{IsOpen, scan-none, open-none, read-after, open-past, open-at, open-is}
+use Rattle.simd_json.proofs.Places.StringScan.{IsOpen, scan-none, open-none, read-after, open-past, open-at, open-is}
 use Rattle.simd_json.proofs.location.scan.open_quote.Goals as goal
 use Rattle.simd_json.proofs.location.scan.open_quote.Goals.{then-is_quote+then-strings, then-is_quote+else-strings, else-is_quote}
 

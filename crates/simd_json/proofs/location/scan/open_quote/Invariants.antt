@@ -1,4 +1,4 @@
-use Rattle.simd_json.proofs.StringScan.{IsOpen, IsScan}
+use Rattle.simd_json.proofs.Places.StringScan.{IsOpen, IsScan}
 use Rattle.simd_json.proofs.location.scan.open_quote.Given as goal
 
 abbrev pub invariant-loop-i : goal.invariant-loop-i

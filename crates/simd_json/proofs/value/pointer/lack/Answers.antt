@@ -2,7 +2,7 @@ use Rattle.std.proofs.Common.{◌+◌, ◌∙◌, ap, sym}
 use Rattle.std.specs.List.{slice_range}
 use Rattle.std.specs.Result.{result_ok}
 use Rattle.simd_json.specs.Viewed.{doc}
-use Rattle.simd_json.proofs.Pointed.{lacks-escape, lacks-key, token-step}
+use Rattle.simd_json.proofs.Pointers.Pointed.{lacks-escape, lacks-key, token-step}
 use Rattle.simd_json.proofs.value.pointer.lack.Goals as goal
 
 pub returns-then-is_well_formed : goal.returns-then-is_well_formed

@@ -1,6 +1,6 @@
 use Rattle.std.proofs.Common.{◌-◌, ◌+◌, sym, length, length-drop, drop, true≢false, arith}
 use Rattle.std.proofs.lemmas.List.{take_all}
-use Rattle.simd_json.proofs.Fronts.{plain-front, slash-front}
+use Rattle.simd_json.proofs.Pointers.Fronts.{plain-front, slash-front}
 use Rattle.simd_json.proofs.value.pointer.next_token.Goals as goal
 
 pub overflow_add-result-then-is_tilde_at : goal.overflow_add-result-then-is_tilde_at

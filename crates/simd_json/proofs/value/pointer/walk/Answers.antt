@@ -5,7 +5,7 @@ use Rattle.std.specs.Result.{result_ok}
 use Rattle.simd_json.specs.Followed.{IsPlain, IsTokenAt}
 use Rattle.simd_json.specs.Pointed.{named}
 use Rattle.simd_json.specs.Viewed.{doc}
-use Rattle.simd_json.proofs.Pointed.{further}
+use Rattle.simd_json.proofs.Pointers.Pointed.{further}
 use Rattle.simd_json.proofs.value.pointer.walk.Goals as goal
 
 pub range-text-requires-clause-start_boundary : goal.range-text-requires-clause-start_boundary

@@ -3,7 +3,7 @@ use Rattle.std.proofs.lemmas.Bool.{ne_eqb}
 use Rattle.std.proofs.lemmas.List.{length-take-le}
 use Rattle.simd_json_parts.proofs.Positions.ScannedInputs.{too_large}
 use Rattle.simd_json_parts.specs.Positions.{positions}
-use Rattle.simd_json_stages.proofs.WholeFaults.{bad-found, none-found, some-found, scan-fault}
+use Rattle.simd_json_stages.proofs.Scan.WholeFaults.{bad-found, none-found, some-found, scan-fault}
 use Rattle.simd_json_stages.proofs.stage1.BlockStage1ParseStage1Parse.find_structural_bits.Goals as goal
 use Rattle.simd_json_stages.proofs.Exits.{passed-on}
 

@@ -1,7 +1,7 @@
 use Rattle.std.proofs.Common.{ltb}
 use Rattle.simd_json_stages.specs.Classes.{is_space_or_quote, is_op_or_quote}
-use Rattle.simd_json_stages.proofs.Bits.Lanes.{two_lanes, two_tests, low_lanes, high_lanes, low-length, high-length}
-use Rattle.simd_json_stages.proofs.Bits.Lanes.{ascii_lanes, ascii_bytes}
+use Rattle.simd_json_stages.proofs.Scan.Bits.Lanes.{two_lanes, two_tests, low_lanes, high_lanes, low-length, high-length}
+use Rattle.simd_json_stages.proofs.Scan.Bits.Lanes.{ascii_lanes, ascii_bytes}
 use Rattle.simd_json_stages.proofs.stage1.classes.classes.Goals as goal
 
 pub returns-clause-space_or_quote : goal.returns-clause-space_or_quote

@@ -1,7 +1,7 @@
 use Rattle.std.proofs.Common.{take}
 use Rattle.simd_json_stages.specs.Classes.{is_op_or_quote}
 use Rattle.simd_json_stages.specs.declared.stage1.classes.TheConstants.{OP_OR_QUOTE}
-use Rattle.simd_json_stages.proofs.Bits.Lanes.{low_ok, against_table_with}
+use Rattle.simd_json_stages.proofs.Scan.Bits.Lanes.{low_ok, against_table_with}
 use Rattle.simd_json_stages.proofs.stage1.classes.op_or_quote.Goals as goal
 
 pub swizzle : goal.swizzle

@@ -1,6 +1,6 @@
 use Rattle.std.proofs.Common.{refl}
 use Rattle.std.proofs.lemmas.Bool.{false≢true}
-use Rattle.simd_json_stages.proofs.EncodingLaws.{utf8-whole, utf8-rest}
+use Rattle.simd_json_stages.proofs.Scan.EncodingLaws.{utf8-whole, utf8-rest}
 use Rattle.simd_json_stages.proofs.stage1.encoding.check_rest.Goals as goal
 
 pub returns-then-is_utf8-clause-utf8 : goal.returns-then-is_utf8-clause-utf8

@@ -1,5 +1,5 @@
 use Rattle.std.proofs.Common.{refl, arith}
-use Rattle.simd_json_stages.proofs.EncodingLaws.{utf8-further, utf8-all}
+use Rattle.simd_json_stages.proofs.Scan.EncodingLaws.{utf8-further, utf8-all}
 use Rattle.simd_json_stages.proofs.stage1.encoding.check_up_to.Goals as goal
 
 pub returns-then-is_utf8-clause-utf8 : goal.returns-then-is_utf8-clause-utf8

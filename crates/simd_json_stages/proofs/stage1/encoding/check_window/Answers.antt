@@ -1,6 +1,6 @@
 use Rattle.std.proofs.Common.{◌≡◌, sym, subst, arith}
 use Rattle.simd_json_stages.specs.Blocks.{IsAscii}
-use Rattle.simd_json_stages.proofs.EncodingLaws.{utf8-ascii}
+use Rattle.simd_json_stages.proofs.Scan.EncodingLaws.{utf8-ascii}
 use Rattle.simd_json_stages.proofs.stage1.encoding.check_window.Goals as goal
 
 pub returns-then-checked-start-clause-utf8 : goal.returns-then-checked-start-clause-utf8

@@ -1,4 +1,4 @@
-use Rattle.simd_json_stages.proofs.RestLaws.{IsBlock-last, IsBlock-rest}
+use Rattle.simd_json_stages.proofs.Scan.RestLaws.{IsBlock-last, IsBlock-rest}
 use Rattle.simd_json_stages.proofs.stage1.scan.classify_rest.Goals as goal
 
 pub returns-in-Some : goal.returns-in-Some

@@ -1,6 +1,6 @@
 use Rattle.std.proofs.Common.{◌≡◌, ◌++◌, refl, length, take, drop, sym, ap, eqb-true, arith}
 use Rattle.std.proofs.lemmas.Str.{IsUtf8-nil}
-use Rattle.simd_json_stages.proofs.ScanLaws.{IsScanned-none, IsScanned-capacity, IsScanned-equal, AreBlocks-chunks, written-back}
+use Rattle.simd_json_stages.proofs.Scan.ScanLaws.{IsScanned-none, IsScanned-capacity, IsScanned-equal, AreBlocks-chunks, written-back}
 use Rattle.simd_json_stages.proofs.stage1.scan.scan_blocks.Goals as goal
 
 pub loop-first-init : goal.loop-first-init

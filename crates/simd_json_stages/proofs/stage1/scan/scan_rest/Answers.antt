@@ -4,9 +4,9 @@ use Rattle.std.proofs.lemmas.List.{length-set}
 use lib.Count.{ones}
 use Rattle.simd_json_stages.specs.EscapeBlocks.{blocks_in, backslash_blocks}
 use Rattle.simd_json_stages.specs.Words.{set_bits}
-use Rattle.simd_json_stages.proofs.EncodingLaws.{utf8-reached}
-use Rattle.simd_json_stages.proofs.RestLaws.{whole, rest-bad, rest-positions, rest-few, rest-listed, rest-blocks}
-use Rattle.simd_json_stages.proofs.ScanLaws.{written-back, prefix, stored-next}
+use Rattle.simd_json_stages.proofs.Scan.EncodingLaws.{utf8-reached}
+use Rattle.simd_json_stages.proofs.Scan.RestLaws.{whole, rest-bad, rest-positions, rest-few, rest-listed, rest-blocks}
+use Rattle.simd_json_stages.proofs.Scan.ScanLaws.{written-back, prefix, stored-next}
 use Rattle.simd_json_stages.proofs.stage1.scan.scan_rest.Goals as goal
 use Rattle.simd_json_stages.proofs.stage1.scan.scan_rest.Goals.{then-classified+in_ok-grow-2, else-classified}
 use Rattle.simd_json_stages.proofs.Exits.{passed-on}

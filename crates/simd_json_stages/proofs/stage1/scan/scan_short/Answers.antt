@@ -1,5 +1,5 @@
 use Rattle.std.proofs.Common.{◌≡◌, ◌++◌, length, take, drop, sym, eqb-true, arith}
-use Rattle.simd_json_stages.proofs.ScanLaws.{IsScanned-none, IsScanned-equal, AreBlocks-chunks, written-back}
+use Rattle.simd_json_stages.proofs.Scan.ScanLaws.{IsScanned-none, IsScanned-equal, AreBlocks-chunks, written-back}
 use Rattle.simd_json_stages.proofs.stage1.scan.scan_short.Goals as goal
 
 pub check_window-requires-clause-ascii : goal.check_window-requires-clause-ascii

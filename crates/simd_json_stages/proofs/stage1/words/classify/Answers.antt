@@ -1,8 +1,8 @@
 use Rattle.std.proofs.Common.{◌∙◌, ◌==◌, ap, sym, arith}
 use Rattle.simd_json_parts.specs.Bytes.{backslash}
-use Rattle.simd_json_stages.proofs.Bits.Combined.{bits-same}
-use Rattle.simd_json_stages.proofs.BlockWords.{none-any, escaped-some, escaped-none, classified-found}
-use Rattle.simd_json_stages.proofs.BlockLaws.{escaped_at}
+use Rattle.simd_json_stages.proofs.Scan.Bits.Combined.{bits-same}
+use Rattle.simd_json_stages.proofs.Scan.BlockWords.{none-any, escaped-some, escaped-none, classified-found}
+use Rattle.simd_json_stages.proofs.Scan.BlockLaws.{escaped_at}
 use Rattle.simd_json_stages.proofs.stage1.words.classify.Goals as goal
 
 pub returns-then-m-clause-classified : goal.returns-then-m-clause-classified

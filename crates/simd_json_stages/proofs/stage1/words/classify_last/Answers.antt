@@ -3,11 +3,11 @@ use Rattle.std.specs.List.{list_any, range_with_len}
 use Rattle.simd_json_parts.specs.Bytes.{backslash, is_control, byte_at}
 use Rattle.simd_json_stages.specs.Classes.{is_space_or_quote, is_op_or_quote}
 use Rattle.simd_json_stages.specs.Words.{HasBits, is_set}
-use Rattle.simd_json_stages.proofs.Bits.Combined.{bits-same}
-use Rattle.simd_json_stages.proofs.Bits.Operations.{is_set-zero}
-use Rattle.simd_json_stages.proofs.BlockLaws.{escaped_at}
-use Rattle.simd_json_stages.proofs.BlockWords.{any-bytes, AreEscaped, escaped-some, escaped-none, classified-found}
-use Rattle.simd_json_stages.proofs.RestLaws.{filled, filled-each, filled-bytes, bits-moved, bits-filled, any-set}
+use Rattle.simd_json_stages.proofs.Scan.Bits.Combined.{bits-same}
+use Rattle.simd_json_stages.proofs.Scan.Bits.Operations.{is_set-zero}
+use Rattle.simd_json_stages.proofs.Scan.BlockLaws.{escaped_at}
+use Rattle.simd_json_stages.proofs.Scan.BlockWords.{any-bytes, AreEscaped, escaped-some, escaped-none, classified-found}
+use Rattle.simd_json_stages.proofs.Scan.RestLaws.{filled, filled-each, filled-bytes, bits-moved, bits-filled, any-set}
 use Rattle.simd_json_stages.proofs.stage1.words.classify_last.Goals.{then-backslash-ne0, else-backslash-ne0}
 use Rattle.simd_json_stages.proofs.stage1.words.classify_last.Goals as goal
 

@@ -1,4 +1,4 @@
-use Rattle.simd_json_stages.proofs.Bits.Escapes.{escaped_words}
+use Rattle.simd_json_stages.proofs.Scan.Bits.Escapes.{escaped_words}
 use Rattle.simd_json_stages.proofs.stage1.words.find_escaped.Goals as goal
 
 pub returns : goal.returns

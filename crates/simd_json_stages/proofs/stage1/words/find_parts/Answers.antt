@@ -1,4 +1,4 @@
-use Rattle.simd_json_stages.proofs.BlockWords.{parts-found}
+use Rattle.simd_json_stages.proofs.Scan.BlockWords.{parts-found}
 use Rattle.simd_json_stages.proofs.stage1.words.find_parts.Goals as goal
 
 pub returns : goal.returns

@@ -1,4 +1,4 @@
-use Rattle.simd_json_stages.proofs.BlockWords.{starts-found}
+use Rattle.simd_json_stages.proofs.Scan.BlockWords.{starts-found}
 use Rattle.simd_json_stages.proofs.stage1.words.find_starts.Goals as goal
 
 pub returns : goal.returns

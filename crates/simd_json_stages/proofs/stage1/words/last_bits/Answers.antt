@@ -2,7 +2,7 @@ use Rattle.std.proofs.Common.{◌≡◌, ◌∙◌, sym, ap, ℕ, suc, ◌+◌, 
 use Rattle.std.proofs.Math.Nat.{div-div-eq-div-mul, div-le_self}
 use Rattle.std.proofs.lemmas.Nat.{pow-add}
 use Rattle.simd_json_stages.specs.Words.{is_set}
-use Rattle.simd_json_stages.proofs.Bits.Operations.{is_set-above, is_set-half}
+use Rattle.simd_json_stages.proofs.Scan.Bits.Operations.{is_set-above, is_set-half}
 use Rattle.simd_json_stages.proofs.stage1.words.last_bits.Goals as goal
 
 is_set-shr : (x k i : ℕ) → is_set (x / 2 ^ k) i ≡ is_set x (k + i)

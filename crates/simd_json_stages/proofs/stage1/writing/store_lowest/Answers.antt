@@ -1,4 +1,4 @@
-use Rattle.simd_json_stages.proofs.Bits.Writing.{stored-at}
+use Rattle.simd_json_stages.proofs.Scan.Bits.Writing.{stored-at}
 use Rattle.simd_json_stages.proofs.stage1.writing.store_lowest.Goals as goal
 
 pub returns : goal.returns

@@ -1,7 +1,7 @@
 use Rattle.std.proofs.Common.{◌≡◌, ◌+◌, refl, arith}
 use lib.Count.{ones-le}
 use Rattle.simd_json_stages.specs.Words.{set_bits}
-use Rattle.simd_json_stages.proofs.Bits.Writing.{stored-first, stored-all, ones-left, stored-both}
+use Rattle.simd_json_stages.proofs.Scan.Bits.Writing.{stored-first, stored-all, ones-left, stored-both}
 use Rattle.simd_json_stages.proofs.stage1.writing.write.Goals as goal
 
 pub returns-then-count-le4-clause-written : goal.returns-then-count-le4-clause-written

@@ -2,7 +2,7 @@ use Rattle.std.proofs.Common.{◌≡◌, ◌∙◌, ◌+◌, ◌-◌, ap, sym, s
 use Rattle.std.specs.Int.RustNames.{count_ones}
 use Rattle.simd_json_stages.specs.Words.{set_bits}
 use Rattle.simd_json_stages.specs.Stored.{IsStored}
-use Rattle.simd_json_stages.proofs.Bits.Writing.{stored-first, stored-more, stored-end, stored-all}
+use Rattle.simd_json_stages.proofs.Scan.Bits.Writing.{stored-first, stored-more, stored-end, stored-all}
 use Rattle.simd_json_stages.proofs.stage1.writing.write_exactly.Goals as goal
 
 pub loop-rest-init : goal.loop-rest-init

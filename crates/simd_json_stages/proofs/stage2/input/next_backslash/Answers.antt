@@ -1,7 +1,7 @@
 use Rattle.std.proofs.Common.{◌-◌, suc, ap, arith}
 use Rattle.std.proofs.lemmas.List.{take_rest}
 use Rattle.memchr.specs.Find.{is_byte}
-use Rattle.simd_json_stages.proofs.EscapesPassed.{plain-ahead}
+use Rattle.simd_json_stages.proofs.Machine.EscapesPassed.{plain-ahead}
 use Rattle.simd_json_stages.proofs.stage2.input.next_backslash.Goals as goal
 
 pub returns-in-Some : goal.returns-in-Some

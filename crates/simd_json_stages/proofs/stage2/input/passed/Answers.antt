@@ -1,5 +1,5 @@
 use Rattle.std.proofs.Common.{arith}
-use Rattle.simd_json_stages.proofs.EscapesPassed.{one-passed}
+use Rattle.simd_json_stages.proofs.Machine.EscapesPassed.{one-passed}
 use Rattle.simd_json_stages.proofs.stage2.input.passed.Goals as goal
 
 pub loop-next-preserved : goal.loop-next-preserved

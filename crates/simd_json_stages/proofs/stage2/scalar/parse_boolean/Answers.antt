@@ -1,5 +1,5 @@
 use Rattle.std.proofs.Common.{sym, ◌∙◌, inl, inr, arith}
-use Rattle.simd_json_stages.proofs.Booleans.{spelt}
+use Rattle.simd_json_stages.proofs.Tokens.Booleans.{spelt}
 use Rattle.simd_json_stages.proofs.stage2.scalar.parse_boolean.Goals as goal
 use Rattle.simd_json_stages.proofs.stage2.scalar.parse_boolean.Goals.{then-bytes-end-ne101-via-then-bytes-end-ne101}
 use Rattle.simd_json_stages.proofs.stage2.scalar.parse_boolean.Goals.{then-bytes-end-ne101-via-else-bytes-end-ne101+then-not-is_structural_or_whitespace}

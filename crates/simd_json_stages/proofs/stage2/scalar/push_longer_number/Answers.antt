@@ -6,7 +6,7 @@ use Rattle.simd_json_parts.specs.Nodes.{static_item, decimal_item}
 use Rattle.simd_json_stages.specs.Put.{IsNoScalar}
 use Rattle.simd_json_stages.specs.Inputs.{Reads}
 use Rattle.simd_json_stages.proofs.Exits.{passed-on}
-use Rattle.simd_json_stages.proofs.ScalarPut.{decimal-here, offset-within, number-refused, static-put}
+use Rattle.simd_json_stages.proofs.Machine.ScalarPut.{decimal-here, offset-within, number-refused, static-put}
 use Rattle.simd_json_stages.proofs.stage2.scalar.push_longer_number.Goals as goal
 
 pub from-rest-requires : goal.from-rest-requires

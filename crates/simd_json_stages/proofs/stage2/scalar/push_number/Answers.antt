@@ -4,7 +4,7 @@ use Rattle.simd_json_parts.specs.Document.{decimal}
 use Rattle.simd_json_scalars.specs.NumeralRead.{IsNumeralAt}
 use Rattle.simd_json_parts.specs.Tokens.{form_at, scalar}
 use Rattle.simd_json_parts.specs.Nodes.{decimal_item}
-use Rattle.simd_json_stages.proofs.ScalarPut.{decimal-here}
+use Rattle.simd_json_stages.proofs.Machine.ScalarPut.{decimal-here}
 use Rattle.simd_json_stages.proofs.stage2.scalar.push_number.Goals as goal
 
 pub from-requires : goal.from-requires

@@ -4,9 +4,9 @@ use Rattle.simd_json_parts.specs.Bytes.{byte_at}
 use Rattle.simd_json_parts.specs.Document.{null, boolean}
 use Rattle.simd_json_parts.specs.declared.node.StaticNode.TheVariants as fixed
 use Rattle.simd_json_stages.specs.Inputs.{Reads}
-use Rattle.simd_json_stages.proofs.Booleans.{form_at-boolean, no_boolean}
-use Rattle.simd_json_stages.proofs.ScalarLaws.{form_at-null, form_at-no_null, form_at-number}
-use Rattle.simd_json_stages.proofs.ScalarPut.{static-put, atom-refused}
+use Rattle.simd_json_stages.proofs.Tokens.Booleans.{form_at-boolean, no_boolean}
+use Rattle.simd_json_stages.proofs.Tokens.ScalarLaws.{form_at-null, form_at-no_null, form_at-number}
+use Rattle.simd_json_stages.proofs.Machine.ScalarPut.{static-put, atom-refused}
 use Rattle.simd_json_stages.proofs.stage2.scalar.push_scalar.Goals as goal
 use Rattle.simd_json_stages.proofs.stage2.scalar.push_scalar.Goals.{then-is_integer-via-then-is_integer}
 use Rattle.simd_json_stages.proofs.stage2.scalar.push_scalar.Goals.{then-is_integer-via-else-is_integer+then-p-eq45}

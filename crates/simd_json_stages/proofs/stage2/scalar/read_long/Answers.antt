@@ -1,5 +1,5 @@
 use Rattle.std.proofs.Common.{◌≤◌, length, subst}
-use Rattle.simd_json_stages.proofs.ScalarPut.{offset-within}
+use Rattle.simd_json_stages.proofs.Machine.ScalarPut.{offset-within}
 use Rattle.simd_json_stages.proofs.stage2.scalar.read_long.Goals as goal
 
 pub returns-in-Err : goal.returns-in-Err

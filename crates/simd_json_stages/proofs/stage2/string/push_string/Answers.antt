@@ -2,8 +2,8 @@ use Rattle.std.proofs.Common.{◌∙◌, ap, sym, suc, refl, arith}
 use Rattle.std.specs.Prelude.{Err}
 use Rattle.simd_json_parts.specs.StringAt.{closing_quote}
 use Rattle.simd_json_parts.specs.Nodes.{string_item}
-use Rattle.simd_json_stages.proofs.Bounds.{some-left}
-use Rattle.simd_json_stages.proofs.StringPut.{at-within, string-before, bad-within}
+use Rattle.simd_json_stages.proofs.Machine.Bounds.{some-left}
+use Rattle.simd_json_stages.proofs.Machine.StringPut.{at-within, string-before, bad-within}
 use Rattle.simd_json_stages.proofs.stage2.string.push_string.Goals as goal
 
 pub may_have_escape-may_have_escape-requires : goal.may_have_escape-may_have_escape-requires

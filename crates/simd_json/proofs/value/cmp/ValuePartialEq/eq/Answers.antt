@@ -1,5 +1,5 @@
 use Rattle.std.proofs.Common.{◌∙◌}
-use Rattle.simd_json.proofs.Compared.{compared}
+use Rattle.simd_json.proofs.Views.Compared.{compared}
 use Rattle.simd_json.proofs.value.cmp.ValuePartialEq.eq.Goals as goal
 
 pub returns : goal.returns

@@ -1,5 +1,5 @@
 use Rattle.std.proofs.Common.{◌∙◌, sym, refl, rules}
-use Rattle.simd_json.proofs.MapCompared.{first-is-among, may-compare-others, are_in-others}
+use Rattle.simd_json.proofs.Views.MapCompared.{first-is-among, may-compare-others, are_in-others}
 use Rattle.simd_json.proofs.value.cmp.map.is_in.Goals as goal
 
 pub ask-requires : goal.ask-requires

@@ -1,5 +1,5 @@
 use Rattle.std.proofs.Common.{◌-◌, length, arith}
-use Rattle.simd_json.proofs.Fronts.{stops-some, stops-none, stops-never}
+use Rattle.simd_json.proofs.Pointers.Fronts.{stops-some, stops-none, stops-never}
 use Rattle.simd_json.proofs.value.pointer.front.front_len_by.Goals as goal
 
 pub returns-then-stops-ne0 : goal.returns-then-stops-ne0

@@ -1,6 +1,6 @@
 use Rattle.std.proofs.Common.{◌∙◌, ap, sym}
 use Rattle.simd_json.specs.Pointed.{is_array_index}
-use Rattle.simd_json.proofs.Indexes.{index-read}
+use Rattle.simd_json.proofs.Pointers.Indexes.{index-read}
 use Rattle.simd_json.proofs.value.pointer.index.read_index.Goals as goal
 
 pub returns : goal.returns

@@ -1,5 +1,5 @@
 use Rattle.std.proofs.Common.{refl, arith}
-use Rattle.simd_json.proofs.Keys.{escaped-first, plain-first, some-bytes}
+use Rattle.simd_json.proofs.Pointers.Keys.{escaped-first, plain-first, some-bytes}
 use Rattle.simd_json.proofs.value.pointer.token.first_byte.Goals as goal
 
 pub returns-then-token-ne126 : goal.returns-then-token-ne126

@@ -1,7 +1,7 @@
 use Rattle.std.proofs.Common.{sym, true≢false, arith}
 use Rattle.std.proofs.lemmas.List.{drop_all, drop_more}
 use Rattle.simd_json.specs.Pointed.{unescaped}
-use Rattle.simd_json.proofs.Keys.{byte-more, byte-same, end-same}
+use Rattle.simd_json.proofs.Pointers.Keys.{byte-more, byte-same, end-same}
 use Rattle.simd_json.proofs.value.pointer.token.is_key.Goals as goal
 
 pub returns-then-first-byte : goal.returns-then-first-byte

@@ -1,6 +1,6 @@
 use Rattle.std.proofs.Common.{◌∙◌}
 use Rattle.simd_json.specs.Pointed.{unescaped}
-use Rattle.simd_json.proofs.Keys.{formed-further}
+use Rattle.simd_json.proofs.Pointers.Keys.{formed-further}
 use Rattle.simd_json.proofs.value.pointer.token.is_well_formed.Goals as goal
 
 pub loop-rest-preserved : goal.loop-rest-preserved

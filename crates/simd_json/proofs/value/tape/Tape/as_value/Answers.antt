@@ -2,8 +2,8 @@ use Rattle.std.proofs.Common.{◌∙◌, ap, map, subst, sym}
 use Rattle.simd_json.specs.Documents.{IsListing}
 use Rattle.simd_json_parts.specs.Listing.{listing}
 use Rattle.simd_json_parts.specs.Nodes.{item_of}
-use Rattle.simd_json.proofs.Listed.{tape-listed}
-use Rattle.simd_json.proofs.Printable.{tape-printable}
+use Rattle.simd_json.proofs.Views.Listed.{tape-listed}
+use Rattle.simd_json.proofs.Views.Printable.{tape-printable}
 use Rattle.simd_json.specs.Printable.{ArePrintable}
 use Rattle.simd_json.proofs.value.tape.Tape.as_value.Goals as goal
 

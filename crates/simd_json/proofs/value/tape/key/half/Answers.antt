@@ -1,7 +1,7 @@
 use Rattle.std.proofs.Common.{arith}
 use Rattle.std.proofs.lemmas.Grind.{common_steps}
 use Rattle.std.proofs.lemmas.Nat.{le_bytes_4}
-use Rattle.simd_json.proofs.Ends.{part-bytes, part-length}
+use Rattle.simd_json.proofs.Views.Ends.{part-bytes, part-length}
 use Rattle.simd_json.proofs.value.tape.key.half.Goals as goal
 
 pub returns-clause-bytes : goal.returns-clause-bytes

@@ -1,6 +1,6 @@
 use Rattle.std.proofs.Common.{arith}
 use Rattle.std.specs.Int.{from_le_bytes, to_le_bytes, w16, w32, w64}
-use Rattle.simd_json.proofs.Ends.{same-ends}
+use Rattle.simd_json.proofs.Views.Ends.{same-ends}
 use Rattle.simd_json.proofs.value.tape.key.is_same.Goals as goal
 
 pub returns-then-word : goal.returns-then-word

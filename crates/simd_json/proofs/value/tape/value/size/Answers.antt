@@ -5,7 +5,7 @@ use Rattle.simd_json_parts.specs.declared.node.Node.{Node}
 use Rattle.simd_json_parts.specs.Headers.{count_of}
 use Rattle.simd_json_parts.proofs.Documents.Fronts.{positive, sized, within}
 use Rattle.simd_json.specs.Tapes.{StandsFor}
-use Rattle.simd_json.proofs.Listed.{sized-scalar}
+use Rattle.simd_json.proofs.Views.Listed.{sized-scalar}
 use Rattle.simd_json.proofs.value.tape.value.size.Goals as goal
 
 -- nodes that begin with a document are some

@@ -1,6 +1,6 @@
 use Rattle.std.proofs.Common.{arith}
 use Rattle.std.proofs.lemmas.Nat.{le_or_l, le_or_r}
-use Rattle.simd_json_stages.proofs.ScanLaws.{bool-small, listed-within, IsClassified-next}
+use Rattle.simd_json_stages.proofs.Scan.ScanLaws.{bool-small, listed-within, IsClassified-next}
 use Rattle.simd_json_stages.proofs.stage1.scan.Classifying.with_block.Goals as goal
 
 pub returns-clause-few : goal.returns-clause-few

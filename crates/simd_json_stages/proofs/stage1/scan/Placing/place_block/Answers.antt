@@ -1,5 +1,5 @@
 use Rattle.std.proofs.Common.{arith}
-use Rattle.simd_json_stages.proofs.ScanLaws.{IsPlaced-next}
+use Rattle.simd_json_stages.proofs.Scan.ScanLaws.{IsPlaced-next}
 use Rattle.simd_json_stages.proofs.stage1.scan.Placing.place_block.Goals as goal
 
 pub returns-clause-placed : goal.returns-clause-placed

@@ -1,8 +1,8 @@
 use Rattle.std.proofs.Common.{◌≡◌, ◌∙◌, ◌+◌, ◌*◌, length, subst, arith}
 use Rattle.std.proofs.lemmas.List.{length-set}
 use Rattle.simd_json_stages.specs.Blocks.{CanList, IsAscii}
-use Rattle.simd_json_stages.proofs.ScanLaws.{IsClassified-same}
-use Rattle.simd_json_stages.proofs.GroupLaws.{CanList-after, HaveClasses-next, IsAscii-next}
+use Rattle.simd_json_stages.proofs.Scan.ScanLaws.{IsClassified-same}
+use Rattle.simd_json_stages.proofs.Scan.GroupLaws.{CanList-after, HaveClasses-next, IsAscii-next}
 use Rattle.simd_json_stages.proofs.stage1.scan.groups.classify_group.Goals as goal
 
 pub loop-k-init : goal.loop-k-init

@@ -1,6 +1,6 @@
 use Rattle.std.proofs.Common.{◌∙◌, arith}
 use Rattle.std.proofs.lemmas.List.{length-set}
-use Rattle.simd_json_stages.proofs.GroupLaws.{HaveParts-next}
+use Rattle.simd_json_stages.proofs.Scan.GroupLaws.{HaveParts-next}
 use Rattle.simd_json_stages.proofs.stage1.scan.groups.part_group.Goals as goal
 
 pub loop-k-init : goal.loop-k-init

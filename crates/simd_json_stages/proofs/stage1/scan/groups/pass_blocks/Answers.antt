@@ -1,8 +1,8 @@
 use Rattle.std.proofs.Common.{◌≡◌, ◌+◌, ◌-◌, ◌*◌, ◌∙◌, ap, arith}
 use Rattle.std.specs.Int.{from_bool}
 use Rattle.simd_json_stages.specs.Blocks.{is_plain_before}
-use Rattle.simd_json_stages.proofs.BlockWords.{plain-out}
-use Rattle.simd_json_stages.proofs.InsideLaws.{IsPlaced-passed, IsPlaced-inside, passed-same}
+use Rattle.simd_json_stages.proofs.Scan.BlockWords.{plain-out}
+use Rattle.simd_json_stages.proofs.Scan.InsideLaws.{IsPlaced-passed, IsPlaced-inside, passed-same}
 use Rattle.simd_json_stages.proofs.stage1.scan.groups.pass_blocks.Goals as goal
 
 pub loop-k-init : goal.loop-k-init

@@ -1,7 +1,7 @@
 use Rattle.std.proofs.Common.{◌+◌, ◌-◌, ◌*◌, ◌≤◌, ℕ, List}
 use Rattle.simd_json_stages.specs.Blocks.{IsPlaced}
 use Rattle.simd_json_stages.specs.Groups.{HaveControl, HasNoQuotes}
-use Rattle.simd_json_stages.proofs.InsideLaws.{passed}
+use Rattle.simd_json_stages.proofs.Scan.InsideLaws.{passed}
 use Rattle.simd_json_stages.proofs.stage1.scan.groups.pass_blocks.Given as goal
 
 abbrev pub invariant-loop-k : goal.invariant-loop-k

@@ -1,5 +1,5 @@
 use Rattle.std.proofs.Common.{◌≡◌, ◌+◌, arith}
-use Rattle.simd_json_stages.proofs.ScanLaws.{IsPlaced-same}
+use Rattle.simd_json_stages.proofs.Scan.ScanLaws.{IsPlaced-same}
 use Rattle.simd_json_stages.proofs.stage1.scan.groups.pass_group.Goals as goal
 
 pub returns-then-quotes_before-eq0-2-clause-placed : goal.returns-then-quotes_before-eq0-2-clause-placed

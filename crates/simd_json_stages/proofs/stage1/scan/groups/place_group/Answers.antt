@@ -1,5 +1,5 @@
 use Rattle.std.proofs.Common.{◌≡◌, ◌+◌, arith}
-use Rattle.simd_json_stages.proofs.ScanLaws.{IsPlaced-same}
+use Rattle.simd_json_stages.proofs.Scan.ScanLaws.{IsPlaced-same}
 use Rattle.simd_json_stages.proofs.stage1.scan.groups.place_group.Goals as goal
 
 pub loop-k-init : goal.loop-k-init

@@ -1,6 +1,6 @@
 use Rattle.std.proofs.Common.{◌≡◌, ◌+◌, ◌*◌, length, subst, arith}
 use Rattle.simd_json_stages.specs.Blocks.{IsAscii, IsScanned}
-use Rattle.simd_json_stages.proofs.GroupLaws.{CanList-after, IsAscii-next}
+use Rattle.simd_json_stages.proofs.Scan.GroupLaws.{CanList-after, IsAscii-next}
 use Rattle.simd_json_stages.proofs.stage1.scan.windows.scan_few.Goals as goal
 
 pub loop-i-init : goal.loop-i-init

@@ -1,7 +1,7 @@
 use Rattle.std.proofs.Common.{◌≡◌, ◌*◌, ◌-◌, ◌%◌, arith}
 use Rattle.simd_json_stages.specs.Blocks.{IsAscii, IsScanned}
-use Rattle.simd_json_stages.proofs.GroupLaws.{IsAscii-next}
-use Rattle.simd_json_stages.proofs.ScanLaws.{IsScanned-same, IsScanned-high}
+use Rattle.simd_json_stages.proofs.Scan.GroupLaws.{IsAscii-next}
+use Rattle.simd_json_stages.proofs.Scan.ScanLaws.{IsScanned-same, IsScanned-high}
 use Rattle.simd_json_stages.proofs.stage1.scan.windows.scan_window.Goals as goal
 use Rattle.simd_json_stages.proofs.stage1.scan.windows.scan_window.Goals.{then-window-middle, else-window-middle}
 

@@ -2,8 +2,8 @@ use Rattle.std.proofs.Common.{◌≡◌, ◌<◌, ◌+◌, ◌∙◌, ap, sym, s
 use Rattle.std.specs.Prelude.{Ok}
 use Rattle.simd_json_parts.specs.StringAt.{closing_quote}
 use Rattle.simd_json_stages.specs.Inputs.{HasQuoted, IsLent}
-use Rattle.simd_json_stages.proofs.StringEnds.{string_at-end}
-use Rattle.simd_json_stages.proofs.InputLaws.{closes-here, lent-all, reads-after}
+use Rattle.simd_json_stages.proofs.Tokens.StringEnds.{string_at-end}
+use Rattle.simd_json_stages.proofs.Machine.InputLaws.{closes-here, lent-all, reads-after}
 use Rattle.simd_json_stages.proofs.stage2.input.Input.parse_string.Goals as goal
 
 pub parse_str-requires-clause-closing : goal.parse_str-requires-clause-closing

@@ -1,6 +1,6 @@
 use Rattle.std.proofs.Common.{◌∙◌, sym, subst}
 use Rattle.std.specs.Prelude.{IsUtf8}
-use Rattle.simd_json_stages.proofs.InputLaws.{lent-slice}
+use Rattle.simd_json_stages.proofs.Machine.InputLaws.{lent-slice}
 use Rattle.simd_json_stages.proofs.stage2.input.Input.share.Goals as goal
 
 pub from_utf8_unchecked-requires-2 : goal.from_utf8_unchecked-requires-2

@@ -1,5 +1,5 @@
 use Rattle.std.proofs.Common.{ap, length, arith}
-use Rattle.simd_json_stages.proofs.BetweenBlocks.{plain-to_first}
+use Rattle.simd_json_stages.proofs.Machine.BetweenBlocks.{plain-to_first}
 use Rattle.simd_json_stages.proofs.stage2.input.Input.with_escapes.Goals as goal
 
 pub returns : goal.returns

@@ -4,13 +4,13 @@ use Rattle.simd_json_parts.specs.Bytes.{byte_at}
 use Rattle.simd_json_stages.specs.Building.{AtMember, closer, content_kind, top}
 use Rattle.simd_json_stages.specs.declared.stage2.progress.Progress.{Progress}
 use Rattle.simd_json_stages.specs.declared.stage2.fault.FaultKind.TheVariants as kinds
-use Rattle.simd_json_stages.proofs.Bounds.{later, next-ahead, next-read, next-byte, refused-none}
-use Rattle.simd_json_stages.proofs.BuildingSteps.{top-header, top-len, step-comma}
-use Rattle.simd_json_stages.proofs.Following.{two-left, two-is, two-advances, refused-next, refused-next_none, comma-progress}
-use Rattle.simd_json_stages.proofs.Following.{closed-after, closed-value}
-use Rattle.simd_json_stages.proofs.Holding.{HasHeader}
-use Rattle.simd_json_stages.proofs.InputLaws.{reads-kept}
-use Rattle.simd_json_stages.proofs.Refusing.{refuses-end, refuses-comma_end, refuses-other}
+use Rattle.simd_json_stages.proofs.Machine.Bounds.{later, next-ahead, next-read, next-byte, refused-none}
+use Rattle.simd_json_stages.proofs.Machine.BuildingSteps.{top-header, top-len, step-comma}
+use Rattle.simd_json_stages.proofs.Machine.Following.{two-left, two-is, two-advances, refused-next, refused-next_none, comma-progress}
+use Rattle.simd_json_stages.proofs.Machine.Following.{closed-after, closed-value}
+use Rattle.simd_json_stages.proofs.Machine.Holding.{HasHeader}
+use Rattle.simd_json_stages.proofs.Machine.InputLaws.{reads-kept}
+use Rattle.simd_json_stages.proofs.Machine.Refusing.{refuses-end, refuses-comma_end, refuses-other}
 use Rattle.simd_json_stages.proofs.stage2.machine.Machine.after_member.Goals as goal
 
 pub returns-in_err-q-clause-refused : goal.returns-in_err-q-clause-refused

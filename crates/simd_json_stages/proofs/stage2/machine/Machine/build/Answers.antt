@@ -1,8 +1,8 @@
 use Rattle.std.proofs.Common.{arith, refl}
-use Rattle.simd_json_stages.proofs.Bounds.{inside}
-use Rattle.simd_json_stages.proofs.Following.{at-first}
-use Rattle.simd_json_stages.proofs.InputLaws.{reads-kept}
-use Rattle.simd_json_stages.proofs.WholeFaults.{some-listed}
+use Rattle.simd_json_stages.proofs.Machine.Bounds.{inside}
+use Rattle.simd_json_stages.proofs.Machine.Following.{at-first}
+use Rattle.simd_json_stages.proofs.Machine.InputLaws.{reads-kept}
+use Rattle.simd_json_stages.proofs.Scan.WholeFaults.{some-listed}
 use Rattle.simd_json_stages.proofs.stage2.machine.Machine.build.Goals as goal
 
 pub bounds-route-0 : goal.bounds-route-0

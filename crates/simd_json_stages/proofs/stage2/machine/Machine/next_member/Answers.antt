@@ -3,7 +3,7 @@ use Rattle.simd_json_stages.specs.Building.{AtNextOrAfter}
 use Rattle.simd_json_stages.specs.Progresses.{IsWithinNext, AdvancesPastMember, reached}
 use Rattle.simd_json_stages.specs.Inputs.{Reads}
 use Rattle.simd_json_stages.specs.declared.stage2.fault.FaultKind.TheVariants as kinds
-use Rattle.simd_json_stages.proofs.Following.{at-member, come-opened, come-read, end-built, end-refused, some-node}
+use Rattle.simd_json_stages.proofs.Machine.Following.{at-member, come-opened, come-read, end-built, end-refused, some-node}
 use Rattle.simd_json_stages.proofs.stage2.machine.Machine.next_member.Goals as goal
 
 pub returns-in-Opened-clause-member : goal.returns-in-Opened-clause-member

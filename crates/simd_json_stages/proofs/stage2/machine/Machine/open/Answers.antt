@@ -4,11 +4,11 @@ use Rattle.simd_json_stages.specs.Building.{closer, AtMember, AfterValue}
 use Rattle.simd_json_stages.specs.declared.stage2.progress.Progress.{Progress}
 use Rattle.simd_json_stages.specs.declared.stage2.fault.FaultKind.TheVariants as kinds
 use Rattle.simd_json_stages.specs.Progresses.{IsAfter}
-use Rattle.simd_json_stages.proofs.Bounds.{refused-at, refused-none, later, next-byte, one-more, after-first, before-first}
-use Rattle.simd_json_stages.proofs.BuildingSteps.{step-empty, step-open}
+use Rattle.simd_json_stages.proofs.Machine.Bounds.{refused-at, refused-none, later, next-byte, one-more, after-first, before-first}
+use Rattle.simd_json_stages.proofs.Machine.BuildingSteps.{step-empty, step-open}
 use Rattle.simd_json_stages.specs.Inputs.{Reads}
-use Rattle.simd_json_stages.proofs.InputLaws.{reads-kept}
-use Rattle.simd_json_stages.proofs.Refusing.{refuses-deep, refuses-open_end}
+use Rattle.simd_json_stages.proofs.Machine.InputLaws.{reads-kept}
+use Rattle.simd_json_stages.proofs.Machine.Refusing.{refuses-deep, refuses-open_end}
 use Rattle.simd_json_stages.proofs.stage2.machine.Machine.open.Goals as goal
 
 pub returns-then-p-route-clause-refused : goal.returns-then-p-route-clause-refused

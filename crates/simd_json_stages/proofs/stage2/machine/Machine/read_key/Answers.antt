@@ -2,13 +2,13 @@ use Rattle.std.proofs.Common.{◌∙◌, sym, subst, arith, refl}
 use Rattle.simd_json_stages.specs.Building.{AtValue, IsFirstFault}
 use Rattle.simd_json_stages.specs.Refusals.{error_type}
 use Rattle.simd_json_stages.specs.declared.stage2.fault.FaultKind.TheVariants as kinds
-use Rattle.simd_json_stages.proofs.Bounds.{node-left, name-token, refused-at, refused-none, next-ahead, next-read, next-byte, one-more}
-use Rattle.simd_json_stages.proofs.Bounds.{string-ahead}
-use Rattle.simd_json_stages.proofs.BuildingSteps.{step-name}
+use Rattle.simd_json_stages.proofs.Machine.Bounds.{node-left, name-token, refused-at, refused-none, next-ahead, next-read, next-byte, one-more}
+use Rattle.simd_json_stages.proofs.Machine.Bounds.{string-ahead}
+use Rattle.simd_json_stages.proofs.Machine.BuildingSteps.{step-name}
 use Rattle.simd_json_stages.proofs.Exits.{passed-on}
-use Rattle.simd_json_stages.proofs.Following.{refused-next, refused-next_none, two-left, two-is, two-advances, named-progress}
-use Rattle.simd_json_stages.proofs.InputLaws.{reads-kept}
-use Rattle.simd_json_stages.proofs.Refusing.{refuses-no_name, refuses-name, refuses-name_end, refuses-no_colon, refuses-colon_end}
+use Rattle.simd_json_stages.proofs.Machine.Following.{refused-next, refused-next_none, two-left, two-is, two-advances, named-progress}
+use Rattle.simd_json_stages.proofs.Machine.InputLaws.{reads-kept}
+use Rattle.simd_json_stages.proofs.Machine.Refusing.{refuses-no_name, refuses-name, refuses-name_end, refuses-no_colon, refuses-colon_end}
 use Rattle.simd_json_stages.proofs.stage2.machine.Machine.read_key.Goals as goal
 
 pub returns-then-p-ne34-clause-refused : goal.returns-then-p-ne34-clause-refused

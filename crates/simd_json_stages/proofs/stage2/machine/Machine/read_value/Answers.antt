@@ -1,11 +1,11 @@
 use Rattle.std.proofs.Common.{◌∙◌, sym, subst, refl}
 use Rattle.simd_json_stages.specs.Building.{AfterValue, IsFirstFault}
 use Rattle.simd_json_stages.specs.Progresses.{IsAfter}
-use Rattle.simd_json_stages.proofs.Bounds.{node-left, last-inside, value-token, string-ahead, scalar-ahead, one-more, after-value}
-use Rattle.simd_json_stages.proofs.BuildingSteps.{step-scalar, step-string}
+use Rattle.simd_json_stages.proofs.Machine.Bounds.{node-left, last-inside, value-token, string-ahead, scalar-ahead, one-more, after-value}
+use Rattle.simd_json_stages.proofs.Machine.BuildingSteps.{step-scalar, step-string}
 use Rattle.simd_json_stages.specs.Inputs.{Reads}
-use Rattle.simd_json_stages.proofs.InputLaws.{reads-kept}
-use Rattle.simd_json_stages.proofs.Refusing.{refuses-scalar, refuses-string}
+use Rattle.simd_json_stages.proofs.Machine.InputLaws.{reads-kept}
+use Rattle.simd_json_stages.proofs.Machine.Refusing.{refuses-scalar, refuses-string}
 use Rattle.simd_json_stages.proofs.stage2.machine.Machine.read_value.Goals.{then-p-eq34+in_ok-push_string, else-p-eq34+in_ok-push_scalar}
 use Rattle.simd_json_stages.proofs.stage2.machine.Machine.read_value.Goals as goal
 use Rattle.simd_json_stages.proofs.Exits.{passed-on}

@@ -1,5 +1,5 @@
 use Rattle.std.proofs.Common.{◌<◌, ◌+◌, ap, length, get_or, arith}
-use Rattle.simd_json_stages.proofs.Bounds.{some-left, inside, is-next}
+use Rattle.simd_json_stages.proofs.Machine.Bounds.{some-left, inside, is-next}
 use Rattle.simd_json_stages.proofs.stage2.progress.Progress.next_token.Goals as goal
 
 pub is_last-requires-clause-left : goal.is_last-requires-clause-left

@@ -3,7 +3,7 @@ use Rattle.std.proofs.lemmas.List.{drop_all}
 use Rattle.std.specs.Prelude.{◌&&◌}
 use Rattle.simd_json.specs.Followed.{tokens_after}
 use Rattle.simd_json.specs.Pointed.{is_pointer, token_count}
-use Rattle.simd_json.proofs.Splitting.{count-so-far, ends-more, formed-at, more-tokens}
+use Rattle.simd_json.proofs.Pointers.Splitting.{count-so-far, ends-more, formed-at, more-tokens}
 use Rattle.simd_json.proofs.value.pointer.split.Pointer.new.Goals as goal
 use Rattle.simd_json.proofs.value.pointer.split.Pointer.new.Goals.{then-len-via-then-len, then-len-via-else-len+then-not-is_well_formed}
 

@@ -1,6 +1,6 @@
 use Rattle.std.proofs.Common.{arith}
 use Rattle.simd_json.specs.Viewed.{doc}
-use Rattle.simd_json.proofs.Split.{no-elements, begins, without-first}
+use Rattle.simd_json.proofs.Views.Split.{no-elements, begins, without-first}
 use Rattle.simd_json.proofs.value.tape.array.Array.split_first.Goals as goal
 
 pub returns-then-self-eq0 : goal.returns-then-self-eq0

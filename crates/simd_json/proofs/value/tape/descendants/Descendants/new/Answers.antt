@@ -1,7 +1,7 @@
 use Rattle.std.proofs.lemmas.List.{length-replicate}
 use Rattle.simd_json.specs.Descending.{in_row}
 use Rattle.simd_json.specs.Viewed.{doc}
-use Rattle.simd_json.proofs.Descending.{first-left, first-few}
+use Rattle.simd_json.proofs.Views.Descending.{first-left, first-few}
 use Rattle.simd_json.proofs.value.tape.descendants.Descendants.new.Goals as goal
 
 pub returns-clause-values : goal.returns-clause-values

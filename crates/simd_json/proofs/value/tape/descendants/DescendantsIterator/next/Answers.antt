@@ -2,7 +2,7 @@ use Rattle.std.proofs.Common.{◌≡◌, ◌∙◌, ap, sym, Bool, cond, drop}
 use Rattle.simd_json.specs.Descending.{in_row, left_open, left_in}
 use Rattle.simd_json.specs.Documents.{others}
 use Rattle.simd_json_parts.specs.Document.{Elements}
-use Rattle.simd_json.proofs.Descending.{IsStep, none-left, left-none}
+use Rattle.simd_json.proofs.Views.Descending.{IsStep, none-left, left-none}
 use Rattle.simd_json.proofs.value.tape.descendants.DescendantsIterator.next.Goals as goal
 use Rattle.simd_json.proofs.value.tape.descendants.DescendantsIterator.next.Goals.{then-begin_member, else-begin_member}
 

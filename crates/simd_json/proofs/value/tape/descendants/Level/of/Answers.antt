@@ -1,5 +1,5 @@
 use Rattle.simd_json.specs.Viewed.{doc, docs, pairs}
-use Rattle.simd_json.proofs.Descending.{array-opened, object-opened}
+use Rattle.simd_json.proofs.Views.Descending.{array-opened, object-opened}
 use Rattle.simd_json.proofs.value.tape.descendants.Level.of.Goals as goal
 
 pub returns-in-Some : goal.returns-in-Some

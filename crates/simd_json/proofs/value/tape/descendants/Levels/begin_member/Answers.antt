@@ -1,5 +1,5 @@
 use Rattle.std.proofs.Common.{◌∙◌, refl, arith}
-use Rattle.simd_json.proofs.Descending.{member-begun, last-begun}
+use Rattle.simd_json.proofs.Views.Descending.{member-begun, last-begun}
 use Rattle.simd_json.proofs.value.tape.descendants.Levels.begin_member.Goals as goal
 
 pub returns-then-self : goal.returns-then-self

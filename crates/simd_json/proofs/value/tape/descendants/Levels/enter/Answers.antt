@@ -1,6 +1,6 @@
 use Rattle.std.proofs.Common.{arith}
 use Rattle.simd_json.specs.Viewed.{doc}
-use Rattle.simd_json.proofs.Descending.{container-opened}
+use Rattle.simd_json.proofs.Views.Descending.{container-opened}
 use Rattle.simd_json.proofs.value.tape.descendants.Levels.enter.Goals as goal
 
 pub returns : goal.returns

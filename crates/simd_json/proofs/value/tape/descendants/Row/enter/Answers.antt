@@ -1,5 +1,5 @@
-use Rattle.simd_json.proofs.Descending.{row-some, row-entered}
-use Rattle.simd_json.proofs.Printable.{printable-drop}
+use Rattle.simd_json.proofs.Views.Descending.{row-some, row-entered}
+use Rattle.simd_json.proofs.Views.Printable.{printable-drop}
 use Rattle.simd_json.proofs.value.tape.descendants.Row.enter.Goals as goal
 
 pub invariant_of-result : goal.invariant_of-result

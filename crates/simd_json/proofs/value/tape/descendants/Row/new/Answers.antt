@@ -3,7 +3,7 @@ use Rattle.std.proofs.Common.{arith, length, ◌∙◌, ap, map, subst, sym}
 use Rattle.simd_json.specs.Documents.{AreElements, elements_of}
 use Rattle.simd_json.specs.Printable.{ArePrintable}
 use Rattle.simd_json_parts.specs.Nodes.{item_of}
-use Rattle.simd_json.proofs.Descending.{row-of}
+use Rattle.simd_json.proofs.Views.Descending.{row-of}
 use Rattle.simd_json.proofs.value.tape.descendants.Row.new.Goals as goal
 
 pub invariant_of-result : goal.invariant_of-result

@@ -1,7 +1,7 @@
 use Rattle.std.proofs.Common.{◌∙◌, sym, refl}
 use Rattle.simd_json.specs.Viewed.{doc}
-use Rattle.simd_json.proofs.Descending.{row-begins}
-use Rattle.simd_json.proofs.Split.{without-first}
+use Rattle.simd_json.proofs.Views.Descending.{row-begins}
+use Rattle.simd_json.proofs.Views.Split.{without-first}
 use Rattle.simd_json.proofs.value.tape.descendants.Row.split_first.Goals as goal
 
 pub split-requires-clause-listed : goal.split-requires-clause-listed

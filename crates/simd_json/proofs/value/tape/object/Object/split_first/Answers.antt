@@ -1,7 +1,7 @@
 use Rattle.std.proofs.Common.{arith}
 use Rattle.simd_json.specs.Viewed.{doc}
-use Rattle.simd_json.proofs.Printable.{printable-drop}
-use Rattle.simd_json.proofs.Split.{headed-by, without-pair}
+use Rattle.simd_json.proofs.Views.Printable.{printable-drop}
+use Rattle.simd_json.proofs.Views.Split.{headed-by, without-pair}
 use Rattle.simd_json.proofs.value.tape.object.Object.split_first.Goals as goal
 
 pub split-requires-clause-printable : goal.split-requires-clause-printable

@@ -1,5 +1,5 @@
-use Rattle.simd_json.proofs.Listed.{object-at}
-use Rattle.simd_json.proofs.Printable.{printable-drop}
+use Rattle.simd_json.proofs.Views.Listed.{object-at}
+use Rattle.simd_json.proofs.Views.Printable.{printable-drop}
 use Rattle.simd_json.proofs.value.tape.value.Value.as_object.Goals as goal
 
 pub invariant_of-result : goal.invariant_of-result

@@ -4,8 +4,8 @@ use Rattle.std.proofs.lemmas.Str.{IsCharBoundary-after_ascii}
 use Rattle.std.specs.Result.{result_ok}
 use Rattle.simd_json.specs.Pointed.{named, pointed}
 use Rattle.simd_json.specs.Viewed.{doc}
-use Rattle.simd_json.proofs.Pointed.{boundary, further, some-left, stop-of, stuck-at-token, whole}
-use Rattle.simd_json.proofs.Splitting.{kept-all, kept-next}
+use Rattle.simd_json.proofs.Pointers.Pointed.{boundary, further, some-left, stop-of, stuck-at-token, whole}
+use Rattle.simd_json.proofs.Pointers.Splitting.{kept-all, kept-next}
 use Rattle.simd_json.proofs.value.tape.value.Value.at.Goals as goal
 
 pub range-token-requires-clause-start_le_end : goal.range-token-requires-clause-start_le_end

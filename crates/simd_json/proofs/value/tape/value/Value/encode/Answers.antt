@@ -3,7 +3,7 @@ use Rattle.simd_json_theorems.proofs.Printing.Texts.{Denotes-compact}
 use Rattle.simd_json_parts.specs.Nodes.{item_of}
 use Rattle.simd_json_parts.specs.Printed.{compact}
 use Rattle.simd_json.specs.Viewed.{doc}
-use Rattle.simd_json.proofs.Encoded.{utf8-encoded, denoted-encoded}
+use Rattle.simd_json.proofs.Views.Encoded.{utf8-encoded, denoted-encoded}
 use Rattle.simd_json.proofs.value.tape.value.Value.encode.Goals as goal
 
 pub from_utf8_unchecked-requires : goal.from_utf8_unchecked-requires

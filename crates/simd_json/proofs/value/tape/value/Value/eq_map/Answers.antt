@@ -1,5 +1,5 @@
 use Rattle.std.proofs.Common.{◌∙◌, sym, rules}
-use Rattle.simd_json.proofs.MapCompared.{differs-in-size, differs-in-a-pair}
+use Rattle.simd_json.proofs.Views.MapCompared.{differs-in-size, differs-in-a-pair}
 use Rattle.simd_json.proofs.value.tape.value.Value.eq_map.Goals as goal
 use Rattle.simd_json.proofs.value.tape.value.Value.eq_map.Goals.{then-len-via-then-len, then-len-via-else-len+then-not-is_in}
 

@@ -2,8 +2,8 @@ use Rattle.std.proofs.Common.{map, subst, sym}
 use Rattle.simd_json.specs.Documents.{IsListing}
 use Rattle.simd_json_parts.specs.Nodes.{item_of}
 use Rattle.simd_json_parts.proofs.Documents.Fronts.{front-listed}
-use Rattle.simd_json.proofs.Listed.{listing-listed}
-use Rattle.simd_json.proofs.Printable.{printable-take, printable-drop}
+use Rattle.simd_json.proofs.Views.Listed.{listing-listed}
+use Rattle.simd_json.proofs.Views.Printable.{printable-take, printable-drop}
 use Rattle.simd_json.proofs.value.tape.value.Value.split.Goals as goal
 
 pub invariant_of-result : goal.invariant_of-result

@@ -1,7 +1,7 @@
 use Rattle.std.proofs.Common.{◌∙◌, ap, sym, drop, arith}
 use Rattle.simd_json.specs.Followed.{first_step}
 use Rattle.simd_json.specs.Viewed.{doc}
-use Rattle.simd_json.proofs.Pointed.{some-left, stop-at, stop-kind}
+use Rattle.simd_json.proofs.Pointers.Pointed.{some-left, stop-at, stop-kind}
 use Rattle.simd_json.proofs.value.tape.value.Value.try_pointer.Goals as goal
 
 pub returns-then-followed-pointer : goal.returns-then-followed-pointer

@@ -1,0 +1,261 @@
+-- How a parse ends: with a tape, with the fault of a token or of the whole input, or for want of memory.
+use Rattle.std.proofs.Common.{◌≡◌, ◌≢◌, ◌∙◌, ap, sym, subst, ◌<◌, ◌≤◌, ℕ, List, [], length, Bool, true, false, not, Some, None}
+use Rattle.std.proofs.Common.{Option, Ok, Err, refl, arith, cond, Result, min, ◌*◌, ◌⊎◌, inl, inr, IsUtf8, is_some, nat_lt, take}
+use Rattle.std.specs.Result.{IsErrAnd, IfErr, IfOk, OnOk, OnErr, result_err}
+use Rattle.std.specs.Str.{is_utf8}
+use Rattle.simd_json_theorems.proofs.Faults.Kinds.{input-fault, token-fault}
+use Rattle.simd_json_parts.proofs.Positions.ScannedInputs.{fault-by_size, scanned}
+use Rattle.std.proofs.lemmas.List.{length-take-le}
+use Rattle.std.proofs.lemmas.Option.{none-some}
+use Rattle.std.proofs.lemmas.Str.{IsUtf8-from_is_utf8}
+use Rattle.std.proofs.lemmas.Bool.{ltb-false, ltb-true, lt-ltb, false≢true}
+use Rattle.simd_json_parts.specs.Descent.{descent}
+use Rattle.simd_json_parts.specs.Document.{Document, null, boolean, integer, decimal, string, array, object}
+use Rattle.simd_json_parts.specs.FaultKinds.{IsOfInput, IsOfToken, is_input_kind, is_token_kind}
+use Rattle.simd_json_parts.specs.Faults.{whole_fault}
+use Rattle.simd_json_parts.specs.InputFaults.{input_fault, scan_fault}
+use Rattle.simd_json_parts.specs.Limits.{max_length}
+use Rattle.simd_json_parts.specs.Listing.{listing}
+use Rattle.simd_json_parts.specs.Nodes.{Item}
+use Rattle.simd_json_parts.specs.Positions.{positions}
+use Rattle.simd_json_parts.specs.declared.error.Error.{Error}
+use Rattle.simd_json_parts.specs.declared.error.ErrorType.TheVariants.{OutOfMemory}
+use Rattle.simd_json.specs.Memory.{IsOutOfMemory, LacksMemory}
+use Rattle.simd_json.specs.Parsed.{IsParse, IsParsed, IsRefused, written}
+use Rattle.simd_json.specs.Capacities.{KeepsCapacities, Capacities, capacity}
+use Rattle.simd_json.specs.Reserved.{bytes_listed}
+use Rattle.simd_json_stages.specs.Building.{IsWritten}
+use Rattle.simd_json_stages.specs.NodesEnough.{nodes_enough}
+use Rattle.simd_json_stages.specs.Refusals.{IsTokenFault}
+use Rattle.simd_json.specs.Tapes.{IsTape}
+use Rattle.simd_json.proofs.Parses.ParseLaws.{few-positions, refused-token, refused-whole, tape-parsed, written-parsed}
+
+-- ---- what a fault carries
+
+pub input-character : (e : Error) → IsOfInput e → is_some e.character ≡ false
+input-character e named = ap (λ x. is_some x.character) named.1
+
+-- it is not for want of memory
+pub input-memory : (e : Error) → IsOfInput e → IsOutOfMemory e → ⊥
+input-memory e named lacks = false≢true (sym (ap (λ x. is_input_kind x.error) lacks) ∙ named.0)
+
+pub token-memory : (e : Error) → IsOfToken e → IsOutOfMemory e → ⊥
+token-memory e named lacks = false≢true (sym (ap (λ x. is_token_kind x.error) lacks) ∙ named.0)
+
+-- ---- what is parsed has a node
+
+listing-some : (d : Document) → listing d ≢ []
+listing-some null h = cc
+listing-some (boolean b) h = cc
+listing-some (integer minus n) h = cc
+listing-some (decimal literal) h = cc
+listing-some (string t) h = cc
+listing-some (array ds) h = cc
+listing-some (object ms) h = cc
+
+pub parsed-some : (b : List ℕ) (limit : ℕ) (nodes : List Item) → IsParsed b limit nodes → nodes ≢ []
+parsed-some b limit nodes p none = listing-some p.document (sym p.listed ∙ none)
+
+-- ---- the four ends
+
+pub parse-done : (b : List ℕ) (limit capacity : ℕ) (nodes : List Item) → IsParsed b limit nodes
+    → length nodes ≤ length (positions b) → IsParse b limit capacity None nodes (positions b)
+parse-done b limit capacity nodes p l = record { parsed = p; refused = tt; empty = tt; found = refl; few = (l, few-positions b) }
+
+pub parse-token : (b : List ℕ) (limit capacity : ℕ) (e : Error) → IsRefused b limit e → IsOfToken e
+    → IsParse b limit capacity (Some e) [] (positions b)
+parse-token b limit capacity e refused token = record {
+  parsed = tt;
+  refused = inl refused;
+  empty = refl;
+  found = ap (λ t. cond t (positions b) []) (sym token.1);
+  few = (omega arith, few-positions b);
+}
+
+pub parse-whole : (b : List ℕ) (limit capacity : ℕ) (e : Error) → input_fault b ≡ Some e → IsParse b limit capacity (Some e) [] []
+parse-whole b limit capacity e is = record {
+  parsed = tt;
+  refused = inl (refused-whole b limit e is);
+  empty = refl;
+  found = ap (λ t. cond t (positions b) []) (sym (input-character e (input-fault b e is)));
+  few = (omega arith, few-positions b);
+}
+
+pub parse-lacking : (b : List ℕ) (limit capacity : ℕ) (e : Error) → LacksMemory b e → capacity < length b
+    → IsParse b limit capacity (Some e) [] []
+parse-lacking b limit capacity e lacks l = record {
+  parsed = tt;
+  refused = inr (lacks, l);
+  empty = refl;
+  found = ap (λ x. cond (is_some x.character) (positions b) []) (sym lacks.0);
+  few = (omega arith, few-positions b);
+}
+
+-- ---- as code leaves them
+
+pub parse-at : {b : List ℕ} {limit capacity : ℕ} (fault fault' : Option Error) (nodes nodes' : List Item) (listed listed' : List ℕ)
+    → fault' ≡ fault → nodes' ≡ nodes → listed' ≡ listed → IsParse b limit capacity fault nodes listed
+    → IsParse b limit capacity fault' nodes' listed'
+parse-at {b} {limit} {capacity} fault fault' nodes nodes' listed listed' f n l p =
+    subst (λ f. IsParse b limit capacity f nodes' listed') (sym f) (subst (λ n. IsParse b limit capacity fault n listed') (sym n)
+    (subst (λ l. IsParse b limit capacity fault nodes l) (sym l) p))
+
+pub err-of : {A : Type 0} (r : Result A Error) (e : Error) → IsErrAnd r (λ x. x ≡ e) → result_err r ≡ Some e
+err-of (Ok x) e is = absurd is
+err-of (Err x) e is = ap Some is
+
+pub on-err : {A E : Type 0} (r : Result A E) (P : Type 0) → P → OnErr r P
+on-err (Ok x) P p = tt
+on-err (Err e) P p = p
+
+less-min-left : (a b n : ℕ) → a < n → min a b < n
+less-min-left a b n l = omega (arith, l)
+
+less-min-right : (a b n : ℕ) → b < n → min a b < n
+less-min-right a b n l = omega (arith, l)
+
+-- nothing is listed, and there is no node, where the first stage refuses
+pub parse-unread : {A : Type 0} (r : Result A Error) (b : List ℕ) (limit capacity : ℕ) (e : Error)
+    (nodes : List Item) (listed : List ℕ) → IsErrAnd r (λ x. x ≡ e) → nodes ≡ [] → listed ≡ []
+    → (input_fault b ≡ Some e) ⊎ (LacksMemory b e × (capacity < length b))
+    → IsParse b limit capacity (result_err r) nodes listed
+parse-unread r b limit capacity e nodes listed err n l (inl whole) =
+    parse-at (Some e) (result_err r) [] nodes [] listed (err-of r e err) n l (parse-whole b limit capacity e whole)
+parse-unread r b limit capacity e nodes listed err n l (inr (lacks, short)) =
+    parse-at (Some e) (result_err r) [] nodes [] listed (err-of r e err) n l (parse-lacking b limit capacity e lacks short)
+
+pub parse-unlisted : {A : Type 0} (r : Result A Error) (b : List ℕ) (limit tape_capacity capacity : ℕ) (e : Error)
+    (nodes : List Item) (listed : List ℕ) → IsErrAnd r (λ x. x ≡ e) → nodes ≡ [] → listed ≡ []
+    → (input_fault b ≡ Some e) ⊎ (LacksMemory b e × (capacity < length b))
+    → IsParse b limit (min tape_capacity capacity) (result_err r) nodes listed
+parse-unlisted r b limit tape_capacity capacity e nodes listed err n l (inl whole) =
+    parse-unread r b limit (min tape_capacity capacity) e nodes listed err n l (inl whole)
+parse-unlisted r b limit tape_capacity capacity e nodes listed err n l (inr (lacks, short)) =
+    parse-unread r b limit (min tape_capacity capacity) e nodes listed err n l
+    (inr (lacks, less-min-right tape_capacity capacity (length b) short))
+
+-- ---- size and encoding
+
+right-in : (p q : Bool) (o : Option Error) (e f : Error) → cond p (Some e) (cond (not q) (Some f) o) ≡ None → (p ≡ false) × (q ≡ true)
+right-in true q o e f is = absurd (none-some e (sym is))
+right-in false true o e f is = (refl, refl)
+right-in false false o e f is = absurd (none-some f (sym is))
+
+-- where nothing is wrong with the whole, size and encoding are right
+pub right-input : (b : List ℕ) → input_fault b ≡ None → (length b ≤ max_length) × IsUtf8 b
+right-input b none =
+    let right = right-in (nat_lt max_length (length b)) (is_utf8 b) (scan_fault b) (whole_fault _) (whole_fault _)
+    (sym (fault-by_size b) ∙ none) in
+    (ltb-false max_length (length b) right.0, IsUtf8-from_is_utf8 b right.1)
+
+-- ---- the second stage
+
+-- the second stage's end
+pub parse-built : {A : Type 0} (r : Result A Error) (b : List ℕ) (limit capacity : ℕ) (nodes : List Item) (listed : List ℕ)
+    → OnOk r (IsParsed b limit nodes) → length nodes ≤ length (positions b) → OnErr r (nodes ≡ [])
+    → IfErr r (λ e. IsRefused b limit e × IsOfToken e) → listed ≡ positions b → IsParse b limit capacity (result_err r) nodes listed
+parse-built (Ok x) b limit capacity nodes listed p few empty refused l =
+    parse-at None None nodes nodes (positions b) listed refl refl l (parse-done b limit capacity nodes p few)
+parse-built (Err e) b limit capacity nodes listed p few empty refused l =
+    parse-at (Some e) (Some e) [] nodes (positions b) listed refl empty l (parse-token b limit capacity e refused.0 refused.1)
+
+-- what it leaves is a tape, and no empty one after it
+pub built-tape : {A : Type 0} (r : Result A Error) (b : List ℕ) (limit : ℕ) (nodes : List Item)
+    → OnOk r (IsParsed b limit nodes) → OnErr r (nodes ≡ []) → IsTape nodes
+built-tape (Ok x) b limit nodes p empty = tape-parsed b limit nodes p
+built-tape (Err e) b limit nodes p empty = inl empty
+
+pub built-some : {A : Type 0} (r : Result A Error) (b : List ℕ) (limit : ℕ) (nodes : List Item)
+    → OnOk r (IsParsed b limit nodes) → OnOk r (nodes ≢ [])
+built-some (Ok x) b limit nodes p = parsed-some b limit nodes p
+built-some (Err e) b limit nodes p = tt
+
+-- the same with a sink
+pub parse-written : (r : Result (Unit {0}) Error) (b : List ℕ) (limit capacity : ℕ) (nodes : List Item) (listed : List ℕ)
+    → input_fault b ≡ None → OnOk r (IsWritten b limit nodes) → OnOk r (length nodes ≤ length (positions b))
+    → IfErr r (λ e. IsTokenFault e × (descent b limit ≡ Err e)) → listed ≡ positions b
+    → IsParse b limit capacity (result_err r) (written r nodes) listed
+parse-written (Ok x) b limit capacity nodes listed none built few refused l =
+    parse-at None None nodes nodes (positions b) listed refl refl l
+    (parse-done b limit capacity nodes (written-parsed b limit nodes none built) few)
+parse-written (Err e) b limit capacity nodes listed none built few refused l =
+    parse-at (Some e) (Some e) [] [] (positions b) listed refl refl l
+    (parse-token b limit capacity e (refused-token b limit e none refused.1) (token-fault b limit e refused.1))
+
+pub unwritten : (r : Result (Unit {0}) Error) (e : Error) (nodes : List Item) → IsErrAnd r (λ x. x ≡ e) → written r nodes ≡ []
+unwritten (Ok x) e nodes is = absurd is
+unwritten (Err x) e nodes is = refl
+
+-- where nothing is wrong with the whole, so many nodes are enough
+pub nodes-within : (b : List ℕ) (limit room : ℕ) → input_fault b ≡ None → max_length ≤ room
+    → nodes_enough (length (positions b)) limit ≤ room
+unfolding nodes_enough
+nodes-within b limit room none l = omega (arith, l, few-positions b, (right-input b none).0)
+
+-- so many nodes are enough for as many bytes, and what is too few for so many positions is for fewer
+pub bytes-enough : (len limit nodes : ℕ) → nodes_enough len limit ≤ nodes → len ≤ bytes_listed limit nodes
+unfolding nodes_enough
+bytes-enough len limit nodes l = omega (arith, l)
+
+pub bytes-short : (count limit nodes : ℕ) → nodes < nodes_enough count limit → bytes_listed limit nodes < count
+unfolding nodes_enough
+bytes-short count limit nodes l = omega (arith, l)
+
+pub bytes-kept : (limit nodes more : ℕ) → nodes ≤ more → bytes_listed limit nodes ≤ bytes_listed limit more
+bytes-kept limit nodes more l = omega (arith, l)
+
+-- the tape has no capacity for a node at each position
+pub parse-short : {A : Type 0} (r : Result A Error) (b : List ℕ) (limit tape_capacity capacity count : ℕ) (e : Error)
+    (nodes : List Item) (listed : List ℕ)
+    → r ≡ Err e → input_fault b ≡ None → e ≡ whole_fault OutOfMemory → tape_capacity < count → count ≡ length (positions b)
+    → nodes ≡ [] → listed ≡ []
+    → IsParse b limit (min tape_capacity capacity) (result_err r) nodes listed
+parse-short r b limit tape_capacity capacity count e nodes listed err none is short same n l =
+    let right = right-input b none in
+    parse-at (Some e) (result_err r) [] nodes [] listed (ap result_err err) n l
+    (parse-lacking b limit (min tape_capacity capacity) e (is, right.0, right.1)
+    (less-min-left tape_capacity capacity (length b) (omega (arith, short, same, few-positions b))))
+
+-- ---- the first stage, after the test of both
+
+pub scan-found : {T : Type 0} (r : Result T Error) (b : List ℕ) (P Q : T → Type 0) → length b ≤ max_length → IsUtf8 b
+    → IfOk r (λ x. P x × Q x × (scan_fault b ≡ None)) → IfOk r (λ x. P x × Q x × (input_fault b ≡ None))
+scan-found (Ok x) b P Q l text (p, q, none) = (p, q, scanned b l text ∙ none)
+scan-found (Err e) b P Q l text h = h
+
+pub scan-refused : {T : Type 0} (r : Result T Error) (b : List ℕ) (P : Type 0) → length b ≤ max_length → IsUtf8 b
+    → IfErr r (λ e. (scan_fault b ≡ Some e) ⊎ ((e ≡ whole_fault OutOfMemory) × P))
+    → IfErr r (λ e. (input_fault b ≡ Some e) ⊎ (LacksMemory b e × P))
+scan-refused (Ok x) b P l text h = h
+scan-refused (Err e) b P l text (inl is) = inl (scanned b l text ∙ is)
+scan-refused (Err e) b P l text (inr (is, p)) = inr ((is, l, text), p)
+
+-- ---- capacity
+
+-- a stack that is too short bounds the capacity
+pub short-stack : (r : Capacities) (count n : ℕ) → r.stack_capacity < min count r.limit → count ≤ n → capacity r < n
+short-stack r count n l m =
+    subst (λ t. min (cond t (min r.position_capacity r.stack_capacity) r.position_capacity) (64 * r.block_capacity) < n)
+    (sym (lt-ltb r.stack_capacity r.limit (omega (arith, l))))
+    (omega (arith, l, m))
+
+-- ---- lists of which nothing is in use
+
+pub unlisted : (used : ℕ) (xs ys : List ℕ) → used ≤ length xs → take used xs ≡ [] → take used ys ≡ []
+unlisted used xs ys l none =
+    let zero_used : used ≡ 0 = omega (arith, ap length none, length-take-le used xs l) in ap (λ n. take n ys) zero_used
+
+open-kept : (t t2 : Bool) (p s l p2 s2 l2 : ℕ) → nat_lt s l ≡ t → nat_lt s2 l2 ≡ t2 → l2 ≡ l → p ≤ p2 → s ≤ s2
+    → cond t (min p s) p ≤ cond t2 (min p2 s2) p2
+open-kept true true p s l p2 s2 l2 a b same le_p le_s = omega (arith, le_p, le_s)
+open-kept true false p s l p2 s2 l2 a b same le_p le_s = omega (arith, le_p)
+open-kept false true p s l p2 s2 l2 a b same le_p le_s = absurd (omega (arith, ltb-false s l a, ltb-true s2 l2 b, same, le_s))
+open-kept false false p s l p2 s2 l2 a b same le_p le_s = le_p
+
+min-kept : (a b c d : ℕ) → a ≤ c → b ≤ d → min a b ≤ min c d
+min-kept a b c d l m = omega (arith, l, m)
+
+pub capacity-kept : (old new : Capacities) → new.limit ≡ old.limit → KeepsCapacities old new → capacity old ≤ capacity new
+capacity-kept old new same kept =
+    min-kept _ _ _ _ (open-kept _ _ old.position_capacity old.stack_capacity old.limit new.position_capacity new.stack_capacity
+    new.limit refl refl same kept.0 kept.2) (omega (arith, kept.1))

@@ -1,0 +1,3 @@
+-- The location of an error.
+pub mod StringScan
+pub mod ByteBefore

@@ -1,0 +1,113 @@
+-- The key that a token is, a byte at a time.
+use Rattle.std.proofs.Common.{◌≡◌, ◌≢◌, ◌∙◌, ap, sym, refl, ◌<◌, ◌≤◌, ℕ, suc, Bool, true, false, cond, eqb, List, [], ◌∷◌, length, length-drop}
+use Rattle.std.proofs.Common.{drop, take, ◌-◌, get_or, Some, None, Option, option_map, arith, ne_eqb, true≢false}
+use Rattle.std.proofs.lemmas.List.{take_all}
+use Rattle.std.specs.Prelude.{◌==◌, ◌↔◌, IsTrue, is_some}
+use Rattle.std.specs.Result.{result_ok}
+use Rattle.simd_json_parts.specs.Document.{Members}
+use Rattle.simd_json_parts.specs.Views.{first_with}
+use Rattle.simd_json.specs.Pointed.{member_at, unescaped}
+use Rattle.simd_json.specs.Followed.{IsPlain}
+use Rattle.simd_json.specs.declared.value.pointer.PointerExpected.TheVariants as lacking
+use Rattle.simd_json.proofs.Pointers.Pointed.{ok-or}
+
+-- ---- a token without an escape
+
+pub plain-head : (c : ℕ) (t : List ℕ) → c ≢ 126 → unescaped (c ∷ t) ≡ option_map (λ k. c ∷ k) (unescaped t)
+plain-head c [] other = rw (ne_eqb c 126 other) refl
+plain-head c (e ∷ t) other = rw (ne_eqb c 126 other) refl
+
+unescaped-plain : (t : List ℕ) → IsPlain t → unescaped t ≡ Some t
+unescaped-plain [] plain = refl
+unescaped-plain (c ∷ t) plain =
+    plain-head c t (plain 0 (omega arith))
+    ∙ ap (option_map (λ k. c ∷ k)) (unescaped-plain t (λ k less. plain (suc k) (omega arith)))
+
+pub member-plain : (ms : Members) (t : List ℕ) → IsPlain t → result_ok (member_at ms (unescaped t)) ≡ first_with t ms
+member-plain ms t plain = ap (λ u. result_ok (member_at ms u)) (unescaped-plain t plain) ∙ ok-or (first_with t ms) lacking.Key
+
+-- ---- the first byte, and the others
+
+pub some-bytes : (t : List ℕ) → false ≡ (length t == 0) → 0 < length t
+some-bytes [] is = cc
+some-bytes (c ∷ t) is = omega arith
+
+-- what is left of a token after its first byte is written
+abbrev pub IsLeft : List ℕ → ℕ → List ℕ → Type 0
+IsLeft t x rest = (unescaped t ≡ option_map (λ k. x ∷ k) (unescaped rest)) × (length rest < length t)
+
+left-of : (t l : List ℕ) (x n : ℕ) → 0 < n → n ≤ length t → l ≡ drop n t → unescaped t ≡ option_map (λ k. x ∷ k) (unescaped l)
+    → IsLeft t x (take (length t - n) (drop n t))
+left-of t l x n some within is first =
+    let all : take (length t - n) (drop n t) ≡ drop n t = take_all (length t - n) (drop n t) (omega (arith, length-drop n t)) in (
+      first ∙ ap (λ r. option_map (λ k. x ∷ k) (unescaped r)) (is ∙ sym all),
+      omega (arith, ap length all, length-drop n t),
+    )
+
+pub plain-first : (t : List ℕ) → 0 < length t → get_or t 0 0 ≢ 126 → IsLeft t (get_or t 0 0) (take (length t - 1) (drop 1 t))
+plain-first [] some other = absurd (omega arith)
+plain-first (c ∷ t) some other = left-of (c ∷ t) t c 1 (omega arith) (omega arith) refl (plain-head c t other)
+
+pub escaped-first : (t : List ℕ) (e x : ℕ) → 1 < length t → get_or t 0 0 ≡ 126 → get_or t 1 0 ≡ e
+    → ((r : List ℕ) → unescaped (126 ∷ e ∷ r) ≡ option_map (λ k. x ∷ k) (unescaped r))
+    → IsLeft t x (take (length t - 2) (drop 2 t))
+escaped-first [] e x two begins is law = absurd (omega arith)
+escaped-first (c ∷ []) e x two begins is law = absurd (omega arith)
+escaped-first (c ∷ d ∷ t) e x two begins is law =
+    left-of (c ∷ d ∷ t) t x 2 (omega arith) (omega arith) refl
+    (ap (λ b. unescaped (b ∷ d ∷ t)) begins ∙ ap (λ b. unescaped (126 ∷ b ∷ t)) is ∙ law t)
+
+-- ---- whether a token is well formed
+
+pub formed-further : (o rest : Option (List ℕ)) (x : ℕ) → o ≡ option_map (λ k. x ∷ k) rest → is_some o ≡ is_some rest
+formed-further o None x is = ap is_some is
+formed-further o (Some k) x is = ap is_some is
+
+pub formed-end : (t : List ℕ) → (0 < length t → unescaped t ≡ None) → (length t == 0) ≡ is_some (unescaped t)
+formed-end [] stops = refl
+formed-end (c ∷ t) stops = rw (ne_eqb (suc (length t)) 0 (λ e. omega (arith, e))) (sym (ap is_some (stops (omega arith))))
+
+-- ---- a key that is compared with a token
+
+one-byte : (c : ℕ) (b : Bool) → cond b None (Some (c ∷ [])) ≡ Some [] → ⊥
+one-byte c true is = cc
+one-byte c false is = cc
+
+mapped : (o : Option (List ℕ)) (x : ℕ) → option_map (λ k. x ∷ k) o ≡ Some [] → ⊥
+mapped None x is = cc
+mapped (Some k) x is = cc
+
+two-bytes : (c e : ℕ) (t : List ℕ) (b u v : Bool)
+    → cond b (cond u (option_map (λ k. 126 ∷ k) (unescaped t)) (cond v (option_map (λ k. 47 ∷ k) (unescaped t)) None))
+    (option_map (λ k. c ∷ k) (unescaped (e ∷ t))) ≡ Some [] → ⊥
+two-bytes c e t false u v is = mapped (unescaped (e ∷ t)) c is
+two-bytes c e t true true v is = mapped (unescaped t) 126 is
+two-bytes c e t true false true is = mapped (unescaped t) 47 is
+two-bytes c e t true false false is = cc
+
+pub no-bytes : (t : List ℕ) → unescaped t ≡ Some [] → t ≡ []
+no-bytes [] is = refl
+no-bytes (c ∷ []) is = absurd (one-byte c (eqb c 126) is)
+no-bytes (c ∷ e ∷ t) is = absurd (two-bytes c e t (eqb c 126) (eqb e 48) (eqb e 49) is)
+
+pub byte-same : (o rest : Option (List ℕ)) (x y : ℕ) (k l : List ℕ) → o ≡ option_map (λ m. x ∷ m) rest → l ≡ y ∷ k → o ≡ Some l
+    → (x ≡ y) × (rest ≡ Some k)
+byte-same o None x y k l first split is = cc
+byte-same o (Some m) x y k l first split is =
+    let both : Some (x ∷ m) ≡ Some (y ∷ k) = sym first ∙ is ∙ ap Some split in (cc, cc)
+
+pub byte-more : (o rest : Option (List ℕ)) (x y : ℕ) (k l : List ℕ) → o ≡ option_map (λ m. x ∷ m) rest → l ≡ y ∷ k → x ≡ y → rest ≡ Some k
+    → o ≡ Some l
+byte-more o rest x y k l first split same is =
+    first ∙ ap (option_map (λ m. x ∷ m)) is ∙ ap (λ b. Some (b ∷ k)) same ∙ ap Some (sym split)
+
+pub end-same : (t l : List ℕ) (b : Bool) → b ≡ (length t == 0) → l ≡ [] → IsTrue b ↔ (unescaped t ≡ Some l)
+end-same [] l b test end = (λ yes. ap Some (sym end), λ is. test)
+end-same (c ∷ t) l b test end =
+    let false-is : b ≡ false = test ∙ ne_eqb (suc (length t)) 0 (λ e. omega (arith, e)) in (
+      λ yes. absurd (true≢false (sym yes ∙ false-is)),
+      λ is. absurd (not-empty c t (no-bytes (c ∷ t) (is ∙ ap Some end))),
+    )
+  where
+    not-empty : (c : ℕ) (t : List ℕ) → c ∷ t ≡ [] → ⊥
+    not-empty c t is = cc

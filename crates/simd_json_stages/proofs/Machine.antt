@@ -1,0 +1,12 @@
+-- The second stage: tokens become nodes.
+pub mod Steps
+pub mod Holding
+pub mod Bounds
+pub mod BuildingSteps
+pub mod Refusing
+pub mod Following
+pub mod BetweenBlocks
+pub mod EscapesPassed
+pub mod InputLaws
+pub mod ScalarPut
+pub mod StringPut

@@ -1,0 +1,146 @@
+-- A scalar that becomes a node, or is refused: a decimal's literal is UTF-8 and ends inside the input, and a fault is of no scalar.
+use Rattle.std.proofs.Common.{◌≡◌, ◌≢◌, refl, sym, ◌∙◌, ap, ap₂, subst, ℕ, ◌+◌, ◌<◌, ◌≤◌, inl, inr, List, [], ◌∷◌, ◌++◌, length, get_or}
+use Rattle.std.proofs.Common.{take, drop, true, false, ◌||◌, ◌&&◌, ◌==◌, nat_eq, nat_le, nat_lt, arith}
+use Rattle.std.specs.Prelude.{Option, Some, None, Result, Ok, Err, IfOk, IsUtf8, codes, if◌then◌else◌}
+use Rattle.std.specs.List.{starts_with}
+use Rattle.std.specs.Str.{IsAscii}
+use Rattle.std.proofs.lemmas.Bool.{and_parts, cases_lt, cond_both, leb-false}
+use Rattle.std.proofs.lemmas.List.{get_or_past, length-drop}
+use Rattle.std.proofs.lemmas.Str.{IsUtf8-from_ascii}
+use Rattle.simd_json_parts.specs.AtomAt.{atom_at, atom_or}
+use Rattle.simd_json_parts.specs.Bytes.{quote, is_terminator, byte_at}
+use Rattle.simd_json_parts.specs.Derivatives.{matches, longest_prefix}
+use Rattle.simd_json_parts.specs.Document.{Document, null, boolean, decimal}
+use Rattle.simd_json_parts.specs.Faults.{fault_at, fault_with}
+use Rattle.simd_json_parts.specs.Integers.{max_magnitude}
+use Rattle.simd_json_parts.specs.Listing.{listing}
+use Rattle.simd_json_parts.specs.Nodes.{Item, static_item}
+use Rattle.simd_json_parts.specs.NumberAt.{number_at, integer_or, first_excess}
+use Rattle.simd_json_parts.specs.Numbers.{number_literal, integer_literal, has_minus, magnitude}
+use Rattle.simd_json_parts.specs.StringAt.{string_at}
+use Rattle.simd_json_parts.specs.Tokens.{Form, begin_array, end_array, begin_object, end_object, name_separator, value_separator}
+use Rattle.simd_json_parts.specs.Tokens.{string_token, scalar, form_at}
+use Rattle.simd_json_parts.specs.declared.error.Error.{Error}
+use Rattle.simd_json_parts.specs.declared.error.ErrorType.{ErrorType}
+use Rattle.simd_json_parts.specs.declared.error.ErrorType.TheVariants.{ExpectedTrue, ExpectedFalse, ExpectedNull, InvalidNumber}
+use Rattle.simd_json_parts.proofs.Patterns.Bytes.{All-Matches}
+use Rattle.simd_json_parts.proofs.Patterns.Sets.{matches-Matches, longest_prefix-le}
+use Rattle.simd_json_stages.specs.Put.{IsScalarPut, IsNoScalar}
+use Rattle.simd_json_stages.specs.Refusals.{error_type, refused_kind, number_refusal}
+use Rattle.simd_json_parts.specs.declared.node.StaticNode.{StaticNode}
+use Rattle.simd_json_stages.specs.declared.stage2.fault.Fault.{Fault}
+use Rattle.simd_json_stages.specs.declared.stage2.fault.FaultKind.{FaultKind}
+use Rattle.simd_json_stages.specs.declared.stage2.fault.FaultKind.TheVariants as kinds
+use Rattle.simd_json_stages.proofs.Tokens.ScalarLaws.{is_no_scalar, number_at-within}
+use Rattle.simd_json_stages.proofs.Tokens.TokenForms.{no_value}
+
+-- ---- a decimal
+
+-- the bytes of a number are ASCII
+number-utf8 : (bs : List ℕ) → matches number_literal bs ≡ true → IsUtf8 bs
+number-utf8 bs h =
+    let all : (i d : ℕ) → i < length bs → nat_le 128 (get_or bs i d) ≡ false = All-Matches (λ c. nat_le 128 c)
+    number_literal bs refl (matches-Matches number_literal bs h) in
+    let ascii : IsAscii bs = λ i. elim (cases_lt i (length bs))
+    [ inl l ↦ leb-false 128 (get_or bs i 0) (all i 0 l) | inr past ↦ omega (arith, get_or_past bs i 0 past) ] in
+    IsUtf8-from_ascii bs ascii
+
+-- of a decimal the literal is UTF-8, and it ends inside the input
+abbrev DecimalHere : List ℕ → Document → ℕ → Type 0
+DecimalHere b (decimal literal) end = IsUtf8 literal × (end ≤ length b)
+DecimalHere b _ end = Unit {0}
+
+abbrev ScalarHere : List ℕ → Result (Document × ℕ) Error → Type 0
+ScalarHere b r = IfOk r (λ p. DecimalHere b p.0 p.1)
+
+abbrev FormHere : List ℕ → Form → Type 0
+FormHere b (scalar r) = ScalarHere b r
+FormHere b _ = Unit {0}
+
+atom-here : (b : List ℕ) (i : ℕ) → ScalarHere b (atom_at b i)
+unfolding atom_at
+atom-here b i =
+    cond_both (byte_at b i == 116) _ _ (ScalarHere b) (λ _. letters (codes "true") (boolean true) ExpectedTrue tt)
+    (λ _. cond_both (byte_at b i == 102) _ _ (ScalarHere b) (λ _. letters (codes "false") (boolean false) ExpectedFalse tt)
+    (λ _. letters (codes "null") null ExpectedNull tt))
+  where
+    letters : (bs : List ℕ) (d : Document) (kind : ErrorType) → DecimalHere b d (i + length bs) → ScalarHere b (atom_or bs d kind b i)
+    letters bs d kind h = cond_both (starts_with nat_eq (drop i b) bs && is_terminator (byte_at b (i + length bs))) _ _
+        (ScalarHere b) (λ _. h) (λ _. tt)
+
+number-here : (b : List ℕ) (i : ℕ) → i ≤ length b → ScalarHere b (number_at b i)
+unfolding number_at
+number-here b i l =
+    cond_both (matches number_literal literal && is_terminator (byte_at b end)) _ _ (ScalarHere b)
+    (λ h. cond_both (matches integer_literal literal) _ _ (ScalarHere b) (λ _. whole (first_excess literal))
+    (λ _. (number-utf8 literal (and_parts _ _ h).0, within)))
+    (λ _. tt)
+  where
+    n : ℕ
+    n = longest_prefix number_literal (drop i b)
+
+    literal : List ℕ
+    literal = take n (drop i b)
+
+    end : ℕ
+    end = i + n
+
+    within : end ≤ length b
+    within = omega (arith, longest_prefix-le number_literal (drop i b), length-drop i b)
+
+    whole : (o : Option ℕ) → ScalarHere b (integer_or b i literal end o)
+    whole (Some k) = tt
+    whole None = cond_both (nat_lt (max_magnitude (has_minus literal)) (magnitude literal)) _ _ (ScalarHere b) (λ _. tt) (λ _. tt)
+
+form-here : (b : List ℕ) (i : ℕ) → i ≤ length b → FormHere b (form_at b i)
+unfolding form_at
+form-here b i l =
+    structural 91 begin_array _ tt (structural 93 end_array _ tt (structural 123 begin_object _ tt (structural 125 end_object _ tt
+    (structural 58 name_separator _ tt (structural 44 value_separator _ tt (structural quote (string_token (string_at b i)) _ tt
+    (cond_both ((x == 116) || (x == 102) || (x == 110)) _ _ (FormHere b) (λ _. atom-here b i)
+    (λ _. cond_both ((x == 45) || (nat_le 48 x && nat_le x 57)) _ _ (FormHere b) (λ _. number-here b i l) (λ _. tt)))))))))
+  where
+    x : ℕ
+    x = byte_at b i
+
+    structural : (c : ℕ) (form other : Form) → FormHere b form → FormHere b other → FormHere b (if x == c then form else other)
+    structural c form other here after = cond_both (x == c) form other (FormHere b) (λ _. here) (λ _. after)
+
+pub decimal-here : (b : List ℕ) (i : ℕ) (literal : List ℕ) (end : ℕ) → i ≤ length b
+    → form_at b i ≡ scalar (Ok (decimal literal, end)) → IsUtf8 literal × (end ≤ length b)
+decimal-here b i literal end l is = subst (FormHere b) is (form-here b i l)
+
+-- ---- a node of fixed size
+
+-- nothing is split off before it
+pub static-put : (b : List ℕ) (i end : ℕ) (nodes nodes' : List Item) (reads : ℕ → Type 0) (d : Document) (s : StaticNode) → reads i
+    → form_at b i ≡ scalar (Ok (d, end)) → listing d ≡ static_item s ∷ [] → nodes' ≡ nodes ++ static_item s ∷ []
+    → IsScalarPut b i nodes nodes' reads
+static-put b i end nodes nodes' reads d s input is listed put =
+    record { document = d; end = end; node = static_item s; read = is; listed = listed; put = put; input = inl input }
+
+-- ---- a refusal
+
+-- a number's lies inside the input
+pub offset-within : (b : List ℕ) (i offset : ℕ) → i ≤ length b → number_at b i ≡ Err (fault_at b InvalidNumber (i + offset))
+    → offset ≤ length (drop i b)
+offset-within b i offset l is = omega (arith, length-drop i b, number_at-within b i (fault_at b InvalidNumber (i + offset)) l is)
+
+pub number-refused : (b : List ℕ) (i offset : ℕ) (f : Fault) → form_at b i ≡ scalar (number_at b i)
+    → number_at b i ≡ Err (fault_at b InvalidNumber (i + offset))
+    → f ≡ number_refusal b (i + offset) → IsNoScalar b i f
+number-refused b i offset f form is same = subst (IsNoScalar b i) (sym same) (inl (form ∙ ap scalar is))
+
+-- an atom's, or that of a token that begins no value
+pub atom-refused : (b : List ℕ) (i c : ℕ) (f : Fault) → f ≡ record { kind = refused_kind c; index = i; byte = c } → c ≡ byte_at b i
+    → form_at b i ≡ scalar (Err (fault_at b (error_type (refused_kind c)) i)) → IsNoScalar b i f
+atom-refused b i c f same e is = subst (IsNoScalar b i) (sym same)
+    (inl (is ∙ ap (λ x. scalar (Err (fault_with (error_type (refused_kind c)) i x))) (sym e)))
+
+pub none-refused : (b : List ℕ) (i c : ℕ) (f : Fault) → f ≡ record { kind = refused_kind c; index = i; byte = c } → c ≡ byte_at b i
+    → refused_kind c ≡ kinds.InternalError → is_no_scalar (form_at b i) ≡ true → c ≢ 34 → c ≢ 91 → c ≢ 123 → IsNoScalar b i f
+none-refused b i c f same e kind none no_string no_array no_object =
+    inr (
+      no_value b i none (λ h. no_string (e ∙ h)) (λ h. no_array (e ∙ h)) (λ h. no_object (e ∙ h)),
+      same ∙ ap₂ (λ (k : FaultKind) (x : ℕ). let f : Fault = record { kind = k; index = i; byte = x } in f) kind e,
+    )
