@@ -5,5 +5,4 @@ mod Unique
 pub mod Faults
 pub mod Documents
 pub mod Printing
-mod Rows
-mod Computes
+mod Examples
