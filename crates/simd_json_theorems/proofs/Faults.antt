@@ -1,8 +1,8 @@
 -- Faults are reported in time: `Root`. They are of the kinds that are named: `Kinds`.
 mod Follows
 mod ScalarFollows
-mod ArrayFollows
-mod ObjectFollows
+mod RowFollows
+mod NameFollows
 mod Expectations
 mod AtTokens
 mod Arrays

@@ -1,6 +1,7 @@
 mod Literals
 pub mod Sound
 pub mod Complete
+mod Containers
 mod Unique
 pub mod Faults
 pub mod Documents

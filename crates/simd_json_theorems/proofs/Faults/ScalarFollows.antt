@@ -8,7 +8,8 @@ use Rattle.simd_json_parts.specs.Strings.{IsStringLiteral}
 use Rattle.simd_json_theorems.proofs.Unique.LeadingBytes.{leading, value-leads, string-leads, Leads-one}
 use Rattle.simd_json_theorems.proofs.Unique.ScalarPrefixes.{string-one}
 use Rattle.simd_json_theorems.proofs.Complete.TokensHere.{Ended, ended-space}
-use Rattle.simd_json_theorems.proofs.Unique.OneDocument.{IsName, value-one}
+use Rattle.simd_json_theorems.proofs.Containers.{IsName}
+use Rattle.simd_json_theorems.proofs.Unique.OneDocument.{value-one}
 use Rattle.simd_json_theorems.proofs.Faults.Follows.{SpaceThen, ItemThen, ValueThen, CanFollow, LeadsTo}
 
 -- A name, whatever stands after it,

@@ -1,11 +1,11 @@
 -- Where bytes tell how far a prefix of them goes and what it is, so do they with whitespace round it, and with another such prefix
 -- after it.
-use Rattle.std.proofs.Common.{◌≡◌, refl, sym, ◌∙◌, ap, subst, ℕ, List, [], ◌∷◌, ◌++◌, drop, append_assoc, true, false, ◌==◌}
+use Rattle.std.proofs.Common.{◌≡◌, sym, ◌∙◌, ap, subst, ℕ, List, [], ◌∷◌, ◌++◌, drop, append_assoc, true, false}
 use Rattle.std.specs.List.{list_all}
-use Rattle.std.proofs.lemmas.Bool.{and_parts, or_right, both_ways, eqb-false}
+use Rattle.std.proofs.lemmas.Bool.{and_parts, or_right, both_ways}
 use Rattle.simd_json_parts.specs.Bytes.{is_whitespace, is_structural, is_terminator, byte_at}
 use Rattle.simd_json_parts.specs.Grammar.{IsWhitespace, Spaced, Joined, After}
-use Rattle.simd_json_theorems.proofs.Unique.LeadingBytes.{class, Leads, Leads-one, NoSpace}
+use Rattle.simd_json_theorems.proofs.Unique.LeadingBytes.{NoSpace}
 
 -- a terminator or the end stands first
 abbrev pub Ended : List ℕ → Type 0
@@ -49,15 +49,14 @@ spaced-one A P begins x one y xs ys r s g h e t u =
     (Ended-space h.after s h.after_space u.0) in
     (same.0, space-one g.after h.after r s g.after_space h.after_space t.1 u.1 same.1)
 
--- Whitespace up to a byte is nothing of a set whose lists begin with another class.
-pub space-nothing : (c n : ℕ) (P : List ℕ → Type 0) → is_whitespace c ≡ false → (class c == n) ≡ false
-    → ((bs rest : List ℕ) → P bs → NoSpace (bs ++ rest)) → ((bs : List ℕ) → P bs → Leads n bs)
+-- Whitespace up to a byte is nothing of a set whose lists begin with others.
+pub space-nothing : (c : ℕ) (P : List ℕ → Type 0) → is_whitespace c ≡ false → ((bs rest : List ℕ) → P bs → NoSpace (bs ++ rest))
+    → ((left right rest : List ℕ) → P left → c ∷ rest ≡ left ++ right → ⊥)
     → (xs ys r rest : List ℕ) → IsWhitespace xs → Spaced P ys → xs ++ c ∷ r ≡ ys ++ rest → ⊥
-space-nothing c n P plain other begins leads xs ys r rest w h e =
-    let inside : c ∷ r ≡ h.inner ++ (h.after ++ rest) =
-    space-one xs h.before (c ∷ r) (h.inner ++ (h.after ++ rest)) w h.before_space plain (begins h.inner (h.after ++ rest) h.holds)
-    (simp append_assoc at (e ∙ ap (λ us. us ++ rest) h.whole)) in
-    eqb-false (class c) n other (Leads-one (class c) n (c ∷ []) h.inner r (h.after ++ rest) refl (leads h.inner h.holds) inside)
+space-nothing c P plain begins other xs ys r rest w h e =
+    other h.inner (h.after ++ rest) r h.holds
+    (space-one xs h.before (c ∷ r) (h.inner ++ (h.after ++ rest)) w h.before_space plain (begins h.inner (h.after ++ rest) h.holds)
+    (simp append_assoc at (e ∙ ap (λ us. us ++ rest) h.whole)))
 
 -- ---- up to a byte
 
