@@ -6,5 +6,6 @@ pub mod Content
 pub mod CodeUnits
 pub mod Steps
 pub mod Decoding
+pub mod MovedRuns
 pub mod Plain
 pub mod Reader

@@ -1,6 +1,6 @@
 -- A string is decoded in place, step by step: an escape, a run of plain bytes that is moved down, and one step after another.
-use Rattle.std.proofs.Common.{◌≡◌, sym, ◌∙◌, ap, subst, ℕ, suc, ◌+◌, ◌-◌, ◌<◌, ◌≤◌, List, [], ◌∷◌, ◌++◌, length, take, drop, get_or}
-use Rattle.std.proofs.Common.{false, append_assoc, append-nil, arith}
+use Rattle.std.proofs.Common.{◌≡◌, refl, sym, ◌∙◌, ap, subst, ℕ, suc, ◌+◌, ◌-◌, ◌<◌, ◌≤◌, List, [], ◌∷◌, ◌++◌, length, take, drop, get_or}
+use Rattle.std.proofs.Common.{false, append_assoc, append-nil, take-add, arith}
 use Rattle.std.specs.Prelude.{Some, None, IsUtf8}
 use Rattle.std.specs.Char.{encode_utf8, len_utf8}
 use Rattle.std.specs.List.{prefix_len}
@@ -71,6 +71,18 @@ decoded-run old new r w s v goes_on after e f written unread same =
         utf8 = subst IsUtf8 rest (IsUtf8-drop (drop r old) n goes_on.utf8 boundary);
       };
     }
+
+-- A run that is not moved is read too.
+pub run-decoded : (bs : List ℕ) (r s : ℕ) → IsOpen bs r → s ≡ r + prefix_len is_plain (drop r bs) → IsDecoded bs r r bs s s
+run-decoded bs r s goes_on e =
+    let split : r + (s - r) ≡ s = omega arith in
+    decoded-run bs bs r r s s goes_on (omega arith) e (omega arith) (ap (λ n. take n bs) (sym split) ∙ take-add r (s - r) bs) refl refl
+
+-- So it is, up to its end.
+pub run-ended : (bs : List ℕ) (r s : ℕ) → IsOpen bs r → s ≡ r + prefix_len is_plain (drop r bs)
+    → (s < length bs) × IsDecoded bs r r bs s s × (is_plain (byte_at bs s) ≡ false)
+run-ended bs r s goes_on e =
+    (omega (arith, e, run-inside bs r goes_on.closed), run-decoded bs r s goes_on e, run-stops bs r s goes_on e)
 
 -- ---- an escape
 

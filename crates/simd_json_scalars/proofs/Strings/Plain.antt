@@ -10,7 +10,8 @@ use Rattle.simd_json_parts.specs.StringAt.{closing_quote}
 use Rattle.simd_json_scalars.specs.StringContent.{content, is_plain}
 use Rattle.simd_json_scalars.specs.StringDecoded.{IsDecoded}
 use Rattle.simd_json_scalars.proofs.Strings.Content.{content-quote, content-byte, content_from-next, closing_quote-content}
-use Rattle.simd_json_scalars.proofs.Strings.Reader.{opened, decoded-first}
+use Rattle.simd_json_scalars.proofs.Strings.Decoding.{run-decoded}
+use Rattle.simd_json_scalars.proofs.Strings.Reader.{opened}
 
 -- where the content of some bytes ends
 abbrev EndsPlain : List ℕ → ℕ → Type 0
@@ -48,7 +49,7 @@ plain-decoded bs closing opening is l plain utf8 =
     let ends = plain-run us (λ k within at. plain (1 + k) (omega arith) (omega (arith, within, size)) (sym (after k) ∙ at))
     (omega (arith, size, l, length-drop 1 bs)) in (
       omega (arith, size),
-      decoded-first bs closing (opened bs opening (subst (λ n. n < length bs) is l) utf8)
+      run-decoded bs 1 closing (opened bs opening (subst (λ n. n < length bs) is l) utf8)
           (size ∙ ap (λ n. 1 + n) (sym ends.0)),
       ap (byte_at bs) size ∙ sym (after (length (content us))) ∙ ends.1,
     )

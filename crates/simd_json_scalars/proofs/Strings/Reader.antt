@@ -1,18 +1,16 @@
 -- What the reader of a string answers: the string at every index from which its bytes go on.
 use Rattle.std.proofs.Common.{◌≡◌, refl, sym, ◌∙◌, ap, subst, ℕ, suc, ◌+◌, ◌-◌, ◌<◌, List, [], ◌∷◌, length, take, drop, get_or}
-use Rattle.std.proofs.Common.{append-nil, arith, take-add}
+use Rattle.std.proofs.Common.{append-nil, arith}
 use Rattle.std.specs.Prelude.{Ok, Err, IsUtf8, slice_range}
-use Rattle.std.specs.List.{prefix_len}
 use Rattle.std.proofs.lemmas.List.{length-drop, drop-drop, drop_at, drop-take, get_or-drop, get_or_default, length-take-le}
 use Rattle.std.proofs.lemmas.Str.{IsUtf8-drop, IsCharBoundary-after_ascii}
 use Rattle.simd_json_parts.specs.Bytes.{quote, byte_at}
 use Rattle.simd_json_parts.specs.StringAt.{closing_quote, escape_fault, read_pieces, string_read, string_at}
-use Rattle.simd_json_scalars.specs.StringContent.{content, is_plain, with_prefix}
+use Rattle.simd_json_scalars.specs.StringContent.{content, with_prefix}
 use Rattle.simd_json_scalars.specs.StringDecoded.{IsOpen, IsDecoded, IsLeft}
 use Rattle.simd_json_scalars.specs.declared.stringparse.BadEscape.{BadEscape}
 use Rattle.simd_json_scalars.proofs.Strings.Content.{content-quote, closing_quote-content, string_at-content}
 use Rattle.simd_json_parts.proofs.Lists.Drops.{drop-further}
-use Rattle.simd_json_scalars.proofs.Strings.Decoding.{decoded-run}
 
 -- ---- at the start
 
@@ -25,12 +23,6 @@ opened bs opening closing utf8 =
       closed = omega (arith, closing, closing_quote-content bs 0 opening);
       utf8 = IsUtf8-drop bs 1 utf8 (IsCharBoundary-after_ascii bs 0 utf8 inside ascii);
     }
-
--- The first run stays where it is.
-pub decoded-first : (bs : List ℕ) (s : ℕ) → IsOpen bs 1 → s ≡ 1 + prefix_len is_plain (drop 1 bs) → IsDecoded bs 1 1 bs s s
-decoded-first bs s goes_on e =
-    let split : 1 + (s - 1) ≡ s = omega arith in
-    decoded-run bs bs 1 1 s s goes_on (omega arith) e (omega arith) (ap (λ n. take n bs) (sym split) ∙ take-add 1 (s - 1) bs) refl refl
 
 -- ---- at the end
 

@@ -1,8 +1,10 @@
 //! Runs of bytes between escapes: finds their ends, and moves them down.
-ghost use Rattle.std.specs.Prelude.{◌≡◌, ◌≤◌, ◌<◌, ◌+◌, ◌-◌, ◌++◌, length, take, drop, map};
+ghost use Rattle.std.specs.Prelude.{◌≡◌, ◌≤◌, ◌<◌, ◌+◌, length, drop, map, false};
 ghost use Rattle.std.specs.List.{prefix_len, copy_within};
 ghost use Rattle.std.specs.Simd.Lanes.{mask_l};
-ghost use Rattle.simd_json_scalars.specs.StringContent.{content, is_plain, is_stop};
+ghost use Rattle.simd_json_parts.specs.Bytes.{byte_at};
+ghost use Rattle.simd_json_scalars.specs.StringContent.{is_plain, is_stop};
+ghost use Rattle.simd_json_scalars.specs.StringDecoded.{IsOpen, IsDecoded};
 
 use super::Ends;
 use std::simd::prelude::*;
@@ -10,14 +12,10 @@ use std::simd::prelude::*;
 // Moves the bytes up to the next quote or backslash down, 32 at a time, while it is looked for.
 #[inline]
 pub(super) fn move_plain(bytes: &mut [u8], from: usize, to: usize) -> Ends
-    requires inside { from + length (content (drop from bytes.old)) < length bytes.old }
+    requires goes_on { IsOpen bytes.old from }
     requires order { to ≤ from }
-    ensures read { result.read ≡ from + prefix_len is_plain (drop from bytes.old) }
-    ensures end { result.written ≡ to + (result.read - from) }
-    ensures written { take result.written bytes.new
-        ≡ take to bytes.old ++ take (result.read - from) (drop from bytes.old) }
-    ensures unread { drop result.read bytes.new ≡ drop result.read bytes.old }
-    ensures same_length { length bytes.new ≡ length bytes.old }
+    ensures { IsDecoded bytes.old from to bytes.new result.read result.written
+        × (is_plain (byte_at bytes.new result.read) ≡ false) }
 {
     let mut done = 0;
     while bytes.len() - (from + done) >= 32 {
@@ -68,9 +66,9 @@ fn move_few(bytes: &mut [u8], from: usize, end: usize, to: usize)
 // The next quote or backslash, 32 bytes at a time.
 #[inline]
 pub(super) fn plain_end(bytes: &[u8], from: usize) -> usize
-    requires { from + length (content (drop from bytes.now)) < length bytes.now }
-    ensures value { result ≡ from + prefix_len is_plain (drop from bytes.now) }
-    ensures bound { result < length bytes.now }
+    requires { IsOpen bytes.now from }
+    ensures { (result < length bytes.now) × IsDecoded bytes.now from from bytes.now result result
+        × (is_plain (byte_at bytes.now result) ≡ false) }
 {
     let mut end = from;
     while bytes.len() - end >= 32 {

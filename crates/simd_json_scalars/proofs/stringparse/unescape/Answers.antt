@@ -1,26 +1,21 @@
-use Rattle.std.proofs.Common.{refl, ap, length, arith}
+use Rattle.std.proofs.Common.{refl, sym, ap, ◌∙◌, length, arith}
 use Rattle.simd_json_scalars.specs.StringContent.{is_plain}
 use Rattle.simd_json_scalars.specs.StringDecoded.{IsDecoded}
-use Rattle.simd_json_scalars.proofs.Strings.Decoding.{run-stops, decoded-run, decoded-open, decoded-further, decoded-stops}
+use Rattle.simd_json_scalars.proofs.Strings.Decoding.{decoded-open, decoded-further, decoded-byte}
 use Rattle.simd_json_scalars.proofs.Strings.Decoding.{was-backslash, decoded-fits, decoded-bad}
 use Rattle.simd_json_scalars.proofs.stringparse.unescape.Goals as goal
 
+pub move_plain-ends-requires-clause-goes_on : goal.move_plain-ends-requires-clause-goes_on
+move_plain-ends-requires-clause-goes_on c =
+    decoded-open _ _ _ _ _ _ (decoded-further _ _ _ _ _ _ _ _ _ c.loop-unread.invariant.decoded c.in-Some.ensures.0)
+
 pub loop-unread-preserved-then-unread-ends-ne92 : goal.loop-unread-preserved-then-unread-ends-ne92
 loop-unread-preserved-then-unread-ends-ne92 c =
-    let old = c.args.unread.now in
-    let now = c.unescape_one.new.unread in
-    let next = c.in-Some.next in
-    let m = c.move_plain-ends in
-    let e = m.ensures in
-    let one : IsDecoded old c.args.from c.args.from now next.read next.written =
+    let run = c.move_plain-ends.ensures in
+    let one : IsDecoded c.args.unread.now c.args.from c.args.from c.unescape_one.new.unread c.in-Some.next.read c.in-Some.next.written =
     decoded-further _ _ _ _ _ _ _ _ _ c.loop-unread.invariant.decoded c.in-Some.ensures.0 in
-    let goes_on = decoded-open _ _ _ _ _ _ one in
-    let run : IsDecoded now next.read next.written m.new.bytes m.result.read m.result.written =
-    decoded-run now m.new.bytes next.read next.written m.result.read m.result.written goes_on one.order e.read e.end e.written e.unread
-    e.same_length in
-    let both : IsDecoded old c.args.from c.args.from m.new.bytes m.result.read m.result.written =
-    decoded-further _ _ _ _ _ _ _ _ _ one run in
-    record { decoded = both; stops = decoded-stops _ _ _ _ _ _ _ _ _ both run (run-stops now next.read m.result.read goes_on e.read) }
+    let both = decoded-further _ _ _ _ _ _ _ _ _ one run.0 in
+    record { decoded = both; stops = ap is_plain (sym (decoded-byte _ _ _ _ _ _ both)) ∙ run.1 }
 
 pub loop-unread-preserved : goal.loop-unread-preserved
 loop-unread-preserved c =
