@@ -70,7 +70,8 @@ fn op_or_quote(v: u8x32) -> u64
 pub(super) fn classes(bytes: &[u8; 64]) -> ClassWords
     ensures space_or_quote { HasBits result.space_or_quote
         (λ i. is_space_or_quote (slice_index bytes.now i)) }
-    ensures op_or_quote { HasBits result.op_or_quote (λ i. is_op_or_quote (slice_index bytes.now i)) }
+    ensures op_or_quote { HasBits result.op_or_quote
+        (λ i. is_op_or_quote (slice_index bytes.now i)) }
     ensures control { HasBits result.control (λ i. is_control (slice_index bytes.now i)) }
     ensures ascii { result.high ≡ 0 → (i : ℕ) → i < 64 → slice_index bytes.now i < 128 }
     ensures escapes { result.has_backslash ≡ list_any (λ x. x == backslash) bytes.now }

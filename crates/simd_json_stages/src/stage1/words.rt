@@ -131,8 +131,8 @@ fn prefix_xor(x: u64) -> u64
 // else 0.
 #[inline(always)]
 pub(super) fn classify(bytes: &[u8; 64], before: u64) -> Classified
-    ensures classified { (b : List ℕ) (i : ℕ) → IsBlock b i bytes.now → before ≡ from_bool (is_escaped_at b i)
-        → AreClassified b i result }
+    ensures classified { (b : List ℕ) (i : ℕ) → IsBlock b i bytes.now
+        → before ≡ from_bool (is_escaped_at b i) → AreClassified b i result }
     ensures escapes { result.has_backslash ≡ list_any (λ x. x == backslash) bytes.now }
 {
     let m = classes(bytes);
@@ -171,7 +171,8 @@ fn last_bits(word: u64, len: usize) -> u64
 #[inline(always)]
 pub(super) fn classify_last(bytes: &[u8; 64], len: usize, before: u64) -> Classified
     requires { len < 64 }
-    ensures { (b : List ℕ) (i : ℕ) → IsBlock b i (drop (64 - len) bytes.now ++ replicate (64 - len) 32)
+    ensures { (b : List ℕ) (i : ℕ)
+        → IsBlock b i (drop (64 - len) bytes.now ++ replicate (64 - len) 32)
         → before ≡ from_bool (is_escaped_at b i) → AreClassified b i result }
 {
     let m = classes(bytes);
@@ -218,8 +219,8 @@ pub(super) fn find_parts(space_or_quote: u64, op_or_quote: u64, control: u64, es
 // bytes but plain ones after a plain one, whitespace, the bytes inside strings and closing quotes.
 #[inline(always)]
 pub(super) fn find_starts(parts: Parts, control: u64, carry: Carry) -> BlockStarts
-    ensures { (b : List ℕ) (i : ℕ) → AreParts b i parts → IsControl b i control → IsCarried b i carry
-        → AreStarts b i result }
+    ensures { (b : List ℕ) (i : ℕ) → AreParts b i parts → IsControl b i control
+        → IsCarried b i carry → AreStarts b i result }
 {
     let inside = parts.parity ^ carry.inside;
     let follows = (parts.plain << 1) | carry.plain;
