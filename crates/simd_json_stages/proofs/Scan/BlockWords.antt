@@ -13,12 +13,12 @@ use Rattle.simd_json_stages.specs.Blocks.{AreParts, AreStarts}
 use Rattle.simd_json_stages.specs.declared.stage1.words.Carry.{Carry}
 use Rattle.simd_json_stages.specs.declared.stage1.words.Parts.{Parts}
 use Rattle.simd_json_stages.specs.declared.stage1.words.Classified.{Classified}
-use Rattle.simd_json_stages.proofs.Scan.Bits.Operations.{flip, shl}
+use Rattle.simd_json_stages.proofs.Scan.Bits.Operations.{flip, shl, is_set-zero}
 use Rattle.simd_json_stages.proofs.Scan.Bits.Combined.{bits-and, bits-or, bits-xor, bits-not, bits-same, after, bits-after, bits-all, bits-last}
 use Rattle.simd_json_stages.proofs.Scan.Bits.Combined.{bits-last_spread}
 use Rattle.simd_json_stages.proofs.Scan.BlockLaws.{escaped_at, open_at, quote-classes, structural-classes, space-classes, quote-real}
 use Rattle.simd_json_stages.proofs.Scan.BlockLaws.{inside-along, inside-open, escaped-along, position-found}
-use Rattle.simd_json_stages.proofs.Scan.Bits.Escapes.{no_escapes, none_set}
+use Rattle.simd_json_stages.proofs.Scan.Bits.Escapes.{no_escapes}
 
 and-swap : (s t : Bool) → (s && t) ≡ (t && s)
 and-swap true true = refl
@@ -149,7 +149,7 @@ escaped-some b at x escaped next h r =
 pub escaped-none : (b : List ℕ) (at : ℕ) (before : ℕ) → before ≡ bool_byte (escaped_at b at)
     → ((i : ℕ) → i < 64 → (byte_at b (at + i) == backslash) ≡ false) → AreEscaped b at before 0
 escaped-none b at before e none =
-    let along = escaped-along b at (escaped_at b at) 0 (λ _. escaped_at b at) (λ j l. none_set j ∙ sym (none j l)) in
+    let along = escaped-along b at (escaped_at b at) 0 (λ _. escaped_at b at) (λ j l. is_set-zero j ∙ sym (none j l)) in
     let r = no_escapes (escaped_at b at) before e in
     (bits-same r.0 (λ j l. along j (omega arith)), r.1 ∙ ap bool_byte (along 64 (omega arith)))
 
