@@ -14,7 +14,7 @@ ghost use Rattle.simd_json_stages.specs.Scans.{IsBadEncoding, LacksMemory};
 use super::ScanState;
 use super::groups::{GROUP, scan_groups};
 use crate::stage1::BLOCK_LEN;
-use crate::stage1::classes::has_backslash;
+use crate::stage1::classes::backslashes;
 use crate::stage1::encoding::check_rest;
 use crate::stage1::lists::grow;
 use crate::stage1::words::{classify, find_parts};
@@ -106,7 +106,7 @@ fn have_backslash(blocks: &[[u8; 64]], window: Window) -> bool
 {
     let mut i = window.first;
     while i < window.end {
-        if has_backslash(&blocks[i]) {
+        if backslashes(&blocks[i]) != 0 {
             return true;
         }
         i += 1;
