@@ -4,6 +4,7 @@ pub mod Bits
 pub mod BlockLaws
 pub mod BlockWords
 pub mod ScanLaws
+pub mod BlockScanLaws
 pub mod GroupLaws
 pub mod InsideLaws
 pub mod RestLaws

@@ -8,6 +8,7 @@ pub mod Carries
 pub mod Words
 pub mod Classes
 pub mod Blocks
+pub mod BlockScans
 pub mod Groups
 pub mod Stored
 -- The second stage.

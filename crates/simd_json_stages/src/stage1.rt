@@ -11,10 +11,10 @@
 //! words      → the escaped bytes, by runs of backslashes    quoted substrings
 //!            → the bytes inside strings, by prefix XOR      quoted substrings
 //!            → the starts of tokens                         pseudo-structural characters
-//! writing    a word → indexes in the list                   index extraction
+//! lists      a word → indexes in the list                   index extraction
+//!            memory for the lists
 //! encoding   UTF-8, a window at a time                      character encoding
 //! scan       the order of all this: windows of 8 KiB, groups of eight blocks, what is left
-//! capacity   memory for the two lists
 //! ```
 //!
 //! Where it differs from simdjson: eight blocks are taken at a time, each step over all of them;
@@ -31,12 +31,11 @@ use scan::{scan_blocks, scan_rest};
 use simd_json_parts::error::{Error, ErrorType, Result};
 use std::alloc::Allocator;
 
-mod capacity;
 mod classes;
 mod encoding;
+mod lists;
 mod scan;
 mod words;
-mod writing;
 
 /// The number of bytes of a block. The last block of an input may have fewer.
 pub const BLOCK_LEN: usize = 64;
@@ -91,7 +90,8 @@ pub trait Stage1Parse {
             × (take found.escape_blocks escape_blocks.new.items ≡ backslash_blocks input.now)) }
         ensures fault { IfErr result (λ e. (input_fault input.now ≡ Some e)
             ⊎ LacksMemory input.now e structural_indexes.old.items escape_blocks.old.items) }
-        ensures capacity { length structural_indexes.old.items ≤ length structural_indexes.new.items }
+        ensures capacity { length structural_indexes.old.items
+            ≤ length structural_indexes.new.items }
         ensures block_capacity { length escape_blocks.old.items ≤ length escape_blocks.new.items };
 }
 

@@ -3,7 +3,6 @@ pub mod Computed
 pub mod Operations
 pub mod Combined
 pub mod Lanes
-pub mod Runs
 pub mod Escapes
 pub mod Prefix
 pub mod Places

@@ -2,23 +2,26 @@
 use Rattle.std.proofs.Common.{◌≡◌, refl, sym, ◌∙◌, ap, ap₂, subst, ℕ, zero, suc, ◌+◌, ◌-◌, ◌/◌, ◌%◌, ◌^◌, ◌<◌, List, [], ◌∷◌, length}
 use Rattle.std.proofs.Common.{get_or, Bool, true, false, ◌&&◌, ◌||◌, ◌==◌, add-zero, add-suc, arith}
 use Rattle.std.specs.List.{list_any, range_with_len}
+use Rattle.std.proofs.lemmas.List.{get_or_default}
+use Rattle.std.proofs.lemmas.List.Folds.{list_any_none, list_any_at}
 use lib.Bits.{bit_and, bit_or, bit_xor}
 use mir.Val.{bool_byte}
 use Rattle.simd_json_parts.specs.Bytes.{backslash, is_whitespace, is_structural, is_control, byte_at}
 use Rattle.simd_json_parts.specs.Positions.{is_real_quote, is_inside, is_position}
 use Rattle.simd_json_stages.specs.Classes.{is_space_or_quote, is_op_or_quote}
-use Rattle.simd_json_stages.specs.Words.{HasBits, escaped_in, parity as parity_of}
+use Rattle.simd_json_stages.specs.Words.{is_set, HasBits, escaped_in}
 use Rattle.simd_json_stages.specs.Blocks.{is_plain, is_plain_before, all_bits, IsBlock, HasClasses, IsControl, IsCarried, AreClassified}
 use Rattle.simd_json_stages.specs.Blocks.{AreParts, AreStarts}
 use Rattle.simd_json_stages.specs.declared.stage1.words.Carry.{Carry}
 use Rattle.simd_json_stages.specs.declared.stage1.words.Parts.{Parts}
 use Rattle.simd_json_stages.specs.declared.stage1.words.Classified.{Classified}
-use Rattle.simd_json_stages.proofs.Scan.Bits.Operations.{flip, shl}
+use Rattle.simd_json_stages.proofs.Scan.Bits.Operations.{flip, shl, is_set-zero}
 use Rattle.simd_json_stages.proofs.Scan.Bits.Combined.{bits-and, bits-or, bits-xor, bits-not, bits-same, after, bits-after, bits-all, bits-last}
 use Rattle.simd_json_stages.proofs.Scan.Bits.Combined.{bits-last_spread}
 use Rattle.simd_json_stages.proofs.Scan.BlockLaws.{escaped_at, open_at, quote-classes, structural-classes, space-classes, quote-real}
 use Rattle.simd_json_stages.proofs.Scan.BlockLaws.{inside-along, inside-open, escaped-along, position-found}
-use Rattle.simd_json_stages.proofs.Scan.Bits.Escapes.{no_escapes, none_set}
+use Rattle.simd_json_stages.proofs.Scan.Bits.Escapes.{no_escapes}
+use Rattle.simd_json_stages.proofs.Scan.Bits.Prefix.{prefixes, prefix-bits}
 
 and-swap : (s t : Bool) → (s && t) ≡ (t && s)
 and-swap true true = refl
@@ -34,16 +37,15 @@ quotes s o = bit_and s o
 abbrev real : ℕ → ℕ → ℕ → ℕ
 real s o escaped = bit_and (quotes s o) (flip escaped)
 
-pub parts-found : (b : List ℕ) (at s o control escaped parity : ℕ) → HasClasses b at s o control escaped
-    → HasBits parity (λ i. parity_of (real s o escaped) (i + 1))
+pub parts-found : (b : List ℕ) (at s o control escaped : ℕ) → HasClasses b at s o control escaped
     → AreParts b at (record {
-      parity = parity;
+      parity = prefixes (real s o escaped);
       plain = flip (bit_or
           (bit_or (bit_and o (flip (bit_or control s))) (bit_xor s (quotes s o))) (real s o escaped));
       space = bit_xor s (quotes s o);
       quote = real s o escaped;
     })
-parts-found b at s o control escaped parity c h =
+parts-found b at s o control escaped c =
     let op : HasBits (bit_and o (flip (bit_or control s))) (λ i. is_structural (byte_at b (at + i))) =
     bits-same (bits-and c.op_or_quote (bits-not (bits-or c.control c.space_or_quote))) (λ i l. structural-classes _ (c.bytes i l)) in
     let space : HasBits (bit_xor s (quotes s o)) (λ i. is_whitespace (byte_at b (at + i))) = bits-same
@@ -57,7 +59,7 @@ parts-found b at s o control escaped parity c h =
       plain = bits-not (bits-or (bits-or op space) quote);
       space = space;
       quote = quote;
-      parity = h;
+      parity = prefix-bits (real s o escaped) quote.small;
     }
 
 -- ---- its positions, from what stands before it
@@ -122,17 +124,17 @@ any-bytes p f at (x ∷ xs) h =
     (any-bytes p f (at + 1) xs (λ i l. h (suc i) (omega arith) ∙ ap f (omega arith)))
 
 pub none-any : (p : ℕ → Bool) (xs : List ℕ) → list_any p xs ≡ false → (i : ℕ) → i < length xs → p (get_or xs i 0) ≡ false
-none-any p [] e i l = absurd (omega arith)
-none-any p (x ∷ xs) e zero l = (both (p x) (list_any p xs) e).0
+none-any p xs e i l = no (p (get_or xs i 0)) (λ yes. sym (list_any_at p xs i 0 l yes) ∙ e)
   where
-    both : (s t : Bool) → (s || t) ≡ false → (s ≡ false) × (t ≡ false)
-    both true t e = absurd (let f : true ≡ false = e in cc)
-    both false t e = (refl, e)
-none-any p (x ∷ xs) e (suc i) l = none-any p xs (rest (p x) (list_any p xs) e) i (omega arith)
-  where
-    rest : (s t : Bool) → (s || t) ≡ false → t ≡ false
-    rest true t e = absurd (let f : true ≡ false = e in cc)
-    rest false t e = e
+    no : (t : Bool) → (t ≡ true → true ≡ false) → t ≡ false
+    no true h = h refl
+    no false h = refl
+
+-- a word with a bit for each of them that passes
+pub any-zero : (p : ℕ → Bool) (xs : List ℕ) (w : ℕ) → length xs ≡ 64 → HasBits w (λ i. p (get_or xs i 0)) → w ≡ 0
+    → list_any p xs ≡ false
+any-zero p xs w long h e = list_any_none p xs (λ k d l. ap p (get_or_default xs k d 0 l)
+    ∙ sym (h.bits k (omega arith)) ∙ ap (λ v. is_set v k) e ∙ is_set-zero k)
 
 -- ---- which bytes of a block are escaped, with a backslash in it or without
 
@@ -149,7 +151,7 @@ escaped-some b at x escaped next h r =
 pub escaped-none : (b : List ℕ) (at : ℕ) (before : ℕ) → before ≡ bool_byte (escaped_at b at)
     → ((i : ℕ) → i < 64 → (byte_at b (at + i) == backslash) ≡ false) → AreEscaped b at before 0
 escaped-none b at before e none =
-    let along = escaped-along b at (escaped_at b at) 0 (λ _. escaped_at b at) (λ j l. none_set j ∙ sym (none j l)) in
+    let along = escaped-along b at (escaped_at b at) 0 (λ _. escaped_at b at) (λ j l. is_set-zero j ∙ sym (none j l)) in
     let r = no_escapes (escaped_at b at) before e in
     (bits-same r.0 (λ j l. along j (omega arith)), r.1 ∙ ap bool_byte (along 64 (omega arith)))
 

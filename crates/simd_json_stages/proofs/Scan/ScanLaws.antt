@@ -162,26 +162,6 @@ pub IsScanned-same : {b : List ℕ} {m n : ℕ} {s : ScanState} {out listed : Li
     → IsScanned b n s out listed
 IsScanned-same {b} {m} {n} {s} {out} {listed} e h = subst (λ k. IsScanned b k s out listed) e h
 
--- a window begins with no byte that is no ASCII
-pub IsScanned-high : {b : List ℕ} {k : ℕ} {s : ScanState} {out listed : List ℕ} → (high : ℕ) → IsScanned b k s out listed
-    → IsScanned b k (record {
-      classifying = record {
-        escaped = s.classifying.escaped;
-        high = high;
-        listed = s.classifying.listed;
-      };
-      placing = s.placing;
-    }) out listed
-IsScanned-high high h = record {
-  classified = record {
-    escaped = h.classified.escaped;
-    few = h.classified.few;
-    within = h.classified.within;
-    found = h.classified.found;
-  };
-  placed = h.placed;
-}
-
 -- ---- at the start, and where lists grow
 
 pub IsScanned-none : (b : List ℕ) (out listed : List ℕ)
@@ -205,33 +185,42 @@ stored-next n k xs ys l e more =
     let here : take (n + 1) (set ys n k) ≡ take n ys ++ k ∷ [] = grind (arith, common_steps) in
     here ∙ ap (λ ks. ks ++ k ∷ []) (prefix n xs ys l e)
 
--- the same of lists and numbers that are equal
-pub IsScanned-equal : (b : List ℕ) (j k : ℕ) (s : ScanState) (out listed more more_listed : List ℕ) → j ≡ k → out ≡ more
-    → listed ≡ more_listed → IsScanned b j s out listed → IsScanned b k s more more_listed
-IsScanned-equal b j k s out listed more more_listed e f g h = subst (λ n. IsScanned b n s more more_listed) e
-    (subst (λ ys. IsScanned b j s more ys) g (subst (λ xs. IsScanned b j s xs listed) f h))
-
-pub IsScanned-capacity : (b : List ℕ) (k : ℕ) (s : ScanState) (out listed more more_listed : List ℕ) → IsScanned b k s out listed
-    → take (length out) more ≡ out → length out ≤ length more
-    → take (length listed) more_listed ≡ listed → length listed ≤ length more_listed → IsScanned b k s more more_listed
-IsScanned-capacity b k s out listed more more_listed h e l f m =
-    let p = h.placed in
+-- in lists that are longer, where a window begins with no byte that is no ASCII
+pub IsScanned-longer : {b : List ℕ} {k : ℕ} {s : ScanState} {xs ys us vs ps qs : List ℕ} → IsScanned b k s xs ys
+    → (take (length xs) us ≡ xs) × (take (length ys) vs ≡ ys) → (length xs ≤ length us) × (length ys ≤ length vs)
+    → ps ≡ us → qs ≡ vs → IsScanned b k (record {
+      classifying = record { escaped = s.classifying.escaped; high = 0; listed = s.classifying.listed };
+      placing = s.placing;
+    }) ps qs
+IsScanned-longer {b} {k} {s} {xs} {ys} {us} {vs} h kept long p q =
     let t = h.classified in
-    record {
+    let w = h.placed in
+    rw (p, q) (record {
       classified = record {
         escaped = t.escaped;
         few = t.few;
-        within = (let w = t.within in omega arith);
-        found = prefix s.classifying.listed listed more_listed t.within f ∙ t.found;
+        within = omega (arith, t.within, long.1);
+        found = prefix s.classifying.listed ys vs t.within kept.1 ∙ t.found;
       };
       placed = record {
-        carried = p.carried;
-        bad = p.bad;
-        few = p.few;
-        within = (let w = p.within in omega arith);
-        found = prefix s.placing.used out more p.within e ∙ p.found;
+        carried = w.carried;
+        bad = w.bad;
+        few = w.few;
+        within = omega (arith, w.within, long.0);
+        found = prefix s.placing.used xs us w.within kept.0 ∙ w.found;
       };
-    }
+    })
+
+pub written-back : (xs ys : List ℕ) (n : ℕ) → length xs ≡ n → take n (xs ++ ys) ≡ xs
+written-back xs ys n e = take_at xs ys n e
+
+pub length-back : (xs ys : List ℕ) (n : ℕ) → length xs ≡ n → length (take n (xs ++ ys)) ≡ n
+length-back xs ys n e = ap length (written-back xs ys n e) ∙ e
+
+-- once the slices are given back
+pub IsScanned-back : {b : List ℕ} {k : ℕ} {s : ScanState} {xs ys : List ℕ} (us vs : List ℕ) (m n : ℕ) → length xs ≡ m → length ys ≡ n
+    → IsScanned b k s xs ys → IsScanned b k s (take m (xs ++ us)) (take n (ys ++ vs))
+IsScanned-back {b} {k} {s} {xs} {ys} us vs m n e f h = rw (written-back xs us m e, written-back ys vs n f) h
 
 -- ---- the blocks of an input
 
@@ -251,6 +240,3 @@ AreBlocks-chunks b blocks e long = λ k d l.
       len = ap length is ∙ length-chunk (64 * k) 64 b (omega arith);
       same = λ i h. ap (λ xs. get_or xs i 0) is ∙ get_or-chunk (64 * k) 64 b i 0 h ∙ get_or_default b (64 * k + i) 0 32 (omega arith);
     }
-
-pub written-back : (xs ys : List ℕ) (n : ℕ) → length xs ≡ n → take n (xs ++ ys) ≡ xs
-written-back xs ys n e = take_at xs ys n e

@@ -46,23 +46,20 @@ pub(super) struct ClassWords {
     pub(super) has_backslash: bool,
 }
 
-// A bit for each of 32 bytes that is whitespace or a quote.
+// For each of 32 bytes a bit of the first word if it is whitespace or a quote, and of the second if
+// it is a structural character or a quote, or 0x02, 0x0C or 0x1A.
 #[inline(always)]
-fn space_or_quote(v: u8x32) -> u64
-    ensures { result ≡ mask_l (map is_space_or_quote v) }
+fn look_up(v: u8x32) -> (u64, u64)
+    ensures space_or_quote { result.0 ≡ mask_l (map is_space_or_quote v) }
+    ensures op_or_quote { result.1 ≡ mask_l (map is_op_or_quote v) }
 {
-    v.simd_eq(u8x32::from_array(SPACE_OR_QUOTE).swizzle_dyn_within::<16>(v & u8x32::splat(15)))
-        .to_bitmask()
-}
-
-// A bit for each of 32 bytes that is a structural character or a quote, or 0x02, 0x0C or 0x1A.
-#[inline(always)]
-fn op_or_quote(v: u8x32) -> u64
-    ensures { result ≡ mask_l (map is_op_or_quote v) }
-{
-    (v | u8x32::splat(0x20))
-        .simd_eq(u8x32::from_array(OP_OR_QUOTE).swizzle_dyn_within::<16>(v & u8x32::splat(15)))
-        .to_bitmask()
+    let low_half = v & u8x32::splat(15);
+    let spaces = u8x32::from_array(SPACE_OR_QUOTE).swizzle_dyn_within::<16>(low_half);
+    let ops = u8x32::from_array(OP_OR_QUOTE).swizzle_dyn_within::<16>(low_half);
+    (
+        v.simd_eq(spaces).to_bitmask(),
+        (v | u8x32::splat(0x20)).simd_eq(ops).to_bitmask(),
+    )
 }
 
 // The classes of the bytes of a block, 32 at a time.
@@ -70,32 +67,25 @@ fn op_or_quote(v: u8x32) -> u64
 pub(super) fn classes(bytes: &[u8; 64]) -> ClassWords
     ensures space_or_quote { HasBits result.space_or_quote
         (λ i. is_space_or_quote (slice_index bytes.now i)) }
-    ensures op_or_quote { HasBits result.op_or_quote (λ i. is_op_or_quote (slice_index bytes.now i)) }
+    ensures op_or_quote { HasBits result.op_or_quote
+        (λ i. is_op_or_quote (slice_index bytes.now i)) }
     ensures control { HasBits result.control (λ i. is_control (slice_index bytes.now i)) }
     ensures ascii { result.high ≡ 0 → (i : ℕ) → i < 64 → slice_index bytes.now i < 128 }
     ensures escapes { result.has_backslash ≡ list_any (λ x. x == backslash) bytes.now }
 {
     let low = u8x32::from_slice(&bytes[..32]);
     let high = u8x32::from_slice(&bytes[32..]);
+    let (low_spaces, low_ops) = look_up(low);
+    let (high_spaces, high_ops) = look_up(high);
     let space = u8x32::splat(0x20);
+    let backslash = u8x32::splat(b'\\');
     ClassWords {
-        space_or_quote: space_or_quote(low) | (space_or_quote(high) << 32),
-        op_or_quote: op_or_quote(low) | (op_or_quote(high) << 32),
+        space_or_quote: low_spaces | (high_spaces << 32),
+        op_or_quote: low_ops | (high_ops << 32),
         control: low.simd_lt(space).to_bitmask() | (high.simd_lt(space).to_bitmask() << 32),
         high: (low | high).simd_ge(u8x32::splat(0x80)).to_bitmask(),
-        has_backslash: has_backslash(bytes),
+        has_backslash: (low.simd_eq(backslash) | high.simd_eq(backslash)).to_bitmask() != 0,
     }
-}
-
-// Whether one of the bytes is a backslash.
-#[inline(always)]
-pub(super) fn has_backslash(bytes: &[u8; 64]) -> bool
-    ensures { result ≡ list_any (λ x. x == backslash) bytes.now }
-{
-    let low = u8x32::from_slice(&bytes[..32]);
-    let high = u8x32::from_slice(&bytes[32..]);
-    let backslash = u8x32::splat(b'\\');
-    (low.simd_eq(backslash) | high.simd_eq(backslash)).to_bitmask() != 0
 }
 
 // A bit for each backslash.

@@ -8,7 +8,8 @@
 //!
 //! In this module `checked` is the number of bytes at the front that are known to be UTF-8, and all
 //! indexes count bytes of the input.
-ghost use Rattle.std.specs.Prelude.{◌≡◌, ◌≤◌, ◌<◌, ℕ, List, length, take, true, IfOk, IfErr, IsUtf8};
+ghost use Rattle.std.specs.Prelude.{◌≡◌, ◌≤◌, ◌<◌, ℕ, List, length, take, true};
+ghost use Rattle.std.specs.Prelude.{IfOk, IfErr, IsUtf8};
 ghost use Rattle.simd_json_parts.specs.Bytes.{byte_at};
 ghost use Rattle.simd_json_stages.specs.Scans.{IsBadEncoding};
 

@@ -9,8 +9,8 @@
 //! first step before one takes the second: it is classified, and listed if it holds a backslash,
 //! and its structural indexes are written. Control bytes inside strings are collected in a word,
 //! which is tested once, at the end.
-ghost use Rattle.std.specs.Prelude.{◌≡◌, ◌+◌, ◌*◌, ◌/◌, ◌^◌, ◌<◌, ◌≤◌, ◌⊎◌, ℕ, List, length, take, drop};
-ghost use Rattle.std.specs.Prelude.{IfOk, IfErr, IsTrue, IsUtf8};
+ghost use Rattle.std.specs.Prelude.{◌≡◌, ◌+◌, ◌*◌, ◌/◌, ◌^◌, ◌<◌, ◌≤◌, ◌⊎◌};
+ghost use Rattle.std.specs.Prelude.{ℕ, List, length, take, drop, IfOk, IfErr, IsTrue, IsUtf8};
 ghost use Rattle.std.specs.Int.{from_bool};
 ghost use Rattle.std.specs.Simd.{first_chunks};
 ghost use Rattle.simd_json_parts.specs.Limits.{max_length};
@@ -22,10 +22,9 @@ ghost use Rattle.simd_json_stages.specs.Scans.{IsBadEncoding, IsFound, LacksMemo
 mod groups;
 mod windows;
 
-use super::capacity::grow;
 use super::encoding::check_window;
+use super::lists::{grow, list_block, write, write_exactly};
 use super::words::{Carry, Classified, Parts, classify, classify_last, find_parts, find_starts};
-use super::writing::{list_block, write, write_exactly};
 use super::{BLOCK_LEN, Found};
 use groups::GROUP;
 use simd_json_parts::error::Result;
@@ -44,21 +43,27 @@ struct Classifying {
 }
 
 impl Classifying {
-    // Returns the state after the next block, whose number is `number` and in which `found` was
-    // found. Lists it if it holds a backslash.
+    // Returns the state after block number `block`, in which `found` was found, and lists the block
+    // if it holds a backslash.
     #[inline(always)]
-    fn with_block(self, found: Classified, number: usize, listed: &mut [u32]) -> Classifying
-        requires short { number < 2 ^ 32 }
-        requires capacity { IsTrue found.has_backslash → self.listed < length listed.old }
+    fn with_block(self, found: Classified, block: usize, escape_blocks: &mut [u32]) -> Classifying
+        requires short { block < 2 ^ 32 }
+        requires capacity { IsTrue found.has_backslash → self.listed < length escape_blocks.old }
         ensures few { result.listed ≤ self.listed + 1 }
         ensures ascii { result.high ≡ 0 → (self.high ≡ 0) × (found.high ≡ 0) }
-        ensures classified { (b : List ℕ) → AreClassified b (64 * number) found
-            → IsClassified b number self listed.old → IsClassified b (number + 1) result listed.new }
+        ensures classified { (b : List ℕ) → AreClassified b (BLOCK_LEN * block) found
+            → IsClassified b block self escape_blocks.old
+            → IsClassified b (block + 1) result escape_blocks.new }
     {
         Classifying {
             escaped: found.next,
             high: self.high | found.high,
-            listed: list_block(listed, self.listed, number as u32, found.has_backslash),
+            listed: list_block(
+                escape_blocks,
+                self.listed,
+                block as u32,
+                found.has_backslash,
+            ),
         }
     }
 }
@@ -75,21 +80,28 @@ struct Placing {
 }
 
 impl Placing {
-    // Writes the structural indexes of the next block, whose number is `number`, and returns the
-    // state after it.
+    // Writes the structural indexes of block number `block`, and returns the state after it.
     #[inline(always)]
-    fn place_block(self, parts: Parts, control: u64, number: usize, out: &mut [u32]) -> Placing
-        requires short { 64 * (number + 1) ≤ 2 ^ 32 }
-        requires capacity { self.used + 64 ≤ length out.old }
-        ensures few { result.used ≤ self.used + 64 }
-        ensures placed { (b : List ℕ) → AreParts b (64 * number) parts → IsControl b (64 * number) control
-            → IsPlaced b number self out.old → IsPlaced b (number + 1) result out.new }
+    fn place_block(
+        self,
+        parts: Parts,
+        control: u64,
+        block: usize,
+        structural_indexes: &mut [u32],
+    ) -> Placing
+        requires short { BLOCK_LEN * (block + 1) ≤ 2 ^ 32 }
+        requires capacity { self.used + BLOCK_LEN ≤ length structural_indexes.old }
+        ensures few { result.used ≤ self.used + BLOCK_LEN }
+        ensures placed { (b : List ℕ) → AreParts b (BLOCK_LEN * block) parts
+            → IsControl b (BLOCK_LEN * block) control → IsPlaced b block self structural_indexes.old
+            → IsPlaced b (block + 1) result structural_indexes.new }
     {
         let placed = find_starts(parts, control, self.carry);
+        let base = (BLOCK_LEN * block) as u32;
         Placing {
             carry: placed.carry,
             bad: self.bad | placed.bad,
-            used: write(out, self.used, (BLOCK_LEN * number) as u32, placed.starts),
+            used: write(structural_indexes, self.used, base, placed.starts),
         }
     }
 }
@@ -158,6 +170,7 @@ pub(super) fn scan_blocks<A: Allocator>(
             structural_indexes,
             escape_blocks,
         )?;
+        done.classifying.high = 0;
         done = scan_window(
             blocks,
             window,
@@ -260,10 +273,10 @@ pub(super) fn scan_rest<A: Allocator>(
     ensures longer { (length structural_indexes.old.items ≤ length structural_indexes.new.items)
         × (length escape_blocks.old.items ≤ length escape_blocks.new.items) }
 {
-    let number = input.len() / BLOCK_LEN;
+    let block = input.len() / BLOCK_LEN;
     let classified = classify_rest(input, rest, done.classifying.escaped);
     let is_ascii = classified.high == 0;
-    check_window(input, checked, BLOCK_LEN * number, input.len(), is_ascii)?;
+    check_window(input, checked, BLOCK_LEN * block, input.len(), is_ascii)?;
     let parts = find_parts(
         classified.space_or_quote,
         classified.op_or_quote,
@@ -274,13 +287,13 @@ pub(super) fn scan_rest<A: Allocator>(
     let used = done.placing.used;
     let positions = used + placed.starts.count_ones() as usize;
     grow(structural_indexes, positions, positions, input.len())?;
-    let out = structural_indexes.as_mut_slice();
-    write_exactly(out, used, (BLOCK_LEN * number) as u32, placed.starts);
+    let base = (BLOCK_LEN * block) as u32;
+    write_exactly(structural_indexes.as_mut_slice(), used, base, placed.starts);
     let mut listed = done.classifying.listed;
     if classified.has_backslash {
         let max_blocks = input.len().div_ceil(BLOCK_LEN);
         grow(escape_blocks, listed + 1, 16, max_blocks)?;
-        escape_blocks[listed] = number as u32;
+        escape_blocks[listed] = block as u32;
         listed += 1;
     }
     let is_open = placed.carry.inside != 0;

@@ -18,11 +18,11 @@
 //! begins inside a string, and whether its first byte may continue a token. The work is split by
 //! that: `classify` needs the first, `find_parts` none, so that several blocks run at once, and
 //! `find_starts` the other two. It also finds control bytes inside strings, which are errors.
-ghost use Rattle.std.specs.Prelude.{◌≡◌, ◌==◌, ◌+◌, ◌-◌, ◌<◌, ◌++◌, ℕ, List, drop, replicate, Bool};
+ghost use Rattle.std.specs.Prelude.{◌≡◌, ◌==◌, ◌-◌, ◌<◌, ◌++◌, ℕ, List, drop, replicate, Bool};
 ghost use Rattle.std.specs.List.{list_any};
 ghost use Rattle.simd_json_parts.specs.Bytes.{backslash};
 ghost use Rattle.std.specs.Int.{from_bool};
-ghost use Rattle.simd_json_stages.specs.Words.{HasBits, HasLastBits, escaped_in, parity};
+ghost use Rattle.simd_json_stages.specs.Words.{HasBits, HasLastBits, escaped_in};
 ghost use Rattle.simd_json_stages.specs.Carries.{is_escaped_at};
 ghost use Rattle.simd_json_stages.specs.Blocks.{IsBlock, IsControl, IsCarried, HasClasses};
 ghost use Rattle.simd_json_stages.specs.Blocks.{AreStarts, AreParts, AreClassified};
@@ -113,26 +113,12 @@ fn find_escaped(backslash: u64, before: u64) -> Escaped
     }
 }
 
-// Each bit of the result is the xor of all bits up to it: the carry-less product with all ones, by
-// shifts.
-#[inline(always)]
-fn prefix_xor(x: u64) -> u64
-    ensures { HasBits result (λ i. parity x (i + 1)) }
-{
-    let a = x ^ (x << 1);
-    let b = a ^ (a << 2);
-    let c = b ^ (b << 4);
-    let d = c ^ (c << 8);
-    let e = d ^ (d << 16);
-    e ^ (e << 32)
-}
-
 // Finds the classes of a block and its escaped bytes. `before` is 1 if its first byte is escaped,
 // else 0.
 #[inline(always)]
 pub(super) fn classify(bytes: &[u8; 64], before: u64) -> Classified
-    ensures classified { (b : List ℕ) (i : ℕ) → IsBlock b i bytes.now → before ≡ from_bool (is_escaped_at b i)
-        → AreClassified b i result }
+    ensures classified { (b : List ℕ) (i : ℕ) → IsBlock b i bytes.now
+        → before ≡ from_bool (is_escaped_at b i) → AreClassified b i result }
     ensures escapes { result.has_backslash ≡ list_any (λ x. x == backslash) bytes.now }
 {
     let m = classes(bytes);
@@ -171,7 +157,8 @@ fn last_bits(word: u64, len: usize) -> u64
 #[inline(always)]
 pub(super) fn classify_last(bytes: &[u8; 64], len: usize, before: u64) -> Classified
     requires { len < 64 }
-    ensures { (b : List ℕ) (i : ℕ) → IsBlock b i (drop (64 - len) bytes.now ++ replicate (64 - len) 32)
+    ensures { (b : List ℕ) (i : ℕ)
+        → IsBlock b i (drop (64 - len) bytes.now ++ replicate (64 - len) 32)
         → before ≡ from_bool (is_escaped_at b i) → AreClassified b i result }
 {
     let m = classes(bytes);
@@ -206,8 +193,15 @@ pub(super) fn find_parts(space_or_quote: u64, op_or_quote: u64, control: u64, es
     // Not `space_or_quote & !op_or_quote`: LLVM would take that apart, lane by lane.
     let space = space_or_quote ^ quotes;
     let quote = quotes & !escaped;
+    // The prefix XOR: each bit is the XOR of all quotes up to it, as in the carry-less product with
+    // all ones.
+    let a = quote ^ (quote << 1);
+    let b = a ^ (a << 2);
+    let c = b ^ (b << 4);
+    let d = c ^ (c << 8);
+    let e = d ^ (d << 16);
     Parts {
-        parity: prefix_xor(quote),
+        parity: e ^ (e << 32),
         plain: !(op | space | quote),
         space,
         quote,
@@ -218,8 +212,8 @@ pub(super) fn find_parts(space_or_quote: u64, op_or_quote: u64, control: u64, es
 // bytes but plain ones after a plain one, whitespace, the bytes inside strings and closing quotes.
 #[inline(always)]
 pub(super) fn find_starts(parts: Parts, control: u64, carry: Carry) -> BlockStarts
-    ensures { (b : List ℕ) (i : ℕ) → AreParts b i parts → IsControl b i control → IsCarried b i carry
-        → AreStarts b i result }
+    ensures { (b : List ℕ) (i : ℕ) → AreParts b i parts → IsControl b i control
+        → IsCarried b i carry → AreStarts b i result }
 {
     let inside = parts.parity ^ carry.inside;
     let follows = (parts.plain << 1) | carry.plain;

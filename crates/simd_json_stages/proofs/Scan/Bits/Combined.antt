@@ -33,6 +33,9 @@ bits-not {x} h = record {
   bits = λ i l. is_set-flip x i h.small l ∙ ap not (h.bits i l);
 }
 
+pub bits-own : {x : ℕ} → x < 2 ^ 64 → HasBits x (is_set x)
+bits-own small = record { small = small; bits = λ i l. refl }
+
 pub bits-same : {x : ℕ} {p q : ℕ → Bool} → HasBits x p → ((i : ℕ) → i < 64 → p i ≡ q i) → HasBits x q
 bits-same h e = record { small = h.small; bits = λ i l. h.bits i l ∙ e i l }
 
@@ -41,19 +44,30 @@ abbrev pub after : Bool → (ℕ → Bool) → ℕ → Bool
 after c p zero = c
 after c p (suc i) = p i
 
-or-false : (t : Bool) → (t || false) ≡ t
-or-false true = refl
-or-false false = refl
+pub bits-shl : {x : ℕ} {p : ℕ → Bool} → HasBits x p → HasBits (shl 1 x) (after false p)
+bits-shl {x} {p} h = record { small = mod-lt (x * 2) (pow_pos 64); bits = go }
+  where
+    go : (i : ℕ) → i < 64 → is_set (shl 1 x) i ≡ after false p i
+    go zero l = is_set-shl_low 1 0 x (omega arith) l
+    go (suc i) l = is_set-shl_one i x l ∙ h.bits i (omega arith)
+
+pub bits-byte : (c : Bool) → HasBits (bool_byte c) (after c (λ i. false))
+bits-byte c = record { small = byte_lt c; bits = go }
+  where
+    go : (i : ℕ) → i < 64 → is_set (bool_byte c) i ≡ after c (λ i. false) i
+    go zero l = is_set-byte_zero c
+    go (suc i) l = is_set-byte_suc c i
 
 pub bits-after : {x : ℕ} {p : ℕ → Bool} (c : Bool) → HasBits x p → HasBits (bit_or (shl 1 x) (bool_byte c)) (after c p)
-bits-after {x} {p} c h = record { small = or_lt 64 (shl 1 x) (bool_byte c) (mod-lt (x * 2) (pow_pos 64)) (byte_lt c); bits = go }
+bits-after {x} {p} c h = bits-same (bits-or (bits-shl h) (bits-byte c)) go
   where
-    go : (i : ℕ) → i < 64 → is_set (bit_or (shl 1 x) (bool_byte c)) i ≡ after c p i
-    go zero l = is_set-or (shl 1 x) (bool_byte c) 0 ∙ ap₂ (λ s t. s || t) (is_set-shl_low 1 0 x (omega arith) (omega arith))
-        (is_set-byte_zero c)
-    go (suc i) l =
-        is_set-or (shl 1 x) (bool_byte c) (suc i) ∙ ap₂ (λ s t. s || t) (is_set-shl_one i x l) (is_set-byte_suc c i)
-        ∙ or-false (is_set x i) ∙ h.bits i (omega arith)
+    or-false : (t : Bool) → (t || false) ≡ t
+    or-false true = refl
+    or-false false = refl
+
+    go : (i : ℕ) → i < 64 → (after false p i || after c (λ i. false) i) ≡ after c p i
+    go zero l = refl
+    go (suc i) l = or-false (p i)
 
 spread-is : (c : Bool) → spread c ≡ all_bits c
 spread-is true = refl
@@ -66,7 +80,7 @@ bits-all c = record { small = go c; bits = λ i l. ap (λ x. is_set x i) (sym (s
     go true = omega arith
     go false = omega arith
 
-number-bool : (t : Bool) (x : ℕ) → x < 2 → (x == 1) ≡ t → x ≡ bool_byte t
+pub number-bool : (t : Bool) (x : ℕ) → x < 2 → (x == 1) ≡ t → x ≡ bool_byte t
 number-bool true zero l e = absurd (let f : false ≡ true = e in cc)
 number-bool true (suc zero) l e = refl
 number-bool true (suc (suc x)) l e = absurd (omega arith)

@@ -1,271 +1,196 @@
--- The escaped bytes of a block, by the words of the code.
-use Rattle.std.proofs.Common.{◌≡◌, ℕ, zero, suc, ◌+◌, ◌-◌, ◌*◌, ◌/◌, ◌%◌, ◌^◌, ◌<◌, ◌==◌, Bool, true, false, not, ◌&&◌, ◌||◌, List, []}
-use Rattle.std.proofs.Common.{◌∷◌, length, map, get_or, refl, sym, ap, ap₂, ◌∙◌, subst, arith, bit_and, bit_or, replicate}
-use Rattle.std.specs.Int.RustNames.{bit_xor}
-use Rattle.std.proofs.lemmas.Nat.{mod-mul-add}
-use Rattle.std.proofs.lemmas.Simd.{mask_l-lt}
+-- The escaped bytes of a block: the ends of odd runs of backslashes, which the sum of the runs' starts and the backslashes finds.
+use Rattle.std.proofs.Common.{◌≡◌, refl, sym, ◌∙◌, ap, ap₂, subst, ℕ, zero, suc, ◌+◌, ◌-◌, ◌*◌, ◌/◌, ◌%◌, ◌^◌, ◌<◌, ◌==◌, Bool, true, false}
+use Rattle.std.proofs.Common.{not, ◌&&◌, ◌||◌, add-zero, mod-lt, pow_pos, arith}
 use Rattle.std.specs.Bool.{FalseIff}
-use lib.Lanes.{mask_l, zip2}
+use lib.Bits.{bit_and, bit_or, bit_xor}
 use mir.Val.{bool_byte}
-use Rattle.simd_json_stages.specs.Words.{xor, is_set, HasBits, escaped_in}
-use Rattle.simd_json_stages.proofs.Scan.Bits.Operations.{is_set-half, is_set-lowest, is_set-mask_l, is_set-zero, is_set-byte_zero}
-use Rattle.simd_json_stages.proofs.Scan.Bits.Operations.{is_set-byte_suc, byte_lt}
-use Rattle.simd_json_stages.proofs.Scan.Bits.Runs.{bits_of, escaped, escape_out, bit, and-mask, or-mask, xor-mask, not-mask, shifted, last_or}
-use Rattle.simd_json_stages.proofs.Scan.Bits.Runs.{shift-mask, sums, carry_out, sum-mask, bits-mask, length-bits, evens, starts, ends, machine}
-use Rattle.simd_json_stages.proofs.Scan.Bits.Runs.{machine_out}
+use Rattle.simd_json_stages.specs.Words.{is_set, HasBits, xor, escaped_in}
+use Rattle.simd_json_stages.proofs.Scan.Bits.Computed.{upto, upto_sound, same, same_is}
+use Rattle.simd_json_stages.proofs.Scan.Bits.Operations.{flip, shl, is_set-lowest, is_set-half, is_set-mod, is_set-above, is_set-zero}
+use Rattle.simd_json_stages.proofs.Scan.Bits.Combined.{bits-and, bits-xor, bits-not, bits-same, bits-own, after, bits-byte, bits-shl}
+use Rattle.simd_json_stages.proofs.Scan.Bits.Combined.{bits-after, number-bool}
 
-and-trues : (xs : List Bool) → zip2 ◌&&◌ xs (replicate (length xs) true) ≡ xs
-and-trues [] = refl
-and-trues (true ∷ xs) = ap (λ l. true ∷ l) (and-trues xs)
-and-trues (false ∷ xs) = ap (λ l. false ∷ l) (and-trues xs)
+-- ---- a sum, bit by bit
 
-or-falses : (xs : List Bool) → zip2 ◌||◌ xs (replicate (length xs) false) ≡ xs
-or-falses [] = refl
-or-falses (true ∷ xs) = ap (λ l. true ∷ l) (or-falses xs)
-or-falses (false ∷ xs) = ap (λ l. false ∷ l) (or-falses xs)
+abbrev majority : Bool → Bool → Bool → Bool
+majority true t c = t || c
+majority false t c = t && c
 
-pub length-shifted : (c : Bool) (xs : List Bool) → length (shifted c xs) ≡ length xs
-length-shifted c [] = refl
-length-shifted c (x ∷ xs) = ap suc (length-shifted x xs)
+-- the carry into bit i
+abbrev carry : (ℕ → Bool) → (ℕ → Bool) → Bool → ℕ → Bool
+carry p q c zero = c
+carry p q c (suc i) = majority (p i) (q i) (carry p q c i)
 
-pub length-starts : (e p : Bool) (xs : List Bool) → length (starts e p xs) ≡ length xs
-length-starts e p [] = refl
-length-starts e p (x ∷ xs) = ap suc (length-starts (not e) x xs)
+full : (s t c : Bool) (x y : ℕ) → x % 2 ≡ bool_byte s → y % 2 ≡ bool_byte t
+    → ((x + y + bool_byte c) / 2 ≡ x / 2 + y / 2 + bool_byte (majority s t c)) × (((x + y + bool_byte c) % 2 == 1) ≡ xor (xor s t) c)
+full true true true x y p q = (omega arith, ap (λ n. n == 1) (let e : (x + y + 1) % 2 ≡ 1 = omega arith in e))
+full true true false x y p q = (omega arith, ap (λ n. n == 1) (let e : (x + y + 0) % 2 ≡ 0 = omega arith in e))
+full true false true x y p q = (omega arith, ap (λ n. n == 1) (let e : (x + y + 1) % 2 ≡ 0 = omega arith in e))
+full true false false x y p q = (omega arith, ap (λ n. n == 1) (let e : (x + y + 0) % 2 ≡ 1 = omega arith in e))
+full false true true x y p q = (omega arith, ap (λ n. n == 1) (let e : (x + y + 1) % 2 ≡ 0 = omega arith in e))
+full false true false x y p q = (omega arith, ap (λ n. n == 1) (let e : (x + y + 0) % 2 ≡ 1 = omega arith in e))
+full false false true x y p q = (omega arith, ap (λ n. n == 1) (let e : (x + y + 1) % 2 ≡ 1 = omega arith in e))
+full false false false x y p q = (omega arith, ap (λ n. n == 1) (let e : (x + y + 0) % 2 ≡ 0 = omega arith in e))
 
-pub length-sums : (c : Bool) (xs ys : List Bool) → length xs ≡ length ys → length (sums c xs ys) ≡ length xs
-length-sums c [] ys h = refl
-length-sums c (x ∷ xs) [] h = absurd (omega arith)
-length-sums c (x ∷ xs) (y ∷ ys) h = ap suc (length-sums _ xs ys (omega arith))
+lowest : (x : ℕ) → x % 2 ≡ bool_byte (is_set x 0)
+lowest x = number-bool (is_set x 0) (x % 2) (omega arith) (sym (is_set-lowest x))
 
-pub length-zip : (f : Bool → Bool → Bool) (xs ys : List Bool) → length xs ≡ length ys → length (zip2 f xs ys) ≡ length xs
-length-zip f [] ys h = refl
-length-zip f (x ∷ xs) [] h = absurd (omega arith)
-length-zip f (x ∷ xs) (y ∷ ys) h = ap suc (length-zip f xs ys (omega arith))
+carry-half : (x y : ℕ) (c : Bool) (i : ℕ) → carry (is_set x) (is_set y) c (suc i) ≡ carry (is_set (x / 2)) (is_set (y / 2))
+    (majority (is_set x 0) (is_set y 0) c) i
+carry-half x y c zero = refl
+carry-half x y c (suc i) = rw (is_set-half x i, is_set-half y i, carry-half x y c i) refl
 
-length-map-not : (xs : List Bool) → length (map not xs) ≡ length xs
-length-map-not [] = refl
-length-map-not (x ∷ xs) = ap suc (length-map-not xs)
+sum-bit : (i x y : ℕ) (c : Bool) → is_set (x + y + bool_byte c) i ≡ xor (xor (is_set x i) (is_set y i)) (carry (is_set x) (is_set y) c i)
+sum-bit zero x y c = is_set-lowest (x + y + bool_byte c) ∙ (full (is_set x 0) (is_set y 0) c x y (lowest x) (lowest y)).1
+sum-bit (suc i) x y c =
+    is_set-half (x + y + bool_byte c) i
+    ∙ ap (λ n. is_set n i) (full (is_set x 0) (is_set y 0) c x y (lowest x) (lowest y)).0
+    ∙ sum-bit i (x / 2) (y / 2) (majority (is_set x 0) (is_set y 0) c)
+    ∙ sym (ap₂ xor (ap₂ xor (is_set-half x i) (is_set-half y i)) (carry-half x y c i))
 
-abbrev alternating : Bool → ℕ → List Bool
-alternating e zero = []
-alternating e (suc n) = e ∷ alternating (not e) n
+carry-same : {x y : ℕ} {p q : ℕ → Bool} → HasBits x p → HasBits y q → (i : ℕ) → i < 65
+    → carry (is_set x) (is_set y) false i ≡ carry p q false i
+carry-same h k zero l = refl
+carry-same h k (suc i) l = rw (h.bits i (omega arith), k.bits i (omega arith), carry-same h k i (omega arith)) refl
 
-evens-is : (e : Bool) (xs : List Bool) → evens e xs ≡ alternating e (length xs)
-evens-is e [] = refl
-evens-is e (x ∷ xs) = ap (λ l. e ∷ l) (evens-is (not e) xs)
+bits-sum : {x y : ℕ} {p q : ℕ → Bool} → HasBits x p → HasBits y q
+    → HasBits ((x + y) % 2 ^ 64) (λ i. xor (xor (p i) (q i)) (carry p q false i))
+bits-sum {x} {y} h k = record {
+  small = mod-lt (x + y) (pow_pos 64);
+  bits = λ i l. is_set-mod (x + y) i l ∙ ap (λ n. is_set n i) (sym (add-zero (x + y))) ∙ sum-bit i x y false
+      ∙ ap₂ xor (ap₂ xor (h.bits i l) (k.bits i l)) (carry-same h k i (omega arith));
+}
 
-length-evens : (e : Bool) (xs : List Bool) → length (evens e xs) ≡ length xs
-length-evens e [] = refl
-length-evens e (x ∷ xs) = ap suc (length-evens (not e) xs)
+flag : (r : Bool) (n : ℕ) → FalseIff r (n < 2 ^ 64) → n < 2 ^ 65 → r ≡ is_set n 64
+unfolding is_set
+flag true n f l = ap (λ m. m == 1) (let e : 1 ≡ n / 2 ^ 64 % 2 = omega arith in e)
+flag false n f l = sym (is_set-above n 64 64 f (omega arith))
 
-starts-is : (e p : Bool) (xs : List Bool) → zip2 ◌&&◌ (zip2 ◌&&◌ xs (evens (not e) xs)) (map not (shifted p xs)) ≡ starts e p xs
-starts-is e p [] = refl
-starts-is e p (x ∷ xs) = ap₂ (λ b l. b ∷ l) (and3 x (not e) (not p)) (starts-is (not e) x xs)
-  where
-    and3 : (a b c : Bool) → ((a && b) && c) ≡ (a && (b && c))
-    and3 true b c = refl
-    and3 false b c = refl
+-- whether it overflows
+sum-over : {x y : ℕ} {p q : ℕ → Bool} (r : Bool) → HasBits x p → HasBits y q → FalseIff r (x + y < 2 ^ 64) → r ≡ carry p q false 64
+sum-over {x} {y} r h k over =
+    flag r (x + y) over (let s = h.small in let t = k.small in omega arith) ∙ ap (λ n. is_set n 64) (sym (add-zero (x + y)))
+    ∙ sum-bit 64 x y false
+    ∙ ap₂ xor (ap₂ xor (is_set-above x 64 64 h.small (omega arith)) (is_set-above y 64 64 k.small (omega arith)))
+    (carry-same h k 64 (omega arith))
 
--- a bit that is kept out, and one that is put in
-keep : (c : Bool) → 18446744073709551615 - bool_byte c ≡ mask_l (not c ∷ replicate 63 true)
-keep true = refl
-keep false = refl
+-- ---- runs of backslashes
 
-lone : (c : Bool) → bool_byte c ≡ mask_l (c ∷ replicate 63 false)
-lone true = refl
-lone false = refl
+abbrev even : ℕ → Bool
+even zero = true
+even (suc i) = not (even i)
 
-module _ (c x : Bool) (xs : List Bool) (long : length xs ≡ 63) where
-  abbrev pub live : List Bool
-  live = (x && not c) ∷ xs
+bits-even : HasBits 6148914691236517205 even
+unfolding is_set
+bits-even = record {
+  small = omega arith;
+  bits = λ i l. same_is _ _ (upto_sound (λ j. same (is_set 6148914691236517205 j) (even j)) 64 tt i l);
+}
 
-  pub live-is : bit_and (mask_l (x ∷ xs)) (18446744073709551615 - bool_byte c) ≡ mask_l live
-  live-is =
-      ap (bit_and (mask_l (x ∷ xs))) (keep c) ∙ and-mask (x ∷ xs) (not c ∷ replicate 63 true) (ap suc long)
-      ∙ ap (λ n. mask_l ((x && not c) ∷ zip2 ◌&&◌ xs (replicate n true))) (sym long) ∙ ap (λ l. mask_l ((x && not c) ∷ l)) (and-trues xs)
+-- At a byte, e says whether its index is even, f whether a live backslash is before it, k is the carry, l whether it is a live
+-- backslash. In a run, the carry tells whether the run began at an odd index; so it tells whether the byte is escaped.
+step : (e f k l : Bool) → (f ≡ false → k ≡ false)
+    → ((l && not (f && not (xor e k))) ≡ (l && not (xor (not e) (majority ((l && not e) && not f) l k))))
+    × (l ≡ false → majority ((l && not e) && not f) l k ≡ false)
+    × ((xor (not e) (xor (xor ((l && not e) && not f) l) k) && l) ≡ (l && not (xor (not e) (majority ((l && not e) && not f) l k))))
+step true true true true n = (refl, λ z. cc, refl)
+step true true false true n = (refl, λ z. cc, refl)
+step true false true true n = absurd (let z : true ≡ false = n refl in cc)
+step true false false true n = (refl, λ z. cc, refl)
+step false true true true n = (refl, λ z. cc, refl)
+step false true false true n = (refl, λ z. cc, refl)
+step false false true true n = absurd (let z : true ≡ false = n refl in cc)
+step false false false true n = (refl, λ z. cc, refl)
+step true f true false n = (refl, λ z. refl, refl)
+step true f false false n = (refl, λ z. refl, refl)
+step false f true false n = (refl, λ z. refl, refl)
+step false f false false n = (refl, λ z. refl, refl)
 
-pub twice : (ls : List Bool) → length ls ≡ 64 → mask_l ls * 2 % 18446744073709551616 ≡ mask_l (shifted false ls)
-twice ls h =
-    let s = shift-mask false ls in
-    let p : 2 ^ length ls ≡ 18446744073709551616 = ap (λ n. 2 ^ n) h in
-    let lt : mask_l (shifted false ls) < 2 ^ length (shifted false ls) = mask_l-lt (shifted false ls) in
-    let q : 2 ^ length (shifted false ls) ≡ 18446744073709551616 = ap (λ n. 2 ^ n) (length-shifted false ls ∙ h) in
-    let t : bit (last_or false ls) * 2 ^ length ls ≡ bit (last_or false ls) * 18446744073709551616 = ap
-    (λ n. bit (last_or false ls) * n) p in
-    let e : mask_l ls * 2 ≡ bit (last_or false ls) * 18446744073709551616 + mask_l (shifted false ls) = omega arith in
-    ap (λ n. n % 18446744073709551616) e ∙ mod-mul-add (bit (last_or false ls)) 18446744073709551616 (mask_l (shifted false ls))
-    (omega arith)
+module _ (c : Bool) (x before : ℕ) (small : x < 2 ^ 64) (is : before ≡ bool_byte c) where
+  abbrev live : ℕ → Bool
+  live zero = is_set x 0 && not c
+  live (suc i) = is_set x (suc i)
 
-pub follows-is : (c l : Bool) (ls : List Bool) → length ls ≡ 63
-    → bit_or (mask_l (shifted false (l ∷ ls))) (bool_byte c) ≡ mask_l (shifted c (l ∷ ls))
-follows-is c l ls h =
-    let long : length (shifted l ls) ≡ 63 = length-shifted l ls ∙ h in
-    ap (bit_or (mask_l (shifted false (l ∷ ls)))) (lone c) ∙ or-mask (false ∷ shifted l ls) (c ∷ replicate 63 false) (ap suc long)
-    ∙ ap (λ n. mask_l (c ∷ zip2 ◌||◌ (shifted l ls) (replicate n false))) (sym long) ∙ ap (λ m. mask_l (c ∷ m)) (or-falses (shifted l ls))
+  abbrev start : ℕ → Bool
+  start i = (live i && not (even i)) && not (after c live i)
 
-pub flip-is : (ls : List Bool) → length ls ≡ 64 → 18446744073709551615 - mask_l ls ≡ mask_l (map not ls)
-flip-is ls h =
-    let e = not-mask ls in
-    let p : 2 ^ length ls ≡ 18446744073709551616 = ap (λ n. 2 ^ n) h in
-    omega arith
+  abbrev summed : ℕ → Bool
+  summed i = xor (xor (start i) (live i)) (carry start live false i)
 
-pub odd-is : (ls : List Bool) → length ls ≡ 64 → 12297829382473034410 ≡ mask_l (evens false ls)
-odd-is ls h =
-    let lit : 12297829382473034410 ≡ mask_l (alternating false 64) = refl in
-    lit ∙ ap (λ n. mask_l (alternating false n)) (sym h) ∙ ap mask_l (sym (evens-is false ls))
+  abbrev live_word : ℕ
+  live_word = bit_and x (flip before)
 
-pub even-is : (ls : List Bool) → length ls ≡ 64 → 6148914691236517205 ≡ mask_l (evens true ls)
-even-is ls h =
-    let lit : 6148914691236517205 ≡ mask_l (alternating true 64) = refl in
-    lit ∙ ap (λ n. mask_l (alternating true n)) (sym h) ∙ ap mask_l (sym (evens-is true ls))
+  abbrev follows_word : ℕ
+  follows_word = bit_or (shl 1 live_word) before
 
-abbrev end : Bool → ℕ → Bool
-end e zero = e
-end e (suc n) = end (not e) n
+  abbrev start_word : ℕ
+  start_word = bit_and (bit_and live_word 12297829382473034410) (flip follows_word)
 
--- the words of the code, each as the mask of a list
-pub record Found (c : Bool) (ys : List Bool) (F S L T : ℕ) : Type 0 where
-  pub bits : bit_and (bit_xor 6148914691236517205 (T * 2 % 18446744073709551616)) F ≡ mask_l (escaped c ys)
-  pub sum : S + L ≡ T + bit (escape_out c ys) * 18446744073709551616
-  pub small : T < 18446744073709551616
+  hlive : HasBits live_word live
+  hlive = bits-same (bits-and (bits-own small) (bits-not (subst (λ w. HasBits w (after c (λ i. false))) (sym is) (bits-byte c)))) go
+    where
+      and-true : (t : Bool) → (t && true) ≡ t
+      and-true true = refl
+      and-true false = refl
 
-found : (c x : Bool) (xs : List Bool) → length xs ≡ 63 → (b L F S T : ℕ) → b ≡ mask_l (x ∷ xs)
-    → L ≡ bit_and b (18446744073709551615 - bool_byte c)
-    → F ≡ bit_or (L * 2 % 18446744073709551616) (bool_byte c) → S ≡ bit_and (bit_and L 12297829382473034410) (18446744073709551615 - F)
-    → T ≡ (S + L) % 18446744073709551616 → Found c (x ∷ xs) F S L T
-found c x xs long b L F S T be le fe se te =
-    let ls = live c x xs long in
-    let n : length ls ≡ 64 = ap suc long in
-    let st = starts true c ls in
-    let sh = shifted c ls in
-    let su = sums false st ls in
-    let n-st : length st ≡ 64 = length-starts true c ls ∙ n in
-    let n-sh : length sh ≡ 64 = length-shifted c ls ∙ n in
-    let n-ev : length (evens true ls) ≡ 64 = length-evens true ls ∙ n in
-    let n-od : length (evens false ls) ≡ 64 = length-evens false ls ∙ n in
-    let n-su : length su ≡ 64 = length-sums false st ls (n-st ∙ sym n) ∙ n-st in
-    let L-is : L ≡ mask_l ls = le ∙ ap (λ w. bit_and w (18446744073709551615 - bool_byte c)) be ∙ live-is c x xs long in
-    let F-is : F ≡ mask_l sh = fe ∙ ap (λ w. bit_or (w * 2 % 18446744073709551616) (bool_byte c)) L-is
-    ∙ ap (λ w. bit_or w (bool_byte c)) (twice ls n) ∙ follows-is c (x && not c) xs long in
-    let not-F : 18446744073709551615 - F ≡ mask_l (map not sh) = ap (λ w. 18446744073709551615 - w) F-is ∙ flip-is sh n-sh in
-    let S-is : S ≡ mask_l st =
-    se ∙ ap₂ bit_and (ap₂ bit_and L-is (odd-is ls n) ∙ and-mask ls (evens false ls) (n ∙ sym n-od)) not-F
-    ∙ and-mask (zip2 ◌&&◌ ls (evens false ls)) (map not sh) (length-zip ◌&&◌ ls (evens false ls) (n ∙ sym n-od) ∙ n
-    ∙ sym (length-map-not sh ∙ n-sh)) ∙ ap mask_l (starts-is true c ls) in
-    let total = sum-mask false st ls (n-st ∙ sym n) in
-    let p : 2 ^ length st ≡ 18446744073709551616 = ap (λ k. 2 ^ k) n-st in
-    let q : 2 ^ length su ≡ 18446744073709551616 = ap (λ k. 2 ^ k) n-su in
-    let t : bit (carry_out false st ls) * 2 ^ length st ≡ bit (carry_out false st ls) * 18446744073709551616 = ap
-    (λ k. bit (carry_out false st ls) * k) p in
-    let lt : mask_l su < 2 ^ length su = mask_l-lt su in
-    let both : S + L ≡ bit (carry_out false st ls) * 18446744073709551616 + mask_l su = omega arith in
-    let T-is : T ≡ mask_l su = te ∙ ap (λ w. w % 18446744073709551616) both
-    ∙ mod-mul-add (bit (carry_out false st ls)) 18446744073709551616 (mask_l su) (omega arith) in
-    let n-s2 : length (shifted false su) ≡ 64 = length-shifted false su ∙ n-su in
-    let out : carry_out false st ls ≡ escape_out c (x ∷ xs) = machine_out c x xs (ends-even xs long) in
-    let outs : bit (carry_out false st ls) * 18446744073709551616 ≡ bit (escape_out c (x ∷ xs)) * 18446744073709551616 = ap
-    (λ o. bit o * 18446744073709551616) out in
-    record {
-      bits = ap₂ bit_and (ap₂ bit_xor (even-is ls n) (ap (λ w. w * 2 % 18446744073709551616) T-is ∙ twice su n-su)
-          ∙ xor-mask (evens true ls) (shifted false su) (n-ev ∙ sym n-s2)) F-is
-          ∙ and-mask (zip2 xor (evens true ls) (shifted false su)) sh
-          (length-zip xor (evens true ls) (shifted false su) (n-ev ∙ sym n-s2) ∙ n-ev ∙ sym n-sh) ∙ ap mask_l (machine c x xs);
-      sum = omega arith;
-      small = omega arith;
-    }
-  where
-    ends-is : (e : Bool) (ys : List Bool) → ends e ys ≡ end e (length ys)
-    ends-is e [] = refl
-    ends-is e (y ∷ ys) = ends-is (not e) ys
+      go : (i : ℕ) → i < 64 → (is_set x i && not (after c (λ i. false) i)) ≡ live i
+      go zero l = refl
+      go (suc i) l = and-true (is_set x (suc i))
 
-    ends-even : (ys : List Bool) → length ys ≡ 63 → ends false ys ≡ true
-    ends-even ys h = ends-is false ys ∙ ap (end false) h
+  hfollows : HasBits follows_word (after c live)
+  hfollows = subst (λ w. HasBits (bit_or (shl 1 live_word) w) (after c live)) (sym is) (bits-after c hlive)
 
-pub found-all : (c : Bool) (ys : List Bool) → length ys ≡ 64 → (b L F S T : ℕ) → b ≡ mask_l ys
-    → L ≡ bit_and b (18446744073709551615 - bool_byte c)
-    → F ≡ bit_or (L * 2 % 18446744073709551616) (bool_byte c) → S ≡ bit_and (bit_and L 12297829382473034410) (18446744073709551615 - F)
-    → T ≡ (S + L) % 18446744073709551616 → Found c ys F S L T
-found-all c [] h b L F S T be le fe se te = absurd (omega arith)
-found-all c (x ∷ xs) h b L F S T be le fe se te = found c x xs (omega arith) b L F S T be le fe se te
+  hstart : HasBits start_word start
+  hstart = bits-and (bits-and hlive (bits-not bits-even)) (bits-not hfollows)
 
-pub same-flag : (r o : Bool) (A T : ℕ) → FalseIff r (A < 18446744073709551616) → A ≡ T + bit o * 18446744073709551616
-    → T < 18446744073709551616 → r ≡ o
-same-flag true true A T f e h = refl
-same-flag false false A T f e h = refl
-same-flag true false A T f e h = absurd (f (omega arith))
-same-flag false true A T f e h = absurd (omega arith)
+  at : (i : ℕ) → i < 64 → (escaped_in c x (suc i) ≡ (live i && not (xor (not (even i)) (carry start live false (suc i)))))
+      × (live i ≡ false → carry start live false (suc i) ≡ false)
+      × ((xor (not (even i)) (summed i) && live i) ≡ escaped_in c x (suc i))
+  unfolding escaped_in
+  at zero l = first (is_set x 0 && not c)
+    where
+      first : (t : Bool) → (t ≡ (t && not (xor false (majority ((t && false) && not c) t false))))
+          × (t ≡ false → majority ((t && false) && not c) t false ≡ false)
+          × ((xor false (xor (xor ((t && false) && not c) t) false) && t) ≡ t)
+      first true = (refl, λ z. refl, refl)
+      first false = (refl, λ z. refl, refl)
+  at (suc i) l =
+      let h = at i (omega arith) in
+      let next = step (even (suc i)) (live i) (carry start live false (suc i)) (live (suc i)) h.1 in
+      let now = ap (λ t. is_set x (suc i) && not t) h.0 ∙ next.0 in
+      (now, next.1, next.2 ∙ sym now)
 
--- ---- asked of one place at a time
+  -- The escaped bytes, and whether the first byte after the block is.
+  pub escaped_words : (sum : ℕ) (over : Bool) → sum ≡ (start_word + live_word) % 2 ^ 64 → FalseIff over (start_word + live_word < 2 ^ 64)
+      → HasBits (bit_and (bit_xor 6148914691236517205 (shl 1 sum)) follows_word) (escaped_in c x)
+      × (bool_byte over ≡ bool_byte (escaped_in c x 64))
+  unfolding escaped_in
+  escaped_words sum over added overflow = (
+    bits-same (bits-and (bits-xor bits-even (bits-shl (subst (λ w. HasBits w summed) (sym added) (bits-sum hstart hlive)))) hfollows) go,
+    ap bool_byte (sum-over over hstart hlive overflow ∙ sym (last (live 63) (carry start live false 64) (at 63 (omega arith)).1)
+        ∙ sym (at 63 (omega arith)).0),
+  )
+    where
+      go : (i : ℕ) → i < 64 → (xor (even i) (after false summed i) && after c live i) ≡ escaped_in c x i
+      go zero l = refl
+      go (suc i) l = (at i (omega arith)).2
 
-length-escaped : (c : Bool) (bs : List Bool) → length (escaped c bs) ≡ length bs
-length-escaped c [] = refl
-length-escaped c (b ∷ bs) = ap suc (length-escaped (b && not c) bs)
-
--- the same, of the bytes after the first
-escaped_in-half : (c : Bool) (x i : ℕ) → escaped_in c x (suc i) ≡ escaped_in (is_set x 0 && not c) (x / 2) i
-unfolding escaped_in
-escaped_in-half c x zero = refl
-escaped_in-half c x (suc i) = ap₂ (λ s t. s && not t) (is_set-half x i) (escaped_in-half c x i)
-
-escaped-at : (n : ℕ) (c : Bool) (x i : ℕ) → i < n → get_or (escaped c (bits_of n x)) i false ≡ escaped_in c x i
-unfolding bits_of escaped_in
-escaped-at zero c x i l = absurd (omega arith)
-escaped-at (suc n) c x zero l = refl
-escaped-at (suc n) c x (suc i) l =
-    escaped-at n ((x % 2 == 1) && not c) (x / 2) i (omega arith)
-    ∙ ap (λ t. escaped_in (t && not c) (x / 2) i) (sym (is_set-lowest x)) ∙ sym (escaped_in-half c x i)
-
-escaped-out : (n : ℕ) (c : Bool) (x : ℕ) → escape_out c (bits_of n x) ≡ escaped_in c x n
-unfolding bits_of escaped_in
-escaped-out zero c x = refl
-escaped-out (suc n) c x = escaped-out n ((x % 2 == 1) && not c) (x / 2)
-    ∙ ap (λ t. escaped_in (t && not c) (x / 2) n) (sym (is_set-lowest x)) ∙ sym (escaped_in-half c x n)
-
-abbrev even_bits : ℕ
-even_bits = 6148914691236517205
-
-abbrev live_of : ℕ → ℕ → ℕ
-live_of x before = bit_and x (18446744073709551615 - before)
-
-abbrev follows_of : ℕ → ℕ → ℕ
-follows_of x before = bit_or (live_of x before * 2 % 18446744073709551616) before
-
-abbrev starts_of : ℕ → ℕ → ℕ
-starts_of x before = bit_and (bit_and (live_of x before) 12297829382473034410) (18446744073709551615 - follows_of x before)
-
--- The escaped bytes and what is carried, from the sum of the odd runs' starts and the backslashes.
-pub escaped_words : (c : Bool) (x before sum : ℕ) (over : Bool) → x < 2 ^ 64 → before ≡ bool_byte c
-    → sum ≡ (starts_of x before + live_of x before) % 18446744073709551616
-    → FalseIff over (starts_of x before + live_of x before < 18446744073709551616)
-    → HasBits (bit_and (bit_xor even_bits (sum * 2 % 18446744073709551616)) (follows_of x before)) (escaped_in c x)
-    × (bool_byte over ≡ bool_byte (escaped_in c x 64))
-escaped_words c x before sum over small is added overflow =
-    let ys = bits_of 64 x in
-    let long = length-bits 64 x in
-    let f = found-all c ys long x (live_of x before) (follows_of x before) (starts_of x before) sum (sym (bits-mask 64 x small))
-    (ap (λ n. bit_and x (18446744073709551615 - n)) is)
-    (ap (λ n. bit_or (live_of x before * 2 % 18446744073709551616) n) is) refl added in
-    let fits : mask_l (escaped c ys) < 2 ^ 64 = subst (λ n. mask_l (escaped c ys) < 2 ^ n) (length-escaped c ys ∙ long)
-    (mask_l-lt (escaped c ys)) in
-    let found : HasBits (mask_l (escaped c ys)) (escaped_in c x)
-    = record { small = fits; bits = λ i l. is_set-mask_l (escaped c ys) i ∙ escaped-at 64 c x i l } in (
-      subst (λ w. HasBits w (escaped_in c x)) (sym f.bits) found,
-      ap bool_byte (same-flag _ _ _ _ overflow f.sum f.small ∙ escaped-out 64 c x),
-    )
+      last : (l k : Bool) → (l ≡ false → k ≡ false) → (l && not (not k)) ≡ k
+      last true true n = refl
+      last true false n = refl
+      last false true n = sym (n refl)
+      last false false n = refl
 
 -- ---- with no backslash
-
-pub none_set : (i : ℕ) → is_set 0 i ≡ false
-none_set = is_set-zero
 
 -- Only what was carried is escaped.
 pub no_escapes : (c : Bool) (before : ℕ) → before ≡ bool_byte c → HasBits before (escaped_in c 0) × (0 ≡ bool_byte (escaped_in c 0 64))
 unfolding escaped_in
 no_escapes c before is = (
-  subst (λ w. HasBits w (escaped_in c 0)) (sym is) (record { small = byte_lt c; bits = bits }),
-  ap (λ t. bool_byte (t && not (escaped_in c 0 63))) (sym (is_set-zero 63)),
+  subst (λ w. HasBits w (escaped_in c 0)) (sym is) (bits-same (bits-byte c) (λ i l. each i (omega arith))),
+  ap bool_byte (each 64 (omega arith)),
 )
   where
-    bits : (i : ℕ) → i < 64 → is_set (bool_byte c) i ≡ escaped_in c 0 i
-    bits zero l = is_set-byte_zero c
-    bits (suc i) l = is_set-byte_suc c i ∙ ap (λ t. t && not (escaped_in c 0 i)) (sym (is_set-zero i))
+    each : (i : ℕ) → i < 65 → after c (λ i. false) i ≡ escaped_in c 0 i
+    each zero l = refl
+    each (suc i) l = ap (λ t. t && not (escaped_in c 0 i)) (sym (is_set-zero i))

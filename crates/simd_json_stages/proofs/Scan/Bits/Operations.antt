@@ -72,7 +72,7 @@ is_set-flip x i small l = ap (λ n. n == 1) (bit_at_not w64 x i small l) ∙ oth
 abbrev pub shl : ℕ → ℕ → ℕ
 shl k x = x * 2 ^ k % 2 ^ 64
 
-is_set-mod : (x i : ℕ) → i < 64 → is_set (x % 2 ^ 64) i ≡ is_set x i
+pub is_set-mod : (x i : ℕ) → i < 64 → is_set (x % 2 ^ 64) i ≡ is_set x i
 unfolding is_set
 is_set-mod x i l =
     let parts : x / 2 ^ 64 * 2 ^ 64 + x % 2 ^ 64 ≡ x = omega arith in

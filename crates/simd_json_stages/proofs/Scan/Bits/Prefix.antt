@@ -64,7 +64,10 @@ doubled x y n h = record {
 abbrev step : ℕ → ℕ → ℕ
 step n y = bit_xor y (shl n y)
 
-pub prefix-bits : (x : ℕ) → x < 2 ^ 64 → HasBits (step 32 (step 16 (step 8 (step 4 (step 2 (step 1 x)))))) (λ i. parity x (i + 1))
+abbrev pub prefixes : ℕ → ℕ
+prefixes x = step 32 (step 16 (step 8 (step 4 (step 2 (step 1 x)))))
+
+pub prefix-bits : (x : ℕ) → x < 2 ^ 64 → HasBits (prefixes x) (λ i. parity x (i + 1))
 unfolding parity
 prefix-bits x small =
     let one : HasBits x (window x 1) = record { small = small; bits = λ i l. single x i } in

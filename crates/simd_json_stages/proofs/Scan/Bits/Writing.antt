@@ -110,6 +110,21 @@ stored-first before used base bits small = record {
   others = refl;
 }
 
+-- what storing four of them promises
+abbrev StoresFour : (at base : ℕ) (old : List ℕ) (bits : ℕ) (new : List ℕ) (left : ℕ) → Type 0
+StoresFour at base old bits new left = (before : List ℕ) (used : ℕ) (all : List ℕ) (k : ℕ) → at ≡ used + k
+    → IsStored before used all k base old bits → IsStored before used all (k + 4) base new left
+
+pub stored-four : {before : List ℕ} {used base bits : ℕ} {new : List ℕ} {left : ℕ} → bits < 2 ^ 64
+    → StoresFour used base before bits new left → IsStored before used (set_bits 64 base bits) 4 base new left
+stored-four {before} {used} {base} {bits} small four = four before used (set_bits 64 base bits) 0 (omega arith)
+    (stored-first before used base bits small)
+
+pub four-more : {before : List ℕ} {used : ℕ} {all : List ℕ} {base : ℕ} {old : List ℕ} {bits : ℕ} {new : List ℕ} {left : ℕ} (k : ℕ)
+    → StoresFour (used + k) base old bits new left → IsStored before used all k base old bits
+    → IsStored before used all (k + 4) base new left
+four-more {before} {used} {all} k four h = four before used all k refl h
+
 pub stored-all : (before : List ℕ) (used base bits k : ℕ) (now : List ℕ) (left : ℕ) → bits < 2 ^ 64
     → IsStored before used (set_bits 64 base bits) k base now left → ones bits ≤ k
     → take (used + ones bits) now ≡ take used before ++ set_bits 64 base bits

@@ -10,12 +10,13 @@
 //! in vectors, at the cost of storing the words in between. Also, the first half of a group, or all
 //! but its last block, is skipped in step 3 if it lies inside a string: it has no structural index.
 ghost use Rattle.std.specs.Prelude.{◌≡◌, ◌≢◌, ◌+◌, ◌-◌, ◌*◌, ◌%◌, ◌^◌, ◌<◌, ◌≤◌, ℕ, List, length};
-ghost use Rattle.simd_json_stages.specs.Blocks.{AreBlocks, CanList, IsAscii};
-ghost use Rattle.simd_json_stages.specs.Blocks.{IsClassified, IsPlaced, IsScanned};
+ghost use Rattle.simd_json_stages.specs.Blocks.{AreBlocks, CanList, IsClassified, IsPlaced};
+ghost use Rattle.simd_json_stages.specs.BlockScans.{CanScan, Classifies, Scans};
 ghost use Rattle.simd_json_stages.specs.Groups.{HaveClasses, HaveControl, HaveParts, HasNoQuotes};
 
 use super::windows::Window;
 use super::{Classifying, Placing, ScanState};
+use crate::stage1::BLOCK_LEN;
 use crate::stage1::words::{Carry, Parts, classify, find_parts};
 
 // The number of blocks of a group.
@@ -90,27 +91,24 @@ impl Group {
 fn classify_group(
     blocks: &[[u8; 64]],
     first: usize,
-    listed: &mut [u32],
+    escape_blocks: &mut [u32],
     classes: &mut GroupClasses,
     before: Classifying,
 ) -> Classifying
-    requires within { first + 8 ≤ length blocks.now }
-    requires short { 64 * (first + 8) ≤ 2 ^ 32 }
-    requires capacity { CanList blocks.now first (first + 8) before.listed (length listed.old) }
-    ensures classified { (b : List ℕ) → AreBlocks b blocks.now → IsClassified b first before listed.old
-        → IsClassified b (first + 8) result listed.new }
-    ensures few { result.listed ≤ before.listed + 8 }
-    ensures classes { (b : List ℕ) → AreBlocks b blocks.now → IsClassified b first before listed.old
-        → HaveClasses b first 8 classes.new.space_or_quote classes.new.op_or_quote
-        classes.new.control classes.new.escaped }
-    ensures ascii { (b : List ℕ) → AreBlocks b blocks.now → IsClassified b first before listed.old
-        → result.high ≡ 0 → (before.high ≡ 0) × IsAscii b (64 * first) (64 * (first + 8)) }
+    requires within { first + GROUP ≤ length blocks.now }
+    requires short { BLOCK_LEN * (first + GROUP) ≤ 2 ^ 32 }
+    requires capacity { CanList blocks.now first (first + GROUP) before.listed
+        (length escape_blocks.old) }
+    ensures classified { Classifies blocks.now first (first + GROUP) before result
+        escape_blocks.old escape_blocks.new }
+    ensures classes { (b : List ℕ) → AreBlocks b blocks.now
+        → IsClassified b first before escape_blocks.old → HaveClasses b first GROUP classes.new }
 {
     let mut now = before;
     let mut k = 0;
     while k < GROUP {
         let found = classify(&blocks[first + k], now.escaped);
-        now = now.with_block(found, first + k, listed);
+        now = now.with_block(found, first + k, escape_blocks);
         classes.space_or_quote[k] = found.space_or_quote;
         classes.op_or_quote[k] = found.op_or_quote;
         classes.control[k] = found.control;
@@ -122,10 +120,8 @@ fn classify_group(
 
 // The second loop: the parts of each block from its classes.
 fn part_group(classes: &GroupClasses, parts: &mut GroupParts)
-    ensures { (b : List ℕ) (first : ℕ)
-        → HaveClasses b first 8 classes.now.space_or_quote classes.now.op_or_quote
-        classes.now.control classes.now.escaped
-        → HaveParts b first 8 parts.new.parity parts.new.plain parts.new.space parts.new.quote }
+    ensures { (b : List ℕ) (first : ℕ) → HaveClasses b first GROUP classes.now
+        → HaveParts b first GROUP parts.new }
 {
     let mut k = 0;
     while k < GROUP {
@@ -145,10 +141,9 @@ fn part_group(classes: &GroupClasses, parts: &mut GroupParts)
 
 // Not 0 if one of the first `end` blocks has a quote that is not escaped.
 fn quotes_before(group: &GroupParts, end: usize) -> u64
-    requires within { end ≤ 8 }
-    ensures { (b : List ℕ) (first : ℕ)
-        → HaveParts b first 8 group.now.parity group.now.plain group.now.space group.now.quote
-        → result ≡ 0 → HasNoQuotes b (64 * first) (64 * (first + end)) }
+    requires within { end ≤ GROUP }
+    ensures { (b : List ℕ) (first : ℕ) → HaveParts b first GROUP group.now → result ≡ 0
+        → HasNoQuotes b (BLOCK_LEN * first) (BLOCK_LEN * (first + end)) }
 {
     let mut quotes = 0;
     let mut k = 0;
@@ -162,12 +157,12 @@ fn quotes_before(group: &GroupParts, end: usize) -> u64
 // Skips the first `end` blocks, which are all inside a string: they have no structural index, and
 // each of their control bytes is bad. Returns the state after them.
 fn pass_blocks(group: &GroupParts, control: &Words, end: usize, before: Placing) -> Placing
-    requires within { (0 < end) × (end ≤ 8) }
+    requires within { (0 < end) × (end ≤ GROUP) }
     requires inside { before.carry.inside ≢ 0 }
     ensures used { result.used ≡ before.used }
-    ensures placed { (b : List ℕ) (first : ℕ) (out : List ℕ) → HaveControl b first 8 control.now
-        → HaveParts b first 8 group.now.parity group.now.plain group.now.space group.now.quote
-        → HasNoQuotes b (64 * first) (64 * (first + end))
+    ensures placed { (b : List ℕ) (first : ℕ) (out : List ℕ) → HaveControl b first GROUP control.now
+        → HaveParts b first GROUP group.now
+        → HasNoQuotes b (BLOCK_LEN * first) (BLOCK_LEN * (first + end))
         → IsPlaced b first before out → IsPlaced b (first + end) result out }
 {
     let mut bad = before.bad;
@@ -189,10 +184,10 @@ fn pass_blocks(group: &GroupParts, control: &Words, end: usize, before: Placing)
 // Skips the first blocks of the group if they lie inside a string. Returns how many, and the state
 // after them.
 fn pass_group(group: &GroupParts, control: &Words, before: Placing) -> (usize, Placing)
-    ensures few { result.0 ≤ 8 }
+    ensures few { result.0 ≤ GROUP }
     ensures used { result.1.used ≡ before.used }
-    ensures placed { (b : List ℕ) (first : ℕ) (out : List ℕ) → HaveControl b first 8 control.now
-        → HaveParts b first 8 group.now.parity group.now.plain group.now.space group.now.quote
+    ensures placed { (b : List ℕ) (first : ℕ) (out : List ℕ) → HaveControl b first GROUP control.now
+        → HaveParts b first GROUP group.now
         → IsPlaced b first before out → IsPlaced b (first + result.0) result.1 out }
 {
     // The test for quotes comes first: nearly each half has one, while every other group begins
@@ -211,15 +206,15 @@ fn place_group(
     first: usize,
     group: &GroupParts,
     control: &Words,
-    out: &mut [u32],
+    structural_indexes: &mut [u32],
     before: Placing,
 ) -> Placing
-    requires short { 64 * (first + 8) ≤ 2 ^ 32 }
-    requires capacity { before.used + 512 ≤ length out.old }
-    ensures few { result.used ≤ before.used + 512 }
-    ensures placed { (b : List ℕ) → HaveControl b first 8 control.now
-        → HaveParts b first 8 group.now.parity group.now.plain group.now.space group.now.quote
-        → IsPlaced b first before out.old → IsPlaced b (first + 8) result out.new }
+    requires short { BLOCK_LEN * (first + GROUP) ≤ 2 ^ 32 }
+    requires capacity { before.used + BLOCK_LEN * GROUP ≤ length structural_indexes.old }
+    ensures few { result.used ≤ before.used + BLOCK_LEN * GROUP }
+    ensures placed { (b : List ℕ) → HaveControl b first GROUP control.now
+        → HaveParts b first GROUP group.now → IsPlaced b first before structural_indexes.old
+        → IsPlaced b (first + GROUP) result structural_indexes.new }
 {
     let (mut k, mut now) = pass_group(group, control, before);
     while k < GROUP {
@@ -229,79 +224,74 @@ fn place_group(
             space: group.space[k],
             quote: group.quote[k],
         };
-        now = now.place_block(parts, control[k], first + k, out);
+        now = now.place_block(parts, control[k], first + k, structural_indexes);
         k += 1;
     }
     now
 }
 
-// Scans the group from block number `first` on. The lists have room for all that it may hold.
+// Scans the group from block number `first` on.
 fn scan_group(
     blocks: &[[u8; 64]],
     first: usize,
-    out: &mut [u32],
-    listed: &mut [u32],
+    structural_indexes: &mut [u32],
+    escape_blocks: &mut [u32],
     group: &mut Group,
     before: ScanState,
 ) -> ScanState
-    requires within { first + 8 ≤ length blocks.now }
-    requires short { 64 * (first + 8) ≤ 2 ^ 32 }
-    requires capacity { before.placing.used + 512 ≤ length out.old }
-    requires block_capacity { CanList blocks.now first (first + 8) before.classifying.listed
-        (length listed.old) }
-    ensures few { (result.placing.used ≤ before.placing.used + 512)
-        × (result.classifying.listed ≤ before.classifying.listed + 8) }
-    ensures scanned { (b : List ℕ) → AreBlocks b blocks.now → IsScanned b first before out.old listed.old
-        → IsScanned b (first + 8) result out.new listed.new }
-    ensures ascii { (b : List ℕ) → AreBlocks b blocks.now → IsScanned b first before out.old listed.old
-        → result.classifying.high ≡ 0
-        → (before.classifying.high ≡ 0) × IsAscii b (64 * first) (64 * (first + 8)) }
+    requires { CanScan blocks.now first (first + GROUP) before
+        structural_indexes.old escape_blocks.old }
+    ensures { Scans blocks.now first (first + GROUP) before result
+        structural_indexes.old escape_blocks.old structural_indexes.new escape_blocks.new }
 {
     let classifying = classify_group(
         blocks,
         first,
-        listed,
+        escape_blocks,
         &mut group.classes,
         before.classifying,
     );
     part_group(&group.classes, &mut group.parts);
-    let control = &group.classes.control;
-    let placing = place_group(first, &group.parts, control, out, before.placing);
+    let placing = place_group(
+        first,
+        &group.parts,
+        &group.classes.control,
+        structural_indexes,
+        before.placing,
+    );
     ScanState {
         classifying,
         placing,
     }
 }
 
-// Scans a window that consists of whole groups, likewise.
+// Scans a window that consists of whole groups.
 #[inline(never)]
 pub(super) fn scan_groups(
     blocks: &[[u8; 64]],
     window: Window,
-    out: &mut [u32],
-    listed: &mut [u32],
+    structural_indexes: &mut [u32],
+    escape_blocks: &mut [u32],
     before: ScanState,
 ) -> ScanState
-    requires within { (window.first ≤ window.end) × (window.end ≤ length blocks.now) }
-    requires groups { (window.end - window.first) % 8 ≡ 0 }
-    requires short { 64 * window.end ≤ 2 ^ 32 }
-    requires capacity { before.placing.used + 64 * (window.end - window.first) ≤ length out.old }
-    requires block_capacity { CanList blocks.now window.first window.end before.classifying.listed
-        (length listed.old) }
-    ensures few { (result.placing.used ≤ before.placing.used + 64 * (window.end - window.first))
-        × (result.classifying.listed ≤ before.classifying.listed + (window.end - window.first)) }
-    ensures scanned { (b : List ℕ) → AreBlocks b blocks.now
-        → IsScanned b window.first before out.old listed.old
-        → IsScanned b window.end result out.new listed.new }
-    ensures ascii { (b : List ℕ) → AreBlocks b blocks.now → IsScanned b window.first before out.old listed.old
-        → result.classifying.high ≡ 0
-        → (before.classifying.high ≡ 0) × IsAscii b (64 * window.first) (64 * window.end) }
+    requires groups { (window.end - window.first) % GROUP ≡ 0 }
+    requires fits { CanScan blocks.now window.first window.end before
+        structural_indexes.old escape_blocks.old }
+    ensures { Scans blocks.now window.first window.end before result
+        structural_indexes.old escape_blocks.old structural_indexes.new escape_blocks.new }
 {
     let mut group = Group::EMPTY;
     let mut done = before;
     let mut i = window.first;
     while i < window.end {
-        done = scan_group(blocks, i, out, listed, &mut group, done);
+        done = scan_group(
+            blocks,
+            i,
+            structural_indexes,
+            escape_blocks,
+            &mut group,
+            done,
+        );
         i += GROUP;
     }
     done

@@ -7,15 +7,16 @@
 ghost use Rattle.std.specs.Prelude.{◌≡◌, ◌+◌, ◌-◌, ◌*◌, ◌^◌, ◌<◌, ◌≤◌, ◌⊎◌};
 ghost use Rattle.std.specs.Prelude.{ℕ, List, length, take, IfOk, IfErr, IsFalse, IsUtf8};
 ghost use Rattle.simd_json_parts.specs.Limits.{max_length};
-ghost use Rattle.simd_json_stages.specs.Blocks.{AreBlocks, CanList, HaveNoBackslash, IsAscii, IsScanned};
+ghost use Rattle.simd_json_stages.specs.Blocks.{CanList, HaveNoBackslash};
+ghost use Rattle.simd_json_stages.specs.BlockScans.{CanScan, Scans};
 ghost use Rattle.simd_json_stages.specs.Scans.{IsBadEncoding, LacksMemory};
 
 use super::ScanState;
 use super::groups::{GROUP, scan_groups};
 use crate::stage1::BLOCK_LEN;
-use crate::stage1::capacity::grow;
-use crate::stage1::classes::has_backslash;
+use crate::stage1::classes::backslashes;
 use crate::stage1::encoding::check_rest;
+use crate::stage1::lists::grow;
 use crate::stage1::words::{classify, find_parts};
 use simd_json_parts::error::Result;
 use std::alloc::Allocator;
@@ -32,40 +33,33 @@ pub(super) struct Window {
     pub(super) end: usize,
 }
 
-// Scans the blocks of a window one at a time. The lists have room for all that they may hold.
+// Scans the blocks of a window one at a time.
 #[inline(always)]
 pub(super) fn scan_few(
     blocks: &[[u8; 64]],
     window: Window,
-    out: &mut [u32],
-    listed: &mut [u32],
+    structural_indexes: &mut [u32],
+    escape_blocks: &mut [u32],
     before: ScanState,
 ) -> ScanState
-    requires within { (window.first ≤ window.end) × (window.end ≤ length blocks.now) }
-    requires short { 64 * window.end ≤ 2 ^ 32 }
-    requires capacity { before.placing.used + 64 * (window.end - window.first) ≤ length out.old }
-    requires block_capacity { CanList blocks.now window.first window.end before.classifying.listed
-        (length listed.old) }
-    ensures scanned { (b : List ℕ) → AreBlocks b blocks.now
-        → IsScanned b window.first before out.old listed.old
-        → IsScanned b window.end result out.new listed.new }
-    ensures ascii { (b : List ℕ) → AreBlocks b blocks.now → IsScanned b window.first before out.old listed.old
-        → result.classifying.high ≡ 0
-        → (before.classifying.high ≡ 0) × IsAscii b (64 * window.first) (64 * window.end) }
+    requires { CanScan blocks.now window.first window.end before
+        structural_indexes.old escape_blocks.old }
+    ensures { Scans blocks.now window.first window.end before result
+        structural_indexes.old escape_blocks.old structural_indexes.new escape_blocks.new }
 {
     let mut classifying = before.classifying;
     let mut placing = before.placing;
     let mut i = window.first;
     while i < window.end {
         let found = classify(&blocks[i], classifying.escaped);
-        classifying = classifying.with_block(found, i, listed);
+        classifying = classifying.with_block(found, i, escape_blocks);
         let parts = find_parts(
             found.space_or_quote,
             found.op_or_quote,
             found.control,
             found.escaped,
         );
-        placing = placing.place_block(parts, found.control, i, out);
+        placing = placing.place_block(parts, found.control, i, structural_indexes);
         i += 1;
     }
     ScanState {
@@ -74,28 +68,21 @@ pub(super) fn scan_few(
     }
 }
 
-// Scans the blocks of a window, whole groups first. The lists have room for all that they may hold.
+// Scans the blocks of a window, whole groups first.
 #[inline(always)]
 pub(super) fn scan_window(
     blocks: &[[u8; 64]],
     window: Window,
-    out: &mut [u32],
-    listed: &mut [u32],
+    structural_indexes: &mut [u32],
+    escape_blocks: &mut [u32],
     before: ScanState,
 ) -> ScanState
-    requires within { (window.first ≤ window.end) × (window.end ≤ length blocks.now) }
-    requires short { 64 * window.end ≤ 2 ^ 32 }
-    requires capacity { before.placing.used + 64 * (window.end - window.first) ≤ length out.old }
-    requires block_capacity { CanList blocks.now window.first window.end before.classifying.listed
-        (length listed.old) }
-    ensures scanned { (b : List ℕ) → AreBlocks b blocks.now
-        → IsScanned b window.first before out.old listed.old
-        → IsScanned b window.end result out.new listed.new }
-    ensures ascii { (b : List ℕ) → AreBlocks b blocks.now → IsScanned b window.first before out.old listed.old
-        → result.classifying.high ≡ 0 → IsAscii b (64 * window.first) (64 * window.end) }
+    requires { CanScan blocks.now window.first window.end before
+        structural_indexes.old escape_blocks.old }
+    ensures { Scans blocks.now window.first window.end before result
+        structural_indexes.old escape_blocks.old structural_indexes.new escape_blocks.new }
 {
     let mut done = before;
-    done.classifying.high = 0;
     let middle = window.end - (window.end - window.first) % GROUP;
     let groups = Window {
         end: middle,
@@ -106,9 +93,9 @@ pub(super) fn scan_window(
         ..window
     };
     if window.first < middle {
-        done = scan_groups(blocks, groups, out, listed, done);
+        done = scan_groups(blocks, groups, structural_indexes, escape_blocks, done);
     }
-    scan_few(blocks, rest, out, listed, done)
+    scan_few(blocks, rest, structural_indexes, escape_blocks, done)
 }
 
 // Whether a block of the window holds a backslash.
@@ -119,7 +106,7 @@ fn have_backslash(blocks: &[[u8; 64]], window: Window) -> bool
 {
     let mut i = window.first;
     while i < window.end {
-        if has_backslash(&blocks[i]) {
+        if backslashes(&blocks[i]) != 0 {
             return true;
         }
         i += 1;
@@ -145,17 +132,19 @@ pub(super) fn capacity_for<A: Allocator>(
 ) -> Result<usize>
     requires size { length input.now ≤ max_length }
     requires within { (window.first < window.end) × (window.end ≤ length blocks.now) }
-    requires blocks { 64 * length blocks.now ≤ length input.now }
+    requires blocks { BLOCK_LEN * length blocks.now ≤ length input.now }
     requires checked { (checked ≤ length input.now) × IsUtf8 (take checked input.now) }
-    requires used { (done.placing.used ≤ 64 * window.first) × (done.classifying.listed ≤ window.first) }
+    requires used { (done.placing.used ≤ BLOCK_LEN * window.first)
+        × (done.classifying.listed ≤ window.first) }
     ensures checked { IfOk result (λ to. (to ≤ length input.now) × IsUtf8 (take to input.now)) }
-    ensures positions { IfOk result (λ to. done.placing.used + 64 * (window.end - window.first)
-        ≤ length structural_indexes.new.items) }
-    ensures blocks { IfOk result (λ to. CanList blocks.now window.first window.end
+    ensures capacity { IfOk result (λ to. done.placing.used
+        + BLOCK_LEN * (window.end - window.first) ≤ length structural_indexes.new.items) }
+    ensures block_capacity { IfOk result (λ to. CanList blocks.now window.first window.end
         done.classifying.listed (length escape_blocks.new.items)) }
     ensures kept { (take (length structural_indexes.old.items) structural_indexes.new.items
         ≡ structural_indexes.old.items)
-        × (take (length escape_blocks.old.items) escape_blocks.new.items ≡ escape_blocks.old.items) }
+        × (take (length escape_blocks.old.items) escape_blocks.new.items
+        ≡ escape_blocks.old.items) }
     ensures longer { (length structural_indexes.old.items ≤ length structural_indexes.new.items)
         × (length escape_blocks.old.items ≤ length escape_blocks.new.items) }
     ensures fault { IfErr result (λ e. IsBadEncoding input.now e

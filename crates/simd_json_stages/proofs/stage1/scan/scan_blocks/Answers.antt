@@ -1,6 +1,7 @@
-use Rattle.std.proofs.Common.{◌≡◌, ◌++◌, refl, length, take, drop, sym, ap, eqb-true, arith}
+use Rattle.std.proofs.Common.{length, drop, ap, eqb-true, arith}
 use Rattle.std.proofs.lemmas.Str.{IsUtf8-nil}
-use Rattle.simd_json_stages.proofs.Scan.ScanLaws.{IsScanned-none, IsScanned-capacity, IsScanned-equal, AreBlocks-chunks, written-back}
+use Rattle.simd_json_stages.proofs.Scan.ScanLaws.{IsScanned-none, IsScanned-longer, IsScanned-back, AreBlocks-chunks, length-back}
+use Rattle.simd_json_stages.proofs.Scan.BlockScanLaws.{scanned, CanList-after}
 use Rattle.simd_json_stages.proofs.stage1.scan.scan_blocks.Goals as goal
 
 pub loop-first-init : goal.loop-first-init
@@ -14,51 +15,41 @@ loop-first-init g c =
       blocks_longer = omega arith;
     }
 
+pub scan_window-done-requires : goal.scan_window-done-requires
+scan_window-done-requires g c = record {
+  order = omega arith;
+  within = omega arith;
+  short = omega arith;
+  capacity = omega (arith, c.in_ok-checked.ensures.capacity, ap length c.as_mut_slice.ensures.value);
+  block_capacity = CanList-after _ _ _ _ _ _ _ _ c.in_ok-checked.ensures.block_capacity (omega arith) (omega arith) (omega arith)
+      (omega (arith, ap length c.as_mut_slice-in-loop-first.ensures.value));
+}
+
 pub check_window-requires-clause-ascii : goal.check_window-requires-clause-ascii
-check_window-requires-clause-ascii g c =
+check_window-requires-clause-ascii g c = λ zero.
     let b = c.args.input.now in
-    let l = c.loop-first in
-    let a = c.capacity_for.new.structural_indexes in
-    let z = c.capacity_for.new.escape_blocks in
-    let k = c.capacity_for.ensures.kept in
-    let more = c.capacity_for.ensures.longer in
-    let wide = IsScanned-capacity b l.first l.done l.structural_indexes.items l.escape_blocks.items a.items z.items l.invariant.scanned
-    k.0 more.0 k.1 more.1 in
-    let lent = IsScanned-equal b _ l.first l.done _ _ _ _ refl (sym c.as_mut_slice.ensures.value)
-    (sym c.as_mut_slice-in-loop-first.ensures.value) wide in
-    λ zero. c.scan_window-done.ensures.ascii b (AreBlocks-chunks b c.args.blocks.now c.requires.blocks c.requires.len) lent
-    (eqb-true _ _ zero)
+    let before = IsScanned-longer c.loop-first.invariant.scanned c.capacity_for.ensures.kept c.capacity_for.ensures.longer
+    c.as_mut_slice.ensures.value c.as_mut_slice-in-loop-first.ensures.value in
+    let chunks = AreBlocks-chunks b c.args.blocks.now c.requires.blocks c.requires.len in
+    (c.scan_window-done.ensures.classifies.ascii b chunks before.classified (eqb-true _ _ zero)).1
 
 pub loop-first-preserved : goal.loop-first-preserved
 loop-first-preserved g c =
     let b = c.args.input.now in
-    let l = c.loop-first in
-    let i = l.invariant in
+    let w = c.scan_window-done in
+    let before = IsScanned-longer c.loop-first.invariant.scanned c.capacity_for.ensures.kept c.capacity_for.ensures.longer
+    c.as_mut_slice.ensures.value c.as_mut_slice-in-loop-first.ensures.value in
+    let chunks = AreBlocks-chunks b c.args.blocks.now c.requires.blocks c.requires.len in
     let a = c.capacity_for.new.structural_indexes in
     let z = c.capacity_for.new.escape_blocks in
-    let k = c.capacity_for.ensures.kept in
-    let more = c.capacity_for.ensures.longer in
-    let w = c.scan_window-done in
-    let wide = IsScanned-capacity b l.first l.done l.structural_indexes.items l.escape_blocks.items a.items z.items i.scanned k.0 more.0
-    k.1 more.1 in
-    let lent = IsScanned-equal b _ l.first l.done _ _ _ _ refl (sym c.as_mut_slice.ensures.value)
-    (sym c.as_mut_slice-in-loop-first.ensures.value) wide in
-    let done = w.ensures.scanned b (AreBlocks-chunks b c.args.blocks.now c.requires.blocks c.requires.len) lent in
-    let long : length w.new.out ≡ a.len = omega arith in
-    let long_listed : length w.new.listed ≡ z.len = omega arith in
-    let out : take a.len (w.new.out ++ drop (length w.new.out) a.items) ≡ w.new.out = written-back w.new.out _ a.len long in
-    let listed : take z.len (w.new.listed ++ drop (length w.new.listed) z.items) ≡ w.new.listed = written-back w.new.listed _ z.len
-    long_listed in
-    let out_long = ap length out in
-    let listed_long = ap length listed in
     let first = ap length c.as_mut_slice.ensures.value in
     let second = ap length c.as_mut_slice-in-loop-first.ensures.value in
     let checked = c.in_ok-checked-2.ensures.utf8 in
     record {
       to = omega arith;
-      scanned = IsScanned-equal b _ _ w.result _ _ _ _ refl (sym out) (sym listed) done;
+      scanned = IsScanned-back _ _ _ _ (omega arith) (omega arith) (scanned w.ensures b chunks before);
       within = checked.0;
       utf8 = checked.1;
-      longer = omega arith;
-      blocks_longer = omega arith;
+      longer = omega (arith, length-back w.new.structural_indexes (drop (length w.new.structural_indexes) a.items) a.len);
+      blocks_longer = omega (arith, length-back w.new.escape_blocks (drop (length w.new.escape_blocks) z.items) z.len);
     }

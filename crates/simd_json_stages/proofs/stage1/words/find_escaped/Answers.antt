@@ -3,5 +3,5 @@ use Rattle.simd_json_stages.proofs.stage1.words.find_escaped.Goals as goal
 
 pub returns : goal.returns
 returns c = λ k e.
-    escaped_words k c.args.backslash c.args.before c.overflowing_add-even_runs.result.0 c.overflowing_add-even_runs.result.1
-    c.ranges.backslash.fits e c.overflowing_add-even_runs.ensures.value c.overflowing_add-even_runs.ensures.overflow
+    let sum = c.overflowing_add-even_runs in
+    escaped_words k c.args.backslash c.args.before c.ranges.backslash.fits e _ _ sum.ensures.value sum.ensures.overflow

@@ -16,6 +16,6 @@ pub returns-clause-classified : goal.returns-clause-classified
 returns-clause-classified c =
     let m = c.args.found in
     let d = c.list_block in
-    λ b found before. IsClassified-next b c.args.number c.args.self c.args.listed.now m _ d.new.listed d.result before found
+    λ b found before. IsClassified-next b c.args.block c.args.self c.args.escape_blocks.now m _ d.new.escape_blocks d.result before found
     d.ensures.listed d.ensures.count
     (let within = listed-within m.has_backslash c.requires.capacity before.within d.ensures.count in omega arith)

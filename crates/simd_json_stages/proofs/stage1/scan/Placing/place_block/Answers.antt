@@ -7,5 +7,5 @@ returns-clause-placed c =
     let w = c.write in
     λ b parts control before.
     let found = c.find_starts-placed.ensures b _ parts control before.carried in
-    IsPlaced-next b c.args.number c.args.self c.args.out.now c.find_starts-placed.result w.new.out w.result before found
+    IsPlaced-next b c.args.block c.args.self c.args.structural_indexes.now c.find_starts-placed.result w.new.structural_indexes w.result before found
     w.ensures.written w.ensures.count (omega arith)

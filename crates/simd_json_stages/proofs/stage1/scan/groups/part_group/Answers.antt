@@ -1,15 +1,12 @@
-use Rattle.std.proofs.Common.{◌∙◌, arith}
-use Rattle.std.proofs.lemmas.List.{length-set}
-use Rattle.simd_json_stages.proofs.Scan.GroupLaws.{HaveParts-next}
+use Rattle.std.proofs.Common.{◌+◌, ◌*◌, arith}
+use Rattle.simd_json_stages.specs.Blocks.{AreParts}
+use Rattle.simd_json_stages.proofs.Scan.GroupLaws.{words-set, each-next}
 use Rattle.simd_json_stages.proofs.stage1.scan.groups.part_group.Goals as goal
 
 pub loop-k-init : goal.loop-k-init
 loop-k-init c = record {
   to = omega arith;
-  parity_words = omega arith;
-  plain_words = omega arith;
-  space_words = omega arith;
-  quote_words = omega arith;
+  words = record { first = omega arith; second = omega arith; third = omega arith; fourth = omega arith };
   found = λ b first classes k l. absurd (omega arith);
 }
 
@@ -19,14 +16,10 @@ loop-k-preserved c =
     let i = l.invariant in
     record {
       to = omega arith;
-      parity_words = length-set l.parts.parity l.k _ ∙ i.parity_words;
-      plain_words = length-set l.parts.plain l.k _ ∙ i.plain_words;
-      space_words = length-set l.parts.space l.k _ ∙ i.space_words;
-      quote_words = length-set l.parts.quote l.k _ ∙ i.quote_words;
-      found = λ b first classes.
-          HaveParts-next b first l.k l.parts.parity l.parts.plain l.parts.space l.parts.quote _ i.parity_words i.plain_words
-          i.space_words i.quote_words (omega arith) (i.found b first classes)
-          (c.find_parts-found.ensures b _ (classes l.k (omega arith)));
+      words = words-set l.k _ _ _ _ i.words;
+      found = λ b first classes. each-next
+          (λ k p q s t. AreParts b (64 * (first + k)) (record { parity = p; plain = q; space = s; quote = t }))
+          l.k _ _ _ _ i.words (omega arith) (i.found b first classes) (c.find_parts-found.ensures b _ (classes l.k (omega arith)));
     }
 
 pub returns : goal.returns

@@ -7,7 +7,7 @@ loop-k-init c = record {
   to = omega arith;
   capacity = omega arith;
   few = omega arith;
-  placed = λ b control parts. c.pass_group-k.ensures.placed b c.args.first c.args.out.now control parts;
+  placed = λ b control parts. c.pass_group-k.ensures.placed b c.args.first c.args.structural_indexes.now control parts;
 }
 
 pub place_block-now-requires-clause-capacity : goal.place_block-now-requires-clause-capacity

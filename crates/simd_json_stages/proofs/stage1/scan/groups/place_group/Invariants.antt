@@ -6,11 +6,10 @@ use Rattle.simd_json_stages.proofs.stage1.scan.groups.place_group.Given as goal
 abbrev pub invariant-loop-k : goal.invariant-loop-k
 invariant-loop-k l = record {
   to : l.k ≤ 8;
-  capacity : l.now.used + 64 * (8 - l.k) ≤ length l.out;
+  capacity : l.now.used + 64 * (8 - l.k) ≤ length l.structural_indexes;
   few : l.now.used ≤ l.fn.before.used + 64 * l.k;
-  placed : (b : List ℕ) → HaveControl b l.first 8 l.control → HaveParts b l.first 8 l.group.parity l.group.plain l.group.space
-      l.group.quote → IsPlaced b l.first l.fn.before l.fn.out
-      → IsPlaced b (l.first + l.k) l.now l.out;
+  placed : (b : List ℕ) → HaveControl b l.first 8 l.control → HaveParts b l.first 8 l.group
+      → IsPlaced b l.first l.fn.before l.fn.structural_indexes → IsPlaced b (l.first + l.k) l.now l.structural_indexes;
 }
 
 abbrev pub decreases-loop-k : goal.decreases-loop-k

@@ -5,7 +5,7 @@ use Rattle.simd_json_stages.proofs.stage1.scan.groups.quotes_before.Given as goa
 abbrev pub invariant-loop-k : goal.invariant-loop-k
 invariant-loop-k l = record {
   to : l.k ≤ l.end;
-  none : (b : List ℕ) (first : ℕ) → HaveParts b first 8 l.group.parity l.group.plain l.group.space l.group.quote → l.quotes ≡ 0
+  none : (b : List ℕ) (first : ℕ) → HaveParts b first 8 l.group → l.quotes ≡ 0
       → HasNoQuotes b (64 * first) (64 * (first + l.k));
 }
 

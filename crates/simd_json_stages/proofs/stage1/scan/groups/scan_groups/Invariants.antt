@@ -1,20 +1,14 @@
-use Rattle.std.proofs.Common.{◌≡◌, ◌+◌, ◌-◌, ◌*◌, ◌%◌, ◌≤◌, ℕ, List, length}
-use Rattle.simd_json_stages.specs.Blocks.{AreBlocks, CanList, IsAscii, IsScanned}
+use Rattle.std.proofs.Common.{◌≡◌, ◌-◌, ◌%◌, ◌≤◌}
+use Rattle.simd_json_stages.specs.BlockScans.{CanScan, Scans}
 use Rattle.simd_json_stages.proofs.stage1.scan.groups.scan_groups.Given as goal
 
 abbrev pub invariant-loop-i : goal.invariant-loop-i
 invariant-loop-i l = record {
   from : l.window.first ≤ l.i;
-  to : l.i ≤ l.window.end;
   groups : (l.window.end - l.i) % 8 ≡ 0;
-  few : l.done.placing.used ≤ l.fn.before.placing.used + 64 * (l.i - l.window.first);
-  few_blocks : l.done.classifying.listed ≤ l.fn.before.classifying.listed + (l.i - l.window.first);
-  capacity : l.done.placing.used + 64 * (l.window.end - l.i) ≤ length l.out;
-  block_capacity : CanList l.blocks l.i l.window.end l.done.classifying.listed (length l.listed);
-  scanned : (b : List ℕ) → AreBlocks b l.blocks → IsScanned b l.window.first l.fn.before l.fn.out l.fn.listed
-      → IsScanned b l.i l.done l.out l.listed;
-  ascii : (b : List ℕ) → AreBlocks b l.blocks → IsScanned b l.window.first l.fn.before l.fn.out l.fn.listed → l.done.classifying.high ≡ 0
-      → (l.fn.before.classifying.high ≡ 0) × IsAscii b (64 * l.window.first) (64 * l.i);
+  fits : CanScan l.blocks l.i l.window.end l.done l.structural_indexes l.escape_blocks;
+  scans : Scans l.blocks l.window.first l.i l.fn.before l.done l.fn.structural_indexes l.fn.escape_blocks l.structural_indexes
+      l.escape_blocks;
 }
 
 abbrev pub decreases-loop-i : goal.decreases-loop-i

@@ -1,37 +1,36 @@
-use Rattle.std.proofs.Common.{◌≡◌, ◌*◌, ◌-◌, ◌%◌, arith}
-use Rattle.simd_json_stages.specs.Blocks.{IsAscii, IsScanned}
-use Rattle.simd_json_stages.proofs.Scan.GroupLaws.{IsAscii-next}
-use Rattle.simd_json_stages.proofs.Scan.ScanLaws.{IsScanned-same, IsScanned-high}
+use Rattle.std.proofs.Common.{◌≡◌, ◌-◌, ◌%◌, arith}
+use Rattle.simd_json_stages.specs.BlockScans.{Scans}
+use Rattle.simd_json_stages.proofs.Scan.BlockScanLaws.{Scans-none, Scans-more, Scans-same, CanScan-after, CanScan-front}
 use Rattle.simd_json_stages.proofs.stage1.scan.windows.scan_window.Goals as goal
 use Rattle.simd_json_stages.proofs.stage1.scan.windows.scan_window.Goals.{then-window-middle, else-window-middle}
 
-pub returns-clause-scanned : goal.returns-clause-scanned
-returns-clause-scanned c = λ b blocks before.
-    let start = IsScanned-high 0 before in
-    let i = c.if-window-middle in
-    let first : IsScanned b (c.args.window.end - (c.args.window.end - c.args.window.first) % 8) i.done i.out i.listed = elim i.branch [
-      | then-window-middle w ↦ rw (w.out-is, w.listed-is, w.done-is) (w.scan_groups-done.ensures.scanned b blocks start)
-      | else-window-middle w ↦ (let none : c.args.window.first ≡ c.args.window.end -
-          (c.args.window.end - c.args.window.first) % 8 = omega arith in rw (w.out-is, w.listed-is, w.done-is) (IsScanned-same none start))
-    ] in
-    c.scan_few.ensures.scanned b blocks first
+pub scan_groups-done-requires-clause-fits : goal.scan_groups-done-requires-clause-fits
+scan_groups-done-requires-clause-fits c = CanScan-front c.requires (omega arith) (omega arith)
 
-pub returns-clause-ascii : goal.returns-clause-ascii
-returns-clause-ascii c = λ b blocks before none.
-    let start = IsScanned-high 0 before in
+pub scan_few-requires : goal.scan_few-requires
+scan_few-requires c =
     let i = c.if-window-middle in
     let middle = c.args.window.end - (c.args.window.end - c.args.window.first) % 8 in
-    let first : IsScanned b middle i.done i.out i.listed × (i.done.classifying.high ≡ 0
-    → IsAscii b (64 * c.args.window.first) (64 * middle)) = elim i.branch [
-      | then-window-middle w ↦ rw (w.out-is, w.listed-is, w.done-is) (
-        w.scan_groups-done.ensures.scanned b blocks start,
-        λ zero.
-            (w.scan_groups-done.ensures.ascii b blocks start zero).1,
-      )
+    let groups : Scans c.args.blocks.now c.args.window.first middle c.args.before i.done c.args.structural_indexes.now
+    c.args.escape_blocks.now i.structural_indexes i.escape_blocks = elim i.branch [
+      | then-window-middle w ↦ rw (w.structural_indexes-is, w.escape_blocks-is, w.done-is) w.scan_groups-done.ensures
       | else-window-middle w ↦ (
-          let same : c.args.window.first ≡ middle = omega arith in
-          rw (w.out-is, w.listed-is, w.done-is) (IsScanned-same same start, λ zero n from to. absurd (omega arith))
+          let none : c.args.window.first ≡ middle = omega arith in
+          rw (w.structural_indexes-is, w.escape_blocks-is, w.done-is) (Scans-same none (Scans-none _ _ _ _ _))
           )
     ] in
-    let h = c.scan_few.ensures.ascii b blocks first.0 none in
-    IsAscii-next b _ _ _ (first.1 h.0) h.1
+    CanScan-after c.requires groups (omega arith) (omega arith) (omega arith) (omega arith)
+
+pub returns : goal.returns
+returns c =
+    let i = c.if-window-middle in
+    let middle = c.args.window.end - (c.args.window.end - c.args.window.first) % 8 in
+    let groups : Scans c.args.blocks.now c.args.window.first middle c.args.before i.done c.args.structural_indexes.now
+    c.args.escape_blocks.now i.structural_indexes i.escape_blocks = elim i.branch [
+      | then-window-middle w ↦ rw (w.structural_indexes-is, w.escape_blocks-is, w.done-is) w.scan_groups-done.ensures
+      | else-window-middle w ↦ (
+          let none : c.args.window.first ≡ middle = omega arith in
+          rw (w.structural_indexes-is, w.escape_blocks-is, w.done-is) (Scans-same none (Scans-none _ _ _ _ _))
+          )
+    ] in
+    Scans-more (omega arith) (omega (arith, c.requires.order)) groups c.scan_few.ensures
