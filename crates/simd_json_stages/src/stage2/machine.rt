@@ -23,9 +23,8 @@ use super::fault::{Fault, FaultKind};
 use super::input::{Input, Original};
 use super::nodes::NodeSink;
 use super::progress::{Following, NextMember, Progress, Route, Step};
-use super::scalar::push_scalar;
+use super::scalar::{push_scalar, push_string};
 use super::stack::{Container, StackState, close};
-use super::string::push_string;
 use std::result::Result;
 
 // What the machine changes besides the sink. That is passed beside it, since the prover can't

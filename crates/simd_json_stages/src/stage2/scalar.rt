@@ -1,4 +1,4 @@
-//! Numbers and words become nodes.
+//! Strings, numbers and words become nodes.
 //!
 //! Booleans are compared four letters at a time. Numbers are read by `numberparse`, their digits by
 //! words of eight bytes, as in section 3.2 of the paper that `stage2` names: short ones by
@@ -10,29 +10,36 @@ ghost use Rattle.std.specs.Prelude.{[], ◌∷◌, ◌++◌, nat_eq, codes, true
 ghost use Rattle.std.specs.Prelude.{IfErr, OnOk};
 ghost use Rattle.std.specs.List.{starts_with};
 ghost use Rattle.simd_json_parts.specs.Bytes.{is_terminator, byte_at, minus_sign};
+ghost use Rattle.simd_json_parts.specs.Faults.{fault_with};
 ghost use Rattle.simd_json_parts.specs.Nodes.{static_item};
 ghost use Rattle.simd_json_parts.specs.Integers.{integer_node, max_magnitude_64};
+ghost use Rattle.simd_json_parts.specs.StringAt.{escape_fault};
 ghost use Rattle.simd_json_scalars.specs.NumberRead.{IsNumberAt};
 ghost use Rattle.simd_json_scalars.specs.NumeralRead.{IsIntegerLiteral};
 ghost use Rattle.simd_json_scalars.specs.declared.numberparse.Number.TheVariants.{Integer, Invalid};
+ghost use Rattle.simd_json_stages.specs.Members.{AtString};
 ghost use Rattle.simd_json_stages.specs.Put.{is_boolean, AtNumber, AtOther, IsScalarPut, IsNoScalar};
-ghost use Rattle.simd_json_stages.specs.Refusals.{refused_kind, number_refusal};
+ghost use Rattle.simd_json_stages.specs.Put.{IsBadString, IsStringPut};
+ghost use Rattle.simd_json_stages.specs.Refusals.{error_type, refused_kind, number_refusal};
 ghost use Rattle.simd_json_stages.specs.Inputs.{Reads};
 
 use super::fault::{Fault, FaultKind};
 use super::input::{Input, Original};
 use super::nodes::NodeSink;
-use super::progress::Progress;
+use super::progress::{Progress, Route};
 use simd_json_parts::charutils::{byte_or_space, is_structural_or_whitespace};
 use simd_json_parts::node::StaticNode;
 use simd_json_scalars::numberparse::{
     Numeral, integer_node, is_integer, parse_long, parse_numeral, parse_short,
 };
+use simd_json_scalars::stringparse::BadEscape;
+use std::result::Result;
 
 /// Returns whether the bytes begin with `true`, and end there or go on with a structural character
 /// or whitespace.
 pub fn is_valid_true_atom(bytes: &[u8]) -> bool
-    ensures { result ≡ (starts_with nat_eq bytes.now (codes "true") && is_terminator (byte_at bytes.now 4)) }
+    ensures { result
+        ≡ (starts_with nat_eq bytes.now (codes "true") && is_terminator (byte_at bytes.now 4)) }
 {
     bytes.starts_with(b"true") && ends_at(bytes, 4)
 }
@@ -40,7 +47,8 @@ pub fn is_valid_true_atom(bytes: &[u8]) -> bool
 /// Returns whether the bytes begin with `false`, and end there or go on with a structural character
 /// or whitespace.
 pub fn is_valid_false_atom(bytes: &[u8]) -> bool
-    ensures { result ≡ (starts_with nat_eq bytes.now (codes "false") && is_terminator (byte_at bytes.now 5)) }
+    ensures { result
+        ≡ (starts_with nat_eq bytes.now (codes "false") && is_terminator (byte_at bytes.now 5)) }
 {
     bytes.starts_with(b"false") && ends_at(bytes, 5)
 }
@@ -48,7 +56,8 @@ pub fn is_valid_false_atom(bytes: &[u8]) -> bool
 /// Returns whether the bytes begin with `null`, and end there or go on with a structural character
 /// or whitespace.
 pub fn is_valid_null_atom(bytes: &[u8]) -> bool
-    ensures { result ≡ (starts_with nat_eq bytes.now (codes "null") && is_terminator (byte_at bytes.now 4)) }
+    ensures { result
+        ≡ (starts_with nat_eq bytes.now (codes "null") && is_terminator (byte_at bytes.now 4)) }
 {
     bytes.starts_with(b"null") && ends_at(bytes, 4)
 }
@@ -60,6 +69,56 @@ fn ends_at(bytes: &[u8], at: usize) -> bool
     is_structural_or_whitespace(byte_or_space(bytes, at))
 }
 
+// Appends the string at the last token. Only whitespace is between its closing quote and the next
+// structural index.
+#[inline(always)]
+pub(super) fn push_string<'de, K: Original, S: NodeSink<'de>>(
+    input: &mut Input<'_, 'de>,
+    route: Route,
+    nodes: &mut S,
+    p: Progress,
+) -> Result<(), Fault>
+    requires { AtString K.bytes route input.old (S.node_room nodes.old)
+        (length (S.held_nodes nodes.old)) p }
+    ensures capacity { S.node_room nodes.new ≡ S.node_room nodes.old }
+    ensures lender { S.lender nodes.new ≡ S.lender nodes.old }
+    ensures put { OnOk result
+        (IsStringPut K.bytes p.at (S.held_nodes nodes.old) (S.held_nodes nodes.new)
+        (Reads K.bytes input.new)) }
+    ensures refused { IfErr result (IsBadString K.bytes p.at) }
+{
+    let next = route.position_or_end(p.read, input.end);
+    let may_have_escape = input.may_have_escape(p.at, next);
+    if !may_have_escape {
+        nodes.push_string(input.share_string(p.at, next));
+        return Ok(());
+    }
+    match input.parse_string(p.at) {
+        Ok(string) => nodes.push_string(string),
+        Err(bad) => return Err(bad_escape(p.at, bad)),
+    }
+    Ok(())
+}
+
+// The fault of a bad escape in the string whose opening quote has index `at`.
+#[cold]
+fn bad_escape(at: usize, bad: BadEscape) -> Fault
+    requires { at + bad.offset < 2 ^ 64 }
+    ensures { fault_with (error_type result.kind) result.index result.byte
+        ≡ escape_fault (at + bad.offset) bad.letter }
+{
+    let kind = if bad.letter == b'u' {
+        FaultKind::InvalidUnicodeCodepoint
+    } else {
+        FaultKind::InvalidEscape
+    };
+    Fault {
+        kind,
+        index: at + bad.offset,
+        byte: bad.letter,
+    }
+}
+
 // Appends the scalar at the last token, which is not a string. Each kind has a branch that stores
 // its own node: a node that is chosen by branches and then stored is copied field by field.
 #[inline(always)]
@@ -67,7 +126,7 @@ pub(super) fn push_scalar<'de, K: Original, S: NodeSink<'de>>(
     input: &mut Input<'_, 'de>,
     nodes: &mut S,
     p: Progress,
-) -> std::result::Result<(), Fault>
+) -> Result<(), Fault>
     requires { AtOther K.bytes input.old (S.node_room nodes.old) (length (S.held_nodes nodes.old)) p }
     ensures capacity { S.node_room nodes.new ≡ S.node_room nodes.old }
     ensures lender { S.lender nodes.new ≡ S.lender nodes.old }
@@ -161,7 +220,7 @@ fn push_number<'de, K: Original, S: NodeSink<'de>>(
     input: &mut Input<'_, 'de>,
     nodes: &mut S,
     p: Progress,
-) -> std::result::Result<(), Fault>
+) -> Result<(), Fault>
     requires { AtNumber K.bytes input.old (S.node_room nodes.old) (length (S.held_nodes nodes.old)) p }
     ensures capacity { S.node_room nodes.new ≡ S.node_room nodes.old }
     ensures lender { S.lender nodes.new ≡ S.lender nodes.old }
@@ -184,7 +243,7 @@ fn push_longer_number<'de, K: Original, S: NodeSink<'de>>(
     input: &mut Input<'_, 'de>,
     nodes: &mut S,
     p: Progress,
-) -> std::result::Result<(), Fault>
+) -> Result<(), Fault>
     requires { AtNumber K.bytes input.old (S.node_room nodes.old) (length (S.held_nodes nodes.old)) p }
     ensures capacity { S.node_room nodes.new ≡ S.node_room nodes.old }
     ensures lender { S.lender nodes.new ≡ S.lender nodes.old }
@@ -225,7 +284,7 @@ fn push_integer<'de, S: NodeSink<'de>>(nodes: &mut S, first: u8, magnitude: u64)
 // `rest` is the input from index `at` on.
 #[cold]
 #[inline(never)]
-fn read_long(rest: &[u8], at: usize, len: usize) -> std::result::Result<StaticNode, Fault>
+fn read_long(rest: &[u8], at: usize, len: usize) -> Result<StaticNode, Fault>
     requires literal { IsIntegerLiteral rest.now len }
     requires fits { at + length rest.now < 2 ^ 64 }
     ensures { (b : List ℕ) → drop at b ≡ rest.now → at ≤ length b → MatchResult result

@@ -4,7 +4,7 @@ use Rattle.simd_json_parts.specs.StringAt.{closing_quote}
 use Rattle.simd_json_parts.specs.Nodes.{string_item}
 use Rattle.simd_json_stages.proofs.Machine.Bounds.{some-left}
 use Rattle.simd_json_stages.proofs.Machine.StringPut.{at-within, string-before, bad-within}
-use Rattle.simd_json_stages.proofs.stage2.string.push_string.Goals as goal
+use Rattle.simd_json_stages.proofs.stage2.scalar.push_string.Goals as goal
 
 pub may_have_escape-may_have_escape-requires : goal.may_have_escape-may_have_escape-requires
 may_have_escape-may_have_escape-requires g c =
