@@ -6,8 +6,8 @@
 //! fraction or an exponent is only checked, and its node holds the literal; integers have up to 128
 //! bits.
 ghost use Rattle.std.specs.Prelude.{◌≡◌, ◌<◌, ◌≤◌, ◌+◌, ◌^◌, ◌==◌, ◌&&◌, ◌||◌, ℕ, List, length, drop};
-ghost use Rattle.std.specs.Prelude.{[], ◌∷◌, ◌++◌, nat_eq, codes, true, false, MatchOption, MatchResult};
-ghost use Rattle.std.specs.Prelude.{IfErr, OnOk};
+ghost use Rattle.std.specs.Prelude.{[], ◌∷◌, ◌++◌, nat_eq, codes, true, false};
+ghost use Rattle.std.specs.Prelude.{MatchOption, MatchResult, IfErr, OnOk};
 ghost use Rattle.std.specs.List.{starts_with};
 ghost use Rattle.simd_json_parts.specs.Bytes.{is_terminator, byte_at, minus_sign};
 ghost use Rattle.simd_json_parts.specs.Faults.{fault_with};
@@ -19,7 +19,7 @@ ghost use Rattle.simd_json_scalars.specs.NumeralRead.{IsIntegerLiteral};
 ghost use Rattle.simd_json_scalars.specs.declared.numberparse.Number.TheVariants.{Integer, Invalid};
 ghost use Rattle.simd_json_stages.specs.Members.{AtString};
 ghost use Rattle.simd_json_stages.specs.Put.{is_boolean, AtNumber, AtOther, IsScalarPut, IsNoScalar};
-ghost use Rattle.simd_json_stages.specs.Put.{IsBadString, IsStringPut};
+ghost use Rattle.simd_json_stages.specs.Put.{IsBadString, IsStringPut, SameSink};
 ghost use Rattle.simd_json_stages.specs.Refusals.{error_type, refused_kind, number_refusal};
 ghost use Rattle.simd_json_stages.specs.Inputs.{Reads};
 
@@ -80,8 +80,7 @@ pub(super) fn push_string<'de, K: Original, S: NodeSink<'de>>(
 ) -> Result<(), Fault>
     requires { AtString K.bytes route input.old (S.node_room nodes.old)
         (length (S.held_nodes nodes.old)) p }
-    ensures capacity { S.node_room nodes.new ≡ S.node_room nodes.old }
-    ensures lender { S.lender nodes.new ≡ S.lender nodes.old }
+    ensures sink { SameSink S.node_room S.lender nodes.old nodes.new }
     ensures put { OnOk result
         (IsStringPut K.bytes p.at (S.held_nodes nodes.old) (S.held_nodes nodes.new)
         (Reads K.bytes input.new)) }
@@ -127,9 +126,9 @@ pub(super) fn push_scalar<'de, K: Original, S: NodeSink<'de>>(
     nodes: &mut S,
     p: Progress,
 ) -> Result<(), Fault>
-    requires { AtOther K.bytes input.old (S.node_room nodes.old) (length (S.held_nodes nodes.old)) p }
-    ensures capacity { S.node_room nodes.new ≡ S.node_room nodes.old }
-    ensures lender { S.lender nodes.new ≡ S.lender nodes.old }
+    requires { AtOther K.bytes input.old (S.node_room nodes.old)
+        (length (S.held_nodes nodes.old)) p }
+    ensures sink { SameSink S.node_room S.lender nodes.old nodes.new }
     ensures put { OnOk result
         (IsScalarPut K.bytes p.at (S.held_nodes nodes.old) (S.held_nodes nodes.new)
         (Reads K.bytes input.new)) }
@@ -158,7 +157,8 @@ pub(super) fn push_scalar<'de, K: Original, S: NodeSink<'de>>(
 // mispredicted for every other one of mixed booleans.
 #[inline(always)]
 fn parse_boolean(bytes: &[u8]) -> Option<bool>
-    ensures { MatchOption result ((is_boolean true bytes.now ≡ false) × (is_boolean false bytes.now ≡ false))
+    ensures { MatchOption result
+        ((is_boolean true bytes.now ≡ false) × (is_boolean false bytes.now ≡ false))
         (λ value. is_boolean value bytes.now ≡ true) }
 {
     if bytes.len() < 6 {
@@ -184,7 +184,8 @@ const FALS: u32 = 0x736c_6166;
 // The same with fewer than six bytes left.
 #[cold]
 fn parse_last_boolean(bytes: &[u8]) -> Option<bool>
-    ensures { MatchOption result ((is_boolean true bytes.now ≡ false) × (is_boolean false bytes.now ≡ false))
+    ensures { MatchOption result
+        ((is_boolean true bytes.now ≡ false) × (is_boolean false bytes.now ≡ false))
         (λ value. is_boolean value bytes.now ≡ true) }
 {
     if is_valid_true_atom(bytes) {
@@ -221,9 +222,9 @@ fn push_number<'de, K: Original, S: NodeSink<'de>>(
     nodes: &mut S,
     p: Progress,
 ) -> Result<(), Fault>
-    requires { AtNumber K.bytes input.old (S.node_room nodes.old) (length (S.held_nodes nodes.old)) p }
-    ensures capacity { S.node_room nodes.new ≡ S.node_room nodes.old }
-    ensures lender { S.lender nodes.new ≡ S.lender nodes.old }
+    requires { AtNumber K.bytes input.old (S.node_room nodes.old)
+        (length (S.held_nodes nodes.old)) p }
+    ensures sink { SameSink S.node_room S.lender nodes.old nodes.new }
     ensures put { OnOk result
         (IsScalarPut K.bytes p.at (S.held_nodes nodes.old) (S.held_nodes nodes.new)
         (Reads K.bytes input.new)) }
@@ -244,9 +245,9 @@ fn push_longer_number<'de, K: Original, S: NodeSink<'de>>(
     nodes: &mut S,
     p: Progress,
 ) -> Result<(), Fault>
-    requires { AtNumber K.bytes input.old (S.node_room nodes.old) (length (S.held_nodes nodes.old)) p }
-    ensures capacity { S.node_room nodes.new ≡ S.node_room nodes.old }
-    ensures lender { S.lender nodes.new ≡ S.lender nodes.old }
+    requires { AtNumber K.bytes input.old (S.node_room nodes.old)
+        (length (S.held_nodes nodes.old)) p }
+    ensures sink { SameSink S.node_room S.lender nodes.old nodes.new }
     ensures put { OnOk result
         (IsScalarPut K.bytes p.at (S.held_nodes nodes.old) (S.held_nodes nodes.new)
         (Reads K.bytes input.new)) }
@@ -268,8 +269,7 @@ fn push_longer_number<'de, K: Original, S: NodeSink<'de>>(
 fn push_integer<'de, S: NodeSink<'de>>(nodes: &mut S, first: u8, magnitude: u64)
     requires fits { magnitude ≤ max_magnitude_64 (first == minus_sign) }
     requires room { length (S.held_nodes nodes.old) < S.node_room nodes.old }
-    ensures capacity { S.node_room nodes.new ≡ S.node_room nodes.old }
-    ensures lender { S.lender nodes.new ≡ S.lender nodes.old }
+    ensures sink { SameSink S.node_room S.lender nodes.old nodes.new }
     ensures put { S.held_nodes nodes.new
         ≡ S.held_nodes nodes.old ++ static_item (integer_node (first == minus_sign) magnitude) ∷ [] }
 {

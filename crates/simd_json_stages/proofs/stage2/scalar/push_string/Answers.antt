@@ -15,7 +15,7 @@ may_have_escape-may_have_escape-requires g c =
 pub position_or_end-next-requires : goal.position_or_end-next-requires
 position_or_end-next-requires g c t =
     let s = c.requires in
-    some-left g.K.Original.bytes c.args.route.indexes.now c.args.p (s.on_route.closes t) s.read (λ is. omega (arith, s.opening, is))
+    some-left (s.on_route.closes t) s.read (λ is. omega (arith, s.opening, is))
     (λ is. omega (arith, s.opening, is))
 
 pub share_string-requires : goal.share_string-requires
