@@ -99,7 +99,8 @@ pub fn build_tape<'de, K: Original, S: NodeSink<'de>>(
 ) -> Result<()>
     requires input { input.old ≡ K.bytes }
     requires scanned { IsScanOf K.bytes scanned }
-    requires room { nodes_enough (length scanned.structural_indexes.now) max_depth ≤ S.node_room sink.old }
+    requires room { nodes_enough (length scanned.structural_indexes.now) max_depth
+        ≤ S.node_room sink.old }
     requires stack { min (length scanned.structural_indexes.now) max_depth
         ≤ max (length stack.old) (length few.old) }
     requires empty { S.held_nodes sink.old ≡ [] }

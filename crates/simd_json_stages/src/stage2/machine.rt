@@ -12,9 +12,9 @@
 //!               the end of the tokens, in no container            →  done
 //! ```
 ghost use Rattle.std.specs.Prelude.{◌≡◌, ◌<◌, ◌≤◌, ◌+◌, length, IfOk, IfErr};
-ghost use Rattle.simd_json_stages.specs.Members.{AfterMember, AtElement, AtFirst, AtOpening, AtPair};
-ghost use Rattle.simd_json_stages.specs.Members.{AtStart, HasCome, HasFollowed, IsAtMember, IsFault};
-ghost use Rattle.simd_json_stages.specs.Members.{IsFrom, IsTape};
+ghost use Rattle.simd_json_stages.specs.Members.{AfterMember, AtElement, AtFirst, AtOpening};
+ghost use Rattle.simd_json_stages.specs.Members.{AtPair, AtStart, HasCome, HasFollowed};
+ghost use Rattle.simd_json_stages.specs.Members.{IsAtMember, IsFault, IsFrom, IsTape};
 ghost use Rattle.simd_json_stages.specs.Progresses.{AdvancesPastMember, AdvancesPastValue, reached};
 ghost use Rattle.simd_json_stages.specs.Put.{SameSink};
 
@@ -52,8 +52,8 @@ impl<'de> Machine<'_, 'de> {
             (S.held_nodes nodes.old) p kind }
         ensures sink { SameSink S.node_room S.lender nodes.old nodes.new }
         ensures stack { self.new.stack ≡ self.old.stack }
-        ensures value { IfOk result
-            (AtFirst K.bytes route.entry self.new (S.node_room nodes.new) (S.held_nodes nodes.new)) }
+        ensures value { IfOk result (AtFirst K.bytes route.entry self.new
+            (S.node_room nodes.new) (S.held_nodes nodes.new)) }
         ensures advances { IfOk result (λ q. (p.read < q.read) × (q.depth ≡ p.depth)
             × (q.container ≡ p.container)) }
         ensures refused { IfErr result (IsFault K.bytes route.entry) }
@@ -85,8 +85,8 @@ impl<'de> Machine<'_, 'de> {
             (S.held_nodes nodes.old) p container }
         ensures sink { SameSink S.node_room S.lender nodes.old nodes.new }
         ensures stack { length self.new.stack.now ≡ length self.old.stack.now }
-        ensures came { IfOk result
-            (HasCome K.bytes route.entry self.new (S.node_room nodes.new) (S.held_nodes nodes.new)) }
+        ensures came { IfOk result (HasCome K.bytes route.entry self.new
+            (S.node_room nodes.new) (S.held_nodes nodes.new)) }
         ensures advances { IfOk result (AdvancesPastValue p) }
         ensures refused { IfErr result (IsFault K.bytes route.entry) }
     {
@@ -96,7 +96,10 @@ impl<'de> Machine<'_, 'de> {
         let q = p.next_token(&self.input, route)?;
         if q.byte == container.closer() {
             nodes.push_header(container);
-            return Ok(Step::Read(q.with_value()));
+            return Ok(Step::Read(Progress {
+                len: q.len + 1,
+                ..q
+            }));
         }
         self.stack[p.depth] = StackState {
             header: nodes.len(),
@@ -121,11 +124,12 @@ impl<'de> Machine<'_, 'de> {
         nodes: &mut S,
         p: Progress,
     ) -> Result<Step, Fault>
-        requires { AtFirst K.bytes route self.old (S.node_room nodes.old) (S.held_nodes nodes.old) p }
+        requires { AtFirst K.bytes route self.old (S.node_room nodes.old)
+            (S.held_nodes nodes.old) p }
         ensures sink { SameSink S.node_room S.lender nodes.old nodes.new }
         ensures stack { length self.new.stack.now ≡ length self.old.stack.now }
-        ensures came { IfOk result
-            (HasCome K.bytes route.entry self.new (S.node_room nodes.new) (S.held_nodes nodes.new)) }
+        ensures came { IfOk result (HasCome K.bytes route.entry self.new
+            (S.node_room nodes.new) (S.held_nodes nodes.new)) }
         ensures advances { IfOk result (AdvancesPastValue p) }
         ensures refused { IfErr result (IsFault K.bytes route.entry) }
     {
@@ -140,7 +144,10 @@ impl<'de> Machine<'_, 'de> {
         } else {
             push_scalar::<K, S>(&mut self.input, nodes, p)?;
         }
-        Ok(Step::Read(p.with_value()))
+        Ok(Step::Read(Progress {
+            len: p.len + 1,
+            ..p
+        }))
     }
 
     // Reads on after a member of a container of this kind: a comma and the first token of the next
@@ -185,8 +192,8 @@ impl<'de> Machine<'_, 'de> {
         requires { HasCome K.bytes route self.now (S.node_room nodes.old)
             (S.held_nodes nodes.old) value }
         ensures sink { SameSink S.node_room S.lender nodes.old nodes.new }
-        ensures member { IfOk result
-            (IsAtMember K.bytes route.entry self.now (S.node_room nodes.new) (S.held_nodes nodes.new)) }
+        ensures member { IfOk result (IsAtMember K.bytes route.entry self.now
+            (S.node_room nodes.new) (S.held_nodes nodes.new)) }
         ensures further { IfOk result (IsFrom (reached value).read) }
         ensures refused { IfErr result (IsFault K.bytes route.entry) }
     {
@@ -224,8 +231,8 @@ impl<'de> Machine<'_, 'de> {
             (S.held_nodes nodes.old) first }
         ensures sink { SameSink S.node_room S.lender nodes.old nodes.new }
         ensures stack { length self.new.stack.now ≡ length self.old.stack.now }
-        ensures came { IfOk result
-            (HasCome K.bytes route.entry self.new (S.node_room nodes.new) (S.held_nodes nodes.new)) }
+        ensures came { IfOk result (HasCome K.bytes route.entry self.new
+            (S.node_room nodes.new) (S.held_nodes nodes.new)) }
         ensures further { IfOk result (λ value. first.read < (reached value).read) }
         ensures refused { IfErr result (IsFault K.bytes route.entry) }
     {
@@ -256,8 +263,8 @@ impl<'de> Machine<'_, 'de> {
             (S.held_nodes nodes.old) first kind }
         ensures sink { SameSink S.node_room S.lender nodes.old nodes.new }
         ensures stack { length self.new.stack.now ≡ length self.old.stack.now }
-        ensures came { IfOk result
-            (HasCome K.bytes route.entry self.new (S.node_room nodes.new) (S.held_nodes nodes.new)) }
+        ensures came { IfOk result (HasCome K.bytes route.entry self.new
+            (S.node_room nodes.new) (S.held_nodes nodes.new)) }
         ensures further { IfOk result (λ value. first.read < (reached value).read) }
         ensures refused { IfErr result (IsFault K.bytes route.entry) }
     {

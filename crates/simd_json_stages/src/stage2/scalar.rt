@@ -5,8 +5,8 @@
 //! `parse_short`, which is inlined, and others by `parse_numeral`. Unlike simdjson, a number with a
 //! fraction or an exponent is only checked, and its node holds the literal; integers have up to 128
 //! bits.
-ghost use Rattle.std.specs.Prelude.{◌≡◌, ◌<◌, ◌≤◌, ◌+◌, ◌^◌, ◌==◌, ◌&&◌, ◌||◌, ℕ, List, length, drop};
-ghost use Rattle.std.specs.Prelude.{[], ◌∷◌, ◌++◌, nat_eq, codes, true, false};
+ghost use Rattle.std.specs.Prelude.{◌≡◌, ◌<◌, ◌≤◌, ◌+◌, ◌^◌, ◌==◌, ◌&&◌, ◌||◌, ℕ, List, length};
+ghost use Rattle.std.specs.Prelude.{drop, [], ◌∷◌, ◌++◌, nat_eq, codes, true, false};
 ghost use Rattle.std.specs.Prelude.{MatchOption, MatchResult, IfErr, OnOk};
 ghost use Rattle.std.specs.List.{starts_with};
 ghost use Rattle.simd_json_parts.specs.Bytes.{is_terminator, byte_at, minus_sign};
@@ -16,7 +16,8 @@ ghost use Rattle.simd_json_parts.specs.Integers.{integer_node, max_magnitude_64}
 ghost use Rattle.simd_json_parts.specs.StringAt.{escape_fault};
 ghost use Rattle.simd_json_scalars.specs.NumberRead.{IsNumberAt};
 ghost use Rattle.simd_json_scalars.specs.NumeralRead.{IsIntegerLiteral};
-ghost use Rattle.simd_json_scalars.specs.declared.numberparse.Number.TheVariants.{Integer, Invalid};
+ghost use Rattle.simd_json_scalars.specs.declared.numberparse.Number.TheVariants.{Integer};
+ghost use Rattle.simd_json_scalars.specs.declared.numberparse.Number.TheVariants.{Invalid};
 ghost use Rattle.simd_json_stages.specs.Members.{AtString};
 ghost use Rattle.simd_json_stages.specs.Put.{is_boolean, AtNumber, AtOther, IsScalarPut, IsNoScalar};
 ghost use Rattle.simd_json_stages.specs.Put.{IsBadString, IsStringPut, SameSink};
@@ -271,7 +272,8 @@ fn push_integer<'de, S: NodeSink<'de>>(nodes: &mut S, first: u8, magnitude: u64)
     requires room { length (S.held_nodes nodes.old) < S.node_room nodes.old }
     ensures sink { SameSink S.node_room S.lender nodes.old nodes.new }
     ensures put { S.held_nodes nodes.new
-        ≡ S.held_nodes nodes.old ++ static_item (integer_node (first == minus_sign) magnitude) ∷ [] }
+        ≡ S.held_nodes nodes.old
+        ++ static_item (integer_node (first == minus_sign) magnitude) ∷ [] }
 {
     if first == b'-' {
         nodes.push_static(integer_node(true, magnitude));

@@ -40,18 +40,18 @@ returns-then-q-closer-clause-came g c =
     let first = c.requires.first in
     let next = c.in_ok-q.ensures.next in
     let put = c.push_header.ensures.put in
-    subst (AfterLast g.K.Original.bytes c.args.route c.args.self.now _ _) (sym c.with_value.ensures) (record {
+    record {
       on_route = first.on_route;
       capacities = subst (HasCapacity _ _ _) (sym c.push_header.ensures.room) first.capacities;
       progress = after-first first.on_route.positions _ _ _ put first.progress next;
       depth = omega (arith, ap (λ (q : Progress). q.depth) next.same, first.depth);
       after = step-empty c.args.container first.value first.progress.read.first put (omega arith) c.requires.bracket next
           (c.if-q-closer.true ∙ c.closer.ensures);
-    })
+    }
 
 pub returns-then-q-closer-clause-advances : goal.returns-then-q-closer-clause-advances
 returns-then-q-closer-clause-advances g c =
-    let same = c.with_value.ensures ∙ ap (λ (q : Progress). record q { len = q.len + 1 }) c.in_ok-q.ensures.next.same in
+    let same = c.in_ok-q.ensures.next.same in
     (omega (arith, ap (λ (q : Progress). q.read) same), ap (λ (q : Progress). q.depth) same, ap (λ (q : Progress). q.container) same)
 
 pub returns-clause-came : goal.returns-clause-came

@@ -52,8 +52,7 @@ returns-clause-came g c =
     let r = given.progress in
     let e = given.on_route.positions in
     let t = value-token e given.value in
-    subst (AfterLast g.K.Original.bytes c.args.route c.if-p-eq34.self _ _) (sym c.with_value.ensures)
-    (elim c.if-p-eq34.branch [
+    elim c.if-p-eq34.branch [
       | then-p-eq34+in_ok-push_string w ↦
           let put = w.in_ok-push_string.ensures.put in
           rw (w.self-is, w.nodes-is) record {
@@ -72,4 +71,4 @@ returns-clause-came g c =
             depth = given.depth;
             after = step-scalar given.value put;
           }
-    ])
+    ]
