@@ -18,10 +18,6 @@ use Rattle.simd_json_stages.specs.declared.stage2.stack.Container.{Container}
 use Rattle.simd_json_stages.specs.declared.stage2.stack.Container.TheVariants.{Array, Object}
 use Rattle.simd_json_stages.specs.declared.stage2.progress.Progress.{Progress}
 use Rattle.simd_json_stages.specs.declared.stage2.stack.StackState.{StackState}
-use Rattle.simd_json_stages.specs.declared.stage2.progress.Following.{Following}
-use Rattle.simd_json_stages.specs.declared.stage2.progress.Following.TheVariants as followings
-use Rattle.simd_json_stages.specs.declared.stage2.progress.Step.{Step}
-use Rattle.simd_json_stages.specs.declared.stage2.progress.Step.TheVariants.{Opened, Read}
 use Rattle.simd_json_stages.specs.declared.stage2.fault.Fault.{Fault}
 use Rattle.simd_json_stages.specs.declared.stage2.fault.FaultKind.{FaultKind}
 use Rattle.simd_json_stages.specs.declared.stage2.fault.FaultKind.TheVariants as kinds
@@ -178,16 +174,6 @@ module _ (b ps : List ℕ) (limit : ℕ) where
 
   abbrev pub AtMember : FaultKind → List StackState → List Item → Progress → Type 0
   AtMember kind stack nodes p = AtMemberOf p.container (error_type kind) stack nodes p
-
-  -- what a value came to
-  abbrev pub AtFirstOrAfter : List StackState → List Item → Step → Type 0
-  AtFirstOrAfter stack nodes (Opened p) = AtMember kinds.ExpectedObjectContent stack nodes p
-  AtFirstOrAfter stack nodes (Read p) = AfterValue stack nodes p
-
-  -- what follows a member
-  abbrev pub AtNextOrAfter : List StackState → List Item → Following → Type 0
-  AtNextOrAfter stack nodes (followings.Next p) = AtMember kinds.ExpectedObjectKey stack nodes p
-  AtNextOrAfter stack nodes (followings.Closed p) = AfterValue stack nodes p
 
   -- The fault is the descent's.
   abbrev pub IsFirstFault : Fault → Type 0

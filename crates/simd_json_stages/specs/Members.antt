@@ -3,9 +3,9 @@ use Rattle.std.specs.Prelude.{◌≡◌, ◌≤◌, ◌<◌, ◌+◌, ◌*◌, �
 use Rattle.simd_json_parts.specs.Bytes.{quote}
 use Rattle.simd_json_parts.specs.Tokens.{form_at, tokens}
 use Rattle.simd_json_parts.specs.Nodes.{Item}
-use Rattle.simd_json_stages.specs.Building.{closer, AtValue, AtName, AfterValue, AtFirstOrAfter, IsBuilt, IsFirstFault}
+use Rattle.simd_json_stages.specs.Building.{closer, AtValue, AtName, AfterValue, IsBuilt, IsFirstFault}
 use Rattle.simd_json_stages.specs.NodesEnough.{nodes_enough}
-use Rattle.simd_json_stages.specs.Progresses.{IsOnRoute, IsRead, IsBefore, IsAfter, IsWithin, reached}
+use Rattle.simd_json_stages.specs.Progresses.{IsOnRoute, IsRead, IsBefore, IsAfter}
 use Rattle.simd_json_stages.specs.Refusals.{error_type}
 use Rattle.simd_json_stages.specs.Inputs.{Reads}
 use Rattle.simd_json_stages.specs.declared.stage2.machine.Machine.{Machine}
@@ -15,6 +15,9 @@ use Rattle.simd_json_stages.specs.declared.stage2.stack.Container.TheVariants.{A
 use Rattle.simd_json_stages.specs.declared.stage2.stack.StackState.{StackState}
 use Rattle.simd_json_stages.specs.declared.stage2.fault.Fault.{Fault}
 use Rattle.simd_json_stages.specs.declared.stage2.fault.FaultKind.{FaultKind}
+use Rattle.simd_json_stages.specs.declared.stage2.fault.FaultKind.TheVariants as kinds
+use Rattle.simd_json_stages.specs.declared.stage2.progress.Following.{Following}
+use Rattle.simd_json_stages.specs.declared.stage2.progress.Following.TheVariants as followings
 use Rattle.simd_json_stages.specs.declared.stage2.progress.NextMember.{NextMember}
 use Rattle.simd_json_stages.specs.declared.stage2.progress.NextMember.TheVariants.{Next, End}
 use Rattle.simd_json_stages.specs.declared.stage2.progress.Step.{Step}
@@ -97,19 +100,6 @@ module _ (b : List ℕ) (r : Route) (m : Machine) (capacity : ℕ) (nodes : List
     pub inside : 0 < p.depth
     pub container : c ≡ p.container
 
-  abbrev pub IsInside : Step → Type 0
-  IsInside (Opened p) = 0 < p.depth
-  IsInside (Read p) = Unit {0}
-
-  -- in a new container, or past a value
-  pub record HasCome (v : Step) : Type 0 where
-    pub on_route : IsOnRoute r.ends_closed b r.indexes.now
-    pub capacities : HasCapacity r.indexes.now r.max_depth m.stack.now capacity
-    pub within : IsWithin b r.indexes.now (Reads b m.input) (length nodes) v
-    pub depth : (reached v).depth ≤ r.max_depth
-    pub inside : IsInside v
-    pub step : AtFirstOrAfter b r.indexes.now r.max_depth m.stack.now nodes v
-
   -- at a member of a container of this kind
   abbrev pub IsAtMemberOf : Container → Progress → FaultKind → Type 0
   IsAtMemberOf Array p kind = AtElement p
@@ -119,6 +109,20 @@ module _ (b : List ℕ) (r : Route) (m : Machine) (capacity : ℕ) (nodes : List
   abbrev pub IsAtMember : NextMember → Type 0
   IsAtMember (Next p kind) = IsAtMemberOf p.container p kind
   IsAtMember End = (2 * length nodes ≤ length r.indexes.now + 1) × IsBuilt b r.indexes.now r.max_depth nodes
+
+  -- in a new container, or past a value
+  abbrev pub HasCome : Step → Type 0
+  HasCome (Opened p) = IsAtMemberOf p.container p kinds.ExpectedObjectContent
+  HasCome (Read p) = AfterLast p
+
+  -- at the next member, or past the container
+  abbrev pub HasFollowed : Following → Type 0
+  HasFollowed (followings.Next p) = IsAtMemberOf p.container p kinds.ExpectedObjectKey
+  HasFollowed (followings.Closed p) = AfterLast p
+
+-- the fault is the descent's
+abbrev pub IsFault : List ℕ → Route → Fault → Type 0
+IsFault b r f = IsFirstFault b r.indexes.now r.max_depth f
 
 -- The nodes of the whole document are written, or the fault is the descent's.
 pub record IsTape (b ps : List ℕ) (limit : ℕ) (nodes : List Item) (r : Result (Unit {0}) Fault) : Type 0 where

@@ -57,24 +57,16 @@ pub record IsAfter (b ps : List ℕ) (reads : ℕ → Type 0) (written : ℕ) (p
   pub len : p.len ≤ written
   pub input : p.read < length ps → reads (slice_index ps p.read)
 
-abbrev pub IsWithin : List ℕ → List ℕ → (ℕ → Type 0) → ℕ → Step → Type 0
-IsWithin b ps reads written (Opened p) = IsBefore b ps reads written p
-IsWithin b ps reads written (Read p) = IsAfter b ps reads written p
-
-abbrev pub IsWithinNext : List ℕ → List ℕ → (ℕ → Type 0) → ℕ → Following → Type 0
-IsWithinNext b ps reads written (followings.Next p) = IsBefore b ps reads written p
-IsWithinNext b ps reads written (followings.Closed p) = IsAfter b ps reads written p
-
 abbrev pub reached : Step → Progress
 reached (Opened p) = p
 reached (Read p) = p
 
 -- tokens are read, and one more container is open, or none
-abbrev pub AdvancesPastValue : ℕ → Progress → Step → Type 0
-AdvancesPastValue limit p (Opened q) = (p.read < q.read) × (p.at ≤ q.at) × (q.depth ≤ limit) × (0 < q.depth)
-AdvancesPastValue limit p (Read q) = (p.read ≤ q.read) × (p.at ≤ q.at) × (q.depth ≡ p.depth) × (q.container ≡ p.container)
+abbrev pub AdvancesPastValue : Progress → Step → Type 0
+AdvancesPastValue p (Opened q) = p.read < q.read
+AdvancesPastValue p (Read q) = (p.read ≤ q.read) × (q.depth ≡ p.depth) × (q.container ≡ p.container)
 
 -- tokens are read, and the container stays open or is closed
 abbrev pub AdvancesPastMember : Progress → Following → Type 0
-AdvancesPastMember p (followings.Next q) = (p.read < q.read) × (p.at ≤ q.at) × (q.depth ≡ p.depth) × (q.container ≡ p.container)
-AdvancesPastMember p (followings.Closed q) = (p.read < q.read) × (p.at ≤ q.at) × (q.depth ≤ p.depth)
+AdvancesPastMember p (followings.Next q) = (p.read < q.read) × (q.container ≡ p.container)
+AdvancesPastMember p (followings.Closed q) = p.read < q.read

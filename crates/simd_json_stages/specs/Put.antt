@@ -16,6 +16,10 @@ use Rattle.simd_json_stages.specs.declared.stage2.fault.FaultKind.TheVariants as
 use Rattle.simd_json_stages.specs.declared.stage2.progress.Progress.{Progress}
 use Rattle.simd_json_stages.specs.declared.stage2.input.Input.{Input}
 
+-- what no call changes of a sink: its room, and what it borrows
+abbrev pub SameSink : {Sink Lender : Type 0} → (Sink → ℕ) → (Sink → Lender) → Sink → Sink → Type 0
+SameSink room lender old new = (room new ≡ room old) × (lender new ≡ lender old)
+
 -- at the first byte of a token, with room for a node
 pub record AtScalar (b : List ℕ) (t : Input) (capacity written : ℕ) (p : Progress) : Type 0 where
   pub input : Reads b t p.at

@@ -18,8 +18,8 @@
 //! ```
 //!
 //! Beside `machine`, `progress` holds how far it is, `stack` the open containers, `input` what it
-//! reads, `nodes` what it writes to, `string` and `scalar` the values of one node, and `fault` how
-//! it rejects a token.
+//! reads, `nodes` what it writes to, `scalar` the values of one node, and `fault` how it rejects a
+//! token.
 //!
 //! Where it differs from simdjson: nodes go to a sink of the caller's choice, not to words of a
 //! tape; strings are not copied into a buffer, but shared with the input, and decoded in place if
@@ -42,7 +42,6 @@ mod nodes;
 mod progress;
 mod scalar;
 mod stack;
-mod string;
 
 use fault::Fault;
 use input::Input;
@@ -100,7 +99,8 @@ pub fn build_tape<'de, K: Original, S: NodeSink<'de>>(
 ) -> Result<()>
     requires input { input.old ≡ K.bytes }
     requires scanned { IsScanOf K.bytes scanned }
-    requires room { nodes_enough (length scanned.structural_indexes.now) max_depth ≤ S.node_room sink.old }
+    requires room { nodes_enough (length scanned.structural_indexes.now) max_depth
+        ≤ S.node_room sink.old }
     requires stack { min (length scanned.structural_indexes.now) max_depth
         ≤ max (length stack.old) (length few.old) }
     requires empty { S.held_nodes sink.old ≡ [] }

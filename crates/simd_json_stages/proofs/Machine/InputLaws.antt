@@ -12,12 +12,11 @@ use Rattle.simd_json_stages.specs.EscapesAhead.{AreAhead, PlainFrom}
 use Rattle.simd_json_stages.specs.Inputs.{IsLent, IsStringBefore, Reads}
 use Rattle.simd_json_stages.specs.declared.stage2.input.Escapes.{Escapes}
 use Rattle.simd_json_stages.specs.declared.stage2.input.Input.{Input}
-use Rattle.simd_json_stages.proofs.Machine.Bounds.{IsKept}
 use Rattle.simd_json_stages.proofs.Machine.BetweenBlocks.{plain-to_first}
 use Rattle.simd_json_stages.proofs.Machine.EscapesPassed.{ahead-later}
 
 -- what can be read from one index on can be from a later one
-pub reads-kept : (b : List ℕ) (t : Input) → IsKept (Reads b t)
+pub reads-kept : (b : List ℕ) (t : Input) (i j : ℕ) → Reads b t i → i ≤ j → Reads b t j
 reads-kept b t i j h l =
     record {
       fits = h.fits;

@@ -16,6 +16,8 @@ use Rattle.simd_json_stages.specs.Put.{begins_value}
 use Rattle.simd_json_stages.specs.Continued.{Open, in_array, in_object, elements_onto, members_onto, after_value, at_value, at_array}
 use Rattle.simd_json_stages.specs.Continued.{at_object, at_name}
 use Rattle.simd_json_parts.specs.declared.error.Error.{Error}
+use Rattle.simd_json_stages.specs.declared.stage2.stack.Container.{Container}
+use Rattle.simd_json_stages.specs.declared.stage2.stack.Container.TheVariants.{Array, Object}
 use Rattle.simd_json_parts.proofs.Descent.ArrayTurns.{elements_by-turn}
 use Rattle.simd_json_parts.proofs.Descent.ObjectTurns.{members_by-turn}
 use Rattle.simd_json_parts.proofs.Descent.Shrinking.{value_from-takes}
@@ -70,6 +72,18 @@ abbrev pub is_name_separator : Form → Bool
 is_name_separator name_separator = true
 is_name_separator _ = false
 
+abbrev pub opening_form : Container → Form
+opening_form Array = begin_array
+opening_form Object = begin_object
+
+abbrev pub ending_form : Container → Form
+ending_form Array = end_array
+ending_form Object = end_object
+
+abbrev pub empty_of : Container → Document
+empty_of Array = array no_elements
+empty_of Object = object no_members
+
 module _ (b : List ℕ) (missing : Error) (limit : ℕ) where
   -- with nothing open it is the descent
   pub at_value-root : (ts : List Token) → at_value b missing limit [] ts ≡ value_from b missing (limit - 0) ts
@@ -100,46 +114,61 @@ module _ (b : List ℕ) (missing : Error) (limit : ℕ) where
       (sym (onto-append ds d r.0)))
       ∙ elements_in (ds ++ d ∷ []) outer ts
 
-  -- a closing bracket after an element
-  pub after_value-close : (ds : List Document) (outer : List Open) (d : Document) (t : Token) (ts : List Token) → t.form ≡ end_array
-      → after_value b missing limit (in_array ds ∷ outer) d (t ∷ ts) ≡ after_value b missing limit outer
-      (array (elements_onto (ds ++ d ∷ []) no_elements)) ts
-  unfolding after_value
-  after_value-close ds outer d t ts is =
-      let v : Reads Document = value_from b missing (limit - suc (length outer)) in
-      ap (λ form. after_element b missing t form ts (elements_by b missing v) >>= λ r. after_value b missing limit outer
-      (array (elements_onto ds (element d r.0))) r.1) is
-      ∙ ap (λ es. after_value b missing limit outer (array es) ts) (sym (onto-append ds d no_elements))
+  -- after an opening bracket
+  abbrev pub at_container : Container → List Open → List Token → Result (Document × List Token) Error
+  at_container Array = at_array b missing limit
+  at_container Object = at_object b missing limit
 
   -- an opening bracket, where one more container may be open
-  pub at_value-open : (outer : List Open) (t : Token) (ts : List Token) → length outer < limit → t.form ≡ begin_array
-      → at_value b missing limit outer (t ∷ ts) ≡ at_array b missing limit outer ts
+  pub container-open : (c : Container) (outer : List Open) (t : Token) (ts : List Token) → length outer < limit
+      → t.form ≡ opening_form c → at_value b missing limit outer (t ∷ ts) ≡ at_container c outer ts
   unfolding value_from
-  at_value-open outer t ts l is =
-      let capacity : ℕ = limit - suc (length outer) in
+  container-open c outer t ts l is =
       let one_less : limit - length outer ≡ suc capacity = omega arith in
       ap (λ n. value_from b missing n (t ∷ ts) >>= λ r. after_value b missing limit outer r.0 r.1) one_less
       ∙ ap (λ form. value_of b missing (λ _. array_from b missing (value_from b missing capacity))
       (λ _. object_from b missing (value_from b missing capacity)) t form ts >>= λ r. after_value b missing limit outer r.0 r.1) is
-      ∙ bind-bind (array_from b missing (value_from b missing capacity) ts) _ _
+      ∙ go c
+    where
+      capacity : ℕ
+      capacity = limit - suc (length outer)
 
-  -- after an opening bracket: its closing bracket, or an element
-  pub at_array-close : (outer : List Open) (t : Token) (ts : List Token) → t.form ≡ end_array
-      → at_array b missing limit outer (t ∷ ts) ≡ after_value b missing limit outer (array no_elements) ts
-  at_array-close outer t ts is =
-      let v : Reads Document = value_from b missing (limit - suc (length outer)) in
-      ap (λ form. first_element b missing form (t ∷ ts) ts (elements_by b missing v) >>= λ r. after_value b missing limit outer
-      (array r.0) r.1) is
+      go : (c : Container) → (value_of b missing (λ _. array_from b missing (value_from b missing capacity))
+          (λ _. object_from b missing (value_from b missing capacity)) t (opening_form c) ts
+          >>= λ r. after_value b missing limit outer r.0 r.1) ≡ at_container c outer ts
+      go Array = bind-bind (array_from b missing (value_from b missing capacity) ts) _ _
+      go Object = bind-bind (object_from b missing (value_from b missing capacity) ts) _ _
 
-  -- an opening bracket, where no more containers may be open
-  pub at_value-too_deep : (outer : List Open) (t : Token) (ts : List Token) → limit ≤ length outer → t.form ≡ begin_array
-      → at_value b missing limit outer (t ∷ ts) ≡ Err (fault_at b DepthLimitExceeded t.index)
+  -- where no more containers may be open
+  pub container-too_deep : (c : Container) (outer : List Open) (t : Token) (ts : List Token) → limit ≤ length outer
+      → t.form ≡ opening_form c → at_value b missing limit outer (t ∷ ts) ≡ Err (fault_at b DepthLimitExceeded t.index)
   unfolding value_from
-  at_value-too_deep outer t ts l is =
+  container-too_deep c outer t ts l is =
       let none_left : limit - length outer ≡ 0 = omega arith in
       ap (λ n. value_from b missing n (t ∷ ts) >>= λ r. after_value b missing limit outer r.0 r.1) none_left
       ∙ ap (λ form. value_of b missing (too_deep b missing) (too_deep b missing)
-      t form ts >>= λ r. after_value b missing limit outer r.0 r.1) is
+      t form ts >>= λ r. after_value b missing limit outer r.0 r.1) is ∙ go c
+    where
+      go : (c : Container) → (value_of b missing (too_deep b missing) (too_deep b missing) t (opening_form c) ts
+          >>= λ r. after_value b missing limit outer r.0 r.1) ≡ Err (fault_at b DepthLimitExceeded t.index)
+      go Array = refl
+      go Object = refl
+
+  pub container-missing : (c : Container) (outer : List Open) → at_container c outer [] ≡ Err missing
+  container-missing Array outer = refl
+  container-missing Object outer = refl
+
+  -- its closing bracket, and so an empty container
+  pub container-close : (c : Container) (outer : List Open) (t : Token) (ts : List Token) → t.form ≡ ending_form c
+      → at_container c outer (t ∷ ts) ≡ after_value b missing limit outer (empty_of c) ts
+  container-close Array outer t ts is =
+      let v : Reads Document = value_from b missing (limit - suc (length outer)) in
+      ap (λ form. first_element b missing form (t ∷ ts) ts (elements_by b missing v) >>= λ r. after_value b missing limit outer
+      (array r.0) r.1) is
+  container-close Object outer t ts is =
+      let v : Reads Document = value_from b missing (limit - suc (length outer)) in
+      ap (λ form. first_member b missing form (t ∷ ts) ts (members_by b missing v ExpectedObjectContent)
+      >>= λ r. after_value b missing limit outer (object r.0) r.1) is
 
   -- after an opening bracket: the first element
   pub at_array-element : (outer : List Open) (t : Token) (ts : List Token) (form : Form) → t.form ≡ form → is_end_array form ≡ false
@@ -156,19 +185,34 @@ module _ (b : List ℕ) (missing : Error) (limit : ℕ) where
       not_first end_array h = cc
       not_first _ h = refl
 
-  -- a scalar
+  -- a token that opens nothing
+  at_value-plain : (open_containers : List Open) (t : Token) (ts : List Token) (form : Form) (r : Result (Document × List Token) Error)
+      → t.form ≡ form
+      → ((arrays : Token → Reads Elements) (objects : Token → Reads Members) → value_of b missing arrays objects t form ts ≡ r)
+      → at_value b missing limit open_containers (t ∷ ts) ≡ (r >>= λ r. after_value b missing limit open_containers r.0 r.1)
+  unfolding value_from
+  at_value-plain open_containers t ts form r is plain = go (limit - length open_containers)
+    where
+      read : (arrays : Token → Reads Elements) (objects : Token → Reads Members)
+          → (value_of b missing arrays objects t t.form ts >>= λ r. after_value b missing limit open_containers r.0 r.1)
+          ≡ (r >>= λ r. after_value b missing limit open_containers r.0 r.1)
+      read arrays objects = ap (λ r. r >>= λ r. after_value b missing limit open_containers r.0 r.1)
+          (ap (λ form. value_of b missing arrays objects t form ts) is ∙ plain arrays objects)
+
+      go : (capacity : ℕ) → (value_from b missing capacity (t ∷ ts) >>= λ r. after_value b missing limit open_containers r.0 r.1)
+          ≡ (r >>= λ r. after_value b missing limit open_containers r.0 r.1)
+      go zero = read (too_deep b missing) (too_deep b missing)
+      go (suc capacity) = read (λ _. array_from b missing (value_from b missing capacity))
+          (λ _. object_from b missing (value_from b missing capacity))
+
   pub at_value-scalar : (open_containers : List Open) (t : Token) (ts : List Token) (d : Document) (end : ℕ) → t.form ≡ scalar (Ok (d, end))
       → at_value b missing limit open_containers (t ∷ ts) ≡ after_value b missing limit open_containers d ts
-  unfolding value_from
-  at_value-scalar open_containers t ts d end is = go (limit - length open_containers)
-    where
-      go : (capacity : ℕ) → (value_from b missing capacity (t ∷ ts) >>= λ r. after_value b missing limit open_containers r.0 r.1)
-          ≡ after_value b missing limit open_containers d ts
-      go zero = ap (λ form. value_of b missing (too_deep b missing) (too_deep b missing)
-          t form ts >>= λ r. after_value b missing limit open_containers r.0 r.1) is
-      go (suc capacity) = ap (λ form. value_of b missing (λ _. array_from b missing (value_from b missing capacity))
-          (λ _. object_from b missing (value_from b missing capacity))
-          t form ts >>= λ r. after_value b missing limit open_containers r.0 r.1) is
+  at_value-scalar open_containers t ts d end is = at_value-plain open_containers t ts _ (Ok (d, ts)) is (λ arrays objects. refl)
+
+  pub at_value-string : (open_containers : List Open) (t : Token) (ts : List Token) (s : List ℕ) (end : ℕ)
+      → t.form ≡ string_token (Ok (s, end))
+      → at_value b missing limit open_containers (t ∷ ts) ≡ after_value b missing limit open_containers (string s) ts
+  at_value-string open_containers t ts s end is = at_value-plain open_containers t ts _ (Ok (string s, ts)) is (λ arrays objects. refl)
 
   -- with nothing open, the value is the whole
   pub after_value-root : (d : Document) (ts : List Token) → after_value b missing limit [] d ts ≡ Ok (d, ts)
@@ -185,40 +229,18 @@ module _ (b : List ℕ) (missing : Error) (limit : ℕ) where
       go zero = refl
       go (suc capacity) = refl
 
-  pub at_array-missing : (outer : List Open) → at_array b missing limit outer [] ≡ Err missing
-  at_array-missing outer = refl
-
-  pub after_value-other : (ds : List Document) (outer : List Open) (d : Document) (t : Token) (ts : List Token) (form : Form)
-      → t.form ≡ form → ends_element form ≡ false
-      → after_value b missing limit (in_array ds ∷ outer) d (t ∷ ts) ≡ Err (fault_at b ExpectedArrayContent t.index)
-  unfolding after_value
-  after_value-other ds outer d t ts form is other =
-      ap (λ r. r >>= λ r. after_value b missing limit outer (array (elements_onto ds (element d r.0))) r.1)
-      (ap (λ form. after_element b missing t form ts (elements_by b missing
-      (value_from b missing (limit - suc (length outer))))) is ∙ refused form other)
-    where
-      refused : (form : Form) → ends_element form ≡ false → after_element b missing t form ts
-          (elements_by b missing (value_from b missing (limit - suc (length outer)))) ≡ Err (fault_at b ExpectedArrayContent t.index)
-      refused value_separator h = cc
-      refused end_array h = cc
-      refused _ h = refl
-
   pub at_value-fault : (open_containers : List Open) (t : Token) (ts : List Token) (e : Error) → t.form ≡ scalar (Err e)
       → at_value b missing limit open_containers (t ∷ ts) ≡ Err e
-  unfolding value_from
-  at_value-fault open_containers t ts e is = go (limit - length open_containers)
-    where
-      go : (capacity : ℕ) → (value_from b missing capacity (t ∷ ts) >>= λ r. after_value b missing limit open_containers r.0 r.1) ≡ Err e
-      go zero = ap (λ form. value_of b missing (too_deep b missing) (too_deep b missing)
-          t form ts >>= λ r. after_value b missing limit open_containers r.0 r.1) is
-      go (suc capacity) = ap (λ form. value_of b missing (λ _. array_from b missing (value_from b missing capacity))
-          (λ _. object_from b missing (value_from b missing capacity))
-          t form ts >>= λ r. after_value b missing limit open_containers r.0 r.1) is
+  at_value-fault open_containers t ts e is = at_value-plain open_containers t ts _ (Err e) is (λ arrays objects. refl)
+
+  pub at_value-string_fault : (open_containers : List Open) (t : Token) (ts : List Token) (e : Error)
+      → t.form ≡ string_token (Err e) → at_value b missing limit open_containers (t ∷ ts) ≡ Err e
+  at_value-string_fault open_containers t ts e is = at_value-plain open_containers t ts _ (Err e) is (λ arrays objects. refl)
 
   pub at_value-unexpected : (open_containers : List Open) (t : Token) (ts : List Token) (form : Form) → t.form ≡ form
       → begins_value form ≡ false → at_value b missing limit open_containers (t ∷ ts) ≡ Err (fault_at b InternalError t.index)
-  unfolding value_from
-  at_value-unexpected open_containers t ts form is none = go (limit - length open_containers)
+  at_value-unexpected open_containers t ts form is none = at_value-plain open_containers t ts form (Err (fault_at b InternalError t.index)) is
+      (λ arrays objects. refused arrays objects form none)
     where
       refused : (arrays : Token → Reads Elements) (objects : Token → Reads Members) (form : Form) → begins_value form ≡ false
           → value_of b missing arrays objects t form ts ≡ Err (fault_at b InternalError t.index)
@@ -227,18 +249,6 @@ module _ (b : List ℕ) (missing : Error) (limit : ℕ) where
       refused arrays objects (string_token read) h = cc
       refused arrays objects (scalar read) h = cc
       refused arrays objects _ h = refl
-
-      go : (capacity : ℕ) → (value_from b missing capacity (t ∷ ts) >>= λ r. after_value b missing limit open_containers r.0 r.1)
-          ≡ Err (fault_at b InternalError t.index)
-      go zero = ap (λ r. r >>= λ r. after_value b missing limit open_containers r.0 r.1)
-          (ap (λ form. value_of b missing (too_deep b missing) (too_deep b missing) t form ts) is
-          ∙ refused (too_deep b missing) (too_deep b missing) form none)
-      go (suc capacity) =
-          ap (λ r. r >>= λ r. after_value b missing limit open_containers r.0 r.1)
-          (ap (λ form. value_of b missing (λ _. array_from b missing (value_from b missing capacity))
-          (λ _. object_from b missing (value_from b missing capacity)) t form ts) is
-          ∙ refused (λ _. array_from b missing (value_from b missing capacity))
-          (λ _. object_from b missing (value_from b missing capacity)) form none)
 
 -- ---- either container
 
@@ -260,7 +270,11 @@ module _ (b : List ℕ) (missing : Error) (limit : ℕ) where
   pub after_value-closed : (o : Open) (outer : List Open) (d : Document) (t : Token) (ts : List Token) → t.form ≡ closing_form o
       → after_value b missing limit (o ∷ outer) d (t ∷ ts) ≡ after_value b missing limit outer (closed_with o d) ts
   unfolding after_value
-  after_value-closed (in_array ds) outer d t ts is = after_value-close b missing limit ds outer d t ts is
+  after_value-closed (in_array ds) outer d t ts is =
+      let v : Reads Document = value_from b missing (limit - suc (length outer)) in
+      ap (λ form. after_element b missing t form ts (elements_by b missing v) >>= λ r. after_value b missing limit outer
+      (array (elements_onto ds (element d r.0))) r.1) is
+      ∙ ap (λ es. after_value b missing limit outer (array es) ts) (sym (onto-append ds d no_elements))
   after_value-closed (in_object ms name) outer d t ts is =
       let v : Reads Document = value_from b missing (limit - suc (length outer)) in
       ap (λ form. after_member b missing t form ts (members_by b missing v ExpectedObjectKey)
@@ -276,7 +290,16 @@ module _ (b : List ℕ) (missing : Error) (limit : ℕ) where
       → t.form ≡ form → ends_member_of o form ≡ false
       → after_value b missing limit (o ∷ outer) d (t ∷ ts) ≡ Err (fault_at b (content_error o) t.index)
   unfolding after_value
-  after_value-unexpected (in_array ds) outer d t ts form is other = after_value-other b missing limit ds outer d t ts form is other
+  after_value-unexpected (in_array ds) outer d t ts form is other =
+      ap (λ r. r >>= λ r. after_value b missing limit outer (array (elements_onto ds (element d r.0))) r.1)
+      (ap (λ form. after_element b missing t form ts (elements_by b missing
+      (value_from b missing (limit - suc (length outer))))) is ∙ refused form other)
+    where
+      refused : (form : Form) → ends_element form ≡ false → after_element b missing t form ts
+          (elements_by b missing (value_from b missing (limit - suc (length outer)))) ≡ Err (fault_at b ExpectedArrayContent t.index)
+      refused value_separator h = cc
+      refused end_array h = cc
+      refused _ h = refl
   after_value-unexpected (in_object ms name) outer d t ts form is other =
       ap (λ r. r >>= λ r. after_value b missing limit outer (object (members_onto ms (member name d r.0))) r.1)
       (ap (λ form. after_member b missing t form ts (members_by b missing (value_from b missing (limit - suc (length outer)))
@@ -290,36 +313,6 @@ module _ (b : List ℕ) (missing : Error) (limit : ℕ) where
       refused _ h = refl
 
   -- ---- objects
-
-  pub at_value-open_object : (outer : List Open) (t : Token) (ts : List Token) → length outer < limit → t.form ≡ begin_object
-      → at_value b missing limit outer (t ∷ ts) ≡ at_object b missing limit outer ts
-  unfolding value_from
-  at_value-open_object outer t ts l is =
-      let capacity : ℕ = limit - suc (length outer) in
-      let one_less : limit - length outer ≡ suc capacity = omega arith in
-      ap (λ n. value_from b missing n (t ∷ ts) >>= λ r. after_value b missing limit outer r.0 r.1) one_less
-      ∙ ap (λ form. value_of b missing (λ _. array_from b missing (value_from b missing capacity))
-      (λ _. object_from b missing (value_from b missing capacity)) t form ts >>= λ r. after_value b missing limit outer r.0 r.1) is
-      ∙ bind-bind (object_from b missing (value_from b missing capacity) ts) _ _
-
-  pub at_value-object_too_deep : (outer : List Open) (t : Token) (ts : List Token) → limit ≤ length outer → t.form ≡ begin_object
-      → at_value b missing limit outer (t ∷ ts) ≡ Err (fault_at b DepthLimitExceeded t.index)
-  unfolding value_from
-  at_value-object_too_deep outer t ts l is =
-      let none_left : limit - length outer ≡ 0 = omega arith in
-      ap (λ n. value_from b missing n (t ∷ ts) >>= λ r. after_value b missing limit outer r.0 r.1) none_left
-      ∙ ap (λ form. value_of b missing (too_deep b missing) (too_deep b missing)
-      t form ts >>= λ r. after_value b missing limit outer r.0 r.1) is
-
-  pub at_object-close : (outer : List Open) (t : Token) (ts : List Token) → t.form ≡ end_object
-      → at_object b missing limit outer (t ∷ ts) ≡ after_value b missing limit outer (object no_members) ts
-  at_object-close outer t ts is =
-      let v : Reads Document = value_from b missing (limit - suc (length outer)) in
-      ap (λ form. first_member b missing form (t ∷ ts) ts (members_by b missing v ExpectedObjectContent)
-      >>= λ r. after_value b missing limit outer (object r.0) r.1) is
-
-  pub at_object-missing : (outer : List Open) → at_object b missing limit outer [] ≡ Err missing
-  at_object-missing outer = refl
 
   pub at_object-name : (outer : List Open) (t : Token) (ts : List Token) (form : Form) → t.form ≡ form → is_end_object form ≡ false
       → at_object b missing limit outer (t ∷ ts) ≡ at_name b missing limit ExpectedObjectContent [] outer (t ∷ ts)
@@ -418,31 +411,3 @@ module _ (b : List ℕ) (missing : Error) (limit : ℕ) where
       >>= λ r. after_value b missing limit outer (object (members_onto ms (member name d r.0))) r.1) is
       ∙ bind_same (members_by b missing v ExpectedObjectKey ts) _ _
       (λ r. ap (λ members. after_value b missing limit outer (object members) r.1) (sym (members_onto-append ms (name, d) r.0)))
-
-  -- ---- strings
-
-  pub at_value-string : (open_containers : List Open) (t : Token) (ts : List Token) (s : List ℕ) (end : ℕ)
-      → t.form ≡ string_token (Ok (s, end))
-      → at_value b missing limit open_containers (t ∷ ts) ≡ after_value b missing limit open_containers (string s) ts
-  unfolding value_from
-  at_value-string open_containers t ts s end is = go (limit - length open_containers)
-    where
-      go : (capacity : ℕ) → (value_from b missing capacity (t ∷ ts) >>= λ r. after_value b missing limit open_containers r.0 r.1)
-          ≡ after_value b missing limit open_containers (string s) ts
-      go zero = ap (λ form. value_of b missing (too_deep b missing) (too_deep b missing)
-          t form ts >>= λ r. after_value b missing limit open_containers r.0 r.1) is
-      go (suc capacity) = ap (λ form. value_of b missing (λ _. array_from b missing (value_from b missing capacity))
-          (λ _. object_from b missing (value_from b missing capacity))
-          t form ts >>= λ r. after_value b missing limit open_containers r.0 r.1) is
-
-  pub at_value-string_fault : (open_containers : List Open) (t : Token) (ts : List Token) (e : Error)
-      → t.form ≡ string_token (Err e) → at_value b missing limit open_containers (t ∷ ts) ≡ Err e
-  unfolding value_from
-  at_value-string_fault open_containers t ts e is = go (limit - length open_containers)
-    where
-      go : (capacity : ℕ) → (value_from b missing capacity (t ∷ ts) >>= λ r. after_value b missing limit open_containers r.0 r.1) ≡ Err e
-      go zero = ap (λ form. value_of b missing (too_deep b missing) (too_deep b missing)
-          t form ts >>= λ r. after_value b missing limit open_containers r.0 r.1) is
-      go (suc capacity) = ap (λ form. value_of b missing (λ _. array_from b missing (value_from b missing capacity))
-          (λ _. object_from b missing (value_from b missing capacity))
-          t form ts >>= λ r. after_value b missing limit open_containers r.0 r.1) is

@@ -11,7 +11,7 @@ use Rattle.simd_json_parts.specs.Tokens.{scalar, form_at}
 use Rattle.simd_json_stages.specs.Put.{is_boolean, IsNoScalar}
 use Rattle.simd_json_stages.specs.Refusals.{refused_kind}
 use Rattle.simd_json_stages.specs.declared.stage2.fault.Fault.{Fault}
-use Rattle.simd_json_stages.proofs.Tokens.ScalarLaws.{byte_at-after, form_at-true, form_at-false, form_at-no_true, form_at-no_false}
+use Rattle.simd_json_stages.proofs.Tokens.ScalarLaws.{byte_at-after, word_true, word_false, form_at-word, form_at-true, form_at-false}
 use Rattle.simd_json_stages.proofs.Tokens.ScalarLaws.{form_at-no_scalar, refused_kind-other}
 use Rattle.simd_json_stages.proofs.Machine.ScalarPut.{atom-refused, none-refused}
 
@@ -130,10 +130,10 @@ pub no_boolean : (b rest : List ℕ) (i c : ℕ) → drop i b ≡ rest → c ≡
 no_boolean b rest i c e first neither null number f same string array object =
     elim (cases_Bool (nat_eq c 116)) [
       | inl t ↦ let is : c ≡ 116 = eqb-true c 116 t in
-          atom-refused b i c f same first (rw is (form_at-no_true b rest i e (sym first ∙ is) neither.0))
+          atom-refused b i c f same first (rw is (form_at-word word_true false b rest i e (sym first ∙ is) neither.0))
       | inr t ↦ elim (cases_Bool (nat_eq c 102)) [
         | inl u ↦ let is : c ≡ 102 = eqb-true c 102 u in
-            atom-refused b i c f same first (rw is (form_at-no_false b rest i e (sym first ∙ is) neither.1))
+            atom-refused b i c f same first (rw is (form_at-word word_false false b rest i e (sym first ∙ is) neither.1))
         | inr u ↦ none-refused b i c f same first (refused_kind-other c t u null)
             (form_at-no_scalar b i c (sym first) t u null number) string array object
       ]

@@ -28,87 +28,67 @@ use Rattle.simd_json_parts.specs.declared.error.ErrorType.TheVariants.{ExpectedT
 pub byte_at-after : (b rest : List ℕ) (i n : ℕ) → drop i b ≡ rest → byte_at b (i + n) ≡ byte_at rest n
 byte_at-after b rest i n e = sym (get_or-drop i b n 32) ∙ ap (λ l. byte_at l n) e
 
-atom_or-ok : (letters : List ℕ) (d : Document) (kind : ErrorType) (b rest : List ℕ) (i n : ℕ) → drop i b ≡ rest → length letters ≡ n
-    → (starts_with nat_eq rest letters && is_terminator (byte_at rest n)) ≡ true → atom_or letters d kind b i ≡ Ok (d, i + n)
-atom_or-ok letters d kind b rest i n e is h =
-    ap (λ m. if starts_with nat_eq (drop i b) letters && is_terminator (byte_at b (i + m)) then Ok (d, i + m) else Err
-    (fault_at b kind i)) is
-    ∙ ap (λ t. if t then Ok (d, i + n) else Err (fault_at b kind i))
-    (ap (λ bs. starts_with nat_eq bs letters && is_terminator (byte_at b (i + n))) e
-    ∙ ap (λ c. starts_with nat_eq rest letters && is_terminator c) (byte_at-after b rest i n e) ∙ h)
+-- ---- true, false and null
 
-form_at-atom : (b : List ℕ) (i c : ℕ) → byte_at b i ≡ c → form_of b i c ≡ scalar (atom_at b i) → form_at b i ≡ scalar (atom_at b i)
-unfolding form_at
-form_at-atom b i c e f = ap (form_of b i) e ∙ f
+pub data Word : Type 0 where
+  word_true word_false word_null : Word
+
+abbrev pub first_of : Word → ℕ
+first_of word_true = 116
+first_of word_false = 102
+first_of word_null = 110
+
+abbrev pub letters_of : Word → List ℕ
+letters_of word_true = codes "true"
+letters_of word_false = codes "false"
+letters_of word_null = codes "null"
+
+abbrev pub document_of : Word → Document
+document_of word_true = boolean true
+document_of word_false = boolean false
+document_of word_null = null
+
+abbrev pub kind_of : Word → ErrorType
+kind_of word_true = ExpectedTrue
+kind_of word_false = ExpectedFalse
+kind_of word_null = ExpectedNull
+
+abbrev by_first : List ℕ → ℕ → ℕ → Result (Document × ℕ) Error
+by_first b i c = if c == 116 then atom_or (codes "true") (boolean true) ExpectedTrue b i else if c == 102 then atom_or
+    (codes "false") (boolean false) ExpectedFalse b i else atom_or (codes "null") null ExpectedNull b i
+
+form_at-first : (w : Word) (b : List ℕ) (i : ℕ) → byte_at b i ≡ first_of w
+    → form_at b i ≡ scalar (atom_or (letters_of w) (document_of w) (kind_of w) b i)
+unfolding form_at atom_at
+form_at-first word_true b i f = ap (form_of b i) f ∙ ap (λ c. scalar (by_first b i c)) f
+form_at-first word_false b i f = ap (form_of b i) f ∙ ap (λ c. scalar (by_first b i c)) f
+form_at-first word_null b i f = ap (form_of b i) f ∙ ap (λ c. scalar (by_first b i c)) f
+
+-- by the first letter, and whether the word is there
+pub form_at-word : (w : Word) (t : Bool) (b rest : List ℕ) (i : ℕ) → drop i b ≡ rest → byte_at b i ≡ first_of w
+    → (starts_with nat_eq rest (letters_of w) && is_terminator (byte_at rest (length (letters_of w)))) ≡ t
+    → form_at b i ≡ scalar (if t then Ok (document_of w, i + length (letters_of w)) else Err (fault_at b (kind_of w) i))
+form_at-word w t b rest i e f h =
+    let n : ℕ = length (letters_of w) in
+    form_at-first w b i f
+    ∙ ap (λ t. scalar (if t then Ok (document_of w, i + n) else Err (fault_at b (kind_of w) i)))
+    (ap (λ bs. starts_with nat_eq bs (letters_of w) && is_terminator (byte_at b (i + n))) e
+    ∙ ap (λ c. starts_with nat_eq rest (letters_of w) && is_terminator c) (byte_at-after b rest i n e) ∙ h)
 
 pub form_at-true : (b rest : List ℕ) (i : ℕ) → drop i b ≡ rest → byte_at b i ≡ 116
     → (starts_with nat_eq rest (codes "true") && is_terminator (byte_at rest 4)) ≡ true
     → form_at b i ≡ scalar (Ok (boolean true, i + 4))
-unfolding atom_at
-form_at-true b rest i e f h =
-    form_at-atom b i 116 f refl
-    ∙ ap scalar (ap (λ c. if c == 116 then atom_or (codes "true") (boolean true) ExpectedTrue b i else if c == 102 then atom_or
-    (codes "false") (boolean false) ExpectedFalse b i else atom_or (codes "null") null ExpectedNull b i) f
-    ∙ atom_or-ok (codes "true") (boolean true) ExpectedTrue b rest i 4 e refl h)
+form_at-true = form_at-word word_true true
 
 pub form_at-false : (b rest : List ℕ) (i : ℕ) → drop i b ≡ rest → byte_at b i ≡ 102
     → (starts_with nat_eq rest (codes "false") && is_terminator (byte_at rest 5)) ≡ true
     → form_at b i ≡ scalar (Ok (boolean false, i + 5))
-unfolding atom_at
-form_at-false b rest i e f h =
-    form_at-atom b i 102 f refl
-    ∙ ap scalar (ap (λ c. if c == 116 then atom_or (codes "true") (boolean true) ExpectedTrue b i else if c == 102 then atom_or
-    (codes "false") (boolean false) ExpectedFalse b i else atom_or (codes "null") null ExpectedNull b i) f
-    ∙ atom_or-ok (codes "false") (boolean false) ExpectedFalse b rest i 5 e refl h)
+form_at-false = form_at-word word_false true
 
 pub form_at-null : (b rest : List ℕ) (i : ℕ) → drop i b ≡ rest → byte_at b i ≡ 110
     → (starts_with nat_eq rest (codes "null") && is_terminator (byte_at rest 4)) ≡ true
     → form_at b i ≡ scalar (Ok (null, i + 4))
-unfolding atom_at
-form_at-null b rest i e f h =
-    form_at-atom b i 110 f refl
-    ∙ ap scalar (ap (λ c. if c == 116 then atom_or (codes "true") (boolean true) ExpectedTrue b i else if c == 102 then atom_or
-    (codes "false") (boolean false) ExpectedFalse b i else atom_or (codes "null") null ExpectedNull b i) f
-    ∙ atom_or-ok (codes "null") null ExpectedNull b rest i 4 e refl h)
-
-atom_or-fault : (letters : List ℕ) (d : Document) (kind : ErrorType) (b rest : List ℕ) (i n : ℕ) → drop i b ≡ rest → length letters ≡ n
-    → (starts_with nat_eq rest letters && is_terminator (byte_at rest n)) ≡ false → atom_or letters d kind b i ≡ Err (fault_at b kind i)
-atom_or-fault letters d kind b rest i n e is h =
-    ap (λ m. if starts_with nat_eq (drop i b) letters && is_terminator (byte_at b (i + m)) then Ok (d, i + m) else Err
-    (fault_at b kind i)) is
-    ∙ ap (λ t. if t then Ok (d, i + n) else Err (fault_at b kind i))
-    (ap (λ bs. starts_with nat_eq bs letters && is_terminator (byte_at b (i + n))) e
-    ∙ ap (λ c. starts_with nat_eq rest letters && is_terminator c) (byte_at-after b rest i n e) ∙ h)
-
-pub form_at-no_true : (b rest : List ℕ) (i : ℕ) → drop i b ≡ rest → byte_at b i ≡ 116
-    → (starts_with nat_eq rest (codes "true") && is_terminator (byte_at rest 4)) ≡ false
-    → form_at b i ≡ scalar (Err (fault_at b ExpectedTrue i))
-unfolding atom_at
-form_at-no_true b rest i e f h =
-    form_at-atom b i 116 f refl
-    ∙ ap scalar (ap (λ c. if c == 116 then atom_or (codes "true") (boolean true) ExpectedTrue b i else if c == 102 then atom_or
-    (codes "false") (boolean false) ExpectedFalse b i else atom_or (codes "null") null ExpectedNull b i) f
-    ∙ atom_or-fault (codes "true") (boolean true) ExpectedTrue b rest i 4 e refl h)
-
-pub form_at-no_false : (b rest : List ℕ) (i : ℕ) → drop i b ≡ rest → byte_at b i ≡ 102
-    → (starts_with nat_eq rest (codes "false") && is_terminator (byte_at rest 5)) ≡ false
-    → form_at b i ≡ scalar (Err (fault_at b ExpectedFalse i))
-unfolding atom_at
-form_at-no_false b rest i e f h =
-    form_at-atom b i 102 f refl
-    ∙ ap scalar (ap (λ c. if c == 116 then atom_or (codes "true") (boolean true) ExpectedTrue b i else if c == 102 then atom_or
-    (codes "false") (boolean false) ExpectedFalse b i else atom_or (codes "null") null ExpectedNull b i) f
-    ∙ atom_or-fault (codes "false") (boolean false) ExpectedFalse b rest i 5 e refl h)
-
-pub form_at-no_null : (b rest : List ℕ) (i : ℕ) → drop i b ≡ rest → byte_at b i ≡ 110
-    → (starts_with nat_eq rest (codes "null") && is_terminator (byte_at rest 4)) ≡ false
-    → form_at b i ≡ scalar (Err (fault_at b ExpectedNull i))
-unfolding atom_at
-form_at-no_null b rest i e f h =
-    form_at-atom b i 110 f refl
-    ∙ ap scalar (ap (λ c. if c == 116 then atom_or (codes "true") (boolean true) ExpectedTrue b i else if c == 102 then atom_or
-    (codes "false") (boolean false) ExpectedFalse b i else atom_or (codes "null") null ExpectedNull b i) f
-    ∙ atom_or-fault (codes "null") null ExpectedNull b rest i 4 e refl h)
+form_at-null = form_at-word word_null true
 
 -- a form that is no atom and no number
 abbrev pub is_no_scalar : Form → Bool

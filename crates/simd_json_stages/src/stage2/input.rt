@@ -10,15 +10,15 @@
 //! the first stage finds. It is shared without a look at its bytes: its closing quote is the last
 //! quote before the next structural index, since only whitespace lies between.
 ghost use Rattle.std.specs.Prelude.{◌≡◌, ◌≤◌, ◌<◌, ◌+◌, ◌-◌, ◌*◌, ◌^◌};
-ghost use Rattle.std.specs.Prelude.{ℕ, List, [], suc, length, slice_index, take, drop, MatchResult, Ok, Err};
-ghost use Rattle.std.specs.Prelude.{IsTrue, IsFalse, true, false};
+ghost use Rattle.std.specs.Prelude.{ℕ, List, [], suc, length, slice_index, take, drop};
+ghost use Rattle.std.specs.Prelude.{MatchResult, Ok, Err, IsTrue, IsFalse, true, false};
 ghost use Rattle.simd_json_parts.specs.Bytes.{quote, byte_at};
 ghost use Rattle.simd_json_parts.specs.StringAt.{closing_quote, string_at, escape_fault};
 ghost use Rattle.simd_json_scalars.specs.StringRead.{IsStringAt};
 ghost use Rattle.simd_json_stages.specs.EscapeBlocks.{backslash_blocks};
 ghost use Rattle.simd_json_stages.specs.EscapesAhead.{AreAhead, ArePassed, PlainFrom};
-ghost use Rattle.simd_json_stages.specs.Inputs.{HasBytes, HasPlain, HasQuoted, HasQuotedSomewhere, HasString};
-ghost use Rattle.simd_json_stages.specs.Inputs.{IsStringBefore, Reads};
+ghost use Rattle.simd_json_stages.specs.Inputs.{HasBytes, HasPlain, HasQuoted, HasQuotedSomewhere};
+ghost use Rattle.simd_json_stages.specs.Inputs.{HasString, IsStringBefore, Reads};
 
 use crate::stage1::BLOCK_LEN;
 use memchr::memchr;
@@ -146,7 +146,8 @@ impl<'m, 'de> Input<'m, 'de> {
         ensures prefix { result.now ≡ take (i - self.old.at) self.old.rest.now }
         ensures rest { self.new.rest.now ≡ drop (i - self.old.at) self.old.rest.now }
         ensures at { self.new.at ≡ i }
-        ensures shared { (self.new.shared ≡ self.old.shared) × (self.new.is_plain ≡ self.old.is_plain) }
+        ensures shared { (self.new.shared ≡ self.old.shared)
+            × (self.new.is_plain ≡ self.old.is_plain) }
         ensures escapes { self.new.escapes ≡ self.old.escapes }
         ensures end { self.new.end ≡ self.old.end }
     {
@@ -158,7 +159,8 @@ impl<'m, 'de> Input<'m, 'de> {
 
     // Whether the string from index `at` may have an escape before index `end`. Past the mark this
     // is true without a search if fewer than 32 bytes are left, so the last strings may be decoded
-    // although they have none.
+    // although they have none. It is also true if one of the next 32 bytes is a backslash: if
+    // escapes are dense, this finds the next one at less cost than the walk.
     #[inline(always)]
     pub(crate) fn may_have_escape(&mut self, at: usize, end: usize) -> bool
         requires { HasBytes self.old at 0 }
@@ -170,22 +172,18 @@ impl<'m, 'de> Input<'m, 'de> {
             return false;
         }
         if self.escapes.mark < at {
-            if self.is_near_backslash(at) {
+            let rest = self.from(at);
+            if rest.len() < 32
+                || u8x32::from_slice(rest)
+                    .simd_eq(u8x32::splat(b'\\'))
+                    .to_bitmask()
+                    != 0
+            {
                 return true;
             }
             self.escapes = self.escapes_from(at);
         }
         self.escapes.mark < end
-    }
-
-    // Whether one of the 32 bytes from index `at` on is a backslash; also true if fewer than 32 are
-    // left. If escapes are dense this finds the next one at less cost than the walk.
-    #[inline(always)]
-    fn is_near_backslash(&self, at: usize) -> bool
-        requires { HasBytes self.now at 0 }
-    {
-        let rest = self.from(at);
-        rest.len() < 32 || (u8x32::from_slice(rest).simd_eq(u8x32::splat(b'\\'))).to_bitmask() != 0
     }
 
     // The walk along the backslashes, with its mark at the first one from index `at` on.

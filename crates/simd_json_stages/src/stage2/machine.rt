@@ -11,21 +11,19 @@
 //!               the closing bracket of the container              →  after a value
 //!               the end of the tokens, in no container            →  done
 //! ```
-ghost use Rattle.std.specs.Prelude.{◌≡◌, ◌<◌, ◌≤◌, ◌+◌, ◌*◌, length, IfOk, IfErr, OnOk};
-ghost use Rattle.simd_json_stages.specs.Building.{IsBuilt, AtFirstOrAfter, AtNextOrAfter, IsFirstFault};
-ghost use Rattle.simd_json_stages.specs.Members.{AfterMember, AtElement, AtFirst, AtOpening, AtPair, AtStart};
-ghost use Rattle.simd_json_stages.specs.Members.{HasCome, IsAtMember, IsFrom};
-ghost use Rattle.simd_json_stages.specs.Progresses.{AdvancesPastMember, AdvancesPastValue};
-ghost use Rattle.simd_json_stages.specs.Progresses.{IsWithin, IsWithinNext, reached};
-ghost use Rattle.simd_json_stages.specs.Inputs.{Reads};
+ghost use Rattle.std.specs.Prelude.{◌≡◌, ◌<◌, ◌≤◌, ◌+◌, length, IfOk, IfErr};
+ghost use Rattle.simd_json_stages.specs.Members.{AfterMember, AtElement, AtFirst, AtOpening};
+ghost use Rattle.simd_json_stages.specs.Members.{AtPair, AtStart, HasCome, HasFollowed};
+ghost use Rattle.simd_json_stages.specs.Members.{IsAtMember, IsFault, IsFrom, IsTape};
+ghost use Rattle.simd_json_stages.specs.Progresses.{AdvancesPastMember, AdvancesPastValue, reached};
+ghost use Rattle.simd_json_stages.specs.Put.{SameSink};
 
 use super::fault::{Fault, FaultKind};
 use super::input::{Input, Original};
 use super::nodes::NodeSink;
 use super::progress::{Following, NextMember, Progress, Route, Step};
-use super::scalar::push_scalar;
+use super::scalar::{push_scalar, push_string};
 use super::stack::{Container, StackState, close};
-use super::string::push_string;
 use std::result::Result;
 
 // What the machine changes besides the sink. That is passed beside it, since the prover can't
@@ -52,14 +50,13 @@ impl<'de> Machine<'_, 'de> {
     ) -> Result<Progress, Fault>
         requires { AtPair K.bytes route self.old (S.node_room nodes.old)
             (S.held_nodes nodes.old) p kind }
-        ensures capacity { S.node_room nodes.new ≡ S.node_room nodes.old }
-        ensures lender { S.lender nodes.new ≡ S.lender nodes.old }
+        ensures sink { SameSink S.node_room S.lender nodes.old nodes.new }
         ensures stack { self.new.stack ≡ self.old.stack }
-        ensures value { IfOk result
-            (AtFirst K.bytes route.entry self.new (S.node_room nodes.new) (S.held_nodes nodes.new)) }
-        ensures advances { IfOk result (λ q. (p.read < q.read) × (p.at ≤ q.at)
-            × (q.depth ≡ p.depth) × (q.container ≡ p.container)) }
-        ensures refused { IfErr result (IsFirstFault K.bytes route.entry.indexes.now route.entry.max_depth) }
+        ensures value { IfOk result (AtFirst K.bytes route.entry self.new
+            (S.node_room nodes.new) (S.held_nodes nodes.new)) }
+        ensures advances { IfOk result (λ q. (p.read < q.read) × (q.depth ≡ p.depth)
+            × (q.container ≡ p.container)) }
+        ensures refused { IfErr result (IsFault K.bytes route.entry) }
     {
         if p.byte != b'"' {
             return Err(p.fault(kind));
@@ -86,17 +83,12 @@ impl<'de> Machine<'_, 'de> {
     ) -> Result<Step, Fault>
         requires { AtOpening K.bytes route self.old (S.node_room nodes.old)
             (S.held_nodes nodes.old) p container }
-        ensures capacity { (S.node_room nodes.new ≡ S.node_room nodes.old)
-            × (length self.new.stack.now ≡ length self.old.stack.now) }
-        ensures lender { S.lender nodes.new ≡ S.lender nodes.old }
-        ensures input { self.new.input ≡ self.old.input }
-        ensures progress { IfOk result (IsWithin K.bytes route.entry.indexes.now (Reads K.bytes self.new.input)
-            (length (S.held_nodes nodes.new))) }
-        ensures advances { IfOk result (AdvancesPastValue route.entry.max_depth p) }
-        ensures step { IfOk result
-            (AtFirstOrAfter K.bytes route.entry.indexes.now route.entry.max_depth self.new.stack.now
-            (S.held_nodes nodes.new)) }
-        ensures refused { IfErr result (IsFirstFault K.bytes route.entry.indexes.now route.entry.max_depth) }
+        ensures sink { SameSink S.node_room S.lender nodes.old nodes.new }
+        ensures stack { length self.new.stack.now ≡ length self.old.stack.now }
+        ensures came { IfOk result (HasCome K.bytes route.entry self.new
+            (S.node_room nodes.new) (S.held_nodes nodes.new)) }
+        ensures advances { IfOk result (AdvancesPastValue p) }
+        ensures refused { IfErr result (IsFault K.bytes route.entry) }
     {
         if p.depth == route.max_depth {
             return Err(p.fault(FaultKind::DepthLimitExceeded));
@@ -104,7 +96,10 @@ impl<'de> Machine<'_, 'de> {
         let q = p.next_token(&self.input, route)?;
         if q.byte == container.closer() {
             nodes.push_header(container);
-            return Ok(Step::Read(q.with_value()));
+            return Ok(Step::Read(Progress {
+                len: q.len + 1,
+                ..q
+            }));
         }
         self.stack[p.depth] = StackState {
             header: nodes.len(),
@@ -129,17 +124,14 @@ impl<'de> Machine<'_, 'de> {
         nodes: &mut S,
         p: Progress,
     ) -> Result<Step, Fault>
-        requires { AtFirst K.bytes route self.old (S.node_room nodes.old) (S.held_nodes nodes.old) p }
-        ensures capacity { (S.node_room nodes.new ≡ S.node_room nodes.old)
-            × (length self.new.stack.now ≡ length self.old.stack.now) }
-        ensures lender { S.lender nodes.new ≡ S.lender nodes.old }
-        ensures progress { IfOk result (IsWithin K.bytes route.entry.indexes.now (Reads K.bytes self.new.input)
-            (length (S.held_nodes nodes.new))) }
-        ensures advances { IfOk result (AdvancesPastValue route.entry.max_depth p) }
-        ensures step { IfOk result
-            (AtFirstOrAfter K.bytes route.entry.indexes.now route.entry.max_depth self.new.stack.now
-            (S.held_nodes nodes.new)) }
-        ensures refused { IfErr result (IsFirstFault K.bytes route.entry.indexes.now route.entry.max_depth) }
+        requires { AtFirst K.bytes route self.old (S.node_room nodes.old)
+            (S.held_nodes nodes.old) p }
+        ensures sink { SameSink S.node_room S.lender nodes.old nodes.new }
+        ensures stack { length self.new.stack.now ≡ length self.old.stack.now }
+        ensures came { IfOk result (HasCome K.bytes route.entry self.new
+            (S.node_room nodes.new) (S.held_nodes nodes.new)) }
+        ensures advances { IfOk result (AdvancesPastValue p) }
+        ensures refused { IfErr result (IsFault K.bytes route.entry) }
     {
         if p.byte == b'{' {
             return self.open::<K, S>(route, nodes, p, Container::Object);
@@ -152,7 +144,10 @@ impl<'de> Machine<'_, 'de> {
         } else {
             push_scalar::<K, S>(&mut self.input, nodes, p)?;
         }
-        Ok(Step::Read(p.with_value()))
+        Ok(Step::Read(Progress {
+            len: p.len + 1,
+            ..p
+        }))
     }
 
     // Reads on after a member of a container of this kind: a comma and the first token of the next
@@ -168,15 +163,11 @@ impl<'de> Machine<'_, 'de> {
     ) -> Result<Following, Fault>
         requires { AfterMember K.bytes route self.now (S.node_room nodes.old)
             (S.held_nodes nodes.old) p container }
-        ensures capacity { S.node_room nodes.new ≡ S.node_room nodes.old }
-        ensures lender { S.lender nodes.new ≡ S.lender nodes.old }
-        ensures progress { IfOk result
-            (IsWithinNext K.bytes route.entry.indexes.now (Reads K.bytes self.now.input) (length (S.held_nodes nodes.new))) }
+        ensures sink { SameSink S.node_room S.lender nodes.old nodes.new }
         ensures advances { IfOk result (AdvancesPastMember p) }
-        ensures step { IfOk result
-            (AtNextOrAfter K.bytes route.entry.indexes.now route.entry.max_depth self.now.stack.now
-            (S.held_nodes nodes.new)) }
-        ensures refused { IfErr result (IsFirstFault K.bytes route.entry.indexes.now route.entry.max_depth) }
+        ensures followed { IfOk result (HasFollowed K.bytes route.entry self.now
+            (S.node_room nodes.new) (S.held_nodes nodes.new)) }
+        ensures refused { IfErr result (IsFault K.bytes route.entry) }
     {
         let q = p.next_token(&self.input, route)?;
         if q.byte == b',' {
@@ -198,13 +189,13 @@ impl<'de> Machine<'_, 'de> {
         nodes: &mut S,
         value: Step,
     ) -> Result<NextMember, Fault>
-        requires { HasCome K.bytes route self.now (S.node_room nodes.old) (S.held_nodes nodes.old) value }
-        ensures capacity { S.node_room nodes.new ≡ S.node_room nodes.old }
-        ensures lender { S.lender nodes.new ≡ S.lender nodes.old }
-        ensures member { IfOk result
-            (IsAtMember K.bytes route.entry self.now (S.node_room nodes.new) (S.held_nodes nodes.new)) }
+        requires { HasCome K.bytes route self.now (S.node_room nodes.old)
+            (S.held_nodes nodes.old) value }
+        ensures sink { SameSink S.node_room S.lender nodes.old nodes.new }
+        ensures member { IfOk result (IsAtMember K.bytes route.entry self.now
+            (S.node_room nodes.new) (S.held_nodes nodes.new)) }
         ensures further { IfOk result (IsFrom (reached value).read) }
-        ensures refused { IfErr result (IsFirstFault K.bytes route.entry.indexes.now route.entry.max_depth) }
+        ensures refused { IfErr result (IsFault K.bytes route.entry) }
     {
         let mut p = match value {
             Step::Opened(p) => return Ok(NextMember::Next(p, FaultKind::ExpectedObjectContent)),
@@ -238,13 +229,12 @@ impl<'de> Machine<'_, 'de> {
     ) -> Result<Step, Fault>
         requires { AtElement K.bytes route self.old (S.node_room nodes.old)
             (S.held_nodes nodes.old) first }
-        ensures capacity { (S.node_room nodes.new ≡ S.node_room nodes.old)
-            × (length self.new.stack.now ≡ length self.old.stack.now) }
-        ensures lender { S.lender nodes.new ≡ S.lender nodes.old }
-        ensures came { IfOk result
-            (HasCome K.bytes route.entry self.new (S.node_room nodes.new) (S.held_nodes nodes.new)) }
+        ensures sink { SameSink S.node_room S.lender nodes.old nodes.new }
+        ensures stack { length self.new.stack.now ≡ length self.old.stack.now }
+        ensures came { IfOk result (HasCome K.bytes route.entry self.new
+            (S.node_room nodes.new) (S.held_nodes nodes.new)) }
         ensures further { IfOk result (λ value. first.read < (reached value).read) }
-        ensures refused { IfErr result (IsFirstFault K.bytes route.entry.indexes.now route.entry.max_depth) }
+        ensures refused { IfErr result (IsFault K.bytes route.entry) }
     {
         let mut p = first;
         'values: loop {
@@ -271,13 +261,12 @@ impl<'de> Machine<'_, 'de> {
     ) -> Result<Step, Fault>
         requires { AtPair K.bytes route self.old (S.node_room nodes.old)
             (S.held_nodes nodes.old) first kind }
-        ensures capacity { (S.node_room nodes.new ≡ S.node_room nodes.old)
-            × (length self.new.stack.now ≡ length self.old.stack.now) }
-        ensures lender { S.lender nodes.new ≡ S.lender nodes.old }
-        ensures came { IfOk result
-            (HasCome K.bytes route.entry self.new (S.node_room nodes.new) (S.held_nodes nodes.new)) }
+        ensures sink { SameSink S.node_room S.lender nodes.old nodes.new }
+        ensures stack { length self.new.stack.now ≡ length self.old.stack.now }
+        ensures came { IfOk result (HasCome K.bytes route.entry self.new
+            (S.node_room nodes.new) (S.held_nodes nodes.new)) }
         ensures further { IfOk result (λ value. first.read < (reached value).read) }
-        ensures refused { IfErr result (IsFirstFault K.bytes route.entry.indexes.now route.entry.max_depth) }
+        ensures refused { IfErr result (IsFault K.bytes route.entry) }
     {
         let mut p = first;
         let mut kind = kind;
@@ -304,13 +293,9 @@ impl<'de> Machine<'_, 'de> {
         nodes: &mut S,
     ) -> Result<(), Fault>
         requires { AtStart K.bytes route self.old (S.node_room nodes.old) (S.held_nodes nodes.old) }
-        ensures capacity { S.node_room nodes.new ≡ S.node_room nodes.old }
-        ensures lender { S.lender nodes.new ≡ S.lender nodes.old }
-        ensures few { OnOk result
-            (2 * length (S.held_nodes nodes.new) ≤ length route.entry.indexes.now + 1) }
-        ensures built { OnOk result (IsBuilt K.bytes route.entry.indexes.now route.entry.max_depth
-            (S.held_nodes nodes.new)) }
-        ensures refused { IfErr result (IsFirstFault K.bytes route.entry.indexes.now route.entry.max_depth) }
+        ensures sink { SameSink S.node_room S.lender nodes.old nodes.new }
+        ensures tape { IsTape K.bytes route.entry.indexes.now route.entry.max_depth
+            (S.held_nodes nodes.new) result }
     {
         let at = route.indexes[0] as usize;
         let first = Progress {

@@ -3,8 +3,10 @@
 //! simdjson writes words of 64 bits to a tape of its own (section 3.2 of the paper that `stage2`
 //! names). Here the destination is the caller's choice, and the machine is compiled for each. A
 //! header is appended when its container opens, and its counts are set when it closes.
-ghost use Rattle.std.specs.Prelude.{◌≡◌, ◌<◌, true, ℕ, List, [], ◌∷◌, ◌++◌, length, map, get_or, slice_set, vec_capacity};
-ghost use Rattle.simd_json_parts.specs.Nodes.{Item, static_item, string_item, decimal_item, item_of};
+ghost use Rattle.std.specs.Prelude.{◌≡◌, ◌<◌, true, ℕ, List, [], ◌∷◌, ◌++◌, length, map, get_or};
+ghost use Rattle.std.specs.Prelude.{slice_set, vec_capacity};
+ghost use Rattle.simd_json_parts.specs.Nodes.{Item, static_item, string_item, decimal_item};
+ghost use Rattle.simd_json_parts.specs.Nodes.{item_of};
 ghost use Rattle.simd_json_stages.specs.Building.{header_of, is_header};
 
 use super::stack::Container;
@@ -112,15 +114,18 @@ pub trait NodeSink<'de> {
     /// it has `len` members, and `count` nodes beneath it. It is not called for an empty container.
     fn set_counts(&mut self, header: usize, container: Container, len: usize, count: usize)
         requires within { header < length (held_nodes self.old) }
-        requires header { is_header (get_or (held_nodes self.old) header (static_item StaticNode.Null)) ≡ true }
+        requires header { is_header (get_or (held_nodes self.old) header
+            (static_item StaticNode.Null)) ≡ true }
         ensures lender { lender self.new ≡ lender self.old }
         ensures room { node_room self.new ≡ node_room self.old }
-        ensures patched { held_nodes self.new ≡ slice_set (held_nodes self.old) header (header_of container len count) };
+        ensures patched { held_nodes self.new
+            ≡ slice_set (held_nodes self.old) header (header_of container len count) };
 
     /// Returns whether the first node is the header of a container.
     fn starts_with_header(&self) -> bool
         requires { 0 < length (held_nodes self.now) }
-        ensures { result ≡ is_header (get_or (held_nodes self.now) 0 (static_item StaticNode.Null)) };
+        ensures { result
+            ≡ is_header (get_or (held_nodes self.now) 0 (static_item StaticNode.Null)) };
 }
 
 /// A list of nodes as a sink, with room for as many nodes as it has capacity for. The caller makes

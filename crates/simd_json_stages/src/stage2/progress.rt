@@ -4,7 +4,7 @@
 //! The last token is the one at the structural index that was read last. A token is known by its
 //! index and its first byte. The machine of simdjson's paper jumps from state to state by `goto`;
 //! here `Step`, `Following` and `NextMember` say where to go on.
-ghost use Rattle.std.specs.Prelude.{◌≡◌, ◌≢◌, ◌<◌, ◌≤◌, ◌+◌, ◌^◌, ℕ, List, length, get_or};
+ghost use Rattle.std.specs.Prelude.{◌≡◌, ◌≢◌, ◌<◌, ◌≤◌, ◌+◌, ℕ, List, length, get_or};
 ghost use Rattle.std.specs.Prelude.{IfOk, IfErr, IsTrue, IsFalse};
 ghost use Rattle.simd_json_parts.specs.Bytes.{byte_at};
 ghost use Rattle.simd_json_stages.specs.Building.{end_kind};
@@ -62,18 +62,6 @@ pub(crate) struct Progress {
 }
 
 impl Progress {
-    // Counts one more member of the innermost container.
-    #[inline(always)]
-    pub(super) fn with_value(self) -> Progress
-        requires { self.len < 2 ^ 63 }
-        ensures { result ≡ record self { len = self.len + 1 } }
-    {
-        Progress {
-            len: self.len + 1,
-            ..self
-        }
-    }
-
     // Whether no token is left. If the last of all is a closing bracket, a token follows any other
     // one, which saves the comparison with the list's length.
     #[inline(always)]
@@ -97,7 +85,11 @@ impl Progress {
         requires { AfterToken b route input.now self }
         ensures next { IfOk result (IsNext b route.entry.indexes.now self) }
         ensures none { IfErr result (λ f. (self.read ≡ length route.entry.indexes.now)
-            × (f ≡ record { kind = FaultKind.Syntax; index = self.at; byte = byte_at b self.at })) }
+            × (f ≡ record {
+              kind = FaultKind.Syntax;
+              index = self.at;
+              byte = byte_at b self.at;
+            })) }
     {
         if self.is_last(route.indexes, route.ends_closed) {
             return Err(self.fault(FaultKind::Syntax));
@@ -126,7 +118,11 @@ impl Progress {
     // The fault of a token after the root, which is a container or a scalar.
     #[cold]
     pub(super) fn fault_after_root(self, is_container: bool) -> Fault
-        ensures { result ≡ record { kind = end_kind is_container; index = self.at; byte = self.byte } }
+        ensures { result ≡ record {
+          kind = end_kind is_container;
+          index = self.at;
+          byte = self.byte;
+        } }
     {
         if is_container {
             self.fault(FaultKind::InternalError)

@@ -1,38 +1,46 @@
-//! Numbers and words become nodes.
+//! Strings, numbers and words become nodes.
 //!
 //! Booleans are compared four letters at a time. Numbers are read by `numberparse`, their digits by
 //! words of eight bytes, as in section 3.2 of the paper that `stage2` names: short ones by
 //! `parse_short`, which is inlined, and others by `parse_numeral`. Unlike simdjson, a number with a
 //! fraction or an exponent is only checked, and its node holds the literal; integers have up to 128
 //! bits.
-ghost use Rattle.std.specs.Prelude.{◌≡◌, ◌<◌, ◌≤◌, ◌+◌, ◌^◌, ◌==◌, ◌&&◌, ◌||◌, ℕ, List, length, drop};
-ghost use Rattle.std.specs.Prelude.{[], ◌∷◌, ◌++◌, nat_eq, codes, true, false, MatchOption, MatchResult};
-ghost use Rattle.std.specs.Prelude.{IfErr, OnOk};
+ghost use Rattle.std.specs.Prelude.{◌≡◌, ◌<◌, ◌≤◌, ◌+◌, ◌^◌, ◌==◌, ◌&&◌, ◌||◌, ℕ, List, length};
+ghost use Rattle.std.specs.Prelude.{drop, [], ◌∷◌, ◌++◌, nat_eq, codes, true, false};
+ghost use Rattle.std.specs.Prelude.{MatchOption, MatchResult, IfErr, OnOk};
 ghost use Rattle.std.specs.List.{starts_with};
 ghost use Rattle.simd_json_parts.specs.Bytes.{is_terminator, byte_at, minus_sign};
+ghost use Rattle.simd_json_parts.specs.Faults.{fault_with};
 ghost use Rattle.simd_json_parts.specs.Nodes.{static_item};
 ghost use Rattle.simd_json_parts.specs.Integers.{integer_node, max_magnitude_64};
+ghost use Rattle.simd_json_parts.specs.StringAt.{escape_fault};
 ghost use Rattle.simd_json_scalars.specs.NumberRead.{IsNumberAt};
 ghost use Rattle.simd_json_scalars.specs.NumeralRead.{IsIntegerLiteral};
-ghost use Rattle.simd_json_scalars.specs.declared.numberparse.Number.TheVariants.{Integer, Invalid};
+ghost use Rattle.simd_json_scalars.specs.declared.numberparse.Number.TheVariants.{Integer};
+ghost use Rattle.simd_json_scalars.specs.declared.numberparse.Number.TheVariants.{Invalid};
+ghost use Rattle.simd_json_stages.specs.Members.{AtString};
 ghost use Rattle.simd_json_stages.specs.Put.{is_boolean, AtNumber, AtOther, IsScalarPut, IsNoScalar};
-ghost use Rattle.simd_json_stages.specs.Refusals.{refused_kind, number_refusal};
+ghost use Rattle.simd_json_stages.specs.Put.{IsBadString, IsStringPut, SameSink};
+ghost use Rattle.simd_json_stages.specs.Refusals.{error_type, refused_kind, number_refusal};
 ghost use Rattle.simd_json_stages.specs.Inputs.{Reads};
 
 use super::fault::{Fault, FaultKind};
 use super::input::{Input, Original};
 use super::nodes::NodeSink;
-use super::progress::Progress;
+use super::progress::{Progress, Route};
 use simd_json_parts::charutils::{byte_or_space, is_structural_or_whitespace};
 use simd_json_parts::node::StaticNode;
 use simd_json_scalars::numberparse::{
     Numeral, integer_node, is_integer, parse_long, parse_numeral, parse_short,
 };
+use simd_json_scalars::stringparse::BadEscape;
+use std::result::Result;
 
 /// Returns whether the bytes begin with `true`, and end there or go on with a structural character
 /// or whitespace.
 pub fn is_valid_true_atom(bytes: &[u8]) -> bool
-    ensures { result ≡ (starts_with nat_eq bytes.now (codes "true") && is_terminator (byte_at bytes.now 4)) }
+    ensures { result
+        ≡ (starts_with nat_eq bytes.now (codes "true") && is_terminator (byte_at bytes.now 4)) }
 {
     bytes.starts_with(b"true") && ends_at(bytes, 4)
 }
@@ -40,7 +48,8 @@ pub fn is_valid_true_atom(bytes: &[u8]) -> bool
 /// Returns whether the bytes begin with `false`, and end there or go on with a structural character
 /// or whitespace.
 pub fn is_valid_false_atom(bytes: &[u8]) -> bool
-    ensures { result ≡ (starts_with nat_eq bytes.now (codes "false") && is_terminator (byte_at bytes.now 5)) }
+    ensures { result
+        ≡ (starts_with nat_eq bytes.now (codes "false") && is_terminator (byte_at bytes.now 5)) }
 {
     bytes.starts_with(b"false") && ends_at(bytes, 5)
 }
@@ -48,7 +57,8 @@ pub fn is_valid_false_atom(bytes: &[u8]) -> bool
 /// Returns whether the bytes begin with `null`, and end there or go on with a structural character
 /// or whitespace.
 pub fn is_valid_null_atom(bytes: &[u8]) -> bool
-    ensures { result ≡ (starts_with nat_eq bytes.now (codes "null") && is_terminator (byte_at bytes.now 4)) }
+    ensures { result
+        ≡ (starts_with nat_eq bytes.now (codes "null") && is_terminator (byte_at bytes.now 4)) }
 {
     bytes.starts_with(b"null") && ends_at(bytes, 4)
 }
@@ -60,6 +70,55 @@ fn ends_at(bytes: &[u8], at: usize) -> bool
     is_structural_or_whitespace(byte_or_space(bytes, at))
 }
 
+// Appends the string at the last token. Only whitespace is between its closing quote and the next
+// structural index.
+#[inline(always)]
+pub(super) fn push_string<'de, K: Original, S: NodeSink<'de>>(
+    input: &mut Input<'_, 'de>,
+    route: Route,
+    nodes: &mut S,
+    p: Progress,
+) -> Result<(), Fault>
+    requires { AtString K.bytes route input.old (S.node_room nodes.old)
+        (length (S.held_nodes nodes.old)) p }
+    ensures sink { SameSink S.node_room S.lender nodes.old nodes.new }
+    ensures put { OnOk result
+        (IsStringPut K.bytes p.at (S.held_nodes nodes.old) (S.held_nodes nodes.new)
+        (Reads K.bytes input.new)) }
+    ensures refused { IfErr result (IsBadString K.bytes p.at) }
+{
+    let next = route.position_or_end(p.read, input.end);
+    let may_have_escape = input.may_have_escape(p.at, next);
+    if !may_have_escape {
+        nodes.push_string(input.share_string(p.at, next));
+        return Ok(());
+    }
+    match input.parse_string(p.at) {
+        Ok(string) => nodes.push_string(string),
+        Err(bad) => return Err(bad_escape(p.at, bad)),
+    }
+    Ok(())
+}
+
+// The fault of a bad escape in the string whose opening quote has index `at`.
+#[cold]
+fn bad_escape(at: usize, bad: BadEscape) -> Fault
+    requires { at + bad.offset < 2 ^ 64 }
+    ensures { fault_with (error_type result.kind) result.index result.byte
+        ≡ escape_fault (at + bad.offset) bad.letter }
+{
+    let kind = if bad.letter == b'u' {
+        FaultKind::InvalidUnicodeCodepoint
+    } else {
+        FaultKind::InvalidEscape
+    };
+    Fault {
+        kind,
+        index: at + bad.offset,
+        byte: bad.letter,
+    }
+}
+
 // Appends the scalar at the last token, which is not a string. Each kind has a branch that stores
 // its own node: a node that is chosen by branches and then stored is copied field by field.
 #[inline(always)]
@@ -67,10 +126,10 @@ pub(super) fn push_scalar<'de, K: Original, S: NodeSink<'de>>(
     input: &mut Input<'_, 'de>,
     nodes: &mut S,
     p: Progress,
-) -> std::result::Result<(), Fault>
-    requires { AtOther K.bytes input.old (S.node_room nodes.old) (length (S.held_nodes nodes.old)) p }
-    ensures capacity { S.node_room nodes.new ≡ S.node_room nodes.old }
-    ensures lender { S.lender nodes.new ≡ S.lender nodes.old }
+) -> Result<(), Fault>
+    requires { AtOther K.bytes input.old (S.node_room nodes.old)
+        (length (S.held_nodes nodes.old)) p }
+    ensures sink { SameSink S.node_room S.lender nodes.old nodes.new }
     ensures put { OnOk result
         (IsScalarPut K.bytes p.at (S.held_nodes nodes.old) (S.held_nodes nodes.new)
         (Reads K.bytes input.new)) }
@@ -99,7 +158,8 @@ pub(super) fn push_scalar<'de, K: Original, S: NodeSink<'de>>(
 // mispredicted for every other one of mixed booleans.
 #[inline(always)]
 fn parse_boolean(bytes: &[u8]) -> Option<bool>
-    ensures { MatchOption result ((is_boolean true bytes.now ≡ false) × (is_boolean false bytes.now ≡ false))
+    ensures { MatchOption result
+        ((is_boolean true bytes.now ≡ false) × (is_boolean false bytes.now ≡ false))
         (λ value. is_boolean value bytes.now ≡ true) }
 {
     if bytes.len() < 6 {
@@ -125,7 +185,8 @@ const FALS: u32 = 0x736c_6166;
 // The same with fewer than six bytes left.
 #[cold]
 fn parse_last_boolean(bytes: &[u8]) -> Option<bool>
-    ensures { MatchOption result ((is_boolean true bytes.now ≡ false) × (is_boolean false bytes.now ≡ false))
+    ensures { MatchOption result
+        ((is_boolean true bytes.now ≡ false) × (is_boolean false bytes.now ≡ false))
         (λ value. is_boolean value bytes.now ≡ true) }
 {
     if is_valid_true_atom(bytes) {
@@ -161,10 +222,10 @@ fn push_number<'de, K: Original, S: NodeSink<'de>>(
     input: &mut Input<'_, 'de>,
     nodes: &mut S,
     p: Progress,
-) -> std::result::Result<(), Fault>
-    requires { AtNumber K.bytes input.old (S.node_room nodes.old) (length (S.held_nodes nodes.old)) p }
-    ensures capacity { S.node_room nodes.new ≡ S.node_room nodes.old }
-    ensures lender { S.lender nodes.new ≡ S.lender nodes.old }
+) -> Result<(), Fault>
+    requires { AtNumber K.bytes input.old (S.node_room nodes.old)
+        (length (S.held_nodes nodes.old)) p }
+    ensures sink { SameSink S.node_room S.lender nodes.old nodes.new }
     ensures put { OnOk result
         (IsScalarPut K.bytes p.at (S.held_nodes nodes.old) (S.held_nodes nodes.new)
         (Reads K.bytes input.new)) }
@@ -184,10 +245,10 @@ fn push_longer_number<'de, K: Original, S: NodeSink<'de>>(
     input: &mut Input<'_, 'de>,
     nodes: &mut S,
     p: Progress,
-) -> std::result::Result<(), Fault>
-    requires { AtNumber K.bytes input.old (S.node_room nodes.old) (length (S.held_nodes nodes.old)) p }
-    ensures capacity { S.node_room nodes.new ≡ S.node_room nodes.old }
-    ensures lender { S.lender nodes.new ≡ S.lender nodes.old }
+) -> Result<(), Fault>
+    requires { AtNumber K.bytes input.old (S.node_room nodes.old)
+        (length (S.held_nodes nodes.old)) p }
+    ensures sink { SameSink S.node_room S.lender nodes.old nodes.new }
     ensures put { OnOk result
         (IsScalarPut K.bytes p.at (S.held_nodes nodes.old) (S.held_nodes nodes.new)
         (Reads K.bytes input.new)) }
@@ -209,10 +270,10 @@ fn push_longer_number<'de, K: Original, S: NodeSink<'de>>(
 fn push_integer<'de, S: NodeSink<'de>>(nodes: &mut S, first: u8, magnitude: u64)
     requires fits { magnitude ≤ max_magnitude_64 (first == minus_sign) }
     requires room { length (S.held_nodes nodes.old) < S.node_room nodes.old }
-    ensures capacity { S.node_room nodes.new ≡ S.node_room nodes.old }
-    ensures lender { S.lender nodes.new ≡ S.lender nodes.old }
+    ensures sink { SameSink S.node_room S.lender nodes.old nodes.new }
     ensures put { S.held_nodes nodes.new
-        ≡ S.held_nodes nodes.old ++ static_item (integer_node (first == minus_sign) magnitude) ∷ [] }
+        ≡ S.held_nodes nodes.old
+        ++ static_item (integer_node (first == minus_sign) magnitude) ∷ [] }
 {
     if first == b'-' {
         nodes.push_static(integer_node(true, magnitude));
@@ -225,7 +286,7 @@ fn push_integer<'de, S: NodeSink<'de>>(nodes: &mut S, first: u8, magnitude: u64)
 // `rest` is the input from index `at` on.
 #[cold]
 #[inline(never)]
-fn read_long(rest: &[u8], at: usize, len: usize) -> std::result::Result<StaticNode, Fault>
+fn read_long(rest: &[u8], at: usize, len: usize) -> Result<StaticNode, Fault>
     requires literal { IsIntegerLiteral rest.now len }
     requires fits { at + length rest.now < 2 ^ 64 }
     ensures { (b : List ℕ) → drop at b ≡ rest.now → at ≤ length b → MatchResult result

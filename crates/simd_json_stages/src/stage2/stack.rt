@@ -5,7 +5,9 @@
 //! written when a container opens in it, and read when that one closes.
 ghost use Rattle.std.specs.Prelude.{◌≡◌, ◌<◌, ◌≤◌, ◌+◌, ◌-◌, true, length, get_or};
 ghost use Rattle.simd_json_parts.specs.Nodes.{item_of, static_item};
-ghost use Rattle.simd_json_stages.specs.Building.{closer, header_of, is_header, content_kind, patch, top};
+ghost use Rattle.simd_json_stages.specs.Building.{closer, header_of, is_header, content_kind};
+ghost use Rattle.simd_json_stages.specs.Building.{patch, top};
+ghost use Rattle.simd_json_stages.specs.Put.{SameSink};
 
 use super::fault::FaultKind;
 use super::nodes::NodeSink;
@@ -100,8 +102,7 @@ pub(super) fn close<'de, S: NodeSink<'de>>(
     } }
     ensures nodes { S.held_nodes nodes.new
         ≡ patch (S.held_nodes nodes.old) (top stack.now p.depth) p }
-    ensures capacity { S.node_room nodes.new ≡ S.node_room nodes.old }
-    ensures lender { S.lender nodes.new ≡ S.lender nodes.old }
+    ensures sink { SameSink S.node_room S.lender nodes.old nodes.new }
 {
     let frame = stack[p.depth - 1];
     let beneath = nodes.len() - frame.header - 1;

@@ -1,11 +1,11 @@
-use Rattle.std.proofs.Common.{◌≡◌, refl, sym, ◌∙◌, ℕ, ◌+◌, drop, cond, arith}
+use Rattle.std.proofs.Common.{◌≡◌, refl, sym, ◌∙◌, ℕ, ◌+◌, drop, cond, false, arith}
 use Rattle.std.proofs.lemmas.Bool.{ne_eqb, or_from, or_right}
 use Rattle.simd_json_parts.specs.Bytes.{byte_at}
 use Rattle.simd_json_parts.specs.Document.{null, boolean}
 use Rattle.simd_json_parts.specs.declared.node.StaticNode.TheVariants as fixed
 use Rattle.simd_json_stages.specs.Inputs.{Reads}
 use Rattle.simd_json_stages.proofs.Tokens.Booleans.{form_at-boolean, no_boolean}
-use Rattle.simd_json_stages.proofs.Tokens.ScalarLaws.{form_at-null, form_at-no_null, form_at-number}
+use Rattle.simd_json_stages.proofs.Tokens.ScalarLaws.{form_at-null, form_at-word, form_at-number, word_null}
 use Rattle.simd_json_stages.proofs.Machine.ScalarPut.{static-put, atom-refused}
 use Rattle.simd_json_stages.proofs.stage2.scalar.push_scalar.Goals as goal
 use Rattle.simd_json_stages.proofs.stage2.scalar.push_scalar.Goals.{then-is_integer-via-then-is_integer}
@@ -37,7 +37,7 @@ returns-then-not-is_valid_null_atom-clause-refused g c =
     let after : drop i b ≡ c.from-rest.result.now = sym (c.from-rest.ensures b given.at.input) in
     let first : byte_at b i ≡ c.args.p.byte = sym given.at.first in
     atom-refused b i c.args.p.byte c.no_scalar.result c.no_scalar.ensures given.at.first
-    (rw c.if-p-eq110.true (form_at-no_null b c.from-rest.result.now i after
+    (rw c.if-p-eq110.true (form_at-word word_null false b c.from-rest.result.now i after
     (first ∙ c.if-p-eq110.true) (sym c.is_valid_null_atom.ensures ∙ c.if-not-is_valid_null_atom.true)))
 
 pub returns-then-p-eq110-clause-put : goal.returns-then-p-eq110-clause-put

@@ -1,13 +1,13 @@
 use Rattle.std.proofs.Common.{◌≡◌, ◌-◌, ◌≤◌, length}
 use Rattle.simd_json_stages.specs.Members.{AtPair}
+use Rattle.simd_json_stages.specs.Put.{SameSink}
 use Rattle.simd_json_stages.proofs.stage2.machine.Machine.members.Given as goal
 
 abbrev pub invariant-pairs : goal.invariant-pairs
 invariant-pairs g l = record {
   pair : AtPair g.K.Original.bytes l.route l.self (g.S.NodeSink.node_room l.nodes) (g.S.NodeSink.held_nodes l.nodes) l.p l.kind;
   further : l.fn.first.read ≤ l.p.read;
-  capacity : g.S.NodeSink.node_room l.nodes ≡ g.S.NodeSink.node_room l.fn.nodes;
-  lender : g.S.NodeSink.lender l.nodes ≡ g.S.NodeSink.lender l.fn.nodes;
+  sink : SameSink g.S.NodeSink.node_room g.S.NodeSink.lender l.fn.nodes l.nodes;
   stack : length l.self.stack.now ≡ length l.fn.self.stack.now;
 }
 

@@ -4,7 +4,7 @@ use Rattle.simd_json_stages.proofs.stage2.progress.Progress.next_token.Goals as 
 
 pub is_last-requires-clause-left : goal.is_last-requires-clause-left
 is_last-requires-clause-left g c t x y =
-    some-left g.b c.args.route.indexes.now c.args.self (c.requires.on_route.closes t) c.requires.read x y
+    some-left (c.requires.on_route.closes t) c.requires.read x y
 
 pub byte-requires : goal.byte-requires
 byte-requires g c =

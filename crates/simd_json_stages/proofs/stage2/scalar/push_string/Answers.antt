@@ -4,7 +4,7 @@ use Rattle.simd_json_parts.specs.StringAt.{closing_quote}
 use Rattle.simd_json_parts.specs.Nodes.{string_item}
 use Rattle.simd_json_stages.proofs.Machine.Bounds.{some-left}
 use Rattle.simd_json_stages.proofs.Machine.StringPut.{at-within, string-before, bad-within}
-use Rattle.simd_json_stages.proofs.stage2.string.push_string.Goals as goal
+use Rattle.simd_json_stages.proofs.stage2.scalar.push_string.Goals as goal
 
 pub may_have_escape-may_have_escape-requires : goal.may_have_escape-may_have_escape-requires
 may_have_escape-may_have_escape-requires g c =
@@ -15,7 +15,7 @@ may_have_escape-may_have_escape-requires g c =
 pub position_or_end-next-requires : goal.position_or_end-next-requires
 position_or_end-next-requires g c t =
     let s = c.requires in
-    some-left g.K.Original.bytes c.args.route.indexes.now c.args.p (s.on_route.closes t) s.read (λ is. omega (arith, s.opening, is))
+    some-left (s.on_route.closes t) s.read (λ is. omega (arith, s.opening, is))
     (λ is. omega (arith, s.opening, is))
 
 pub share_string-requires : goal.share_string-requires
