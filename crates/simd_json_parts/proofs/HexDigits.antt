@@ -1,5 +1,5 @@
 -- Four hexadecimal digits are read by one sum: what is no digit counts more than four digits can spell.
-use Rattle.std.proofs.Common.{◌≡◌, refl, ℕ, ◌+◌, ◌*◌, ◌<◌, ◌≤◌, List, length, get_or, Bool, true, false, cond, ◌&&◌, arith}
+use Rattle.std.proofs.Common.{◌≡◌, refl, ℕ, ◌+◌, ◌*◌, ◌<◌, ◌≤◌, List, length, get_or, Bool, true, cond, ◌&&◌, arith}
 use Rattle.std.specs.Prelude.{Some, None, if◌then◌else◌}
 use Rattle.std.specs.Char.{digit_value, is_digit}
 use Rattle.std.proofs.lemmas.Bool.{ltb-true}
@@ -31,10 +31,7 @@ spelled : (t u v w : Bool) (a b c d : ℕ) → counts t a * 4096 + counts u b * 
     → Some (counts t a * 4096 + counts u b * 256 + counts v c * 16 + counts w d)
     ≡ cond (t && u && v && w) (Some (a * 4096 + b * 256 + c * 16 + d)) None
 spelled true true true true a b c d l = refl
-spelled false u v w a b c d l = absurd (omega arith)
-spelled true false v w a b c d l = absurd (omega arith)
-spelled true true false w a b c d l = absurd (omega arith)
-spelled true true true false a b c d l = absurd (omega arith)
+spelled t u v w a b c d l = absurd (omega arith)
 
 -- where the sum is greater, one of them is no digit
 excess : (t u v w : Bool) (a b c d : ℕ) → (t ≡ true → a < 16) → (u ≡ true → b < 16) → (v ≡ true → c < 16) → (w ≡ true → d < 16)
@@ -46,10 +43,7 @@ excess true true true true a b c d ha hb hc hd l =
     let pc = hc refl in
     let pd = hd refl in
     absurd (omega arith)
-excess false u v w a b c d ha hb hc hd l = refl
-excess true false v w a b c d ha hb hc hd l = refl
-excess true true false w a b c d ha hb hc hd l = refl
-excess true true true false a b c d ha hb hc hd l = refl
+excess t u v w a b c d ha hb hc hd l = refl
 
 -- a digit is below 16
 digit-small : (c : ℕ) → is_digit c 16 ≡ true → digit_value c < 16

@@ -9,25 +9,19 @@ use Rattle.std.proofs.lemmas.List.{drop-drop, drop_at, drop_all, take_rest, leng
 
 -- the first two bytes set
 two-set : (b : List ℕ) (p q : ℕ) → 2 ≤ length b → slice_set (slice_set b 0 p) 1 q ≡ p ∷ q ∷ drop 2 b
-two-set [] p q l = absurd (omega arith)
-two-set (x ∷ []) p q l = absurd (omega arith)
 two-set (x ∷ y ∷ b) p q l = refl
+two-set _ p q l = absurd (omega arith)
 
 -- the first three
 three-set : (b : List ℕ) (p q r : ℕ) → 3 ≤ length b → slice_set (slice_set (slice_set b 0 p) 1 q) 2 r ≡ p ∷ q ∷ r ∷ drop 3 b
-three-set [] p q r l = absurd (omega arith)
-three-set (x ∷ []) p q r l = absurd (omega arith)
-three-set (x ∷ y ∷ []) p q r l = absurd (omega arith)
 three-set (x ∷ y ∷ z ∷ b) p q r l = refl
+three-set _ p q r l = absurd (omega arith)
 
 -- the first four
 four-set : (b : List ℕ) (p q r s : ℕ) → 4 ≤ length b
     → slice_set (slice_set (slice_set (slice_set b 0 p) 1 q) 2 r) 3 s ≡ p ∷ q ∷ r ∷ s ∷ drop 4 b
-four-set [] p q r s l = absurd (omega arith)
-four-set (x ∷ []) p q r s l = absurd (omega arith)
-four-set (x ∷ y ∷ []) p q r s l = absurd (omega arith)
-four-set (x ∷ y ∷ z ∷ []) p q r s l = absurd (omega arith)
 four-set (x ∷ y ∷ z ∷ w ∷ b) p q r s l = refl
+four-set _ p q r s l = absurd (omega arith)
 
 -- Two bytes are a character below U+0800,
 pub two-written : (b : List ℕ) (c : ℕ) → 2 ≤ length b → 128 ≤ c → c < 2048

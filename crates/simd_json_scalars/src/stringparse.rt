@@ -1,19 +1,20 @@
 //! Reads one string, decoded in the bytes it was written in (RFC 8259, section 7).
-ghost use Rattle.std.specs.Prelude.{◌≡◌, ◌≤◌, ◌<◌, ◌+◌, ℕ, List, length, drop, slice_range};
-ghost use Rattle.std.specs.Prelude.{MatchResult, IsUtf8, false};
+ghost use Rattle.std.specs.Prelude.{◌≡◌, ◌≤◌, ◌<◌, ◌+◌, ℕ, List, length, drop, map, MatchResult};
+ghost use Rattle.std.specs.Prelude.{IsUtf8, false};
+ghost use Rattle.std.specs.List.{prefix_len, copy_within};
+ghost use Rattle.std.specs.Simd.Lanes.{mask_l};
 ghost use Rattle.simd_json_parts.specs.Bytes.{quote, byte_at};
 ghost use Rattle.simd_json_parts.specs.StringAt.{closing_quote};
-ghost use Rattle.simd_json_scalars.specs.StringContent.{is_plain};
+ghost use Rattle.simd_json_scalars.specs.StringContent.{is_plain, is_stop};
 ghost use Rattle.simd_json_scalars.specs.StringDecoded.{IsOpen, IsDecoded, IsLeft};
 ghost use Rattle.simd_json_scalars.specs.StringRead.{IsStringAt};
 
 mod escapes;
-mod runs;
 #[cfg(test)]
 mod tests;
 
 use escapes::unescape_one;
-use runs::{move_plain, plain_end};
+use std::simd::prelude::*;
 
 /// A string, split off the front of the unread bytes.
 // In a `Result` its first number shares its place with an error's byte, so the references stay
@@ -54,28 +55,14 @@ pub fn parse_str<'de>(unread: &'de mut [u8]) -> Result<ParsedString<'de>, BadEsc
     ensures { (b : List ℕ) (i : ℕ) → drop i b ≡ unread.old → IsStringAt b i result }
 {
     let plain = plain_end(unread, 1);
-    if unread[plain] == b'"' {
-        return Ok(share(unread, plain, plain));
-    }
-    match unescape(unread, plain) {
-        Ok(ends) => Ok(share(unread, ends.written, ends.read)),
-        Err(bad) => Err(bad),
-    }
-}
-
-// The bytes after the opening quote up to `end` as a string, and those after the closing quote.
-#[inline]
-fn share<'de>(unread: &'de mut [u8], end: usize, closing: usize) -> ParsedString<'de>
-    requires bounds { (1 ≤ end) × (end ≤ closing) × (closing < length unread.old) }
-    requires utf8 { IsUtf8 (slice_range unread.old 1 end) }
-    ensures string { result.string.now ≡ slice_range unread.old 1 end }
-    ensures remaining { result.rest.now ≡ drop (closing + 1) unread.old }
-    ensures len { result.len ≡ closing + 1 }
-{
-    let len = closing + 1;
+    let ends = match unescape(unread, plain) {
+        Ok(ends) => ends,
+        Err(bad) => return Err(bad),
+    };
+    let len = ends.read + 1;
     let (prefix, rest) = unread.split_at_mut(len);
-    let string = unsafe { str::from_utf8_unchecked(&prefix[1..end]) };
-    ParsedString { len, string, rest }
+    let string = unsafe { str::from_utf8_unchecked(&prefix[1..ends.written]) };
+    Ok(ParsedString { len, string, rest })
 }
 
 // The ends of what is read, and of the string that is written.
@@ -85,7 +72,8 @@ struct Ends {
     written: usize,
 }
 
-// Decodes the rest of a string in place, from its first backslash up to its closing quote.
+// Decodes the rest of a string in place, from its first backslash, if it has one, up to its closing
+// quote.
 fn unescape(unread: &mut [u8], from: usize) -> Result<Ends, BadEscape>
     requires goes_on { IsOpen unread.old from }
     requires stops { is_plain (byte_at unread.old from) ≡ false }
@@ -114,4 +102,97 @@ fn unescape(unread: &mut [u8], from: usize) -> Result<Ends, BadEscape>
         }
     }
     Ok(ends)
+}
+
+// Runs of bytes between escapes: their ends are found, and they are moved down.
+
+// Moves the bytes up to the next quote or backslash down, 32 at a time, while it is looked for.
+#[inline]
+fn move_plain(bytes: &mut [u8], from: usize, to: usize) -> Ends
+    requires goes_on { IsOpen bytes.old from }
+    requires order { to ≤ from }
+    ensures { IsDecoded bytes.old from to bytes.new result.read result.written
+        × (is_plain (byte_at bytes.new result.read) ≡ false) }
+{
+    let mut done = 0;
+    while bytes.len() - (from + done) >= 32 {
+        let lanes = u8x32::from_slice(&bytes[from + done..]);
+        let stops = stops(lanes);
+        if stops != 0 {
+            let end = from + done + stops.trailing_zeros() as usize;
+            move_few(bytes, from + done, end, to + done);
+            return Ends {
+                read: end,
+                written: to + (end - from),
+            };
+        }
+        lanes.copy_to_slice(&mut bytes[to + done..]);
+        done += 32;
+    }
+    let end = plain_end_slowly(bytes, from + done);
+    move_few(bytes, from + done, end, to + done);
+    Ends {
+        read: end,
+        written: to + (end - from),
+    }
+}
+
+// Moves at most 32 bytes, from `from` to `end`, down to an index: 16 or more as the first 16 and
+// the last 16, 8 or more as the first 8 and the last 8.
+#[inline]
+fn move_few(bytes: &mut [u8], from: usize, end: usize, to: usize)
+    requires { (to ≤ from) × (from ≤ end) × (end ≤ length bytes.old) × (end ≤ from + 32) }
+    ensures { bytes.new ≡ copy_within bytes.old from end to }
+{
+    let len = end - from;
+    if len < 8 {
+        bytes.copy_within(from..end, to);
+    } else if len < 16 {
+        let first = u8x8::from_slice(&bytes[from..]);
+        let last = u8x8::from_slice(&bytes[end - 8..]);
+        first.copy_to_slice(&mut bytes[to..]);
+        last.copy_to_slice(&mut bytes[to + (len - 8)..]);
+    } else {
+        let first = u8x16::from_slice(&bytes[from..]);
+        let last = u8x16::from_slice(&bytes[end - 16..]);
+        first.copy_to_slice(&mut bytes[to..]);
+        last.copy_to_slice(&mut bytes[to + (len - 16)..]);
+    }
+}
+
+// The next quote or backslash, 32 bytes at a time.
+#[inline]
+fn plain_end(bytes: &[u8], from: usize) -> usize
+    requires { IsOpen bytes.now from }
+    ensures { (result < length bytes.now) × IsDecoded bytes.now from from bytes.now result result
+        × (is_plain (byte_at bytes.now result) ≡ false) }
+{
+    let mut end = from;
+    while bytes.len() - end >= 32 {
+        let stops = stops(u8x32::from_slice(&bytes[end..]));
+        if stops != 0 {
+            return end + stops.trailing_zeros() as usize;
+        }
+        end += 32;
+    }
+    plain_end_slowly(bytes, end)
+}
+
+// A bit for each byte, set if it is a quote or a backslash.
+#[inline]
+fn stops(bytes: u8x32) -> u64
+    ensures { result ≡ mask_l (map is_stop bytes) }
+{
+    (bytes.simd_eq(u8x32::splat(b'"')) | bytes.simd_eq(u8x32::splat(b'\\'))).to_bitmask()
+}
+
+fn plain_end_slowly(bytes: &[u8], from: usize) -> usize
+    requires { from + prefix_len is_plain (drop from bytes.now) < length bytes.now }
+    ensures { result ≡ from + prefix_len is_plain (drop from bytes.now) }
+{
+    let mut end = from;
+    while bytes[end] != b'"' && bytes[end] != b'\\' {
+        end += 1;
+    }
+    end
 }

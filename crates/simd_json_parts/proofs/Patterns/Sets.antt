@@ -11,18 +11,12 @@ use Rattle.simd_json_parts.specs.Derivatives.{takes_empty, is_possible, follow, 
 then-follow : (p q : Pattern) (bs : List ℕ) → Matches (p then q) bs → Matches (follow p q) bs
 then-follow never q bs m = absurd m.3
 then-follow empty q bs (xs, ys, e, mx, my) = subst (Matches q) (sym (e ∙ ap (λ zs. zs ++ ys) mx)) my
-then-follow (range low high) q bs m = m
-then-follow (p then r) q bs m = m
-then-follow (p or r) q bs m = m
-then-follow (many p) q bs m = m
+then-follow p q bs m = m
 
 follow-then : (p q : Pattern) (bs : List ℕ) → Matches (follow p q) bs → Matches (p then q) bs
 follow-then never q bs m = absurd m
 follow-then empty q bs m = ([], bs, refl, refl, m)
-follow-then (range low high) q bs m = m
-follow-then (p then r) q bs m = m
-follow-then (p or r) q bs m = m
-follow-then (many p) q bs m = m
+follow-then p q bs m = m
 
 or-either : (p q : Pattern) (bs : List ℕ) → Matches p bs ⊎ Matches q bs → Matches (either p q) bs
 or-either never q bs (inl m) = absurd m

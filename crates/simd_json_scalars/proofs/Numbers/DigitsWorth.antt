@@ -71,15 +71,6 @@ combined p q r s x y z w pairs P Q R S X Y Z W e =
     rw (masked pairs, masked (pairs / 65536), a, b, c, d, first p r P R, second q s Q S) (last p q r s P Q R S)
 
 eight : (ds : List ℕ) (word : ℕ) → length ds ≡ 8 → AllBelowBase 10 ds → word ≡ number_l 256 ds → worth word ≡ number_from_digits 10 ds
-eight [] word l h e = absurd (omega arith)
-eight (a ∷ []) word l h e = absurd (omega arith)
-eight (a ∷ b ∷ []) word l h e = absurd (omega arith)
-eight (a ∷ b ∷ c ∷ []) word l h e = absurd (omega arith)
-eight (a ∷ b ∷ c ∷ d ∷ []) word l h e = absurd (omega arith)
-eight (a ∷ b ∷ c ∷ d ∷ f ∷ []) word l h e = absurd (omega arith)
-eight (a ∷ b ∷ c ∷ d ∷ f ∷ g ∷ []) word l h e = absurd (omega arith)
-eight (a ∷ b ∷ c ∷ d ∷ f ∷ g ∷ i ∷ []) word l h e = absurd (omega arith)
-eight (a ∷ b ∷ c ∷ d ∷ f ∷ g ∷ i ∷ j ∷ k ∷ ds) word l h e = absurd (omega arith)
 eight (a ∷ b ∷ c ∷ d ∷ f ∷ g ∷ i ∷ j ∷ []) word l h e =
     let rest = b + 256 * (c + 256 * (d + 256 * (f + 256 * (g + 256 * (i + 256 * (j + 256 * 0)))))) in
     let parts : word ≡ rest * 256 + a = omega arith in
@@ -93,6 +84,7 @@ eight (a ∷ b ∷ c ∷ d ∷ f ∷ g ∷ i ∷ j ∷ []) word l h e =
     rw (mod-eq_of_lt tens, moved, mod-eq_of_lt sum) (omega arith) in
     combined _ _ _ _ _ _ _ _ _ (omega arith) (omega arith) (omega arith) (omega arith) (omega arith) (omega arith) (omega arith)
     (omega arith) pairs ∙ omega arith
+eight _ word l h e = absurd (omega arith)
 
 -- ---- the first n of them, behind zeros
 

@@ -106,18 +106,13 @@ shape (a ∷ b ∷ c ∷ d ∷ rest) =
 -- the two spellings of "all four are digits"
 tests : (t u v w : Bool) (o : Option ℕ) → cond (t && u && v && w) o None ≡ cond (t && (u && (v && (w && true)))) o None
 tests true true true true o = refl
-tests false u v w o = refl
-tests true false v w o = refl
-tests true true false w o = refl
-tests true true true false o = refl
+tests t u v w o = refl
 
 -- the last of four digits is one
 last-digit : (t u v w : Bool) → (t && (u && (v && (w && true)))) ≡ true → w ≡ true
 last-digit true true true true e = refl
 last-digit true true true false e = e
-last-digit false u v w e = absurd (false≢true e)
-last-digit true false v w e = absurd (false≢true e)
-last-digit true true false w e = absurd (false≢true e)
+last-digit t u v w e = absurd (false≢true e)
 
 -- four bytes that are not all digits have no number
 value-none : (a b c d : ℕ) (rest : List ℕ) → begins_with_digits 4 (a ∷ b ∷ c ∷ d ∷ rest) ≡ false → hex_value a b c d ≡ None
@@ -125,11 +120,8 @@ value-none a b c d rest e = tests (is_digit a 16) (is_digit b 16) (is_digit c 16
 
 -- and so a backslash and u before them
 code_unit-none : (ys : List ℕ) → begins_with_digits 4 ys ≡ false → code_unit_at (92 ∷ 117 ∷ ys) ≡ None
-code_unit-none [] e = refl
-code_unit-none (a ∷ []) e = refl
-code_unit-none (a ∷ b ∷ []) e = refl
-code_unit-none (a ∷ b ∷ c ∷ []) e = refl
 code_unit-none (a ∷ b ∷ c ∷ d ∷ rest) e = value-none a b c d rest e
+code_unit-none _ e = refl
 
 -- the number, if there is one
 pub code_unit-some : (ys : List ℕ) (u : ℕ) → code_unit_at (92 ∷ 117 ∷ ys) ≡ Some u → FourDigits ys u
@@ -165,20 +157,13 @@ code_unit-content ys = from (shape ys)
 
 -- without a backslash
 no_backslash : (x : ℕ) (r : List ℕ) → nat_eq x 92 ≡ false → code_unit_at (x ∷ r) ≡ None
-no_backslash x [] e = refl
-no_backslash x (u ∷ []) e = refl
-no_backslash x (u ∷ a ∷ []) e = refl
-no_backslash x (u ∷ a ∷ b ∷ []) e = refl
-no_backslash x (u ∷ a ∷ b ∷ c ∷ []) e = refl
 no_backslash x (u ∷ a ∷ b ∷ c ∷ d ∷ r) e = ap (λ t. if t && nat_eq u 117 then hex_value a b c d else None) e
+no_backslash x _ e = refl
 
 -- without a u
 no_u : (u : ℕ) (r : List ℕ) → nat_eq u 117 ≡ false → code_unit_at (92 ∷ u ∷ r) ≡ None
-no_u u [] e = refl
-no_u u (a ∷ []) e = refl
-no_u u (a ∷ b ∷ []) e = refl
-no_u u (a ∷ b ∷ c ∷ []) e = refl
 no_u u (a ∷ b ∷ c ∷ d ∷ r) e = ap (λ t. if t then hex_value a b c d else None) e
+no_u u _ e = refl
 
 -- The same at any bytes.
 pub code_unit-anywhere : (zs : List ℕ) → code_unit_at (content zs) ≡ code_unit_at zs

@@ -199,14 +199,9 @@ decoded-further old mid new r w s v t u d e =
 
 -- ---- where it ends
 
--- The byte up to which the bytes are read is as it stood,
+-- The byte up to which the bytes are read is as it stood.
 pub decoded-byte : (old new : List ℕ) (r w s v : ℕ) → IsDecoded old r w new s v → byte_at new s ≡ byte_at old s
 decoded-byte old new r w s v d = drop-byte new old s d.unread
-
--- also after two steps.
-pub decoded-stops : (old mid new : List ℕ) (r w q u s v : ℕ) → IsDecoded old r w new s v → IsDecoded mid q u new s v
-    → is_plain (byte_at mid s) ≡ false → is_plain (byte_at old s) ≡ false
-decoded-stops old mid new r w q u s v d e stops = ap is_plain (drop-byte old mid s (sym d.unread ∙ e.unread)) ∙ stops
 
 -- At a bad escape nothing more is read.
 pub decoded-left : (old new : List ℕ) (from s v : ℕ) (bad : BadEscape) → IsDecoded old from from new s v → byte_at old s ≡ backslash

@@ -1,8 +1,8 @@
 -- What the reader of a string answers: the string at every index from which its bytes go on.
-use Rattle.std.proofs.Common.{◌≡◌, refl, sym, ◌∙◌, ap, subst, ℕ, suc, ◌+◌, ◌-◌, ◌<◌, List, [], ◌∷◌, length, take, drop, get_or}
+use Rattle.std.proofs.Common.{◌≡◌, refl, sym, ◌∙◌, ap, subst, ℕ, suc, ◌+◌, ◌-◌, ◌<◌, ◌≤◌, List, [], ◌∷◌, length, take, drop, get_or}
 use Rattle.std.proofs.Common.{append-nil, arith}
 use Rattle.std.specs.Prelude.{Ok, Err, IsUtf8, slice_range}
-use Rattle.std.proofs.lemmas.List.{length-drop, drop-drop, drop_at, drop-take, get_or-drop, get_or_default, length-take-le}
+use Rattle.std.proofs.lemmas.List.{length-drop, drop-drop, drop_at, drop-take, get_or-drop, get_or_default, length-take-le, take-take}
 use Rattle.std.proofs.lemmas.Str.{IsUtf8-drop, IsCharBoundary-after_ascii}
 use Rattle.simd_json_parts.specs.Bytes.{quote, byte_at}
 use Rattle.simd_json_parts.specs.StringAt.{closing_quote, escape_fault, read_pieces, string_read, string_at}
@@ -36,6 +36,13 @@ decoded-slice old new s v d =
 -- so that is UTF-8
 pub decoded-string : (old new : List ℕ) (s v : ℕ) → IsDecoded old 1 1 new s v → IsUtf8 (slice_range new 1 v)
 decoded-string old new s v d = subst IsUtf8 (sym (decoded-slice old new s v d)) d.is_string
+
+-- it is the same of the bytes up to the closing quote
+pub slice-front : (bs front : List ℕ) (s v : ℕ) → v ≤ s → front ≡ take (s + 1) bs → take (v - 1) (drop 1 front) ≡ slice_range bs 1 v
+slice-front bs front s v l e =
+    let next : s + 1 ≡ 1 + s = omega arith in
+    ap (λ us. take (v - 1) (drop 1 us)) (e ∙ ap (λ n. take n bs) next) ∙ ap (take (v - 1)) (drop-take 1 s bs)
+    ∙ take-take (v - 1) s (drop 1 bs) (omega arith)
 
 -- the bytes from an index on, and those after a quote there
 opening-at : (b old : List ℕ) (i : ℕ) → drop i b ≡ old → byte_at old 0 ≡ quote → byte_at b i ≡ 34

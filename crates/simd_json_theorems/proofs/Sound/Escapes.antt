@@ -48,12 +48,6 @@ after_code_unit a b c d u bs value h =
 
 -- A code unit stands at the front, or none is read.
 code_unit-cases : (bs : List ℕ) → (code_unit_at bs ≡ None) ⊎ HasCodeUnit bs
-code_unit-cases [] = inl refl
-code_unit-cases (s ∷ []) = inl refl
-code_unit-cases (s ∷ t ∷ []) = inl refl
-code_unit-cases (s ∷ t ∷ a ∷ []) = inl refl
-code_unit-cases (s ∷ t ∷ a ∷ b ∷ []) = inl refl
-code_unit-cases (s ∷ t ∷ a ∷ b ∷ c ∷ []) = inl refl
 code_unit-cases (s ∷ t ∷ a ∷ b ∷ c ∷ d ∷ bs) =
     elim (cases_Bool ((s == backslash) && (t == lower_u))) [
       | inl h ↦
@@ -78,6 +72,7 @@ code_unit-cases (s ∷ t ∷ a ∷ b ∷ c ∷ d ∷ bs) =
           read = cond-true _ _ _ h ∙ value;
           rest = refl;
         })
+code_unit-cases _ = inl refl
 
 -- ---- escapes
 

@@ -1,7 +1,7 @@
 use Rattle.std.proofs.Common.{◌≡◌, ◌+◌, ◌-◌, ◌<◌, length, drop}
 use Rattle.std.specs.List.{prefix_len}
 use Rattle.simd_json_scalars.specs.StringContent.{is_plain}
-use Rattle.simd_json_scalars.proofs.stringparse.runs.plain_end.Given as goal
+use Rattle.simd_json_scalars.proofs.stringparse.plain_end.Given as goal
 
 -- as many plain bytes stand from here on as are left of those from the start, and another byte after them
 abbrev pub invariant-loop-end : goal.invariant-loop-end

@@ -3,7 +3,7 @@ use lib.Count.{count_trailing_zeros}
 use Rattle.simd_json_scalars.specs.StringContent.{is_stop}
 use Rattle.simd_json_parts.proofs.Lists.LaneRuns.{run-through, run-ends}
 use Rattle.simd_json_scalars.proofs.Strings.Decoding.{run-inside, run-ended}
-use Rattle.simd_json_scalars.proofs.stringparse.runs.plain_end.Goals as goal
+use Rattle.simd_json_scalars.proofs.stringparse.plain_end.Goals as goal
 
 pub loop-end-init : goal.loop-end-init
 loop-end-init c = record { value = refl; bound = run-inside c.args.bytes.now c.args.from c.requires.closed }

@@ -3,7 +3,7 @@ use lib.Count.{count_trailing_zeros}
 use Rattle.simd_json_scalars.specs.StringContent.{is_stop}
 use Rattle.simd_json_parts.proofs.Lists.LaneRuns.{run-through, run-ends, run-within}
 use Rattle.simd_json_scalars.proofs.Strings.MovedRuns.{moving-none, moving-more, moving-ends}
-use Rattle.simd_json_scalars.proofs.stringparse.runs.move_plain.Goals as goal
+use Rattle.simd_json_scalars.proofs.stringparse.move_plain.Goals as goal
 
 pub loop-bytes-init : goal.loop-bytes-init
 loop-bytes-init c = moving-none c.args.bytes.now c.args.from c.args.to c.requires.goes_on
