@@ -2,6 +2,7 @@
 use Rattle.std.proofs.Common.{◌≡◌, refl, sym, ◌∙◌, ap, ap₂, subst, ℕ, zero, suc, ◌+◌, ◌-◌, ◌*◌, ◌/◌, ◌%◌, ◌^◌, ◌<◌, ◌==◌, Bool, true, false}
 use Rattle.std.proofs.Common.{not, ◌&&◌, ◌||◌, add-zero, mod-lt, pow_pos, arith}
 use Rattle.std.specs.Bool.{FalseIff}
+use Rattle.std.proofs.Math.Bool.{and-true}
 use lib.Bits.{bit_and, bit_or, bit_xor}
 use mir.Val.{bool_byte}
 use Rattle.simd_json_stages.specs.Words.{is_set, HasBits, xor, escaped_in}
@@ -129,10 +130,6 @@ module _ (c : Bool) (x before : ℕ) (small : x < 2 ^ 64) (is : before ≡ bool_
   hlive : HasBits live_word live
   hlive = bits-same (bits-and (bits-own small) (bits-not (subst (λ w. HasBits w (after c (λ i. false))) (sym is) (bits-byte c)))) go
     where
-      and-true : (t : Bool) → (t && true) ≡ t
-      and-true true = refl
-      and-true false = refl
-
       go : (i : ℕ) → i < 64 → (is_set x i && not (after c (λ i. false) i)) ≡ live i
       go zero l = refl
       go (suc i) l = and-true (is_set x (suc i))
