@@ -3,7 +3,7 @@ use Rattle.std.proofs.Common.{◌≡◌, refl, sym, ◌∙◌, ap, ap₂, ℕ, z
 use Rattle.std.proofs.Common.{add-zero, add-suc, T, arith}
 use Rattle.std.proofs.Math.Bool.{not-not}
 use Rattle.simd_json_parts.specs.Bytes.{quote, backslash, is_whitespace, is_structural, is_control, byte_at}
-use Rattle.simd_json_parts.specs.Positions.{is_even, backslashes_before, is_real_quote, real_quotes, is_inside, is_fresh, is_position}
+use Rattle.simd_json_parts.specs.Positions.{is_even, backslashes_before, is_real_quote, is_inside, is_fresh, is_position}
 use Rattle.simd_json_stages.specs.Carries.{is_escaped_at, is_open_at}
 use Rattle.simd_json_stages.specs.Classes.{is_space_or_quote, is_op_or_quote}
 use Rattle.simd_json_stages.specs.Words.{is_set, xor, escaped_in, parity}

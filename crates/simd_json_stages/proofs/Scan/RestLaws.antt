@@ -1,7 +1,7 @@
 -- The last block, which spaces fill up.
 use Rattle.std.proofs.Common.{◌≡◌, refl, sym, ◌∙◌, ap, ap₂, ℕ, zero, suc, ◌+◌, ◌-◌, ◌*◌, ◌/◌, ◌<◌, ◌≤◌, inl, inr, List, [], ◌∷◌, ◌++◌}
 use Rattle.std.proofs.Common.{length, get_or, take, drop, replicate, Bool, true, false, not, ◌&&◌, ◌||◌, ◌==◌, if◌then◌else◌, add-zero}
-use Rattle.std.proofs.Common.{add-suc, arith, cond, subst, length-drop, length-append, ◌^◌}
+use Rattle.std.proofs.Common.{add-suc, arith, subst, length-drop, length-append}
 use Rattle.std.specs.List.{list_any, range_with_len, filter}
 use Rattle.std.proofs.Math.Bool.{or-false, and-false, not-not}
 use Rattle.std.proofs.lemmas.Bool.{cases_lt}
@@ -29,7 +29,7 @@ use Rattle.simd_json_stages.proofs.Scan.CarryLaws.{filter-next}
 use Rattle.simd_json_stages.proofs.Scan.Bits.Computed.{equal-one}
 use Rattle.simd_json_stages.proofs.Scan.EscapeBlockLaws.{filter-stays, list_any-none_between, holds_backslash-plain, byte_at-past}
 use Rattle.simd_json_stages.proofs.Scan.Bits.Combined.{bits-all, bits-not, bits-or, bits-own, bits-same}
-use Rattle.simd_json_stages.proofs.Scan.Bits.Operations.{flip, is_set-zero}
+use Rattle.simd_json_stages.proofs.Scan.Bits.Operations.{flip}
 use Rattle.simd_json_stages.proofs.Scan.Bits.Places.{length-ones}
 use Rattle.simd_json_stages.proofs.Scan.ScanLaws.{range-add, positions-next, control-next, zero-bits}
 
