@@ -18,8 +18,8 @@ use Rattle.simd_json_stages.specs.declared.stage1.words.Carry.{Carry}
 use Rattle.simd_json_stages.specs.declared.stage1.words.Parts.{Parts}
 use Rattle.simd_json_stages.specs.declared.stage1.words.Classified.{Classified}
 use Rattle.simd_json_stages.proofs.Scan.Bits.Operations.{flip, shl, is_set-zero}
-use Rattle.simd_json_stages.proofs.Scan.Bits.Combined.{bits-and, bits-or, bits-xor, bits-not, bits-same, after, bits-after, bits-all, bits-last}
-use Rattle.simd_json_stages.proofs.Scan.Bits.Combined.{bits-last_spread}
+use Rattle.simd_json_stages.proofs.Scan.Bits.Combined.{bits-and, bits-or, bits-xor, bits-not, bits-same, after, bits-after, bits-all}
+use Rattle.simd_json_stages.proofs.Scan.Bits.Combined.{bits-last, bits-last_spread}
 use Rattle.simd_json_stages.proofs.Scan.BlockLaws.{quote-classes, structural-classes, space-classes, quote-real}
 use Rattle.simd_json_stages.proofs.Scan.BlockLaws.{inside-along, inside-open, escaped-along, position-found}
 use Rattle.simd_json_stages.proofs.Scan.Bits.Escapes.{no_escapes}
