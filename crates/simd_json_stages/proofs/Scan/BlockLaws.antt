@@ -1,14 +1,15 @@
 -- Positions and what is kept, a byte further, in the form in which words compute them.
 use Rattle.std.proofs.Common.{◌≡◌, refl, sym, ◌∙◌, ap, ap₂, ℕ, zero, suc, ◌+◌, ◌<◌, ◌≤◌, List, Bool, true, false, not, ◌&&◌, ◌||◌, ◌==◌}
 use Rattle.std.proofs.Common.{add-zero, add-suc, T, arith}
-use Rattle.std.proofs.Math.Bool.{beq}
+use Rattle.std.proofs.Math.Bool.{not-not}
 use Rattle.simd_json_parts.specs.Bytes.{quote, backslash, is_whitespace, is_structural, is_control, byte_at}
-use Rattle.simd_json_parts.specs.Positions.{is_even, backslashes_before, is_real_quote, real_quotes, is_inside, is_fresh, is_position}
+use Rattle.simd_json_parts.specs.Positions.{is_even, backslashes_before, is_real_quote, is_inside, is_fresh, is_position}
+use Rattle.simd_json_stages.specs.Carries.{is_escaped_at, is_open_at}
 use Rattle.simd_json_stages.specs.Classes.{is_space_or_quote, is_op_or_quote}
 use Rattle.simd_json_stages.specs.Words.{is_set, xor, escaped_in, parity}
 use Rattle.simd_json_stages.specs.Blocks.{is_plain, is_plain_before}
 use Rattle.simd_json_stages.proofs.Scan.CarryLaws.{odd-next, inside-next}
-use Rattle.simd_json_stages.proofs.Scan.Bits.Computed.{upto, upto_sound, same, same_is}
+use Rattle.simd_json_stages.proofs.Scan.Bits.Computed.{upto, upto_sound, same, same_is, equal-three}
 
 -- ---- a byte, by its classes
 
@@ -29,67 +30,44 @@ apart = by_bytes (λ x. is_structural x && is_whitespace x) (λ x. false) tt
 
 -- ---- escapes and real quotes over a block
 
-not-not : (t : Bool) → not (not t) ≡ t
-not-not true = refl
-not-not false = refl
-
-abbrev pub escaped_at : List ℕ → ℕ → Bool
-escaped_at b i = not (is_even (backslashes_before b i))
-
-abbrev pub open_at : List ℕ → ℕ → Bool
-open_at b i = not (is_even (real_quotes b i))
-
-pub escaped-along : (b : List ℕ) (at : ℕ) (c : Bool) (x : ℕ) → c ≡ escaped_at b at
+pub escaped-along : (b : List ℕ) (at : ℕ) (c : Bool) (x : ℕ) → c ≡ is_escaped_at b at
     → ((i : ℕ) → i < 64 → is_set x i ≡ (byte_at b (at + i) == backslash)) → (i : ℕ) → i ≤ 64
-    → escaped_in c x i ≡ escaped_at b (at + i)
+    → escaped_in c x i ≡ is_escaped_at b (at + i)
 unfolding escaped_in
-escaped-along b at c x start h zero l = start ∙ ap (escaped_at b) (sym (add-zero at))
+escaped-along b at c x start h zero l = start ∙ ap (is_escaped_at b) (sym (add-zero at))
 escaped-along b at c x start h (suc i) l =
     ap₂ (λ s t. s && not t) (h i (omega arith)) (escaped-along b at c x start h i (omega arith))
     ∙ ap (λ t. (byte_at b (at + i) == backslash) && t) (not-not (is_even (backslashes_before b (at + i))))
-    ∙ sym (odd-next b (at + i)) ∙ ap (escaped_at b) (sym (add-suc at i))
+    ∙ sym (odd-next b (at + i)) ∙ ap (is_escaped_at b) (sym (add-suc at i))
 
-pub quote-real : (b : List ℕ) (i : ℕ) → ((byte_at b i == quote) && not (escaped_at b i)) ≡ is_real_quote b i
+pub quote-real : (b : List ℕ) (i : ℕ) → ((byte_at b i == quote) && not (is_escaped_at b i)) ≡ is_real_quote b i
 unfolding is_real_quote
 quote-real b i = ap (λ t. (byte_at b i == quote) && t) (not-not (is_even (backslashes_before b i)))
 
-differ : (s t : Bool) → not (beq s t) ≡ xor s t
-differ true true = refl
-differ true false = refl
-differ false true = refl
-differ false false = refl
-
-pub open-next : (b : List ℕ) (i : ℕ) → open_at b (suc i) ≡ xor (open_at b i) (is_real_quote b i)
+pub open-next : (b : List ℕ) (i : ℕ) → is_open_at b (suc i) ≡ xor (is_open_at b i) (is_real_quote b i)
 unfolding is_inside
-open-next b i = inside-next b i ∙ differ (open_at b i) (is_real_quote b i)
+open-next = inside-next
 
-pub inside-open : (b : List ℕ) (i : ℕ) → is_inside b i ≡ open_at b (suc i)
+pub inside-open : (b : List ℕ) (i : ℕ) → is_inside b i ≡ is_open_at b (suc i)
 unfolding is_inside
 inside-open b i = refl
 
 swap : (p q c : Bool) → xor (xor p q) c ≡ xor (xor p c) q
-swap true true true = refl
-swap true true false = refl
-swap true false true = refl
-swap true false false = refl
-swap false true true = refl
-swap false true false = refl
-swap false false true = refl
-swap false false false = refl
+swap = equal-three (λ p q c. xor (xor p q) c) (λ p q c. xor (xor p c) q) tt
 
 open-along : (b : List ℕ) (at : ℕ) (q : ℕ) → ((i : ℕ) → i < 64 → is_set q i ≡ is_real_quote b (at + i)) → (i : ℕ) → i ≤ 64
-    → xor (parity q i) (open_at b at) ≡ open_at b (at + i)
+    → xor (parity q i) (is_open_at b at) ≡ is_open_at b (at + i)
 unfolding parity
-open-along b at q h zero l = ap (open_at b) (sym (add-zero at))
+open-along b at q h zero l = ap (is_open_at b) (sym (add-zero at))
 open-along b at q h (suc i) l =
-    swap (parity q i) (is_set q i) (open_at b at) ∙ ap₂ xor (open-along b at q h i (omega arith)) (h i (omega arith))
-    ∙ sym (open-next b (at + i)) ∙ ap (open_at b) (sym (add-suc at i))
+    swap (parity q i) (is_set q i) (is_open_at b at) ∙ ap₂ xor (open-along b at q h i (omega arith)) (h i (omega arith))
+    ∙ sym (open-next b (at + i)) ∙ ap (is_open_at b) (sym (add-suc at i))
 
 pub inside-along : (b : List ℕ) (at : ℕ) (q : ℕ) → ((i : ℕ) → i < 64 → is_set q i ≡ is_real_quote b (at + i)) → (i : ℕ) → i < 64
-    → xor (parity q (i + 1)) (open_at b at) ≡ is_inside b (at + i)
+    → xor (parity q (i + 1)) (is_open_at b at) ≡ is_inside b (at + i)
 inside-along b at q h i l =
     let e : at + (i + 1) ≡ suc (at + i) = omega arith in
-    open-along b at q h (i + 1) (omega arith) ∙ ap (open_at b) e ∙ sym (inside-open b (at + i))
+    open-along b at q h (i + 1) (omega arith) ∙ ap (is_open_at b) e ∙ sym (inside-open b (at + i))
 
 -- ---- positions
 
@@ -105,7 +83,7 @@ fresh_from false false true false e = refl
 fresh_from false false false false e = refl
 
 -- outside, a byte is fresh just where no plain byte stands before it
-fresh-plain : (b : List ℕ) (i : ℕ) → open_at b i ≡ false → is_fresh b i ≡ not (is_plain_before b i)
+fresh-plain : (b : List ℕ) (i : ℕ) → is_open_at b i ≡ false → is_fresh b i ≡ not (is_plain_before b i)
 unfolding is_plain_before is_inside
 fresh-plain b zero e = refl
 fresh-plain b (suc i) e = fresh_from (is_structural (byte_at b i)) (is_whitespace (byte_at b i)) (is_real_quote b i) (is_inside b i) e
@@ -145,9 +123,9 @@ pub position-found : (b : List ℕ) (i : ℕ) → byte_at b i < 256
 unfolding is_position
 position-found b i small =
     let x = byte_at b i in
-    let e : is_inside b i ≡ xor (open_at b i) (is_real_quote b i) = inside-open b i ∙ open-next b i in
+    let e : is_inside b i ≡ xor (is_open_at b i) (is_real_quote b i) = inside-open b i ∙ open-next b i in
     ap (λ t. not (((is_plain b i && is_plain_before b i) || is_whitespace x) || xor t (is_real_quote b i))) e
-    ∙ found (is_structural x) (is_whitespace x) (is_real_quote b i) (open_at b i) (is_fresh b i) (is_plain_before b i)
+    ∙ found (is_structural x) (is_whitespace x) (is_real_quote b i) (is_open_at b i) (is_fresh b i) (is_plain_before b i)
     (apart x small) (space-real b i small) (fresh-plain b i)
     ∙ ap (λ t. (is_real_quote b i && t) || ((not t && not (is_real_quote b i)) &&
     (is_structural x || (not (is_whitespace x) && is_fresh b i)))) (sym e)

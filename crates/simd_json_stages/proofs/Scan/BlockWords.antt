@@ -2,12 +2,14 @@
 use Rattle.std.proofs.Common.{◌≡◌, refl, sym, ◌∙◌, ap, ap₂, subst, ℕ, zero, suc, ◌+◌, ◌-◌, ◌/◌, ◌%◌, ◌^◌, ◌<◌, List, [], ◌∷◌, length}
 use Rattle.std.proofs.Common.{get_or, Bool, true, false, ◌&&◌, ◌||◌, ◌==◌, add-zero, add-suc, arith}
 use Rattle.std.specs.List.{list_any, range_with_len}
+use Rattle.std.proofs.Math.Bool.{and_comm}
 use Rattle.std.proofs.lemmas.List.{get_or_default}
 use Rattle.std.proofs.lemmas.List.Folds.{list_any_none, list_any_at}
 use lib.Bits.{bit_and, bit_or, bit_xor}
 use mir.Val.{bool_byte}
 use Rattle.simd_json_parts.specs.Bytes.{backslash, is_whitespace, is_structural, is_control, byte_at}
 use Rattle.simd_json_parts.specs.Positions.{is_real_quote, is_inside, is_position}
+use Rattle.simd_json_stages.specs.Carries.{is_escaped_at, is_open_at}
 use Rattle.simd_json_stages.specs.Classes.{is_space_or_quote, is_op_or_quote}
 use Rattle.simd_json_stages.specs.Words.{is_set, HasBits, escaped_in}
 use Rattle.simd_json_stages.specs.Blocks.{is_plain, is_plain_before, all_bits, IsBlock, HasClasses, IsControl, IsCarried, AreClassified}
@@ -16,18 +18,12 @@ use Rattle.simd_json_stages.specs.declared.stage1.words.Carry.{Carry}
 use Rattle.simd_json_stages.specs.declared.stage1.words.Parts.{Parts}
 use Rattle.simd_json_stages.specs.declared.stage1.words.Classified.{Classified}
 use Rattle.simd_json_stages.proofs.Scan.Bits.Operations.{flip, shl, is_set-zero}
-use Rattle.simd_json_stages.proofs.Scan.Bits.Combined.{bits-and, bits-or, bits-xor, bits-not, bits-same, after, bits-after, bits-all, bits-last}
-use Rattle.simd_json_stages.proofs.Scan.Bits.Combined.{bits-last_spread}
-use Rattle.simd_json_stages.proofs.Scan.BlockLaws.{escaped_at, open_at, quote-classes, structural-classes, space-classes, quote-real}
+use Rattle.simd_json_stages.proofs.Scan.Bits.Combined.{bits-and, bits-or, bits-xor, bits-not, bits-same, after, bits-after, bits-all}
+use Rattle.simd_json_stages.proofs.Scan.Bits.Combined.{bits-last, bits-last_spread}
+use Rattle.simd_json_stages.proofs.Scan.BlockLaws.{quote-classes, structural-classes, space-classes, quote-real}
 use Rattle.simd_json_stages.proofs.Scan.BlockLaws.{inside-along, inside-open, escaped-along, position-found}
 use Rattle.simd_json_stages.proofs.Scan.Bits.Escapes.{no_escapes}
 use Rattle.simd_json_stages.proofs.Scan.Bits.Prefix.{prefixes, prefix-bits}
-
-and-swap : (s t : Bool) → (s && t) ≡ (t && s)
-and-swap true true = refl
-and-swap true false = refl
-and-swap false true = refl
-and-swap false false = refl
 
 -- ---- the parts of a block
 
@@ -82,8 +78,8 @@ module _ (b : List ℕ) (at : ℕ) (p : Parts) (control : ℕ) (c : Carry) (part
 
   hwithin : HasBits within (λ i. is_inside b (at + i))
   hwithin =
-      let whole : HasBits c.inside (λ i. open_at b at) = subst (λ w. HasBits w (λ i. open_at b at)) (sym carried.inside)
-      (bits-all (open_at b at)) in
+      let whole : HasBits c.inside (λ i. is_open_at b at) = subst (λ w. HasBits w (λ i. is_open_at b at)) (sym carried.inside)
+      (bits-all (is_open_at b at)) in
       bits-same (bits-xor parts.parity whole) (inside-along b at p.quote parts.quote.bits)
 
   follow : (i : ℕ) → i < 64 → after (is_plain_before b at) (λ i. is_plain b (at + i)) i ≡ is_plain_before b (at + i)
@@ -100,11 +96,11 @@ module _ (b : List ℕ) (at : ℕ) (p : Parts) (control : ℕ) (c : Carry) (part
       (bits-xor hwithin parts.quote))) (λ i l. position-found b (at + i) (parts.bytes i l))
 
   bad-bits : HasBits (bit_and control within) (λ i. is_inside b (at + i) && is_control (byte_at b (at + i)))
-  bad-bits = bits-same (bits-and hcontrol hwithin) (λ i l. and-swap (is_control (byte_at b (at + i))) (is_inside b (at + i)))
+  bad-bits = bits-same (bits-and hcontrol hwithin) (λ i l. and_comm (is_control (byte_at b (at + i))) (is_inside b (at + i)))
 
-  inside-out : (0 + (2 ^ 64 - within / 2 ^ 63)) % 2 ^ 64 ≡ all_bits (open_at b (at + 64))
+  inside-out : (0 + (2 ^ 64 - within / 2 ^ 63)) % 2 ^ 64 ≡ all_bits (is_open_at b (at + 64))
   inside-out = let e : suc (at + 63) ≡ at + 64 = omega arith in bits-last_spread hwithin
-      ∙ ap all_bits (inside-open b (at + 63) ∙ ap (open_at b) e)
+      ∙ ap all_bits (inside-open b (at + 63) ∙ ap (is_open_at b) e)
 
   pub starts-found : AreStarts b at (record {
     starts = flip (bit_or (bit_or (bit_and p.plain follows) p.space)
@@ -139,20 +135,20 @@ any-zero p xs w long h e = list_any_none p xs (λ k d l. ap p (get_or_default xs
 -- ---- which bytes of a block are escaped, with a backslash in it or without
 
 abbrev pub AreEscaped : List ℕ → ℕ → ℕ → ℕ → Type 0
-AreEscaped b at escaped next = HasBits escaped (λ i. escaped_at b (at + i)) × (next ≡ bool_byte (escaped_at b (at + 64)))
+AreEscaped b at escaped next = HasBits escaped (λ i. is_escaped_at b (at + i)) × (next ≡ bool_byte (is_escaped_at b (at + 64)))
 
 pub escaped-some : (b : List ℕ) (at : ℕ) (x escaped next : ℕ) → HasBits x (λ i. byte_at b (at + i) == backslash)
-    → HasBits escaped (escaped_in (escaped_at b at) x) × (next ≡ bool_byte (escaped_in (escaped_at b at) x 64))
+    → HasBits escaped (escaped_in (is_escaped_at b at) x) × (next ≡ bool_byte (escaped_in (is_escaped_at b at) x 64))
     → AreEscaped b at escaped next
 escaped-some b at x escaped next h r =
-    let along = escaped-along b at (escaped_at b at) x (λ _. escaped_at b at) h.bits in
+    let along = escaped-along b at (is_escaped_at b at) x (λ _. is_escaped_at b at) h.bits in
     (bits-same r.0 (λ j l. along j (omega arith)), r.1 ∙ ap bool_byte (along 64 (omega arith)))
 
-pub escaped-none : (b : List ℕ) (at : ℕ) (before : ℕ) → before ≡ bool_byte (escaped_at b at)
+pub escaped-none : (b : List ℕ) (at : ℕ) (before : ℕ) → before ≡ bool_byte (is_escaped_at b at)
     → ((i : ℕ) → i < 64 → (byte_at b (at + i) == backslash) ≡ false) → AreEscaped b at before 0
 escaped-none b at before e none =
-    let along = escaped-along b at (escaped_at b at) 0 (λ _. escaped_at b at) (λ j l. is_set-zero j ∙ sym (none j l)) in
-    let r = no_escapes (escaped_at b at) before e in
+    let along = escaped-along b at (is_escaped_at b at) 0 (λ _. is_escaped_at b at) (λ j l. is_set-zero j ∙ sym (none j l)) in
+    let r = no_escapes (is_escaped_at b at) before e in
     (bits-same r.0 (λ j l. along j (omega arith)), r.1 ∙ ap bool_byte (along 64 (omega arith)))
 
 -- ---- what is found in a block by itself

@@ -3,16 +3,14 @@ use Rattle.std.proofs.Common.{◌≡◌, refl, ◌∙◌, ap, ℕ, zero, suc, �
 use Rattle.std.proofs.Common.{add-one, arith}
 use Rattle.std.specs.Prelude.{filter, if◌then◌else◌}
 use Rattle.std.specs.List.{range_with_len}
-use Rattle.std.proofs.Math.Bool.{beq}
+use Rattle.std.proofs.Math.Bool.{not-not}
 use Rattle.std.proofs.lemmas.List.{append-nil}
 use Rattle.std.proofs.lemmas.List.Elements.{filter-append}
 use Rattle.simd_json_parts.specs.Bytes.{backslash, byte_at}
 use Rattle.simd_json_parts.specs.Positions.{is_even, backslashes_before, is_real_quote, real_quotes, is_inside}
 use Rattle.simd_json_parts.proofs.Lists.Parity.{is_even-suc}
-
-not-not : (t : Bool) → not (not t) ≡ t
-not-not true = refl
-not-not false = refl
+use Rattle.simd_json_stages.specs.Words.{xor}
+use Rattle.simd_json_stages.proofs.Scan.Bits.Computed.{equal-one}
 
 -- ---- the definitions
 
@@ -27,17 +25,14 @@ odd-next b i = go (byte_at b i == backslash)
     go false = refl
 
 -- inside turns at each real quote
-pub inside-next : (b : List ℕ) (i : ℕ) → is_inside b i ≡ not (beq (not (is_even (real_quotes b i))) (is_real_quote b i))
+pub inside-next : (b : List ℕ) (i : ℕ) → is_inside b i ≡ xor (not (is_even (real_quotes b i))) (is_real_quote b i)
 unfolding is_inside real_quotes
 inside-next b i = go (is_real_quote b i)
   where
-    differs : (e : Bool) → (not e ≡ not (beq (not e) false)) × (e ≡ not (beq (not e) true))
-    differs true = (refl, refl)
-    differs false = (refl, refl)
-
-    go : (t : Bool) → not (is_even (if t then suc (real_quotes b i) else real_quotes b i)) ≡ not (beq (not (is_even (real_quotes b i))) t)
-    go true = ap not (is_even-suc (real_quotes b i)) ∙ not-not (is_even (real_quotes b i)) ∙ (differs (is_even (real_quotes b i))).1
-    go false = (differs (is_even (real_quotes b i))).0
+    go : (t : Bool) → not (is_even (if t then suc (real_quotes b i) else real_quotes b i)) ≡ xor (not (is_even (real_quotes b i))) t
+    go true = ap not (is_even-suc (real_quotes b i))
+        ∙ equal-one (λ e. not (not e)) (λ e. xor (not e) true) tt (is_even (real_quotes b i))
+    go false = equal-one not (λ e. xor (not e) false) tt (is_even (real_quotes b i))
 
 range-next : (a n : ℕ) → range_with_len a (suc n) ≡ range_with_len a n ++ (a + n) ∷ []
 range-next a zero = ap (λ m. m ∷ []) (omega arith)

@@ -4,10 +4,10 @@ use Rattle.std.proofs.Common.{Bool, true, false, ◌&&◌, add-zero, add-suc, in
 use Rattle.std.specs.Int.{from_bool}
 use Rattle.std.proofs.lemmas.Bool.{cases_lt}
 use Rattle.std.proofs.lemmas.List.{append-nil}
-use lib.Bits.{bit_or, or_add_and, and_le_l}
-use Rattle.std.proofs.lemmas.Nat.{and_le_r}
+use lib.Bits.{bit_or}
 use Rattle.simd_json_parts.specs.Bytes.{is_control, byte_at}
 use Rattle.simd_json_parts.specs.Positions.{is_real_quote, is_inside, is_position}
+use Rattle.simd_json_stages.specs.Carries.{is_open_at}
 use Rattle.simd_json_stages.specs.Words.{is_set, xor}
 use Rattle.simd_json_stages.specs.Blocks.{is_plain_before, all_bits, AreParts, IsControl, AreStarts, IsPlaced}
 use Rattle.simd_json_stages.specs.Groups.{HasNoQuotes}
@@ -17,14 +17,10 @@ use Rattle.simd_json_stages.specs.declared.stage1.scan.Placing.{Placing}
 use Rattle.simd_json_stages.proofs.Scan.Bits.Combined.{bits-same}
 use Rattle.simd_json_stages.proofs.Scan.Bits.Operations.{is_set-zero}
 use Rattle.simd_json_stages.proofs.Scan.Bits.Places.{set_bits-zero}
-use Rattle.simd_json_stages.proofs.Scan.BlockLaws.{open_at, open-next, inside-open}
+use Rattle.simd_json_stages.proofs.Scan.BlockLaws.{open-next, inside-open}
 use Rattle.simd_json_stages.proofs.Scan.ScanLaws.{IsPlaced-next}
 
 -- ---- no quotes
-
-pub or-none : (x y : ℕ) → bit_or x y ≡ 0 → (x ≡ 0) × (y ≡ 0)
-or-none x y none =
-    (omega (arith, or_add_and x y, and_le_l x y, and_le_r x y), omega (arith, or_add_and x y, and_le_l x y, and_le_r x y))
 
 -- no bit for a real one
 pub HasNoQuotes-block : (b : List ℕ) (at : ℕ) (p : Parts) → AreParts b at p → p.quote ≡ 0 → HasNoQuotes b at (at + 64)
@@ -42,17 +38,17 @@ HasNoQuotes-next b from to end first second = λ i l h. elim (cases_lt i to) [
 
 -- ---- a block that begins inside a string
 
-module _ (b : List ℕ) (at : ℕ) (start : open_at b at ≡ true) (none : HasNoQuotes b at (at + 64)) where
+module _ (b : List ℕ) (at : ℕ) (start : is_open_at b at ≡ true) (none : HasNoQuotes b at (at + 64)) where
   no_quote : (i : ℕ) → i < 64 → is_real_quote b (at + i) ≡ false
   no_quote i l = none (at + i) (omega arith) (omega arith)
 
-  open-along : (i : ℕ) → i ≤ 64 → open_at b (at + i) ≡ true
-  open-along zero l = ap (open_at b) (add-zero at) ∙ start
-  open-along (suc i) l = ap (open_at b) (add-suc at i) ∙ open-next b (at + i)
+  open-along : (i : ℕ) → i ≤ 64 → is_open_at b (at + i) ≡ true
+  open-along zero l = ap (is_open_at b) (add-zero at) ∙ start
+  open-along (suc i) l = ap (is_open_at b) (add-suc at i) ∙ open-next b (at + i)
       ∙ ap₂ xor (open-along i (omega arith)) (no_quote i (omega arith))
 
   inside-along : (i : ℕ) → i < 64 → is_inside b (at + i) ≡ true
-  inside-along i l = inside-open b (at + i) ∙ ap (open_at b) (sym (add-suc at i)) ∙ open-along (suc i) (omega arith)
+  inside-along i l = inside-open b (at + i) ∙ ap (is_open_at b) (sym (add-suc at i)) ∙ open-along (suc i) (omega arith)
 
   no_position : (i : ℕ) → i < 64 → is_position b (at + i) ≡ false
   unfolding is_position
@@ -97,7 +93,7 @@ pub IsPlaced-inside : (b : List ℕ) (k : ℕ) (p : Placing) (bad : ℕ) (out : 
     → IsControl b (64 * k) control → HasNoQuotes b (64 * k) (64 * k + 64) → IsPlaced b k (passed b k p bad) out
     → IsPlaced b (k + 1) (passed b (k + 1) p (bit_or bad control)) out
 IsPlaced-inside b k p bad out control inside hcontrol none h =
-    let start : open_at b (64 * k) ≡ true = open-carried (open_at b (64 * k)) p.carry.inside h.carried.inside inside in
+    let start : is_open_at b (64 * k) ≡ true = open-carried (is_open_at b (64 * k)) p.carry.inside h.carried.inside inside in
     let all : p.carry.inside ≡ all_bits true = h.carried.inside ∙ ap all_bits start in
     let e : 64 * (k + 1) ≡ 64 * k + 64 = omega arith in
     let plain = ap (λ n. from_bool (is_plain_before b n)) e in

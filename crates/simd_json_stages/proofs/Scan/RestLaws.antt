@@ -1,9 +1,10 @@
 -- The last block, which spaces fill up.
 use Rattle.std.proofs.Common.{◌≡◌, refl, sym, ◌∙◌, ap, ap₂, ℕ, zero, suc, ◌+◌, ◌-◌, ◌*◌, ◌/◌, ◌<◌, ◌≤◌, inl, inr, List, [], ◌∷◌, ◌++◌}
 use Rattle.std.proofs.Common.{length, get_or, take, drop, replicate, Bool, true, false, not, ◌&&◌, ◌||◌, ◌==◌, if◌then◌else◌, add-zero}
-use Rattle.std.proofs.Common.{add-suc, arith, cond, subst, length-drop, length-append, ◌^◌}
+use Rattle.std.proofs.Common.{add-suc, arith, subst, length-drop, length-append}
 use Rattle.std.specs.List.{list_any, range_with_len, filter}
-use Rattle.std.proofs.lemmas.Bool.{cases_lt, ne_eqb}
+use Rattle.std.proofs.Math.Bool.{or-false, and-false, not-not}
+use Rattle.std.proofs.lemmas.Bool.{cases_lt}
 use Rattle.std.proofs.lemmas.List.{get_or_past, get_or_default, get_or_append_left, get_or-append_right, get_or-replicate}
 use Rattle.std.proofs.lemmas.List.{get_or-drop, drop-drop}
 use Rattle.std.proofs.lemmas.List.{length-replicate, drop-replicate, length-take-le}
@@ -25,11 +26,12 @@ use Rattle.simd_json_stages.specs.declared.stage1.words.Classified.{Classified}
 use Rattle.simd_json_stages.specs.declared.stage1.scan.Placing.{Placing}
 use Rattle.simd_json_stages.specs.declared.stage1.scan.Classifying.{Classifying}
 use Rattle.simd_json_stages.proofs.Scan.CarryLaws.{filter-next}
+use Rattle.simd_json_stages.proofs.Scan.Bits.Computed.{equal-one}
 use Rattle.simd_json_stages.proofs.Scan.EscapeBlockLaws.{filter-stays, list_any-none_between, holds_backslash-plain, byte_at-past}
-use Rattle.simd_json_stages.proofs.Scan.Bits.Combined.{bits-all, bits-not, bits-or, bits-same}
-use Rattle.simd_json_stages.proofs.Scan.Bits.Operations.{flip, is_set-zero}
-use Rattle.simd_json_stages.proofs.Scan.Bits.Places.{length-ones, set_bits-filter, set_bits-first}
-use Rattle.simd_json_stages.proofs.Scan.ScanLaws.{range-add, positions-next, control-next}
+use Rattle.simd_json_stages.proofs.Scan.Bits.Combined.{bits-all, bits-not, bits-or, bits-own, bits-same}
+use Rattle.simd_json_stages.proofs.Scan.Bits.Operations.{flip}
+use Rattle.simd_json_stages.proofs.Scan.Bits.Places.{length-ones}
+use Rattle.simd_json_stages.proofs.Scan.ScanLaws.{range-add, positions-next, control-next, zero-bits}
 
 -- how many whole blocks there are
 abbrev pub whole : List ℕ → ℕ
@@ -60,10 +62,6 @@ IsBlock-rest b rest front e copied =
       ];
     }
 
-or-false : (t : Bool) → (t || false) ≡ t
-or-false true = refl
-or-false false = refl
-
 -- the rest is at the end of the last 64 bytes
 pub IsBlock-last : (b rest last : List ℕ) → rest ≡ drop (length b / 64 * 64) b → 64 ≤ length b → last ≡ drop (length b - 64) b
     → IsBlock b (64 * whole b) (drop (64 - length rest) last ++ replicate (64 - length rest) 32)
@@ -80,9 +78,6 @@ IsBlock-last b rest last e long is =
 
 abbrev pub filled : ℕ → List ℕ → List ℕ
 filled len xs = drop (64 - len) xs ++ replicate (64 - len) 32
-
-own : (w : ℕ) → w < 2 ^ 64 → HasBits w (is_set w)
-own w small = record { small = small; bits = λ i l. refl }
 
 module _ (xs : List ℕ) (len : ℕ) (long : length xs ≡ 64) (short : len < 64) where
   size : length (drop (64 - len) xs) ≡ len
@@ -118,7 +113,7 @@ module _ (xs : List ℕ) (len : ℕ) (long : length xs ≡ 64) (short : len < 64
 
     -- a class that a space is not of
     pub bits-moved : q 32 ≡ false → HasBits w' (λ i. q (get_or (filled len xs) i 0))
-    bits-moved space = bits-same (own w' is.small) (λ i l. elim (cases_lt i len) [
+    bits-moved space = bits-same (bits-own is.small) (λ i l. elim (cases_lt i len) [
       | inl h ↦ here i h
       | inr h ↦ is.behind i h l ∙ sym (ap q (filled-behind i h l) ∙ space)
     ])
@@ -126,27 +121,15 @@ module _ (xs : List ℕ) (len : ℕ) (long : length xs ≡ 64) (short : len < 64
     -- one that it is of
     pub bits-filled : (m : ℕ) → HasLastBits len (all_bits true) m → q 32 ≡ true
         → HasBits (bit_or w' (flip m)) (λ i. q (get_or (filled len xs) i 0))
-    bits-filled m mask space = bits-same (bits-or (own w' is.small) (bits-not (own m mask.small))) (λ i l. elim (cases_lt i len) [
+    bits-filled m mask space = bits-same (bits-or (bits-own is.small) (bits-not (bits-own mask.small))) (λ i l. elim (cases_lt i len) [
       | inl h ↦ ap₂ (λ s t. s || not t) (here i h) (mask.front i h ∙ (bits-all true).bits (64 - len + i) (omega arith))
           ∙ or-false (q (get_or (filled len xs) i 0))
       | inr h ↦ ap₂ (λ s t. s || not t) (is.behind i h l) (mask.behind i h l) ∙ sym (ap q (filled-behind i h l) ∙ space)
     ])
 
 -- a word of backslashes is 0 where there is none
-filter-some : (p : ℕ → Bool) (ks : List ℕ) (k : ℕ) (rest : List ℕ) → filter p ks ≡ k ∷ rest → list_any p ks ≡ true
-filter-some p [] k rest h = cc h
-filter-some p (j ∷ ks) k rest h = by (p j) (filter-some p ks k rest) h
-  where
-    by : (t : Bool) → (filter p ks ≡ k ∷ rest → list_any p ks ≡ true) → cond t (j ∷ filter p ks) (filter p ks) ≡ k ∷ rest
-        → (t || list_any p ks) ≡ true
-    by true later h = refl
-    by false later h = later h
-
 pub any-set : (p : ℕ → Bool) (at w : ℕ) → HasBits w (λ i. p (at + i)) → not (w == 0) ≡ list_any p (range_with_len at 64)
-any-set p at zero has = sym (list_any-none_between p at 64 (λ j f t. let there : at + (j - at) ≡ j = omega arith in
-    ap p (sym there) ∙ sym (has.bits (j - at) (omega arith)) ∙ is_set-zero (j - at)))
-any-set p at (suc w) has = ap not (ne_eqb (suc w) 0 (λ e. omega (arith, e))) ∙ sym (filter-some p (range_with_len at 64) _ _
-    (sym (set_bits-filter p 64 at (suc w) has.bits) ∙ set_bits-first 64 at (suc w) (omega arith) has.small))
+any-set p at w has = ap not (zero-bits p 64 at w has.small has.bits) ∙ not-not (list_any p (range_with_len at 64))
 
 -- ---- past the end there are spaces
 
@@ -156,10 +139,6 @@ space-past b i l = get_or_past b i 32 l
 real-past : (b : List ℕ) (i : ℕ) → length b ≤ i → is_real_quote b i ≡ false
 unfolding is_real_quote
 real-past b i l = ap (λ x. (x == quote) && is_even (backslashes_before b i)) (space-past b i l)
-
-and-false : (t : Bool) → (t && false) ≡ false
-and-false true = refl
-and-false false = refl
 
 position-past : (b : List ℕ) (i : ℕ) → length b ≤ i → is_position b i ≡ false
 unfolding is_position
@@ -191,13 +170,8 @@ control-all b n =
 
 -- ---- what the last block adds
 
-not-not : (t : Bool) → not (not t) ≡ t
-not-not true = refl
-not-not false = refl
-
 all-zero : (t : Bool) → not (all_bits t == 0) ≡ t
-all-zero true = refl
-all-zero false = refl
+all-zero = equal-one (λ t. not (all_bits t == 0)) (λ t. t) tt
 
 pub rest-bad : (b : List ℕ) (p : Placing) (out : List ℕ) (m : BlockStarts) → IsPlaced b (whole b) p out → AreStarts b (64 * whole b) m
     → (not (m.carry.inside == 0) || not (bit_or p.bad m.bad == 0)) ≡ has_bad_string b

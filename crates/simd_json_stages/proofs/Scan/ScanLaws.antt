@@ -4,7 +4,8 @@ use Rattle.std.proofs.Common.{inl, inr, List, [], ◌∷◌, ◌++◌, length, g
 use Rattle.std.proofs.Common.{add-zero, zero-add, arith, pow-suc, eqb-true, eq-eqb}
 use Rattle.std.specs.Int.{from_bool}
 use Rattle.std.specs.List.{list_any, range_with_len, filter}
-use Rattle.std.proofs.lemmas.Bool.{cases_lt, ne_eqb, eqb-false}
+use Rattle.std.proofs.lemmas.Bool.{cases_lt, ne_eqb, eqb-false, and_parts}
+use Rattle.std.specs.Cmp.Derive.{one_truth}
 use Rattle.std.proofs.lemmas.Nat.Bits.{bit_at_lowest, bit_at-suc}
 use lib.ListN.{set}
 use Rattle.std.proofs.lemmas.Grind.{common_steps}
@@ -30,6 +31,7 @@ use Rattle.simd_json_stages.specs.declared.stage1.scan.Placing.{Placing}
 use Rattle.simd_json_stages.specs.declared.stage1.scan.ScanState.{ScanState}
 use Rattle.simd_json_stages.specs.declared.stage1.scan.Classifying.{Classifying}
 use Rattle.simd_json_stages.proofs.Scan.CarryLaws.{filter-next}
+use Rattle.simd_json_stages.proofs.Scan.Bits.Computed.{equal-two}
 use Rattle.simd_json_stages.proofs.Scan.Bits.Places.{set_bits-filter}
 
 pub range-add : (a m n : ℕ) → range_with_len a (m + n) ≡ range_with_len a m ++ range_with_len (a + m) n
@@ -65,10 +67,9 @@ zero-halves w = go (w % 2 == 1) refl
     ]
 
 neither : (s t : Bool) → (not s && not t) ≡ not (s || t)
-neither true t = refl
-neither false t = refl
+neither = equal-two (λ s t. not s && not t) (λ s t. not (s || t)) tt
 
-zero-bits : (f : ℕ → Bool) (k at w : ℕ) → w < 2 ^ k → ((i : ℕ) → i < k → is_set w i ≡ f (at + i))
+pub zero-bits : (f : ℕ → Bool) (k at w : ℕ) → w < 2 ^ k → ((i : ℕ) → i < k → is_set w i ≡ f (at + i))
     → (w == 0) ≡ not (list_any f (range_with_len at k))
 unfolding is_set
 zero-bits f zero at w h e = let z : w ≡ 0 = omega arith in eq-eqb _ _ z
@@ -78,19 +79,19 @@ zero-bits f (suc k) at w h e =
     (λ i lt. ap (λ n. n == 1) (sym (bit_at-suc w i)) ∙ e (suc i) (omega arith) ∙ ap f (omega arith)) in
     zero-halves w ∙ ap₂ (λ s t. not s && t) first rest ∙ neither (f at) (list_any f (range_with_len (at + 1) k))
 
+pub or-none : (x y : ℕ) → bit_or x y ≡ 0 → (x ≡ 0) × (y ≡ 0)
+or-none x y none =
+    (omega (arith, or_add_and x y, and_le_l x y, and_le_r x y), omega (arith, or_add_and x y, and_le_l x y, and_le_r x y))
+
 or-zero : (x y : ℕ) → (bit_or x y == 0) ≡ ((x == 0) && (y == 0))
-or-zero x y = go (x == 0) refl (y == 0) refl
-  where
-    go : (s : Bool) → (x == 0) ≡ s → (t : Bool) → (y == 0) ≡ t → (bit_or x y == 0) ≡ (s && t)
-    go true e true f =
-        let a : x ≡ 0 = eqb-true _ _ e in
-        let c : y ≡ 0 = eqb-true _ _ f in
-        let z : bit_or x y ≡ 0 = omega (arith, or_add_and x y) in
-        eq-eqb _ _ z
-    go true e false f = let c : y ≢ 0 = eqb-false _ _ f in ne_eqb (bit_or x y) 0
-        (λ z. omega (arith, or_add_and x y, and_le_l x y, and_le_r x y))
-    go false e t f = let a : x ≢ 0 = eqb-false _ _ e in ne_eqb (bit_or x y) 0
-        (λ z. omega (arith, or_add_and x y, and_le_l x y, and_le_r x y))
+or-zero x y = one_truth _ _
+    (λ h. let none = or-none x y (eqb-true _ _ h) in ap₂ (λ s t. s && t) (eq-eqb _ _ none.0) (eq-eqb _ _ none.1))
+    (λ h.
+    let parts = and_parts (x == 0) (y == 0) h in
+    let a : x ≡ 0 = eqb-true _ _ parts.0 in
+    let c : y ≡ 0 = eqb-true _ _ parts.1 in
+    let z : bit_or x y ≡ 0 = omega (arith, or_add_and x y) in
+    eq-eqb _ _ z)
 
 pub control-next : (b : List ℕ) (k bad w : ℕ) → (bad == 0) ≡ not (has_control_before b (64 * k))
     → HasBits w (λ i. is_inside b (64 * k + i) && is_control (byte_at b (64 * k + i)))
@@ -150,10 +151,6 @@ IsPlaced-next b k p out m after used h placed written few within =
     }
 
 -- ---- the same block, counted otherwise
-
-pub IsClassified-same : {b : List ℕ} {m n : ℕ} {s : Classifying} {listed : List ℕ} → m ≡ n → IsClassified b m s listed
-    → IsClassified b n s listed
-IsClassified-same {b} {m} {n} {s} {listed} e h = subst (λ k. IsClassified b k s listed) e h
 
 pub IsPlaced-same : {b : List ℕ} {m n : ℕ} {p : Placing} {out : List ℕ} → m ≡ n → IsPlaced b m p out → IsPlaced b n p out
 IsPlaced-same {b} {m} {n} {p} {out} e h = subst (λ k. IsPlaced b k p out) e h

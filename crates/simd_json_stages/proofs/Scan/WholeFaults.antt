@@ -13,22 +13,11 @@ use Rattle.simd_json_parts.specs.declared.error.ErrorType.TheVariants.{Syntax, E
 use Rattle.simd_json_stages.specs.Scans.{IsShort, IsBadEncoding, LacksMemory}
 
 -- what the two tests on a scan decide
-fault-found : (b : List ℕ) (bad none : Bool) → length b ≤ max_length → IsUtf8 b → has_bad_string b ≡ bad
+pub fault-found : (b : List ℕ) (bad none : Bool) → length b ≤ max_length → IsUtf8 b → has_bad_string b ≡ bad
     → (length (positions b) == 0) ≡ none
     → input_fault b ≡ (if bad then Some (whole_fault Syntax) else if none then Some (whole_fault Eof) else None)
 fault-found b bad none l string e f =
     scanned b l string ∙ ap₂ (λ s t. if s then Some (whole_fault Syntax) else if t then Some (whole_fault Eof) else None) e f
-
-pub bad-found : (b : List ℕ) → length b ≤ max_length → IsUtf8 b → has_bad_string b ≡ true → input_fault b ≡ Some (whole_fault Syntax)
-bad-found b l string e = fault-found b true (length (positions b) == 0) l string e refl
-
-pub none-found : (b : List ℕ) → length b ≤ max_length → IsUtf8 b → has_bad_string b ≡ false → (length (positions b) == 0) ≡ true
-    → input_fault b ≡ Some (whole_fault Eof)
-none-found b l string e f = fault-found b false true l string e f
-
-pub some-found : (b : List ℕ) → length b ≤ max_length → IsUtf8 b → has_bad_string b ≡ false → (length (positions b) == 0) ≡ false
-    → input_fault b ≡ None
-some-found b l string e f = fault-found b false false l string e f
 
 -- lists that are short now were short before they grew
 still-short : (b us vs xs ys : List ℕ) → length us ≤ length xs → length vs ≤ length ys → IsShort b xs ys → IsShort b us vs

@@ -1,6 +1,7 @@
 -- Words by what their bits are: each operation on words is one on bits.
 use Rattle.std.proofs.Common.{◌≡◌, ℕ, zero, suc, ◌+◌, ◌-◌, ◌*◌, ◌/◌, ◌%◌, ◌^◌, ◌<◌, Bool, true, false, not, ◌&&◌, ◌||◌, ◌==◌, refl, sym}
 use Rattle.std.proofs.Common.{ap, ap₂, ◌∙◌, arith, mod-lt, pow_pos}
+use Rattle.std.proofs.Math.Bool.{or-false}
 use lib.Bits.{bit_and, bit_or, bit_xor, and_le_l, or_lt, xor_lt}
 use mir.Val.{bool_byte}
 use Rattle.simd_json_stages.specs.Words.{is_set, HasBits, xor}
@@ -61,10 +62,6 @@ bits-byte c = record { small = byte_lt c; bits = go }
 pub bits-after : {x : ℕ} {p : ℕ → Bool} (c : Bool) → HasBits x p → HasBits (bit_or (shl 1 x) (bool_byte c)) (after c p)
 bits-after {x} {p} c h = bits-same (bits-or (bits-shl h) (bits-byte c)) go
   where
-    or-false : (t : Bool) → (t || false) ≡ t
-    or-false true = refl
-    or-false false = refl
-
     go : (i : ℕ) → i < 64 → (after false p i || after c (λ i. false) i) ≡ after c p i
     go zero l = refl
     go (suc i) l = or-false (p i)

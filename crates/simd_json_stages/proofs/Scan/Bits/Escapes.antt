@@ -1,11 +1,12 @@
 -- The escaped bytes of a block: the ends of odd runs of backslashes, which the sum of the runs' starts and the backslashes finds.
-use Rattle.std.proofs.Common.{◌≡◌, refl, sym, ◌∙◌, ap, ap₂, subst, ℕ, zero, suc, ◌+◌, ◌-◌, ◌*◌, ◌/◌, ◌%◌, ◌^◌, ◌<◌, ◌==◌, Bool, true, false}
+use Rattle.std.proofs.Common.{◌≡◌, refl, sym, ◌∙◌, ap, ap₂, subst, ℕ, zero, suc, ◌+◌, ◌/◌, ◌%◌, ◌^◌, ◌<◌, ◌==◌, Bool, true, false}
 use Rattle.std.proofs.Common.{not, ◌&&◌, ◌||◌, add-zero, mod-lt, pow_pos, arith}
 use Rattle.std.specs.Bool.{FalseIff}
+use Rattle.std.proofs.Math.Bool.{and-true}
 use lib.Bits.{bit_and, bit_or, bit_xor}
 use mir.Val.{bool_byte}
 use Rattle.simd_json_stages.specs.Words.{is_set, HasBits, xor, escaped_in}
-use Rattle.simd_json_stages.proofs.Scan.Bits.Computed.{upto, upto_sound, same, same_is}
+use Rattle.simd_json_stages.proofs.Scan.Bits.Computed.{upto_sound, same, same_is}
 use Rattle.simd_json_stages.proofs.Scan.Bits.Operations.{flip, shl, is_set-lowest, is_set-half, is_set-mod, is_set-above, is_set-zero}
 use Rattle.simd_json_stages.proofs.Scan.Bits.Combined.{bits-and, bits-xor, bits-not, bits-same, bits-own, after, bits-byte, bits-shl}
 use Rattle.simd_json_stages.proofs.Scan.Bits.Combined.{bits-after, number-bool}
@@ -129,10 +130,6 @@ module _ (c : Bool) (x before : ℕ) (small : x < 2 ^ 64) (is : before ≡ bool_
   hlive : HasBits live_word live
   hlive = bits-same (bits-and (bits-own small) (bits-not (subst (λ w. HasBits w (after c (λ i. false))) (sym is) (bits-byte c)))) go
     where
-      and-true : (t : Bool) → (t && true) ≡ t
-      and-true true = refl
-      and-true false = refl
-
       go : (i : ℕ) → i < 64 → (is_set x i && not (after c (λ i. false) i)) ≡ live i
       go zero l = refl
       go (suc i) l = and-true (is_set x (suc i))

@@ -9,13 +9,14 @@ use Rattle.std.proofs.lemmas.Nat.{and_le_r, le_or_l, le_or_r}
 use Rattle.std.proofs.lemmas.Simd.{bitmask_splat, Each1-all, Each1-zip2, Each2-splat, length-zip2, mask_l-mod, mask_l-lt, swz_l, SwzOk}
 use Rattle.std.proofs.lemmas.Simd.{SwzOk-from_below, length-swz_l, get_or-swz_l_below, zip2_splat, zip2_of_maps, length-chunk}
 use Rattle.std.proofs.lemmas.Simd.{tops_compared, zip2_splat_left, get_or-zip2}
+use Rattle.std.proofs.Math.Bool.{or-false}
 use lib.Bits.{or_lt}
 use lib.Lanes.{chunk, zip2, mask_l, top, Each1}
 use Rattle.std.specs.List.{list_any}
 use Rattle.std.proofs.lemmas.List.Folds.{list_any-append}
 use Rattle.simd_json_stages.specs.Words.{is_set, HasBits}
 use Rattle.simd_json_stages.proofs.Scan.Bits.Operations.{is_set-or, is_set-mask_l, shl, is_set-shl_low, is_set-shl_high, is_set-zero}
-use Rattle.simd_json_stages.proofs.Scan.Bits.Computed.{upto, upto_sound, same, same_is}
+use Rattle.simd_json_stages.proofs.Scan.Bits.Computed.{upto, upto_sound, same, same_is, equal-two}
 
 abbrev pub IsHalf : List ℕ → Type 0
 IsHalf v = (length v ≡ 32) × Each1 (Fits w8) v
@@ -98,10 +99,6 @@ two_halves p xs ys zs a b m n e ae be = record {
   bits = λ i l. is_set-or a (shl 32 b) i ∙ at i l (cases_lt i 32);
 }
   where
-    or-false : (t : Bool) → (t || false) ≡ t
-    or-false true = refl
-    or-false false = refl
-
     none : (xs : List ℕ) (i : ℕ) → length xs ≤ i → get_or (map p xs) i false ≡ false
     none xs i l = get_or_past (map p xs) i false (omega (arith, length-map xs p))
 
@@ -161,10 +158,7 @@ hits k (x ∷ xs) [] h = absurd (omega arith)
 hits k (x ∷ xs) (y ∷ ys) h = ap₂ (λ t l. t ∷ l) (either (eqb x k) (eqb y k)) (hits k xs ys (omega arith))
   where
     either : (s t : Bool) → top 7 (bit_or (cond s (2 ^ 8 - 1) 0) (cond t (2 ^ 8 - 1) 0)) ≡ (s || t)
-    either true true = refl
-    either true false = refl
-    either false true = refl
-    either false false = refl
+    either = equal-two (λ s t. top 7 (bit_or (cond s (2 ^ 8 - 1) 0) (cond t (2 ^ 8 - 1) 0))) (λ s t. s || t) tt
 
 mask-any : (ms : List Bool) → not (eqb (mask_l ms) 0) ≡ list_any (λ t. t) ms
 mask-any [] = refl

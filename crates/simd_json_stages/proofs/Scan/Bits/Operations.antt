@@ -1,5 +1,5 @@
 -- One bit of what each operation on words gives.
-use Rattle.std.proofs.Common.{◌≡◌, refl, sym, ◌∙◌, ap, ℕ, zero, suc, ◌+◌, ◌-◌, ◌*◌, ◌/◌, ◌%◌, ◌^◌, ◌<◌, ◌≤◌, ◌==◌, min, max, Bool, true}
+use Rattle.std.proofs.Common.{◌≡◌, refl, sym, ◌∙◌, ap, ℕ, suc, ◌+◌, ◌-◌, ◌*◌, ◌/◌, ◌%◌, ◌^◌, ◌<◌, ◌≤◌, ◌==◌, min, max, Bool, true}
 use Rattle.std.proofs.Common.{false, not, ◌&&◌, ◌||◌, cond, List, get_or, arith, w64, pow_pos}
 use Rattle.std.specs.Int.{bit_at}
 use Rattle.std.proofs.lemmas.Nat.Bits.{bit_at_and, bit_at_or, bit_at_xor, bit_at_not, bit_at_ones, bit_at_lowest, bit_at-suc, bit_at-zero}
@@ -9,40 +9,21 @@ use lib.Bits.{bit_and, bit_or, bit_xor}
 use lib.Lanes.{mask_l}
 use mir.Val.{bool_byte}
 use Rattle.simd_json_stages.specs.Words.{is_set, xor}
+use Rattle.simd_json_stages.proofs.Scan.Bits.Computed.{equal-bits}
 
 -- ---- bits as numbers
 
 both : (a b : ℕ) → a < 2 → b < 2 → (min a b == 1) ≡ ((a == 1) && (b == 1))
-both zero zero l m = refl
-both zero (suc zero) l m = refl
-both zero (suc (suc b)) l m = absurd (omega arith)
-both (suc zero) zero l m = refl
-both (suc zero) (suc zero) l m = refl
-both (suc zero) (suc (suc b)) l m = absurd (omega arith)
-both (suc (suc a)) b l m = absurd (omega arith)
+both = equal-bits (λ a b. min a b == 1) (λ a b. (a == 1) && (b == 1)) tt
 
 either : (a b : ℕ) → a < 2 → b < 2 → (max a b == 1) ≡ ((a == 1) || (b == 1))
-either zero zero l m = refl
-either zero (suc zero) l m = refl
-either zero (suc (suc b)) l m = absurd (omega arith)
-either (suc zero) zero l m = refl
-either (suc zero) (suc zero) l m = refl
-either (suc zero) (suc (suc b)) l m = absurd (omega arith)
-either (suc (suc a)) b l m = absurd (omega arith)
+either = equal-bits (λ a b. max a b == 1) (λ a b. (a == 1) || (b == 1)) tt
 
 one_of : (a b : ℕ) → a < 2 → b < 2 → ((a + b) % 2 == 1) ≡ xor (a == 1) (b == 1)
-one_of zero zero l m = refl
-one_of zero (suc zero) l m = refl
-one_of zero (suc (suc b)) l m = absurd (omega arith)
-one_of (suc zero) zero l m = refl
-one_of (suc zero) (suc zero) l m = refl
-one_of (suc zero) (suc (suc b)) l m = absurd (omega arith)
-one_of (suc (suc a)) b l m = absurd (omega arith)
+one_of = equal-bits (λ a b. (a + b) % 2 == 1) (λ a b. xor (a == 1) (b == 1)) tt
 
 other : (a : ℕ) → a < 2 → (1 - a == 1) ≡ not (a == 1)
-other zero l = refl
-other (suc zero) l = refl
-other (suc (suc a)) l = absurd (omega arith)
+other a l = equal-bits (λ a b. 1 - a == 1) (λ a b. not (a == 1)) tt a a l l
 
 -- ---- and, or, xor, not
 

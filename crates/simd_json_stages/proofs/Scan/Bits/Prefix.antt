@@ -1,9 +1,10 @@
 -- Six shifts, each joined by xor, give the parity of the bits up to each place.
-use Rattle.std.proofs.Common.{◌≡◌, refl, sym, ◌∙◌, ap, ap₂, ℕ, suc, ◌+◌, ◌-◌, ◌*◌, ◌^◌, ◌<◌, Bool, true, false, inl, inr, arith, mod-lt}
+use Rattle.std.proofs.Common.{◌≡◌, refl, sym, ◌∙◌, ap, ap₂, ℕ, suc, ◌+◌, ◌-◌, ◌*◌, ◌^◌, ◌<◌, Bool, false, inl, inr, arith, mod-lt}
 use Rattle.std.proofs.Common.{pow_pos}
 use Rattle.std.proofs.lemmas.Bool.{cases_lt}
 use lib.Bits.{bit_xor, xor_lt}
 use Rattle.simd_json_stages.specs.Words.{is_set, HasBits, xor, parity}
+use Rattle.simd_json_stages.proofs.Scan.Bits.Computed.{equal-one, equal-two, equal-three}
 use Rattle.simd_json_stages.proofs.Scan.Bits.Operations.{shl, is_set-xor, is_set-shl_low, is_set-shl_high}
 
 -- an odd number of the n bits that end with bit i is set; where there are fewer, of all up to bit i
@@ -11,18 +12,10 @@ abbrev window : ℕ → ℕ → ℕ → Bool
 window x n i = xor (parity x (i + 1)) (parity x (i + 1 - n))
 
 xor-false : (s : Bool) → xor s false ≡ s
-xor-false true = refl
-xor-false false = refl
+xor-false = equal-one (λ s. xor s false) (λ s. s) tt
 
 chained : (s t u : Bool) → xor (xor s t) (xor t u) ≡ xor s u
-chained true true true = refl
-chained true true false = refl
-chained true false true = refl
-chained true false false = refl
-chained false true true = refl
-chained false true false = refl
-chained false false true = refl
-chained false false false = refl
+chained = equal-three (λ s t u. xor (xor s t) (xor t u)) (λ s t u. xor s u) tt
 
 -- a window of one bit
 single : (x i : ℕ) → is_set x i ≡ window x 1 i
@@ -30,13 +23,8 @@ unfolding parity
 single x i =
     let up : i + 1 ≡ suc i = omega arith in
     let down : i + 1 - 1 ≡ i = omega arith in
-    last (parity x i) (is_set x i) ∙ sym (ap₂ (λ m n. xor (parity x m) (parity x n)) up down)
-  where
-    last : (s t : Bool) → t ≡ xor (xor s t) s
-    last true true = refl
-    last true false = refl
-    last false true = refl
-    last false false = refl
+    equal-two (λ s t. t) (λ s t. xor (xor s t) s) tt (parity x i) (is_set x i)
+    ∙ sym (ap₂ (λ m n. xor (parity x m) (parity x n)) up down)
 
 -- A window and the one before it are a window of twice the length.
 doubled : (x y n : ℕ) → HasBits y (window x n) → HasBits (bit_xor y (shl n y)) (window x (2 * n))

@@ -47,15 +47,14 @@ returns-clause-found g c =
     s.placed.carried in
     let a = c.grow in
     let w = c.write_exactly in
+    let xs = w.new.structural_indexes in
     let d = c.args.done.classifying in
     let p = c.args.done.placing in
-    let long : length w.new.structural_indexes ≡ a.new.list.len = omega arith in
-    let out : take a.new.list.len (w.new.structural_indexes ++ drop (length w.new.structural_indexes) a.new.list.items) ≡ w.new.structural_indexes = written-back w.new.structural_indexes _
-    a.new.list.len long in
+    let out : take a.new.list.len (xs ++ drop (length xs) a.new.list.items) ≡ xs = written-back xs _ _ (omega arith) in
     let total : w.result ≡ p.used + ones m.starts = omega arith in
     let before : take p.used c.as_mut_slice.result.now ≡ take p.used c.args.structural_indexes.now.items = ap
     (take p.used) c.as_mut_slice.ensures.value ∙ prefix p.used _ _ s.placed.within a.ensures.kept in
-    let capacity : p.used + ones m.starts ≤ length w.new.structural_indexes = omega
+    let capacity : p.used + ones m.starts ≤ length xs = omega
     (arith, ap length c.as_mut_slice.ensures.value, c.in_ok-grow.ensures.capacity) in
     let utf8 = c.in_ok-check_window.ensures.utf8 in
     let end : c.in_ok-check_window.field-0 ≡ length b = c.in_ok-check_window.ensures.whole refl in
@@ -77,8 +76,8 @@ returns-clause-found g c =
     record {
       encoding = utf8-reached b c.in_ok-check_window.field-0 end utf8.1;
       bad = rest-bad b p _ m s.placed placed;
-      within = subst (λ xs. p.used + ones m.starts ≤ length xs) (sym out) capacity;
-      listed = ap (take (p.used + ones m.starts)) out ∙ ap (λ n. take n w.new.structural_indexes) (sym total) ∙ w.ensures.written
+      within = subst (λ ys. p.used + ones m.starts ≤ length ys) (sym out) capacity;
+      listed = ap (take (p.used + ones m.starts)) out ∙ ap (λ n. take n xs) (sym total) ∙ w.ensures.written
           ∙ ap (λ l. l ++ set_bits 64 (64 * whole b) m.starts) before
           ∙ rest-positions b p _ m s.placed placed;
       blocks_within = blocks.0;

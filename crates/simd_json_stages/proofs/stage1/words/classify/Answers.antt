@@ -2,14 +2,14 @@ use Rattle.std.proofs.Common.{◌∙◌, ◌==◌, ap, sym, arith}
 use Rattle.simd_json_parts.specs.Bytes.{backslash}
 use Rattle.simd_json_stages.proofs.Scan.Bits.Combined.{bits-same}
 use Rattle.simd_json_stages.proofs.Scan.BlockWords.{none-any, escaped-some, escaped-none, classified-found}
-use Rattle.simd_json_stages.proofs.Scan.BlockLaws.{escaped_at}
+use Rattle.simd_json_stages.specs.Carries.{is_escaped_at}
 use Rattle.simd_json_stages.proofs.stage1.words.classify.Goals as goal
 
 pub returns-then-m-clause-classified : goal.returns-then-m-clause-classified
 returns-then-m-clause-classified c = λ b i e before.
     let m = c.classes-m.ensures in
     let found = escaped-some b i c.backslashes.result _ _ (bits-same c.backslashes.ensures (λ n l. ap (λ y. y == backslash) (e.same n l)))
-    (c.find_escaped-e.ensures (escaped_at b i) before) in
+    (c.find_escaped-e.ensures (is_escaped_at b i) before) in
     classified-found b i c.args.bytes.now _ e c.fits-bytes m.space_or_quote m.op_or_quote m.control m.ascii m.escapes found
 
 pub returns-else-m-clause-classified : goal.returns-else-m-clause-classified

@@ -5,7 +5,7 @@ use Rattle.simd_json_stages.specs.Classes.{is_space_or_quote, is_op_or_quote}
 use Rattle.simd_json_stages.specs.Words.{HasBits, is_set}
 use Rattle.simd_json_stages.proofs.Scan.Bits.Combined.{bits-same}
 use Rattle.simd_json_stages.proofs.Scan.Bits.Operations.{is_set-zero}
-use Rattle.simd_json_stages.proofs.Scan.BlockLaws.{escaped_at}
+use Rattle.simd_json_stages.specs.Carries.{is_escaped_at}
 use Rattle.simd_json_stages.proofs.Scan.BlockWords.{any-bytes, AreEscaped, escaped-some, escaped-none, classified-found}
 use Rattle.simd_json_stages.proofs.Scan.RestLaws.{filled, filled-each, filled-bytes, bits-moved, bits-filled, any-set}
 use Rattle.simd_json_stages.proofs.stage1.words.classify_last.Goals.{then-backslash-ne0, else-backslash-ne0}
@@ -23,7 +23,7 @@ returns c = λ b i block before.
     (bits-moved xs len long short (λ x. x == backslash) c.backslashes.result _ c.backslashes.ensures k.ensures refl)
     (λ j l. ap (λ x. x == backslash) (block.same j l)) in
     let found : AreEscaped b i c.if-backslash-ne0.escaped.escaped c.if-backslash-ne0.escaped.next = elim c.if-backslash-ne0.branch [
-      | then-backslash-ne0 w ↦ rw w.escaped-is (escaped-some b i k.result _ _ has (w.find_escaped.ensures (escaped_at b i) before))
+      | then-backslash-ne0 w ↦ rw w.escaped-is (escaped-some b i k.result _ _ has (w.find_escaped.ensures (is_escaped_at b i) before))
       | else-backslash-ne0 w ↦ rw w.escaped-is (escaped-none b i c.args.before before
           (λ j l. sym (has.bits j l) ∙ ap (λ x. is_set x j) w.if-backslash-ne0.false ∙ is_set-zero j))
     ] in

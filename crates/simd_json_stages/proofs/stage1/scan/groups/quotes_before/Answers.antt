@@ -1,6 +1,7 @@
 use Rattle.std.proofs.Common.{◌≡◌, ◌+◌, ◌*◌, subst, arith}
 use Rattle.simd_json_stages.specs.Groups.{HasNoQuotes}
-use Rattle.simd_json_stages.proofs.Scan.InsideLaws.{HasNoQuotes-block, HasNoQuotes-next, or-none}
+use Rattle.simd_json_stages.proofs.Scan.ScanLaws.{or-none}
+use Rattle.simd_json_stages.proofs.Scan.InsideLaws.{HasNoQuotes-block, HasNoQuotes-next}
 use Rattle.simd_json_stages.proofs.stage1.scan.groups.quotes_before.Goals as goal
 
 pub loop-k-init : goal.loop-k-init
