@@ -22,8 +22,7 @@ use Rattle.simd_json_stages.specs.Put.{IsStringPut, IsScalarPut}
 use Rattle.simd_json_stages.specs.declared.stage2.progress.Progress.{Progress}
 use Rattle.simd_json_stages.specs.declared.stage2.stack.StackState.{StackState}
 use Rattle.simd_json_stages.proofs.Machine.InputLaws.{reads-kept}
-use Rattle.simd_json_stages.proofs.Tokens.Places.{token, at-inside, position-inside, next-later, IsRead-next, IsRead-same, end-before_next}
-use Rattle.simd_json_stages.proofs.Tokens.Places.{token-read}
+use Rattle.simd_json_stages.proofs.Tokens.Places.{token, at-inside, position-inside, next-later, end-before_next, token-read}
 use Rattle.simd_json_stages.proofs.Tokens.TokenForms.{quotes}
 
 -- where the last position holds a closing bracket, after any other token a position is left
@@ -57,6 +56,28 @@ next-read n = ap (λ (q : Progress). q.read) n.same
 
 pub next-byte : {b ps : List ℕ} {p q : Progress} → IsNext b ps p q → byte_at b (get_or ps p.read 0) ≡ q.byte
 next-byte n = sym (ap (λ (q : Progress). q.byte) n.same)
+
+-- one more position is read
+pub read-next : {b ps : List ℕ} {p q : Progress} → IsRead b ps p → p.read < length ps → q.read ≡ p.read + 1 → q.at ≡ get_or ps p.read 0
+    → q.byte ≡ byte_at b (get_or ps p.read 0) → IsRead b ps q
+read-next {b} {ps} {p} {q} r l read at byte =
+    let before : p.read ≡ q.read - 1 = omega (arith, read) in
+    record {
+      some = omega (arith, read);
+      within = omega (arith, read, l);
+      last = at ∙ ap (λ k. get_or ps k 0) before;
+      first = byte ∙ ap (byte_at b) (sym at);
+    }
+
+-- it is the next one
+pub is-next : {b ps : List ℕ} {p q : Progress} → IsRead b ps p → p.read < length ps
+    → q ≡ record p { read = p.read + 1; at = get_or ps p.read 0; byte = byte_at b (get_or ps p.read 0) } → IsNext b ps p q
+is-next r more is =
+    record {
+      more = more;
+      read = read-next r more (ap (λ (q : Progress). q.read) is) (ap (λ (q : Progress). q.at) is) (ap (λ (q : Progress). q.byte) is);
+      same = is;
+    }
 
 -- to go on twice
 module _ (b ps : List ℕ) where
@@ -95,25 +116,6 @@ module _ (b ps : List ℕ) (e : ps ≡ positions b) where
 
   pub later : (p : Progress) → IsRead b ps p → p.read < length ps → p.at < get_or ps p.read 0
   later = lift (λ ps. (p : Progress) → IsRead b ps p → p.read < length ps → p.at < get_or ps p.read 0) (next-later b)
-
-  pub read-next : (p q : Progress) → IsRead b ps p → p.read < length ps → q.read ≡ p.read + 1 → q.at ≡ get_or ps p.read 0
-      → q.byte ≡ byte_at b (get_or ps p.read 0) → IsRead b ps q
-  read-next = lift (λ ps. (p q : Progress) → IsRead b ps p → p.read < length ps → q.read ≡ p.read + 1 → q.at ≡ get_or ps p.read 0
-      → q.byte ≡ byte_at b (get_or ps p.read 0) → IsRead b ps q) (IsRead-next b)
-
-  read-same : (p q : Progress) → IsRead b ps p → q.read ≡ p.read → q.at ≡ p.at → q.byte ≡ p.byte → IsRead b ps q
-  read-same = lift (λ ps. (p q : Progress) → IsRead b ps p → q.read ≡ p.read → q.at ≡ p.at → q.byte ≡ p.byte → IsRead b ps q)
-      (IsRead-same b)
-
-  -- it is the next one
-  pub is-next : (p q : Progress) → IsRead b ps p → p.read < length ps
-      → q ≡ record p { read = p.read + 1; at = get_or ps p.read 0; byte = byte_at b (get_or ps p.read 0) } → IsNext b ps p q
-  is-next p q r more is =
-      record {
-        more = more;
-        read = read-next p q r more (ap (λ (q : Progress). q.read) is) (ap (λ (q : Progress). q.at) is) (ap (λ (q : Progress). q.byte) is);
-        same = is;
-      }
 
   -- a value's first token, and a name's, is read by the descent
   token-along : (before : List Token) (i : ℕ) (rest : List ℕ) → tokens_along b ps ≡ before ++ tokens_along b (i ∷ rest)
@@ -164,7 +166,7 @@ module _ {b ps : List ℕ} {p : Progress} (e : ps ≡ positions b) where
   after-value nodes nodes' x put r ahead =
       let more = one-more nodes nodes' x put in
       record {
-        read = read-same b ps e p (record p { len = p.len + 1 }) r.read refl refl refl;
+        read = record { some = r.read.some; within = r.read.within; last = r.read.last; first = r.read.first };
         few = omega (arith, r.few);
         deep = omega (arith, r.deep);
         len = omega (arith, r.len);
@@ -185,7 +187,7 @@ module _ {b ps : List ℕ} {p : Progress} (e : ps ≡ positions b) where
         byte = byte_at b (get_or ps p.read 0);
         len = p.len + 1;
       } in
-      let read : IsRead b ps s = read-next b ps e p s r.read n.more refl refl refl in
+      let read : IsRead b ps s = read-next r.read n.more refl refl refl in
       record {
         read = read;
         few = omega (arith, r.few);
@@ -211,11 +213,7 @@ module _ {b ps : List ℕ} {p : Progress} (e : ps ≡ positions b) where
       } in
       subst (λ (q : Progress). IsBefore b ps (Reads b t) (length nodes') (opened q)) (sym n.same)
       (record {
-        read = read-next b ps e p (opened (record p {
-          read = p.read + 1;
-          at = get_or ps p.read 0;
-          byte = byte_at b (get_or ps p.read 0);
-        })) r.read n.more refl refl refl;
+        read = read-next r.read n.more refl refl refl;
         few = omega (arith, r.few);
         deep = omega (arith, r.deep);
         len = omega (arith, r.len);

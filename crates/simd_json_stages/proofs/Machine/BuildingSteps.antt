@@ -18,7 +18,7 @@ use Rattle.simd_json_parts.specs.declared.error.ErrorType.{ErrorType}
 use Rattle.simd_json_parts.specs.declared.error.ErrorType.TheVariants.{Syntax}
 use Rattle.simd_json_parts.proofs.Positions.TokensAtPositions.{tokens-positions}
 use Rattle.simd_json_stages.specs.Continued.{Open, in_array, in_object, at_value, at_name, after_value}
-use Rattle.simd_json_stages.specs.Building.{closer, header_of, frames, top, patch, Holds, HoldsValue, HoldsMembers, closed_with, missing}
+use Rattle.simd_json_stages.specs.Building.{closer, header_of, frames, top, patch, Headed, Holds, HoldsValue, HoldsMembers, closed_with, missing}
 use Rattle.simd_json_stages.specs.Building.{whole, AtValue, AtName, AfterValue, AtMemberOf, AtMember, IsBuilt, IsWritten, IsFirstFault}
 use Rattle.simd_json_stages.specs.Progresses.{IsNext}
 use Rattle.simd_json_stages.specs.Put.{IsStringPut, IsScalarPut}
@@ -29,8 +29,8 @@ use Rattle.simd_json_stages.specs.declared.stage2.progress.Progress.{Progress}
 use Rattle.simd_json_stages.specs.declared.stage2.stack.StackState.{StackState}
 use Rattle.simd_json_stages.specs.declared.stage2.fault.Fault.{Fault}
 use Rattle.simd_json_stages.specs.declared.stage2.fault.FaultKind.TheVariants as kinds
-use Rattle.simd_json_stages.proofs.Machine.Holding.{Holds-value, Holds-name, Holds-comma, Holds-member_comma, Holds-open, Holds-open_object}
-use Rattle.simd_json_stages.proofs.Machine.Holding.{HasHeader, Holds-close, Holds-header, Holds-outer_len, listing-some}
+use Rattle.simd_json_stages.proofs.Machine.Holding.{Holds-value, Holds-name, Holds-comma, Holds-member_comma, Headed-open}
+use Rattle.simd_json_stages.proofs.Machine.Holding.{HasHeader, Holds-close, Holds-top, listing-some}
 use Rattle.simd_json_stages.proofs.Machine.Bounds.{next-byte, one_more, two_more, two-left, two-is}
 use Rattle.simd_json_stages.proofs.Tokens.Places.{token}
 use Rattle.simd_json_stages.proofs.Machine.Steps.{opening_form, ending_form, empty_of, at_container, container-open, container-close}
@@ -232,6 +232,10 @@ module _ {b ps : List ℕ} {limit : ℕ} {stack : List StackState} {nodes : List
       rest : List ℕ
       rest = drop (p.read + 1) ps
 
+      opened_holds : (c : Container) → Headed (Holds at.opens) [] 0 (f ∷ frames stack p.depth) 0 (nodes ++ header_of c 0 0 ∷ [])
+      opened_holds Array = Headed-open _ refl at.opens p.container (frames stack p.depth) p.len nodes header at.holds head
+      opened_holds Object = Headed-open _ refl at.opens p.container (frames stack p.depth) p.len nodes header at.holds head
+
       go : (c : Container) → nodes' ≡ nodes ++ header_of c 0 0 ∷ [] → form_at b p.at ≡ opening_form c → byte_at b i ≢ closer c
           → AtMember b ps limit kinds.ExpectedObjectContent (set stack p.depth f) nodes'
           (record { read = p.read + 1; at = i; byte = byte_at b i; depth = p.depth + 1; container = c; len = 0 })
@@ -243,7 +247,7 @@ module _ {b ps : List ℕ} {limit : ℕ} {stack : List StackState} {nodes : List
         along = opened-along Array at is n.more;
         holds = subst (λ fs. Holds (in_array [] ∷ at.opens) Array fs 0 nodes')
             (sym (frames-push stack f p.depth s)) (subst (Holds (in_array [] ∷ at.opens) Array (f ∷ frames stack p.depth) 0)
-            (sym put) (Holds-open at.opens p.container (frames stack p.depth) f p.len nodes at.holds head refl refl));
+            (sym put) (refl, opened_holds Array));
         deep = omega (arith, at.deep);
       }
       go Object put is other = record {
@@ -255,7 +259,7 @@ module _ {b ps : List ℕ} {limit : ℕ} {stack : List StackState} {nodes : List
         along = opened-along Object at is n.more;
         holds = subst (λ fs. HoldsMembers [] at.opens Object fs 0 nodes')
             (sym (frames-push stack f p.depth s)) (subst (HoldsMembers [] at.opens Object (f ∷ frames stack p.depth) 0)
-            (sym put) (Holds-open_object at.opens p.container (frames stack p.depth) f p.len nodes at.holds head refl refl));
+            (sym put) (refl, opened_holds Object));
         deep = omega (arith, at.deep);
       }
 
@@ -351,10 +355,8 @@ module _ {b ps : List ℕ} {limit : ℕ} {stack : List StackState} {nodes : List
       go : (opens' : List Open) → HoldsValue opens' at.last p.container (frames stack p.depth) p.len nodes → length opens' ≡ p.depth
           → HasHeader nodes (top stack p.depth).header × ((top stack p.depth).len < length nodes)
       go [] h deep = absurd (omega (arith, deep, some))
-      go (o ∷ outer) h deep = (
-        Holds-header o outer at.last p.container (top stack p.depth) (frames stack (p.depth - 1)) p.len nodes (held o outer _ stack nodes p some h),
-        Holds-outer_len o outer at.last p.container (top stack p.depth) (frames stack (p.depth - 1)) p.len nodes (held o outer _ stack nodes p some h),
-      )
+      go (o ∷ outer) h deep = Holds-top o outer at.last p.container (top stack p.depth) (frames stack (p.depth - 1)) p.len nodes
+          (held o outer _ stack nodes p some h)
 
   -- a name and its colon, and the value after it
   pub step-name : {kind : ErrorType} {nodes' : List Item} {reads : ℕ → Type 0} {q s : Progress}

@@ -24,7 +24,7 @@ use Rattle.simd_json_stages.proofs.Machine.InputLaws.{reads-kept}
 module _ {b ps : List ℕ} {p q : Progress} (e : ps ≡ positions b) where
   -- the second of two positions is after the first
   rises : {s : Progress} → IsRead b ps p → IsNext b ps p q → IsNext b ps q s → get_or ps p.read 0 < get_or ps (p.read + 1) 0
-  rises r n m = later b ps e (one_more b ps p) (read-next b ps e p (one_more b ps p) r n.more refl refl refl) (two-left n m)
+  rises r n m = later b ps e (one_more b ps p) (read-next r n.more refl refl refl) (two-left n m)
 
   -- after a comma
   pub comma-progress : {t : Input} {written : ℕ} {s : Progress} → IsAfter b ps (Reads b t) written p → IsNext b ps p q
@@ -63,7 +63,7 @@ module _ {b ps : List ℕ} {p q : Progress} (e : ps ≡ positions b) where
   closed-after {t} {written} {now} stack same r some fewer n is =
       subst (IsAfter b ps (Reads b t) now) (sym (is ∙ ap (closed_at stack) n.same))
       (let s : Progress = closed_at stack (one_more b ps p) in
-      let read : IsRead b ps s = read-next b ps e p s r.read n.more refl refl refl in
+      let read : IsRead b ps s = read-next r.read n.more refl refl refl in
       record {
         read = read;
         few = omega (arith, r.few);

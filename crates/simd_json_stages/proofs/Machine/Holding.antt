@@ -3,7 +3,7 @@ use Rattle.std.proofs.Common.{◌≡◌, refl, sym, ◌∙◌, ap, subst, ℕ, �
 use Rattle.std.proofs.Common.{get_or, length-append, true, arith}
 use Rattle.std.proofs.Math.Seq.{get_or-append_seam}
 use Rattle.std.proofs.lemmas.List.{append-nil}
-use Rattle.simd_json_parts.specs.Document.{Document, null, boolean, integer, decimal, string, array, object, elements, members}
+use Rattle.simd_json_parts.specs.Document.{Document, array, object, elements, members}
 use Rattle.simd_json_parts.specs.Document.{no_elements, no_members}
 use Rattle.simd_json_parts.specs.Nodes.{Item, static_item, string_item, array_item, object_item}
 use Rattle.simd_json_parts.specs.Listing.{listing, elements_listing, members_listing}
@@ -12,7 +12,6 @@ use Rattle.simd_json_stages.specs.Continued.{Open, in_array, in_object, elements
 use Rattle.simd_json_stages.specs.Building.{header_of, is_header, listings, member_listings, Headed, Holds, HoldsValue, HoldsMembers}
 use Rattle.simd_json_stages.specs.Building.{closed_with}
 use Rattle.simd_json_stages.specs.declared.stage2.stack.Container.{Container}
-use Rattle.simd_json_stages.specs.declared.stage2.stack.Container.TheVariants.{Array, Object}
 use Rattle.simd_json_stages.specs.declared.stage2.stack.StackState.{StackState}
 
 -- ---- listings
@@ -57,13 +56,9 @@ listing-object_of ms = rw (members_listing-onto ms, length-members_onto ms) refl
 
 -- there are no more members than nodes
 pub listing-some : (d : Document) → 0 < length (listing d)
-listing-some null = omega arith
-listing-some (boolean b) = omega arith
-listing-some (integer minus n) = omega arith
-listing-some (decimal literal) = omega arith
-listing-some (string t) = omega arith
 listing-some (array ds) = omega arith
 listing-some (object ms) = omega arith
+listing-some _ = omega arith
 
 length-listings : (ds : List Document) → length ds ≤ length (listings ds)
 length-listings [] = omega arith
@@ -123,18 +118,11 @@ patched item before us header n at len items is at-is count =
 abbrev pub HasHeader : List Item → ℕ → Type 0
 HasHeader items k = (k < length items) × (is_header (get_or items k (static_item Null)) ≡ true)
 
-Headed-header : (round : Container → List StackState → ℕ → List Item → Type 0) (us : List Item) (n : ℕ) (f : StackState)
-    (fs : List StackState) (len : ℕ) (items : List Item)
-    → Headed round us n (f ∷ fs) len items → HasHeader items f.header
-Headed-header round us n f fs len items (before, header, heads, is, at, count, beyond) = (
-  omega (arith, at, ap length is, length-append before (header ∷ us)),
-  rw (is, at, get_or-append_seam) heads,
-)
-
-Headed-outer_len : (outer : List Open) (us : List Item) (n : ℕ) (f : StackState) (fs : List StackState) (len : ℕ) (items : List Item)
-    → Headed (Holds outer) us n (f ∷ fs) len items → f.len < length items
-Headed-outer_len outer us n f fs len items (before, header, heads, is, at, count, beyond) =
-    omega (arith, Holds-len outer f.outer fs f.len before beyond, ap length is, length-append before (header ∷ us))
+Headed-top : (outer : List Open) (us : List Item) (n : ℕ) (f : StackState) (fs : List StackState) (len : ℕ) (items : List Item)
+    → Headed (Holds outer) us n (f ∷ fs) len items → HasHeader items f.header × (f.len < length items)
+Headed-top outer us n f fs len items (before, header, heads, is, at, count, beyond) =
+    let size : length items ≡ length before + length (header ∷ us) = ap length is ∙ length-append before (header ∷ us) in
+    ((omega (arith, at, size), rw (is, at, get_or-append_seam) heads), omega (arith, Holds-len outer f.outer fs f.len before beyond, size))
 
 -- ---- what is held
 
@@ -183,21 +171,11 @@ Holds-member_comma ms name outer d c fs len items h =
     (h.0, subst (λ n. Headed (Holds outer) (member_listings (ms ++ (name, d) ∷ [])) n fs len items) same h.1)
 
 -- an opening bracket
-pub Holds-open : (opens : List Open) (c : Container) (fs : List StackState) (f : StackState) (len : ℕ) (items : List Item)
-    → Holds opens c fs len items → f.header ≡ length items → f.len ≡ len → f.outer ≡ c
-    → Holds (in_array [] ∷ opens) Array (f ∷ fs) 0 (items ++ array_item 0 0 ∷ [])
-Holds-open opens c fs f len items h at saved kind =
-    let round : Holds opens f.outer fs f.len items = subst (λ k. Holds opens k fs f.len items) (sym kind)
-    (subst (λ n. Holds opens c fs n items) (sym saved) h) in
-    (refl, (items, array_item 0 0, refl, refl, at, refl, round))
-
-pub Holds-open_object : (opens : List Open) (c : Container) (fs : List StackState) (f : StackState) (len : ℕ) (items : List Item)
-    → Holds opens c fs len items → f.header ≡ length items → f.len ≡ len → f.outer ≡ c
-    → HoldsMembers [] opens Object (f ∷ fs) 0 (items ++ object_item 0 0 ∷ [])
-Holds-open_object opens c fs f len items h at saved kind =
-    let round : Holds opens f.outer fs f.len items = subst (λ k. Holds opens k fs f.len items) (sym kind)
-    (subst (λ n. Holds opens c fs n items) (sym saved) h) in
-    (refl, (items, object_item 0 0, refl, refl, at, refl, round))
+pub Headed-open : (header : Item) → is_header header ≡ true → (opens : List Open) (c : Container) (fs : List StackState) (len : ℕ)
+    (items : List Item) (k : ℕ) → Holds opens c fs len items → k ≡ length items
+    → let f : StackState = record { header = k; outer = c; len = len } in
+    Headed (Holds opens) [] 0 (f ∷ fs) 0 (items ++ header ∷ [])
+Headed-open header heads opens c fs len items k h at = (items, header, heads, refl, at, refl, h)
 
 -- a closing bracket: the header is patched
 pub Holds-close : (o : Open) (outer : List Open) (d : Document) (c : Container) (f : StackState) (fs : List StackState) (len : ℕ)
@@ -225,16 +203,8 @@ Holds-close (in_object ms name) outer d c f fs len items (kind, (before, header,
     (Holds-value outer f.outer fs f.len before (closed_with (in_object ms name) d) beyond)
 
 -- its frame points at a header, and the container round it has fewer members than there are nodes
-pub Holds-header : (o : Open) (outer : List Open) (d : Document) (c : Container) (f : StackState) (fs : List StackState) (len : ℕ)
-    (items : List Item) → HoldsValue (o ∷ outer) d c (f ∷ fs) len items → HasHeader items f.header
-Holds-header (in_array ds) outer d c f fs len items h = Headed-header (Holds outer) (listings (ds ++ d ∷ [])) (length ds + 1)
+pub Holds-top : (o : Open) (outer : List Open) (d : Document) (c : Container) (f : StackState) (fs : List StackState) (len : ℕ)
+    (items : List Item) → HoldsValue (o ∷ outer) d c (f ∷ fs) len items → HasHeader items f.header × (f.len < length items)
+Holds-top (in_array ds) outer d c f fs len items h = Headed-top outer (listings (ds ++ d ∷ [])) (length ds + 1) f fs len items h.1
+Holds-top (in_object ms name) outer d c f fs len items h = Headed-top outer (member_listings (ms ++ (name, d) ∷ [])) (length ms + 1)
     f fs len items h.1
-Holds-header (in_object ms name) outer d c f fs len items h = Headed-header (Holds outer) (member_listings (ms ++ (name, d) ∷ []))
-    (length ms + 1) f fs len items h.1
-
-pub Holds-outer_len : (o : Open) (outer : List Open) (d : Document) (c : Container) (f : StackState) (fs : List StackState)
-    (len : ℕ) (items : List Item) → HoldsValue (o ∷ outer) d c (f ∷ fs) len items → f.len < length items
-Holds-outer_len (in_array ds) outer d c f fs len items h = Headed-outer_len outer (listings (ds ++ d ∷ [])) (length ds + 1)
-    f fs len items h.1
-Holds-outer_len (in_object ms name) outer d c f fs len items h = Headed-outer_len outer (member_listings (ms ++ (name, d) ∷ []))
-    (length ms + 1) f fs len items h.1

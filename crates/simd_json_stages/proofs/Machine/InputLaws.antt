@@ -27,25 +27,25 @@ reads-kept b t i j h l =
     }
 
 -- what is lent is from an index on the input from there on
-pub lent-drop : (b rest : List ℕ) (at : ℕ) (escapes : Escapes) (i : ℕ) → IsLent b rest at escapes i → (j : ℕ) → at ≤ j
+pub lent-drop : {b rest : List ℕ} {at : ℕ} {escapes : Escapes} {i : ℕ} → IsLent b rest at escapes i → (j : ℕ) → at ≤ j
     → drop (j - at) rest ≡ drop j b
-lent-drop b rest at escapes i lent j l =
+lent-drop {b} {rest} {at} lent j l =
     let there : at + (j - at) ≡ j = omega (arith, l) in
     ap (drop (j - at)) lent.rest ∙ drop-drop (j - at) at b ∙ ap (λ n. drop n b) there
 
 -- from where a token begins so many of its bytes
-pub lent-slice : (b rest : List ℕ) (at : ℕ) (escapes : Escapes) (i len : ℕ) (prefix : List ℕ) → IsLent b rest at escapes i
+pub lent-slice : {b rest : List ℕ} {at : ℕ} {escapes : Escapes} {i : ℕ} {prefix : List ℕ} (len : ℕ) → IsLent b rest at escapes i
     → prefix ≡ take (i + len - at) rest → take (length prefix - (i - at)) (drop (i - at) prefix) ≡ take len (drop i b)
-lent-slice b rest at escapes i len prefix lent is =
+lent-slice {b} {rest} {at} {i = i} {prefix} len lent is =
     let size : i + len - at ≡ (i - at) + len = omega (arith, lent.before) in
     take_rest prefix (i - at) ∙ ap (drop (i - at)) (is ∙ ap (λ n. take n rest) size) ∙ drop-take (i - at) len rest
-    ∙ ap (take len) (lent-drop b rest at escapes i lent i lent.before)
+    ∙ ap (take len) (lent-drop lent i lent.before)
 
 -- and up to the end all of them
-pub lent-all : (b rest : List ℕ) (at : ℕ) (escapes : Escapes) (i end : ℕ) (after all : List ℕ) → IsLent b rest at escapes i
+pub lent-all : {b rest : List ℕ} {at : ℕ} {escapes : Escapes} {i end : ℕ} {after all : List ℕ} → IsLent b rest at escapes i
     → end ≡ length b → after ≡ drop (i - at) rest → all ≡ take (end - i) after → all ≡ drop i b
-lent-all b rest at escapes i end after all lent whole is cut =
-    let from : after ≡ drop i b = is ∙ lent-drop b rest at escapes i lent i lent.before in
+lent-all {b} {i = i} {end} {after} lent whole is cut =
+    let from : after ≡ drop i b = is ∙ lent-drop lent i lent.before in
     cut ∙ take_all (end - i) after (omega (arith, whole, ap length from, length-drop i b)) ∙ from
 
 -- ---- a string that is closed before an index

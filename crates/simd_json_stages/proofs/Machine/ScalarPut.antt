@@ -14,7 +14,7 @@ use Rattle.simd_json_parts.specs.Document.{Document, null, boolean, decimal}
 use Rattle.simd_json_parts.specs.Faults.{fault_at, fault_with}
 use Rattle.simd_json_parts.specs.Integers.{max_magnitude}
 use Rattle.simd_json_parts.specs.Listing.{listing}
-use Rattle.simd_json_parts.specs.Nodes.{Item, static_item}
+use Rattle.simd_json_parts.specs.Nodes.{Item, static_item, decimal_item}
 use Rattle.simd_json_parts.specs.NumberAt.{number_at, integer_or, first_excess}
 use Rattle.simd_json_parts.specs.Numbers.{number_literal, integer_literal, has_minus, magnitude}
 use Rattle.simd_json_parts.specs.StringAt.{string_at}
@@ -25,7 +25,10 @@ use Rattle.simd_json_parts.specs.declared.error.ErrorType.{ErrorType}
 use Rattle.simd_json_parts.specs.declared.error.ErrorType.TheVariants.{ExpectedTrue, ExpectedFalse, ExpectedNull, InvalidNumber}
 use Rattle.simd_json_parts.proofs.Patterns.Bytes.{All-Matches}
 use Rattle.simd_json_parts.proofs.Patterns.Sets.{matches-Matches, longest_prefix-le}
-use Rattle.simd_json_stages.specs.Put.{IsScalarPut, IsNoScalar}
+use Rattle.simd_json_stages.specs.Inputs.{HasString, Reads}
+use Rattle.simd_json_stages.specs.Put.{AtNumber, IsScalarPut, IsNoScalar}
+use Rattle.simd_json_stages.specs.declared.stage2.input.Input.{Input}
+use Rattle.simd_json_stages.specs.declared.stage2.progress.Progress.{Progress}
 use Rattle.simd_json_stages.specs.Refusals.{error_type, refused_kind, number_refusal}
 use Rattle.simd_json_parts.specs.declared.node.StaticNode.{StaticNode}
 use Rattle.simd_json_stages.specs.declared.stage2.fault.Fault.{Fault}
@@ -110,13 +113,34 @@ pub decimal-here : (b : List ℕ) (i : ℕ) (literal : List ℕ) (end : ℕ) →
     → form_at b i ≡ scalar (Ok (decimal literal, end)) → IsUtf8 literal × (end ≤ length b)
 decimal-here b i literal end l is = subst (FormHere b) is (form-here b i l)
 
+-- so its literal can be shared, and is put
+module _ {b : List ℕ} {t : Input} {capacity written : ℕ} {p : Progress} (given : AtNumber b t capacity written p) where
+  pub decimal-asked : (len : ℕ) → number_at b p.at ≡ Ok (decimal (take len (drop p.at b)), p.at + len) → HasString t p.at len
+  decimal-asked len is =
+      let here = decimal-here b p.at (take len (drop p.at b)) (p.at + len) (omega (arith, given.at.within)) (given.form ∙ ap scalar is) in
+      record { bytes = record { b = b; reads = given.at.input; within = here.1 }; utf8 = here.0 }
+
+  pub decimal-put : {t' : Input} {nodes nodes' : List Item} (len : ℕ) (literal : List ℕ)
+      → number_at b p.at ≡ Ok (decimal (take len (drop p.at b)), p.at + len) → literal ≡ take len (drop p.at b)
+      → nodes' ≡ nodes ++ decimal_item literal ∷ [] → Reads b t' (p.at + len) → IsScalarPut b p.at nodes nodes' (Reads b t')
+  decimal-put len literal is shared put input =
+      record {
+        document = decimal (take len (drop p.at b));
+        end = p.at + len;
+        node = decimal_item literal;
+        read = given.form ∙ ap scalar is;
+        listed = ap (λ bs. decimal_item bs ∷ []) (sym shared);
+        put = put;
+        input = inr input;
+      }
+
 -- ---- a node of fixed size
 
 -- nothing is split off before it
-pub static-put : (b : List ℕ) (i end : ℕ) (nodes nodes' : List Item) (reads : ℕ → Type 0) (d : Document) (s : StaticNode) → reads i
+pub static-put : {b : List ℕ} {i : ℕ} {nodes nodes' : List Item} {t : Input} (d : Document) (s : StaticNode) (end : ℕ) → Reads b t i
     → form_at b i ≡ scalar (Ok (d, end)) → listing d ≡ static_item s ∷ [] → nodes' ≡ nodes ++ static_item s ∷ []
-    → IsScalarPut b i nodes nodes' reads
-static-put b i end nodes nodes' reads d s input is listed put =
+    → IsScalarPut b i nodes nodes' (Reads b t)
+static-put d s end input is listed put =
     record { document = d; end = end; node = static_item s; read = is; listed = listed; put = put; input = inl input }
 
 -- ---- a refusal

@@ -67,7 +67,7 @@ string_at-fault b i e h = string_read-fault (read_pieces 0 (slice_range b (suc i
 -- ---- the string at the last token
 
 -- as `push_string` is called, where `next` is the next position or the end of the input
-module _ (b : List ℕ) (r : Route) (t : Input) (capacity written : ℕ) (p : Progress) (at : AtString b r t capacity written p) where
+module _ {b : List ℕ} {r : Route} {t : Input} {capacity written : ℕ} {p : Progress} (at : AtString b r t capacity written p) where
   none : input_fault b ≡ None
   none = at.on_route.whole
 
@@ -107,8 +107,8 @@ module _ (b : List ℕ) (r : Route) (t : Input) (capacity written : ℕ) (p : Pr
       ]
 
   -- its closing quote is the last one before that
-  pub string-before : (next : ℕ) → next ≡ get_or r.indexes.now p.read t.end → IsStringBefore b p.at next
-  string-before next is' =
+  pub string-before : {next : ℕ} → next ≡ get_or r.indexes.now p.read t.end → IsStringBefore b p.at next
+  string-before {next} is' =
       let is : next ≡ get_or (positions b) p.read (length b) = is' ∙ ap (get_or r.indexes.now p.read) at.input.end
       ∙ ap (λ ps. get_or ps p.read (length b)) at.on_route.positions in
       let there : Contains (positions b) next ⊎ (next ≡ length b) = subst (λ n. Contains (positions b) n ⊎ (n ≡ length b))

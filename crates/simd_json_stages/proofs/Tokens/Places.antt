@@ -80,29 +80,6 @@ module _ (b : List ℕ) where
         (omega (arith, r.some)) l,
   )
 
-  -- one more position is read
-  pub IsRead-next : (p q : Progress) → IsRead b (positions b) p → p.read < length (positions b) → q.read ≡ p.read + 1
-      → q.at ≡ get_or (positions b) p.read 0 → q.byte ≡ byte_at b (get_or (positions b) p.read 0) → IsRead b (positions b) q
-  IsRead-next p q r l read at byte =
-      let before : p.read ≡ q.read - 1 = omega (arith, read) in
-      record {
-        some = omega (arith, read);
-        within = omega (arith, read, l);
-        last = at ∙ ap (λ k. get_or (positions b) k 0) before;
-        first = byte ∙ ap (byte_at b) (sym at);
-      }
-
-  -- only these three count
-  pub IsRead-same : (p q : Progress) → IsRead b (positions b) p → q.read ≡ p.read → q.at ≡ p.at → q.byte ≡ p.byte → IsRead b (positions b) q
-  IsRead-same p q r read at byte =
-      record {
-        some = omega (arith, read, r.some);
-        within = omega (arith, read, r.within);
-        last = at ∙ r.last
-            ∙ ap (λ k. get_or (positions b) (k - 1) 0) (sym read);
-        first = byte ∙ r.first ∙ ap (byte_at b) (sym at);
-      }
-
   pub next-inside : (p : Progress) → get_or (positions b) p.read (length b) ≤ length b
   next-inside p =
       elim (cases_lt p.read (length (positions b))) [

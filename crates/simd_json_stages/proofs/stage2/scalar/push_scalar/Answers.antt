@@ -3,7 +3,6 @@ use Rattle.std.proofs.lemmas.Bool.{ne_eqb, or_from, or_right}
 use Rattle.simd_json_parts.specs.Bytes.{byte_at}
 use Rattle.simd_json_parts.specs.Document.{null, boolean}
 use Rattle.simd_json_parts.specs.declared.node.StaticNode.TheVariants as fixed
-use Rattle.simd_json_stages.specs.Inputs.{Reads}
 use Rattle.simd_json_stages.proofs.Tokens.Booleans.{form_at-boolean, no_boolean}
 use Rattle.simd_json_stages.proofs.Tokens.ScalarLaws.{form_at-null, form_at-word, form_at-number, word_null}
 use Rattle.simd_json_stages.proofs.Machine.ScalarPut.{static-put, atom-refused}
@@ -43,12 +42,9 @@ returns-then-not-is_valid_null_atom-clause-refused g c =
 pub returns-then-p-eq110-clause-put : goal.returns-then-p-eq110-clause-put
 returns-then-p-eq110-clause-put g c =
     let b = g.K.Original.bytes in
-    let nodes = g.S.NodeSink.held_nodes c.args.nodes.now in
     let given = c.requires in
-    let i : ℕ = c.args.p.at in
-    let after : drop i b ≡ c.from-rest.result.now = sym (c.from-rest.ensures b given.at.input) in
-    static-put b i (i + 4) nodes _ (Reads b c.args.input.now) null fixed.Null given.at.input
-    (form_at-null b c.from-rest.result.now i after (sym given.at.first ∙ c.if-p-eq110.true)
+    static-put null fixed.Null (c.args.p.at + 4) given.at.input
+    (form_at-null b c.from-rest.result.now c.args.p.at (sym (c.from-rest.ensures b given.at.input)) (sym given.at.first ∙ c.if-p-eq110.true)
     (sym c.is_valid_null_atom.ensures ∙ c.if-not-is_valid_null_atom.false)) refl c.push_static.ensures.put
 
 pub returns-in-None-clause-refused : goal.returns-in-None-clause-refused
@@ -66,10 +62,7 @@ returns-in-None-clause-refused g c =
 pub returns-clause-put : goal.returns-clause-put
 returns-clause-put g c =
     let b = g.K.Original.bytes in
-    let nodes = g.S.NodeSink.held_nodes c.args.nodes.now in
     let given = c.requires in
-    let i : ℕ = c.args.p.at in
     let v = c.in-Some.value in
-    let after : drop i b ≡ c.from-rest.result.now = sym (c.from-rest.ensures b given.at.input) in
-    static-put b i (i + cond v 4 5) nodes _ (Reads b c.args.input.now) (boolean v) (fixed.Bool v) given.at.input
-    (form_at-boolean v b c.from-rest.result.now i after c.in-Some.ensures) refl c.push_static-in-Some.ensures.put
+    static-put (boolean v) (fixed.Bool v) (c.args.p.at + cond v 4 5) given.at.input
+    (form_at-boolean v b c.from-rest.result.now c.args.p.at (sym (c.from-rest.ensures b given.at.input)) c.in-Some.ensures) refl c.push_static-in-Some.ensures.put

@@ -8,34 +8,29 @@ use Rattle.simd_json_stages.proofs.stage2.scalar.push_string.Goals as goal
 
 pub may_have_escape-may_have_escape-requires : goal.may_have_escape-may_have_escape-requires
 may_have_escape-may_have_escape-requires g c =
-    let b = g.K.Original.bytes in
-    let s = c.requires in
-    record { b = b; reads = s.input; within = omega (arith, at-within b c.args.route c.args.input.now _ _ c.args.p s) }
+    record { b = g.K.Original.bytes; reads = c.requires.input; within = omega (arith, at-within c.requires) }
 
 pub position_or_end-next-requires : goal.position_or_end-next-requires
 position_or_end-next-requires g c t =
     let s = c.requires in
-    some-left (s.on_route.closes t) s.read (λ is. omega (arith, s.opening, is))
-    (λ is. omega (arith, s.opening, is))
+    some-left (s.on_route.closes t) s.read (λ is. omega (arith, s.opening, is)) (λ is. omega (arith, s.opening, is))
 
 pub share_string-requires : goal.share_string-requires
 share_string-requires g c =
     let b = g.K.Original.bytes in
-    let s = c.requires in
-    let string = string-before b c.args.route c.args.input.now _ _ c.args.p s _ c.position_or_end-next.ensures in
     let asked = c.may_have_escape-may_have_escape.ensures in
+    let reads = asked.reads b c.requires.input in
     record {
-      quoted = record { b = b; reads = asked.reads b s.input; string = string };
-      plain = asked.plain c.if-not-may_have_escape.true b s.input;
+      quoted = record { b = b; reads = reads; string = string-before c.requires c.position_or_end-next.ensures };
+      plain = asked.plain c.if-not-may_have_escape.true b c.requires.input;
     }
 
 pub returns-then-not-may_have_escape-clause-put : goal.returns-then-not-may_have_escape-clause-put
 returns-then-not-may_have_escape-clause-put g c =
     let b = g.K.Original.bytes in
-    let s = c.requires in
-    let string = string-before b c.args.route c.args.input.now _ _ c.args.p s _ c.position_or_end-next.ensures in
     let asked = c.may_have_escape-may_have_escape.ensures in
-    let shared = c.share_string.ensures b (asked.reads b s.input) string (asked.plain c.if-not-may_have_escape.true b s.input) in
+    let shared = c.share_string.ensures b (asked.reads b c.requires.input) (string-before c.requires c.position_or_end-next.ensures)
+    (asked.plain c.if-not-may_have_escape.true b c.requires.input) in
     record {
       string = c.share_string.result.now;
       end = suc (closing_quote b c.args.p.at);
@@ -49,44 +44,31 @@ returns-then-not-may_have_escape-clause-put g c =
 pub parse_string-requires : goal.parse_string-requires
 parse_string-requires g c =
     let b = g.K.Original.bytes in
-    let s = c.requires in
-    let string = string-before b c.args.route c.args.input.now _ _ c.args.p s _ c.position_or_end-next.ensures in
     let asked = c.may_have_escape-may_have_escape.ensures in
+    let string = string-before c.requires c.position_or_end-next.ensures in
     record {
       lent = asked.lent c.if-not-may_have_escape.false;
-      quoted = record {
-        next = c.position_or_end-next.result;
-        quoted = record { b = b; reads = asked.reads b s.input; string = string };
-      };
+      quoted = record { next = _; quoted = record { b = b; reads = asked.reads b c.requires.input; string = string } };
     }
 
 pub bad_escape-requires : goal.bad_escape-requires
 bad_escape-requires g c =
     let b = g.K.Original.bytes in
-    let s = c.requires in
-    let string = string-before b c.args.route c.args.input.now _ _ c.args.p s _ c.position_or_end-next.ensures in
-    let is = c.in-Err.ensures b c.position_or_end-next.result (c.may_have_escape-may_have_escape.ensures.reads b s.input) string in
-    omega (
-      arith,
-      s.input.fits,
-      bad-within b c.args.route c.args.input.now _ _ c.args.p s
-          c.in-Err.bad.offset c.in-Err.bad.letter is,
-    )
+    let reads = c.may_have_escape-may_have_escape.ensures.reads b c.requires.input in
+    let is = c.in-Err.ensures b _ reads (string-before c.requires c.position_or_end-next.ensures) in
+    omega (arith, c.requires.input.fits, bad-within c.requires c.in-Err.bad.offset c.in-Err.bad.letter is)
 
 pub returns-in-Err-clause-refused : goal.returns-in-Err-clause-refused
 returns-in-Err-clause-refused g c =
     let b = g.K.Original.bytes in
-    let s = c.requires in
-    let string = string-before b c.args.route c.args.input.now _ _ c.args.p s _ c.position_or_end-next.ensures in
-    c.in-Err.ensures b c.position_or_end-next.result (c.may_have_escape-may_have_escape.ensures.reads b s.input) string
-    ∙ ap Err (sym c.bad_escape.ensures)
+    let reads = c.may_have_escape-may_have_escape.ensures.reads b c.requires.input in
+    c.in-Err.ensures b _ reads (string-before c.requires c.position_or_end-next.ensures) ∙ ap Err (sym c.bad_escape.ensures)
 
 pub returns-clause-put : goal.returns-clause-put
 returns-clause-put g c =
     let b = g.K.Original.bytes in
-    let s = c.requires in
-    let string = string-before b c.args.route c.args.input.now _ _ c.args.p s _ c.position_or_end-next.ensures in
-    let read = c.in-Ok.ensures b c.position_or_end-next.result (c.may_have_escape-may_have_escape.ensures.reads b s.input) string in
+    let reads = c.may_have_escape-may_have_escape.ensures.reads b c.requires.input in
+    let read = c.in-Ok.ensures b _ reads (string-before c.requires c.position_or_end-next.ensures) in
     record {
       string = c.in-Ok.string.now;
       end = suc (closing_quote b c.args.p.at);

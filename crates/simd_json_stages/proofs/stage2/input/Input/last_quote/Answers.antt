@@ -32,11 +32,11 @@ byte-requires-in-back c =
     }
 
 -- where none stands at `last` either, it can go back
-before : (b : List ℕ) (at end last : ℕ) → IsStringBefore b at end → closing_quote b at ≤ last → (byte_at b last ≡ 34 → ⊥)
+before : {b : List ℕ} {at end last x : ℕ} → IsStringBefore b at end → closing_quote b at ≤ last → x ≡ byte_at b last → (x ≡ 34 → ⊥)
     → closing_quote b at < last
-before b at end last string upto other = elim (cases_lt (closing_quote b at) last) [
+before {b} {at} {last = last} string upto here other = elim (cases_lt (closing_quote b at) last) [
   | inl h ↦ h
-  | inr l ↦ let same : last ≡ closing_quote b at = omega arith in absurd (other (ap (byte_at b) same ∙ string.closing))
+  | inr l ↦ let same : last ≡ closing_quote b at = omega arith in absurd (other (here ∙ ap (byte_at b) same ∙ string.closing))
 ]
 
 pub overflow_sub-last-in-back : goal.overflow_sub-last-in-back
@@ -44,7 +44,7 @@ overflow_sub-last-in-back c =
     let q = c.requires in
     let upto = c.back.invariant.upto q.b q.reads q.string in
     let here = c.byte-in-back.ensures q.b (reads-kept q.b c.args.self.now c.args.at _ q.reads (omega (arith, q.string.later))) in
-    omega (arith, before q.b c.args.at c.args.end c.back.last q.string upto (λ e. c.back-test.true (here ∙ e)))
+    omega (arith, before q.string upto here c.back-test.true)
 
 pub back-preserved : goal.back-preserved
 back-preserved c = record {
@@ -52,7 +52,7 @@ back-preserved c = record {
   upto = λ b reads string.
       let upto = c.back.invariant.upto b reads string in
       let here = c.byte-in-back.ensures b (reads-kept b c.args.self.now c.args.at _ reads (omega (arith, string.later))) in
-      omega (arith, before b c.args.at c.args.end c.back.last string upto (λ e. c.back-test.true (here ∙ e)));
+      omega (arith, before string upto here c.back-test.true);
 }
 
 pub back-smaller : goal.back-smaller
@@ -60,7 +60,7 @@ back-smaller c =
     let q = c.requires in
     let upto = c.back.invariant.upto q.b q.reads q.string in
     let here = c.byte-in-back.ensures q.b (reads-kept q.b c.args.self.now c.args.at _ q.reads (omega (arith, q.string.later))) in
-    omega (arith, before q.b c.args.at c.args.end c.back.last q.string upto (λ e. c.back-test.true (here ∙ e)))
+    omega (arith, before q.string upto here c.back-test.true)
 
 pub returns : goal.returns
 returns c b reads string =

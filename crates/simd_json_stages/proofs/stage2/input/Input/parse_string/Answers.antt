@@ -1,26 +1,23 @@
 use Rattle.std.proofs.Common.{◌≡◌, ◌<◌, ◌+◌, ◌∙◌, ap, sym, subst, suc, length, drop, refl, arith}
 use Rattle.std.specs.Prelude.{Ok}
 use Rattle.simd_json_parts.specs.StringAt.{closing_quote}
-use Rattle.simd_json_stages.specs.Inputs.{HasQuoted, IsLent}
+use Rattle.simd_json_stages.specs.Inputs.{HasQuoted}
 use Rattle.simd_json_stages.proofs.Tokens.StringEnds.{string_at-end}
 use Rattle.simd_json_stages.proofs.Machine.InputLaws.{closes-here, lent-all, reads-after}
 use Rattle.simd_json_stages.proofs.stage2.input.Input.parse_string.Goals as goal
 
 pub parse_str-requires-clause-closing : goal.parse_str-requires-clause-closing
 parse_str-requires-clause-closing c =
-    let next = c.requires.quoted.next in
-    let q : HasQuoted c.args.self.now c.args.at next = c.requires.quoted.quoted in
-    let lent : IsLent q.b c.args.self.now.rest.now c.args.self.now.at c.args.self.now.escapes c.args.at = q.reads.part c.requires.lent in
-    let is : c.split_at_mut-unread.result.0.now ≡ drop c.args.at q.b = lent-all q.b _ _ _ c.args.at _ _ _ lent
+    let q : HasQuoted c.args.self.now c.args.at c.requires.quoted.next = c.requires.quoted.quoted in
+    let is : c.split_at_mut-unread.result.0.now ≡ drop c.args.at q.b = lent-all (q.reads.part c.requires.lent)
     (c.split.ensures.end ∙ q.reads.end) (ap (λ r. r.now) c.take.ensures.value ∙ c.split.ensures.rest)
     c.split_at_mut-unread.ensures.front in
-    subst (λ us. closing_quote us 0 < length us) (sym is) (closes-here q.b c.args.at next q.string)
+    subst (λ us. closing_quote us 0 < length us) (sym is) (closes-here q.b c.args.at c.requires.quoted.next q.string)
 
 pub overflow_add-self : goal.overflow_add-self
 overflow_add-self c =
     let q : HasQuoted c.args.self.now c.args.at c.requires.quoted.next = c.requires.quoted.quoted in
-    let lent : IsLent q.b c.args.self.now.rest.now c.args.self.now.at c.args.self.now.escapes c.args.at = q.reads.part c.requires.lent in
-    let is : c.split_at_mut-unread.result.0.now ≡ drop c.args.at q.b = lent-all q.b _ _ _ c.args.at _ _ _ lent
+    let is : c.split_at_mut-unread.result.0.now ≡ drop c.args.at q.b = lent-all (q.reads.part c.requires.lent)
     (c.split.ensures.end ∙ q.reads.end) (ap (λ r. r.now) c.take.ensures.value ∙ c.split.ensures.rest)
     c.split_at_mut-unread.ensures.front in
     let read = c.in_ok-string.ensures q.b c.args.at (sym is) in
@@ -28,8 +25,7 @@ overflow_add-self c =
 
 pub returns : goal.returns
 returns c b next reads string =
-    let lent : IsLent b c.args.self.now.rest.now c.args.self.now.at c.args.self.now.escapes c.args.at = reads.part c.requires.lent in
-    let is : c.split_at_mut-unread.result.0.now ≡ drop c.args.at b = lent-all b _ _ _ c.args.at _ _ _ lent
+    let is : c.split_at_mut-unread.result.0.now ≡ drop c.args.at b = lent-all (reads.part c.requires.lent)
     (c.split.ensures.end ∙ reads.end) (ap (λ r. r.now) c.take.ensures.value ∙ c.split.ensures.rest)
     c.split_at_mut-unread.ensures.front in
     let read = c.in_ok-string.ensures b c.args.at (sym is) in

@@ -6,9 +6,9 @@ use Rattle.simd_json_stages.proofs.stage2.input.Input.share.Goals as goal
 pub from_utf8_unchecked-requires-2 : goal.from_utf8_unchecked-requires-2
 from_utf8_unchecked-requires-2 c =
     let reads = c.requires.bytes.reads in
-    subst IsUtf8 (sym (lent-slice c.requires.bytes.b _ _ _ c.args.i c.args.len _ (reads.part c.if-self.false)
+    subst IsUtf8 (sym (lent-slice c.args.len (reads.part c.if-self.false)
     c.split-prefix.ensures.prefix)) c.requires.utf8
 
 pub returns-clause-string : goal.returns-clause-string
 returns-clause-string c b reads =
-    c.from_utf8_unchecked-2.ensures ∙ lent-slice b _ _ _ c.args.i c.args.len _ (reads.part c.if-self.false) c.split-prefix.ensures.prefix
+    c.from_utf8_unchecked-2.ensures ∙ lent-slice c.args.len (reads.part c.if-self.false) c.split-prefix.ensures.prefix

@@ -1,5 +1,5 @@
 use Rattle.std.proofs.Common.{sym, subst, refl}
-use Rattle.simd_json_stages.specs.Members.{AfterLast, HasCapacity, IsFault}
+use Rattle.simd_json_stages.specs.Members.{HasCapacity, IsFault}
 use Rattle.simd_json_stages.proofs.Exits.{passed-on}
 use Rattle.simd_json_stages.proofs.Machine.Bounds.{node-left, last-inside, value-token, string-ahead, scalar-ahead, after-value}
 use Rattle.simd_json_stages.proofs.Machine.BuildingSteps.{step-scalar, step-string}

@@ -22,5 +22,5 @@ returns-clause-next g c =
     let p = c.args.self in
     let ps = c.args.route.indexes.now in
     let more : p.read < length ps = c.is_last.ensures.left c.if-is_last.false in
-    is-next g.b ps c.requires.on_route.positions p _ c.requires.read more
+    is-next c.requires.read more
     (ap (λ x. record p { read = p.read + 1; at = get_or ps p.read 0; byte = x }) (c.byte.ensures g.b (c.requires.input more)))
