@@ -5,8 +5,8 @@ use Rattle.std.specs.List.{slice_range}
 use Rattle.simd_json_parts.specs.Bytes.{slash}
 use Rattle.simd_json_parts.specs.Document.{Document}
 use Rattle.simd_json.specs.Pointed.{tokens, tilde, named}
-use Rattle.simd_json.specs.declared.value.pointer.PointerExpected.{PointerExpected}
-use Rattle.simd_json.specs.declared.value.pointer.PointerExpected.TheVariants as lacking
+use Rattle.simd_json.specs.declared.value.tape.pointer.PointerExpected.{PointerExpected}
+use Rattle.simd_json.specs.declared.value.tape.pointer.PointerExpected.TheVariants as lacking
 
 -- the tokens of what is left of a pointer after one of them
 abbrev pub tokens_after : List ℕ → List (List ℕ)

@@ -1,17 +1,20 @@
 //! The entry points. Each finds the structural indexes of its input into the buffers
 //! (`find_positions`), and then builds nodes from them, into a tape (`build`) or a sink
 //! (`build_tape` of the buffers).
-ghost use Rattle.std.specs.Prelude.{◌≡◌, ◌≢◌, ◌≤◌, ◌<◌, [], ℕ, List, length, map, vec_capacity};
+ghost use Rattle.std.specs.Prelude.{◌≡◌, ◌≢◌, ◌≤◌, ◌<◌, [], ℕ, List};
+ghost use Rattle.std.specs.Prelude.{length, map, vec_capacity};
 ghost use Rattle.std.specs.Prelude.{IfErr, IfOk, OnOk, OnErr, None, Err};
 ghost use Rattle.std.specs.Result.{result_err};
-ghost use Rattle.simd_json.specs.Parsed.{IsParse, IsPaddedParse, IsParsed, IsRefused, nodes_of, written};
-ghost use Rattle.simd_json.specs.Capacities.{HoldsScan, KeepsCapacities, ListsSame, capacity, capped};
+ghost use Rattle.simd_json.specs.Parsed.{IsParse, IsPaddedParse, IsParsed, IsRefused, nodes_of};
+ghost use Rattle.simd_json.specs.Parsed.{written};
+ghost use Rattle.simd_json.specs.Capacities.{HoldsScan, KeepsCapacities, ListsSame, capacity};
+ghost use Rattle.simd_json.specs.Capacities.{capped};
 ghost use Rattle.simd_json.specs.Memory.{HasMemory, IsOutOfMemory};
 ghost use Rattle.simd_json.specs.Reserved.{IsReserved, parse_capacity};
 ghost use Rattle.simd_json_parts.specs.FaultKinds.{IsOfToken};
 ghost use Rattle.simd_json_parts.specs.Limits.{max_length};
 ghost use Rattle.simd_json_parts.specs.Nodes.{item_of};
-ghost use Rattle.simd_json.specs.MaxDepth.{default_max_depth};
+ghost use Rattle.simd_json.specs.Capacities.{default_max_depth};
 ghost use Rattle.simd_json_parts.specs.Positions.{positions};
 ghost use Rattle.simd_json_stages.specs.NodesEnough.{nodes_enough};
 
@@ -127,7 +130,8 @@ pub fn fill_tape<'de, A: Allocator, B: Allocator>(
         (result_err result) tape.new.nodes buffers.new.positions }
     ensures some { OnOk result (tape.new.nodes ≢ []) }
     ensures limit { buffers.new.limit ≡ buffers.old.limit }
-    ensures capacities { KeepsCapacities buffers.old buffers.new × (tape.old.capacity ≤ tape.new.capacity) }
+    ensures capacities { KeepsCapacities buffers.old buffers.new
+        × (tape.old.capacity ≤ tape.new.capacity) }
 {
     tape.clear();
     buffers.find_positions(s)?;
@@ -199,7 +203,8 @@ pub fn fill_tape_padded<'de, A: Allocator, B: Allocator>(
         (result_err result) tape.new.nodes buffers.new.positions }
     ensures some { OnOk result (tape.new.nodes ≢ []) }
     ensures limit { buffers.new.limit ≡ buffers.old.limit }
-    ensures capacities { KeepsCapacities buffers.old buffers.new × (tape.old.capacity ≤ tape.new.capacity) }
+    ensures capacities { KeepsCapacities buffers.old buffers.new
+        × (tape.old.capacity ≤ tape.new.capacity) }
 {
     if s.len().saturating_sub(len) < INPUT_PADDING {
         return refuse(
@@ -249,8 +254,10 @@ pub fn refill_tape<'de, A: Allocator, B: Allocator>(
         (result_err result.0) result.1.nodes buffers.new.positions }
     ensures some { OnOk result.0 (result.1.nodes ≢ []) }
     ensures limit { buffers.new.limit ≡ buffers.old.limit }
-    ensures capacities { KeepsCapacities buffers.old buffers.new × (tape.entry.capacity ≤ result.1.capacity) }
-    ensures reserved { (len : ℕ) → IsReserved len buffers.old tape.entry → IsReserved len buffers.new result.1
+    ensures capacities { KeepsCapacities buffers.old buffers.new
+        × (tape.entry.capacity ≤ result.1.capacity) }
+    ensures reserved { (len : ℕ) → IsReserved len buffers.old tape.entry
+        → IsReserved len buffers.new result.1
         × (length s.old ≤ len → HasMemory (result_err result.0)) }
 {
     let mut tape = tape.reset();
@@ -287,7 +294,8 @@ pub fn reserve<A: Allocator, B: Allocator>(
     ensures reserved { OnOk result (IsReserved input_len buffers.new tape.new) }
     ensures capacity { OnOk result (capped input_len ≤ parse_capacity buffers.new tape.new) }
     ensures same { ListsSame buffers.old buffers.new × (tape.new.nodes ≡ tape.old.nodes) }
-    ensures kept { KeepsCapacities buffers.old buffers.new × (tape.old.capacity ≤ tape.new.capacity) }
+    ensures kept { KeepsCapacities buffers.old buffers.new
+        × (tape.old.capacity ≤ tape.new.capacity) }
     ensures fault { IfErr result (λ e. IsOutOfMemory e
         × (parse_capacity buffers.old tape.old < capped input_len)) }
 {
@@ -312,8 +320,8 @@ fn refuse<A: Allocator, B: Allocator>(
     Err(e)
 }
 
-// Runs the second stage into a list with enough capacity. After an error the list is empty. The sink
-// is made here, and all that takes it is inlined, so that the pointer to the list stays in a
+// Runs the second stage into a list with enough capacity. After an error the list is empty. The
+// sink is made here, and all that takes it is inlined, so that the pointer to the list stays in a
 // register.
 #[inline(never)]
 fn build<'de, K: Original, A: Allocator, B: Allocator>(
@@ -323,7 +331,8 @@ fn build<'de, K: Original, A: Allocator, B: Allocator>(
 ) -> Result<()>
     requires input { s.old ≡ K.bytes }
     requires scanned { HoldsScan K.bytes buffers.old }
-    requires room { nodes_enough (length (positions K.bytes)) buffers.old.limit ≤ vec_capacity list.old }
+    requires room { nodes_enough (length (positions K.bytes)) buffers.old.limit
+        ≤ vec_capacity list.old }
     requires empty { list.old.items ≡ [] }
     ensures tape { OnOk result (IsParsed K.bytes buffers.old.limit (map item_of list.new.items)) }
     ensures few { length (map item_of list.new.items) ≤ length (positions K.bytes) }

@@ -8,7 +8,7 @@ use Rattle.simd_json_parts.specs.Document.{Members}
 use Rattle.simd_json_parts.specs.Views.{first_with}
 use Rattle.simd_json.specs.Pointed.{member_at, unescaped}
 use Rattle.simd_json.specs.Followed.{IsPlain}
-use Rattle.simd_json.specs.declared.value.pointer.PointerExpected.TheVariants as lacking
+use Rattle.simd_json.specs.declared.value.tape.pointer.PointerExpected.TheVariants as lacking
 use Rattle.simd_json.proofs.Pointers.Pointed.{ok-or}
 
 -- ---- a token without an escape
