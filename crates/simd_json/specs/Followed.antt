@@ -38,6 +38,9 @@ ends_from i (t ∷ ts) = (i + 1 + length t) ∷ ends_from (i + 1 + length t) ts
 abbrev pub IsPlain : List ℕ → Type 0
 IsPlain t = (k : ℕ) → k < length t → slice_index t k ≢ tilde
 
+abbrev pub is_tilde : ℕ → Bool
+is_tilde c = c == tilde
+
 -- a byte that is one of two, and one that is neither
 abbrev pub is_either : ℕ → ℕ → ℕ → Bool
 is_either a b x = (x == a) || (x == b)

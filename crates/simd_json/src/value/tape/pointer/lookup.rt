@@ -2,11 +2,11 @@
 //! element by its index.
 ghost use Rattle.std.specs.Prelude.{◌≡◌, ◌<◌, ◌∷◌, ◌↔◌, IsTrue, MatchOption};
 ghost use Rattle.std.specs.Prelude.{None, Some};
-ghost use Rattle.std.specs.Prelude.{is_some, length, option_and_then, option_map, true};
+ghost use Rattle.std.specs.Prelude.{◌-◌, is_some, length, option_and_then, option_map, true};
 ghost use Rattle.std.specs.Char.{is_ascii_digit};
-ghost use Rattle.std.specs.List.{list_all};
+ghost use Rattle.std.specs.List.{count_by, list_all};
 ghost use Rattle.std.specs.Result.{result_ok};
-ghost use Rattle.simd_json.specs.Followed.{IsPlain, fits_64};
+ghost use Rattle.simd_json.specs.Followed.{IsPlain, fits_64, is_tilde};
 ghost use Rattle.simd_json.specs.Pointed.{array_index, element_at, is_array_index, member_at};
 ghost use Rattle.simd_json.specs.Pointed.{named};
 ghost use Rattle.simd_json.specs.Pointed.{unescaped};
@@ -44,12 +44,31 @@ fn member<'tape, 'input>(
     if is_plain {
         return object.find(token);
     }
+    let bytes = token.as_bytes();
+    let len = key_len(bytes);
     for (key, value) in object.iter() {
-        if is_key(token.as_bytes(), key.as_bytes()) {
+        if is_named(bytes, len, key.as_bytes()) {
             return Some(value);
         }
     }
     None
+}
+
+// How long the key is that the token names: a byte shorter for each escape.
+#[inline(always)]
+fn key_len(token: &[u8]) -> usize
+    ensures { result ≡ length token.now - count_by is_tilde token.now }
+{
+    token.len() - token.iter().filter(|byte| **byte == b'~').count()
+}
+
+// Whether the token, decoded, is the key. Only keys of the right length are compared.
+#[inline(always)]
+fn is_named(token: &[u8], len: usize, key: &[u8]) -> bool
+    requires { len ≡ length token.now - count_by is_tilde token.now }
+    ensures { IsTrue result ↔ (unescaped token.now ≡ Some key.now) }
+{
+    key.len() == len && is_key(token, key)
 }
 
 // Whether each `~` of the token begins an escape.

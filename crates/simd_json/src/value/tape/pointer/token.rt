@@ -52,7 +52,7 @@ fn is_tilde_at(bytes: &[u8], at: usize) -> bool
 pub(super) fn is_plain(token: &[u8]) -> bool
     ensures { IsTrue result ↔ IsPlain token.now }
 {
-    token.iter().all(|byte| *byte != b'~')
+    front_len(token, b'~', b'~') == token.len()
 }
 
 // How many bytes are in front of the first that is one of two.

@@ -15,11 +15,11 @@ loop-key-init c =
     ap (λ it. found c.args.token.now (pairs it.left)) c.into_iter-key-iterator.ensures.into_iter_gives
     ∙ ap (found c.args.token.now) (members_cancel _ (pairs c.args.object) c.iter-key-items.ensures)
 
-pub returns-then-is_key : goal.returns-then-is_key
-returns-then-is_key c =
+pub returns-then-is_named : goal.returns-then-is_named
+returns-then-is_named c =
     let t = c.args.token.now in
-    let name = ap unescaped (sym c.as_bytes.ensures.value) ∙ c.if-is_key.ensures.0 refl
-    ∙ ap Some c.as_bytes-in-loop-key.ensures.value in
+    let name = ap unescaped (sym c.as_bytes-bytes.ensures.value) ∙ c.if-is_named.ensures.0 refl
+    ∙ ap Some c.as_bytes.ensures.value in
     sym (member-here (unescaped t) c.in-Some.key.now (doc c.in-Some.value) _ (pairs c.next.new.self.left) c.in-Some.ensures.steps name)
     ∙ c.loop-key.invariant
 
@@ -28,8 +28,8 @@ loop-key-preserved c =
     let t = c.args.token.now in
     let key = c.in-Some.key.now in
     let other : unescaped t ≡ Some key → ⊥ =
-    λ is. true≢false (sym (c.if-is_key.ensures.1
-    (ap unescaped c.as_bytes.ensures.value ∙ is ∙ ap Some (sym c.as_bytes-in-loop-key.ensures.value)))) in
+    λ is. true≢false (sym (c.if-is_named.ensures.1
+    (ap unescaped c.as_bytes-bytes.ensures.value ∙ is ∙ ap Some (sym c.as_bytes.ensures.value)))) in
     sym (member-later (unescaped t) key (doc c.in-Some.value) _ (pairs c.next.new.self.left) c.in-Some.ensures.steps other)
     ∙ c.loop-key.invariant
 
