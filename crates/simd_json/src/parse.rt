@@ -5,18 +5,19 @@ ghost use Rattle.std.specs.Prelude.{◌≡◌, ◌≢◌, ◌≤◌, ◌<◌, []
 ghost use Rattle.std.specs.Prelude.{length, map, vec_capacity};
 ghost use Rattle.std.specs.Prelude.{IfErr, IfOk, OnOk, OnErr, None, Err};
 ghost use Rattle.std.specs.Result.{result_err};
-ghost use Rattle.simd_json.specs.Parsed.{IsParse, IsPaddedParse, IsParsed, IsRefused, nodes_of};
-ghost use Rattle.simd_json.specs.Parsed.{written};
+ghost use Rattle.simd_json.specs.Parsed.{IsPaddedParse, IsParse, nodes_of, written};
 ghost use Rattle.simd_json.specs.Capacities.{HoldsScan, KeepsCapacities, ListsSame, capacity};
 ghost use Rattle.simd_json.specs.Capacities.{capped};
 ghost use Rattle.simd_json.specs.Memory.{HasMemory, IsOutOfMemory};
 ghost use Rattle.simd_json.specs.Reserved.{IsReserved, parse_capacity};
-ghost use Rattle.simd_json_parts.specs.FaultKinds.{IsOfToken};
+ghost use Rattle.simd_json_parts.specs.Descent.{descent};
 ghost use Rattle.simd_json_parts.specs.Limits.{max_length};
 ghost use Rattle.simd_json_parts.specs.Nodes.{item_of};
 ghost use Rattle.simd_json.specs.Capacities.{default_max_depth};
 ghost use Rattle.simd_json_parts.specs.Positions.{positions};
+ghost use Rattle.simd_json_stages.specs.Building.{IsWritten};
 ghost use Rattle.simd_json_stages.specs.NodesEnough.{nodes_enough};
+ghost use Rattle.simd_json_stages.specs.Refusals.{IsTokenFault};
 
 use crate::buffers::Buffers;
 use crate::tape::Tape;
@@ -137,7 +138,8 @@ pub fn fill_tape<'de, A: Allocator, B: Allocator>(
     buffers.find_positions(s)?;
     let positions = buffers.structural_indexes().len();
     if let Err(e) = tape.reserve(nodes_enough(positions, buffers.max_depth)) {
-        return refuse(e, buffers, tape);
+        buffers.clear();
+        return Err(e);
     }
     build::<Brand, A, B>(s, buffers, &mut tape.list)
 }
@@ -207,11 +209,9 @@ pub fn fill_tape_padded<'de, A: Allocator, B: Allocator>(
         × (tape.old.capacity ≤ tape.new.capacity) }
 {
     if s.len().saturating_sub(len) < INPUT_PADDING {
-        return refuse(
-            Error::generic(ErrorType::InsufficientPadding),
-            buffers,
-            tape,
-        );
+        buffers.clear();
+        tape.clear();
+        return Err(Error::generic(ErrorType::InsufficientPadding));
     }
     let (document, _) = s.split_at_mut(len);
     fill_tape(document, buffers, tape)
@@ -304,22 +304,6 @@ pub fn reserve<A: Allocator, B: Allocator>(
     tape.reserve(nodes_enough(positions, buffers.max_depth))
 }
 
-// Returns an error without a character, after which no structural index is listed and the tape is
-// empty.
-fn refuse<A: Allocator, B: Allocator>(
-    e: Error,
-    buffers: &mut Buffers<A>,
-    tape: &mut Tape<'_, B>,
-) -> Result<()>
-    ensures refused { result ≡ Err e }
-    ensures positions { buffers.new ≡ record buffers.old { positions = []; blocks = [] } }
-    ensures nodes { tape.new ≡ record { nodes = []; capacity = tape.old.capacity } }
-{
-    buffers.clear();
-    tape.clear();
-    Err(e)
-}
-
 // Runs the second stage into a list with enough capacity. After an error the list is empty. The
 // sink is made here, and all that takes it is inlined, so that the pointer to the list stays in a
 // register.
@@ -334,12 +318,14 @@ fn build<'de, K: Original, A: Allocator, B: Allocator>(
     requires room { nodes_enough (length (positions K.bytes)) buffers.old.limit
         ≤ vec_capacity list.old }
     requires empty { list.old.items ≡ [] }
-    ensures tape { OnOk result (IsParsed K.bytes buffers.old.limit (map item_of list.new.items)) }
-    ensures few { length (map item_of list.new.items) ≤ length (positions K.bytes) }
+    ensures built { OnOk result (IsWritten K.bytes buffers.old.limit (map item_of list.new.items)) }
+    ensures few { OnOk result
+        (length (map item_of list.new.items) ≤ length (positions K.bytes)) }
     ensures empty { OnErr result (map item_of list.new.items ≡ []) }
     ensures kept { buffers.new ≡ buffers.old }
     ensures capacity { vec_capacity list.new ≡ vec_capacity list.old }
-    ensures fault { IfErr result (λ e. IsRefused K.bytes buffers.old.limit e × IsOfToken e) }
+    ensures refused { IfErr result
+        (λ e. IsTokenFault e × (descent K.bytes buffers.old.limit ≡ Err e)) }
 {
     let mut sink = ListSink { list };
     match buffers.build_tape::<K, ListSink<'_, 'de, B>>(s, &mut sink) {
