@@ -5,8 +5,8 @@ use Rattle.std.specs.List.{slice_range}
 use Rattle.simd_json_parts.specs.Bytes.{slash}
 use Rattle.simd_json_parts.specs.Document.{Document}
 use Rattle.simd_json.specs.Pointed.{tokens, tilde, named}
-use Rattle.simd_json.specs.declared.value.pointer.PointerExpected.{PointerExpected}
-use Rattle.simd_json.specs.declared.value.pointer.PointerExpected.TheVariants as lacking
+use Rattle.simd_json.specs.declared.value.tape.pointer.PointerExpected.{PointerExpected}
+use Rattle.simd_json.specs.declared.value.tape.pointer.PointerExpected.TheVariants as lacking
 
 -- the tokens of what is left of a pointer after one of them
 abbrev pub tokens_after : List ℕ → List (List ℕ)
@@ -37,6 +37,9 @@ ends_from i (t ∷ ts) = (i + 1 + length t) ∷ ends_from (i + 1 + length t) ts
 -- a token without escapes
 abbrev pub IsPlain : List ℕ → Type 0
 IsPlain t = (k : ℕ) → k < length t → slice_index t k ≢ tilde
+
+abbrev pub is_tilde : ℕ → Bool
+is_tilde c = c == tilde
 
 -- a byte that is one of two, and one that is neither
 abbrev pub is_either : ℕ → ℕ → ℕ → Bool

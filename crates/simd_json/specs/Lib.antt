@@ -1,6 +1,4 @@
-pub mod MaxDepth
 pub mod Tapes
-pub mod TapeView
 pub mod Steps
 pub mod Capacities
 pub mod Memory
@@ -11,7 +9,6 @@ pub mod Printable
 pub mod PrintedAgain
 pub mod Viewed
 pub mod Answered
-pub mod Paired
 pub mod Iterated
 pub mod Beneath
 pub mod Sizes

@@ -6,9 +6,9 @@ use Rattle.std.specs.List.{list_all}
 use Rattle.simd_json_parts.specs.Bytes.{slash}
 use Rattle.simd_json_parts.specs.Document.{Document, array, object, Elements, elements, Members}
 use Rattle.simd_json_parts.specs.Views.{first_with, value_type}
-use Rattle.simd_json.specs.declared.value.pointer.PointerError.{PointerError}
-use Rattle.simd_json.specs.declared.value.pointer.PointerExpected.{PointerExpected}
-use Rattle.simd_json.specs.declared.value.pointer.PointerExpected.TheVariants as lacking
+use Rattle.simd_json.specs.declared.value.tape.pointer.PointerError.{PointerError}
+use Rattle.simd_json.specs.declared.value.tape.pointer.PointerExpected.{PointerExpected}
+use Rattle.simd_json.specs.declared.value.tape.pointer.PointerExpected.TheVariants as lacking
 
 -- ---- the syntax (section 3): reference tokens, with a `/` before each
 

@@ -1,9 +1,9 @@
 -- What is printed of a JSON Pointer that leads nowhere.
 use Rattle.std.specs.Prelude.{ℕ, List, ◌++◌, codes, decimal}
 use Rattle.simd_json_parts.specs.ErrorKinds.{type_words}
-use Rattle.simd_json.specs.declared.value.pointer.PointerError.{PointerError}
-use Rattle.simd_json.specs.declared.value.pointer.PointerExpected.{PointerExpected}
-use Rattle.simd_json.specs.declared.value.pointer.PointerExpected.TheVariants as lacking
+use Rattle.simd_json.specs.declared.value.tape.pointer.PointerError.{PointerError}
+use Rattle.simd_json.specs.declared.value.tape.pointer.PointerExpected.{PointerExpected}
+use Rattle.simd_json.specs.declared.value.tape.pointer.PointerExpected.TheVariants as lacking
 
 abbrev pub lacking_text : PointerExpected → List ℕ
 lacking_text lacking.Slash = codes "a /"

@@ -12,6 +12,10 @@ pub record Listed : Type 0 where
   pub nodes : List Item
   pub capacity : ℕ
 
+-- how the list of a tape is seen
+abbrev pub listed_of : List Node → ℕ → Listed
+listed_of list capacity = record { nodes = map item_of list; capacity = capacity }
+
 -- the nodes begin with the listing of the document
 abbrev pub StandsFor : List Node → Document → Type 0
 StandsFor ns d = (rest : List Item) × (map item_of ns ≡ listing d ++ rest)

@@ -4,7 +4,7 @@ use Rattle.std.specs.Prelude.{List, map, ℕ}
 use Rattle.simd_json_parts.specs.Document.{Document, Elements, Members}
 use Rattle.simd_json_parts.specs.Nodes.{item_of}
 use Rattle.simd_json.specs.Documents.{document_of, elements_of, members_of}
-use Rattle.simd_json.specs.declared.value.pointer.split.Pointer.{Pointer}
+use Rattle.simd_json.specs.declared.value.tape.pointer.split.Pointer.{Pointer}
 use Rattle.simd_json.specs.declared.value.tape.array.Array.{Array}
 use Rattle.simd_json.specs.declared.value.tape.object.Object.{Object}
 use Rattle.simd_json.specs.declared.value.tape.value.Value.{Value}

@@ -1,13 +1,15 @@
 //! The memory that parses use one after another: the two lists that the first stage fills, and the
 //! stack of the second. A parse stores into entries that are there already: the lists keep their
 //! lengths between parses, and how many entries are in use is counted apart.
-ghost use Rattle.std.specs.Prelude.{◌≡◌, ◌≤◌, ◌<◌, ◌⊎◌, [], length, max, take};
+ghost use Rattle.std.specs.Prelude.{◌≡◌, ◌≤◌, ◌<◌, ◌⊎◌, [], length, max};
+ghost use Rattle.std.specs.Prelude.{take};
 ghost use Rattle.std.specs.Prelude.{OnOk, OnErr, IfOk, IfErr, Some, Err};
 ghost use Rattle.std.specs.Vec.{vec_capacity};
 ghost use Rattle.simd_json.specs.Memory.{IsOutOfMemory, LacksMemory};
-ghost use Rattle.simd_json.specs.Capacities.{HoldsScan, KeepsCapacities, ListsSame, capacity, capped, new_buffers};
+ghost use Rattle.simd_json.specs.Capacities.{HoldsScan, KeepsCapacities, ListsSame, capacity};
+ghost use Rattle.simd_json.specs.Capacities.{capped, new_buffers};
 ghost use Rattle.simd_json_parts.specs.InputFaults.{input_fault};
-ghost use Rattle.simd_json.specs.MaxDepth.{default_max_depth};
+ghost use Rattle.simd_json.specs.Capacities.{default_max_depth};
 ghost use Rattle.simd_json_parts.specs.Positions.{positions};
 ghost use Rattle.simd_json_parts.specs.Descent.{descent};
 ghost use Rattle.simd_json_stages.specs.Building.{IsWritten};
@@ -22,8 +24,8 @@ use simd_json_stages::stage2::{NodeSink, Original, Scanned, StackState, build_ta
 use std::alloc::{Allocator, Global};
 use std::marker::Model;
 
-// For how many open containers buffers hold a stack that is not allocated, so that a parse of a short
-// input allocates none.
+// For how many open containers buffers hold a stack that is not allocated, so that a parse of a
+// short input allocates none.
 const FEW_OPEN: usize = 64;
 
 /// The memory that parses use one after another, and their depth limit: the lists of the structural
@@ -55,8 +57,8 @@ impl<A: Allocator> Model for Buffers<A> {
 
     ghost Value = { Capacities };
 
-    ghost view = { λ b. capacities_of b.structural_indexes.items b.used b.escape_blocks.items b.used_blocks
-        (length b.stack.items) b.max_depth };
+    ghost view = { λ b. capacities_of b.structural_indexes.items b.used
+        b.escape_blocks.items b.used_blocks (length b.stack.items) b.max_depth };
 
     ghost invariant = { λ b. (b.used ≤ length b.structural_indexes.items)
         × (b.used_blocks ≤ length b.escape_blocks.items) };
@@ -66,7 +68,8 @@ impl<A: Allocator + Copy> Buffers<A> {
     /// Returns buffers with which at most [`DEFAULT_MAX_DEPTH`] containers may be open at a time.
     /// See [`with_max_depth`](Buffers::with_max_depth).
     pub fn new(a: A, input_len: usize) -> Result<Buffers<A>>
-        ensures made { IfOk result (λ buffers. buffers ≡ new_buffers input_len default_max_depth) }
+        ensures made { IfOk result
+            (λ buffers. buffers ≡ new_buffers input_len default_max_depth) }
         ensures fault { IfErr result (λ e. IsOutOfMemory e × (0 < input_len)) }
     {
         Buffers::with_max_depth(a, input_len, DEFAULT_MAX_DEPTH)
@@ -132,7 +135,8 @@ impl<A: Allocator> Buffers<A> {
         ensures capacity { OnOk result (capped input_len ≤ capacity self.new) }
         ensures kept { KeepsCapacities self.old self.new }
         ensures same { ListsSame self.old self.new }
-        ensures fault { IfErr result (λ e. IsOutOfMemory e × (capacity self.old < capped input_len)) }
+        ensures fault { IfErr result
+            (λ e. IsOutOfMemory e × (capacity self.old < capped input_len)) }
     {
         let len = input_len.min(u32::MAX as usize);
         self.reserve_lists(len)?;
@@ -142,8 +146,10 @@ impl<A: Allocator> Buffers<A> {
     // Reserves capacity for the structural indexes and the blocks of `len` bytes.
     fn reserve_lists(&mut self, len: usize) -> Result<()>
         ensures kept { KeepsCapacities self.old self.new }
-        ensures same { ListsSame self.old self.new × (self.new.stack_capacity ≡ self.old.stack_capacity) }
-        ensures capacity { OnOk result ((self.new.position_capacity ≡ max self.old.position_capacity len)
+        ensures same { ListsSame self.old self.new
+            × (self.new.stack_capacity ≡ self.old.stack_capacity) }
+        ensures capacity { OnOk result
+            ((self.new.position_capacity ≡ max self.old.position_capacity len)
             × (self.new.block_capacity ≡ max self.old.block_capacity (blocks_in len))) }
         ensures fault { IfErr result (λ e. IsOutOfMemory e
             × ((self.old.position_capacity < len) ⊎ (self.old.block_capacity < blocks_in len))) }
@@ -162,8 +168,8 @@ impl<A: Allocator> Buffers<A> {
 
     // Lists the structural indexes of the input and its blocks that hold a backslash, and reserves
     // capacity for the containers that they can open within the limit, if these are more than
-    // `FEW_OPEN`. Returns the error of the whole input, or `OutOfMemory` if an allocation fails, and
-    // lists nothing then.
+    // `FEW_OPEN`. Returns the error of the whole input, or `OutOfMemory` if an allocation fails,
+    // and lists nothing then.
     pub(crate) fn find_positions(&mut self, input: &[u8]) -> Result<()>
         ensures found { OnOk result (HoldsScan input.now self.new) }
         ensures empty { OnErr result ((self.new.positions ≡ []) × (self.new.blocks ≡ [])) }
@@ -197,14 +203,16 @@ impl<A: Allocator> Buffers<A> {
     ) -> Result<()>
         requires input { input.old ≡ K.bytes }
         requires scanned { HoldsScan K.bytes self.old }
-        requires room { nodes_enough (length (positions K.bytes)) self.old.limit ≤ S.node_room sink.old }
+        requires room { nodes_enough (length (positions K.bytes)) self.old.limit
+            ≤ S.node_room sink.old }
         requires empty { S.held_nodes sink.old ≡ [] }
         ensures same { self.new ≡ self.old }
         ensures room { S.node_room sink.new ≡ S.node_room sink.old }
         ensures lender { S.lender sink.new ≡ S.lender sink.old }
         ensures few { OnOk result (length (S.held_nodes sink.new) ≤ length (positions K.bytes)) }
         ensures built { OnOk result (IsWritten K.bytes self.old.limit (S.held_nodes sink.new)) }
-        ensures refused { IfErr result (λ e. IsTokenFault e × (descent K.bytes self.old.limit ≡ Err e)) }
+        ensures refused { IfErr result
+            (λ e. IsTokenFault e × (descent K.bytes self.old.limit ≡ Err e)) }
     {
         let scanned = Scanned {
             structural_indexes: &self.structural_indexes[..self.used],

@@ -1,11 +1,13 @@
 //! Laws of the statement that all entry points share, and of the documents of values. Each function
 //! has an empty body: its contract is the law.
-ghost use Rattle.std.specs.Prelude.{◌≡◌, ◌≤◌, ◌↔◌, ◌∷◌, ℕ, List, length, take};
+ghost use Rattle.std.specs.Prelude.{◌≡◌, ◌≤◌, ◌↔◌, ◌∷◌, ℕ, List, length};
+ghost use Rattle.std.specs.Prelude.{take};
 ghost use Rattle.std.specs.Prelude.{Option, Some, None, Ok, IsSome};
 ghost use Rattle.std.specs.Result.{result_err};
 ghost use Rattle.simd_json.specs.Beneath.{beneath, descendants};
 ghost use Rattle.simd_json.specs.Memory.{HasMemory};
-ghost use Rattle.simd_json.specs.Parsed.{IsPaddedParse, IsParse, IsRefused, answered_nodes, positions_after};
+ghost use Rattle.simd_json.specs.Parsed.{IsPaddedParse, IsParse, IsRefused, answered_nodes};
+ghost use Rattle.simd_json.specs.Parsed.{positions_after};
 ghost use Rattle.simd_json.specs.Capacities.{KeepsCapacities, Capacities, capacity};
 ghost use Rattle.simd_json_parts.specs.Answer.{answer};
 ghost use Rattle.simd_json_parts.specs.Document.{Document};
@@ -38,18 +40,21 @@ pub fn parses_are_answers()
 pub fn parses_agree()
     ensures same { (b : List ℕ) (limit capacity capacity2 : ℕ) (fault fault2 : Option Error)
         (nodes nodes2 : List Item) (listed listed2 : List ℕ)
-        → IsParse b limit capacity fault nodes listed → IsParse b limit capacity2 fault2 nodes2 listed2
+        → IsParse b limit capacity fault nodes listed
+        → IsParse b limit capacity2 fault2 nodes2 listed2
         → HasMemory fault → HasMemory fault2
         → (fault ≡ fault2) × (nodes ≡ nodes2) × (listed ≡ listed2) }
     ensures padded { (s : List ℕ) (len limit capacity : ℕ) (fault : Option Error)
         (nodes : List Item) (listed : List ℕ) → padding_fault s len ≡ None
         → IsPaddedParse s len limit capacity fault nodes listed
         → IsParse (take len s) limit capacity fault nodes listed }
-    ensures padding { (s s2 : List ℕ) (len limit capacity capacity2 : ℕ) (fault fault2 : Option Error)
-        (nodes nodes2 : List Item) (listed listed2 : List ℕ)
-        → padding_fault s len ≡ None → padding_fault s2 len ≡ None → take len s ≡ take len s2
+    ensures padding { (s s2 : List ℕ) (len limit capacity capacity2 : ℕ)
+        (fault fault2 : Option Error) (nodes nodes2 : List Item) (listed listed2 : List ℕ)
+        → padding_fault s len ≡ None → padding_fault s2 len ≡ None
+        → take len s ≡ take len s2
         → IsPaddedParse s len limit capacity fault nodes listed
-        → IsPaddedParse s2 len limit capacity2 fault2 nodes2 listed2 → HasMemory fault → HasMemory fault2
+        → IsPaddedParse s2 len limit capacity2 fault2 nodes2 listed2
+        → HasMemory fault → HasMemory fault2
         → (fault ≡ fault2) × (nodes ≡ nodes2) × (listed ≡ listed2) }
 {}
 
@@ -57,7 +62,8 @@ pub fn parses_agree()
 pub fn capacity_suffices()
     ensures { (b : List ℕ) (limit capacity : ℕ) (fault : Option Error)
         (nodes : List Item) (listed : List ℕ)
-        → IsParse b limit capacity fault nodes listed → length b ≤ capacity → HasMemory fault }
+        → IsParse b limit capacity fault nodes listed → length b ≤ capacity
+        → HasMemory fault }
 {}
 
 /// If no list gets shorter and the limit stays, capacity does not shrink.
@@ -80,7 +86,8 @@ pub fn documents_are_known_by_their_listing()
 /// So the document of a parsed tape's value, whose listing is the tape's, is the document that the
 /// bytes denote.
 pub fn values_stand_for_parsed_documents()
-    ensures { (b : List ℕ) (limit capacity : ℕ) (nodes : List Item) (listed : List ℕ) (d : Document)
+    ensures { (b : List ℕ) (limit capacity : ℕ) (nodes : List Item) (listed : List ℕ)
+        (d : Document)
         → IsParse b limit capacity None nodes listed → listing d ≡ nodes
         → Denotes b d × WithinLimits b d limit × (answer b limit ≡ Ok d) }
 {}
@@ -93,7 +100,8 @@ pub fn descendants_within_the_depth_are_all()
 
 /// The first node of a listing has the number of nodes beneath it and of the document's members.
 pub fn headers_count_nodes_and_members()
-    ensures { (d : Document) (header : Item) (beneath : List Item) → listing d ≡ header ∷ beneath
+    ensures { (d : Document) (header : Item) (beneath : List Item)
+        → listing d ≡ header ∷ beneath
         → (length beneath ≡ count_of header) × (len_of header ≡ member_count d) }
 {}
 

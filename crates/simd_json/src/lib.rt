@@ -76,7 +76,6 @@ mod deserializer;
 pub mod laws;
 mod location;
 mod parse;
-mod recycle;
 pub mod value;
 
 pub use buffers::Buffers;

@@ -1,19 +1,23 @@
 //! The entry points. Each finds the structural indexes of its input into the buffers
 //! (`find_positions`), and then builds nodes from them, into a tape (`build`) or a sink
 //! (`build_tape` of the buffers).
-ghost use Rattle.std.specs.Prelude.{◌≡◌, ◌≢◌, ◌≤◌, ◌<◌, [], ℕ, List, length, map, vec_capacity};
+ghost use Rattle.std.specs.Prelude.{◌≡◌, ◌≢◌, ◌≤◌, ◌<◌, [], ℕ, List};
+ghost use Rattle.std.specs.Prelude.{length, map, vec_capacity};
 ghost use Rattle.std.specs.Prelude.{IfErr, IfOk, OnOk, OnErr, None, Err};
 ghost use Rattle.std.specs.Result.{result_err};
-ghost use Rattle.simd_json.specs.Parsed.{IsParse, IsPaddedParse, IsParsed, IsRefused, nodes_of, written};
-ghost use Rattle.simd_json.specs.Capacities.{HoldsScan, KeepsCapacities, ListsSame, capacity, capped};
+ghost use Rattle.simd_json.specs.Parsed.{IsPaddedParse, IsParse, nodes_of, written};
+ghost use Rattle.simd_json.specs.Capacities.{HoldsScan, KeepsCapacities, ListsSame, capacity};
+ghost use Rattle.simd_json.specs.Capacities.{capped};
 ghost use Rattle.simd_json.specs.Memory.{HasMemory, IsOutOfMemory};
 ghost use Rattle.simd_json.specs.Reserved.{IsReserved, parse_capacity};
-ghost use Rattle.simd_json_parts.specs.FaultKinds.{IsOfToken};
+ghost use Rattle.simd_json_parts.specs.Descent.{descent};
 ghost use Rattle.simd_json_parts.specs.Limits.{max_length};
 ghost use Rattle.simd_json_parts.specs.Nodes.{item_of};
-ghost use Rattle.simd_json.specs.MaxDepth.{default_max_depth};
+ghost use Rattle.simd_json.specs.Capacities.{default_max_depth};
 ghost use Rattle.simd_json_parts.specs.Positions.{positions};
+ghost use Rattle.simd_json_stages.specs.Building.{IsWritten};
 ghost use Rattle.simd_json_stages.specs.NodesEnough.{nodes_enough};
+ghost use Rattle.simd_json_stages.specs.Refusals.{IsTokenFault};
 
 use crate::buffers::Buffers;
 use crate::tape::Tape;
@@ -127,13 +131,15 @@ pub fn fill_tape<'de, A: Allocator, B: Allocator>(
         (result_err result) tape.new.nodes buffers.new.positions }
     ensures some { OnOk result (tape.new.nodes ≢ []) }
     ensures limit { buffers.new.limit ≡ buffers.old.limit }
-    ensures capacities { KeepsCapacities buffers.old buffers.new × (tape.old.capacity ≤ tape.new.capacity) }
+    ensures capacities { KeepsCapacities buffers.old buffers.new
+        × (tape.old.capacity ≤ tape.new.capacity) }
 {
     tape.clear();
     buffers.find_positions(s)?;
     let positions = buffers.structural_indexes().len();
     if let Err(e) = tape.reserve(nodes_enough(positions, buffers.max_depth)) {
-        return refuse(e, buffers, tape);
+        buffers.clear();
+        return Err(e);
     }
     build::<Brand, A, B>(s, buffers, &mut tape.list)
 }
@@ -199,14 +205,13 @@ pub fn fill_tape_padded<'de, A: Allocator, B: Allocator>(
         (result_err result) tape.new.nodes buffers.new.positions }
     ensures some { OnOk result (tape.new.nodes ≢ []) }
     ensures limit { buffers.new.limit ≡ buffers.old.limit }
-    ensures capacities { KeepsCapacities buffers.old buffers.new × (tape.old.capacity ≤ tape.new.capacity) }
+    ensures capacities { KeepsCapacities buffers.old buffers.new
+        × (tape.old.capacity ≤ tape.new.capacity) }
 {
     if s.len().saturating_sub(len) < INPUT_PADDING {
-        return refuse(
-            Error::generic(ErrorType::InsufficientPadding),
-            buffers,
-            tape,
-        );
+        buffers.clear();
+        tape.clear();
+        return Err(Error::generic(ErrorType::InsufficientPadding));
     }
     let (document, _) = s.split_at_mut(len);
     fill_tape(document, buffers, tape)
@@ -249,8 +254,10 @@ pub fn refill_tape<'de, A: Allocator, B: Allocator>(
         (result_err result.0) result.1.nodes buffers.new.positions }
     ensures some { OnOk result.0 (result.1.nodes ≢ []) }
     ensures limit { buffers.new.limit ≡ buffers.old.limit }
-    ensures capacities { KeepsCapacities buffers.old buffers.new × (tape.entry.capacity ≤ result.1.capacity) }
-    ensures reserved { (len : ℕ) → IsReserved len buffers.old tape.entry → IsReserved len buffers.new result.1
+    ensures capacities { KeepsCapacities buffers.old buffers.new
+        × (tape.entry.capacity ≤ result.1.capacity) }
+    ensures reserved { (len : ℕ) → IsReserved len buffers.old tape.entry
+        → IsReserved len buffers.new result.1
         × (length s.old ≤ len → HasMemory (result_err result.0)) }
 {
     let mut tape = tape.reset();
@@ -287,7 +294,8 @@ pub fn reserve<A: Allocator, B: Allocator>(
     ensures reserved { OnOk result (IsReserved input_len buffers.new tape.new) }
     ensures capacity { OnOk result (capped input_len ≤ parse_capacity buffers.new tape.new) }
     ensures same { ListsSame buffers.old buffers.new × (tape.new.nodes ≡ tape.old.nodes) }
-    ensures kept { KeepsCapacities buffers.old buffers.new × (tape.old.capacity ≤ tape.new.capacity) }
+    ensures kept { KeepsCapacities buffers.old buffers.new
+        × (tape.old.capacity ≤ tape.new.capacity) }
     ensures fault { IfErr result (λ e. IsOutOfMemory e
         × (parse_capacity buffers.old tape.old < capped input_len)) }
 {
@@ -296,24 +304,8 @@ pub fn reserve<A: Allocator, B: Allocator>(
     tape.reserve(nodes_enough(positions, buffers.max_depth))
 }
 
-// Returns an error without a character, after which no structural index is listed and the tape is
-// empty.
-fn refuse<A: Allocator, B: Allocator>(
-    e: Error,
-    buffers: &mut Buffers<A>,
-    tape: &mut Tape<'_, B>,
-) -> Result<()>
-    ensures refused { result ≡ Err e }
-    ensures positions { buffers.new ≡ record buffers.old { positions = []; blocks = [] } }
-    ensures nodes { tape.new ≡ record { nodes = []; capacity = tape.old.capacity } }
-{
-    buffers.clear();
-    tape.clear();
-    Err(e)
-}
-
-// Runs the second stage into a list with enough capacity. After an error the list is empty. The sink
-// is made here, and all that takes it is inlined, so that the pointer to the list stays in a
+// Runs the second stage into a list with enough capacity. After an error the list is empty. The
+// sink is made here, and all that takes it is inlined, so that the pointer to the list stays in a
 // register.
 #[inline(never)]
 fn build<'de, K: Original, A: Allocator, B: Allocator>(
@@ -323,14 +315,17 @@ fn build<'de, K: Original, A: Allocator, B: Allocator>(
 ) -> Result<()>
     requires input { s.old ≡ K.bytes }
     requires scanned { HoldsScan K.bytes buffers.old }
-    requires room { nodes_enough (length (positions K.bytes)) buffers.old.limit ≤ vec_capacity list.old }
+    requires room { nodes_enough (length (positions K.bytes)) buffers.old.limit
+        ≤ vec_capacity list.old }
     requires empty { list.old.items ≡ [] }
-    ensures tape { OnOk result (IsParsed K.bytes buffers.old.limit (map item_of list.new.items)) }
-    ensures few { length (map item_of list.new.items) ≤ length (positions K.bytes) }
+    ensures built { OnOk result (IsWritten K.bytes buffers.old.limit (map item_of list.new.items)) }
+    ensures few { OnOk result
+        (length (map item_of list.new.items) ≤ length (positions K.bytes)) }
     ensures empty { OnErr result (map item_of list.new.items ≡ []) }
     ensures kept { buffers.new ≡ buffers.old }
     ensures capacity { vec_capacity list.new ≡ vec_capacity list.old }
-    ensures fault { IfErr result (λ e. IsRefused K.bytes buffers.old.limit e × IsOfToken e) }
+    ensures refused { IfErr result
+        (λ e. IsTokenFault e × (descent K.bytes buffers.old.limit ≡ Err e)) }
 {
     let mut sink = ListSink { list };
     match buffers.build_tape::<K, ListSink<'_, 'de, B>>(s, &mut sink) {

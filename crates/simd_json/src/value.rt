@@ -1,7 +1,5 @@
 //! What a parse returns.
 
-mod accessors;
-mod cmp;
-mod encode;
-pub mod pointer;
 pub mod tape;
+
+pub use tape::pointer;

@@ -1,10 +1,10 @@
 -- How a parse ends: with a tape, with the fault of a token or of the whole input, or for want of memory.
 use Rattle.std.proofs.Common.{◌≡◌, ◌≢◌, ◌∙◌, ap, sym, subst, ◌<◌, ◌≤◌, ℕ, List, [], length, Bool, true, false, not, Some, None}
 use Rattle.std.proofs.Common.{Option, Ok, Err, refl, arith, cond, Result, min, ◌*◌, ◌⊎◌, inl, inr, IsUtf8, is_some, nat_lt, take}
-use Rattle.std.specs.Result.{IsErrAnd, IfErr, IfOk, OnOk, OnErr, result_err}
+use Rattle.std.specs.Result.{IsErrAnd, IfErr, OnOk, OnErr, result_err}
 use Rattle.std.specs.Str.{is_utf8}
 use Rattle.simd_json_theorems.proofs.Faults.Kinds.{input-fault, token-fault}
-use Rattle.simd_json_parts.proofs.Positions.ScannedInputs.{fault-by_size, scanned}
+use Rattle.simd_json_parts.proofs.Positions.ScannedInputs.{fault-by_size}
 use Rattle.std.proofs.lemmas.List.{length-take-le}
 use Rattle.std.proofs.lemmas.Option.{none-some}
 use Rattle.std.proofs.lemmas.Str.{IsUtf8-from_is_utf8}
@@ -19,7 +19,6 @@ use Rattle.simd_json_parts.specs.Listing.{listing}
 use Rattle.simd_json_parts.specs.Nodes.{Item}
 use Rattle.simd_json_parts.specs.Positions.{positions}
 use Rattle.simd_json_parts.specs.declared.error.Error.{Error}
-use Rattle.simd_json_parts.specs.declared.error.ErrorType.TheVariants.{OutOfMemory}
 use Rattle.simd_json.specs.Memory.{IsOutOfMemory, LacksMemory}
 use Rattle.simd_json.specs.Parsed.{IsParse, IsParsed, IsRefused, written}
 use Rattle.simd_json.specs.Capacities.{KeepsCapacities, Capacities, capacity}
@@ -108,31 +107,16 @@ pub on-err : {A E : Type 0} (r : Result A E) (P : Type 0) → P → OnErr r P
 on-err (Ok x) P p = tt
 on-err (Err e) P p = p
 
-less-min-left : (a b n : ℕ) → a < n → min a b < n
-less-min-left a b n l = omega (arith, l)
-
-less-min-right : (a b n : ℕ) → b < n → min a b < n
-less-min-right a b n l = omega (arith, l)
-
--- nothing is listed, and there is no node, where the first stage refuses
-pub parse-unread : {A : Type 0} (r : Result A Error) (b : List ℕ) (limit capacity : ℕ) (e : Error)
-    (nodes : List Item) (listed : List ℕ) → IsErrAnd r (λ x. x ≡ e) → nodes ≡ [] → listed ≡ []
-    → (input_fault b ≡ Some e) ⊎ (LacksMemory b e × (capacity < length b))
-    → IsParse b limit capacity (result_err r) nodes listed
-parse-unread r b limit capacity e nodes listed err n l (inl whole) =
-    parse-at (Some e) (result_err r) [] nodes [] listed (err-of r e err) n l (parse-whole b limit capacity e whole)
-parse-unread r b limit capacity e nodes listed err n l (inr (lacks, short)) =
-    parse-at (Some e) (result_err r) [] nodes [] listed (err-of r e err) n l (parse-lacking b limit capacity e lacks short)
-
-pub parse-unlisted : {A : Type 0} (r : Result A Error) (b : List ℕ) (limit tape_capacity capacity : ℕ) (e : Error)
-    (nodes : List Item) (listed : List ℕ) → IsErrAnd r (λ x. x ≡ e) → nodes ≡ [] → listed ≡ []
-    → (input_fault b ≡ Some e) ⊎ (LacksMemory b e × (capacity < length b))
-    → IsParse b limit (min tape_capacity capacity) (result_err r) nodes listed
-parse-unlisted r b limit tape_capacity capacity e nodes listed err n l (inl whole) =
-    parse-unread r b limit (min tape_capacity capacity) e nodes listed err n l (inl whole)
-parse-unlisted r b limit tape_capacity capacity e nodes listed err n l (inr (lacks, short)) =
-    parse-unread r b limit (min tape_capacity capacity) e nodes listed err n l
-    (inr (lacks, less-min-right tape_capacity capacity (length b) short))
+-- nothing is listed, and there is no node, where the first stage refuses, or a list has no capacity
+pub parse-unread : {A : Type 0} (r : Result A Error) (b : List ℕ) (limit least capacity : ℕ) (e : Error) (nodes : List Item)
+    (listed : List ℕ) → IsErrAnd r (λ x. x ≡ e) → nodes ≡ [] → listed ≡ [] → least ≤ capacity
+    → (input_fault b ≡ Some e) ⊎ (LacksMemory b e × (capacity < length b)) → IsParse b limit least (result_err r) nodes listed
+parse-unread r b limit least capacity e nodes listed err n l less cause =
+    parse-at (Some e) (result_err r) [] nodes [] listed (err-of r e err) n l (by_cause cause)
+  where
+    by_cause : (input_fault b ≡ Some e) ⊎ (LacksMemory b e × (capacity < length b)) → IsParse b limit least (Some e) [] []
+    by_cause (inl whole) = parse-whole b limit least e whole
+    by_cause (inr (lacks, short)) = parse-lacking b limit least e lacks (omega (arith, short, less))
 
 -- ---- size and encoding
 
@@ -150,27 +134,18 @@ right-input b none =
 
 -- ---- the second stage
 
--- the second stage's end
-pub parse-built : {A : Type 0} (r : Result A Error) (b : List ℕ) (limit capacity : ℕ) (nodes : List Item) (listed : List ℕ)
-    → OnOk r (IsParsed b limit nodes) → length nodes ≤ length (positions b) → OnErr r (nodes ≡ [])
-    → IfErr r (λ e. IsRefused b limit e × IsOfToken e) → listed ≡ positions b → IsParse b limit capacity (result_err r) nodes listed
-parse-built (Ok x) b limit capacity nodes listed p few empty refused l =
-    parse-at None None nodes nodes (positions b) listed refl refl l (parse-done b limit capacity nodes p few)
-parse-built (Err e) b limit capacity nodes listed p few empty refused l =
-    parse-at (Some e) (Some e) [] nodes (positions b) listed refl empty l (parse-token b limit capacity e refused.0 refused.1)
-
 -- what it leaves is a tape, and no empty one after it
-pub built-tape : {A : Type 0} (r : Result A Error) (b : List ℕ) (limit : ℕ) (nodes : List Item)
-    → OnOk r (IsParsed b limit nodes) → OnErr r (nodes ≡ []) → IsTape nodes
-built-tape (Ok x) b limit nodes p empty = tape-parsed b limit nodes p
-built-tape (Err e) b limit nodes p empty = inl empty
+pub built-tape : {A : Type 0} (r : Result A Error) (b : List ℕ) (limit : ℕ) (nodes : List Item) → input_fault b ≡ None
+    → OnOk r (IsWritten b limit nodes) → OnErr r (nodes ≡ []) → IsTape nodes
+built-tape (Ok x) b limit nodes none built empty = tape-parsed b limit nodes (written-parsed b limit nodes none built)
+built-tape (Err e) b limit nodes none built empty = inl empty
 
-pub built-some : {A : Type 0} (r : Result A Error) (b : List ℕ) (limit : ℕ) (nodes : List Item)
-    → OnOk r (IsParsed b limit nodes) → OnOk r (nodes ≢ [])
-built-some (Ok x) b limit nodes p = parsed-some b limit nodes p
-built-some (Err e) b limit nodes p = tt
+pub built-some : {A : Type 0} (r : Result A Error) (b : List ℕ) (limit : ℕ) (nodes : List Item) → input_fault b ≡ None
+    → OnOk r (IsWritten b limit nodes) → OnOk r (nodes ≢ [])
+built-some (Ok x) b limit nodes none built = parsed-some b limit nodes (written-parsed b limit nodes none built)
+built-some (Err e) b limit nodes none built = tt
 
--- the same with a sink
+-- its end
 pub parse-written : (r : Result (Unit {0}) Error) (b : List ℕ) (limit capacity : ℕ) (nodes : List Item) (listed : List ℕ)
     → input_fault b ≡ None → OnOk r (IsWritten b limit nodes) → OnOk r (length nodes ≤ length (positions b))
     → IfErr r (λ e. IsTokenFault e × (descent b limit ≡ Err e)) → listed ≡ positions b
@@ -185,6 +160,10 @@ parse-written (Err e) b limit capacity nodes listed none built few refused l =
 pub unwritten : (r : Result (Unit {0}) Error) (e : Error) (nodes : List Item) → IsErrAnd r (λ x. x ≡ e) → written r nodes ≡ []
 unwritten (Ok x) e nodes is = absurd is
 unwritten (Err x) e nodes is = refl
+
+pub written-all : (r : Result (Unit {0}) Error) (nodes : List Item) → OnErr r (nodes ≡ []) → written r nodes ≡ nodes
+written-all (Ok x) nodes empty = refl
+written-all (Err e) nodes empty = sym empty
 
 -- where nothing is wrong with the whole, so many nodes are enough
 pub nodes-within : (b : List ℕ) (limit room : ℕ) → input_fault b ≡ None → max_length ≤ room
@@ -203,32 +182,6 @@ bytes-short count limit nodes l = omega (arith, l)
 
 pub bytes-kept : (limit nodes more : ℕ) → nodes ≤ more → bytes_listed limit nodes ≤ bytes_listed limit more
 bytes-kept limit nodes more l = omega (arith, l)
-
--- the tape has no capacity for a node at each position
-pub parse-short : {A : Type 0} (r : Result A Error) (b : List ℕ) (limit tape_capacity capacity count : ℕ) (e : Error)
-    (nodes : List Item) (listed : List ℕ)
-    → r ≡ Err e → input_fault b ≡ None → e ≡ whole_fault OutOfMemory → tape_capacity < count → count ≡ length (positions b)
-    → nodes ≡ [] → listed ≡ []
-    → IsParse b limit (min tape_capacity capacity) (result_err r) nodes listed
-parse-short r b limit tape_capacity capacity count e nodes listed err none is short same n l =
-    let right = right-input b none in
-    parse-at (Some e) (result_err r) [] nodes [] listed (ap result_err err) n l
-    (parse-lacking b limit (min tape_capacity capacity) e (is, right.0, right.1)
-    (less-min-left tape_capacity capacity (length b) (omega (arith, short, same, few-positions b))))
-
--- ---- the first stage, after the test of both
-
-pub scan-found : {T : Type 0} (r : Result T Error) (b : List ℕ) (P Q : T → Type 0) → length b ≤ max_length → IsUtf8 b
-    → IfOk r (λ x. P x × Q x × (scan_fault b ≡ None)) → IfOk r (λ x. P x × Q x × (input_fault b ≡ None))
-scan-found (Ok x) b P Q l text (p, q, none) = (p, q, scanned b l text ∙ none)
-scan-found (Err e) b P Q l text h = h
-
-pub scan-refused : {T : Type 0} (r : Result T Error) (b : List ℕ) (P : Type 0) → length b ≤ max_length → IsUtf8 b
-    → IfErr r (λ e. (scan_fault b ≡ Some e) ⊎ ((e ≡ whole_fault OutOfMemory) × P))
-    → IfErr r (λ e. (input_fault b ≡ Some e) ⊎ (LacksMemory b e × P))
-scan-refused (Ok x) b P l text h = h
-scan-refused (Err e) b P l text (inl is) = inl (scanned b l text ∙ is)
-scan-refused (Err e) b P l text (inr (is, p)) = inr ((is, l, text), p)
 
 -- ---- capacity
 

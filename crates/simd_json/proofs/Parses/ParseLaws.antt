@@ -1,7 +1,7 @@
 -- From what the steps of a parse find to what the definitions answer.
-use Rattle.std.proofs.Common.{◌≡◌, ◌∙◌, ap, sym, ◌<◌, ◌≤◌, ℕ, List, length, true, Some, None, Ok, Err, arith, Result, map, inl, inr}
+use Rattle.std.proofs.Common.{◌≡◌, ◌∙◌, ap, sym, ◌<◌, ◌≤◌, ℕ, List, length, true, Some, None, Ok, Err, arith, map, inl, inr}
 use Rattle.std.proofs.Common.{false, refl, is_some}
-use Rattle.std.specs.Result.{is_err, MatchResult}
+use Rattle.std.specs.Result.{is_err}
 use Rattle.std.proofs.lemmas.Bool.{false≢true}
 use Rattle.std.proofs.lemmas.List.Sums.{length-filter, count_by-le-length}
 use Rattle.std.proofs.lemmas.List.FromFn.{length-range_with_len}
@@ -113,9 +113,3 @@ parsed b limit nodes none listed =
 
 pub tape-parsed : (b : List ℕ) (limit : ℕ) (items : List Item) → IsParsed b limit items → IsTape items
 tape-parsed b limit items p = inr (p.document, IsSpellable-denoted b p.document p.denoted, p.within.integers, p.listed)
-
--- ---- what the exit of a `?` answers
-
-pub not_ok : {A B : Type 0} (r : Result A B) (P : A → Type 0) (Q : Type 0) → is_err r ≡ true → MatchResult r P (λ _. Q) → Q
-not_ok (Ok x) P Q is h = absurd (false≢true is)
-not_ok (Err x) P Q is h = h

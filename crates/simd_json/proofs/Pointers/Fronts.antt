@@ -1,8 +1,10 @@
 -- How many bytes stand in front of the first that is one of two, seen a vector at a time.
 use Rattle.std.proofs.Common.{◌≡◌, ◌≢◌, ◌∙◌, ap, sym, ◌<◌, ◌≤◌, ◌+◌, ℕ, zero, suc, Bool, true, false, cond, List, [], ◌∷◌}
-use Rattle.std.proofs.Common.{length, length-drop, map, drop, get_or, subst, ne_eqb, arith}
+use Rattle.std.proofs.Common.{length, length-drop, map, drop, get_or, subst, ne_eqb, arith, inl, inr}
+use Rattle.std.specs.Prelude.{◌==◌, ◌↔◌, ◌⊎◌, IsTrue}
 use Rattle.std.proofs.lemmas.List.{get_or-drop}
 use Rattle.std.specs.List.{prefix_len, slice_range}
+use Rattle.std.proofs.lemmas.Bool.{cases_lt, eq-eqb, eqb-true}
 use Rattle.std.proofs.lemmas.Bool.Decides.{nat_tests}
 use Rattle.std.proofs.lemmas.List.Sums.{prefix_len-le-length, prefix_len_passes, prefix_len_stops}
 use lib.Count.{count_trailing_zeros}
@@ -89,3 +91,15 @@ plain-front p q i n is begins front other =
       token,
       plain-to p i (i + 1 + n) token.within (λ k less e. (lacks k (omega (arith, less))).1 (lies-at p q i k is ∙ e)),
     )
+
+-- ---- a token without a `~`
+
+pub plain-whole : (t : List ℕ) (n : ℕ) → n ≡ prefix_len (is_neither 126 126) t → IsTrue (n == length t) ↔ IsPlain t
+plain-whole t n is = (
+  λ all k less. (front-lacks 126 126 t k (omega (arith, less, is, eqb-true n (length t) all))).0,
+  λ plain. eq-eqb n (length t) (all-by plain (cases_lt n (length t))),
+)
+  where
+    all-by : IsPlain t → (n < length t) ⊎ (length t ≤ n) → n ≡ length t
+    all-by plain (inl less) = absurd (plain n less (front-ends 126 t n is less))
+    all-by plain (inr more) = omega (arith, more, is, prefix_len-le-length (is_neither 126 126) t)

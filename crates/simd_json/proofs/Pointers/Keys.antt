@@ -1,14 +1,17 @@
 -- The key that a token is, a byte at a time.
 use Rattle.std.proofs.Common.{◌≡◌, ◌≢◌, ◌∙◌, ap, sym, refl, ◌<◌, ◌≤◌, ℕ, suc, Bool, true, false, cond, eqb, List, [], ◌∷◌, length, length-drop}
-use Rattle.std.proofs.Common.{drop, take, ◌-◌, get_or, Some, None, Option, option_map, arith, ne_eqb, true≢false}
+use Rattle.std.proofs.Common.{drop, take, ◌-◌, ◌+◌, get_or, Some, None, Option, option_map, arith, ne_eqb, true≢false}
+use Rattle.std.proofs.lemmas.Bool.{eqb-true}
 use Rattle.std.proofs.lemmas.List.{take_all}
+use Rattle.std.proofs.lemmas.List.Recursion.{is_count_by}
+use Rattle.std.specs.List.{count_by}
 use Rattle.std.specs.Prelude.{◌==◌, ◌↔◌, IsTrue, is_some}
 use Rattle.std.specs.Result.{result_ok}
 use Rattle.simd_json_parts.specs.Document.{Members}
 use Rattle.simd_json_parts.specs.Views.{first_with}
 use Rattle.simd_json.specs.Pointed.{member_at, unescaped}
-use Rattle.simd_json.specs.Followed.{IsPlain}
-use Rattle.simd_json.specs.declared.value.pointer.PointerExpected.TheVariants as lacking
+use Rattle.simd_json.specs.Followed.{IsPlain, is_tilde}
+use Rattle.simd_json.specs.declared.value.tape.pointer.PointerExpected.TheVariants as lacking
 use Rattle.simd_json.proofs.Pointers.Pointed.{ok-or}
 
 -- ---- a token without an escape
@@ -111,3 +114,44 @@ end-same (c ∷ t) l b test end =
   where
     not-empty : (c : ℕ) (t : List ℕ) → c ∷ t ≡ [] → ⊥
     not-empty c t is = cc
+
+-- ---- how long the key is that a token is
+
+abbrev tildes : List ℕ → ℕ
+tildes [] = 0
+tildes (c ∷ t) = cond (is_tilde c) (1 + tildes t) (tildes t)
+
+with-length : (o : Option (List ℕ)) (x n m : ℕ) (k : List ℕ) → ((l : List ℕ) → o ≡ Some l → length l + n ≡ m)
+    → option_map (λ l. x ∷ l) o ≡ Some k → length k + n ≡ suc m
+with-length None x n m k each is = cc
+with-length (Some l) x n m k each is = let same : x ∷ l ≡ k = cc in omega (arith, each l refl, ap length same)
+
+one-length : (c : ℕ) (k : List ℕ) (b : Bool) → cond b None (Some (c ∷ [])) ≡ Some k → length k + cond b 1 0 ≡ 1
+one-length c k true is = cc
+one-length c k false is = let same : c ∷ [] ≡ k = cc in omega (arith, ap length same)
+
+two-length : (c e : ℕ) (t k : List ℕ) (n : ℕ) (b u v w : Bool) → (u ≡ true → w ≡ false) → (v ≡ true → w ≡ false)
+    → cond b (cond u (option_map (λ l. 126 ∷ l) (unescaped t)) (cond v (option_map (λ l. 47 ∷ l) (unescaped t)) None))
+    (option_map (λ l. c ∷ l) (unescaped (e ∷ t))) ≡ Some k
+    → ((l : List ℕ) → unescaped t ≡ Some l → length l + n ≡ length t)
+    → ((l : List ℕ) → unescaped (e ∷ t) ≡ Some l → length l + cond w (1 + n) n ≡ suc (length t))
+    → length k + cond b (1 + cond w (1 + n) n) (cond w (1 + n) n) ≡ suc (suc (length t))
+two-length c e t k n false u v w zero one is rest more = with-length (unescaped (e ∷ t)) c (cond w (1 + n) n) (suc (length t)) k more is
+two-length c e t k n true true v w zero one is rest more =
+    omega (arith, with-length (unescaped t) 126 n (length t) k rest is, ap (λ b. cond b (1 + n) n) (zero refl))
+two-length c e t k n true false true w zero one is rest more =
+    omega (arith, with-length (unescaped t) 47 n (length t) k rest is, ap (λ b. cond b (1 + n) n) (one refl))
+two-length c e t k n true false false w zero one is rest more = cc
+
+not-tilde : (e d : ℕ) → is_tilde d ≡ false → (e == d) ≡ true → is_tilde e ≡ false
+not-tilde e d other is = ap is_tilde (eqb-true e d is) ∙ other
+
+decoded-length : (t k : List ℕ) → unescaped t ≡ Some k → length k + tildes t ≡ length t
+decoded-length [] k is = let same : k ≡ [] = cc in ap (λ l. length l + 0) same
+decoded-length (c ∷ []) k is = one-length c k (c == 126) is
+decoded-length (c ∷ e ∷ t) k is =
+    two-length c e t k (tildes t) (c == 126) (e == 48) (e == 49) (e == 126) (not-tilde e 48 refl) (not-tilde e 49 refl) is
+    (decoded-length t) (decoded-length (e ∷ t))
+
+pub key-length : (t k : List ℕ) → unescaped t ≡ Some k → length k ≡ length t - count_by is_tilde t
+key-length t k is = omega (arith, decoded-length t k is, is_count_by tildes is_tilde refl (λ x xs. refl) t)

@@ -19,9 +19,9 @@ use Rattle.simd_json_parts.specs.declared.node.ValueType.{ValueType}
 use Rattle.simd_json.specs.Pointed.{with_first, tokens, unescaped, is_array_index, array_index, element_at, member_at, named, stop}
 use Rattle.simd_json.specs.Pointed.{go_on, followed, pointed_from}
 use Rattle.simd_json.specs.Followed.{IsPlain, IsTokenAt, tokens_after, first_of, first_step, fits_64}
-use Rattle.simd_json.specs.declared.value.pointer.PointerError.{PointerError}
-use Rattle.simd_json.specs.declared.value.pointer.PointerExpected.{PointerExpected}
-use Rattle.simd_json.specs.declared.value.pointer.PointerExpected.TheVariants as lacking
+use Rattle.simd_json.specs.declared.value.tape.pointer.PointerError.{PointerError}
+use Rattle.simd_json.specs.declared.value.tape.pointer.PointerExpected.{PointerExpected}
+use Rattle.simd_json.specs.declared.value.tape.pointer.PointerExpected.TheVariants as lacking
 use Rattle.simd_json.proofs.Views.Split.{first_with-pair, first_with-none}
 
 -- ---- the first token of what is left of a pointer

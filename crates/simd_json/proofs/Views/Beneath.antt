@@ -1,7 +1,7 @@
 -- What is at most so many levels beneath a document is all, where the document is no deeper.
 use Rattle.std.proofs.Common.{◌≡◌, ◌∙◌, ap, refl, ◌≤◌, ◌∷◌, ◌++◌, ℕ, zero, suc, length, length-append, arith}
 use Rattle.std.specs.Prelude.{flat_map}
-use Rattle.simd_json_parts.specs.Document.{Document, null, boolean, integer, decimal, string, array, object, Elements, no_elements}
+use Rattle.simd_json_parts.specs.Document.{Document, array, object, Elements, no_elements}
 use Rattle.simd_json_parts.specs.Document.{element, elements, Members, no_members, member}
 use Rattle.simd_json_parts.specs.Limits.{depth, elements_depth, members_depth}
 use Rattle.simd_json_parts.specs.Listing.{listing, elements_listing, members_listing}
@@ -10,20 +10,12 @@ use Rattle.simd_json.specs.Beneath.{beneath, descendants, among_elements, among_
 
 mutual
   pub within-depth : (d : Document) (n : ℕ) → depth d ≤ n → beneath n d ≡ descendants d
-  within-depth null zero within = refl
-  within-depth null (suc n) within = refl
-  within-depth (boolean b) zero within = refl
-  within-depth (boolean b) (suc n) within = refl
-  within-depth (integer minus m) zero within = refl
-  within-depth (integer minus m) (suc n) within = refl
-  within-depth (decimal literal) zero within = refl
-  within-depth (decimal literal) (suc n) within = refl
-  within-depth (string t) zero within = refl
-  within-depth (string t) (suc n) within = refl
   within-depth (array ds) zero within = absurd (omega arith)
   within-depth (array ds) (suc n) within = ap (λ es. array ds ∷ es) (elements-within ds n (omega arith))
   within-depth (object ms) zero within = absurd (omega arith)
   within-depth (object ms) (suc n) within = ap (λ es. object ms ∷ es) (members-within ms n (omega arith))
+  within-depth _ zero within = refl
+  within-depth _ (suc n) within = refl
 
   elements-within : (ds : Elements) (n : ℕ) → elements_depth ds ≤ n → flat_map (beneath n) (elements ds) ≡ among_elements ds
   elements-within no_elements n within = refl
@@ -41,20 +33,12 @@ mutual
 
 mutual
   pub beneath-few : (n : ℕ) (d : Document) → length (beneath n d) ≤ length (listing d)
-  beneath-few zero null = omega arith
-  beneath-few (suc n) null = omega arith
-  beneath-few zero (boolean b) = omega arith
-  beneath-few (suc n) (boolean b) = omega arith
-  beneath-few zero (integer minus m) = omega arith
-  beneath-few (suc n) (integer minus m) = omega arith
-  beneath-few zero (decimal literal) = omega arith
-  beneath-few (suc n) (decimal literal) = omega arith
-  beneath-few zero (string t) = omega arith
-  beneath-few (suc n) (string t) = omega arith
-  beneath-few zero (array ds) = omega arith
   beneath-few (suc n) (array ds) = omega (arith, elements-few n ds)
-  beneath-few zero (object ms) = omega arith
   beneath-few (suc n) (object ms) = omega (arith, members-few n ms)
+  beneath-few zero (array ds) = omega arith
+  beneath-few zero (object ms) = omega arith
+  beneath-few zero _ = omega arith
+  beneath-few (suc n) _ = omega arith
 
   elements-few : (n : ℕ) (ds : Elements) → length (flat_map (beneath n) (elements ds)) ≤ length (elements_listing ds)
   elements-few n no_elements = omega arith

@@ -5,7 +5,7 @@ use Rattle.std.proofs.lemmas.List.{drop_more, drop_all, drop-set, get_or-set_sam
 use Rattle.std.proofs.Math.ListN.{set}
 use Rattle.std.specs.Prelude.{◌==◌, flat_map, slice_get, IfSome}
 use Rattle.std.proofs.lemmas.Option.{slice_get-get_or}
-use Rattle.simd_json_parts.specs.Document.{Document, null, boolean, integer, decimal, string, array, object, Elements, no_elements}
+use Rattle.simd_json_parts.specs.Document.{Document, array, object, Elements, no_elements}
 use Rattle.simd_json_parts.specs.Document.{element, elements, Members, no_members, member, members}
 use Rattle.simd_json_parts.specs.Listing.{listing, elements_listing, members_listing}
 use Rattle.simd_json.specs.Tapes.{StandsFor}
@@ -62,13 +62,9 @@ listing-flat (member k d ms) es =
 
 listing-entered : (ds : Elements) (x : Item) (ys : List Item) → elements_listing ds ≡ x ∷ ys → elements_listing (entered ds) ≡ ys
 listing-entered no_elements x ys is = cc
-listing-entered (element null ds) x ys is = cc
-listing-entered (element (boolean b) ds) x ys is = cc
-listing-entered (element (integer minus n) ds) x ys is = cc
-listing-entered (element (decimal literal) ds) x ys is = cc
-listing-entered (element (string t) ds) x ys is = cc
 listing-entered (element (array es) ds) x ys is = listing-joined es ds ∙ (cc)
 listing-entered (element (object ms) ds) x ys is = listing-flat ms ds ∙ (cc)
+listing-entered (element _ ds) x ys is = cc
 
 pub record IsEntered (xs ys : List Item) : Type 0 where
   pub listed : AreElements ys

@@ -5,7 +5,7 @@ use Rattle.std.proofs.lemmas.List.{append-nil}
 use Rattle.simd_json_parts.proofs.Documents.Listing.{IsHeaded-document}
 use Rattle.simd_json_parts.proofs.Documents.Fronts.{sized}
 use Rattle.simd_json_parts.proofs.Documents.Integers.{of-integer_node}
-use Rattle.simd_json_parts.specs.Document.{Document, null, boolean, integer, decimal, string, array, object, Elements, no_elements}
+use Rattle.simd_json_parts.specs.Document.{Document, integer, string, array, object, Elements, no_elements}
 use Rattle.simd_json_parts.specs.Document.{element, elements, Members, no_members, member, members}
 use Rattle.simd_json_parts.specs.Integers.{integer_node}
 use Rattle.simd_json_parts.specs.Listing.{listing, elements_listing, members_listing}
@@ -58,17 +58,14 @@ in_pairs-flat (member k d ms) = ap (member k d) (in_pairs-flat ms)
 
 mutual
   pub elements_of-listing : (d : Document) (ns : List Item) → elements_of (listing d ++ ns) ≡ element d (elements_of ns)
-  elements_of-listing null ns = refl
-  elements_of-listing (boolean b) ns = refl
   elements_of-listing (integer minus n) ns = ap (λ d. element d (elements_of ns)) (document-integer minus n)
-  elements_of-listing (decimal literal) ns = refl
-  elements_of-listing (string t) ns = refl
   elements_of-listing (array ds) ns =
       let e = elements_of-elements ds ns in
       rw (e, front-joined, others-joined)
   elements_of-listing (object ms) ns =
       let e = elements_of-members ms ns in
       rw (e, front-flat, others-flat)
+  elements_of-listing _ ns = refl
 
   elements_of-elements : (ds : Elements) (ns : List Item) → elements_of (elements_listing ds ++ ns) ≡ joined ds (elements_of ns)
   elements_of-elements no_elements ns = refl
@@ -131,30 +128,18 @@ object-of xs ns len count is headed =
       whole = whole ∙ ap object (sym back);
     }
 
-pub array-at : (xs ns : List Node) (x : Node) (len count : ℕ) → IsListing (map item_of xs)
-    → map item_of xs ≡ item_of x ∷ map item_of (drop 1 xs)
-    → x ≡ nodes.Array len count → ns ≡ drop 1 xs → IsArrayOf (map item_of xs) len (map item_of ns)
-array-at xs ns x len count is headed kind beneath =
-    array-of (map item_of xs) (map item_of ns) len count is (headed ∙ ap (λ y. item_of y ∷ map item_of (drop 1 xs)) kind
-    ∙ ap (λ ys. array_item len count ∷ map item_of ys) (sym beneath))
-
-pub object-at : (xs ns : List Node) (x : Node) (len count : ℕ) → IsListing (map item_of xs)
-    → map item_of xs ≡ item_of x ∷ map item_of (drop 1 xs)
-    → x ≡ nodes.Object len count → ns ≡ drop 1 xs → IsObjectOf (map item_of xs) len (map item_of ns)
-object-at xs ns x len count is headed kind beneath =
-    object-of (map item_of xs) (map item_of ns) len count is (headed ∙ ap (λ y. item_of y ∷ map item_of (drop 1 xs)) kind
-    ∙ ap (λ ys. object_item len count ∷ map item_of ys) (sym beneath))
+pub headed : (xs ns : List Node) (x y : Node) → map item_of xs ≡ item_of x ∷ map item_of (drop 1 xs)
+    → x ≡ y → ns ≡ drop 1 xs → map item_of xs ≡ item_of y ∷ map item_of ns
+headed xs ns x y is kind beneath = is ∙ ap (λ z. item_of z ∷ map item_of (drop 1 xs)) kind ∙ ap (λ zs. item_of y ∷ map item_of zs) (sym beneath)
 
 -- ---- a scalar at the front of nodes
 
 -- a node that is no header has none beneath
 scalar-count : (x : Node) → ((len count : ℕ) → x ≡ nodes.Array len count → ⊥) → ((len count : ℕ) → x ≡ nodes.Object len count → ⊥)
     → count_of (item_of x) ≡ 0
-scalar-count (nodes.String s) no_array no_object = refl
-scalar-count (nodes.Decimal s) no_array no_object = refl
-scalar-count (nodes.Static s) no_array no_object = refl
 scalar-count (nodes.Array len count) no_array no_object = absurd (no_array len count refl)
 scalar-count (nodes.Object len count) no_array no_object = absurd (no_object len count refl)
+scalar-count _ no_array no_object = refl
 
 pub sized-scalar : (ns : List Node) (default : Node) (d : Document) (rest : List Item) → map item_of ns ≡ listing d ++ rest
     → ((len count : ℕ) → get_or ns 0 default ≡ nodes.Array len count → ⊥)

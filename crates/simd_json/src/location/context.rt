@@ -2,7 +2,8 @@
 ghost use Rattle.std.specs.Prelude.{◌≡◌, drop, if◌then◌else◌};
 ghost use Rattle.simd_json.specs.Locations.{bad_string, is_control_inside};
 ghost use Rattle.simd_json.specs.Reasons.{byte_before, closes_root, ends_range, expects_value};
-ghost use Rattle.simd_json.specs.Reasons.{has_hex_digits, is_byte_order_mark, object_reason, reason_of};
+ghost use Rattle.simd_json.specs.Reasons.{has_hex_digits, is_byte_order_mark, object_reason};
+ghost use Rattle.simd_json.specs.Reasons.{reason_of};
 ghost use Rattle.simd_json.specs.Reasons.{token_reason, value_reason, whole_reason};
 ghost use Rattle.simd_json_parts.specs.Bytes.{byte_at};
 ghost use Rattle.simd_json.specs.declared.location.reason.Reason.TheVariants as reasons;
@@ -65,7 +66,8 @@ fn token_reason(input: &[u8], i: usize, kind: &ErrorType) -> Reason
 // The reason of a bad string: it holds a control byte, or is left open.
 fn string_reason(input: &[u8]) -> Reason
     ensures { result ≡ (if is_control_inside input.now (bad_string input.now)
-        then reasons.ControlCharacter (byte_at input.now (bad_string input.now)) else reasons.OpenString) }
+        then reasons.ControlCharacter (byte_at input.now (bad_string input.now))
+        else reasons.OpenString) }
 {
     let byte = byte_or_space(input, bad_string(input));
     if byte < 0x20 {

@@ -2,7 +2,8 @@
 ghost use Rattle.std.specs.Prelude.{◌≡◌, ◌-◌, not, length};
 ghost use Rattle.std.specs.List.{suffix_len};
 ghost use Rattle.std.specs.Str.Lossy.{utf8_valid_len};
-ghost use Rattle.simd_json.specs.Locations.{begins_character, column_of, is_line_feed, line_of, place_of, whole_place};
+ghost use Rattle.simd_json.specs.Locations.{begins_character, column_of, is_line_feed, line_of};
+ghost use Rattle.simd_json.specs.Locations.{place_of, whole_place};
 
 use super::scan::bad_string;
 use simd_json_parts::error::{Error, ErrorType};

@@ -1,6 +1,7 @@
 //! A scan of the strings of an input, byte by byte, for what is wrong with one of them.
 ghost use Rattle.std.specs.Prelude.{◌≡◌, ◌&&◌, ◌==◌, not, if◌then◌else◌};
-ghost use Rattle.simd_json.specs.Locations.{bad_string, first_index, is_control_inside, is_left_open};
+ghost use Rattle.simd_json.specs.Locations.{bad_string, first_index, is_control_inside};
+ghost use Rattle.simd_json.specs.Locations.{is_left_open};
 
 // What is known of the strings before an index.
 #[derive(Clone, Copy)]

@@ -1,17 +1,24 @@
 //! The tape: the nodes of one document.
-ghost use Rattle.std.specs.Prelude.{◌≡◌, ◌≤◌, ◌<◌, ◌↔◌, [], map, IsTrue, OnOk, OnErr, IfOk, IfErr, ◌≢◌};
+ghost use Rattle.std.specs.Prelude.{◌≡◌, ◌≢◌, ◌≤◌, ◌<◌, ◌↔◌, [], map};
+ghost use Rattle.std.specs.Prelude.{IsTrue};
+ghost use Rattle.std.specs.Prelude.{OnOk, OnErr, IfOk, IfErr};
+ghost use Rattle.std.specs.Mem.{manually_drop_value};
+ghost use Rattle.std.specs.Vec.{vec_capacity, vec_len};
 ghost use Rattle.simd_json.specs.Memory.{IsOutOfMemory};
 ghost use Rattle.simd_json_parts.specs.Document.{null};
 ghost use Rattle.simd_json_parts.specs.Listing.{listing};
 ghost use Rattle.simd_json_parts.specs.Nodes.{item_of};
 
+mod accessors;
 pub mod array;
+mod cmp;
 pub mod descendants;
+mod encode;
 mod key;
 pub mod object;
+pub mod pointer;
 mod value;
 
-use crate::recycle::recycled;
 pub use array::Array;
 pub use descendants::Descendants;
 pub use object::Object;
@@ -20,6 +27,7 @@ pub use simd_json_parts::node::Node;
 use simd_json_parts::node::StaticNode;
 use std::alloc::{Allocator, Global};
 use std::marker::Model;
+use std::mem::ManuallyDrop;
 pub use value::Value;
 
 /// The nodes of one document in preorder, or none.
@@ -35,7 +43,7 @@ pub struct Tape<'input, A: Allocator = Global> {
 impl<'input, A: Allocator> Model for Tape<'input, A> {
     ghost use Rattle.std.specs.Vec.{vec_capacity};
     ghost use Rattle.simd_json.specs.Tapes.{Listed};
-    ghost use Rattle.simd_json.specs.TapeView.{listed_of};
+    ghost use Rattle.simd_json.specs.Tapes.{listed_of};
     ghost use Rattle.simd_json.specs.Tapes.{IsTape};
 
     ghost Value = { Listed };
@@ -131,9 +139,23 @@ impl<'input, A: Allocator> Tape<'input, A> {
     pub fn reset<'new>(self) -> Tape<'new, A>
         ensures { result ≡ record { nodes = []; capacity = self.entry.capacity } }
     {
-        let Tape { list } = self;
+        let Tape { mut list } = self;
+        list.clear();
         Tape {
-            list: recycled(list),
+            list: ManuallyDrop::into_inner(transmuted(ManuallyDrop::new(list))),
         }
     }
+}
+
+// The same list, which is empty, as a list of nodes of another lifetime. Its words are
+// reinterpreted: none of them points into an input.
+fn transmuted<'old, 'new, A: Allocator>(
+    list: ManuallyDrop<Vec<Node<'old>, A>>,
+) -> ManuallyDrop<Vec<Node<'new>, A>>
+    requires { vec_len (manually_drop_value list) ≡ 0 }
+    ensures { (vec_len (manually_drop_value result) ≡ 0)
+        × (vec_capacity (manually_drop_value result)
+        ≡ vec_capacity (manually_drop_value list.entry)) }
+{
+    unsafe { (&raw const list as *const ManuallyDrop<Vec<Node<'new>, A>>).read() }
 }

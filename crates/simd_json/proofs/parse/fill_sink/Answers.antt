@@ -1,4 +1,4 @@
-use Rattle.std.proofs.Common.{◌∙◌, ap, refl, subst}
+use Rattle.std.proofs.Common.{◌∙◌, ap, arith, refl, subst}
 use Rattle.std.specs.Result.{result_err}
 use Rattle.simd_json.specs.Capacities.{HoldsScan, capacity}
 use Rattle.simd_json.specs.Parsed.{IsParse, written}
@@ -13,8 +13,8 @@ returns-in_err-find_positions-clause-parse g c =
     let buffers = c.args.buffers.now in
     subst (λ b. IsParse b buffers.limit (capacity buffers) (result_err r) (written r held) c.find_positions.new.self.positions)
     c.requires.input
-    (parse-unread r c.args.s.now buffers.limit (capacity buffers) _ _ _ err (unwritten r _ held err)
-    c.in_err-find_positions.ensures.empty.0 c.in_err-find_positions.ensures.fault)
+    (parse-unread r c.args.s.now buffers.limit (capacity buffers) (capacity buffers) _ _ _ err (unwritten r _ held err)
+    c.in_err-find_positions.ensures.empty.0 (omega arith) c.in_err-find_positions.ensures.fault)
 
 pub build_tape-requires : goal.build_tape-requires
 build_tape-requires g c κs =

@@ -20,7 +20,8 @@ pub struct Array<'tape, 'input> {
 }
 
 impl<'tape, 'input> Array<'tape, 'input> {
-    ghost use Rattle.std.specs.Prelude.{◌≡◌, ◌↔◌, IsTrue, MatchOption, [], length, option_map, slice_get};
+    ghost use Rattle.std.specs.Prelude.{◌≡◌, ◌↔◌, IsTrue, MatchOption, [], length};
+    ghost use Rattle.std.specs.Prelude.{option_map, slice_get};
     ghost use Rattle.simd_json.specs.Iterated.{elements_left};
     ghost use Rattle.simd_json.specs.Viewed.{doc, docs};
     ghost use Rattle.simd_json_parts.specs.Document.{no_elements, element, elements};

@@ -17,7 +17,8 @@ struct Row<'tape, 'input> {
 }
 
 impl<'tape, 'input> Row<'tape, 'input> {
-    ghost use Rattle.std.specs.Prelude.{◌≡◌, ◌≢◌, ◌<◌, ◌^◌, length, MatchOption};
+    ghost use Rattle.std.specs.Prelude.{◌≡◌, ◌≢◌, ◌<◌, ◌^◌, length};
+    ghost use Rattle.std.specs.Prelude.{MatchOption};
     ghost use Rattle.simd_json.specs.Descending.{in_row, entered};
     ghost use Rattle.simd_json.specs.Documents.{others};
     ghost use Rattle.simd_json.specs.Viewed.{doc};
@@ -74,7 +75,9 @@ struct Level {
 }
 
 impl Level {
-    ghost use Rattle.std.specs.Prelude.{◌≡◌, ◌≤◌, ◌<◌, ◌∷◌, ◌++◌, ℕ, List, [], suc, drop, flat_map, length, IfSome, MatchOption, slice_get};
+    ghost use Rattle.std.specs.Prelude.{◌≡◌, ◌≤◌, ◌<◌, ◌∷◌, ◌++◌, ℕ};
+    ghost use Rattle.std.specs.Prelude.{List, [], suc, drop, flat_map, length, IfSome, MatchOption};
+    ghost use Rattle.std.specs.Prelude.{slice_get};
     ghost use Rattle.simd_json.specs.Beneath.{beneath, children};
     ghost use Rattle.simd_json.specs.Descending.{left_in, entered};
     ghost use Rattle.simd_json.specs.Viewed.{doc};
@@ -107,7 +110,8 @@ impl Level {
         ensures within { result ≤ length levels.now }
         ensures some { IfSome (slice_get levels.now result) (λ l. 0 < l.left) }
         ensures same { (ds : Elements)
-            → left_in from (drop from levels.now) ds ≡ left_in result (drop result levels.now) ds }
+            → left_in from (drop from levels.now) ds
+            ≡ left_in result (drop result levels.now) ds }
     {
         let mut index = from;
         while index < levels.len() && levels[index].left == 0 {
@@ -152,7 +156,8 @@ impl<const DEPTH: usize> Levels<DEPTH> {
     fn enter(&mut self, value: &Value<'_, '_>) -> bool
         ensures { (ds : Elements)
             → beneath self.old.innermost (doc value.now) ++ left_open self.old ds
-            ≡ doc value.now ∷ left_open self.new (cond result (entered (element (doc value.now) ds)) ds) }
+            ≡ doc value.now ∷ left_open self.new
+            (cond result (entered (element (doc value.now) ds)) ds) }
     {
         if self.innermost == 0 {
             return false;

@@ -22,7 +22,8 @@ pub struct Object<'tape, 'input> {
 }
 
 impl<'tape, 'input> Object<'tape, 'input> {
-    ghost use Rattle.std.specs.Prelude.{◌≡◌, ◌↔◌, IsTrue, MatchOption, [], length, option_map};
+    ghost use Rattle.std.specs.Prelude.{◌≡◌, ◌↔◌, IsTrue, MatchOption, [], length};
+    ghost use Rattle.std.specs.Prelude.{option_map};
     ghost use Rattle.simd_json.specs.Iterated.{pairs_left, keys_left, values_left};
     ghost use Rattle.simd_json.specs.Viewed.{doc, pairs};
     ghost use Rattle.simd_json_parts.specs.Document.{no_members, member, members};
@@ -142,7 +143,7 @@ impl<'tape, 'input> Iterator for Iter<'tape, 'input> {
     ghost use Rattle.std.specs.Iterator.{UpTo, YieldsFirstBy, item_count};
     ghost use Rattle.std.specs.Iterator.SizeHint.{IsWithinCount};
     ghost use Rattle.simd_json.specs.Iterated.{exact_hint, pairs_left};
-    ghost use Rattle.simd_json.specs.Paired.{pair};
+    ghost use Rattle.simd_json.specs.Iterated.{pair};
 
     ghost next_gives = { YieldsFirstBy pair pairs_left };
 

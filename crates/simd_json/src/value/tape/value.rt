@@ -75,7 +75,8 @@ pub struct Value<'tape, 'input> {
 }
 
 impl<'tape, 'input> Value<'tape, 'input> {
-    ghost use Rattle.std.specs.Prelude.{◌≡◌, ◌<◌, ◌^◌, ◌++◌, ◌∷◌, map, drop, length, is_some, IfSome, option_map};
+    ghost use Rattle.std.specs.Prelude.{◌≡◌, ◌<◌, ◌^◌, ◌++◌, ◌∷◌, map};
+    ghost use Rattle.std.specs.Prelude.{drop, length, is_some, IfSome, option_map};
     ghost use Rattle.simd_json.specs.Beneath.{beneath};
     ghost use Rattle.simd_json.specs.Descending.{descendants_left};
     ghost use Rattle.simd_json.specs.Documents.{IsListing, IsFirst, document_of};
@@ -112,7 +113,8 @@ impl<'tape, 'input> Value<'tape, 'input> {
     ) -> (Value<'tape, 'input>, &'tape [Node<'input>])
         requires listed { (d : Document) × StandsFor nodes.now d }
         requires printable { ArePrintable nodes.now }
-        ensures whole { map item_of nodes.now ≡ listing (doc result.0) ++ map item_of result.1.now }
+        ensures whole { map item_of nodes.now
+            ≡ listing (doc result.0) ++ map item_of result.1.now }
         ensures printable { ArePrintable result.1.now }
     {
         let (first, others) = nodes.split_at(size(nodes));

@@ -1,12 +1,11 @@
-use Rattle.simd_json.proofs.Views.Listed.{array-at}
+use Rattle.simd_json.proofs.Views.Listed.{headed, array-of}
 use Rattle.simd_json.proofs.Views.Printable.{printable-drop}
 use Rattle.simd_json.proofs.value.tape.value.Value.as_array.Goals as goal
 
 pub invariant_of-result : goal.invariant_of-result
 invariant_of-result c =
     let self = c.args.self.now in
-    let inside = array-at self.nodes.now c.beneath.result.now c.node.result c.in-Array.len c.in-Array.count self.listed
-    c.node.ensures.header c.in-Array.is c.beneath.ensures in
+    let inside = array-of _ _ _ _ self.listed (headed self.nodes.now _ _ _ c.node.ensures.header c.in-Array.is c.beneath.ensures) in
     record {
       listed = inside.listed;
       printable = printable-drop 1 self.nodes.now _ c.beneath.ensures self.printable;
@@ -16,5 +15,4 @@ invariant_of-result c =
 pub returns-in-Array-clause-array : goal.returns-in-Array-clause-array
 returns-in-Array-clause-array c =
     let self = c.args.self.now in
-    (array-at self.nodes.now c.beneath.result.now c.node.result c.in-Array.len c.in-Array.count self.listed c.node.ensures.header
-    c.in-Array.is c.beneath.ensures).whole
+    (array-of _ _ _ _ self.listed (headed self.nodes.now _ _ _ c.node.ensures.header c.in-Array.is c.beneath.ensures)).whole
