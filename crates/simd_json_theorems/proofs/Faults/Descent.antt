@@ -21,8 +21,7 @@ use Rattle.simd_json_theorems.proofs.Sound.ScalarFaults.{IsSomeValue}
 use Rattle.simd_json_theorems.proofs.Sound.FaultsWithin.{IsString}
 use Rattle.simd_json_theorems.proofs.Faults.Expectations.{Expects, ExpectsAt}
 use Rattle.simd_json_theorems.proofs.Sound.TokensInPlace.{FormInPlace, AreHere}
-use Rattle.simd_json_theorems.proofs.Faults.Arrays.{ValueReported, array_from-reported}
-use Rattle.simd_json_theorems.proofs.Faults.Objects.{object_from-reported}
+use Rattle.simd_json_theorems.proofs.Faults.Containers.{ValueReported, array_from-reported, object_from-reported}
 use Rattle.simd_json_theorems.proofs.Faults.AtTokens.{took-one, Reported, OkOrReported, bind-OkOrReported, Next, next-more}
 use Rattle.simd_json_theorems.proofs.Faults.AtTokens.{IsBeginning-whole, token-reported, within-reported, expects-token}
 use Rattle.simd_json_theorems.proofs.Faults.AtTokens.{expects-own}
