@@ -39,13 +39,15 @@ bracketed levels first last P d ts us bs accept f g = record {
 }
 
 -- Elements and members nest one level less.
-an_array : (levels : ℕ) (ds : Elements) (xs : List ℕ) → AcceptedElements AreElements levels ds xs
-    → Accepted (suc levels) (array ds) (left_bracket ∷ (xs ++ right_bracket ∷ []))
-an_array levels ds xs h = record { denotes = (xs, refl, h.denotes); integers = h.integers; nesting = omega (arith, h.nesting) }
+an_array : (levels : ℕ) (ds : Elements) (ts us : List Token) (bs : List ℕ) (f : Prefix (λ xs. xs ≡ left_bracket ∷ []) (AreTokens ts) bs)
+    → Closed (AcceptedElements AreElements levels ds) right_bracket us f.left → IsDocumentRead (suc levels) bs (array ds, us)
+an_array levels ds ts us bs = bracketed (suc levels) left_bracket right_bracket _ (array ds) ts us bs
+    (λ xs h. record { denotes = (xs, refl, h.denotes); integers = h.integers; nesting = omega (arith, h.nesting) })
 
-an_object : (levels : ℕ) (ms : Members) (xs : List ℕ) → AcceptedMembers AreMembers levels ms xs
-    → Accepted (suc levels) (object ms) (left_brace ∷ (xs ++ right_brace ∷ []))
-an_object levels ms xs h = record { denotes = (xs, refl, h.denotes); integers = h.integers; nesting = omega (arith, h.nesting) }
+an_object : (levels : ℕ) (ms : Members) (ts us : List Token) (bs : List ℕ) (f : Prefix (λ xs. xs ≡ left_brace ∷ []) (AreTokens ts) bs)
+    → Closed (AcceptedMembers AreMembers levels ms) right_brace us f.left → IsDocumentRead (suc levels) bs (object ms, us)
+an_object levels ms ts us bs = bracketed (suc levels) left_brace right_brace _ (object ms) ts us bs
+    (λ xs h. record { denotes = (xs, refl, h.denotes); integers = h.integers; nesting = omega (arith, h.nesting) })
 
 -- A string and a scalar are documents at any number of levels.
 leaf : (levels : ℕ) (P : List ℕ → Type 0) (d : Document) (ts : List Token) (bs : List ℕ)
@@ -91,9 +93,9 @@ module _ (b : List ℕ) (missing : Error) where
   value_from-sound zero = value_with-sound zero (too_deep b missing) (too_deep b missing) (λ t ts bs f. tt) (λ t ts bs f. tt)
   value_from-sound (suc levels) =
       value_with-sound (suc levels) _ _
-      (λ t ts bs f. weaken (array_from b missing (value_from b missing levels) ts) _ _ (λ p g. bracketed (suc levels) _ _ _ (array p.0) ts p.1 bs (an_array levels p.0) f g)
+      (λ t ts bs f. weaken (array_from b missing (value_from b missing levels) ts) _ _ (λ p. an_array levels p.0 ts p.1 bs f)
       (array_from-sound b missing levels (value_from b missing levels) (value_from-sound levels) ts f.left f.more))
-      (λ t ts bs f. weaken (object_from b missing (value_from b missing levels) ts) _ _ (λ p g. bracketed (suc levels) _ _ _ (object p.0) ts p.1 bs (an_object levels p.0) f g)
+      (λ t ts bs f. weaken (object_from b missing (value_from b missing levels) ts) _ _ (λ p. an_object levels p.0 ts p.1 bs f)
       (object_from-sound b missing levels (value_from b missing levels) (value_from-sound levels) ts f.left f.more))
 
 -- Where the bytes of the input are its tokens, what the descent answers is what the whole input denotes.
