@@ -17,18 +17,16 @@ use Rattle.simd_json_parts.specs.declared.error.ErrorType.TheVariants.{ExpectedO
 use Rattle.simd_json_theorems.proofs.Containers.{Container, in_array, in_object, IsName}
 use Rattle.simd_json_theorems.proofs.Faults.RowFollows.{RestThen, MoreThen, NextThen, FirstThen, rest-CanFollow, rest-byte}
 use Rattle.simd_json_theorems.proofs.Faults.RowFollows.{first-next, next-NoSpace, bracket_closes, comma_goes_on, empty_closes}
-use Rattle.simd_json_theorems.proofs.Faults.NameFollows.{named_then-some, named_then-byte, named_then-NoSpace, name_then-byte}
-use Rattle.simd_json_theorems.proofs.Faults.NameFollows.{name_goes_on}
+use Rattle.simd_json_theorems.proofs.Faults.NameFollows.{named_then-some, named_then-byte, named_then-NoSpace, name_then-byte, name_goes_on}
 use Rattle.simd_json_theorems.proofs.Faults.Follows.{ValueThen, CanFollow, LeadsTo, value_then-NoSpace, value_then-some, item_then-some}
 use Rattle.simd_json_theorems.proofs.Faults.ScalarFollows.{LeadsTo-name}
 use Rattle.simd_json_theorems.proofs.Faults.Expectations.{Expects, ExpectsAt}
 use Rattle.simd_json_theorems.proofs.Sound.FaultsWithin.{IsString}
 use Rattle.simd_json_theorems.proofs.Sound.SpelledTokens.{Owned}
 use Rattle.simd_json_theorems.proofs.Sound.TokensInPlace.{FormInPlace, AreHere}
-use Rattle.simd_json_theorems.proofs.Faults.AtTokens.{Took, took-one, took-more, took-fewer, Reported, OkOrReported}
-use Rattle.simd_json_theorems.proofs.Faults.AtTokens.{bind-OkOrReported, weaken-OkOrReported, Next, next-more, IsBeginning-whole}
-use Rattle.simd_json_theorems.proofs.Faults.AtTokens.{token-reported, within-reported, expects-token, expects-own}
-use Rattle.simd_json_theorems.proofs.Faults.AtTokens.{expects-narrow, form-byte}
+use Rattle.simd_json_theorems.proofs.Faults.AtTokens.{Took, took-one, took-more, took-fewer, Reported, OkOrReported, bind-OkOrReported}
+use Rattle.simd_json_theorems.proofs.Faults.AtTokens.{weaken-OkOrReported, Next, next-more, IsBeginning-whole, token-reported}
+use Rattle.simd_json_theorems.proofs.Faults.AtTokens.{within-reported, expects-token, expects-own, expects-narrow, form-byte}
 
 -- a reader of values, with what its faults report
 abbrev pub ValueReported : List ℕ → Reads Document → Type 1

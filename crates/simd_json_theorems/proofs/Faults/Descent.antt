@@ -23,8 +23,7 @@ use Rattle.simd_json_theorems.proofs.Faults.Expectations.{Expects, ExpectsAt}
 use Rattle.simd_json_theorems.proofs.Sound.TokensInPlace.{FormInPlace, AreHere}
 use Rattle.simd_json_theorems.proofs.Faults.Containers.{ValueReported, array_from-reported, object_from-reported}
 use Rattle.simd_json_theorems.proofs.Faults.AtTokens.{took-one, Reported, OkOrReported, bind-OkOrReported, Next, next-more}
-use Rattle.simd_json_theorems.proofs.Faults.AtTokens.{IsBeginning-whole, token-reported, within-reported, expects-token}
-use Rattle.simd_json_theorems.proofs.Faults.AtTokens.{expects-own}
+use Rattle.simd_json_theorems.proofs.Faults.AtTokens.{IsBeginning-whole, token-reported, within-reported, expects-token, expects-own}
 
 -- A list that begins with a class has a first byte.
 Leads-first : (n : ℕ) (xs : List ℕ) → Leads n xs → (c : ℕ) × (tail : List ℕ) × (xs ≡ c ∷ tail)

@@ -5,11 +5,9 @@ use Rattle.std.proofs.lemmas.Bool.{eqb-false}
 use Rattle.simd_json_parts.specs.Bytes.{comma, colon, right_bracket, right_brace, byte_at}
 use Rattle.simd_json_parts.specs.Document.{Document, null, boolean, integer, decimal, string, array, object, Elements, no_elements}
 use Rattle.simd_json_parts.specs.Document.{element, Members, no_members, member}
-use Rattle.simd_json_parts.specs.Grammar.{IsWhitespace, Spaced, Joined, IsValue}
-use Rattle.simd_json_parts.specs.Grammar.{AreMoreMembers, Denotes}
+use Rattle.simd_json_parts.specs.Grammar.{IsWhitespace, Spaced, Joined, IsValue, AreMoreMembers, Denotes}
 use Rattle.simd_json_theorems.proofs.Containers.{Container, in_array, in_object, AreValueRow, rest-Delimited}
-use Rattle.simd_json_theorems.proofs.Unique.LeadingBytes.{leading, value-leads, value-NoSpace}
-use Rattle.simd_json_theorems.proofs.Unique.LeadingBytes.{Leads-one}
+use Rattle.simd_json_theorems.proofs.Unique.LeadingBytes.{leading, value-leads, value-NoSpace, Leads-one}
 use Rattle.simd_json_theorems.proofs.Unique.ScalarPrefixes.{boolean-one, integer-one, decimal-one, integer-decimal, string-one}
 use Rattle.simd_json_theorems.proofs.Unique.SpacedPrefixes.{Ended, Delimited, OnePrefix, OneUpTo, append-replace, space-one}
 use Rattle.simd_json_theorems.proofs.Unique.SpacedPrefixes.{spaced-one, space-nothing, joined-one, after-one}
