@@ -41,7 +41,8 @@ pub fn is_blank(bytes: &[u8]) -> bool
     bytes.iter().all(|byte| is_whitespace(*byte))
 }
 
-/// The byte at an index, or a space past the end: a number, `true`, `false` and `null` may end there.
+/// The byte at an index, or a space past the end, where a number, `true`, `false` and `null` may
+/// end.
 #[inline]
 pub fn byte_or_space(bytes: &[u8], i: usize) -> u8
     ensures { result ≡ byte_at bytes.now i }

@@ -84,8 +84,8 @@ pub is_array : (d : Document) (left right rest : List ℕ) → IsValue d left �
 is_array (array ds) left right rest h e = (ds, h)
 is_array d left right rest h e = other_kind left_bracket d left right rest refl h e
 
-abbrev pub array_items : Container
-array_items = record {
+abbrev pub in_array : Container
+in_array = record {
   Item = Document;
   More = Elements;
   Row = Elements;
@@ -131,8 +131,8 @@ pub is_object : (d : Document) (left right rest : List ℕ) → IsValue d left �
 is_object (object ms) left right rest h e = (ms, h)
 is_object d left right rest h e = other_kind left_brace d left right rest refl h e
 
-abbrev pub object_items : Container
-object_items = record {
+abbrev pub in_object : Container
+in_object = record {
   Item = List ℕ;
   More = Document × Members;
   Row = Members;

@@ -5,8 +5,7 @@ mod RowFollows
 mod NameFollows
 mod Expectations
 mod AtTokens
-mod Arrays
-mod Objects
+mod Containers
 mod Descent
 mod LastRead
 pub mod Root

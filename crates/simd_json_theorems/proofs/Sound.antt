@@ -9,7 +9,6 @@ pub mod LongestPieces
 mod StringsInPlace
 mod Tokens
 pub mod TokensInPlace
-mod Arrays
-mod Objects
+mod Containers
 mod Descent
 pub mod Answer

@@ -1,16 +1,17 @@
 //! Laws of the definitions. Each function has an empty body: its contract is the law, which is
 //! proved.
-ghost use Rattle.std.specs.Prelude.{◌≡◌, ◌↔◌, ◌<◌, ◌+◌, ◌++◌, ◌⊎◌, ℕ, suc, List, take, IsUtf8, Some, None};
-ghost use Rattle.std.specs.Prelude.{Ok, Err, true, ◌≢◌};
+ghost use Rattle.std.specs.Prelude.{◌≡◌, ◌≢◌, ◌↔◌, ◌<◌, ◌+◌, ◌++◌, ◌⊎◌, ℕ, suc, List, take};
+ghost use Rattle.std.specs.Prelude.{IsUtf8, Some, None, Ok, Err, true};
 ghost use Rattle.std.specs.Cmp.{IsEquivalence};
 ghost use Rattle.simd_json_parts.specs.Answer.{answer, padded_answer};
 ghost use Rattle.simd_json_parts.specs.Accessors.{Accessor, as_t, try_as_t, get_t, try_get_t};
-ghost use Rattle.simd_json_parts.specs.Descent.{descent, value_from, element_and, elements_by, member_and};
-ghost use Rattle.simd_json_parts.specs.Descent.{members_by};
+ghost use Rattle.simd_json_parts.specs.Descent.{descent, value_from, element_and, elements_by};
+ghost use Rattle.simd_json_parts.specs.Descent.{member_and, members_by};
 ghost use Rattle.simd_json_parts.specs.Document.{Document};
 ghost use Rattle.simd_json_parts.specs.Equality.{equal};
 ghost use Rattle.simd_json_theorems.specs.Normalized.{normalized};
-ghost use Rattle.simd_json_parts.specs.ErrorKinds.{Class, class_of, io, eof, syntax, shape, is_unexpected_token};
+ghost use Rattle.simd_json_parts.specs.ErrorKinds.{Class, class_of, io, eof, syntax, shape};
+ghost use Rattle.simd_json_parts.specs.ErrorKinds.{is_unexpected_token};
 ghost use Rattle.simd_json_parts.specs.FaultKinds.{IsOfInput, IsOfToken, IsNamedFault, IsBeginning};
 ghost use Rattle.simd_json_parts.specs.Faults.{whole_fault};
 ghost use Rattle.simd_json_parts.specs.Grammar.{Denotes};
@@ -164,7 +165,8 @@ pub fn documents_are_compared_node_by_node()
 /// does, and then the same. Otherwise the error has the kind that the accessor expects and the kind
 /// of the value.
 pub fn accessors_agree<T>()
-    ensures value { (t : Accessor T) (d : Document) (x : T) → (try_as_t t d ≡ Ok x) ↔ (as_t t d ≡ Some x) }
+    ensures value { (t : Accessor T) (d : Document) (x : T)
+        → (try_as_t t d ≡ Ok x) ↔ (as_t t d ≡ Some x) }
     ensures refused { (t : Accessor T) (d : Document) → as_t t d ≡ None
         → try_as_t t d ≡ Err (mismatch t.expected d) }
     ensures at_key { (t : Accessor T) (key : List ℕ) (d : Document) (x : T)

@@ -4,10 +4,9 @@ use Rattle.std.specs.Prelude.{Result, Ok, Err, IfOk}
 use Rattle.simd_json_parts.specs.Document.{Document, Elements, Members}
 use Rattle.simd_json_parts.specs.Tokens.{Token, Form, begin_array, end_array, begin_object, end_object, name_separator}
 use Rattle.simd_json_parts.specs.Tokens.{value_separator, string_token, scalar}
-use Rattle.simd_json_parts.specs.Descent.{◌>>=◌, Reads, after_element, element_end, elements_from, elements_by, first_element}
-use Rattle.simd_json_parts.specs.Descent.{array_from, name_of, name_from, after_name, name_end, after_member, member_end}
-use Rattle.simd_json_parts.specs.Descent.{members_from, members_by, first_member, object_from, value_of}
-use Rattle.simd_json_parts.specs.Descent.{value_with, too_deep, value_from}
+use Rattle.simd_json_parts.specs.Descent.{◌>>=◌, Reads, after_element, element_end, elements_from, elements_by, first_element, array_from}
+use Rattle.simd_json_parts.specs.Descent.{name_of, name_from, after_name, name_end, after_member, member_end, members_from, members_by}
+use Rattle.simd_json_parts.specs.Descent.{first_member, object_from, value_of, value_with, too_deep, value_from}
 use Rattle.simd_json_parts.specs.declared.error.Error.{Error}
 use Rattle.simd_json_parts.specs.declared.error.ErrorType.{ErrorType}
 use Rattle.simd_json_parts.specs.declared.error.ErrorType.TheVariants.{ExpectedObjectKey, ExpectedObjectContent}

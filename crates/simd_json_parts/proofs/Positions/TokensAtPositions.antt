@@ -19,8 +19,7 @@ use Rattle.simd_json_parts.specs.Integers.{max_magnitude}
 use Rattle.simd_json_parts.specs.NumberAt.{number_at, integer_or, first_excess}
 use Rattle.simd_json_parts.specs.StringAt.{string_at, string_read, closing_quote}
 use Rattle.simd_json_parts.specs.Tokens.{Form, begin_array, end_array, begin_object, end_object, name_separator, value_separator}
-use Rattle.simd_json_parts.specs.Tokens.{string_token, scalar, stray, Token, form_at, after_token}
-use Rattle.simd_json_parts.specs.Tokens.{token_or_space, tokens_from, tokens}
+use Rattle.simd_json_parts.specs.Tokens.{string_token, scalar, stray, Token, form_at, after_token, token_or_space, tokens_from, tokens}
 use Rattle.simd_json_parts.specs.TokensAlong.{goes_on, tokens_along}
 use Rattle.simd_json_parts.specs.declared.error.ErrorType.{ErrorType}
 use Rattle.simd_json_parts.specs.declared.error.ErrorType.TheVariants.{ExpectedTrue, ExpectedFalse, ExpectedNull}

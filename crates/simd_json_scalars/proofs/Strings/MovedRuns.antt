@@ -52,7 +52,8 @@ pub moving-ends : (old now new : List ℕ) (from to done end : ℕ) → IsOpen o
 moving-ends old now new from to done end goes_on down m run copied =
     let whole : end ≡ from + prefix_len is_plain (drop from old) = omega (arith, run, m.value) in
     let all : Moved old new from to (end - from) =
-    moved-rest old now new from to done end down (omega (arith, run)) (omega (arith, whole, m.bound, (m.moved).same_length)) m.moved copied in
+    moved-rest old now new from to done end down (omega (arith, run)) (omega (arith, whole, m.bound, (m.moved).same_length))
+    m.moved copied in
     let d : IsDecoded old from to new end (to + (end - from)) =
     decoded-run old new from to end (to + (end - from)) goes_on down whole refl all.written
     (drop-further new old (to + (end - from)) end (omega arith) all.unread) all.same_length in

@@ -1,6 +1,7 @@
 //! Integers: the magnitude of one of at most 19 bytes, and longer ones, or where they leave the
 //! range.
-ghost use Rattle.std.specs.Prelude.{◌≡◌, ◌+◌, ◌++◌, ◌≤◌, ◌<◌, ℕ, List, length, take, drop, false, nat_le};
+ghost use Rattle.std.specs.Prelude.{◌≡◌, ◌+◌, ◌++◌, ◌≤◌, ◌<◌, ℕ, List, length, take, drop};
+ghost use Rattle.std.specs.Prelude.{false, nat_le};
 ghost use Rattle.std.specs.Prelude.{MatchResult, IsTrue};
 ghost use Rattle.std.specs.Str.Parse.{AllDigits, digits_value};
 ghost use Rattle.simd_json_parts.specs.Bytes.{byte_at, is_terminator};
@@ -58,7 +59,8 @@ fn long_integer(literal: &[u8]) -> Result<StaticNode, usize>
     }
 }
 
-/// The integer of this magnitude, written with `-` or without it, as a node. 64 bits have to hold it.
+/// The node of the integer of this magnitude, negative if `minus`. Requires that it fits 64
+/// bits.
 #[inline]
 pub fn integer_node(minus: bool, magnitude: u64) -> StaticNode
     requires { magnitude ≤ max_magnitude_64 minus }
@@ -131,7 +133,8 @@ fn wide_magnitude(digits: &[u8]) -> u128
 fn long_magnitude(digits: &[u8]) -> Result<u128, usize>
     requires { AllDigits 10 digits.now }
     ensures { MatchResult result (λ value. value ≡ digits_value 10 digits.now)
-        (λ at. (at < length digits.now) × (digits_value 10 (take at digits.now) ≤ max_magnitude false)
+        (λ at. (at < length digits.now)
+        × (digits_value 10 (take at digits.now) ≤ max_magnitude false)
         × (max_magnitude false < digits_value 10 (take (at + 1) digits.now))) }
 {
     let first = digits.len().min(38);

@@ -10,7 +10,8 @@ ghost use Rattle.simd_json_scalars.specs.DigitRuns.{is_no_digit};
 ghost use Rattle.simd_json_scalars.specs.NumeralRead.{IsNumeralAt};
 ghost use Rattle.simd_json_parts.specs.Numbers.{exp};
 ghost use Rattle.simd_json_parts.specs.Patterns.{optional};
-ghost use Rattle.simd_json_scalars.specs.declared.numberparse.Numeral.TheVariants.{Decimal, Invalid};
+ghost use Rattle.simd_json_scalars.specs.declared.numberparse.Numeral.TheVariants.{Decimal};
+ghost use Rattle.simd_json_scalars.specs.declared.numberparse.Numeral.TheVariants.{Invalid};
 
 use super::Numeral;
 use super::integers::integer;
@@ -54,8 +55,10 @@ pub(super) fn parse_by_look(bytes: &[u8]) -> Numeral
 #[inline(always)]
 pub(super) fn fraction_end(bytes: &[u8], point: usize) -> Option<usize>
     requires { (32 ≤ length bytes.now) × (point < 32) }
-    ensures { IfSome result (λ end. (end ≡ point + 1 + prefix_len is_ascii_digit (drop (point + 1) bytes.now))
-        × (point + 1 < end) × (end < length bytes.now) × (is_terminator (byte_at bytes.now end) ≡ true)) }
+    ensures { IfSome result (λ end.
+        (end ≡ point + 1 + prefix_len is_ascii_digit (drop (point + 1) bytes.now))
+        × (point + 1 < end) × (end < length bytes.now)
+        × (is_terminator (byte_at bytes.now end) ≡ true)) }
 {
     let stops = non_digits(u8x32::from_slice(bytes));
     let end = run_end(stops, point + 1);
@@ -96,8 +99,8 @@ fn non_digits(bytes: u8x32) -> u64
 #[inline]
 fn run_end(stops: u64, from: usize) -> usize
     requires { from ≤ 32 }
-    ensures { (b : List ℕ) → 32 ≤ length b → stops ≡ mask_l (map is_no_digit (take 32 b)) → result < 32
-        → result ≡ from + prefix_len is_ascii_digit (drop from b) }
+    ensures { (b : List ℕ) → 32 ≤ length b → stops ≡ mask_l (map is_no_digit (take 32 b))
+        → result < 32 → result ≡ from + prefix_len is_ascii_digit (drop from b) }
 {
     from + (stops >> from).trailing_zeros() as usize
 }

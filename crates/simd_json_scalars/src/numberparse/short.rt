@@ -121,7 +121,8 @@ pub(super) fn digit_word(bytes: &[u8], at: usize) -> u64
 #[inline(always)]
 pub(super) fn digits_len(word: u64) -> usize
     ensures most { result ≤ 8 }
-    ensures run { (b : List ℕ) → AreEightBytes b → word ≡ word_of b → result ≡ prefix_len is_ascii_digit b }
+    ensures run { (b : List ℕ) → AreEightBytes b → word ≡ word_of b
+        → result ≡ prefix_len is_ascii_digit b }
 {
     let stops = (word.wrapping_add(0x7676_7676_7676_7676) | word) & 0x8080_8080_8080_8080;
     stops.trailing_zeros() as usize / 8
@@ -135,7 +136,8 @@ pub(super) fn value_of_digits(word: u64, len: usize) -> u64
     requires some { 0 < len }
     requires most { len ≤ 8 }
     ensures fits { result < 2 ^ 32 }
-    ensures value { (b : List ℕ) → AreEightBytes b → word ≡ word_of b → len ≤ prefix_len is_ascii_digit b
+    ensures value { (b : List ℕ) → AreEightBytes b → word ≡ word_of b
+        → len ≤ prefix_len is_ascii_digit b
         → result ≡ digits_value 10 (take len b) }
 {
     let digits = word << (64 - 8 * len);

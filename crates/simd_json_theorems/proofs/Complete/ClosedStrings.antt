@@ -1,7 +1,6 @@
 -- Bytes that denote a document have an even number of real quotes, and no control byte inside a string.
-use Rattle.std.proofs.Common.{◌≡◌, refl, sym, ◌∙◌, ap, subst, ℕ, suc, ◌+◌, ◌-◌, add-zero, add_assoc, inl, inr, List, [], ◌∷◌, ◌++◌}
-use Rattle.std.proofs.Common.{length, length-append, append_assoc, append-nil, drop, get_or, Bool, true, false, not, ◌&&◌, ◌==◌}
-use Rattle.std.proofs.Common.{nat_lt, arith}
+use Rattle.std.proofs.Common.{◌≡◌, refl, sym, ◌∙◌, ap, subst, ℕ, suc, ◌+◌, ◌-◌, add-zero, add_assoc, inl, inr, List, [], ◌∷◌, ◌++◌, length}
+use Rattle.std.proofs.Common.{length-append, append_assoc, append-nil, drop, get_or, Bool, true, false, not, ◌&&◌, ◌==◌, nat_lt, arith}
 use Rattle.std.proofs.lemmas.Bool.{cases_lt, and_parts, and_left, and_right, or_from, not-true}
 use Rattle.std.proofs.lemmas.List.{get_or-drop, get_or_append_left}
 use Rattle.std.proofs.lemmas.List.Folds.{list_any_none}
@@ -16,8 +15,7 @@ use Rattle.simd_json_parts.proofs.Positions.Boundaries.{no_real_quote}
 use Rattle.simd_json_theorems.proofs.Complete.Concatenations.{IsClosed, is_unquoted, of_denoted}
 use Rattle.simd_json_parts.proofs.Lists.Drops.{drop-head, drop-tail}
 use Rattle.simd_json_theorems.proofs.Literals.Quotes.{run_ends, real_quote, Passed, pass_pieces}
-use Rattle.simd_json_parts.proofs.Positions.Scan.{NoneBetween, is_closed, is_closed-quote, is_closed-other, is_closed-through}
-use Rattle.simd_json_parts.proofs.Positions.Scan.{is_inside-at}
+use Rattle.simd_json_parts.proofs.Positions.Scan.{NoneBetween, is_closed, is_closed-quote, is_closed-other, is_closed-through, is_inside-at}
 use Rattle.simd_json_theorems.proofs.Complete.StringBytes.{NoControl, NoControl-string}
 
 -- ---- stretches of the input

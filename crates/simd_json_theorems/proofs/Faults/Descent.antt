@@ -11,7 +11,7 @@ use Rattle.simd_json_parts.specs.Tokens.{Token, Form, begin_array, begin_object,
 use Rattle.simd_json_parts.specs.Descent.{Reads, value_of, value_with, too_deep, value_from}
 use Rattle.simd_json_parts.specs.declared.error.Error.{Error}
 use Rattle.simd_json_parts.specs.declared.error.ErrorType.TheVariants.{InternalError, DepthLimitExceeded}
-use Rattle.simd_json_theorems.proofs.Containers.{array_items, object_items}
+use Rattle.simd_json_theorems.proofs.Containers.{in_array, in_object}
 use Rattle.simd_json_theorems.proofs.Faults.RowFollows.{FirstThen, first-NoSpace, bracket_opens}
 use Rattle.simd_json_theorems.proofs.Faults.Follows.{ValueThen, CanFollow, item_then-some, value_then-some}
 use Rattle.simd_json_theorems.proofs.Faults.ScalarFollows.{LeadsTo-string, LeadsTo-value}
@@ -21,11 +21,9 @@ use Rattle.simd_json_theorems.proofs.Sound.ScalarFaults.{IsSomeValue}
 use Rattle.simd_json_theorems.proofs.Sound.FaultsWithin.{IsString}
 use Rattle.simd_json_theorems.proofs.Faults.Expectations.{Expects, ExpectsAt}
 use Rattle.simd_json_theorems.proofs.Sound.TokensInPlace.{FormInPlace, AreHere}
-use Rattle.simd_json_theorems.proofs.Faults.Arrays.{ValueReported, array_from-reported}
-use Rattle.simd_json_theorems.proofs.Faults.Objects.{object_from-reported}
+use Rattle.simd_json_theorems.proofs.Faults.Containers.{ValueReported, array_from-reported, object_from-reported}
 use Rattle.simd_json_theorems.proofs.Faults.AtTokens.{took-one, Reported, OkOrReported, bind-OkOrReported, Next, next-more}
-use Rattle.simd_json_theorems.proofs.Faults.AtTokens.{IsBeginning-whole, token-reported, within-reported, expects-token}
-use Rattle.simd_json_theorems.proofs.Faults.AtTokens.{expects-own}
+use Rattle.simd_json_theorems.proofs.Faults.AtTokens.{IsBeginning-whole, token-reported, within-reported, expects-token, expects-own}
 
 -- A list that begins with a class has a first byte.
 Leads-first : (n : ℕ) (xs : List ℕ) → Leads n xs → (c : ℕ) × (tail : List ℕ) × (xs ≡ c ∷ tail)
@@ -55,10 +53,10 @@ module _ (b : List ℕ) (missing : Error) (missed : IsBeginning b → Reported b
     -- At a value, where what its brackets lead to is given.
     value_with-reported : (arrays : Token → Reads Elements) (objects : Token → Reads Members)
         → ((t : Token) (ts : List Token) → ExpectsAt b (ValueThen A) t.index → t.index < length b
-        → Expects b (FirstThen array_items A) (suc t.index) → AreHere b ts (suc t.index)
+        → Expects b (FirstThen in_array A) (suc t.index) → AreHere b ts (suc t.index)
         → OkOrReported b (arrays t ts) (λ p. Next b A ts p.1))
         → ((t : Token) (ts : List Token) → ExpectsAt b (ValueThen A) t.index → t.index < length b
-        → Expects b (FirstThen object_items A) (suc t.index) → AreHere b ts (suc t.index)
+        → Expects b (FirstThen in_object A) (suc t.index) → AreHere b ts (suc t.index)
         → OkOrReported b (objects t ts) (λ p. Next b A ts p.1))
         → (k : ℕ) (ts : List Token) → Expects b (ValueThen A) k → AreHere b ts k
         → OkOrReported b (value_with b missing arrays objects ts) (λ p. Next b A ts p.1)
@@ -74,14 +72,14 @@ module _ (b : List ℕ) (missing : Error) (missed : IsBeginning b → Reported b
         go begin_array (o, after) =
             bind-OkOrReported b (arrays t ts) _ (λ p. Next b A ts p.1) (λ p. Next b A (t ∷ ts) p.1)
             (array-reported t ts at h.within
-            (expects-own b (ValueThen A) (FirstThen array_items A) t.index (suc t.index) o.own [] left_bracket at o.split o.holds
-            (bracket_opens array_items A (byte_at b (suc t.index))) (first-NoSpace array_items A)) after)
+            (expects-own b (ValueThen A) (FirstThen in_array A) t.index (suc t.index) o.own [] left_bracket at o.split o.holds
+            (bracket_opens in_array A (byte_at b (suc t.index))) (first-NoSpace in_array A)) after)
             (λ p n. next-more b A (t ∷ ts) ts p.1 (took-one t ts) n)
         go begin_object (o, after) =
             bind-OkOrReported b (objects t ts) _ (λ p. Next b A ts p.1) (λ p. Next b A (t ∷ ts) p.1)
             (object-reported t ts at h.within
-            (expects-own b (ValueThen A) (FirstThen object_items A) t.index (suc t.index) o.own [] left_brace at o.split o.holds
-            (bracket_opens object_items A (byte_at b (suc t.index))) (first-NoSpace object_items A)) after)
+            (expects-own b (ValueThen A) (FirstThen in_object A) t.index (suc t.index) o.own [] left_brace at o.split o.holds
+            (bracket_opens in_object A (byte_at b (suc t.index))) (first-NoSpace in_object A)) after)
             (λ p n. next-more b A (t ∷ ts) ts p.1 (took-one t ts) n)
         go (string_token (Ok r)) (o, after) =
             record { at = r.1; expects = expects-string t.index r.1 r.0 at o; here = after; took = took-one t ts }

@@ -259,11 +259,8 @@ token-fault b limit e is = subst (λ r. OkOrOfToken r (λ _. ⊤)) is (descent-n
 by_size-named : (large malformed bad none : Bool)
     → IfSome (if large then Some (whole_fault InputTooLarge) else if malformed then Some (whole_fault InvalidUtf8)
     else if bad then Some (whole_fault Syntax) else if none then Some (whole_fault Eof) else None) IsOfInput
-by_size-named true malformed bad none = (refl, refl)
-by_size-named false true bad none = (refl, refl)
-by_size-named false false true none = (refl, refl)
-by_size-named false false false true = (refl, refl)
 by_size-named false false false false = tt
+by_size-named large malformed bad none = (refl, refl)
 
 input-named : (b : List ℕ) → IfSome (input_fault b) IsOfInput
 unfolding input_fault

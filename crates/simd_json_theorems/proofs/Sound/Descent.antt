@@ -12,8 +12,7 @@ use Rattle.simd_json_parts.specs.Faults.{fault_at}
 use Rattle.simd_json_parts.specs.declared.error.Error.{Error}
 use Rattle.simd_json_parts.specs.declared.error.ErrorType.TheVariants.{Syntax}
 use Rattle.simd_json_theorems.proofs.Sound.SpelledTokens.{Accepted, Prefix, FormSpelled, AreTokens, Closed, bind-IfOk}
-use Rattle.simd_json_theorems.proofs.Sound.Arrays.{AcceptedElements, array_from-sound}
-use Rattle.simd_json_theorems.proofs.Sound.Objects.{AcceptedMembers, object_from-sound}
+use Rattle.simd_json_theorems.proofs.Sound.Containers.{AcceptedElements, AcceptedMembers, array_from-sound, object_from-sound}
 
 -- a document of this depth at the front of the bytes
 abbrev IsDocumentRead : ℕ → List ℕ → Document × List Token → Type 0
@@ -24,45 +23,31 @@ weaken : {A : Type 0} (r : Result A Error) (P Q : A → Type 0) → ((x : A) →
 weaken (Ok x) P Q step p = step x p
 weaken (Err e) P Q step p = tt
 
--- An opening bracket and elements up to the closing one are an array,
-an_array : (levels : ℕ) (ts : List Token) (bs : List ℕ) (p : Elements × List Token)
-    (f : Prefix (λ xs. xs ≡ left_bracket ∷ []) (AreTokens ts) bs)
-    → Closed (AcceptedElements AreElements levels p.0) right_bracket p.1 f.left → IsDocumentRead (suc levels) bs (array p.0, p.1)
-an_array levels ts bs p f g =
-    record {
-      before = f.before;
-      inner = left_bracket ∷ (g.inner ++ right_bracket ∷ []);
-      left = g.left;
-      whole = f.whole ∙ ap (λ xs. f.before ++ (xs ++ f.left)) f.holds
-          ∙ ap (λ xs. f.before ++ (left_bracket ∷ xs)) g.whole ∙ simp append_assoc;
-      space = f.space;
-      holds = record {
-        denotes = (g.inner, refl, (g.holds).denotes);
-        integers = (g.holds).integers;
-        nesting = omega (arith, (g.holds).nesting);
-      };
-      more = g.more;
-    }
+-- What stands between two brackets is a document with them.
+bracketed : (levels first last : ℕ) (P : List ℕ → Type 0) (d : Document) (ts us : List Token) (bs : List ℕ)
+    → ((xs : List ℕ) → P xs → Accepted levels d (first ∷ (xs ++ last ∷ [])))
+    → (f : Prefix (λ xs. xs ≡ first ∷ []) (AreTokens ts) bs) → Closed P last us f.left → IsDocumentRead levels bs (d, us)
+bracketed levels first last P d ts us bs accept f g = record {
+  before = f.before;
+  inner = first ∷ (g.inner ++ last ∷ []);
+  left = g.left;
+  whole = f.whole ∙ ap (λ xs. f.before ++ (xs ++ f.left)) f.holds
+      ∙ ap (λ xs. f.before ++ (first ∷ xs)) g.whole ∙ simp append_assoc;
+  space = f.space;
+  holds = accept g.inner g.holds;
+  more = g.more;
+}
 
--- and with braces and members an object.
-an_object : (levels : ℕ) (ts : List Token) (bs : List ℕ) (p : Members × List Token)
-    (f : Prefix (λ xs. xs ≡ left_brace ∷ []) (AreTokens ts) bs)
-    → Closed (AcceptedMembers AreMembers levels p.0) right_brace p.1 f.left → IsDocumentRead (suc levels) bs (object p.0, p.1)
-an_object levels ts bs p f g =
-    record {
-      before = f.before;
-      inner = left_brace ∷ (g.inner ++ right_brace ∷ []);
-      left = g.left;
-      whole = f.whole ∙ ap (λ xs. f.before ++ (xs ++ f.left)) f.holds
-          ∙ ap (λ xs. f.before ++ (left_brace ∷ xs)) g.whole ∙ simp append_assoc;
-      space = f.space;
-      holds = record {
-        denotes = (g.inner, refl, (g.holds).denotes);
-        integers = (g.holds).integers;
-        nesting = omega (arith, (g.holds).nesting);
-      };
-      more = g.more;
-    }
+-- Elements and members nest one level less.
+an_array : (levels : ℕ) (ds : Elements) (ts us : List Token) (bs : List ℕ) (f : Prefix (λ xs. xs ≡ left_bracket ∷ []) (AreTokens ts) bs)
+    → Closed (AcceptedElements AreElements levels ds) right_bracket us f.left → IsDocumentRead (suc levels) bs (array ds, us)
+an_array levels ds ts us bs = bracketed (suc levels) left_bracket right_bracket _ (array ds) ts us bs
+    (λ xs h. record { denotes = (xs, refl, h.denotes); integers = h.integers; nesting = omega (arith, h.nesting) })
+
+an_object : (levels : ℕ) (ms : Members) (ts us : List Token) (bs : List ℕ) (f : Prefix (λ xs. xs ≡ left_brace ∷ []) (AreTokens ts) bs)
+    → Closed (AcceptedMembers AreMembers levels ms) right_brace us f.left → IsDocumentRead (suc levels) bs (object ms, us)
+an_object levels ms ts us bs = bracketed (suc levels) left_brace right_brace _ (object ms) ts us bs
+    (λ xs h. record { denotes = (xs, refl, h.denotes); integers = h.integers; nesting = omega (arith, h.nesting) })
 
 -- A string and a scalar are documents at any number of levels.
 leaf : (levels : ℕ) (P : List ℕ → Type 0) (d : Document) (ts : List Token) (bs : List ℕ)
@@ -108,9 +93,9 @@ module _ (b : List ℕ) (missing : Error) where
   value_from-sound zero = value_with-sound zero (too_deep b missing) (too_deep b missing) (λ t ts bs f. tt) (λ t ts bs f. tt)
   value_from-sound (suc levels) =
       value_with-sound (suc levels) _ _
-      (λ t ts bs f. weaken (array_from b missing (value_from b missing levels) ts) _ _ (λ p g. an_array levels ts bs p f g)
+      (λ t ts bs f. weaken (array_from b missing (value_from b missing levels) ts) _ _ (λ p. an_array levels p.0 ts p.1 bs f)
       (array_from-sound b missing levels (value_from b missing levels) (value_from-sound levels) ts f.left f.more))
-      (λ t ts bs f. weaken (object_from b missing (value_from b missing levels) ts) _ _ (λ p g. an_object levels ts bs p f g)
+      (λ t ts bs f. weaken (object_from b missing (value_from b missing levels) ts) _ _ (λ p. an_object levels p.0 ts p.1 bs f)
       (object_from-sound b missing levels (value_from b missing levels) (value_from-sound levels) ts f.left f.more))
 
 -- Where the bytes of the input are its tokens, what the descent answers is what the whole input denotes.

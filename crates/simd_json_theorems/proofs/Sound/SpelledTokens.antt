@@ -107,6 +107,24 @@ at_close P c ts bs nothing f =
       more = f.more;
     }
 
+-- At the closing byte only space stands before it,
+pub nothing_closed : (P : List ℕ → Type 0) (c : ℕ) (ts : List Token) (bs : List ℕ) → ((xs : List ℕ) → IsWhitespace xs → P xs)
+    → Prefix (λ xs. xs ≡ c ∷ []) (AreTokens ts) bs → Closed P c ts bs
+nothing_closed P c ts bs empty f = record {
+  inner = f.before;
+  left = f.left;
+  whole = f.whole ∙ ap (λ xs. f.before ++ (xs ++ f.left)) f.holds;
+  holds = empty f.before f.space;
+  more = f.more;
+}
+
+-- and what is of one set is of a greater.
+pub weaken_closed : {A : Type 0} (P Q : A → List ℕ → Type 0) (c : ℕ) (bs : List ℕ) → ((x : A) (xs : List ℕ) → P x xs → Q x xs)
+    → (r : Result (A × List Token) Error) → IfOk r (λ p. Closed (P p.0) c p.1 bs) → IfOk r (λ p. Closed (Q p.0) c p.1 bs)
+weaken_closed P Q c bs step (Ok p) g =
+    record { inner = g.inner; left = g.left; whole = g.whole; holds = step p.0 g.inner g.holds; more = g.more }
+weaken_closed P Q c bs step (Err e) g = tt
+
 -- a list of the set stands at index k of b, up to `end`
 pub record Owned (b : List ℕ) (k : ℕ) (P : List ℕ → Type 0) (end : ℕ) : Type 0 where
   pub own : List ℕ

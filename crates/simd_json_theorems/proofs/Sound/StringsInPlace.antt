@@ -1,8 +1,7 @@
 -- A string that is read at a boundary of an input without a fault stands there, from its opening quote to its closing one, and
 -- where it has a fault, the bytes before that are the beginning of a string.
-use Rattle.std.proofs.Common.{◌≡◌, refl, sym, ◌∙◌, ap, subst, ℕ, suc, ◌+◌, ◌-◌, ◌<◌, ◌≤◌, inl, inr, List, [], ◌∷◌, ◌++◌, length}
-use Rattle.std.proofs.Common.{take, drop, get_or, true, false, ◌==◌, append_assoc, length-append, length-drop, append-nil, false}
-use Rattle.std.proofs.Common.{IsUtf8, arith}
+use Rattle.std.proofs.Common.{◌≡◌, refl, sym, ◌∙◌, ap, subst, ℕ, suc, ◌+◌, ◌-◌, ◌<◌, ◌≤◌, inl, inr, List, [], ◌∷◌, ◌++◌, length, take, drop}
+use Rattle.std.proofs.Common.{get_or, true, false, ◌==◌, append_assoc, length-append, length-drop, append-nil, false, IsUtf8, arith}
 use Rattle.std.specs.Str.{IsCharBoundary}
 use Rattle.std.proofs.lemmas.Bool.{cases_Bool, cond_both, cases_lt, and_parts, eqb-true, ltb-false, both_ways}
 use Rattle.std.proofs.lemmas.List.{take-append-drop, drop-drop, length-take-le}

@@ -5,11 +5,9 @@ use Rattle.std.proofs.lemmas.Bool.{eqb-false}
 use Rattle.simd_json_parts.specs.Bytes.{comma, colon, right_bracket, right_brace, byte_at}
 use Rattle.simd_json_parts.specs.Document.{Document, null, boolean, integer, decimal, string, array, object, Elements, no_elements}
 use Rattle.simd_json_parts.specs.Document.{element, Members, no_members, member}
-use Rattle.simd_json_parts.specs.Grammar.{IsWhitespace, Spaced, Joined, IsValue}
-use Rattle.simd_json_parts.specs.Grammar.{AreMoreMembers, Denotes}
-use Rattle.simd_json_theorems.proofs.Containers.{Container, array_items, object_items, AreValueRow, rest-Delimited}
-use Rattle.simd_json_theorems.proofs.Unique.LeadingBytes.{leading, value-leads, value-NoSpace}
-use Rattle.simd_json_theorems.proofs.Unique.LeadingBytes.{Leads-one}
+use Rattle.simd_json_parts.specs.Grammar.{IsWhitespace, Spaced, Joined, IsValue, AreMoreMembers, Denotes}
+use Rattle.simd_json_theorems.proofs.Containers.{Container, in_array, in_object, AreValueRow, rest-Delimited}
+use Rattle.simd_json_theorems.proofs.Unique.LeadingBytes.{leading, value-leads, value-NoSpace, Leads-one}
 use Rattle.simd_json_theorems.proofs.Unique.ScalarPrefixes.{boolean-one, integer-one, decimal-one, integer-decimal, string-one}
 use Rattle.simd_json_theorems.proofs.Unique.SpacedPrefixes.{Ended, Delimited, OnePrefix, OneUpTo, append-replace, space-one}
 use Rattle.simd_json_theorems.proofs.Unique.SpacedPrefixes.{spaced-one, space-nothing, joined-one, after-one}
@@ -89,7 +87,7 @@ value_row-one : (d : Document) (ms : Members) → OnePrefix Document IsValue End
     → OneUpTo (Document × Members) right_brace AreValueRow (d, ms)
 value_row-one d ms value more =
     after-one (Document × Members) colon right_brace (λ p. Joined (Spaced (IsValue p.0)) (AreMoreMembers p.1)) (d, ms)
-    (joined-one Document Members right_brace (λ e. Spaced (IsValue e)) AreMoreMembers (rest-Delimited object_items) d ms
+    (joined-one Document Members right_brace (λ e. Spaced (IsValue e)) AreMoreMembers (rest-Delimited in_object) d ms
     (spaced-one Document IsValue value-NoSpace d value) more)
 
 -- ---- by induction on the first document
@@ -108,30 +106,32 @@ mutual
       (ap string same.0, same.1)
   value-one (array ds) (array es) xs ys r s (inner, e, h) (inner', e', g) f t u =
       let same : (ds ≡ es) × (r ≡ s) =
-      whole-one array_items ds (elements-start ds) es inner inner' r s h g (ap (drop 1) (simp append_assoc at (append-replace xs ys _ _ r s e e' f))) in
+      whole-one in_array ds (elements-start ds) es inner inner' r s h g
+      (ap (drop 1) (simp append_assoc at (append-replace xs ys _ _ r s e e' f))) in
       (ap array same.0, same.1)
   value-one (object ms) (object ns) xs ys r s (inner, e, h) (inner', e', g) f t u =
       let same : (ms ≡ ns) × (r ≡ s) =
-      whole-one object_items ms (members-start ms) ns inner inner' r s h g (ap (drop 1) (simp append_assoc at (append-replace xs ys _ _ r s e e' f))) in
+      whole-one in_object ms (members-start ms) ns inner inner' r s h g
+      (ap (drop 1) (simp append_assoc at (append-replace xs ys _ _ r s e e' f))) in
       (ap object same.0, same.1)
   value-one d e xs ys r s h g f t u = absurd (eqb-false (leading d) (leading e) refl (same-leading d e xs ys r s h g f))
 
   -- What elements and members begin with is determined.
-  elements-start : (ds : Elements) → StartsOne array_items ds
+  elements-start : (ds : Elements) → StartsOne in_array ds
   elements-start no_elements d es e = absurd (cc)
   elements-start (element d ds) d' es e =
-      let one : OneUpTo (Document × Elements) right_bracket (ItemRow array_items) (d, ds) =
-      item_row-one array_items d ds (value-one d) (rest-one array_items ds (elements-start ds)) (rest-Delimited array_items) in
-      subst (OneUpTo (Document × Elements) right_bracket (ItemRow array_items)) (cc) one
+      let one : OneUpTo (Document × Elements) right_bracket (ItemRow in_array) (d, ds) =
+      item_row-one in_array d ds (value-one d) (rest-one in_array ds (elements-start ds)) (rest-Delimited in_array) in
+      subst (OneUpTo (Document × Elements) right_bracket (ItemRow in_array)) (cc) one
 
-  members-start : (ms : Members) → StartsOne object_items ms
+  members-start : (ms : Members) → StartsOne in_object ms
   members-start no_members k p e = absurd (cc)
   members-start (member k d ms) k' p e =
-      let one : OneUpTo (List ℕ × (Document × Members)) right_brace (ItemRow object_items) (k, (d, ms)) =
-      item_row-one object_items k (d, ms) (λ l xs ys r s h g e t u. string-one k l xs ys r s h g e)
-      (value_row-one d ms (value-one d) (rest-one object_items ms (members-start ms)))
+      let one : OneUpTo (List ℕ × (Document × Members)) right_brace (ItemRow in_object) (k, (d, ms)) =
+      item_row-one in_object k (d, ms) (λ l xs ys r s h g e t u. string-one k l xs ys r s h g e)
+      (value_row-one d ms (value-one d) (rest-one in_object ms (members-start ms)))
       (λ p xs rest h. subst (λ us. Delimited (us ++ right_brace ∷ rest)) (sym h.1) (refl, refl)) in
-      subst (OneUpTo (List ℕ × (Document × Members)) right_brace (ItemRow object_items)) (cc) one
+      subst (OneUpTo (List ℕ × (Document × Members)) right_brace (ItemRow in_object)) (cc) one
 
 -- Bytes denote one document at most.
 pub document-one : (b : List ℕ) (d e : Document) → Denotes b d → Denotes b e → d ≡ e

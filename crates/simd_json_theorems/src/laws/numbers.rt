@@ -1,5 +1,6 @@
 //! Laws of numbers, and of the patterns that they are.
-ghost use Rattle.std.specs.Prelude.{◌≡◌, ◌↔◌, ◌≤◌, ◌+◌, ◌++◌, ◌∷◌, ◌⊎◌, ℕ, List, length, take, drop, IsTrue};
+ghost use Rattle.std.specs.Prelude.{◌≡◌, ◌↔◌, ◌≤◌, ◌+◌, ◌++◌, ◌∷◌, ◌⊎◌, ℕ, List, length, take};
+ghost use Rattle.std.specs.Prelude.{drop, IsTrue};
 ghost use Rattle.std.specs.Prelude.{Ok, true};
 ghost use Rattle.std.specs.Char.{is_ascii_digit};
 ghost use Rattle.simd_json_parts.specs.Bytes.{is_terminator, byte_at};
@@ -7,7 +8,8 @@ ghost use Rattle.simd_json_parts.specs.Derivatives.{matches, is_possible, longes
 ghost use Rattle.simd_json_parts.specs.Document.{integer, decimal};
 ghost use Rattle.simd_json_parts.specs.Integers.{max_magnitude};
 ghost use Rattle.simd_json_parts.specs.NumberAt.{number_at};
-ghost use Rattle.simd_json_parts.specs.Numbers.{number_literal, integer_literal, decimal_literal, has_minus};
+ghost use Rattle.simd_json_parts.specs.Numbers.{number_literal, integer_literal, decimal_literal};
+ghost use Rattle.simd_json_parts.specs.Numbers.{has_minus};
 ghost use Rattle.simd_json_parts.specs.Numbers.{magnitude};
 ghost use Rattle.simd_json_parts.specs.Patterns.{Pattern, Matches, Begins};
 

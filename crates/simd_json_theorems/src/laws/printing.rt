@@ -13,8 +13,10 @@ ghost use Rattle.simd_json_theorems.specs.Spellable.{IsSpellable};
 /// equal to it, and nests as deep. So it is for each document whose decimals are literals, whose
 /// strings and keys are UTF-8, and whose integers are in the ranges of their signs.
 pub fn printed_texts_denote_their_documents()
-    ensures compact { (d : Document) → IsSpellable d → IntegersFit d → Denotes (compact d) (normalized d) }
-    ensures pretty { (d : Document) → IsSpellable d → IntegersFit d → Denotes (pretty d) (normalized d) }
+    ensures compact { (d : Document) → IsSpellable d → IntegersFit d
+        → Denotes (compact d) (normalized d) }
+    ensures pretty { (d : Document) → IsSpellable d → IntegersFit d
+        → Denotes (pretty d) (normalized d) }
     ensures equal { (d : Document) → equal (normalized d) d ≡ true }
     ensures depth { (d : Document) → depth (normalized d) ≡ depth d }
 {}
@@ -33,9 +35,11 @@ pub fn equal_documents_are_printed_alike()
 
 /// And documents that are printed alike are equal.
 pub fn printed_texts_are_of_one_document()
-    ensures compact { (d e : Document) → IsSpellable d → IntegersFit d → IsSpellable e → IntegersFit e
+    ensures compact { (d e : Document) → IsSpellable d → IntegersFit d
+        → IsSpellable e → IntegersFit e
         → compact d ≡ compact e → equal d e ≡ true }
-    ensures pretty { (d e : Document) → IsSpellable d → IntegersFit d → IsSpellable e → IntegersFit e
+    ensures pretty { (d e : Document) → IsSpellable d → IntegersFit d
+        → IsSpellable e → IntegersFit e
         → pretty d ≡ pretty e → equal d e ≡ true }
 {}
 
@@ -43,14 +47,17 @@ pub fn printed_texts_are_of_one_document()
 /// printed, with no sign on a zero.
 pub fn printed_texts_are_read_again()
     ensures compact { (d : Document) (limit : ℕ) → IsSpellable d → IntegersFit d
-        → length (compact d) ≤ max_length → depth d ≤ limit → answer (compact d) limit ≡ Ok (normalized d) }
+        → length (compact d) ≤ max_length
+        → depth d ≤ limit → answer (compact d) limit ≡ Ok (normalized d) }
     ensures pretty { (d : Document) (limit : ℕ) → IsSpellable d → IntegersFit d
-        → length (pretty d) ≤ max_length → depth d ≤ limit → answer (pretty d) limit ≡ Ok (normalized d) }
+        → length (pretty d) ≤ max_length
+        → depth d ≤ limit → answer (pretty d) limit ≡ Ok (normalized d) }
 {}
 
 /// Compact text is the shortest: no fewer bytes denote the document.
 pub fn compact_texts_are_shortest()
-    ensures { (b : List ℕ) (d : Document) → Denotes b d → IntegersFit d → length (compact d) ≤ length b }
+    ensures { (b : List ℕ) (d : Document) → Denotes b d → IntegersFit d
+        → length (compact d) ≤ length b }
 {}
 
 /// So a document that is accepted can be printed and read again within the same limits: compactly

@@ -1,5 +1,6 @@
 //! Laws of strings.
-ghost use Rattle.std.specs.Prelude.{◌≡◌, ◌≤◌, ◌<◌, ◌+◌, ◌++◌, ◌∷◌, ℕ, suc, List, length, take, drop, IsTrue};
+ghost use Rattle.std.specs.Prelude.{◌≡◌, ◌≤◌, ◌<◌, ◌+◌, ◌++◌, ◌∷◌, ℕ, suc, List, length, take};
+ghost use Rattle.std.specs.Prelude.{drop, IsTrue};
 ghost use Rattle.std.specs.Prelude.{IsUtf8, encode_utf8_all, Ok, IsFalse};
 ghost use Rattle.simd_json_parts.specs.Bytes.{quote, byte_at};
 ghost use Rattle.simd_json_parts.specs.InputFaults.{has_bad_string};

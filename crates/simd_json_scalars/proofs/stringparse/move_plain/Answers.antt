@@ -16,7 +16,8 @@ move_few-requires c =
     let run = run-ends is_stop l.bytes i 32 (omega arith) (omega arith) (omega (arith, found))
     ∙ ap (count_trailing_zeros 64) (sym found) in
     let inside = run-within is_stop l.bytes i 32 (omega arith) (omega arith) (omega (arith, found)) in
-    (omega arith, omega arith, omega (arith, run, l.invariant.value, l.invariant.bound), omega (arith, ap (count_trailing_zeros 64) found, inside))
+    let counted = ap (count_trailing_zeros 64) found in
+    (omega arith, omega arith, omega (arith, run, l.invariant.value, l.invariant.bound), omega (arith, counted, inside))
 
 pub returns-then-stops-ne0 : goal.returns-then-stops-ne0
 returns-then-stops-ne0 c =

@@ -1,8 +1,7 @@
 use Rattle.std.proofs.Common.{refl, sym, ap, ◌∙◌, length, arith}
 use Rattle.simd_json_scalars.specs.StringContent.{is_plain}
 use Rattle.simd_json_scalars.specs.StringDecoded.{IsDecoded}
-use Rattle.simd_json_scalars.proofs.Strings.Decoding.{decoded-open, decoded-further, decoded-byte}
-use Rattle.simd_json_scalars.proofs.Strings.Decoding.{was-backslash, decoded-fits, decoded-bad}
+use Rattle.simd_json_scalars.proofs.Strings.Decoding.{decoded-open, decoded-further, decoded-byte, was-backslash, decoded-fits, decoded-bad}
 use Rattle.simd_json_scalars.proofs.stringparse.unescape.Goals as goal
 
 pub move_plain-ends-requires-clause-goes_on : goal.move_plain-ends-requires-clause-goes_on
