@@ -8,7 +8,7 @@ use Rattle.simd_json_parts.specs.Positions.{is_even, backslashes_before, real_qu
 abbrev pub is_escaped_at : List ℕ → ℕ → Bool
 is_escaped_at b i = not (is_even (backslashes_before b i))
 
--- an odd number of real quotes stands before index i
+-- there is an odd number of real quotes before index i
 abbrev pub is_open_at : List ℕ → ℕ → Bool
 is_open_at b i = not (is_even (real_quotes b i))
 
