@@ -4,8 +4,8 @@
 //! Within a window no store needs a test of capacity, and nothing is tested for UTF-8; both are
 //! done between windows, while the bytes are still in the cache. Groups of eight blocks come first,
 //! and what is left of a window is scanned block by block.
-ghost use Rattle.std.specs.Prelude.{◌≡◌, ◌+◌, ◌-◌, ◌*◌, ◌^◌, ◌<◌, ◌≤◌, ◌⊎◌};
-ghost use Rattle.std.specs.Prelude.{ℕ, List, length, take, IfOk, IfErr, IsFalse, IsUtf8};
+ghost use Rattle.std.specs.Prelude.{◌≡◌, ◌+◌, ◌-◌, ◌*◌, ◌<◌, ◌≤◌, ◌⊎◌};
+ghost use Rattle.std.specs.Prelude.{length, take, IfOk, IfErr, IsFalse};
 ghost use Rattle.simd_json_parts.specs.Limits.{max_length};
 ghost use Rattle.simd_json_stages.specs.Blocks.{CanList, HaveNoBackslash};
 ghost use Rattle.simd_json_stages.specs.BlockScans.{CanScan, Scans};
