@@ -18,7 +18,7 @@ use Rattle.simd_json_stages.specs.declared.stage1.scan.Placing.{Placing}
 use Rattle.simd_json_stages.specs.declared.stage1.scan.ScanState.{ScanState}
 use Rattle.simd_json_stages.specs.declared.stage1.scan.Classifying.{Classifying}
 
--- the byte at index i goes on with a token, wherever it stands
+-- the byte at index i continues a token, wherever it is
 abbrev pub is_plain : List ℕ → ℕ → Bool
 is_plain b i = not ((is_structural (byte_at b i) || is_whitespace (byte_at b i)) || is_real_quote b i)
 

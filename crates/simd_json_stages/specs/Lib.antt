@@ -1,4 +1,4 @@
--- What the public contracts of the first stage rest on: the blocks that it lists, and how it answers where memory is short.
+-- What the public contracts of the first stage rest on: the blocks that it lists, and what it returns where memory is short.
 pub mod EscapeBlocks
 pub mod Scans
 -- What the second stage's rests on.

@@ -1,4 +1,4 @@
--- What a scan of a whole input finds, and what it answers where memory is short or the input is not UTF-8. Public contracts rest on it.
+-- What a scan of a whole input finds, and its errors where memory is short or the input is not UTF-8. Public contracts rest on it.
 use Rattle.std.specs.Prelude.{◌≡◌, ◌≤◌, ◌<◌, ◌⊎◌, ℕ, List, length, take, Bool, None, IsUtf8}
 use Rattle.simd_json_parts.specs.Faults.{whole_fault}
 use Rattle.simd_json_parts.specs.InputFaults.{has_bad_string, input_fault}

@@ -2,8 +2,8 @@
 use Rattle.std.specs.Prelude.{◌≡◌, ℕ, ◌+◌, ◌^◌, ◌<◌, ◌++◌, List, length, take, drop, min}
 use Rattle.simd_json_stages.specs.Words.{set_bits}
 
--- After the first `used` numbers of `before` stand the first k of all the indexes; the bits that are left have the others.
--- What stands after the indexes has no meaning.
+-- After the first `used` numbers of `before` come the first k of all the indexes; the bits that are left have the others.
+-- What follows the indexes has no meaning.
 pub record IsStored (before : List ℕ) (used : ℕ) (all : List ℕ) (k : ℕ) (base : ℕ) (now : List ℕ) (left : ℕ) : Type 0 where
   pub len : length now ≡ length before
   pub small : left < 2 ^ 64

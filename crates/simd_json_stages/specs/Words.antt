@@ -1,4 +1,4 @@
--- Words of 64 bits, asked of one bit at a time. It serves proofs: only the crate's private clauses cite it.
+-- Words of 64 bits, one bit at a time. It serves proofs: only the crate's private clauses cite it.
 use Rattle.std.specs.Prelude.{◌≡◌, ℕ, zero, suc, ◌+◌, ◌-◌, ◌^◌, ◌<◌, ◌≤◌, ◌==◌, List, map, filter, Bool, true, false, not, ◌&&◌}
 use Rattle.std.specs.Int.{bit_at}
 use Rattle.std.specs.List.{range_with_len}
@@ -7,12 +7,12 @@ use Rattle.std.specs.List.{range_with_len}
 unfoldable pub is_set : ℕ → ℕ → Bool
 is_set x i = bit_at x i == 1
 
--- x is a word, and bit i of it answers p i
+-- x is a word, and bit i of it is set just where p i is true
 pub record HasBits (x : ℕ) (p : ℕ → Bool) : Type 0 where
   pub small : x < 2 ^ 64
   pub bits : (i : ℕ) → i < 64 → is_set x i ≡ p i
 
--- word y has at its front the bits at the end of word x, so many, and no other
+-- word y has at its front the last `len` bits of word x, and no other
 pub record HasLastBits (len x y : ℕ) : Type 0 where
   pub small : y < 2 ^ 64
   pub front : (i : ℕ) → i < len → is_set y i ≡ is_set x (64 - len + i)

@@ -82,7 +82,7 @@ fresh_from false true false false e = refl
 fresh_from false false true false e = refl
 fresh_from false false false false e = refl
 
--- outside, a byte is fresh just where no plain byte stands before it
+-- outside, a byte is fresh just where no plain byte is before it
 fresh-plain : (b : List ℕ) (i : ℕ) → is_open_at b i ≡ false → is_fresh b i ≡ not (is_plain_before b i)
 unfolding is_plain_before is_inside
 fresh-plain b zero e = refl

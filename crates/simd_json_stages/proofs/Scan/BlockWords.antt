@@ -58,7 +58,7 @@ parts-found b at s o control escaped c =
       parity = prefix-bits (real s o escaped) quote.small;
     }
 
--- ---- its positions, from what stands before it
+-- ---- its positions, from what is before it
 
 -- the last byte is what the next block has to know of plain ones
 pub plain-out : (b : List ℕ) (at : ℕ) (p : Parts) → AreParts b at p → p.plain / 2 ^ 63 ≡ bool_byte (is_plain_before b (at + 64))

@@ -13,14 +13,14 @@ use Rattle.std.specs.List.{Contains}
 use Rattle.simd_json_stages.proofs.Scan.CarryLaws.{filter-next}
 use Rattle.simd_json_stages.specs.EscapesAhead.{PlainFrom}
 
--- Where no number of a range passes a test, the answer for the range is no.
+-- Where no number of a range passes a test, `list_any` is false.
 pub list_any-none_between : (p : ℕ → Bool) (a n : ℕ) → ((j : ℕ) → a ≤ j → j < a + n → p j ≡ false) → list_any p (range_with_len a n) ≡ false
 list_any-none_between p a n none =
     list_any_none p (range_with_len a n) (λ k d l.
     let inside : k < n = omega (arith, length-range_with_len a n) in
     ap p (get_or-range_with_len a n k d inside) ∙ none (a + k) (omega arith) (omega arith))
 
--- Where some number passes, it is yes.
+-- Where some number passes, it is true.
 list_any-some_between : (p : ℕ → Bool) (a n j : ℕ) → a ≤ j → j < a + n → p j ≡ true → list_any p (range_with_len a n) ≡ true
 list_any-some_between p a n j from to is =
     let there : get_or (range_with_len a n) (j - a) 0 ≡ j = omega (arith, get_or-range_with_len a n (j - a) 0) in
@@ -32,7 +32,7 @@ unfolding holds_backslash
 holds_backslash-plain b k plain = list_any-none_between (λ j. byte_at b j == backslash) (64 * k) 64
     (λ j f t. ne_eqb (byte_at b j) backslash (plain j f t))
 
--- A block holds the backslash that stands in it.
+-- A block holds each backslash in it.
 pub holds_backslash-at : (b : List ℕ) (i : ℕ) → byte_at b i ≡ backslash → holds_backslash b (i / 64) ≡ true
 unfolding holds_backslash
 holds_backslash-at b i is = list_any-some_between (λ j. byte_at b j == backslash) (64 * (i / 64)) 64 i (omega arith) (omega arith)

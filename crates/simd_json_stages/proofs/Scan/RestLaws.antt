@@ -74,7 +74,7 @@ IsBlock-last b rest last e long is =
     rw (front, drop-replicate) in
     subst (IsBlock b (64 * whole b)) same (IsBlock-rest b rest rest e refl)
 
--- ---- so many of the last of 64 bytes, and spaces after them
+-- ---- the last `len` of 64 bytes, and spaces after them
 
 abbrev pub filled : ℕ → List ℕ → List ℕ
 filled len xs = drop (64 - len) xs ++ replicate (64 - len) 32

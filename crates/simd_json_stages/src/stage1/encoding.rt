@@ -8,9 +8,9 @@
 //!
 //! In this module `checked` is the number of bytes at the front that are known to be UTF-8, and all
 //! indexes count bytes of the input.
-ghost use Rattle.std.specs.Prelude.{◌≡◌, ◌≤◌, ◌<◌, ℕ, List, length, take, true};
-ghost use Rattle.std.specs.Prelude.{IfOk, IfErr, IsUtf8};
+ghost use Rattle.std.specs.Prelude.{◌≡◌, ◌≤◌, ◌<◌, ℕ, length, true, IfOk, IfErr, IsUtf8};
 ghost use Rattle.simd_json_parts.specs.Bytes.{byte_at};
+ghost use Rattle.simd_json_stages.specs.Carries.{IsChecked};
 ghost use Rattle.simd_json_stages.specs.Scans.{IsBadEncoding};
 
 use simd_json_parts::error::{Error, ErrorType, Result};
@@ -39,8 +39,7 @@ fn character_start(input: &[u8], end: usize) -> usize
 // Checks the input from `checked` to its end, and returns its length.
 #[inline(never)]
 pub(super) fn check_rest(input: &[u8], checked: usize) -> Result<usize>
-    requires within { checked ≤ length input.now }
-    requires utf8 { IsUtf8 (take checked input.now) }
+    requires checked { IsChecked input.now checked }
     ensures utf8 { IfOk result (λ to. (to ≡ length input.now) × IsUtf8 input.now) }
     ensures fault { IfErr result (IsBadEncoding input.now) }
 {
@@ -55,10 +54,9 @@ pub(super) fn check_rest(input: &[u8], checked: usize) -> Result<usize>
 // Returns how far that is. If that part is not UTF-8, checking the whole rest decides.
 #[inline(never)]
 fn check_up_to(input: &[u8], checked: usize, end: usize) -> Result<usize>
-    requires within { checked ≤ length input.now }
-    requires utf8 { IsUtf8 (take checked input.now) }
+    requires checked { IsChecked input.now checked }
     requires end_within { end ≤ length input.now }
-    ensures utf8 { IfOk result (λ to. (to ≤ length input.now) × IsUtf8 (take to input.now)) }
+    ensures utf8 { IfOk result (IsChecked input.now) }
     ensures whole { IfOk result (λ to. end ≡ length input.now → to ≡ length input.now) }
     ensures fault { IfErr result (IsBadEncoding input.now) }
 {
@@ -81,12 +79,11 @@ pub(super) fn check_window(
     end: usize,
     is_ascii: bool,
 ) -> Result<usize>
-    requires within { checked ≤ length input.now }
-    requires utf8 { IsUtf8 (take checked input.now) }
+    requires checked { IsChecked input.now checked }
     requires order { start ≤ end }
     requires end_within { end ≤ length input.now }
     requires ascii { is_ascii ≡ true → (i : ℕ) → start ≤ i → i < end → byte_at input.now i < 128 }
-    ensures utf8 { IfOk result (λ to. (to ≤ length input.now) × IsUtf8 (take to input.now)) }
+    ensures utf8 { IfOk result (IsChecked input.now) }
     ensures whole { IfOk result (λ to. end ≡ length input.now → to ≡ length input.now) }
     ensures fault { IfErr result (IsBadEncoding input.now) }
 {

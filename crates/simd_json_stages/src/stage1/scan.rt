@@ -10,13 +10,13 @@
 //! and its structural indexes are written. Control bytes inside strings are collected in a word,
 //! which is tested once, at the end.
 ghost use Rattle.std.specs.Prelude.{◌≡◌, ◌+◌, ◌*◌, ◌/◌, ◌^◌, ◌<◌, ◌≤◌, ◌⊎◌};
-ghost use Rattle.std.specs.Prelude.{ℕ, List, length, take, drop, IfOk, IfErr, IsTrue, IsUtf8};
+ghost use Rattle.std.specs.Prelude.{ℕ, List, length, drop, IfOk, IfErr, IsTrue};
 ghost use Rattle.std.specs.Int.{from_bool};
 ghost use Rattle.std.specs.Simd.{first_chunks};
 ghost use Rattle.simd_json_parts.specs.Limits.{max_length};
 ghost use Rattle.simd_json_stages.specs.Blocks.{AreClassified, AreParts, IsClassified};
 ghost use Rattle.simd_json_stages.specs.Blocks.{IsControl, IsPlaced, IsScanned};
-ghost use Rattle.simd_json_stages.specs.Carries.{is_escaped_at};
+ghost use Rattle.simd_json_stages.specs.Carries.{IsChecked, is_escaped_at};
 ghost use Rattle.simd_json_stages.specs.Scans.{IsBadEncoding, IsFound, LacksMemory};
 
 mod groups;
@@ -146,7 +146,7 @@ pub(super) fn scan_blocks<A: Allocator>(
     requires len { length blocks.now ≡ length input.now / 64 }
     ensures scanned { IfOk result (λ r. IsScanned input.now (length input.now / 64) r.0
         structural_indexes.new.items escape_blocks.new.items) }
-    ensures checked { IfOk result (λ r. (r.1 ≤ length input.now) × IsUtf8 (take r.1 input.now)) }
+    ensures checked { IfOk result (λ r. IsChecked input.now r.1) }
     ensures fault { IfErr result (λ e. IsBadEncoding input.now e
         ⊎ LacksMemory input.now e structural_indexes.old.items escape_blocks.old.items) }
     ensures longer { (length structural_indexes.old.items ≤ length structural_indexes.new.items)
@@ -200,7 +200,7 @@ fn scan_short<A: Allocator>(
     requires some { 0 < length blocks.now }
     ensures scanned { IfOk result (λ r. IsScanned input.now (length input.now / 64) r.0
         structural_indexes.new.items escape_blocks.new.items) }
-    ensures checked { IfOk result (λ r. (r.1 ≤ length input.now) × IsUtf8 (take r.1 input.now)) }
+    ensures checked { IfOk result (λ r. IsChecked input.now r.1) }
     ensures fault { IfErr result (λ e. IsBadEncoding input.now e
         ⊎ LacksMemory input.now e structural_indexes.old.items escape_blocks.old.items) }
     ensures longer { (length structural_indexes.old.items ≤ length structural_indexes.new.items)
@@ -265,7 +265,7 @@ pub(super) fn scan_rest<A: Allocator>(
     requires len { length rest.now < 64 }
     requires scanned { IsScanned input.now (length input.now / 64) done
         structural_indexes.old.items escape_blocks.old.items }
-    requires checked { (checked ≤ length input.now) × IsUtf8 (take checked input.now) }
+    requires checked { IsChecked input.now checked }
     ensures found { IfOk result (λ r. IsFound input.now r.0 r.1
         structural_indexes.new.items escape_blocks.new.items) }
     ensures fault { IfErr result (λ e. IsBadEncoding input.now e

@@ -2,7 +2,7 @@
 use Rattle.std.proofs.Common.{◌≡◌, refl, ℕ, zero, suc, ◌<◌, Bool, true, false, ◌&&◌, inl, inr, T, arith, subst}
 use Rattle.std.proofs.lemmas.Bool.{cases_lt}
 
--- f answers yes at each number below n
+-- f is true at each number below n
 abbrev pub upto : (ℕ → Bool) → ℕ → Bool
 upto f zero = true
 upto f (suc n) = f n && upto f n

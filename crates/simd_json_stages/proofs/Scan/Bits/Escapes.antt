@@ -108,6 +108,7 @@ step false f true false n = (refl, λ z. refl, refl)
 step false f false false n = (refl, λ z. refl, refl)
 
 module _ (c : Bool) (x before : ℕ) (small : x < 2 ^ 64) (is : before ≡ bool_byte c) where
+  -- the backslashes that are not escaped from before the block; and those that begin a run at an odd index
   abbrev live : ℕ → Bool
   live zero = is_set x 0 && not c
   live (suc i) = is_set x (suc i)
@@ -140,6 +141,7 @@ module _ (c : Bool) (x before : ℕ) (small : x < 2 ^ 64) (is : before ≡ bool_
   hstart : HasBits start_word start
   hstart = bits-and (bits-and hlive (bits-not bits-even)) (bits-not hfollows)
 
+  -- what the carry and the sum say of each byte but the first
   at : (i : ℕ) → i < 64 → (escaped_in c x (suc i) ≡ (live i && not (xor (not (even i)) (carry start live false (suc i)))))
       × (live i ≡ false → carry start live false (suc i) ≡ false)
       × ((xor (not (even i)) (summed i) && live i) ≡ escaped_in c x (suc i))

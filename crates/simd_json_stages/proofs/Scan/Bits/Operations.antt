@@ -90,7 +90,7 @@ pub top_bit : (x : ℕ) → x < 2 ^ 64 → (x / 2 ^ 63 == 1) ≡ is_set x 63
 unfolding is_set
 top_bit x small = let e : x / 2 ^ 63 ≡ x / 2 ^ 63 % 2 = omega arith in ap (λ n. n == 1) e
 
--- ---- words that are made of one answer
+-- ---- words that are made of one boolean
 
 pub byte_lt : (c : Bool) → bool_byte c < 2 ^ 64
 byte_lt true = omega arith

@@ -26,7 +26,7 @@ moved p q base a (suc n) same =
     first false true e r = absurd (cc)
     first false false e r = r
 
--- The places of the bits are the indexes that pass a test, where the bits are its answers.
+-- The places of the bits are the indexes that pass a test, where a bit is set just where the test passes.
 pub set_bits-filter : (p : ℕ → Bool) (n base x : ℕ) → ((i : ℕ) → i < n → is_set x i ≡ p (base + i))
     → set_bits n base x ≡ filter p (range_with_len base n)
 unfolding set_bits

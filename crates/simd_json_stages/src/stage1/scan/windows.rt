@@ -4,11 +4,12 @@
 //! Within a window no store needs a test of capacity, and nothing is tested for UTF-8; both are
 //! done between windows, while the bytes are still in the cache. Groups of eight blocks come first,
 //! and what is left of a window is scanned block by block.
-ghost use Rattle.std.specs.Prelude.{◌≡◌, ◌+◌, ◌-◌, ◌*◌, ◌^◌, ◌<◌, ◌≤◌, ◌⊎◌};
-ghost use Rattle.std.specs.Prelude.{ℕ, List, length, take, IfOk, IfErr, IsFalse, IsUtf8};
+ghost use Rattle.std.specs.Prelude.{◌≡◌, ◌+◌, ◌-◌, ◌*◌, ◌<◌, ◌≤◌, ◌⊎◌};
+ghost use Rattle.std.specs.Prelude.{length, take, IfOk, IfErr, IsFalse};
 ghost use Rattle.simd_json_parts.specs.Limits.{max_length};
 ghost use Rattle.simd_json_stages.specs.Blocks.{CanList, HaveNoBackslash};
 ghost use Rattle.simd_json_stages.specs.BlockScans.{CanScan, Scans};
+ghost use Rattle.simd_json_stages.specs.Carries.{IsChecked};
 ghost use Rattle.simd_json_stages.specs.Scans.{IsBadEncoding, LacksMemory};
 
 use super::ScanState;
@@ -133,10 +134,10 @@ pub(super) fn capacity_for<A: Allocator>(
     requires size { length input.now ≤ max_length }
     requires within { (window.first < window.end) × (window.end ≤ length blocks.now) }
     requires blocks { BLOCK_LEN * length blocks.now ≤ length input.now }
-    requires checked { (checked ≤ length input.now) × IsUtf8 (take checked input.now) }
+    requires checked { IsChecked input.now checked }
     requires used { (done.placing.used ≤ BLOCK_LEN * window.first)
         × (done.classifying.listed ≤ window.first) }
-    ensures checked { IfOk result (λ to. (to ≤ length input.now) × IsUtf8 (take to input.now)) }
+    ensures checked { IfOk result (IsChecked input.now) }
     ensures capacity { IfOk result (λ to. done.placing.used
         + BLOCK_LEN * (window.end - window.first) ≤ length structural_indexes.new.items) }
     ensures block_capacity { IfOk result (λ to. CanList blocks.now window.first window.end

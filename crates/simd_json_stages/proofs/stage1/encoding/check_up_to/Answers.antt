@@ -5,7 +5,7 @@ use Rattle.simd_json_stages.proofs.stage1.encoding.check_up_to.Goals as goal
 pub returns-then-is_utf8-clause-utf8 : goal.returns-then-is_utf8-clause-utf8
 returns-then-is_utf8-clause-utf8 c = (
   omega arith,
-  utf8-further c.args.input.now c.args.checked c.character_start-to.result (omega arith) c.requires.utf8
+  utf8-further c.args.input.now c.args.checked c.character_start-to.result (omega arith) c.requires.checked.1
       (c.if-is_utf8.ensures.0 refl),
 )
 

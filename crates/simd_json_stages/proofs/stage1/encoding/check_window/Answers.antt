@@ -7,6 +7,6 @@ pub returns-then-checked-start-clause-utf8 : goal.returns-then-checked-start-cla
 returns-then-checked-start-clause-utf8 c =
     let at : c.args.start ≡ c.args.checked = sym c.if-checked-start.true in (
       c.requires.end_within,
-      utf8-ascii c.args.input.now c.args.checked c.args.end (omega arith) c.requires.end_within c.requires.utf8
+      utf8-ascii c.args.input.now c.args.checked c.args.end (omega arith) c.requires.end_within c.requires.checked.1
           (subst (λ i. IsAscii c.args.input.now i c.args.end) at (c.requires.ascii c.if-is_ascii.true)),
     )

@@ -9,8 +9,7 @@ loop-first-init g c =
     record {
       to = omega arith;
       scanned = IsScanned-none c.args.input.now _ _;
-      within = omega arith;
-      utf8 = IsUtf8-nil;
+      checked = (omega arith, IsUtf8-nil);
       longer = omega arith;
       blocks_longer = omega arith;
     }
@@ -44,12 +43,10 @@ loop-first-preserved g c =
     let z = c.capacity_for.new.escape_blocks in
     let first = ap length c.as_mut_slice.ensures.value in
     let second = ap length c.as_mut_slice-in-loop-first.ensures.value in
-    let checked = c.in_ok-checked-2.ensures.utf8 in
     record {
       to = omega arith;
       scanned = IsScanned-back _ _ _ _ (omega arith) (omega arith) (scanned w.ensures b chunks before);
-      within = checked.0;
-      utf8 = checked.1;
+      checked = c.in_ok-checked-2.ensures.utf8;
       longer = omega (arith, length-back w.new.structural_indexes (drop (length w.new.structural_indexes) a.items) a.len);
       blocks_longer = omega (arith, length-back w.new.escape_blocks (drop (length w.new.escape_blocks) z.items) z.len);
     }

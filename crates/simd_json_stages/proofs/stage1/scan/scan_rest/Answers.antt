@@ -2,7 +2,7 @@ use Rattle.std.proofs.Common.{◌≡◌, ◌+◌, ◌*◌, ◌≤◌, ◌<◌, �
 use Rattle.std.proofs.Common.{arith}
 use Rattle.std.proofs.lemmas.List.{length-set}
 use lib.Count.{ones}
-use Rattle.simd_json_stages.specs.EscapeBlocks.{blocks_in, backslash_blocks}
+use Rattle.simd_json_stages.specs.EscapeBlocks.{backslash_blocks}
 use Rattle.simd_json_stages.specs.Words.{set_bits}
 use Rattle.simd_json_stages.proofs.Scan.EncodingLaws.{utf8-reached}
 use Rattle.simd_json_stages.proofs.Scan.RestLaws.{whole, rest-bad, rest-positions, rest-few, rest-listed, rest-blocks}
@@ -12,11 +12,8 @@ use Rattle.simd_json_stages.proofs.stage1.scan.scan_rest.Goals.{then-classified+
 use Rattle.simd_json_stages.proofs.Exits.{passed-on}
 
 pub check_window-requires-clause-ascii : goal.check_window-requires-clause-ascii
-check_window-requires-clause-ascii g c =
-    let b = c.args.input.now in
-    let s = c.requires.scanned.classified in
-    let classified = c.classify_rest-classified.ensures in
-    λ zero i from end. classified.ascii (eqb-true _ _ zero) i from (omega arith)
+check_window-requires-clause-ascii g c = λ zero i from end.
+    c.classify_rest-classified.ensures.ascii (eqb-true _ _ zero) i from (omega arith)
 
 pub grow-requires : goal.grow-requires
 grow-requires g c =
@@ -29,12 +26,12 @@ grow-requires g c =
 
 pub grow-requires-then-classified : goal.grow-requires-then-classified
 grow-requires-then-classified g c =
-    let b = c.args.input.now in
-    let s = c.requires.scanned.classified in
-    let classified = c.classify_rest-classified.ensures in
-    let l : c.args.done.classifying.listed < blocks_in (length b) = rest-listed b c.args.done.classifying _
-    c.classify_rest-classified.result s classified c.if-classified.true in
-    omega (arith, c.div_ceil-max_blocks.ensures)
+    let m = c.classify_rest-classified in
+    omega (
+      arith,
+      rest-listed c.args.input.now c.args.done.classifying _ m.result c.requires.scanned.classified m.ensures c.if-classified.true,
+      c.div_ceil-max_blocks.ensures,
+    )
 
 pub returns-clause-found : goal.returns-clause-found
 returns-clause-found g c =
