@@ -32,6 +32,7 @@ ghost use Rattle.simd_json_stages.specs.Building.{IsWritten};
 ghost use Rattle.simd_json_stages.specs.Members.{HasCapacity, IsTape};
 ghost use Rattle.simd_json_stages.specs.NodesEnough.{nodes_enough};
 ghost use Rattle.simd_json_stages.specs.Progresses.{IsForCopy};
+ghost use Rattle.simd_json_stages.specs.Put.{SameSink};
 ghost use Rattle.simd_json_stages.specs.Refusals.{IsTokenFault};
 ghost use Rattle.simd_json_stages.specs.Scans.{IsScanOf};
 
@@ -184,8 +185,7 @@ fn build_copy<'de, K: Original, S: NodeSink<'de>, const COPY: usize>(
     requires capacities { HasCapacity scanned.structural_indexes.now max_depth stack.old
         (S.node_room sink.old) }
     requires empty { S.held_nodes sink.old ≡ [] }
-    ensures room { S.node_room sink.new ≡ S.node_room sink.old }
-    ensures lender { S.lender sink.new ≡ S.lender sink.old }
+    ensures sink { SameSink S.node_room S.lender sink.old sink.new }
     ensures tape { IsTape K.bytes scanned.entry.structural_indexes.now max_depth
         (S.held_nodes sink.new) result }
 {
