@@ -19,8 +19,8 @@ ghost use Rattle.simd_json_scalars.specs.NumeralRead.{IsIntegerLiteral};
 ghost use Rattle.simd_json_scalars.specs.declared.numberparse.Number.TheVariants.{Integer};
 ghost use Rattle.simd_json_scalars.specs.declared.numberparse.Number.TheVariants.{Invalid};
 ghost use Rattle.simd_json_stages.specs.Members.{AtString};
-ghost use Rattle.simd_json_stages.specs.Put.{is_boolean, AtNumber, AtOther, IsScalarPut, IsNoScalar};
-ghost use Rattle.simd_json_stages.specs.Put.{IsBadString, IsStringPut, SameSink};
+ghost use Rattle.simd_json_stages.specs.Put.{is_boolean, AtNumber, AtOther, IsBadString};
+ghost use Rattle.simd_json_stages.specs.Put.{IsNoScalar, IsScalarPut, IsStringPut, SameSink};
 ghost use Rattle.simd_json_stages.specs.Refusals.{error_type, refused_kind, number_refusal};
 ghost use Rattle.simd_json_stages.specs.Inputs.{Reads};
 
@@ -216,7 +216,8 @@ fn no_scalar(at: usize, byte: u8) -> Fault
     }
 }
 
-// Appends the number at the last token.
+// Appends the number at the last token. Each kind has a branch that stores its own node, as in
+// `push_scalar`.
 #[inline(always)]
 fn push_number<'de, K: Original, S: NodeSink<'de>>(
     input: &mut Input<'_, 'de>,
@@ -231,55 +232,24 @@ fn push_number<'de, K: Original, S: NodeSink<'de>>(
         (Reads K.bytes input.new)) }
     ensures refused { IfErr result (IsNoScalar K.bytes p.at) }
 {
-    match parse_short(input.from(p.at)) {
-        Some(Numeral::Integer(magnitude)) => push_integer(nodes, p.byte, magnitude),
-        Some(Numeral::Decimal(len)) => nodes.push_decimal(input.share(p.at, len)),
-        _ => return push_longer_number::<K, S>(input, nodes, p),
-    }
-    Ok(())
-}
-
-// Appends the number at the last token, of any length.
-#[inline(always)]
-fn push_longer_number<'de, K: Original, S: NodeSink<'de>>(
-    input: &mut Input<'_, 'de>,
-    nodes: &mut S,
-    p: Progress,
-) -> Result<(), Fault>
-    requires { AtNumber K.bytes input.old (S.node_room nodes.old)
-        (length (S.held_nodes nodes.old)) p }
-    ensures sink { SameSink S.node_room S.lender nodes.old nodes.new }
-    ensures put { OnOk result
-        (IsScalarPut K.bytes p.at (S.held_nodes nodes.old) (S.held_nodes nodes.new)
-        (Reads K.bytes input.new)) }
-    ensures refused { IfErr result (IsNoScalar K.bytes p.at) }
-{
     let rest = input.from(p.at);
-    match parse_numeral(rest) {
-        Numeral::Integer(magnitude) => push_integer(nodes, p.byte, magnitude),
+    let numeral = match parse_short(rest) {
+        Some(numeral) => numeral,
+        None => parse_numeral(rest),
+    };
+    match numeral {
+        Numeral::Integer(magnitude) => {
+            if p.byte == b'-' {
+                nodes.push_static(integer_node(true, magnitude));
+            } else {
+                nodes.push_static(StaticNode::U64(magnitude));
+            }
+        }
         Numeral::Decimal(len) => nodes.push_decimal(input.share(p.at, len)),
         Numeral::Long(len) => nodes.push_static(read_long(rest, p.at, len)?),
         Numeral::Invalid(offset) => return Err(invalid_number(rest, p.at, offset)),
     }
     Ok(())
-}
-
-// Appends the integer of this magnitude whose literal begins with byte `first`. Each kind is stored
-// by itself, as in `push_scalar`.
-#[inline(always)]
-fn push_integer<'de, S: NodeSink<'de>>(nodes: &mut S, first: u8, magnitude: u64)
-    requires fits { magnitude ≤ max_magnitude_64 (first == minus_sign) }
-    requires room { length (S.held_nodes nodes.old) < S.node_room nodes.old }
-    ensures sink { SameSink S.node_room S.lender nodes.old nodes.new }
-    ensures put { S.held_nodes nodes.new
-        ≡ S.held_nodes nodes.old
-        ++ static_item (integer_node (first == minus_sign) magnitude) ∷ [] }
-{
-    if first == b'-' {
-        nodes.push_static(integer_node(true, magnitude));
-    } else {
-        nodes.push_static(StaticNode::U64(magnitude));
-    }
 }
 
 // Reads the integer at the front of `rest`, whose literal has `len` bytes, or returns its fault.

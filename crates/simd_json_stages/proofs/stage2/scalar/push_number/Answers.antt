@@ -1,23 +1,60 @@
-use Rattle.std.proofs.Common.{sym, subst, arith}
+use Rattle.std.proofs.Common.{sym, subst, ◌∙◌, ap, ◌+◌, ◌≤◌, [], ◌∷◌, length, arith}
+use Rattle.simd_json_parts.specs.Document.{integer}
+use Rattle.simd_json_parts.specs.Tokens.{scalar}
+use Rattle.simd_json_parts.specs.Nodes.{static_item}
 use Rattle.simd_json_scalars.specs.NumeralRead.{IsNumeralAt}
-use Rattle.simd_json_stages.proofs.Machine.ScalarPut.{decimal-asked, decimal-put}
+use Rattle.simd_json_stages.specs.Put.{IsNoScalar}
+use Rattle.simd_json_stages.proofs.Exits.{passed-on}
+use Rattle.simd_json_stages.proofs.Machine.ScalarPut.{decimal-asked, decimal-put, offset-within, number-refused, static-put}
 use Rattle.simd_json_stages.proofs.stage2.scalar.push_number.Goals as goal
-
-pub from-requires : goal.from-requires
-from-requires g c =
-    let at = c.requires.at in record { b = g.K.Original.bytes; reads = at.input; within = omega (arith, at.within) }
+use Rattle.simd_json_stages.proofs.stage2.scalar.push_number.Goals.{in-Some, in-None}
 
 pub share-requires : goal.share-requires
 share-requires g c =
     let b = g.K.Original.bytes in
-    decimal-asked c.requires c.in-Some-Decimal.len (subst (IsNumeralAt b c.args.p.at) c.in-Some-Decimal.field-0-is
-    (c.in-Some-Decimal.ensures b c.args.p.at (sym (c.from.ensures b c.requires.at.input))))
+    let after = sym (c.from-rest.ensures b c.requires.at.input) in
+    decimal-asked c.requires c.in-Decimal.len (subst (IsNumeralAt b c.args.p.at) c.in-Decimal.is (elim c.match-parse_short.branch [
+      | in-Some w ↦ rw w.numeral-is (w.in-Some.ensures b c.args.p.at after)
+      | in-None w ↦ rw w.numeral-is (w.parse_numeral-numeral.ensures b c.args.p.at after)
+    ]))
 
-pub returns-in-Some-Decimal-clause-put : goal.returns-in-Some-Decimal-clause-put
-returns-in-Some-Decimal-clause-put g c =
+pub returns-in-Decimal-clause-put : goal.returns-in-Decimal-clause-put
+returns-in-Decimal-clause-put g c =
     let b = g.K.Original.bytes in
     let input = c.requires.at.input in
-    let is = subst (IsNumeralAt b c.args.p.at) c.in-Some-Decimal.field-0-is
-    (c.in-Some-Decimal.ensures b c.args.p.at (sym (c.from.ensures b input))) in
-    decimal-put c.requires c.in-Some-Decimal.len _ is (c.share.ensures.string b input) c.push_decimal.ensures.put
-    (c.share.ensures.rest b input)
+    let after = sym (c.from-rest.ensures b input) in
+    decimal-put c.requires c.in-Decimal.len _ (subst (IsNumeralAt b c.args.p.at) c.in-Decimal.is (elim c.match-parse_short.branch [
+      | in-Some w ↦ rw w.numeral-is (w.in-Some.ensures b c.args.p.at after)
+      | in-None w ↦ rw w.numeral-is (w.parse_numeral-numeral.ensures b c.args.p.at after)
+    ])) (c.share.ensures.string b input) c.push_decimal.ensures.put (c.share.ensures.rest b input)
+
+pub returns-in-Invalid-clause-refused : goal.returns-in-Invalid-clause-refused
+returns-in-Invalid-clause-refused g c =
+    let b = g.K.Original.bytes in
+    let given = c.requires in
+    let after = sym (c.from-rest.ensures b given.at.input) in
+    let is = subst (IsNumeralAt b c.args.p.at) c.in-Invalid.is (elim c.match-parse_short.branch [
+      | in-Some w ↦ rw w.numeral-is (w.in-Some.ensures b c.args.p.at after)
+      | in-None w ↦ rw w.numeral-is (w.parse_numeral-numeral.ensures b c.args.p.at after)
+    ]) in
+    let within = subst (λ bs. c.in-Invalid.offset ≤ length bs) after
+    (offset-within b c.args.p.at c.in-Invalid.offset (omega (arith, given.at.within)) is) in
+    number-refused b c.args.p.at c.in-Invalid.offset c.invalid_number.result given.form is (c.invalid_number.ensures b after within)
+
+pub returns-in_err-read_long-in-Long-clause-refused : goal.returns-in_err-read_long-in-Long-clause-refused
+returns-in_err-read_long-in-Long-clause-refused g c =
+    let b = g.K.Original.bytes in
+    let given = c.requires in
+    let after = sym (c.from-rest.ensures b given.at.input) in
+    let read = c.in_err-read_long-in-Long.ensures b after (omega (arith, given.at.within)) in
+    passed-on c.from_residual.result _ (IsNoScalar b c.args.p.at) c.from_residual.ensures.1
+    (number-refused b c.args.p.at read.0 _ given.form read.1 read.2)
+
+pub returns-in_ok-read_long-in-Long-clause-put : goal.returns-in_ok-read_long-in-Long-clause-put
+returns-in_ok-read_long-in-Long-clause-put g c =
+    let b = g.K.Original.bytes in
+    let given = c.requires in
+    let after = sym (c.from-rest.ensures b given.at.input) in
+    let read = c.in_ok-read_long-in-Long.ensures b after (omega (arith, given.at.within)) in
+    static-put (integer read.0 read.1) c.in_ok-read_long-in-Long.field-0 (c.args.p.at + c.in-Long.len) given.at.input
+    (given.form ∙ ap scalar read.2) (ap (λ s. static_item s ∷ []) (sym read.3)) c.push_static-in-Long.ensures.put
