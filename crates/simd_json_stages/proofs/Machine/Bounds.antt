@@ -40,7 +40,7 @@ some-left {b} {ps} {p} closed r x y =
           ])
     ]
 
--- where a value or a name stands, there is a node for it
+-- at a value or a name there is a node for it
 pub node-left : {b ps : List ℕ} {reads : ℕ → Type 0} {limit capacity written : ℕ} {stack : List StackState} {p : Progress}
     → IsBefore b ps reads written p → p.depth ≤ limit → HasCapacity ps limit stack capacity → written < capacity
 unfolding nodes_enough

@@ -99,7 +99,7 @@ module _ (b ps : List ℕ) where
   extended before i rest {form} is goes along' = along' ∙ ap (λ us. before ++ us) (along-form b i rest form is goes)
       ∙ sym (append_assoc before (token b i ∷ []) (tokens_along b rest))
 
-  -- and the next one stands at the next position
+  -- and the next one is at the next position
   pub reached_next : (before : List Token) (k : ℕ) → k < length ps → tokens_along b ps ≡ before ++ tokens_along b (drop k ps)
       → tokens_along b ps ≡ before ++ tokens_along b (get_or ps k 0 ∷ drop (k + 1) ps)
   reached_next before k l along' = along' ∙ ap (λ us. before ++ us) (next b ps k l)

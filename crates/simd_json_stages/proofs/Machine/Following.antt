@@ -1,4 +1,4 @@
--- From a token to the one after the next: after a comma stands the next member, and after a name and its colon a value.
+-- From a token to the one after the next: after a comma is the next member, and after a name and its colon a value.
 use Rattle.std.proofs.Common.{◌≡◌, refl, sym, ◌∙◌, ap, subst, ℕ, ◌+◌, ◌<◌, ◌≤◌, List, [], ◌∷◌, ◌++◌, length, get_or, arith}
 use Rattle.simd_json_parts.specs.Bytes.{byte_at}
 use Rattle.simd_json_parts.specs.Positions.{positions}
