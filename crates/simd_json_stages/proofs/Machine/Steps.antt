@@ -239,8 +239,8 @@ module _ (b : List ℕ) (missing : Error) (limit : ℕ) where
 
   pub at_value-unexpected : (open_containers : List Open) (t : Token) (ts : List Token) (form : Form) → t.form ≡ form
       → begins_value form ≡ false → at_value b missing limit open_containers (t ∷ ts) ≡ Err (fault_at b InternalError t.index)
-  at_value-unexpected open_containers t ts form is none = at_value-plain open_containers t ts form (Err (fault_at b InternalError t.index)) is
-      (λ arrays objects. refused arrays objects form none)
+  at_value-unexpected open_containers t ts form is none = at_value-plain open_containers t ts form
+      (Err (fault_at b InternalError t.index)) is (λ arrays objects. refused arrays objects form none)
     where
       refused : (arrays : Token → Reads Elements) (objects : Token → Reads Members) (form : Form) → begins_value form ≡ false
           → value_of b missing arrays objects t form ts ≡ Err (fault_at b InternalError t.index)
