@@ -1,4 +1,4 @@
--- How the nodes so far and the stack stand for the containers that are open, the innermost first.
+-- What the nodes so far and the stack mean for the containers that are open, the innermost first.
 use Rattle.std.specs.Prelude.{◌≡◌, ℕ, zero, suc, ◌+◌, ◌-◌, List, [], ◌∷◌, ◌++◌, length, get_or, slice_set, map, drop, Bool, true, false}
 use Rattle.std.specs.Prelude.{Result, Ok, Err}
 use Rattle.simd_json_parts.specs.Document.{Document, array, object, no_elements, no_members}
@@ -37,17 +37,17 @@ is_header (array_item len count) = true
 is_header (object_item len count) = true
 is_header _ = false
 
--- the fault of a token that may not stand after a member
+-- the fault of a token that may not follow a member
 abbrev pub content_kind : Container → FaultKind
 content_kind Array = kinds.ExpectedArrayContent
 content_kind Object = kinds.ExpectedObjectContent
 
--- the fault where a token stands after a root, by whether that is a container
+-- the fault of a token after a root, by whether that is a container
 abbrev pub end_kind : Bool → FaultKind
 end_kind true = kinds.InternalError
 end_kind false = kinds.TrailingData
 
--- ---- what nodes and stack stand for
+-- ---- what nodes and stack mean
 
 -- documents in a row
 abbrev pub listings : List Document → List Item
@@ -75,8 +75,8 @@ top stack depth = get_or stack (depth - 1) no_frame
 abbrev pub patch : List Item → StackState → Progress → List Item
 patch nodes f p = slice_set nodes f.header (header_of p.container p.len (length nodes - f.header - 1))
 
--- The items end with a header, yet to be patched, and what lies beneath it so far, of n members. The frame says where the
--- header stands, and with the rest of the stack it holds what lies round.
+-- The items end with a header, whose counts are not set yet, and what is beneath it so far, of n members. The frame has the
+-- header's index, and with the rest of the stack it holds what is around.
 abbrev pub Headed : (Container → List StackState → ℕ → List Item → Type 0) → List Item → ℕ → List StackState → ℕ → List Item → Type 0
 Headed round beneath n [] len items = ⊥
 Headed round beneath n (f ∷ fs) len items =

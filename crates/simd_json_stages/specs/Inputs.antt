@@ -24,7 +24,7 @@ pub record Reads (b : List ℕ) (t : Input) (i : ℕ) : Type 0 where
   pub whole : IsTrue t.is_plain → IsShared b t.shared.now
   pub part : IsFalse t.is_plain → IsLent b t.rest.now t.at t.escapes i
 
--- The string whose opening quote has index i is closed before an index, and no quote stands between.
+-- The string whose opening quote has index i is closed before an index, and no quote is between.
 pub record IsStringBefore (b : List ℕ) (i next : ℕ) : Type 0 where
   pub opening : byte_at b i ≡ quote
   pub closing : byte_at b (closing_quote b i) ≡ quote
@@ -36,7 +36,7 @@ pub record IsStringBefore (b : List ℕ) (i next : ℕ) : Type 0 where
 
 -- ---- what a function that reads an input asks for
 
--- Some input can be read from index i on, and so many bytes stand there.
+-- Some input can be read from index i on, and has `len` bytes there.
 pub record HasBytes (t : Input) (i len : ℕ) : Type 0 where
   pub b : List ℕ
   pub reads : Reads b t i
@@ -47,7 +47,7 @@ pub record HasString (t : Input) (i len : ℕ) : Type 0 where
   pub bytes : HasBytes t i len
   pub utf8 : IsUtf8 (take len (drop i bytes.b))
 
--- Some input can be read from index i on, where the opening quote of a string stands that is closed before an index.
+-- Some input can be read from index i on, where a string begins that is closed before an index.
 pub record HasQuoted (t : Input) (i next : ℕ) : Type 0 where
   pub b : List ℕ
   pub reads : Reads b t i

@@ -1,4 +1,4 @@
--- How many nodes are enough for the tape of so many positions. The public contract of the second stage rests on it.
+-- How many nodes are enough for a tape, by its number of positions. The public contract of the second stage rests on it.
 use Rattle.std.specs.Prelude.{ℕ, ◌+◌, ◌-◌, ◌/◌, min}
 
 -- Each node but the first comes right after a comma, a colon or the bracket that opens its container, and to that bracket belongs a

@@ -1,4 +1,4 @@
--- What a reader of one value answers that is put as the next node.
+-- What a reader of one value returns that is put as the next node.
 use Rattle.std.specs.Prelude.{◌≡◌, ◌≢◌, ◌<◌, ◌⊎◌, ℕ, List, [], ◌∷◌, ◌++◌, length, Bool, true, false, ◌&&◌, nat_eq, codes, Ok, Err}
 use Rattle.std.specs.List.{starts_with}
 use Rattle.simd_json_parts.specs.Bytes.{byte_at, is_terminator}
@@ -75,7 +75,7 @@ begins_value (string_token read) = true
 begins_value (scalar read) = true
 begins_value _ = false
 
--- the fault is the scalar's, or a token stands there that begins no value
+-- the fault is the scalar's, or of a token that begins no value
 abbrev pub IsNoScalar : List ℕ → ℕ → Fault → Type 0
 IsNoScalar b i f =
     (form_at b i ≡ scalar (Err (fault_with (error_type f.kind) f.index f.byte)))

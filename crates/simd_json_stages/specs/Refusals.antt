@@ -25,7 +25,7 @@ error_type kinds.Syntax = errors.Syntax
 error_type kinds.TrailingData = errors.TrailingData
 error_type kinds.DepthLimitExceeded = errors.DepthLimitExceeded
 
--- of a first byte with which no scalar stands
+-- of a token with this first byte that is no scalar
 abbrev pub refused_kind : ℕ → FaultKind
 refused_kind c = if c == 116 then kinds.ExpectedTrue else if c == 102 then kinds.ExpectedFalse else if c == 110 then
     kinds.ExpectedNull else kinds.InternalError

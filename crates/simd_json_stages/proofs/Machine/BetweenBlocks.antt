@@ -1,4 +1,4 @@
--- No backslash stands between the blocks that are listed, so a string that ends before the next one has no escape.
+-- No backslash is between the blocks that are listed, so a string that ends before the next one has no escape.
 use Rattle.std.proofs.Common.{◌≡◌, ◌∙◌, ap, ℕ, zero, suc, ◌+◌, ◌/◌, ◌<◌, ◌≤◌, inl, inr, refl, List, ◌∷◌, length, get_or, Bool, true, false}
 use Rattle.std.proofs.Common.{filter, if◌then◌else◌, arith}
 use Rattle.std.specs.List.{range_with_len}
@@ -7,7 +7,7 @@ use Rattle.simd_json_stages.specs.EscapeBlocks.{blocks_in, holds_backslash, back
 use Rattle.simd_json_stages.proofs.Scan.EscapeBlockLaws.{holds_backslash-at}
 use Rattle.simd_json_stages.specs.EscapesAhead.{PlainFrom}
 
--- No number before the first that a filter keeps passes; z stands for the first where none is kept.
+-- No number before the first that a filter keeps passes; z is in place of the first if none is kept.
 before_first : (p : ℕ → Bool) (a n z k : ℕ) → z ≤ a + n → a ≤ k → k < get_or (filter p (range_with_len a n)) 0 z → p k ≡ false
 before_first p a zero z k e f t = absurd (omega arith)
 before_first p a (suc n) z k e f t = go (p a) refl (before_first p (a + 1) n z k (omega arith)) t

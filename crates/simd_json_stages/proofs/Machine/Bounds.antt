@@ -40,15 +40,15 @@ some-left {b} {ps} {p} closed r x y =
           ])
     ]
 
--- where a value or a name stands, there is a node for it
+-- at a value or a name there is a node for it
 pub node-left : {b ps : List ℕ} {reads : ℕ → Type 0} {limit capacity written : ℕ} {stack : List StackState} {p : Progress}
     → IsBefore b ps reads written p → p.depth ≤ limit → HasCapacity ps limit stack capacity → written < capacity
 unfolding nodes_enough
 node-left r deep h = omega (arith, h.node_capacity, r.read.within, r.few, r.deep)
 
 -- one more node is written
-pub one-more : (nodes nodes' : List Item) (x : Item) → nodes' ≡ nodes ++ x ∷ [] → length nodes + 1 ≡ length nodes'
-one-more nodes nodes' x put = sym (ap length put ∙ length_push nodes x)
+pub put-longer : (nodes nodes' : List Item) (x : Item) → nodes' ≡ nodes ++ x ∷ [] → length nodes + 1 ≡ length nodes'
+put-longer nodes nodes' x put = sym (ap length put ∙ length_push nodes x)
 
 -- the next token's number and byte
 pub next-read : {b ps : List ℕ} {p q : Progress} → IsNext b ps p q → q.read ≡ p.read + 1
@@ -79,26 +79,26 @@ is-next r more is =
       same = is;
     }
 
--- to go on twice
 module _ (b ps : List ℕ) where
   -- the progress at the next position
-  abbrev pub one_more : Progress → Progress
-  one_more p = record p { read = p.read + 1; at = get_or ps p.read 0; byte = byte_at b (get_or ps p.read 0) }
+  abbrev pub at_next : Progress → Progress
+  at_next p = record p { read = p.read + 1; at = get_or ps p.read 0; byte = byte_at b (get_or ps p.read 0) }
 
   -- and at the one after it
-  abbrev pub two_more : Progress → Progress
-  two_more p = record p { read = p.read + 2; at = get_or ps (p.read + 1) 0; byte = byte_at b (get_or ps (p.read + 1) 0) }
+  abbrev pub at_second : Progress → Progress
+  at_second p = record p { read = p.read + 2; at = get_or ps (p.read + 1) 0; byte = byte_at b (get_or ps (p.read + 1) 0) }
 
-  two_more-is : (p : Progress) → one_more (one_more p) ≡ two_more p
-  two_more-is p = let two : (p.read + 1) + 1 ≡ p.read + 2 = omega arith in
+  at_second-is : (p : Progress) → at_next (at_next p) ≡ at_second p
+  at_second-is p = let two : (p.read + 1) + 1 ≡ p.read + 2 = omega arith in
       ap (λ n. record p { read = n; at = get_or ps (p.read + 1) 0; byte = byte_at b (get_or ps (p.read + 1) 0) }) two
 
+-- two tokens further
 module _ {b ps : List ℕ} {p q s : Progress} (n : IsNext b ps p q) (m : IsNext b ps q s) where
   pub two-left : p.read + 1 < length ps
   two-left = omega (arith, m.more, next-read n)
 
-  pub two-is : s ≡ two_more b ps p
-  two-is = m.same ∙ ap (one_more b ps) n.same ∙ two_more-is b ps p
+  pub two-is : s ≡ at_second b ps p
+  two-is = m.same ∙ ap (at_next b ps) n.same ∙ at_second-is b ps p
 
   pub two-advances : (p.read < s.read) × (s.depth ≡ p.depth) × (s.container ≡ p.container)
   two-advances = subst (λ (s : Progress). (p.read < s.read) × (s.depth ≡ p.depth) × (s.container ≡ p.container))
@@ -164,7 +164,7 @@ module _ {b ps : List ℕ} {p : Progress} (e : ps ≡ positions b) where
       → IsBefore b ps (Reads b t) (length nodes) p → (p.read < length ps → Reads b t' (get_or ps p.read 0))
       → IsAfter b ps (Reads b t') (length nodes') (record p { len = p.len + 1 })
   after-value nodes nodes' x put r ahead =
-      let more = one-more nodes nodes' x put in
+      let more = put-longer nodes nodes' x put in
       record {
         read = record { some = r.read.some; within = r.read.within; last = r.read.last; first = r.read.first };
         few = omega (arith, r.few);
@@ -179,7 +179,7 @@ module _ {b ps : List ℕ} {p : Progress} (e : ps ≡ positions b) where
       (record q { len = q.len + 1 })
   after-first {t} nodes nodes' x put r n =
       let l : p.at < get_or ps p.read 0 = later b ps e p r.read n.more in
-      let more = one-more nodes nodes' x put in
+      let more = put-longer nodes nodes' x put in
       subst (λ (q : Progress). IsAfter b ps (Reads b t) (length nodes') (record q { len = q.len + 1 })) (sym n.same)
       (let s : Progress = record p {
         read = p.read + 1;
@@ -202,7 +202,7 @@ module _ {b ps : List ℕ} {p : Progress} (e : ps ≡ positions b) where
       (record { read = q.read; at = q.at; byte = q.byte; depth = p.depth + 1; container = c; len = 0 })
   before-first {t} c nodes nodes' x put r n =
       let l : p.at < get_or ps p.read 0 = later b ps e p r.read n.more in
-      let more = one-more nodes nodes' x put in
+      let more = put-longer nodes nodes' x put in
       let opened : Progress → Progress = λ q. record {
         read = q.read;
         at = q.at;

@@ -18,8 +18,9 @@ use Rattle.simd_json_parts.specs.declared.error.ErrorType.{ErrorType}
 use Rattle.simd_json_parts.specs.declared.error.ErrorType.TheVariants.{Syntax}
 use Rattle.simd_json_parts.proofs.Positions.TokensAtPositions.{tokens-positions}
 use Rattle.simd_json_stages.specs.Continued.{Open, in_array, in_object, at_value, at_name, after_value}
-use Rattle.simd_json_stages.specs.Building.{closer, header_of, frames, top, patch, Headed, Holds, HoldsValue, HoldsMembers, closed_with, missing}
-use Rattle.simd_json_stages.specs.Building.{whole, AtValue, AtName, AfterValue, AtMemberOf, AtMember, IsBuilt, IsWritten, IsFirstFault}
+use Rattle.simd_json_stages.specs.Building.{closer, header_of, frames, top, patch, Headed, Holds, HoldsValue, HoldsMembers}
+use Rattle.simd_json_stages.specs.Building.{closed_with, missing, whole, AtValue, AtName, AfterValue, AtMemberOf, AtMember}
+use Rattle.simd_json_stages.specs.Building.{IsBuilt, IsWritten, IsFirstFault}
 use Rattle.simd_json_stages.specs.Progresses.{IsNext}
 use Rattle.simd_json_stages.specs.Put.{IsStringPut, IsScalarPut}
 use Rattle.simd_json_stages.specs.Refusals.{error_type}
@@ -31,7 +32,7 @@ use Rattle.simd_json_stages.specs.declared.stage2.fault.Fault.{Fault}
 use Rattle.simd_json_stages.specs.declared.stage2.fault.FaultKind.TheVariants as kinds
 use Rattle.simd_json_stages.proofs.Machine.Holding.{Holds-value, Holds-name, Holds-comma, Holds-member_comma, Headed-open}
 use Rattle.simd_json_stages.proofs.Machine.Holding.{HasHeader, Holds-close, Holds-top, listing-some}
-use Rattle.simd_json_stages.proofs.Machine.Bounds.{next-byte, one_more, two_more, two-left, two-is}
+use Rattle.simd_json_stages.proofs.Machine.Bounds.{next-byte, at_next, at_second, two-left, two-is}
 use Rattle.simd_json_stages.proofs.Tokens.Places.{token}
 use Rattle.simd_json_stages.proofs.Machine.Steps.{opening_form, ending_form, empty_of, at_container, container-open, container-close}
 use Rattle.simd_json_stages.proofs.Machine.Steps.{after_value-comma, at_array-element, at_value-scalar, after_value-root, at_value-root}
@@ -99,7 +100,7 @@ module _ (b ps : List ℕ) where
   extended before i rest {form} is goes along' = along' ∙ ap (λ us. before ++ us) (along-form b i rest form is goes)
       ∙ sym (append_assoc before (token b i ∷ []) (tokens_along b rest))
 
-  -- and the next one stands at the next position
+  -- and the next one is at the next position
   pub reached_next : (before : List Token) (k : ℕ) → k < length ps → tokens_along b ps ≡ before ++ tokens_along b (drop k ps)
       → tokens_along b ps ≡ before ++ tokens_along b (get_or ps k 0 ∷ drop (k + 1) ps)
   reached_next before k l along' = along' ∙ ap (λ us. before ++ us) (next b ps k l)
@@ -280,10 +281,10 @@ module _ {b ps : List ℕ} {limit : ℕ} {stack : List StackState} {nodes : List
 
       go : (opens' : List Open) (last : Document) → whole b ps limit ≡ after_value b (missing b ps) limit opens' last
           (tokens_along b (drop p.read ps)) → HoldsValue opens' last p.container (frames stack p.depth) p.len nodes
-          → length opens' ≡ p.depth → AtMember b ps limit kinds.ExpectedObjectKey stack nodes (two_more b ps p)
+          → length opens' ≡ p.depth → AtMember b ps limit kinds.ExpectedObjectKey stack nodes (at_second b ps p)
       go [] last same h deep = absurd (omega (arith, deep, some))
       go (in_array ds ∷ outer) last same h deep =
-          subst (λ c. AtMemberOf b ps limit c (error_type kinds.ExpectedObjectKey) stack nodes (two_more b ps p)) (sym h.0) (record {
+          subst (λ c. AtMemberOf b ps limit c (error_type kinds.ExpectedObjectKey) stack nodes (at_second b ps p)) (sym h.0) (record {
             opens = in_array (ds ++ last ∷ []) ∷ outer;
             same = same
                 ∙ ap (after_value b (missing b ps) limit (in_array ds ∷ outer) last)
@@ -296,7 +297,7 @@ module _ {b ps : List ℕ} {limit : ℕ} {stack : List StackState} {nodes : List
             deep = deep;
           })
       go (in_object ms name ∷ outer) last same h deep =
-          subst (λ c. AtMemberOf b ps limit c (error_type kinds.ExpectedObjectKey) stack nodes (two_more b ps p)) (sym h.0) (record {
+          subst (λ c. AtMemberOf b ps limit c (error_type kinds.ExpectedObjectKey) stack nodes (at_second b ps p)) (sym h.0) (record {
             members = ms ++ (name, last) ∷ [];
             outer = outer;
             same = same
@@ -317,7 +318,7 @@ module _ {b ps : List ℕ} {limit : ℕ} {stack : List StackState} {nodes : List
       → AfterValue b ps limit stack nodes' q'
   step-close {nodes'} at some n byte is patched =
       subst (AfterValue b ps limit stack nodes') (sym (is ∙ ap (closed_at stack) n.same))
-      (subst (λ ns. AfterValue b ps limit stack ns (closed_at stack (one_more b ps p)))
+      (subst (λ ns. AfterValue b ps limit stack ns (closed_at stack (at_next b ps p)))
       (sym (patched ∙ ap (λ (q : Progress). patch nodes (top stack q.depth) q) n.same)) (go at.opens at.last at.same at.holds at.deep))
     where
       i : ℕ
@@ -329,7 +330,7 @@ module _ {b ps : List ℕ} {limit : ℕ} {stack : List StackState} {nodes : List
       go : (opens' : List Open) (last : Document) → whole b ps limit ≡ after_value b (missing b ps) limit opens' last
           (tokens_along b (drop p.read ps)) → HoldsValue opens' last p.container (frames stack p.depth) p.len nodes
           → length opens' ≡ p.depth
-          → AfterValue b ps limit stack (patch nodes (top stack p.depth) p) (closed_at stack (one_more b ps p))
+          → AfterValue b ps limit stack (patch nodes (top stack p.depth) p) (closed_at stack (at_next b ps p))
       go [] last same h deep = absurd (omega (arith, deep, some))
       go (o ∷ outer) last same h deep =
           let is : form_at b i ≡ closing_form o = closing-form b i o outer last p.container (frames stack p.depth) p.len nodes h
@@ -343,7 +344,8 @@ module _ {b ps : List ℕ} {limit : ℕ} {stack : List StackState} {nodes : List
             before = at.before ++ token b i ∷ [];
             along = extended b ps at.before i rest is (closing-goes_on o) (reached_next b ps at.before p.read n.more at.along);
             reached = last_index-append at.before (token b i);
-            holds = Holds-close o outer last p.container (top stack p.depth) (frames stack (p.depth - 1)) p.len nodes (held o outer _ stack nodes p some h);
+            holds = Holds-close o outer last p.container (top stack p.depth) (frames stack (p.depth - 1)) p.len nodes
+                (held o outer _ stack nodes p some h);
             deep = omega (arith, deep);
           }
 

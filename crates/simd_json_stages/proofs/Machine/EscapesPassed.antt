@@ -14,7 +14,7 @@ begins b blocks m is l = ap (λ k. 64 * k) (get_or_default blocks m 0 (blocks_in
     ∙ ap (λ ks. get_or ks m (blocks_in (length b))) is)
 
 module _ (b : List ℕ) (at : ℕ) where
-  -- after a block that is passed, none stands up to the next
+  -- after a block that is passed, there is none up to the next
   pub one-passed : (blocks : List ℕ) (m : ℕ) → ArePassed b blocks m at → m < length blocks → 64 * get_or blocks m 0 + 64 ≤ at
       → ArePassed b blocks (m + 1) at
   one-passed blocks m a l h =
@@ -38,7 +38,7 @@ ahead-later b e at a later l =
       plain = λ j f t. a.plain j (omega arith) t;
     }
 
--- Where a test finds none among so many bytes from an index on, none is ahead up to there: before that index lies no
+-- If a test finds none among some bytes from an index on, none is ahead up to there: before that index lies no
 -- listed block.
 pub plain-ahead : (b rest hay blocks : List ℕ) (base at next start from upto : ℕ) → drop base b ≡ rest → base ≤ at
     → ArePassed b blocks next at → (next < length blocks → start ≡ 64 * get_or blocks next 0)

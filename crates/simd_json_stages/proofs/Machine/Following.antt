@@ -1,4 +1,4 @@
--- From a token to the one after the next: after a comma stands the next member, and after a name and its colon a value.
+-- From a token to the one after the next: after a comma is the next member, and after a name and its colon a value.
 use Rattle.std.proofs.Common.{◌≡◌, refl, sym, ◌∙◌, ap, subst, ℕ, ◌+◌, ◌<◌, ◌≤◌, List, [], ◌∷◌, ◌++◌, length, get_or, arith}
 use Rattle.simd_json_parts.specs.Bytes.{byte_at}
 use Rattle.simd_json_parts.specs.Positions.{positions}
@@ -17,14 +17,14 @@ use Rattle.simd_json_stages.specs.declared.stage2.progress.NextMember.TheVariant
 use Rattle.simd_json_stages.specs.declared.stage2.progress.Progress.{Progress}
 use Rattle.simd_json_stages.specs.declared.stage2.stack.StackState.{StackState}
 use Rattle.simd_json_stages.specs.declared.stage2.fault.FaultKind.{FaultKind}
-use Rattle.simd_json_stages.proofs.Machine.Bounds.{one-more, one_more, two-left, two-is, later, read-next}
+use Rattle.simd_json_stages.proofs.Machine.Bounds.{put-longer, at_next, two-left, two-is, later, read-next}
 use Rattle.simd_json_stages.proofs.Machine.BuildingSteps.{closed_at, step-end, root-value}
 use Rattle.simd_json_stages.proofs.Machine.InputLaws.{reads-kept}
 
 module _ {b ps : List ℕ} {p q : Progress} (e : ps ≡ positions b) where
   -- the second of two positions is after the first
   rises : {s : Progress} → IsRead b ps p → IsNext b ps p q → IsNext b ps q s → get_or ps p.read 0 < get_or ps (p.read + 1) 0
-  rises r n m = later b ps e (one_more b ps p) (read-next r n.more refl refl refl) (two-left n m)
+  rises r n m = later b ps e (at_next b ps p) (read-next r n.more refl refl refl) (two-left n m)
 
   -- after a comma
   pub comma-progress : {t : Input} {written : ℕ} {s : Progress} → IsAfter b ps (Reads b t) written p → IsNext b ps p q
@@ -46,7 +46,7 @@ module _ {b ps : List ℕ} {p q : Progress} (e : ps ≡ positions b) where
       → IsBefore b ps (Reads b t') (length nodes') s
   named-progress {t' = t'} nodes nodes' x put r ahead n m =
       let l = rises r.read n m in
-      let more = one-more nodes nodes' x put in
+      let more = put-longer nodes nodes' x put in
       subst (IsBefore b ps (Reads b t') (length nodes')) (sym (two-is n m))
       (record {
         read = subst (IsRead b ps) (two-is n m) m.read;
@@ -62,7 +62,7 @@ module _ {b ps : List ℕ} {p q : Progress} (e : ps ≡ positions b) where
       → IsAfter b ps (Reads b t) now q'
   closed-after {t} {written} {now} stack same r some fewer n is =
       subst (IsAfter b ps (Reads b t) now) (sym (is ∙ ap (closed_at stack) n.same))
-      (let s : Progress = closed_at stack (one_more b ps p) in
+      (let s : Progress = closed_at stack (at_next b ps p) in
       let read : IsRead b ps s = read-next r.read n.more refl refl refl in
       record {
         read = read;

@@ -68,7 +68,7 @@ length-member_listings : (ms : List (List ℕ × Document)) → length ms ≤ le
 length-member_listings [] = omega arith
 length-member_listings (m ∷ ms) = omega (arith, length-member_listings ms, length-append (listing m.1) (member_listings ms))
 
--- ---- what stands after a header
+-- ---- what is after a header
 
 -- it grows
 Headed-grown : (round : Container → List StackState → ℕ → List Item → Type 0) (us vs ws : List Item) (m n : ℕ)

@@ -33,7 +33,7 @@ lent-drop {b} {rest} {at} lent j l =
     let there : at + (j - at) ≡ j = omega (arith, l) in
     ap (drop (j - at)) lent.rest ∙ drop-drop (j - at) at b ∙ ap (λ n. drop n b) there
 
--- from where a token begins so many of its bytes
+-- and some bytes of it from where a token begins
 pub lent-slice : {b rest : List ℕ} {at : ℕ} {escapes : Escapes} {i : ℕ} {prefix : List ℕ} (len : ℕ) → IsLent b rest at escapes i
     → prefix ≡ take (i + len - at) rest → take (length prefix - (i - at)) (drop (i - at) prefix) ≡ take len (drop i b)
 lent-slice {b} {rest} {at} {i = i} {prefix} len lent is =

@@ -44,7 +44,7 @@ members_onto-append : (ms : List (List ℕ × Document)) (m : List ℕ × Docume
 members_onto-append [] m rest = refl
 members_onto-append (x ∷ ms) m rest = ap (λ r. member x.0 x.1 r) (members_onto-append ms m rest)
 
--- what may stand after an element of an array
+-- what may follow an element of an array
 abbrev pub ends_element : Form → Bool
 ends_element value_separator = true
 ends_element end_array = true
@@ -239,8 +239,8 @@ module _ (b : List ℕ) (missing : Error) (limit : ℕ) where
 
   pub at_value-unexpected : (open_containers : List Open) (t : Token) (ts : List Token) (form : Form) → t.form ≡ form
       → begins_value form ≡ false → at_value b missing limit open_containers (t ∷ ts) ≡ Err (fault_at b InternalError t.index)
-  at_value-unexpected open_containers t ts form is none = at_value-plain open_containers t ts form (Err (fault_at b InternalError t.index)) is
-      (λ arrays objects. refused arrays objects form none)
+  at_value-unexpected open_containers t ts form is none = at_value-plain open_containers t ts form
+      (Err (fault_at b InternalError t.index)) is (λ arrays objects. refused arrays objects form none)
     where
       refused : (arrays : Token → Reads Elements) (objects : Token → Reads Members) (form : Form) → begins_value form ≡ false
           → value_of b missing arrays objects t form ts ≡ Err (fault_at b InternalError t.index)
@@ -257,7 +257,7 @@ abbrev pub closing_form : Open → Form
 closing_form (in_array ds) = end_array
 closing_form (in_object ms name) = end_object
 
--- what may stand after a member of it
+-- what may follow a member of it
 abbrev pub ends_member_of : Open → Form → Bool
 ends_member_of (in_array ds) form = ends_element form
 ends_member_of (in_object ms name) form = ends_member form

@@ -52,7 +52,7 @@ no_position-after b i is_open = elim (cases_Bool (is_real_quote b (suc i))) [
 
 -- ---- a bad escape
 
--- it stands before the closing quote
+-- it is before the closing quote
 string_read-fault : (r : List ℕ × List ℕ) (close : ℕ) (e : Error) → string_read r close ≡ Err e → e.index ≤ close
 string_read-fault (u, []) close e h = cc h
 string_read-fault (u, x ∷ left) close e h =

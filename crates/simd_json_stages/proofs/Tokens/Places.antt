@@ -1,4 +1,4 @@
--- Where the machine is: its last token stands at a position, and the next position is known.
+-- Where the machine is: its last token is at a position, and the next position is known.
 use Rattle.std.proofs.Common.{◌≡◌, sym, ◌∙◌, ap, subst, ℕ, zero, suc, ◌+◌, ◌-◌, ◌<◌, ◌≤◌, ◌⊎◌, inl, inr, List, ◌∷◌, ◌++◌, length, get_or}
 use Rattle.std.proofs.Common.{drop, true, not, ◌&&◌, ◌||◌, Contains, IsFalse, refl, nat_eq, arith}
 use Rattle.std.specs.Prelude.{Some, None, IsUtf8}

@@ -1,4 +1,4 @@
--- Which token stands at a byte, and the tokens along positions.
+-- Which token is at a byte, and the tokens along positions.
 use Rattle.std.proofs.Common.{◌≡◌, ◌≢◌, refl, ◌∙◌, ap, ℕ, ◌+◌, ◌<◌, List, [], ◌∷◌, ◌++◌, true, false, length, get_or, drop, cond, ◌||◌}
 use Rattle.std.proofs.Common.{◌&&◌, ◌==◌, nat_le}
 use Rattle.std.specs.Prelude.{if◌then◌else◌}

@@ -173,12 +173,11 @@ impl<'m, 'de> Input<'m, 'de> {
         }
         if self.escapes.mark < at {
             let rest = self.from(at);
-            if rest.len() < 32
-                || u8x32::from_slice(rest)
-                    .simd_eq(u8x32::splat(b'\\'))
-                    .to_bitmask()
-                    != 0
-            {
+            if rest.len() < 32 {
+                return true;
+            }
+            let backslashes = u8x32::from_slice(rest).simd_eq(u8x32::splat(b'\\'));
+            if backslashes.to_bitmask() != 0 {
                 return true;
             }
             self.escapes = self.escapes_from(at);

@@ -153,7 +153,6 @@ impl<'de> Machine<'_, 'de> {
     // Reads on after a member of a container of this kind: a comma and the first token of the next
     // member, or the closing bracket.
     #[inline(always)]
-    #[tactic(auto, unfolding(crate::specs::NodesEnough::nodes_enough))]
     fn after_member<K: Original, S: NodeSink<'de>>(
         &self,
         route: Route,
@@ -182,7 +181,6 @@ impl<'de> Machine<'_, 'de> {
     // Closes containers up to the next comma and reads the token after it, or reports the end of
     // the root. Does nothing in a container that was just opened.
     #[inline(always)]
-    #[tactic(auto, unfolding(crate::specs::NodesEnough::nodes_enough))]
     fn next_member<K: Original, S: NodeSink<'de>>(
         &self,
         route: Route,

@@ -10,23 +10,21 @@ use Rattle.simd_json_stages.proofs.stage2.copy_for.Goals.{else-last-ne93-via-the
 use Rattle.simd_json_stages.proofs.stage2.copy_for.Goals.{else-last-ne93-via-else-last-ne93}
 
 pub overflow_sub-last : goal.overflow_sub-last
-overflow_sub-last c = omega (arith, some-listed c.args.input.now c.args.scanned.structural_indexes.now c.requires.positions c.requires.whole)
+overflow_sub-last c = omega (arith, some-listed _ _ c.requires.positions c.requires.whole)
 
 pub bounds-indexes-indexes : goal.bounds-indexes-indexes
-bounds-indexes-indexes c = omega (arith, some-listed c.args.input.now c.args.scanned.structural_indexes.now c.requires.positions c.requires.whole)
+bounds-indexes-indexes c = omega (arith, some-listed _ _ c.requires.positions c.requires.whole)
 
 pub bounds-input-indexes : goal.bounds-input-indexes
 bounds-input-indexes c =
-    inside c.args.input.now c.args.scanned.structural_indexes.now c.requires.positions _
-    (omega (arith, some-listed c.args.input.now c.args.scanned.structural_indexes.now c.requires.positions c.requires.whole))
+    inside _ _ c.requires.positions _ (omega (arith, some-listed _ _ c.requires.positions c.requires.whole))
 
 pub returns-then-is_empty : goal.returns-then-is_empty
 returns-then-is_empty c =
     let b = c.args.input.now in
     let i = slice_index c.args.scanned.structural_indexes.now (length c.args.scanned.structural_indexes.now - 1) in
     let byte = get_or_default b i 0 32
-    (inside b c.args.scanned.structural_indexes.now c.requires.positions _
-    (omega (arith, some-listed b c.args.scanned.structural_indexes.now c.requires.positions c.requires.whole))) in
+    (inside _ _ c.requires.positions _ (omega (arith, some-listed _ _ c.requires.positions c.requires.whole))) in
     record {
       positions = c.requires.positions;
       whole = c.requires.whole;

@@ -65,4 +65,5 @@ returns-clause-put g c =
     let given = c.requires in
     let v = c.in-Some.value in
     static-put (boolean v) (fixed.Bool v) (c.args.p.at + cond v 4 5) given.at.input
-    (form_at-boolean v b c.from-rest.result.now c.args.p.at (sym (c.from-rest.ensures b given.at.input)) c.in-Some.ensures) refl c.push_static-in-Some.ensures.put
+    (form_at-boolean v b c.from-rest.result.now c.args.p.at (sym (c.from-rest.ensures b given.at.input)) c.in-Some.ensures)
+    refl c.push_static-in-Some.ensures.put

@@ -1,11 +1,11 @@
 use Rattle.std.proofs.Common.{sym, subst}
 use Rattle.simd_json_stages.specs.Inputs.{Reads}
-use Rattle.simd_json_stages.proofs.stage2.input.Input.may_have_escape.Goals.{then-self-at+else-rest-lt32+else-rest-ne0, else-self-at}
+use Rattle.simd_json_stages.proofs.stage2.input.Input.may_have_escape.Goals.{then-self-at+else-rest-lt32+else-backslashes-ne0, else-self-at}
 use Rattle.simd_json_stages.proofs.stage2.input.Input.may_have_escape.Goals as goal
 
 pub returns-clause-reads : goal.returns-clause-reads
 returns-clause-reads c b reads = elim c.if-self-at.branch [
-  | then-self-at+else-rest-lt32+else-rest-ne0 w ↦ subst (λ t. Reads b t c.args.at) (sym w.self-is) (record {
+  | then-self-at+else-rest-lt32+else-backslashes-ne0 w ↦ subst (λ t. Reads b t c.args.at) (sym w.self-is) (record {
     fits = reads.fits;
     end = reads.end;
     whole = reads.whole;
