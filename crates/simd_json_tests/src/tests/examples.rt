@@ -1,5 +1,6 @@
 // The examples of the README, of the entry points and of the views, as they stand there.
 use crate::tests::tape_of;
+use simd_json::{Container, ListSink, NodeSink};
 
 mod first_call {
     use simd_json::{Result, to_tape};
@@ -109,6 +110,56 @@ mod entry_points {
     }
 }
 
+mod sinks {
+    use simd_json::{Container, NodeSink, StaticNode};
+
+    // Counts strings and keys, and hands all nodes on.
+    #[derive(Drop)]
+    pub(super) struct StringCounter<S> {
+        pub(super) strings: usize,
+        pub(super) nodes: S,
+    }
+
+    impl<'de, S: NodeSink<'de>> NodeSink<'de> for StringCounter<S> {
+        ghost held_nodes = { λ s. S.held_nodes s.nodes };
+
+        ghost node_room = { λ s. S.node_room s.nodes };
+
+        ghost Lender = { S.Lender };
+
+        ghost lender = { λ s. S.lender s.nodes };
+
+        fn push_string(&mut self, string: &'de str) {
+            self.strings = self.strings.saturating_add(1);
+            self.nodes.push_string(string);
+        }
+
+        fn push_decimal(&mut self, literal: &'de str) {
+            self.nodes.push_decimal(literal);
+        }
+
+        fn push_static(&mut self, value: StaticNode) {
+            self.nodes.push_static(value);
+        }
+
+        fn push_header(&mut self, container: Container) {
+            self.nodes.push_header(container);
+        }
+
+        fn set_counts(&mut self, header: usize, container: Container, len: usize, count: usize) {
+            self.nodes.set_counts(header, container, len, count);
+        }
+
+        fn len(&self) -> usize {
+            self.nodes.len()
+        }
+
+        fn starts_with_header(&self) -> bool {
+            self.nodes.starts_with_header()
+        }
+    }
+}
+
 mod views {
     use simd_json::TryTypeError;
     use simd_json::tape::Value;
@@ -163,4 +214,19 @@ fn entry_points_are_used_as_shown(rt: HostRuntime) {
     assert_same!(&rt; entry_points::count_in_place(&rt), Ok(30));
     assert_same!(&rt; entry_points::read_twice(&rt), Ok(3));
     assert_same!(&rt; entry_points::read_padded(&rt), Ok(1));
+}
+
+#[test]
+fn a_sink_counts_strings(rt: HostRuntime) {
+    let mut list = Vec::with_capacity(rt.alloc(), 3).expect(&rt, "there is memory");
+    let mut counter = sinks::StringCounter {
+        strings: 0,
+        nodes: ListSink { list: &mut list },
+    };
+    counter.push_header(Container::Object);
+    counter.push_string("name");
+    counter.push_string("tape");
+    counter.set_counts(0, Container::Object, 1, 2);
+    assert_same!(&rt; counter.strings, 2);
+    assert_same!(&rt; counter.len(), 3);
 }
