@@ -17,7 +17,7 @@ pub fn put_excerpt<T: Target, const SIZE: usize>(
     byte: usize,
     width: usize,
 )
-    ensures { Adds T.place text.old text.new (excerpt width input.now byte) }
+    ensures { Adds T.state text.old text.new (excerpt width input.now byte) }
 {
     let place = byte.min(input.len());
     let (before, after) = input.split_at(place);
@@ -124,7 +124,7 @@ fn begins_character(byte: u8) -> bool
 
 // Puts the text of the bytes, all of it visible.
 fn put_shown<T: Target, const SIZE: usize>(text: &mut Text<'_, T, SIZE>, bytes: &[u8])
-    ensures { Adds T.place text.old text.new (shown bytes.now) }
+    ensures { Adds T.state text.old text.new (shown bytes.now) }
 {
     for chunk in bytes.utf8_chunks() {
         put_visible(text, chunk.valid());
@@ -135,7 +135,7 @@ fn put_shown<T: Target, const SIZE: usize>(text: &mut Text<'_, T, SIZE>, bytes: 
 }
 
 fn put_visible<T: Target, const SIZE: usize>(text: &mut Text<'_, T, SIZE>, characters: &str)
-    ensures { Adds T.place text.old text.new (visible_text (chars characters.now)) }
+    ensures { Adds T.state text.old text.new (visible_text (chars characters.now)) }
 {
     for c in characters.chars() {
         text.put(visible(c).encode_utf8(&mut [0; 4]).as_bytes());
@@ -150,7 +150,7 @@ fn visible(c: char) -> char
 }
 
 fn put_spaces<T: Target, const SIZE: usize>(text: &mut Text<'_, T, SIZE>, count: usize)
-    ensures { Adds T.place text.old text.new (repeat count (space ∷ [])) }
+    ensures { Adds T.state text.old text.new (repeat count (space ∷ [])) }
 {
     let mut left = count;
     while left > 0 {

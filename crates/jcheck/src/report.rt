@@ -145,9 +145,9 @@ fn put_input<T: Target, const SIZE: usize>(
 ) -> Result<bool, AllocError>
     ensures clean { IfOk result (λ clean. is_some text.new.fault ≡ false
         → clean ≡ is_clean input.now has_lines checker.old.buffers.limit) }
-    ensures put { OnOk result (Adds T.place text.old text.new
+    ensures put { OnOk result (Adds T.state text.old text.new
         (output_of file.now input.now has_lines width checker.old.buffers.limit)) }
-    ensures stopped { OnErr result (HasPart T.place text.old text.new
+    ensures stopped { OnErr result (HasPart T.state text.old text.new
         (output_of file.now input.now has_lines width checker.old.buffers.limit)) }
     ensures limit { checker.new.buffers.limit ≡ checker.old.buffers.limit }
 {
@@ -168,9 +168,9 @@ fn put_whole<T: Target, const SIZE: usize>(
 ) -> Result<bool, AllocError>
     ensures clean { IfOk result (λ clean. clean
         ≡ is_none (found_in input.now checker.old.buffers.limit)) }
-    ensures put { OnOk result (Adds T.place text.old text.new
+    ensures put { OnOk result (Adds T.state text.old text.new
         (whole_text file.now width input.now (found_in input.now checker.old.buffers.limit))) }
-    ensures stopped { OnErr result (HasPart T.place text.old text.new
+    ensures stopped { OnErr result (HasPart T.state text.old text.new
         (whole_text file.now width input.now (found_in input.now checker.old.buffers.limit))) }
     ensures limit { checker.new.buffers.limit ≡ checker.old.buffers.limit }
 {
@@ -196,9 +196,9 @@ fn put_lines<T: Target, const SIZE: usize>(
 ) -> Result<bool, AllocError>
     ensures clean { IfOk result (λ clean. is_some text.new.fault ≡ false
         → clean ≡ list_all (is_clean_line checker.old.buffers.limit) (pieces input.now)) }
-    ensures put { OnOk result (Adds T.place text.old text.new
+    ensures put { OnOk result (Adds T.state text.old text.new
         (lines_text file.now width checker.old.buffers.limit 1 0 (pieces input.now))) }
-    ensures stopped { OnErr result (HasPart T.place text.old text.new
+    ensures stopped { OnErr result (HasPart T.state text.old text.new
         (lines_text file.now width checker.old.buffers.limit 1 0 (pieces input.now))) }
     ensures limit { checker.new.buffers.limit ≡ checker.old.buffers.limit }
 {
@@ -233,10 +233,10 @@ fn put_line<T: Target, const SIZE: usize>(
 ) -> Result<bool, AllocError>
     ensures clean { IfOk result (λ clean. clean
         ≡ is_clean_line checker.old.buffers.limit line.now) }
-    ensures put { OnOk result (Adds T.place text.old text.new
+    ensures put { OnOk result (Adds T.state text.old text.new
         (line_text start.entry.file.now width checker.old.buffers.limit
         start.entry.line start.entry.byte line.now)) }
-    ensures none { OnErr result (Adds T.place text.old text.new []) }
+    ensures none { OnErr result (Adds T.state text.old text.new []) }
     ensures limit { checker.new.buffers.limit ≡ checker.old.buffers.limit }
 {
     if is_blank(line) {
@@ -275,10 +275,10 @@ impl Place<'_> {
         location: &Location,
         width: usize,
     ) -> Result<(), AllocError>
-        ensures put { OnOk result (Adds T.place text.old text.new
+        ensures put { OnOk result (Adds T.state text.old text.new
             (report self.entry.file.now width self.entry.line self.entry.byte
             checked.now location.now)) }
-        ensures none { OnErr result (Adds T.place text.old text.new []) }
+        ensures none { OnErr result (Adds T.state text.old text.new []) }
     {
         let words = self.words(alloc, location)?;
         text.put(words.as_bytes());

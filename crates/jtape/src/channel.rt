@@ -91,7 +91,7 @@ impl<W: Write> Target for Channel<W> {
     ghost use Rattle.std.specs.Prelude.{◌≡◌, Some};
     ghost use Rattle.simd_json_print.specs.Texts.{Takes};
 
-    ghost place = { λ channel. record { held = W.contents channel.inner; failed = Some channel.failed } };
+    ghost state = { λ channel. record { held = W.contents channel.inner; failed = Some channel.failed } };
 
     fn take_some(&mut self, bytes: &[u8]) -> io::Result<usize>
         ensures takes { Takes (record { held = W.contents self.old.inner; failed = Some self.old.failed })

@@ -60,9 +60,9 @@ fn put_stream<A: Allocator + Copy, T: Target, const SIZE: usize>(
 ) -> Result<bool, RunFault>
     ensures clean { IfOk result (λ clean. is_some text.new.fault ≡ false
         → clean ≡ all_clean depth (pieces input.old)) }
-    ensures put { OnOk result (Adds T.place text.old text.new (pieces_text depth (pieces input.old))) }
+    ensures put { OnOk result (Adds T.state text.old text.new (pieces_text depth (pieces input.old))) }
     ensures fault { IfErr result (λ fault. fault ≡ lacks_memory) }
-    ensures stopped { OnErr result (HasPut T.place text.old text.new depth input.old) }
+    ensures stopped { OnErr result (HasPut T.state text.old text.new depth input.old) }
 {
     let mut stream = Stream::new(a, depth)?;
     let mut all_clean = true;
@@ -110,9 +110,9 @@ impl<'de, A: Allocator> Stream<'de, A> {
         text: &mut Text<'_, T, SIZE>,
     ) -> Result<bool, AllocError>
         ensures clean { IfOk result (λ clean. clean ≡ is_clean self.old.buffers.limit piece.old) }
-        ensures put { OnOk result (Adds T.place text.old text.new
+        ensures put { OnOk result (Adds T.state text.old text.new
             (piece_text self.old.buffers.limit piece.old)) }
-        ensures none { OnErr result (Adds T.place text.old text.new []) }
+        ensures none { OnErr result (Adds T.state text.old text.new []) }
         ensures limit { self.new.buffers.limit ≡ self.old.buffers.limit }
     {
         if is_blank(piece) {

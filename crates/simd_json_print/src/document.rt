@@ -7,8 +7,7 @@ ghost use Rattle.simd_json_parts.specs.Document.{Document};
 ghost use Rattle.simd_json_parts.specs.Listing.{listing};
 ghost use Rattle.simd_json_parts.specs.Nodes.{item_of};
 ghost use Rattle.simd_json_parts.specs.Printed.{compact, pretty, quoted};
-ghost use Rattle.simd_json_print.specs.Texts.{Adds, AddsSome, IsLonger};
-ghost use Rattle.simd_json_print.specs.Prefix.{IsPrefix};
+ghost use Rattle.simd_json_print.specs.Texts.{Adds, AddsSome, IsLonger, IsPrefix};
 
 mod scalar;
 mod walk;
@@ -27,18 +26,18 @@ const PIECE: usize = 4096;
 
 /// Puts the compact text of the document that the nodes list.
 pub fn put_compact<T: Target, const SIZE: usize>(out: &mut Text<'_, T, SIZE>, nodes: &[Node<'_>])
-    ensures kept { AddsSome T.place out.old out.new }
+    ensures kept { AddsSome T.state out.old out.new }
     ensures given { (d : Document) → map item_of nodes.now ≡ listing d
-        → Adds T.place out.old out.new (compact d) }
+        → Adds T.state out.old out.new (compact d) }
 {
     put_value::<T, SIZE, false>(out, nodes, 0);
 }
 
 /// Puts the pretty text of the document that the nodes list.
 pub fn put_pretty<T: Target, const SIZE: usize>(out: &mut Text<'_, T, SIZE>, nodes: &[Node<'_>])
-    ensures kept { AddsSome T.place out.old out.new }
+    ensures kept { AddsSome T.state out.old out.new }
     ensures given { (d : Document) → map item_of nodes.now ≡ listing d
-        → Adds T.place out.old out.new (pretty d) }
+        → Adds T.state out.old out.new (pretty d) }
 {
     put_value::<T, SIZE, true>(out, nodes, 0);
 }

@@ -4,4 +4,4 @@ use Rattle.jcheck.proofs.excerpt.put_shown.Given as goal
 use Rattle.jcheck.specs.Excerpts.{shown}
 
 abbrev pub invariant-loop-chunk : goal.invariant-loop-chunk
-invariant-loop-chunk g l = IsDone g.T.Target.place l.fn.text l.text (shown (utf8_chunks_rest l.chunk-iterator)) (shown l.fn.bytes)
+invariant-loop-chunk g l = IsDone g.T.Target.state l.fn.text l.text (shown (utf8_chunks_rest l.chunk-iterator)) (shown l.fn.bytes)

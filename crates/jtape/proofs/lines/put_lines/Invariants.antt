@@ -5,4 +5,4 @@ use Rattle.jtape.specs.Lines.{line}
 use Rattle.jtape.proofs.lines.put_lines.Given as goal
 
 abbrev pub invariant-loop-node : goal.invariant-loop-node
-invariant-loop-node g l = Adds g.T.Target.place l.fn.text l.text (flat_map (λ node. line (item_of node)) (take l.node-index l.nodes))
+invariant-loop-node g l = Adds g.T.Target.state l.fn.text l.text (flat_map (λ node. line (item_of node)) (take l.node-index l.nodes))

@@ -1,7 +1,7 @@
 use Rattle.std.proofs.Common.{◌≡◌, ◌∙◌, [], ap, rules, subst, sym}
 use Rattle.std.specs.Io.KnownBytes.{Appends}
 use Rattle.std.specs.Prelude.{IfOk, Some}
-use Rattle.simd_json_print.specs.Texts.{Place}
+use Rattle.simd_json_print.specs.Texts.{TargetState}
 use Rattle.simd_json_print.proofs.Texts.{ended-failed, ended-sound}
 use Rattle.log_report.specs.Report.{refusal_line}
 use Rattle.log_report.specs.Runs.{Begins, IsRefused, fault_of}
@@ -12,7 +12,7 @@ use Rattle.log_report.proofs.Lines.refuse.Goals as goal
 
 pub returns-then-is_err : goal.returns-then-is_err
 returns-then-is_err g c = λ sound.
-    let start : Place = record { held = g.E.Write.contents c.args.err.now.inner; failed = Some c.args.err.now.failed } in
+    let start : TargetState = record { held = g.E.Write.contents c.args.err.now.inner; failed = Some c.args.err.now.failed } in
     let line = c.as_slice.ensures.value
     ∙ subst (λ r. IfOk r (λ line. line.items ≡ refusal_line c.args.self.now.longest c.args.self.now.number c.args.error))
     (mapped c.refusal.result c.map_err.result _ _ c.map_err.ensures.cases c.in_ok-line.was) c.refusal.ensures in
@@ -25,7 +25,7 @@ returns-then-is_err g c = λ sound.
 
 pub returns-in_err-add : goal.returns-in_err-add
 returns-in_err-add g c = λ sound.
-    let start : Place = record { held = g.E.Write.contents c.args.err.now.inner; failed = Some c.args.err.now.failed } in
+    let start : TargetState = record { held = g.E.Write.contents c.args.err.now.inner; failed = Some c.args.err.now.failed } in
     let line = c.as_slice.ensures.value
     ∙ subst (λ r. IfOk r (λ line. line.items ≡ refusal_line c.args.self.now.longest c.args.self.now.number c.args.error))
     (mapped c.refusal.result c.map_err.result _ _ c.map_err.ensures.cases c.in_ok-line.was) c.refusal.ensures in
@@ -44,7 +44,7 @@ returns-in_err-add g c = λ sound.
 
 pub returns : goal.returns
 returns g c = λ sound.
-    let start : Place = record { held = g.E.Write.contents c.args.err.now.inner; failed = Some c.args.err.now.failed } in
+    let start : TargetState = record { held = g.E.Write.contents c.args.err.now.inner; failed = Some c.args.err.now.failed } in
     let line = c.as_slice.ensures.value
     ∙ subst (λ r. IfOk r (λ line. line.items ≡ refusal_line c.args.self.now.longest c.args.self.now.number c.args.error))
     (mapped c.refusal.result c.map_err.result _ _ c.map_err.ensures.cases c.in_ok-line.was) c.refusal.ensures in

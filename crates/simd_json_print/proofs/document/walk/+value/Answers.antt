@@ -44,10 +44,10 @@ put_container-loop-nesting-preserved-then-left-nesting g t c =
     let outer = l.nesting.count - 1 in
     let bracket = cond (get_or l.nesting.are_objects outer false) right_brace right_bracket ∷ [] in
     let depth = c.args.depth + outer in
-    let before_end : Adds g.T.Target.place m.new.out c.if-this-ne0.out (line pretty depth) = elim c.if-this-ne0.branch [
-      | put_container-then-this-ne0 w ↦ subst (λ s. Adds g.T.Target.place m.new.out s (line pretty depth)) (sym w.out-is)
+    let before_end : Adds g.T.Target.state m.new.out c.if-this-ne0.out (line pretty depth) = elim c.if-this-ne0.branch [
+      | put_container-then-this-ne0 w ↦ subst (λ s. Adds g.T.Target.state m.new.out s (line pretty depth)) (sym w.out-is)
           (adds-a-line _ _ depth _ _ w.if-this-ne0.true w.put_new_line.ensures)
-      | put_container-else-this-ne0 w ↦ subst (λ s. Adds g.T.Target.place m.new.out s (line pretty depth)) (sym w.out-is)
+      | put_container-else-this-ne0 w ↦ subst (λ s. Adds g.T.Target.state m.new.out s (line pretty depth)) (sym w.out-is)
           (adds-no-line _ _ depth _ w.if-this-ne0.false)
     ] in
     let ended : c.if-ends_object.put.now ≡ bracket = elim c.if-ends_object.branch [

@@ -11,12 +11,12 @@ const MARKS: usize = 8;
 
 // The bytes that are not written yet, at most `SIZE`.
 #[derive(Drop)]
-pub(super) struct Pieces<const SIZE: usize> {
+pub(super) struct Collected<const SIZE: usize> {
     bytes: [u8; SIZE],
     used: usize,
 }
 
-impl<const SIZE: usize> Model for Pieces<SIZE> {
+impl<const SIZE: usize> Model for Collected<SIZE> {
     ghost use Rattle.std.specs.Prelude.{List, ℕ, ◌≤◌, take};
 
     ghost Value = { List ℕ };
@@ -26,11 +26,11 @@ impl<const SIZE: usize> Model for Pieces<SIZE> {
     ghost invariant = { λ p. p.used ≤ SIZE };
 }
 
-impl<const SIZE: usize> Pieces<SIZE> {
-    pub(super) fn new() -> Pieces<SIZE>
+impl<const SIZE: usize> Collected<SIZE> {
+    pub(super) fn new() -> Collected<SIZE>
         ensures { result ≡ [] }
     {
-        Pieces {
+        Collected {
             bytes: [0; SIZE],
             used: 0,
         }
