@@ -85,14 +85,6 @@ write-more n a b c sent left rest whole t some is p all same = (
 
 -- ---- texts
 
-pub adds-then : {T : Type 0} {size : ℕ} (state : T → TargetState) (a b c : Text T size) (xs ys : List ℕ) → Adds state a b xs → Adds state b c ys
-    → Adds state a c (xs ++ ys)
-adds-then state a b c xs ys g h = record {
-  same_target = h.same_target ∙ g.same_target;
-  given = λ start before is.
-      subst (λ us. HasGiven state start c us) (append_assoc before xs ys) (h.given start (before ++ xs) (g.given start before is));
-}
-
 left-of : {E : Type 0} (o : Option E) (collected left : List ℕ) → is_some o ≡ false → IsLeft o collected left → left ≡ collected
 left-of None collected left off is = is
 left-of (Some e) collected left off is = cc
@@ -113,104 +105,107 @@ ended : (b : Bool) (o : Option Bool) → b ≡ true → failed_or b o ≡ option
 ended true o is = refl
 ended false o is = cc
 
--- what fits is collected, or dropped after a failure
-pub adds-collected : {T : Type 0} {size : ℕ} (state : T → TargetState) (old new : Text T size) (bytes : List ℕ) → new.target ≡ old.target
-    → new.fault ≡ old.fault → new.collected ≡ old.collected ++ bytes → Adds state old new bytes
-adds-collected state old new bytes target fault all = record {
-  same_target = ap (λ o. o.ghost_name) target;
-  given = λ start before is. record {
-    sent = is.sent;
-    left = is.left ++ bytes;
-    is_left = more old.fault new.fault old.collected new.collected is.left fault all is.is_left;
-    taken = subst (λ o. Appends start.held (state o.now).held is.sent) (sym target) is.taken;
-    whole = sym (append_assoc is.sent is.left bytes) ∙ ap (λ us. us ++ bytes) is.whole;
-    failed = ap (λ o. (state o.now).failed) target ∙ is.failed ∙ ap (λ f. failed_or (is_some f) start.failed) (sym fault);
-  };
-}
-  where
-    more : {E : Type 0} (o p : Option E) (xs ys left : List ℕ) → p ≡ o → ys ≡ xs ++ bytes → IsLeft o xs left → IsLeft p ys (left ++ bytes)
-    more None None xs ys left same is l = ap (λ us. us ++ bytes) l ∙ sym is
-    more (Some e) None xs ys left same is l = cc
-    more o (Some e) xs ys left same is l = tt
+module _ {T : Type 0} {size : ℕ} (state : T → TargetState) where
+  pub adds-then : (a b c : Text T size) (xs ys : List ℕ) → Adds state a b xs → Adds state b c ys → Adds state a c (xs ++ ys)
+  adds-then a b c xs ys g h = record {
+    same_target = h.same_target ∙ g.same_target;
+    given = λ start before is.
+        subst (λ us. HasGiven state start c us) (append_assoc before xs ys) (h.given start (before ++ xs) (g.given start before is));
+  }
 
--- all was taken
-pub adds-taken : {T : Type 0} {size : ℕ} (state : T → TargetState) (old new : Text T size) (bytes chunk : List ℕ)
-    → new.target.ghost_name ≡ old.target.ghost_name → is_some old.fault ≡ false → is_some new.fault ≡ false
-    → chunk ≡ old.collected ++ bytes → new.collected ≡ [] → Appends (state old.target.now).held (state new.target.now).held chunk
-    → (state new.target.now).failed ≡ (state old.target.now).failed → Adds state old new bytes
-adds-taken state old new bytes chunk same sound new_sound all none taken failed = record {
-  same_target = same;
-  given = λ start before is. record {
-    sent = is.sent ++ chunk;
-    left = [];
-    is_left = is-left new.fault new.collected [] new_sound (sym none);
-    taken = appends-then start.held _ _ is.sent chunk is.taken taken;
-    whole = append-nil _
-        ∙ ap (λ us. is.sent ++ us) (all ∙ ap (λ us. us ++ bytes) (sym (left-of old.fault old.collected is.left sound is.is_left)))
-        ∙ sym (append_assoc is.sent is.left bytes) ∙ ap (λ us. us ++ bytes) is.whole;
-    failed = failed ∙ is.failed ∙ still _ start.failed sound ∙ sym (still _ start.failed new_sound);
-  };
-}
+  -- what fits is collected, or dropped after a failure
+  pub adds-collected : (old new : Text T size) (bytes : List ℕ) → new.target ≡ old.target → new.fault ≡ old.fault
+      → new.collected ≡ old.collected ++ bytes → Adds state old new bytes
+  adds-collected old new bytes target fault all = record {
+    same_target = ap (λ o. o.ghost_name) target;
+    given = λ start before is. record {
+      sent = is.sent;
+      left = is.left ++ bytes;
+      is_left = more old.fault new.fault old.collected new.collected is.left fault all is.is_left;
+      taken = subst (λ o. Appends start.held (state o.now).held is.sent) (sym target) is.taken;
+      whole = sym (append_assoc is.sent is.left bytes) ∙ ap (λ us. us ++ bytes) is.whole;
+      failed = ap (λ o. (state o.now).failed) target ∙ is.failed ∙ ap (λ f. failed_or (is_some f) start.failed) (sym fault);
+    };
+  }
+    where
+      more : {E : Type 0} (o p : Option E) (xs ys left : List ℕ) → p ≡ o → ys ≡ xs ++ bytes → IsLeft o xs left → IsLeft p ys (left ++ bytes)
+      more None None xs ys left same is l = ap (λ us. us ++ bytes) l ∙ sym is
+      more (Some e) None xs ys left same is l = cc
+      more o (Some e) xs ys left same is l = tt
 
--- a beginning was taken
-pub adds-failed : {T : Type 0} {size : ℕ} (state : T → TargetState) (old new : Text T size) (bytes chunk : List ℕ)
-    → new.target.ghost_name ≡ old.target.ghost_name → is_some old.fault ≡ false → is_some new.fault ≡ true
-    → chunk ≡ old.collected ++ bytes → HasFailed (state old.target.now) (state new.target.now) chunk → Adds state old new bytes
-adds-failed state old new bytes chunk same sound stopped all ends = record {
-  same_target = same;
-  given = λ start before is. record {
-    sent = is.sent ++ take ends.0.0 chunk;
-    left = drop ends.0.0 chunk;
-    is_left = any-left new.fault new.collected _ stopped;
-    taken = appends-then start.held _ _ is.sent (take ends.0.0 chunk) is.taken ends.0.1;
-    whole = append_assoc is.sent (take ends.0.0 chunk) (drop ends.0.0 chunk)
-        ∙ ap (λ us. is.sent ++ us) (take-append-drop ends.0.0 chunk ∙ all
-        ∙ ap (λ us. us ++ bytes) (sym (left-of old.fault old.collected is.left sound is.is_left)))
-        ∙ sym (append_assoc is.sent is.left bytes) ∙ ap (λ us. us ++ bytes) is.whole;
-    failed = ends.1 ∙ ap (option_map (λ _. true)) (is.failed ∙ still _ start.failed sound) ∙ sym (ended _ start.failed stopped);
-  };
-}
+  -- all was taken
+  pub adds-taken : (old new : Text T size) (bytes chunk : List ℕ) → new.target.ghost_name ≡ old.target.ghost_name
+      → is_some old.fault ≡ false → is_some new.fault ≡ false → chunk ≡ old.collected ++ bytes → new.collected ≡ []
+      → Appends (state old.target.now).held (state new.target.now).held chunk
+      → (state new.target.now).failed ≡ (state old.target.now).failed → Adds state old new bytes
+  adds-taken old new bytes chunk same sound new_sound all none taken failed = record {
+    same_target = same;
+    given = λ start before is. record {
+      sent = is.sent ++ chunk;
+      left = [];
+      is_left = is-left new.fault new.collected [] new_sound (sym none);
+      taken = appends-then start.held _ _ is.sent chunk is.taken taken;
+      whole = append-nil _
+          ∙ ap (λ us. is.sent ++ us) (all ∙ ap (λ us. us ++ bytes) (sym (left-of old.fault old.collected is.left sound is.is_left)))
+          ∙ sym (append_assoc is.sent is.left bytes) ∙ ap (λ us. us ++ bytes) is.whole;
+      failed = failed ∙ is.failed ∙ still _ start.failed sound ∙ sym (still _ start.failed new_sound);
+    };
+  }
 
--- what is given after a failure is dropped
-pub adds-dropped : {T : Type 0} {size : ℕ} (state : T → TargetState) (old : Text T size) (bytes : List ℕ) → is_some old.fault ≡ true
-    → Adds state old old bytes
-adds-dropped state old bytes stopped = record {
-  same_target = refl;
-  given = λ start before is. record {
-    sent = is.sent;
-    left = is.left ++ bytes;
-    is_left = any-left old.fault old.collected _ stopped;
-    taken = is.taken;
-    whole = sym (append_assoc is.sent is.left bytes) ∙ ap (λ us. us ++ bytes) is.whole;
-    failed = is.failed;
-  };
-}
+  -- a beginning was taken
+  pub adds-failed : (old new : Text T size) (bytes chunk : List ℕ) → new.target.ghost_name ≡ old.target.ghost_name
+      → is_some old.fault ≡ false → is_some new.fault ≡ true → chunk ≡ old.collected ++ bytes
+      → HasFailed (state old.target.now) (state new.target.now) chunk → Adds state old new bytes
+  adds-failed old new bytes chunk same sound stopped all ends = record {
+    same_target = same;
+    given = λ start before is. record {
+      sent = is.sent ++ take ends.0.0 chunk;
+      left = drop ends.0.0 chunk;
+      is_left = any-left new.fault new.collected _ stopped;
+      taken = appends-then start.held _ _ is.sent (take ends.0.0 chunk) is.taken ends.0.1;
+      whole = append_assoc is.sent (take ends.0.0 chunk) (drop ends.0.0 chunk)
+          ∙ ap (λ us. is.sent ++ us) (take-append-drop ends.0.0 chunk ∙ all
+          ∙ ap (λ us. us ++ bytes) (sym (left-of old.fault old.collected is.left sound is.is_left)))
+          ∙ sym (append_assoc is.sent is.left bytes) ∙ ap (λ us. us ++ bytes) is.whole;
+      failed = ends.1 ∙ ap (option_map (λ _. true)) (is.failed ∙ still _ start.failed sound) ∙ sym (ended _ start.failed stopped);
+    };
+  }
 
-pub adds-none : {T : Type 0} {size : ℕ} (state : T → TargetState) (a : Text T size) → Adds state a a []
-adds-none state a = record {
-  same_target = refl;
-  given = λ start before is. subst (λ us. HasGiven state start a us) (sym (append-nil before)) is;
-}
+  -- what is given after a failure is dropped
+  pub adds-dropped : (old : Text T size) (bytes : List ℕ) → is_some old.fault ≡ true → Adds state old old bytes
+  adds-dropped old bytes stopped = record {
+    same_target = refl;
+    given = λ start before is. record {
+      sent = is.sent;
+      left = is.left ++ bytes;
+      is_left = any-left old.fault old.collected _ stopped;
+      taken = is.taken;
+      whole = sym (append_assoc is.sent is.left bytes) ∙ ap (λ us. us ++ bytes) is.whole;
+      failed = is.failed;
+    };
+  }
 
-pub adds-is : {T : Type 0} {size : ℕ} (state : T → TargetState) (a b : Text T size) (xs ys : List ℕ) → xs ≡ ys → Adds state a b xs
-    → Adds state a b ys
-adds-is state a b xs ys is g = subst (λ us. Adds state a b us) is g
+  pub adds-none : (a : Text T size) → Adds state a a []
+  adds-none a = record {
+    same_target = refl;
+    given = λ start before is. subst (λ us. HasGiven state start a us) (sym (append-nil before)) is;
+  }
 
--- what is put after the target failed is dropped
-pub adds-lost : {T : Type 0} {size : ℕ} (state : T → TargetState) (a b : Text T size) (xs ys : List ℕ) → is_some b.fault ≡ true
-    → Adds state a b xs
-    → Adds state a b (xs ++ ys)
-adds-lost state a b xs ys stopped g = adds-then state a b b xs ys g (adds-dropped state b ys stopped)
+  pub adds-is : (a b : Text T size) (xs ys : List ℕ) → xs ≡ ys → Adds state a b xs → Adds state a b ys
+  adds-is a b xs ys is g = subst (λ us. Adds state a b us) is g
 
-pub some-none : {T : Type 0} {size : ℕ} (state : T → TargetState) (a : Text T size) → AddsSome state a a
-some-none state a = ([], adds-none state a)
+  -- what is put after the target failed is dropped
+  pub adds-lost : (a b : Text T size) (xs ys : List ℕ) → is_some b.fault ≡ true → Adds state a b xs → Adds state a b (xs ++ ys)
+  adds-lost a b xs ys stopped g = adds-then a b b xs ys g (adds-dropped b ys stopped)
 
-pub some-then : {T : Type 0} {size : ℕ} (state : T → TargetState) (a b c : Text T size) → AddsSome state a b → AddsSome state b c
-    → AddsSome state a c
-some-then state a b c g h = (g.0 ++ h.0, adds-then state a b c g.0 h.0 g.1 h.1)
+  pub some-none : (a : Text T size) → AddsSome state a a
+  some-none a = ([], adds-none a)
 
-pub adds-some : {T : Type 0} {size : ℕ} (state : T → TargetState) (a b : Text T size) (xs : List ℕ) → Adds state a b xs → AddsSome state a b
-adds-some state a b xs g = (xs, g)
+  pub some-then : (a b c : Text T size) → AddsSome state a b → AddsSome state b c → AddsSome state a c
+  some-then a b c g h = (g.0 ++ h.0, adds-then a b c g.0 h.0 g.1 h.1)
+
+  pub adds-some : (a b : Text T size) (xs : List ℕ) → Adds state a b xs → AddsSome state a b
+  adds-some a b xs g = (xs, g)
 
 -- ---- the end
 
@@ -286,6 +281,6 @@ ended-longer (Err e) a b bytes ends = (take ends.0.0 bytes, ends.0.1)
 
 -- ---- a list
 
-pub longer-prefix : (xs ys : List ℕ) → IsLonger (Some xs) (Some ys) → IsPrefix xs ys
+pub longer_prefix : (xs ys : List ℕ) → IsLonger (Some xs) (Some ys) → IsPrefix xs ys
 unfolding IsLonger
-longer-prefix xs ys more = ap (take (length xs)) more.1 ∙ take-append_seam xs more.0
+longer_prefix xs ys more = ap (take (length xs)) more.1 ∙ take-append_seam xs more.0

@@ -46,6 +46,7 @@ pub fn put_pretty<T: Target, const SIZE: usize>(out: &mut Text<'_, T, SIZE>, nod
 ///
 /// Returns an error if an allocation fails. `out` then has its old contents, and a part of the text
 /// may follow.
+#[tactic(auto, using(crate::proofs::Texts::longer_prefix))]
 pub fn append_compact<A: Allocator>(
     out: &mut Vec<u8, A>,
     nodes: &[Node<'_>],
@@ -61,6 +62,7 @@ pub fn append_compact<A: Allocator>(
 ///
 /// Returns an error if an allocation fails. `out` then has its old contents, and a part of the text
 /// may follow.
+#[tactic(auto, using(crate::proofs::Texts::longer_prefix))]
 pub fn append_pretty<A: Allocator>(
     out: &mut Vec<u8, A>,
     nodes: &[Node<'_>],
@@ -111,6 +113,7 @@ pub fn write_pretty<W: Write>(writer: &mut W, nodes: &[Node<'_>]) -> io::Result<
 ///
 /// Returns an error if an allocation fails. `out` then has its old contents, and a part of the
 /// string may follow.
+#[tactic(auto, using(crate::proofs::Texts::longer_prefix))]
 pub fn append_quoted<A: Allocator>(
     out: &mut Vec<u8, A>,
     string: &str,
