@@ -35,10 +35,8 @@ last-from n (x ∷ s) (suc k) many few =
 first-stops : (n : ℕ) (x : ℕ) (s : List ℕ) → begins_character x ≡ true → n ≡ 0 → first_characters n (x ∷ s) ≡ []
 first-stops n x s begins none = grind arith
 
-first-goes : (n : ℕ) (x : ℕ) (s : List ℕ) → begins_character x ≡ true → 0 < n
-    → first_characters n (x ∷ s) ≡ x ∷ first_characters (n - 1) s
+first-goes : (n : ℕ) (x : ℕ) (s : List ℕ) → begins_character x ≡ true → 0 < n → first_characters n (x ∷ s) ≡ x ∷ first_characters (n - 1) s
 first-goes n x s begins some = grind arith
 
-first-stays : (n : ℕ) (x : ℕ) (s : List ℕ) → begins_character x ≡ false
-    → first_characters n (x ∷ s) ≡ x ∷ first_characters n s
+first-stays : (n : ℕ) (x : ℕ) (s : List ℕ) → begins_character x ≡ false → first_characters n (x ∷ s) ≡ x ∷ first_characters n s
 first-stays n x s later = grind arith

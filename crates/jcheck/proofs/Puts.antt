@@ -1,5 +1,6 @@
 -- What is put of the parts of a text, one after another.
-use Rattle.std.proofs.Common.{◌≡◌, ◌∙◌, refl, ap, sym, subst, Bool, true, false, ◌&&◌, ℕ, ◌+◌, List, [], ◌∷◌, ◌++◌, append-nil, append_assoc, length}
+use Rattle.std.proofs.Common.{◌≡◌, ◌∙◌, refl, ap, sym, subst, Bool, true, false, ◌&&◌, ℕ, ◌+◌, List, [], ◌∷◌, ◌++◌, append-nil}
+use Rattle.std.proofs.Common.{append_assoc, length}
 use Rattle.std.specs.Prelude.{is_some}
 use Rattle.std.specs.List.{list_all}
 use Rattle.jcheck.specs.Reports.{is_clean_line, line_text, lines_text}
@@ -53,8 +54,7 @@ nothing-put whole none = record { part = []; rest = whole; whole = refl; put = n
 -- ---- lines
 
 pub line-more : (file : List ℕ) (width limit number start next after : ℕ) (line : List ℕ) (more all : List (List ℕ)) → all ≡ line ∷ more
-    → next ≡ number + 1 → after ≡ start + length line + 1
-    → lines_text file width limit number start all
+    → next ≡ number + 1 → after ≡ start + length line + 1 → lines_text file width limit number start all
     ≡ line_text file width limit number start line ++ lines_text file width limit next after more
 line-more file width limit number start next after line more all cut is at =
     ap (lines_text file width limit number start) cut

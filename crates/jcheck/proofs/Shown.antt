@@ -1,5 +1,6 @@
 -- What is put of the text of some bytes, a run of UTF-8 after another.
-use Rattle.std.proofs.Common.{◌≡◌, ◌∙◌, refl, ap, sym, arith, ℕ, zero, suc, ◌-◌, ◌<◌, List, [], ◌∷◌, ◌++◌, map, length, drop, append-nil, append_assoc}
+use Rattle.std.proofs.Common.{◌≡◌, ◌∙◌, refl, ap, sym, arith, ℕ, zero, suc, ◌-◌, ◌<◌, List, [], ◌∷◌, ◌++◌, map, length, drop, append-nil}
+use Rattle.std.proofs.Common.{append_assoc}
 use Rattle.std.specs.Prelude.{IsUtf8, encode_utf8, encode_utf8_all}
 use Rattle.std.specs.List.{repeat}
 use Rattle.std.specs.Str.{chars}
@@ -32,8 +33,7 @@ shown-chunk bytes valid invalid rest text parts valid_len invalid_len some =
     ∙ sym (append_assoc (visible_text (chars valid)) replacement_bytes (shown rest))
 
 pub shown-last : (bytes valid invalid rest : List ℕ) → IsUtf8 valid → bytes ≡ valid ++ (invalid ++ rest)
-    → length valid ≡ utf8_valid_len bytes → length invalid ≡ 0 → length rest ≡ 0
-    → shown bytes ≡ visible_text (chars valid) ++ shown rest
+    → length valid ≡ utf8_valid_len bytes → length invalid ≡ 0 → length rest ≡ 0 → shown bytes ≡ visible_text (chars valid) ++ shown rest
 shown-last bytes valid invalid rest text parts valid_len no_invalid no_rest =
     ap (λ t. visible_text (chars t)) (utf8_lossy_last_chunk bytes valid invalid rest parts valid_len no_invalid no_rest)
     ∙ ap visible_text (chars-append valid (utf8_lossy rest) text)

@@ -25,8 +25,7 @@ words-laid-out : (file : List ℕ) (line byte : ℕ) (l : Location)
 words-laid-out file line byte l = simp append_assoc
 
 pub words-is : (file : List ℕ) (line byte : ℕ) (l : Location) (column : ℕ) (reason : Reason) (kind : ErrorType) → column ≡ l.column
-    → reason ≡ l.reason → kind ≡ l.error.error
-    → formatted file line column reason kind byte ≡ words file line byte l ++ line_feed ∷ []
+    → reason ≡ l.reason → kind ≡ l.error.error → formatted file line column reason kind byte ≡ words file line byte l ++ line_feed ∷ []
 words-is file line byte l column reason kind column_is reason_is kind_is =
     ap (λ n. formatted file line n reason kind byte) column_is
     ∙ ap (λ r. formatted file line l.column r kind byte) reason_is

@@ -1,7 +1,8 @@
 //! The text of a line around a place, and a caret under it.
 ghost use Rattle.std.specs.Prelude.{◌≡◌, ◌≤◌, ◌∷◌, [], chars, drop, length, take};
 ghost use Rattle.std.specs.List.{after_last, before_first, position_or_len, repeat};
-ghost use Rattle.jcheck.specs.Excerpts.{characters, excerpt, first_characters, last_characters, shown, visible, visible_text};
+ghost use Rattle.jcheck.specs.Excerpts.{characters, excerpt, first_characters, last_characters};
+ghost use Rattle.jcheck.specs.Excerpts.{shown, visible, visible_text};
 ghost use Rattle.simd_json.specs.Locations.{begins_character, is_line_feed};
 ghost use Rattle.simd_json_parts.specs.Bytes.{space};
 ghost use Rattle.simd_json_print.specs.Texts.{Adds};

@@ -1,9 +1,11 @@
 //! What is written about an input, and how the program ends.
-ghost use Rattle.std.specs.Prelude.{◌≡◌, ◌∷◌, ◌++◌, [], false, is_none, is_some, string_bytes, IfOk, IfErr, OnOk, OnErr};
+ghost use Rattle.std.specs.Prelude.{◌≡◌, ◌∷◌, ◌++◌, [], false, is_none, is_some, string_bytes};
+ghost use Rattle.std.specs.Prelude.{IfOk, IfErr, OnOk, OnErr};
 ghost use Rattle.std.specs.Io.KnownBytes.{Appends};
 ghost use Rattle.std.specs.List.{list_all};
 ghost use Rattle.jcheck.specs.Endings.{HasChecked, ended_of, is_closed, status_of, worse};
-ghost use Rattle.jcheck.specs.Reports.{is_clean, is_clean_line, line_text, lines_text, output_of, report, whole_text, words};
+ghost use Rattle.jcheck.specs.Reports.{is_clean, is_clean_line, line_text, lines_text, output_of};
+ghost use Rattle.jcheck.specs.Reports.{report, whole_text, words};
 ghost use Rattle.jcheck.specs.Writings.{HasPart, HasStopped};
 ghost use Rattle.jtape.specs.Pieces.{pieces};
 ghost use Rattle.simd_json.specs.Reasons.{found_in};

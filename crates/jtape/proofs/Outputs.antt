@@ -20,15 +20,13 @@ parsed-output layout b limit capacity nodes listed p = (p.parsed.document, p.par
 
 -- all of it is written
 pub all-written : {T E : Type 0} (r : Result T E) (P : Type 0) (a b : Option (List ℕ)) (bytes : List ℕ) (out : Output)
-    → out ≡ all_printed bytes → OnOk r P → OnOk r (Appends a b bytes)
-    → OnOk r (P × (out.returned ≡ Ok true) × Appends a b out.bytes)
+    → out ≡ all_printed bytes → OnOk r P → OnOk r (Appends a b bytes) → OnOk r (P × (out.returned ≡ Ok true) × Appends a b out.bytes)
 all-written (Ok x) P a b bytes out is p q = (p, ap (λ o. o.returned) is, subst (λ us. Appends a b us) (sym (ap (λ o. o.bytes) is)) q)
 all-written (Err e) P a b bytes out is p q = tt
 
 -- a beginning of it is
 pub begun-written : {T : Type 0} (r : Result T RunFault) (P : Type 0) (a b : Option (List ℕ)) (bytes : List ℕ) (out : Output)
-    → out ≡ all_printed bytes → IfErr r (λ fault. (fault ≡ Write) × P)
-    → OnErr r ((count : ℕ) × Appends a b (take count bytes))
+    → out ≡ all_printed bytes → IfErr r (λ fault. (fault ≡ Write) × P) → OnErr r ((count : ℕ) × Appends a b (take count bytes))
     → IfErr r (λ fault. fault ≡ Write → P × ((count : ℕ) × Appends a b (take count out.bytes)))
 begun-written (Ok x) P a b bytes out is p q = tt
 begun-written (Err e) P a b bytes out is p q =

@@ -14,9 +14,10 @@ use Rattle.jtape.specs.Streams.{HasPut, StopsWithin}
 use Rattle.jtape.specs.declared.runs.RunFault.{RunFault}
 use Rattle.jtape.specs.declared.runs.RunFault.TheVariants.{Write}
 use Rattle.jtape.proofs.Pieces.{pieces-some}
-use Rattle.simd_json_print.specs.Texts.{TargetState, IsLeft, failed_or, HasGiven, Adds, HasEnded}
+use Rattle.simd_json_print.specs.Texts.{TargetState, IsUnsent, failed_or, HasGiven, Adds, HasEnded}
 use Rattle.simd_json_print.specs.declared.text.Text.{Text}
-use Rattle.simd_json_print.proofs.Texts.{appends-none, adds-none, adds-is, adds-then, adds-lost, ended-sound, ended-failed}
+use Rattle.simd_json_print.proofs.Texts.{appends-none, adds-none, adds-is, adds-then, adds-lost, Ends, ended-sound, ended-failed}
+use Rattle.simd_json_print.proofs.Texts.{sound-text, take-front}
 
 -- All pieces but the later ones are done: their text was put, and whether they are clean is known.
 pub record AreDone {T : Type 0} {size : ℕ} (state : T → TargetState) (old new : Text T size) (depth : ℕ) (input : List ℕ) (later : List (List ℕ))
@@ -94,38 +95,6 @@ stops-at {state = state} {a = a} {b = b} {c = c} {piece = piece} {later = later}
 
 -- ---- at the end, of a port that had not failed
 
-some-is : {x y : Bool} → Some x ≡ Some y → x ≡ y
-some-is is = cc
-
-any-left : {E : Type 0} (o : Option E) (collected left : List ℕ) → is_some o ≡ true → IsLeft o collected left
-any-left None collected left off = cc
-any-left (Some e) collected left off = tt
-
--- what was given to the text since the target was anywhere is what it ends with
-abbrev pub Ends : {T E : Type 0} {size : ℕ} → (T → TargetState) → Result Unit E → Text T size → TargetState → Type 0
-Ends state r text end = (start : TargetState) (bytes : List ℕ) → HasGiven state start text bytes → HasEnded r start end bytes
-
--- nothing failed where the text ends well
-sound-text : {T E : Type 0} {size : ℕ} (state : T → TargetState) (r : Result Unit E) (start end : TargetState) (text : Text T size) (bytes : List ℕ)
-    (failed : Bool) → is_some text.fault ≡ failed → is_ok r ≡ true → start.failed ≡ Some false → HasGiven state start text bytes
-    → Ends state r text end → is_some text.fault ≡ false
-sound-text state r start end text bytes false is ok old given ends = is
-sound-text state (Err e) start end text bytes true is ok old given ends = cc
-sound-text state (Ok u) start end text bytes true is ok old given ends =
-    let here = state text.target.now in
-    let failed : here.failed ≡ Some true = given.failed ∙ ap (λ f. failed_or f start.failed) is ∙ ap (failed_or true) old in
-    let again : HasGiven state here text [] = record {
-      sent = [];
-      left = [];
-      is_left = any-left text.fault text.collected [] is;
-      taken = appends-none here.held;
-      whole = refl;
-      failed = failed ∙ sym (ap (λ f. failed_or f here.failed) is ∙ ap (failed_or true) failed);
-    } in
-    let one = (ends here [] again).1 ∙ failed in
-    let two = (ends start bytes given).1 ∙ old in
-    absurd (false≢true (some-is (sym two ∙ one)))
-
 pub stream-returned : {T E : Type 0} {size : ℕ} {state : T → TargetState} (r : Result Unit E) {start : TargetState} (end : TargetState) {a b : Text T size}
     (m : Result Bool RunFault) (depth : ℕ) (input : List ℕ) → is_ok r ≡ true → start.failed ≡ Some false → HasGiven state start a []
     → OnOk m (Adds state a b (pieces_text depth (pieces input)))
@@ -154,14 +123,6 @@ stream-stopped r holds new (Err fault) depth input ok sound given lacks put ends
     let front = pieces_text depth put.earlier in
     let all = ended-sound r _ _ _ _ front (ends _ front (put.put.given _ [] given)) sound ok in
     inl (lacks, all.0, record { earlier = put.earlier; piece = put.piece; later = put.later; cut = put.cut; written = all.1 })
-
--- a beginning of a beginning
-take-front : (n : ℕ) (front rest : List ℕ) → (count : ℕ) × (take n front ≡ take count (front ++ rest))
-take-front n front rest =
-    let begun = take n front in
-    let all : begun ++ (drop n front ++ rest) ≡ front ++ rest =
-    sym (append_assoc begun (drop n front) rest) ∙ ap (λ us. us ++ rest) (take-append-drop n front) in
-    (length begun, sym (ap (take (length begun)) (sym all) ∙ take-append_seam begun (drop n front ++ rest)))
 
 pub stream-begun : {T E : Type 0} {size : ℕ} {state : T → TargetState} (r : Result Unit E) {held : Option (List ℕ)} {old : Bool}
     (holds : Option (List ℕ)) (new : Bool) {a b : Text T size} (m : Result Bool RunFault) (depth : ℕ) (input : List ℕ)

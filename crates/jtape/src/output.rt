@@ -1,5 +1,6 @@
 //! From an input to its output.
-ghost use Rattle.std.specs.Prelude.{◌≡◌, ◌≢◌, ◌⊎◌, true, false, List, ℕ, map, take, IfErr, OnOk, OnErr, Ok};
+ghost use Rattle.std.specs.Prelude.{◌≡◌, ◌≢◌, ◌⊎◌, true, false, List, ℕ, map, take, IfErr, OnOk};
+ghost use Rattle.std.specs.Prelude.{OnErr, Ok};
 ghost use Rattle.std.specs.Io.KnownBytes.{Appends};
 ghost use Rattle.jtape.specs.Output.{document_output, printed, nothing_printed};
 ghost use Rattle.jtape.specs.Runs.{lacks_memory};

@@ -3,7 +3,8 @@ ghost use Rattle.std.specs.Prelude.{◌≡◌, ◌≢◌, ◌↔◌, ◌⊎◌, 
 ghost use Rattle.std.specs.Prelude.{true, false, IfOk, IfErr, OnOk, Err};
 ghost use Rattle.std.specs.Io.KnownBytes.{Consumes, IsAtEnd, Keeps};
 ghost use Rattle.jtape.specs.Failures.{status_of};
-ghost use Rattle.jtape.specs.Runs.{HasRead, HasRun, HasBegun, HasStopped, IsReadFault, OnAnswer, lacks_memory};
+ghost use Rattle.jtape.specs.Runs.{HasRead, HasRun, HasBegun, HasStopped, IsReadFault, OnAnswer};
+ghost use Rattle.jtape.specs.Runs.{lacks_memory};
 ghost use Rattle.jtape.specs.declared.runs.RunFault.TheVariants as faults;
 ghost use Rattle.jtape.specs.declared.words.Mode.TheVariants as modes;
 

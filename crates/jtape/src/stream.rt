@@ -4,10 +4,12 @@
 //! The parse of a line and the text of its error allocate before any byte of it is put. No contract
 //! can say at which line an allocation failed, since the allocator is not seen from outside; tests
 //! do.
-ghost use Rattle.std.specs.Prelude.{◌≡◌, ◌≢◌, ◌++◌, ◌∷◌, [], false, is_some, string_bytes, IfOk, IfErr, OnOk, OnErr, Err};
+ghost use Rattle.std.specs.Prelude.{◌≡◌, ◌≢◌, ◌++◌, ◌∷◌, [], false, is_some, string_bytes, IfOk};
+ghost use Rattle.std.specs.Prelude.{IfErr, OnOk, OnErr, Err};
 ghost use Rattle.std.specs.Io.KnownBytes.{Appends};
 ghost use Rattle.jtape.specs.Output.{stream_output};
-ghost use Rattle.jtape.specs.Pieces.{all_clean, answer_text, is_clean, piece_text, pieces, pieces_text};
+ghost use Rattle.jtape.specs.Pieces.{all_clean, answer_text, is_clean, piece_text, pieces};
+ghost use Rattle.jtape.specs.Pieces.{pieces_text};
 ghost use Rattle.jtape.specs.Runs.{lacks_memory};
 ghost use Rattle.jtape.specs.Streams.{HasPut, StopsWithin};
 ghost use Rattle.simd_json_parts.specs.Bytes.{line_feed};

@@ -20,8 +20,7 @@ answered b limit nodes d p is same =
     ap (answer b) (sym is) ∙ p.answered ∙ ap Ok (sym (known d p.document (same ∙ p.listed)))
 
 pub answered-error : (b : List ℕ) (limit capacity : ℕ) (e : Error) (nodes : List Item) (listed : List ℕ)
-    → IsParse b limit capacity (Some e) nodes listed
-    → HasMemory (Some e) → limit ≡ default_max_depth → answer b default_max_depth ≡ Err e
+    → IsParse b limit capacity (Some e) nodes listed → HasMemory (Some e) → limit ≡ default_max_depth → answer b default_max_depth ≡ Err e
 answered-error b limit capacity e nodes listed p has is =
     ap (answer b) (sym is) ∙ elim p.refused [ inl refused ↦ refused.answered | inr lacks ↦ absurd (has (ap Some lacks.0.0)) ]
 

@@ -95,9 +95,8 @@ abbrev ended : List ℕ → ℕ → State → Report
 ended key longest s = with_line key longest s.0 s.1
 
 ends-step : (key : List ℕ) (longest : ℕ) (r : Report) (p : List ℕ) (x : ℕ) (b : List ℕ) (feed : Bool) → has_none p ≡ true
-    → (x == line_feed) ≡ feed
-    → ((r : Report) (p : List ℕ) → has_none p ≡ true → with_lines key longest r (pieces (p ++ b)) ≡ ended key longest
-    (after key longest (r, p) b))
+    → (x == line_feed) ≡ feed → ((r : Report) (p : List ℕ) → has_none p ≡ true
+    → with_lines key longest r (pieces (p ++ b)) ≡ ended key longest (after key longest (r, p) b))
     → with_lines key longest r (pieces (p ++ x ∷ b)) ≡ ended key longest
     (after key longest (cond feed (with_line key longest r p, []) (r, p ++ x ∷ [])) b)
 ends-step key longest r p x b true none is more =

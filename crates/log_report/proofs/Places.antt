@@ -66,8 +66,7 @@ later n t e es i None is absent = record {
 later n t e es i (Some k) is (j, at_k, at) = (suc j, shift i j k at_k, later-at n t e es j is at)
 
 place-step : {A : Type 0} (n : ℕ) (t : List ℕ) (e : Entry A) (es : List (Entry A)) (i : ℕ) (r : Option ℕ) (b : Bool)
-    → bytes_eq t e.0.items ≡ b → IsPlace n t es (i + 1) r
-    → IsPlace n t (e ∷ es) i (cond b (Some i) r)
+    → bytes_eq t e.0.items ≡ b → IsPlace n t es (i + 1) r → IsPlace n t (e ∷ es) i (cond b (Some i) r)
 place-step n t e es i r true is _ = (0, omega arith, first-at n t e es is)
 place-step n t e es i r false is rest = later n t e es i r is rest
 
@@ -92,8 +91,7 @@ some-is is = cc
 
 -- the count that is there is this one
 pub more-at : {A : Type 0} (n : ℕ) (t : List ℕ) (es : List (Entry A)) (k count new : ℕ) → IsAt n t es k
-    → slice_get (values_of es) k ≡ Some count
-    → new ≡ plus n count → counts (set_value_at es k new) ≡ added n t (counts es)
+    → slice_get (values_of es) k ≡ Some count → new ≡ plus n count → counts (set_value_at es k new) ≡ added n t (counts es)
 more-at n t es k count new at is more =
     ap (λ m. counts (set_value_at es k m)) (more ∙ ap (plus n) (some-is (sym is ∙ at.is_there))) ∙ at.more
 

@@ -83,9 +83,10 @@ pub added-over : {A : Type 0} (old new : Lines A) (tape : Listed) (text : List �
 added-over {A} old new tape text more h = record
     { counts = h.counts; same = ap {A = Lines A} (λ (l : Lines A). record l { tape = tape }) h.same }
 
-pub shows-refused : {A E : Type 0} (naming : E → Option (List ℕ)) (old new : Lines A) (refusals refuses : Watched E) (held : Option (List ℕ))
-    (key : List ℕ) (longest : ℕ) (r : Report)
-    (error : Option Error) → Shows old held (naming refusals.inner) key longest r → IsRefused naming old new refusals refuses error
+pub shows-refused : {A E : Type 0} (naming : E
+    → Option (List ℕ)) (old new : Lines A) (refusals refuses : Watched E) (held : Option
+    (List ℕ)) (key : List ℕ) (longest : ℕ) (r : Report) (error : Option Error)
+    → Shows old held (naming refusals.inner) key longest r → IsRefused naming old new refusals refuses error
     → Shows new held (naming refuses.inner) key longest (with_refusal longest r error)
 shows-refused naming old new refusals refuses held key longest r error shown h = record {
   by_key = ap (λ l. l.key.now) h.same ∙ shown.by_key;

@@ -6,7 +6,8 @@ ghost use Rattle.std.specs.Prelude.{◌≡◌, false, IfOk, OnOk, map, option_ma
 ghost use Rattle.log_report.specs.Failures.{settings_of, line_of, status_of};
 ghost use Rattle.log_report.specs.declared.Failure.TheVariants.{Resources};
 ghost use Rattle.log_report.specs.Report.{refusal_line};
-ghost use Rattle.log_report.specs.Runs.{Adds, AddsValue, After, Ends, IsRefused, IsStart, Prints, Reports, TakesLine};
+ghost use Rattle.log_report.specs.Runs.{Adds, AddsValue, After, Ends, IsRefused, IsStart, Prints};
+ghost use Rattle.log_report.specs.Runs.{Reports, TakesLine};
 ghost use Rattle.log_report.specs.Runs.{Begins, BeginsBlock, BeginsLine, BeginsReport};
 
 use arrayvec::ArrayVec;

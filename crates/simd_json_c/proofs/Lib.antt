@@ -1,5 +1,4 @@
 mod Bounds
-mod Behind
 mod LooseValues
 mod HeldValues
 mod Laying

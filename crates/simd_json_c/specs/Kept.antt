@@ -39,8 +39,7 @@ abbrev pub IsCheckedWith : Option Lists → Option Lists → List ℕ → ℤ �
 IsCheckedWith old new b status place =
     IsCallWith old new status place ⊤ (λ was lists. IsTold (λ fault ns. IsReadWith was b fault ns lists) status place)
 
-abbrev pub IsTapeWith : Option Lists → Option Lists → List ℕ → ℤ → Place → Room → Room
-    → List Node → List Node → List ℕ → List ℕ → Type 0
+abbrev pub IsTapeWith : Option Lists → Option Lists → List ℕ → ℤ → Place → Room → Room → List Node → List Node → List ℕ → List ℕ → Type 0
 IsTapeWith old new b status place old_room room old_nodes nodes old_text text =
     IsCallWith old new status place ((room ≡ old_room) × (nodes ≡ old_nodes) × (text ≡ old_text))
     (λ was lists. IsLent (λ fault ns. IsReadWith was b fault ns lists) b status place old_room room old_nodes nodes old_text text)

@@ -4,7 +4,6 @@
 //! nothing for it. No export has a precondition.
 #![tactic(auto)]
 
-mod copies;
 mod nodes;
 mod parser;
 mod print;

@@ -1,12 +1,13 @@
 //! The printed text of a document. If the room is too small, only the needed size is written, so a
 //! text is made first and then copied.
 ghost use Rattle.std.specs.Prelude.{◌≤◌, IfOk, IfErr, length, string_bytes};
-ghost use Rattle.simd_json_c.specs.Calls.{IsCompact, IsPretty, IsPrinted, IsTextOf, IsTextPut, IsUnprinted};
+ghost use Rattle.simd_json_c.specs.Calls.{IsCompact, IsPretty, IsPrinted, IsTextOf, IsTextPut};
+ghost use Rattle.simd_json_c.specs.Calls.{IsUnprinted};
 ghost use Rattle.simd_json_parts.specs.Printed.{compact, pretty};
 
-use crate::copies::append;
 use crate::status::{Place, TOO_LITTLE_ROOM, reported};
 use simd_json::{Buffers, Result, to_tape_with_buffers};
+use simd_json_print::text::store_bytes;
 use std::alloc::Global;
 
 fn compact_text(alloc: Global, input: &mut [u8], max_depth: usize) -> Result<String>
@@ -34,7 +35,7 @@ fn lend_text(text: &[u8], out: &mut [u8], needed: &mut usize) -> i32
 {
     *needed = text.len();
     if text.len() <= out.len() {
-        append(out, 0, text);
+        store_bytes(out, 0, text);
         0
     } else {
         TOO_LITTLE_ROOM

@@ -2,18 +2,20 @@
 //! caller learns how much room it needs, and one that keeps nothing, which checks that an input is a
 //! document. A ghost record says which nodes were appended, also those that did not fit or were not
 //! kept.
-ghost use Rattle.std.specs.Prelude.{◌≡◌, ◌≤◌, ◌<◌, ◌+◌, ◌++◌, ℕ, List, drop, length, min, slice_set, take};
+ghost use Rattle.std.specs.Prelude.{◌≡◌, ◌≤◌, ◌<◌, ◌+◌, ◌++◌, ℕ, List, drop, length, min};
+ghost use Rattle.std.specs.Prelude.{slice_set, take};
 ghost use Rattle.simd_json_parts.specs.Nodes.{static_item};
 ghost use Rattle.simd_json_parts.specs.Limits.{max_length};
 ghost use Rattle.simd_json_stages.specs.Building.{header_of};
-ghost use Rattle.simd_json_c.specs.Loans.{AreLaid, AreTextsLaid, Loan, is_headed, noting, text_item};
+ghost use Rattle.simd_json_c.specs.Loans.{AreLaid, AreTextsLaid, Loan, is_headed, noting};
+ghost use Rattle.simd_json_c.specs.Loans.{text_item};
 ghost use Rattle.simd_json_c.specs.Nodes.{node_of, texts};
 ghost use base.Fml.{ftrue};
 ghost use Rattle.simd_json_c.specs.Notes.{Note};
 
-use crate::copies::append;
 use crate::nodes::{Node, span_of, static_of};
 use simd_json::{Container, NodeSink, StaticNode};
+use simd_json_print::text::store_bytes;
 use std::marker::Model;
 
 // Nodes and texts in the caller's memory, and how many there are, written or not.
@@ -158,7 +160,7 @@ fn write_text(text: &mut [u8], at: usize, bytes: &[u8])
     ensures len { length text.new ≡ length text.old }
 {
     if at <= text.len() && bytes.len() <= text.len() - at {
-        append(text, at, bytes);
+        store_bytes(text, at, bytes);
     }
 }
 

@@ -5,8 +5,8 @@ ghost use Rattle.simd_json_c.specs.Statuses.{number_of, place_of, status_of};
 ghost use Rattle.simd_json_c.specs.Calls.{IsNamed};
 ghost use Rattle.simd_json_c.specs.Names.{kind_name, status_name};
 
-use crate::copies::append;
 use simd_json::{Error, ErrorType, Result};
+use simd_json_print::text::store_bytes;
 
 /// Where an input is rejected.
 #[repr(C)]
@@ -135,7 +135,7 @@ fn lend_name(name: &[u8], out: &mut [u8]) -> usize
     ensures { IsNamed name.now result out.old out.new }
 {
     if name.len() <= out.len() {
-        append(out, 0, name);
+        store_bytes(out, 0, name);
     }
     name.len()
 }

@@ -1,5 +1,6 @@
 //! Checks and tapes of documents, with lists that parses use one after another.
-ghost use Rattle.std.specs.Prelude.{◌≡◌, ◌≤◌, List, length, IfOk, IfErr, Some, None, pos, [], min, MatchResult};
+ghost use Rattle.std.specs.Prelude.{◌≡◌, ◌≤◌, List, length, IfOk, IfErr, Some, None, pos, [], min};
+ghost use Rattle.std.specs.Prelude.{MatchResult};
 ghost use Rattle.simd_json_c.specs.Calls.{ArePut, IsRead, IsTape, IsChecked};
 ghost use Rattle.simd_json_c.specs.Nodes.{room_for, texts};
 ghost use Rattle.simd_json_parts.specs.Nodes.{Item};

@@ -44,8 +44,9 @@ by-number state a b x letter tens ones g number is ten one =
     let whole : codes "\\u00" ++ digit_char (x / 16) ∷ digit_char (x % 16) ∷ [] ≡ escaped_byte x = grind (arith, nat_tests, number, is) in
     adds-is state a b _ _ (ap₂ (λ t o. codes "\\u00" ++ t ∷ o ∷ []) ten one ∙ whole) g
 
-pub by-letter : {T : Type 0} {size : ℕ} (state : T → TargetState) (a b : Text T size) (x letter : ℕ) → Adds state a b (backslash ∷ letter ∷ [])
-    → (letter ≡ 0 → ⊥) → (letter ≡ 117 → ⊥) → letter ≡ escape_letter x → Adds state a b (escaped_byte x)
+pub by-letter : {T : Type 0} {size : ℕ} (state : T → TargetState) (a b : Text T size) (x letter : ℕ)
+    → Adds state a b (backslash ∷ letter ∷ []) → (letter ≡ 0 → ⊥) → (letter ≡ 117 → ⊥) → letter ≡ escape_letter x
+    → Adds state a b (escaped_byte x)
 by-letter state a b x letter g some short is =
     let whole : backslash ∷ letter ∷ [] ≡ escaped_byte x = grind (arith, nat_tests, some, short, is) in
     adds-is state a b _ _ whole g

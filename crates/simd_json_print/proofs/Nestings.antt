@@ -25,8 +25,7 @@ use Rattle.simd_json_print.proofs.Walk.{IsOpened, is_object_item, is-leaf, is-op
 -- ---- the first step
 
 pub begins : (p : Bool) (n : ℕ) (o : Nesting) (f : Frame) (items : List Item) → o.count ≡ 1 → get_or o.ends 0 0 ≡ 0
-    → get_or o.are_objects 0 false ≡ has_members f → items ≡ frame_listing f
-    → IsBetween p n o true items [] (frame_text p n true f)
+    → get_or o.are_objects 0 false ≡ has_members f → items ≡ frame_listing f → IsBetween p n o true items [] (frame_text p n true f)
 begins p n o f items one end kind is = record {
   frames = f ∷ [];
   number = sym one;
@@ -42,14 +41,12 @@ same-at : {A : Type 0} (xs : List A) (k : ℕ) (outer : List Frame) (default : A
     → get_or xs (k - 1) default ≡ get_or xs (length outer) default
 same-at xs k outer default is = let same : k - 1 ≡ length outer = omega (arith, is) in ap (λ i. get_or xs i default) same
 
-turned : (done before name value more close outer : List ℕ)
-    → (done ++ (before ++ name)) ++ (value ++ ((more ++ close) ++ outer))
+turned : (done before name value more close outer : List ℕ) → (done ++ (before ++ name)) ++ (value ++ ((more ++ close) ++ outer))
     ≡ done ++ (((before ++ (name ++ (value ++ more))) ++ close) ++ outer)
 turned done before name value more close outer = grind (arith, common_steps)
 
 element-at : (p : Bool) (n i j : ℕ) (first : Bool) (done whole : List ℕ) (d : Document) (ds : Elements) (outer : List Frame)
-    → i ≡ suc (n + length outer) → j ≡ suc (n + length outer)
-    → done ++ frames_text p n first (elements_left (element d ds) ∷ outer) ≡ whole
+    → i ≡ suc (n + length outer) → j ≡ suc (n + length outer) → done ++ frames_text p n first (elements_left (element d ds) ∷ outer) ≡ whole
     → (done ++ (cond first left_bracket comma ∷ line p i)) ++ (text p d j ++ frames_text p n false (elements_left ds ∷ outer)) ≡ whole
 element-at p n i j first done whole d ds outer one two is =
     let k = n + length outer in
@@ -59,8 +56,7 @@ element-at p n i j first done whole d ds outer one two is =
     (frames_text p n false outer) ∙ is
 
 member-at : (p : Bool) (n i j : ℕ) (first : Bool) (done whole : List ℕ) (k : List ℕ) (d : Document) (ms : Members) (outer : List Frame)
-    → i ≡ suc (n + length outer) → j ≡ suc (n + length outer)
-    → done ++ frames_text p n first (members_left (member k d ms) ∷ outer) ≡ whole
+    → i ≡ suc (n + length outer) → j ≡ suc (n + length outer) → done ++ frames_text p n first (members_left (member k d ms) ∷ outer) ≡ whole
     → (done ++ (cond first left_brace comma ∷ (line p i ++ (quoted k ++ after_name p))))
     ++ (text p d j ++ frames_text p n false (members_left ms ∷ outer)) ≡ whole
 member-at p n i j first done whole k d ms outer one two is =
@@ -129,8 +125,7 @@ module _ (p : Bool) (n : ℕ) (o : Nesting) (whole : List ℕ) where
 
   members-front : (first : Bool) (x : Item) (items : List Item) (done : List ℕ) (fs : List Frame) → length fs ≡ o.count
       → AreNested o.ends o.are_objects fs → x ∷ items ≡ frames_listing fs → done ++ frames_text p n first fs ≡ whole → 0 < o.count
-      → get_or o.are_objects (o.count - 1) false ≡ true → get_or o.ends (o.count - 1) 0 < suc (length items)
-      → IsNamed first x items done
+      → get_or o.are_objects (o.count - 1) false ≡ true → get_or o.ends (o.count - 1) 0 < suc (length items) → IsNamed first x items done
   members-front first x items done [] number are listed is some kind live = absurd (omega (arith, number, some))
   members-front first x items done (elements_left ds ∷ outer) number are listed is some kind live =
       absurd (both_ways _ are.1 (sym (same-at o.are_objects o.count outer false number) ∙ kind))
@@ -177,16 +172,21 @@ module _ (p : Bool) (n : ℕ) (o : Nesting) (whole : List ℕ) where
   -- ---- an end
 
   closed : (q : Nesting) (first : Bool) (items : List Item) (done : List ℕ) (fs : List Frame) → length fs ≡ o.count
-      → AreNested o.ends o.are_objects fs → items ≡ frames_listing fs → done ++ frames_text p n first fs ≡ whole
-      → 0 < o.count → length items ≤ get_or o.ends (o.count - 1) 0 → q.ends ≡ o.ends → q.are_objects ≡ o.are_objects
-      → q.count ≡ o.count - 1
+      → AreNested o.ends o.are_objects fs → items ≡ frames_listing fs → done ++ frames_text p n first fs ≡ whole → 0 < o.count
+      → length items ≤ get_or o.ends (o.count - 1) 0 → q.ends ≡ o.ends → q.are_objects ≡ o.are_objects → q.count ≡ o.count - 1
       → IsBetween p n q false items
       (done ++ (line p (n + q.count) ++ cond (get_or o.are_objects q.count false) right_brace right_bracket ∷ [])) whole
   closed q first items done [] number are listed is some few ends kinds count = absurd (omega (arith, number, some))
   closed q first items done (f ∷ outer) number are listed is some few ends kinds count =
       let same : q.count ≡ length outer = omega (arith, number, count) in
-      let none = none-of (frame_listing f) (omega (arith, same-at o.ends o.count outer 0 number, are.0, ap length listed,
-      length-append (frame_listing f) (frames_listing outer), few)) in
+      let none = none-of (frame_listing f) (omega (
+        arith,
+        same-at o.ends o.count outer 0 number,
+        are.0,
+        ap length listed,
+        length-append (frame_listing f) (frames_listing outer),
+        few,
+      )) in
       let end = ap₂ (λ k b. line p (n + k) ++ cond b right_brace right_bracket ∷ []) same
       (ap (λ k. get_or o.are_objects k false) same ∙ are.1) ∙ sym (closed-text p (n + length outer) first f none) in
       record {
@@ -197,9 +197,8 @@ module _ (p : Bool) (n : ℕ) (o : Nesting) (whole : List ℕ) where
         printed = append_assoc done _ (frames_text p n false outer) ∙ ap (λ us. done ++ (us ++ frames_text p n false outer)) end ∙ is;
       }
 
-  pub after-end : (q : Nesting) (first : Bool) (items : List Item) (done : List ℕ) → IsBetween p n o first items done whole
-      → 0 < o.count → length items ≤ get_or o.ends (o.count - 1) 0 → q.ends ≡ o.ends → q.are_objects ≡ o.are_objects
-      → q.count ≡ o.count - 1
+  pub after-end : (q : Nesting) (first : Bool) (items : List Item) (done : List ℕ) → IsBetween p n o first items done whole → 0 < o.count
+      → length items ≤ get_or o.ends (o.count - 1) 0 → q.ends ≡ o.ends → q.are_objects ≡ o.are_objects → q.count ≡ o.count - 1
       → IsBetween p n q false items
       (done ++ (line p (n + q.count) ++ cond (get_or o.are_objects q.count false) right_brace right_bracket ∷ [])) whole
   after-end q first items done is = closed q first items done is.frames is.number is.are_nested is.listed is.printed
@@ -232,76 +231,83 @@ module _ (p : Bool) (n : ℕ) (o : Nesting) (whole : List ℕ) where
   module _ (ns first rest : List Node) (default : Node) (beneath count : ℕ) (done : List ℕ) (some : 0 < length ns)
       (front : first ≡ take 1 ns) (back : rest ≡ drop 1 ns) (sized : beneath ≡ count_of (item_of (get_or first 0 default)))
       (least : count ≡ min beneath (length rest)) (is : IsAtValue p n o (map item_of ns) done whole)
-      where
-    abbrev x : Item
-    x = item_of (get_or first 0 default)
+    where
+      abbrev x : Item
+      x = item_of (get_or first 0 default)
 
-    one : map item_of ns ≡ x ∷ map item_of rest
-    one = split-first ns first rest default 1 some refl front back
+      one : map item_of ns ≡ x ∷ map item_of rest
+      one = split-first ns first rest default 1 some refl front back
 
-    at : IsAtValue p n o (x ∷ map item_of rest) done whole
-    at = subst (λ us. IsAtValue p n o us done whole) one is
+      at : IsAtValue p n o (x ∷ map item_of rest) done whole
+      at = subst (λ us. IsAtValue p n o us done whole) one is
 
-    exact : count ≡ count_of x
-    exact = omega (
-      arith,
-      beneath-within x (map item_of rest) (frames_listing at.frames) at.value at.listed,
-      length-map rest item_of,
-      sized,
-      least,
-    )
+      exact : count ≡ count_of x
+      exact = omega (
+        arith,
+        beneath-within x (map item_of rest) (frames_listing at.frames) at.value at.listed,
+        length-map rest item_of,
+        sized,
+        least,
+      )
 
-    pub leaf-step : count ≡ 0 → IsBetween p n o false (map item_of rest) (done ++ leaf_text x) whole
-    leaf-step none = after-leaf x (map item_of rest) done (sym exact ∙ none) at
+      pub leaf-step : count ≡ 0 → IsBetween p n o false (map item_of rest) (done ++ leaf_text x) whole
+      leaf-step none = after-leaf x (map item_of rest) done (sym exact ∙ none) at
 
-    opened-at : 0 < count → IsOpened p (n + length at.frames) x (map item_of rest) (frames_listing at.frames) at.value
-    opened-at more = is-opened p (n + length at.frames) x (map item_of rest) (frames_listing at.frames) at.value at.listed
-        (omega (arith, exact, more))
+      opened-at : 0 < count → IsOpened p (n + length at.frames) x (map item_of rest) (frames_listing at.frames) at.value
+      opened-at more = is-opened p (n + length at.frames) x (map item_of rest) (frames_listing at.frames) at.value at.listed
+          (omega (arith, exact, more))
 
-    pub open-step : (q : Nesting) (end : ℕ) → 0 < count → end ≡ length rest - count → o.count < length o.ends
-        → o.count < length o.are_objects → q.ends ≡ set o.ends o.count end
-        → q.are_objects ≡ set o.are_objects o.count (is_object_item x) → q.count ≡ o.count + 1
-        → IsBetween p n q true (map item_of rest) (done ++ []) whole
-    open-step q end more at_end room rooms ends kinds counted =
-        let c = opened-at more in
-        let left : end ≡ length (frames_listing at.frames) = omega (arith, at_end, exact, c.count, length-map rest item_of, ap length c.after,
-        length-append (frame_listing c.frame) (frames_listing at.frames)) in
-        let old = nested-more o.ends o.are_objects at.frames o.count end (is_object_item x) (omega (arith, at.number)) at.are_nested in
-        record {
-          frames = c.frame ∷ at.frames;
-          number = omega (arith, at.number, counted);
-          are_nested = (
-            ap (λ es. get_or es (length at.frames) 0) ends ∙ set-here o.ends o.count (length at.frames) end 0 room at.number ∙ left,
-            ap (λ es. get_or es (length at.frames) false) kinds
-                ∙ set-here o.are_objects o.count (length at.frames) (is_object_item x) false rooms at.number ∙ c.kind,
-            subst (λ es. AreNested es q.are_objects at.frames) (sym ends)
-                (subst (λ ks. AreNested (set o.ends o.count end) ks at.frames) (sym kinds) old),
-          );
-          listed = c.after;
-          printed = ap (λ us. us ++ (frame_text p (n + length at.frames) true c.frame ++ frames_text p n false at.frames)) (append-nil done)
-              ∙ ap (λ us. done ++ (us ++ frames_text p n false at.frames)) (sym c.printed) ∙ at.printed;
-        }
+      pub open-step : (q : Nesting) (end : ℕ) → 0 < count → end ≡ length rest - count → o.count < length o.ends
+          → o.count < length o.are_objects → q.ends ≡ set o.ends o.count end → q.are_objects ≡ set o.are_objects o.count (is_object_item x)
+          → q.count ≡ o.count + 1 → IsBetween p n q true (map item_of rest) (done ++ []) whole
+      open-step q end more at_end room rooms ends kinds counted =
+          let c = opened-at more in
+          let left : end ≡ length (frames_listing at.frames) = omega (
+            arith,
+            at_end,
+            exact,
+            c.count,
+            length-map rest item_of,
+            ap length c.after,
+            length-append (frame_listing c.frame) (frames_listing at.frames),
+          ) in
+          let old = nested-more o.ends o.are_objects at.frames o.count end (is_object_item x) (omega (arith, at.number)) at.are_nested in
+          record {
+            frames = c.frame ∷ at.frames;
+            number = omega (arith, at.number, counted);
+            are_nested = (
+              ap (λ es. get_or es (length at.frames) 0) ends ∙ set-here o.ends o.count (length at.frames) end 0 room at.number ∙ left,
+              ap (λ es. get_or es (length at.frames) false) kinds
+                  ∙ set-here o.are_objects o.count (length at.frames) (is_object_item x) false rooms at.number ∙ c.kind,
+              subst (λ es. AreNested es q.are_objects at.frames) (sym ends)
+                  (subst (λ ks. AreNested (set o.ends o.count end) ks at.frames) (sym kinds) old),
+            );
+            listed = c.after;
+            printed =
+                ap (λ us. us ++ (frame_text p (n + length at.frames) true c.frame ++ frames_text p n false at.frames)) (append-nil done)
+                ∙ ap (λ us. done ++ (us ++ frames_text p n false at.frames)) (sym c.printed) ∙ at.printed;
+          }
 
-    pub deep-step : (value others : List Node) → 0 < count → value ≡ take (count + 1) ns → others ≡ drop (count + 1) ns
-        → IsDeep (map item_of value) (map item_of others) done
-    deep-step value others more fronts backs =
-        let d = at.value in
-        let size : count + 1 ≡ length (listing d) = omega (arith, exact, (opened-at more).count, ap length (opened-at more).whole) in
-        let all = one ∙ at.listed in
-        record {
-          document = d;
-          listed = ap (map item_of) fronts ∙ sym (take-map item_of (count + 1) ns) ∙ ap₂ (λ k us. take k us) size all
-              ∙ take-append_seam (listing d) (frames_listing at.frames);
-          after = record {
-            frames = at.frames;
-            number = at.number;
-            are_nested = at.are_nested;
-            listed = ap (map item_of) backs ∙ sym (drop-map item_of (count + 1) ns) ∙ ap₂ (λ k us. drop k us) size all
-                ∙ drop-append_seam (listing d) (frames_listing at.frames);
-            printed = append_assoc done (text p d (n + o.count)) (frames_text p n false at.frames)
-                ∙ ap (λ k. done ++ (text p d (n + k) ++ frames_text p n false at.frames)) (sym at.number) ∙ at.printed;
-          };
-        }
+      pub deep-step : (value others : List Node) → 0 < count → value ≡ take (count + 1) ns → others ≡ drop (count + 1) ns
+          → IsDeep (map item_of value) (map item_of others) done
+      deep-step value others more fronts backs =
+          let d = at.value in
+          let size : count + 1 ≡ length (listing d) = omega (arith, exact, (opened-at more).count, ap length (opened-at more).whole) in
+          let all = one ∙ at.listed in
+          record {
+            document = d;
+            listed = ap (map item_of) fronts ∙ sym (take-map item_of (count + 1) ns) ∙ ap₂ (λ k us. take k us) size all
+                ∙ take-append_seam (listing d) (frames_listing at.frames);
+            after = record {
+              frames = at.frames;
+              number = at.number;
+              are_nested = at.are_nested;
+              listed = ap (map item_of) backs ∙ sym (drop-map item_of (count + 1) ns) ∙ ap₂ (λ k us. drop k us) size all
+                  ∙ drop-append_seam (listing d) (frames_listing at.frames);
+              printed = append_assoc done (text p d (n + o.count)) (frames_text p n false at.frames)
+                  ∙ ap (λ k. done ++ (text p d (n + k) ++ frames_text p n false at.frames)) (sym at.number) ∙ at.printed;
+            };
+          }
 
 -- only an object's header is one
 pub no-object : (x : Node) → ((len count : ℕ) → x ≡ nodes.Object len count → ⊥) → is_object_item (item_of x) ≡ false
@@ -318,25 +324,25 @@ no-document ns d none is = omega (arith, positive d, ap length is, length-map ns
 
 module _ (p : Bool) (n : ℕ) (ns first beneath : List Node) (default : Node) (d : Document) (some : 0 < length ns)
     (front : first ≡ take 1 ns) (back : beneath ≡ drop 1 ns) (is : map item_of ns ≡ listing d)
-    where
-  abbrev y : Item
-  y = item_of (get_or first 0 default)
+  where
+    abbrev y : Item
+    y = item_of (get_or first 0 default)
 
-  listed : y ∷ map item_of beneath ≡ listing d ++ []
-  listed = sym (split-first ns first beneath default 1 some refl front back) ∙ is ∙ sym (append-nil (listing d))
+    listed : y ∷ map item_of beneath ≡ listing d ++ []
+    listed = sym (split-first ns first beneath default 1 some refl front back) ∙ is ∙ sym (append-nil (listing d))
 
-  pub value-leaf : length beneath ≡ 0 → leaf_text y ≡ text p d n
-  value-leaf none =
-      let few = beneath-within y (map item_of beneath) [] d listed in
-      (is-leaf p n y (map item_of beneath) [] d listed (omega (arith, few, none, length-map beneath item_of))).printed
+    pub value-leaf : length beneath ≡ 0 → leaf_text y ≡ text p d n
+    value-leaf none =
+        let few = beneath-within y (map item_of beneath) [] d listed in
+        (is-leaf p n y (map item_of beneath) [] d listed (omega (arith, few, none, length-map beneath item_of))).printed
 
-  pub value-opened : 0 < length beneath → IsOpened p n y (map item_of beneath) [] d
-  value-opened more = by-count (count_of y) refl
-    where
-      by-count : (k : ℕ) → count_of y ≡ k → IsOpened p n y (map item_of beneath) [] d
-      by-count zero none = absurd
-          (omega (arith, more, length-map beneath item_of, ap length (is-leaf p n y (map item_of beneath) [] d listed none).after))
-      by-count (suc k) some_beneath = is-opened p n y (map item_of beneath) [] d listed (omega (arith, some_beneath))
+    pub value-opened : 0 < length beneath → IsOpened p n y (map item_of beneath) [] d
+    value-opened more = by-count (count_of y) refl
+      where
+        by-count : (k : ℕ) → count_of y ≡ k → IsOpened p n y (map item_of beneath) [] d
+        by-count zero none = absurd
+            (omega (arith, more, length-map beneath item_of, ap length (is-leaf p n y (map item_of beneath) [] d listed none).after))
+        by-count (suc k) some_beneath = is-opened p n y (map item_of beneath) [] d listed (omega (arith, some_beneath))
 
 -- ---- what was printed in two steps
 
@@ -345,6 +351,5 @@ pub with-none : (p : Bool) (n : ℕ) (o : Nesting) (first : Bool) (items : List 
 with-none p n o first items done whole is = subst (λ us. IsBetween p n o first items us whole) (sym (append-nil done)) is
 
 pub with-both : (p : Bool) (n : ℕ) (o : Nesting) (first : Bool) (items : List Item) (done xs ys whole : List ℕ)
-    → IsBetween p n o first items ((done ++ xs) ++ ys) whole
-    → IsBetween p n o first items (done ++ (xs ++ ys)) whole
+    → IsBetween p n o first items ((done ++ xs) ++ ys) whole → IsBetween p n o first items (done ++ (xs ++ ys)) whole
 with-both p n o first items done xs ys whole is = subst (λ us. IsBetween p n o first items us whole) (append_assoc done xs ys) is

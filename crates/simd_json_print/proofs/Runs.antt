@@ -38,8 +38,7 @@ last-run done bytes (x ∷ xs) whole k so_far back none = cc
 
 -- a run, and the byte after it
 one-run : (done bytes others whole : List ℕ) (k default : ℕ) → done ++ flat_map escaped_byte bytes ≡ whole → others ≡ drop k bytes
-    → 0 < length others
-    → (done ++ (flat_map escaped_byte (take k bytes) ++ escaped_byte (get_or others 0 default)))
+    → 0 < length others → (done ++ (flat_map escaped_byte (take k bytes) ++ escaped_byte (get_or others 0 default)))
     ++ flat_map escaped_byte (drop 1 others) ≡ whole
 one-run done bytes [] whole k default so_far back some = absurd (omega arith)
 one-run done bytes (x ∷ xs) whole k default so_far back some =

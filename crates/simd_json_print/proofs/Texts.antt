@@ -2,10 +2,11 @@
 use Rattle.std.proofs.Common.{◌≡◌, ◌∙◌, ap, sym, refl, subst, ℕ, Bool, true, false, List, [], ◌++◌, Option, None, Some}
 use Rattle.std.proofs.Common.{append_assoc, append-nil, length, take, drop, take-append-drop}
 use Rattle.std.proofs.Math.Seq.{take-append_seam}
+use Rattle.std.proofs.lemmas.Bool.{false≢true}
 use Rattle.std.specs.Prelude.{Result, Ok, Err, is_some, is_none, is_ok, OnOk, OnErr, IfNone, option_map, ◌||◌, ◌&&◌, ◌==◌, zero}
 use Rattle.std.specs.Prelude.{suc, nat_lt}
 use Rattle.std.specs.Io.KnownBytes.{Appends, Keeps}
-use Rattle.simd_json_print.specs.Texts.{TargetState, Takes, IsLeft, failed_or, HasGiven, HasEnded, Adds, AddsSome, IsLonger, IsPrefix}
+use Rattle.simd_json_print.specs.Texts.{TargetState, Takes, IsUnsent, failed_or, HasGiven, HasEnded, Adds, AddsSome, IsLonger, IsPrefix}
 use Rattle.simd_json_print.specs.declared.text.Text.{Text}
 
 pub appends-none : (a : Option (List ℕ)) → Appends a a []
@@ -40,8 +41,8 @@ none-now None t is = refl
 none-now (Some true) t is = refl
 none-now (Some false) t is = ap Some is
 
-pub write-failed : {E : Type 0} (e : E) (a b c : TargetState) (sent left whole : List ℕ) → Takes b c (Err e) left → Appends a.held b.held sent
-    → sent ++ left ≡ whole → b.failed ≡ a.failed → HasFailed a c whole
+pub write-failed : {E : Type 0} (e : E) (a b c : TargetState) (sent left whole : List ℕ) → Takes b c (Err e) left
+    → Appends a.held b.held sent → sent ++ left ≡ whole → b.failed ≡ a.failed → HasFailed a c whole
 write-failed e a b c sent left whole t p all same = (
   (
     length sent,
@@ -72,8 +73,8 @@ and-off : (b t : Bool) → b ≡ false → (b && t) ≡ false
 and-off true t is = cc
 and-off false t is = refl
 
-pub write-more : {E : Type 0} (n : ℕ) (a b c : TargetState) (sent left rest whole : List ℕ) → Takes {E = E} b c (Ok n) left → (n == 0) ≡ false
-    → rest ≡ drop n left → Appends a.held b.held sent → sent ++ left ≡ whole → b.failed ≡ a.failed
+pub write-more : {E : Type 0} (n : ℕ) (a b c : TargetState) (sent left rest whole : List ℕ) → Takes {E = E} b c (Ok n) left
+    → (n == 0) ≡ false → rest ≡ drop n left → Appends a.held b.held sent → sent ++ left ≡ whole → b.failed ≡ a.failed
     → (more : List ℕ) × Appends a.held c.held more × (more ++ rest ≡ whole) × (c.failed ≡ a.failed)
 write-more n a b c sent left rest whole t some is p all same = (
   sent ++ take n left,
@@ -85,15 +86,15 @@ write-more n a b c sent left rest whole t some is p all same = (
 
 -- ---- texts
 
-left-of : {E : Type 0} (o : Option E) (collected left : List ℕ) → is_some o ≡ false → IsLeft o collected left → left ≡ collected
+left-of : {E : Type 0} (o : Option E) (collected left : List ℕ) → is_some o ≡ false → IsUnsent o collected left → left ≡ collected
 left-of None collected left off is = is
 left-of (Some e) collected left off is = cc
 
-is-left : {E : Type 0} (o : Option E) (collected left : List ℕ) → is_some o ≡ false → left ≡ collected → IsLeft o collected left
+is-left : {E : Type 0} (o : Option E) (collected left : List ℕ) → is_some o ≡ false → left ≡ collected → IsUnsent o collected left
 is-left None collected left off is = is
 is-left (Some e) collected left off is = tt
 
-any-left : {E : Type 0} (o : Option E) (collected left : List ℕ) → is_some o ≡ true → IsLeft o collected left
+any-left : {E : Type 0} (o : Option E) (collected left : List ℕ) → is_some o ≡ true → IsUnsent o collected left
 any-left None collected left off = cc
 any-left (Some e) collected left off = tt
 
@@ -128,7 +129,8 @@ module _ {T : Type 0} {size : ℕ} (state : T → TargetState) where
     };
   }
     where
-      more : {E : Type 0} (o p : Option E) (xs ys left : List ℕ) → p ≡ o → ys ≡ xs ++ bytes → IsLeft o xs left → IsLeft p ys (left ++ bytes)
+      more : {E : Type 0} (o p : Option E) (xs ys left : List ℕ) → p ≡ o → ys ≡ xs ++ bytes → IsUnsent o xs left
+          → IsUnsent p ys (left ++ bytes)
       more None None xs ys left same is l = ap (λ us. us ++ bytes) l ∙ sym is
       more (Some e) None xs ys left same is l = cc
       more o (Some e) xs ys left same is l = tt
@@ -278,6 +280,44 @@ pub ended-longer : {E : Type 0} (r : Result Unit E) (a b : TargetState) (bytes :
 unfolding IsLonger
 ended-longer (Ok u) a b bytes ends = (bytes, ends.0)
 ended-longer (Err e) a b bytes ends = (take ends.0.0 bytes, ends.0.1)
+
+-- ---- where the text ends well
+
+-- what was given to the text, since any state of the target, is what it ends with
+abbrev pub Ends : {T E : Type 0} {size : ℕ} → (T → TargetState) → Result Unit E → Text T size → TargetState → Type 0
+Ends state r text end = (start : TargetState) (bytes : List ℕ) → HasGiven state start text bytes → HasEnded r start end bytes
+
+some-is : {x y : Bool} → Some x ≡ Some y → x ≡ y
+some-is is = cc
+
+-- nothing failed before
+pub sound-text : {T E : Type 0} {size : ℕ} (state : T → TargetState) (r : Result Unit E) (start end : TargetState) (text : Text T size)
+    (bytes : List ℕ) (failed : Bool) → is_some text.fault ≡ failed → is_ok r ≡ true → start.failed ≡ Some false
+    → HasGiven state start text bytes → Ends state r text end → is_some text.fault ≡ false
+sound-text state r start end text bytes false is ok old given ends = is
+sound-text state (Err e) start end text bytes true is ok old given ends = cc
+sound-text state (Ok u) start end text bytes true is ok old given ends =
+    let here = state text.target.now in
+    let failed : here.failed ≡ Some true = given.failed ∙ ap (λ f. failed_or f start.failed) is ∙ ap (failed_or true) old in
+    let again : HasGiven state here text [] = record {
+      sent = [];
+      left = [];
+      is_left = any-left text.fault text.collected [] is;
+      taken = appends-none here.held;
+      whole = refl;
+      failed = failed ∙ sym (ap (λ f. failed_or f here.failed) is ∙ ap (failed_or true) failed);
+    } in
+    let one = (ends here [] again).1 ∙ failed in
+    let two = (ends start bytes given).1 ∙ old in
+    absurd (false≢true (some-is (sym two ∙ one)))
+
+-- a beginning of a beginning
+pub take-front : (n : ℕ) (front rest : List ℕ) → (count : ℕ) × (take n front ≡ take count (front ++ rest))
+take-front n front rest =
+    let begun = take n front in
+    let all : begun ++ (drop n front ++ rest) ≡ front ++ rest =
+    sym (append_assoc begun (drop n front) rest) ∙ ap (λ us. us ++ rest) (take-append-drop n front) in
+    (length begun, sym (ap (take (length begun)) (sym all) ∙ take-append_seam begun (drop n front ++ rest)))
 
 -- ---- a list
 

@@ -1,5 +1,6 @@
 -- A target that takes bytes, and what a text on its way to it was given.
-use Rattle.std.specs.Prelude.{◌≡◌, ℕ, List, ◌++◌, length, take, ⊤, Bool, true, false, ◌||◌, ◌&&◌, ◌==◌, nat_lt, Option, None, Some, option_map, is_some, Result, Ok, Err, MatchResult, is_err}
+use Rattle.std.specs.Prelude.{◌≡◌, ℕ, List, ◌++◌, length, take, ⊤, Bool, true, false, ◌||◌, ◌&&◌, ◌==◌, nat_lt, Option, None, Some}
+use Rattle.std.specs.Prelude.{option_map, is_some, Result, Ok, Err, MatchResult, is_err}
 use Rattle.std.specs.Io.{WritesAtMost}
 use Rattle.std.specs.Io.KnownBytes.{Appends, WriteAppends}
 use Rattle.simd_json_print.specs.declared.text.Text.{Text}
@@ -21,9 +22,9 @@ pub record Takes {E : Type 0} (old new : TargetState) (result : Result ℕ E) (b
   pub failed : new.failed ≡ option_map (λ failed. failed || is_err result || took_none result (length bytes)) old.failed
 
 -- what is collected, or anything where a call has failed
-abbrev pub IsLeft : {E : Type 0} → Option E → List ℕ → List ℕ → Type 0
-IsLeft None collected left = left ≡ collected
-IsLeft (Some fault) collected left = ⊤
+abbrev pub IsUnsent : {E : Type 0} → Option E → List ℕ → List ℕ → Type 0
+IsUnsent None collected left = left ≡ collected
+IsUnsent (Some fault) collected left = ⊤
 
 -- the target failed now, or before
 abbrev pub failed_or : Bool → Option Bool → Option Bool
@@ -31,10 +32,11 @@ failed_or true before = option_map (λ _. true) before
 failed_or _ before = before
 
 -- Since the target was in this state, these bytes were given: what it took, and then what is left.
-pub record HasGiven {T : Type 0} {size : ℕ} (state : T → TargetState) (start : TargetState) (text : Text T size) (bytes : List ℕ) : Type 0 where
+pub record HasGiven {T : Type 0} {size : ℕ} (state : T → TargetState) (start : TargetState) (text : Text T size)
+    (bytes : List ℕ) : Type 0 where
   pub sent : List ℕ
   pub left : List ℕ
-  pub is_left : IsLeft text.fault text.collected left
+  pub is_left : IsUnsent text.fault text.collected left
   pub taken : Appends start.held (state text.target.now).held sent
   pub whole : sent ++ left ≡ bytes
   pub failed : (state text.target.now).failed ≡ failed_or (is_some text.fault) start.failed

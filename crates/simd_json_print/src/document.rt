@@ -130,8 +130,8 @@ pub fn append_quoted<A: Allocator>(
 pub fn write_quoted<W: Write>(writer: &mut W, string: &str) -> io::Result<()>
     ensures written { OnOk result
         (Appends (W.contents writer.old) (W.contents writer.new) (quoted string.now)) }
-    ensures begun { OnErr result ((count : ℕ)
-        × Appends (W.contents writer.old) (W.contents writer.new) (take count (quoted string.now))) }
+    ensures begun { OnErr result ((count : ℕ) × Appends (W.contents writer.old)
+        (W.contents writer.new) (take count (quoted string.now))) }
     ensures kept { IsLonger (W.contents writer.old) (W.contents writer.new) }
 {
     let mut out = Text::<W, 256>::new(writer);

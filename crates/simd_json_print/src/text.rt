@@ -7,9 +7,8 @@ ghost use Rattle.simd_json_print.specs.Texts.{HasEnded};
 mod collected;
 mod stores;
 
-pub use crate::text::stores::store_bytes;
-
 use crate::text::collected::Collected;
+pub use crate::text::stores::store_bytes;
 use itoa::{Buffer, Integer};
 use simd_json_parts::node::StaticNode;
 use std::io;

@@ -91,7 +91,8 @@ pub(crate) fn put_element<T: Target, const SIZE: usize, const PRETTY: bool>(
 /// before others.
 #[inline(always)]
 pub(crate) fn front_of(is_first: bool, is_object: bool) -> &'static [u8]
-    ensures { result.now ≡ cond is_first (cond is_object left_brace left_bracket) comma ∷ quote ∷ [] }
+    ensures { result.now
+        ≡ cond is_first (cond is_object left_brace left_bracket) comma ∷ quote ∷ [] }
 {
     if !is_first {
         b",\""

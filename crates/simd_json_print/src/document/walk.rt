@@ -62,7 +62,8 @@ fn put_container<T: Target, const SIZE: usize, const PRETTY: bool>(
     requires some { 0 < length nodes.now }
     requires room { depth + length nodes.now + 1 < 2 ^ 64 }
     ensures kept { AddsSome T.state out.old out.new }
-    ensures given { (f : Frame) → has_members f ≡ is_object → map item_of nodes.now ≡ frame_listing f
+    ensures given { (f : Frame) → has_members f ≡ is_object
+        → map item_of nodes.now ≡ frame_listing f
         → Adds T.state out.old out.new (frame_text PRETTY depth true f) }
 {
     let mut nesting = Nesting {
@@ -124,7 +125,8 @@ fn put_elements<'tape, 'input, T: Target, const SIZE: usize, const PRETTY: bool>
     ensures given { (done whole : List ℕ)
         → IsBetween PRETTY depth nesting.now is_first (map item_of nodes.entry.nodes.now) done whole
         → (more : List ℕ) × Adds T.state out.old out.new more
-        × IsBetween PRETTY depth nesting.now result.1 (map item_of result.0.nodes.now) (done ++ more) whole }
+        × IsBetween PRETTY depth nesting.now result.1 (map item_of result.0.nodes.now)
+        (done ++ more) whole }
 {
     if nesting.are_objects[nesting.count - 1] {
         return (nodes, is_first);
@@ -198,7 +200,8 @@ fn put_next<'tape, 'input, T: Target, const SIZE: usize, const PRETTY: bool>(
     ensures given { (done whole : List ℕ)
         → IsAtValue PRETTY depth nesting.old (map item_of left.entry.nodes.now) done whole
         → (more : List ℕ) × Adds T.state out.old out.new more
-        × IsBetween PRETTY depth nesting.new result.1 (map item_of result.0.nodes.now) (done ++ more) whole }
+        × IsBetween PRETTY depth nesting.new result.1 (map item_of result.0.nodes.now)
+        (done ++ more) whole }
 {
     let (first, rest) = left.nodes.split_at(1);
     let count = beneath(&first[0]).min(rest.len());

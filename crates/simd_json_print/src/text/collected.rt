@@ -1,5 +1,6 @@
 //! The bytes that are collected for a target.
-ghost use Rattle.std.specs.Prelude.{◌≡◌, ◌+◌, ◌≤◌, [], ◌++◌, cond, flat_map, length, take, IsTrue, IsFalse};
+ghost use Rattle.std.specs.Prelude.{◌≡◌, ◌+◌, ◌≤◌, [], ◌++◌, cond, flat_map, length, take, IsTrue};
+ghost use Rattle.std.specs.Prelude.{IsFalse};
 ghost use Rattle.std.specs.Fmt.{decimal};
 ghost use Rattle.simd_json_parts.specs.Printed.{escaped_byte};
 
@@ -74,8 +75,8 @@ impl<const SIZE: usize> Collected<SIZE> {
         back: &[u8],
         is_string: bool,
     ) -> bool
-        ensures collected { IsTrue result → self.new ≡ self.old
-            ++ (front.now ++ (cond is_string (flat_map escaped_byte bytes.now) bytes.now ++ back.now)) }
+        ensures collected { IsTrue result → self.new ≡ self.old ++ (front.now
+            ++ (cond is_string (flat_map escaped_byte bytes.now) bytes.now ++ back.now)) }
         ensures kept { IsFalse result → self.new ≡ self.old }
     {
         if !self.holds(front, bytes.len(), back) {

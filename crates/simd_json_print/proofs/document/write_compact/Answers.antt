@@ -10,12 +10,15 @@ returns g c =
     let p = c.put_compact.ensures in
     record {
       written = λ d is.
-          let all = ended-written c.finish.result start _ _ (c.finish.ensures start _ ((p.given d is).given start [] c.new-out.ensures.empty)) in
+          let ends = c.finish.ensures start _ ((p.given d is).given start [] c.new-out.ensures.empty) in
+          let all = ended-written c.finish.result start _ _ ends in
           search rules;
       begun = λ d is.
-          let all = ended-begun c.finish.result start _ _ (c.finish.ensures start _ ((p.given d is).given start [] c.new-out.ensures.empty)) in
+          let ends = c.finish.ensures start _ ((p.given d is).given start [] c.new-out.ensures.empty) in
+          let all = ended-begun c.finish.result start _ _ ends in
           search rules;
       kept =
-          let all = ended-longer c.finish.result start _ _ (c.finish.ensures start _ (p.kept.1.given start [] c.new-out.ensures.empty)) in
+          let ends = c.finish.ensures start _ (p.kept.1.given start [] c.new-out.ensures.empty) in
+          let all = ended-longer c.finish.result start _ _ ends in
           search rules;
     }
