@@ -2,7 +2,7 @@
 ghost use Rattle.std.specs.Prelude.{◌≡◌, ◌≤◌, ◌∷◌, [], chars, drop, length, take};
 ghost use Rattle.std.specs.List.{after_last, before_first, position_or_len, repeat};
 ghost use Rattle.jcheck.specs.Excerpts.{characters, excerpt, first_characters, last_characters};
-ghost use Rattle.jcheck.specs.Excerpts.{shown, visible, visible_text};
+ghost use Rattle.jcheck.specs.Excerpts.{lossy_text, visible, visible_text};
 ghost use Rattle.simd_json.specs.Locations.{begins_character, is_line_feed};
 ghost use Rattle.simd_json_parts.specs.Bytes.{space};
 ghost use Rattle.simd_json_print.specs.Texts.{Adds};
@@ -125,7 +125,7 @@ fn begins_character(byte: u8) -> bool
 
 // Puts the text of the bytes, all of it visible.
 fn put_shown<T: Target, const SIZE: usize>(text: &mut Text<'_, T, SIZE>, bytes: &[u8])
-    ensures { Adds T.state text.old text.new (shown bytes.now) }
+    ensures { Adds T.state text.old text.new (lossy_text bytes.now) }
 {
     for chunk in bytes.utf8_chunks() {
         put_visible(text, chunk.valid());

@@ -16,7 +16,8 @@ use Rattle.simd_json_parts.specs.Positions.{positions}
 pub parsed-output : (layout : Layout) (b : List ℕ) (limit capacity : ℕ) (nodes : List Item) (listed : List ℕ)
     → IsParse b limit capacity None nodes listed
     → (d : Document) × (nodes ≡ listing d) × (listed ≡ positions b) × (document_output layout limit b ≡ all_printed (printed layout b d))
-parsed-output layout b limit capacity nodes listed p = (p.parsed.document, p.parsed.listed, p.found, ap (output_of layout b) p.parsed.answered)
+parsed-output layout b limit capacity nodes listed p =
+    (p.parsed.document, p.parsed.listed, p.found, ap (output_of layout b) p.parsed.answered)
 
 -- all of it is written
 pub all-written : {T E : Type 0} (r : Result T E) (P : Type 0) (a b : Option (List ℕ)) (bytes : List ℕ) (out : Output)

@@ -20,7 +20,8 @@ use Rattle.simd_json_print.proofs.Texts.{appends-none, adds-none, adds-is, adds-
 use Rattle.simd_json_print.proofs.Texts.{sound-text, take-front}
 
 -- All pieces but the later ones are done: their text was put, and whether they are clean is known.
-pub record AreDone {T : Type 0} {size : ℕ} (state : T → TargetState) (old new : Text T size) (depth : ℕ) (input : List ℕ) (later : List (List ℕ))
+pub record AreDone {T : Type 0} {size : ℕ} (state : T → TargetState) (old new : Text T size) (depth : ℕ) (input : List ℕ)
+    (later : List (List ℕ))
     (clean : Bool) : Type 0 where
   pub earlier : List (List ℕ)
   pub cut : pieces input ≡ earlier ++ later
@@ -95,9 +96,9 @@ stops-at {state = state} {a = a} {b = b} {c = c} {piece = piece} {later = later}
 
 -- ---- at the end, of a port that had not failed
 
-pub stream-returned : {T E : Type 0} {size : ℕ} {state : T → TargetState} (r : Result Unit E) {start : TargetState} (end : TargetState) {a b : Text T size}
-    (m : Result Bool RunFault) (depth : ℕ) (input : List ℕ) → is_ok r ≡ true → start.failed ≡ Some false → HasGiven state start a []
-    → OnOk m (Adds state a b (pieces_text depth (pieces input)))
+pub stream-returned : {T E : Type 0} {size : ℕ} {state : T → TargetState} (r : Result Unit E) {start : TargetState} (end : TargetState)
+    {a b : Text T size} (m : Result Bool RunFault) (depth : ℕ) (input : List ℕ) → is_ok r ≡ true → start.failed ≡ Some false
+    → HasGiven state start a [] → OnOk m (Adds state a b (pieces_text depth (pieces input)))
     → IfOk m (λ clean. is_some b.fault ≡ false → clean ≡ all_clean depth (pieces input)) → Ends state r b end
     → OnOk m (m ≡ Ok (all_clean depth (pieces input)))
 stream-returned {state = state} r {start = start} end {b = b} (Ok clean) depth input ok old given put are ends =

@@ -62,7 +62,8 @@ fn put_stream<A: Allocator + Copy, T: Target, const SIZE: usize>(
 ) -> Result<bool, RunFault>
     ensures clean { IfOk result (λ clean. is_some text.new.fault ≡ false
         → clean ≡ all_clean depth (pieces input.old)) }
-    ensures put { OnOk result (Adds T.state text.old text.new (pieces_text depth (pieces input.old))) }
+    ensures put { OnOk result
+        (Adds T.state text.old text.new (pieces_text depth (pieces input.old))) }
     ensures fault { IfErr result (λ fault. fault ≡ lacks_memory) }
     ensures stopped { OnErr result (HasPut T.state text.old text.new depth input.old) }
 {

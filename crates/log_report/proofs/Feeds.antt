@@ -194,10 +194,10 @@ report-last key longest input kept is =
     let s = after key longest (no_line, []) input in
     ap (with_line key longest s.0) is ∙ cut-line key longest s.0 s.1 ∙ sym (ends key longest input no_line [] refl)
 
--- what was begun of the refusals of lines that have ended, was of those of the input
+-- what was begun of the rejections of lines that have ended, was of those of the input
 pub begins-report : (held holds : Option (List ℕ)) (key : List ℕ) (longest : ℕ) (input : List ℕ)
-    → Begins held holds (after key longest (no_line, []) input).0.refusals → Begins held holds (report_of key longest input).refusals
+    → Begins held holds (after key longest (no_line, []) input).0.rejections → Begins held holds (report_of key longest input).rejections
 begins-report held holds key longest input begun =
     let s = after key longest (no_line, []) input in
-    subst (λ r. Begins held holds r.refusals) (sym (ends key longest input no_line [] refl))
+    subst (λ r. Begins held holds r.rejections) (sym (ends key longest input no_line [] refl))
     (begins-grown held holds s.0 _ (grows-line key longest s.0 s.1) begun)

@@ -14,6 +14,7 @@ use Rattle.simd_json_parts.specs.Printed.{escaped_byte, quoted, text, elements_t
 use Rattle.simd_json_theorems.proofs.Printing.Shortest.{compact-shortest}
 use Rattle.simd_json.specs.Parsed.{IsParse, IsParsed}
 use Rattle.simd_json.proofs.Views.Listed.{known}
+use Rattle.simd_json_c.specs.Calls.{IsCompact}
 use Rattle.simd_json_c.specs.Nodes.{room_for, text_of, texts}
 use Rattle.simd_json_c.specs.declared.nodes.Room.{Room}
 
@@ -116,12 +117,12 @@ room-within b limit capacity ns listed room p is =
     subst (λ r. (r.nodes ≤ length b) × (r.text ≤ length b)) (sym is) (few, texts-within b limit ns p.parsed)
 
 pub compact-within : {A E : Type 0} (r : Result (String A) E) (b : List ℕ) (limit : ℕ) (ns : List Item) (d : Document) → IsParsed b limit ns
-    → listing d ≡ ns → IfOk r (λ text. string_bytes text ≡ compact d) → IfOk r (λ text. length (string_bytes text) ≤ length b)
+    → listing d ≡ ns → IfOk r (λ text. string_bytes text ≡ compact d) → IfOk r (λ text. IsCompact b limit (string_bytes text))
 compact-within (Ok text) b limit ns d p is same =
     let shortest : length (compact d) ≤ length b =
     subst (λ e. length (compact e) ≤ length b) (sym (known d p.document (is ∙ p.listed)))
     (compact-shortest b p.document p.denoted p.within.integers) in
-    subst (λ t. length t ≤ length b) (sym same) shortest
+    ((d, (ns, p, is), same), subst (λ t. length t ≤ length b) (sym same) shortest)
 compact-within (Err e) b limit ns d p is same = tt
 
 pub parse-of-ok : {A : Type 0} (r : Result A Error) (x : A) (b : List ℕ) (limit capacity : ℕ) (ns : List Item) (listed : List ℕ)

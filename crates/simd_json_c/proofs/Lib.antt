@@ -2,3 +2,4 @@ mod Bounds
 mod LooseValues
 mod HeldValues
 mod Laying
+mod Printed

@@ -1,7 +1,7 @@
 //! The sinks of the C library: the caller's memory, where what does not fit is counted, so that the
-//! caller learns how much room it needs, and one that keeps nothing, which checks that an input is a
-//! document. A ghost record says which nodes were appended, also those that did not fit or were not
-//! kept.
+//! caller learns how much room it needs, and one that keeps nothing, which checks that an input is
+//! a document. A ghost record says which nodes were appended, also those that did not fit or were
+//! not kept.
 ghost use Rattle.std.specs.Prelude.{◌≡◌, ◌≤◌, ◌<◌, ◌+◌, ◌++◌, ℕ, List, drop, length, min};
 ghost use Rattle.std.specs.Prelude.{slice_set, take};
 ghost use Rattle.simd_json_parts.specs.Nodes.{static_item};
@@ -48,7 +48,8 @@ impl CallerSink<'_> {
     #[inline(never)]
     fn put_text(&mut self, is_decimal: bool, bytes: &[u8])
         requires { length self.old.noted.note.items < max_length }
-        ensures note { self.new.noted.note ≡ noting self.old.noted.note (text_item is_decimal bytes.now) }
+        ensures note { self.new.noted.note
+            ≡ noting self.old.noted.note (text_item is_decimal bytes.now) }
         ensures nodes { self.new.nodes.ghost_name ≡ self.old.nodes.ghost_name }
         ensures text { self.new.text.ghost_name ≡ self.old.text.ghost_name }
     {

@@ -2,7 +2,7 @@ use Rattle.std.proofs.Common.{◌+◌, ◌-◌, ◌++◌, ◌∷◌, [], codes, 
 use Rattle.std.specs.List.{repeat}
 use Rattle.jcheck.proofs.Texts.{excerpt-is}
 use Rattle.jcheck.proofs.excerpt.put_excerpt.Goals as goal
-use Rattle.jcheck.specs.Excerpts.{excerpt, shown}
+use Rattle.jcheck.specs.Excerpts.{excerpt, lossy_text}
 use Rattle.simd_json_parts.specs.Bytes.{line_feed, space}
 use Rattle.simd_json_print.proofs.Texts.{adds-is, adds-then}
 
@@ -14,7 +14,7 @@ returns g c =
     let start = c.front_start-start.result in
     let end = c.back_end-end.result in
     let indent = c.characters-indent.result in
-    let text = shown (take (place + end - start) (drop start input)) in
+    let text = lossy_text (take (place + end - start) (drop start input)) in
     let spaces = repeat indent (space ∷ []) in
     let caret = codes "^" ++ (line_feed ∷ []) in
     let line =

@@ -5,13 +5,13 @@ use Rattle.std.specs.Str.Lossy.{replacement_bytes}
 use Rattle.jcheck.proofs.Puts.{none-left, one-more}
 use Rattle.jcheck.proofs.Shown.{shown-chunk, shown-last, shown-none}
 use Rattle.jcheck.proofs.excerpt.put_shown.Goals as goal
-use Rattle.jcheck.specs.Excerpts.{shown, visible_text}
+use Rattle.jcheck.specs.Excerpts.{lossy_text, visible_text}
 use Rattle.simd_json_print.proofs.Texts.{adds-is, adds-none, adds-then}
 
 pub loop-chunk-init : goal.loop-chunk-init
 loop-chunk-init g c = record {
   part = [];
-  parts = ap shown (ap utf8_chunks_rest c.into_iter-chunk-iterator.ensures.into_iter_gives ∙ c.utf8_chunks-chunk-items.ensures.rest);
+  parts = ap lossy_text (ap utf8_chunks_rest c.into_iter-chunk-iterator.ensures.into_iter_gives ∙ c.utf8_chunks-chunk-items.ensures.rest);
   put = adds-none g.T.Target.state c.args.text.now;
 }
 

@@ -1,5 +1,5 @@
 use Rattle.std.proofs.Common.{◌≡◌, ◌∙◌, ◌++◌, ◌∷◌, [], ap}
-use Rattle.jcheck.proofs.report.Place.put.Goals as goal
+use Rattle.jcheck.proofs.report.FilePlace.put.Goals as goal
 use Rattle.jcheck.specs.Excerpts.{excerpt}
 use Rattle.jcheck.specs.Reports.{words}
 use Rattle.simd_json_parts.specs.Bytes.{line_feed}
