@@ -18,46 +18,32 @@ use Rattle.simd_json_print.proofs.Texts.{Ends, ended-sound, ended-failed, take-f
 abbrev pub port : Option (List ℕ) → Bool → TargetState
 port held failed = record { held = held; failed = Some failed }
 
-pub all-written : {T E : Type 0} {size : ℕ} {state : T → TargetState} (r : Result Unit E) {held : Option (List ℕ)} {old : Bool}
-    (holds : Option (List ℕ)) (new : Bool) {a b : Text T size} (whole : List ℕ) → is_ok r ≡ true → old ≡ false
-    → HasGiven state (port held old) a [] → Adds state a b whole → Ends state r b (port holds new)
-    → (new ≡ false) × Appends held holds whole
-all-written r {held = held} {old = old} holds new whole ok sound given put ends =
-    ended-sound r held holds old new whole (ends (port held old) whole (put.given (port held old) [] given)) sound ok
+module _ {T E : Type 0} {size : ℕ} {state : T → TargetState} (r : Result Unit E) {held : Option (List ℕ)} {old : Bool}
+    (holds : Option (List ℕ)) (new : Bool) {a b : Text T size} where
+  pub all-written : (whole : List ℕ) → is_ok r ≡ true → old ≡ false → HasGiven state (port held old) a [] → Adds state a b whole
+      → Ends state r b (port holds new) → (new ≡ false) × Appends held holds whole
+  all-written whole ok sound given put ends =
+      ended-sound r held holds old new whole (ends (port held old) whole (put.given (port held old) [] given)) sound ok
 
--- a beginning was put, since an allocation failed, and the text ended well
-pub part-written : {T E : Type 0} {size : ℕ} {state : T → TargetState} (r : Result Unit E) {held : Option (List ℕ)} {old : Bool}
-    (holds : Option (List ℕ)) (new : Bool) {a b : Text T size} (whole : List ℕ) (e : Error) → error_kind e ≡ OutOfMemory
-    → is_ok r ≡ true → old ≡ false → HasGiven state (port held old) a [] → HasPart state a b whole → Ends state r b (port holds new)
-    → HasStopped e new held holds whole
-part-written r {held = held} {old = old} holds new whole e kind ok sound given put ends =
-    let ended = all-written r {held = held} {old = old} holds new put.part ok sound given put.put ends in
-    record {
-      reason = inr (ended.0, kind);
-      count = length put.part;
-      written =
-          subst (Appends held holds) (sym (ap (take (length put.part)) (sym put.whole) ∙ take-append_seam put.part put.rest)) ended.1;
-    }
+  -- a beginning was put, since an allocation failed, and the text ended well
+  pub part-written : (whole : List ℕ) (e : Error) → error_kind e ≡ OutOfMemory → is_ok r ≡ true → old ≡ false
+      → HasGiven state (port held old) a [] → HasPart state a b whole → Ends state r b (port holds new) → HasStopped e new held holds whole
+  part-written whole e kind ok sound given put ends =
+      let ended = all-written put.part ok sound given put.put ends in
+      let front = sym (ap (take (length put.part)) (sym put.whole) ∙ take-append_seam put.part put.rest) in
+      record { reason = inr (ended.0, kind); count = length put.part; written = subst (Appends held holds) front ended.1 }
 
--- the text ended with the writer's error
-begun-written : {T E : Type 0} {size : ℕ} {state : T → TargetState} (r : Result Unit E) {held : Option (List ℕ)} {old : Bool}
-    (holds : Option (List ℕ)) (new : Bool) {a b : Text T size} (part rest whole : List ℕ) (e : Error) → is_ok r ≡ false
-    → part ++ rest ≡ whole → HasGiven state (port held old) a [] → Adds state a b part → Ends state r b (port holds new)
-    → HasStopped e new held holds whole
-begun-written r {held = held} {old = old} holds new part rest whole e failed parts given put ends =
-    let begun = ended-failed r held holds old new part (ends (port held old) part (put.given (port held old) [] given)) failed in
-    let count = take-front begun.1.0 part rest in
-    record {
-      reason = inl begun.0;
-      count = count.0;
-      written = subst (Appends held holds) (count.1 ∙ ap (take count.0) parts) begun.1.1;
-    }
+  -- the text ended with the writer's error
+  begun-written : (part rest whole : List ℕ) (e : Error) → is_ok r ≡ false → part ++ rest ≡ whole → HasGiven state (port held old) a []
+      → Adds state a b part → Ends state r b (port holds new) → HasStopped e new held holds whole
+  begun-written part rest whole e failed parts given put ends =
+      let begun = ended-failed r held holds old new part (ends (port held old) part (put.given (port held old) [] given)) failed in
+      let count = take-front begun.1.0 part rest in
+      record { reason = inl begun.0; count = count.0; written = subst (Appends held holds) (count.1 ∙ ap (take count.0) parts) begun.1.1 }
 
-pub failed-written : {T E F : Type 0} {size : ℕ} {state : T → TargetState} (r : Result Unit E) {held : Option (List ℕ)} {old : Bool}
-    (holds : Option (List ℕ)) (new : Bool) {a b : Text T size} (m : Result Bool F) (whole : List ℕ) (e : Error) → is_ok r ≡ false
-    → HasGiven state (port held old) a [] → OnOk m (Adds state a b whole) → OnErr m (HasPart state a b whole)
-    → Ends state r b (port holds new) → HasStopped e new held holds whole
-failed-written r {held = held} {old = old} holds new (Ok clean) whole e failed given put stopped ends =
-    begun-written r {held = held} {old = old} holds new whole [] whole e failed (append-nil whole) given put ends
-failed-written r {held = held} {old = old} holds new (Err fault) whole e failed given put stopped ends =
-    begun-written r {held = held} {old = old} holds new stopped.part stopped.rest whole e failed stopped.whole given stopped.put ends
+  pub failed-written : {F : Type 0} (m : Result Bool F) (whole : List ℕ) (e : Error) → is_ok r ≡ false → HasGiven state (port held old) a []
+      → OnOk m (Adds state a b whole) → OnErr m (HasPart state a b whole) → Ends state r b (port holds new)
+      → HasStopped e new held holds whole
+  failed-written (Ok clean) whole e failed given put stopped ends = begun-written whole [] whole e failed (append-nil whole) given put ends
+  failed-written (Err fault) whole e failed given put stopped ends =
+      begun-written stopped.part stopped.rest whole e failed stopped.whole given stopped.put ends

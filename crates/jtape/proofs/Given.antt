@@ -9,9 +9,9 @@ use Rattle.simd_json_print.proofs.FlatMaps.{flat_map-more}
 use Rattle.simd_json_print.proofs.Texts.{adds-is, adds-then, adds-lost}
 
 -- one element more
-pub adds-more : {T : Type 0} {size : ℕ} {X : Type 0} (state : T → TargetState) (f : X
-    → List ℕ) (xs : List X) (i : ℕ) (d : X) (a b c : Text T size) → i < length xs → Adds state a b (flat_map f (take i xs))
-    → Adds state b c (f (get_or xs i d)) → Adds state a c (flat_map f (take (i + 1) xs))
+pub adds-more : {T : Type 0} {size : ℕ} {X : Type 0} (state : T → TargetState) (f : X → List ℕ) (xs : List X) (i : ℕ) (d : X)
+    (a b c : Text T size) → i < length xs → Adds state a b (flat_map f (take i xs)) → Adds state b c (f (get_or xs i d))
+    → Adds state a c (flat_map f (take (i + 1) xs))
 adds-more state f xs i d a b c more g h =
     adds-is state a c _ _ (sym (flat_map-more f xs i d more))
     (adds-then state a b c (flat_map f (take i xs)) (f (get_or xs i d)) g h)

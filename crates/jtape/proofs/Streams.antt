@@ -65,9 +65,8 @@ all-put {state = state} {a = a} {b = b} {depth = depth} {input = input} done =
     )
 
 -- the later pieces are dropped, once the target failed
-pub others-lost : {T : Type 0} {size : ℕ} {state : T → TargetState} {a b : Text T size} {depth : ℕ} {input : List ℕ}
-    {later : List (List ℕ)} {clean : Bool} → is_some b.fault ≡ true → AreDone state a b depth input later clean
-    → Adds state a b (pieces_text depth (pieces input))
+pub others-lost : {T : Type 0} {size : ℕ} {state : T → TargetState} {a b : Text T size} {depth : ℕ} {input : List ℕ} {later : List (List ℕ)}
+    {clean : Bool} → is_some b.fault ≡ true → AreDone state a b depth input later clean → Adds state a b (pieces_text depth (pieces input))
 others-lost {state = state} {a = a} {b = b} {depth = depth} {later = later} stopped done =
     adds-is state a b _ _ (sym (flat_map-append (piece_text depth) done.earlier later) ∙ ap (pieces_text depth) (sym done.cut))
     (adds-lost state a b (pieces_text depth done.earlier) (pieces_text depth later) stopped done.put)

@@ -26,9 +26,8 @@ answered-error b limit capacity e nodes listed p has is =
 
 -- of a line that is rejected
 pub rejected-line : (key : List ℕ) (longest : ℕ) (r : Report) (line : List ℕ) (limit capacity : ℕ) (answer : Result Unit Error) (e : Error)
-    (nodes : List Item) (listed : List ℕ)
-    → answer ≡ Err e → IsParse line limit capacity (result_err answer) nodes listed → HasMemory (result_err answer)
-    → limit ≡ default_max_depth → length line ≤ longest → is_blank line ≡ false
+    (nodes : List Item) (listed : List ℕ) → answer ≡ Err e → IsParse line limit capacity (result_err answer) nodes listed
+    → HasMemory (result_err answer) → limit ≡ default_max_depth → length line ≤ longest → is_blank line ≡ false
     → with_rejection longest (next r) (Some e) ≡ with_line key longest r line
 rejected-line key longest r line limit capacity answer e nodes listed is parse has limited fits some =
     ap (with_answer key longest (next r)) (sym (answered-error line limit capacity e nodes listed

@@ -125,10 +125,6 @@ compact-within (Ok text) b limit ns d p is same =
     ((d, (ns, p, is), same), subst (λ t. length t ≤ length b) (sym same) shortest)
 compact-within (Err e) b limit ns d p is same = tt
 
-pub parse-of-ok : {A : Type 0} (r : Result A Error) (x : A) (b : List ℕ) (limit capacity : ℕ) (ns : List Item) (listed : List ℕ)
-    → r ≡ Ok x → IsParse b limit capacity (result_err r) ns listed → IsParse b limit capacity None ns listed
-parse-of-ok r x b limit capacity ns listed is = subst (λ s. IsParse b limit capacity (result_err s) ns listed) is
-
 -- what is counted is what is needed
 pub room-counted : (b : List ℕ) (limit capacity : ℕ) (ns : List Item) (listed : List ℕ) (room : Room)
     → IsParse b limit capacity None ns listed → room.nodes ≡ length ns → room.text ≡ min (length (texts ns)) 18446744073709551615

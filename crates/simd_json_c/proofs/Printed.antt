@@ -11,5 +11,6 @@ pub is-printed : {A : Type 0} (bytes : A → List ℕ) (IsText : List ℕ → Ty
     → place ≡ error_place (result_err r) → IfOk r (λ t. IsTextPut (bytes t) status needed old new)
     → IfErr r (λ e. (status ≡ error_status (Some e)) × (needed ≡ old_needed) × (new ≡ old))
     → IsPrinted IsText b limit status place old_needed needed old new
-is-printed bytes IsText (Ok t) b limit status place old_needed needed old new is un at put none = (None, at, bytes t, is, put)
-is-printed bytes IsText (Err e) b limit status place old_needed needed old new is un at put none = (Some e, at, none.0, none.1, none.2, un)
+is-printed bytes IsText (Ok t) b limit status place old_needed needed old new is un at put none = (None, at, (bytes t, is, put))
+is-printed bytes IsText (Err e) b limit status place old_needed needed old new is un at put none =
+    (Some e, at, (none.0, none.1, none.2, un))
