@@ -11,7 +11,7 @@ int main(void) {
     simd_json_place place;
     int status = simd_json_tape(input, strlen(input), 1024, nodes, 16, text, 32, &room, &place);
     if (status != SIMD_JSON_OK) {
-        fprintf(stderr, "refused: status %d at byte %zu\n", status, place.index);
+        fprintf(stderr, "rejected: status %d at byte %zu\n", status, place.index);
         return 1;
     }
     for (size_t i = 0; i + 1 < room.nodes; i++)

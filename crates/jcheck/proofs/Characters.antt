@@ -1,9 +1,7 @@
 -- The first and the last characters of a list of bytes, as loops over an index find them.
-use Rattle.std.proofs.Common.{◌≡◌, ◌∙◌, refl, arith, ℕ, zero, suc, ◌+◌, ◌-◌, ◌<◌, ◌≤◌, List, [], ◌∷◌, drop, length}
-use Rattle.std.proofs.Common.{true, false}
+use Rattle.std.proofs.Common.{◌≡◌, ◌∙◌, refl, arith, ℕ, zero, suc, ◌+◌, ◌<◌, ◌≤◌, List, [], ◌∷◌, drop, length}
 use Rattle.std.proofs.lemmas.List.Sums.{sum_by-cons}
-use Rattle.simd_json.specs.Locations.{begins_character}
-use Rattle.jcheck.specs.Excerpts.{begun, characters, first_characters, last_characters}
+use Rattle.jcheck.specs.Excerpts.{begun, characters, last_characters}
 
 pub characters-cons : (x : ℕ) (s : List ℕ) → characters (x ∷ s) ≡ begun x + characters s
 characters-cons x s = sum_by-cons begun x s
@@ -29,16 +27,3 @@ last-from n (x ∷ s) zero many few = last-stays n x s (few (omega arith))
 last-from n (x ∷ s) (suc k) many few =
     last-drops n x s (omega (arith, many (omega arith), characters-drop k s))
     ∙ last-from n s k (λ _. many (omega arith)) (λ h. few (omega arith))
-
--- ---- at an index
-
-first-stops : (n : ℕ) (x : ℕ) (s : List ℕ) → begins_character x ≡ true → n ≡ 0 → first_characters n (x ∷ s) ≡ []
-first-stops n x s begins none = grind arith
-
-first-goes : (n : ℕ) (x : ℕ) (s : List ℕ) → begins_character x ≡ true → 0 < n
-    → first_characters n (x ∷ s) ≡ x ∷ first_characters (n - 1) s
-first-goes n x s begins some = grind arith
-
-first-stays : (n : ℕ) (x : ℕ) (s : List ℕ) → begins_character x ≡ false
-    → first_characters n (x ∷ s) ≡ x ∷ first_characters n s
-first-stays n x s later = grind arith

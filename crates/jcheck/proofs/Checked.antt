@@ -1,5 +1,6 @@
 -- How files were checked, as a loop over them goes on and ends.
-use Rattle.std.proofs.Common.{◌≡◌, ◌∙◌, refl, ap, sym, subst, ℕ, ◌+◌, ◌<◌, List, [], ◌∷◌, Bool, true, false, length, drop, get_or, add-one, drop-cons}
+use Rattle.std.proofs.Common.{◌≡◌, ◌∙◌, refl, ap, sym, subst, ℕ, ◌+◌, ◌<◌, List, [], ◌∷◌, Bool, true, false, length, drop, get_or, add-one}
+use Rattle.std.proofs.Common.{drop-cons}
 use Rattle.std.specs.Prelude.{Result}
 use Rattle.std.specs.declared.io.Error.{Error}
 use Rattle.jcheck.specs.Endings.{Checks, HasChecked, OnClosed, ended_after, ended_of, is_closed, worse}

@@ -5,7 +5,7 @@ use Rattle.std.specs.Fmt.{decimal}
 use Rattle.std.specs.List.{after_last, before_first, repeat}
 use Rattle.std.proofs.Math.Seq.{take-add}
 use Rattle.std.proofs.lemmas.List.{drop-append-le, drop-take, drop_min, length-drop, take_all, take_min}
-use Rattle.jcheck.specs.Excerpts.{back, characters, excerpt, first_characters, front, last_characters, shown}
+use Rattle.jcheck.specs.Excerpts.{back, characters, excerpt, first_characters, front, last_characters, lossy_text}
 use Rattle.jcheck.specs.Reports.{words}
 use Rattle.simd_json.specs.Locations.{is_line_feed}
 use Rattle.simd_json.specs.Messages.{reason_text}
@@ -25,8 +25,7 @@ words-laid-out : (file : List ℕ) (line byte : ℕ) (l : Location)
 words-laid-out file line byte l = simp append_assoc
 
 pub words-is : (file : List ℕ) (line byte : ℕ) (l : Location) (column : ℕ) (reason : Reason) (kind : ErrorType) → column ≡ l.column
-    → reason ≡ l.reason → kind ≡ l.error.error
-    → formatted file line column reason kind byte ≡ words file line byte l ++ line_feed ∷ []
+    → reason ≡ l.reason → kind ≡ l.error.error → formatted file line column reason kind byte ≡ words file line byte l ++ line_feed ∷ []
 words-is file line byte l column reason kind column_is reason_is kind_is =
     ap (λ n. formatted file line n reason kind byte) column_is
     ∙ ap (λ r. formatted file line l.column r kind byte) reason_is
@@ -40,12 +39,13 @@ shown-line b place start end within le =
     sym (drop-take start (place + end - start) b) ∙ ap (λ n. drop start (take n b)) (omega arith)
     ∙ ap (drop start) (take-add place end b) ∙ drop-append-le start (take place b) (take end (drop place b)) within
 
-pub excerpt-is : (width : ℕ) (b : List ℕ) (i place start end indent left : ℕ) (before after : List ℕ)
-    → place ≡ min i (length b) → before ≡ take place b → length before ≡ place → after ≡ drop place b → start ≤ length before
+pub excerpt-is : (width : ℕ) (b : List ℕ) (i place start end indent left : ℕ) (before after : List ℕ) → place ≡ min i (length b)
+    → before ≡ take place b → length before ≡ place → after ≡ drop place b → start ≤ length before
     → drop start before ≡ after_last is_line_feed (last_characters (width / 2) before)
     → indent ≡ characters (take (length before - start) (drop start before)) → left ≡ width - indent
     → take end after ≡ before_first is_line_feed (first_characters left after)
-    → shown (take (place + end - start) (drop start b)) ++ (line_feed ∷ []) ++ repeat indent (space ∷ []) ++ (codes "^" ++ (line_feed ∷ []))
+    → lossy_text (take (place + end - start) (drop start b)) ++ (line_feed ∷ []) ++ repeat indent (space ∷ []) ++
+    (codes "^" ++ (line_feed ∷ []))
     ≡ excerpt width b i
 excerpt-is width b i place start end indent left before after at is_before long is_after within front_is indent_is left_is back_is =
     let front_of : List ℕ → List ℕ = λ u. after_last is_line_feed (last_characters (width / 2) u) in
@@ -64,7 +64,7 @@ excerpt-is width b i place start end indent left before after at is_before long 
     ∙ ap (λ u. drop start u ++ take end (drop place b)) (sym is_before) ∙ ap (λ u. drop start before ++ take end u) (sym is_after)
     ∙ ap (λ u. u ++ take end after) fore ∙ ap (λ u. front width b i ++ u) aft in
     let caret = codes "^" ++ (line_feed ∷ []) in
-    let text = shown (front width b i ++ back width b i) in
-    ap (λ u. shown u ++ (line_feed ∷ []) ++ repeat indent (space ∷ []) ++ caret) line
+    let text = lossy_text (front width b i ++ back width b i) in
+    ap (λ u. lossy_text u ++ (line_feed ∷ []) ++ repeat indent (space ∷ []) ++ caret) line
     ∙ ap (λ n. text ++ (line_feed ∷ []) ++ repeat n (space ∷ []) ++ caret) count
     ∙ sym (append_assoc (text ++ (line_feed ∷ []) ++ repeat (characters (front width b i)) (space ∷ [])) (codes "^") (line_feed ∷ []))

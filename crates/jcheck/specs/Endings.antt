@@ -5,18 +5,18 @@ use Rattle.std.specs.declared.io.Error.{Error}
 use Rattle.std.specs.declared.io.ErrorKind.{ErrorKind}
 use Rattle.std.specs.declared.io.ErrorKind.TheVariants.{BrokenPipe}
 use Rattle.jcheck.specs.declared.report.Ended.{Ended}
-use Rattle.jcheck.specs.declared.report.Ended.TheVariants.{Clean, Refused, Failed}
+use Rattle.jcheck.specs.declared.report.Ended.TheVariants.{Clean, Rejected, Failed}
 
-abbrev pub status_of : Ended → ℕ
-status_of Clean = 0
-status_of Refused = 1
-status_of Failed = 3
+abbrev pub ended_status : Ended → ℕ
+ended_status Clean = 0
+ended_status Rejected = 1
+ended_status Failed = 3
 
 -- of two inputs: the worse of how each ended
 abbrev pub worse : Ended → Ended → Ended
 worse Clean other = other
-worse Refused Clean = Refused
-worse Refused other = other
+worse Rejected Clean = Rejected
+worse Rejected other = other
 worse Failed other = Failed
 
 -- ---- what the check of a file returned: whether it is clean, or an error
@@ -32,8 +32,8 @@ is_closed (Err e) = is_pipe (error_kind e)
 
 abbrev pub ended_of : Result Bool Error → Ended
 ended_of (Ok true) = Clean
-ended_of (Ok false) = Refused
-ended_of (Err e) = if is_pipe (error_kind e) then Refused else Failed
+ended_of (Ok false) = Rejected
+ended_of (Err e) = if is_pipe (error_kind e) then Rejected else Failed
 
 -- after more checks
 abbrev pub ended_after : Ended → List (Result Bool Error) → Ended

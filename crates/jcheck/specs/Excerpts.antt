@@ -1,5 +1,6 @@
 -- The text of a line around a place, and a caret under it.
-use Rattle.std.specs.Prelude.{ℕ, ◌-◌, ◌/◌, List, [], ◌∷◌, ◌++◌, map, take, drop, count_by, codes, nat_le, nat_lt, encode_utf8_all, if◌then◌else◌}
+use Rattle.std.specs.Prelude.{ℕ, ◌-◌, ◌/◌, List, [], ◌∷◌, ◌++◌, map, take, drop, count_by, codes, nat_le, nat_lt, encode_utf8_all}
+use Rattle.std.specs.Prelude.{if◌then◌else◌}
 use Rattle.std.specs.Char.{is_control}
 use Rattle.std.specs.List.{after_last, before_first, repeat}
 use Rattle.std.specs.Str.{chars}
@@ -43,11 +44,11 @@ abbrev pub visible_text : List ℕ → List ℕ
 visible_text cs = encode_utf8_all (map visible cs)
 
 -- what is not UTF-8 as U+FFFD
-abbrev pub shown : List ℕ → List ℕ
-shown s = visible_text (chars (utf8_lossy s))
+abbrev pub lossy_text : List ℕ → List ℕ
+lossy_text s = visible_text (chars (utf8_lossy s))
 
 -- a line of text, and a line with a caret under byte i
 abbrev pub excerpt : ℕ → List ℕ → ℕ → List ℕ
 excerpt width b i =
-    shown (front width b i ++ back width b i) ++ (line_feed ∷ [])
+    lossy_text (front width b i ++ back width b i) ++ (line_feed ∷ [])
     ++ repeat (characters (front width b i)) (space ∷ []) ++ codes "^" ++ (line_feed ∷ [])

@@ -1,5 +1,6 @@
 -- What is written of an input, and whether it is clean: functions of the input, its file's name, the width and the depth limit.
-use Rattle.std.specs.Prelude.{ℕ, ◌+◌, ◌-◌, ◌^◌, min, List, [], ◌∷◌, ◌++◌, length, codes, Bool, ◌||◌, Option, None, Some, is_none, if◌then◌else◌}
+use Rattle.std.specs.Prelude.{ℕ, ◌+◌, ◌-◌, ◌^◌, min, List, [], ◌∷◌, ◌++◌, length, codes, Bool, ◌||◌, Option, None, Some, is_none}
+use Rattle.std.specs.Prelude.{if◌then◌else◌}
 use Rattle.std.specs.Fmt.{decimal}
 use Rattle.std.specs.List.{list_all}
 use Rattle.jcheck.specs.Excerpts.{excerpt}

@@ -4,7 +4,7 @@ use Rattle.std.specs.Io.KnownBytes.{Appends}
 use Rattle.std.specs.IoError.{error_kind}
 use Rattle.std.specs.declared.io.Error.{Error}
 use Rattle.std.specs.declared.io.ErrorKind.TheVariants.{OutOfMemory}
-use Rattle.simd_json_print.specs.Texts.{Place, Adds}
+use Rattle.simd_json_print.specs.Texts.{TargetState, Adds}
 use Rattle.simd_json_print.specs.declared.text.Text.{Text}
 
 -- Of a writer that held and holds these: a beginning of the bytes was written, and the writer failed, or an allocation did.
@@ -14,8 +14,8 @@ pub record HasStopped (e : Error) (failed : Bool) (held holds : Option (List ℕ
   pub written : Appends held holds (take count bytes)
 
 -- a beginning of the bytes was put, and nothing else
-pub record HasPart {T : Type 0} {size : ℕ} (place : T → Place) (old new : Text T size) (bytes : List ℕ) : Type 0 where
+pub record HasPart {T : Type 0} {size : ℕ} (state : T → TargetState) (old new : Text T size) (bytes : List ℕ) : Type 0 where
   pub part : List ℕ
   pub rest : List ℕ
   pub whole : part ++ rest ≡ bytes
-  pub put : Adds place old new part
+  pub put : Adds state old new part

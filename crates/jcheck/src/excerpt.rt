@@ -1,7 +1,8 @@
 //! The text of a line around a place, and a caret under it.
 ghost use Rattle.std.specs.Prelude.{◌≡◌, ◌≤◌, ◌∷◌, [], chars, drop, length, take};
 ghost use Rattle.std.specs.List.{after_last, before_first, position_or_len, repeat};
-ghost use Rattle.jcheck.specs.Excerpts.{characters, excerpt, first_characters, last_characters, shown, visible, visible_text};
+ghost use Rattle.jcheck.specs.Excerpts.{characters, excerpt, first_characters, last_characters};
+ghost use Rattle.jcheck.specs.Excerpts.{lossy_text, visible, visible_text};
 ghost use Rattle.simd_json.specs.Locations.{begins_character, is_line_feed};
 ghost use Rattle.simd_json_parts.specs.Bytes.{space};
 ghost use Rattle.simd_json_print.specs.Texts.{Adds};
@@ -17,7 +18,7 @@ pub fn put_excerpt<T: Target, const SIZE: usize>(
     byte: usize,
     width: usize,
 )
-    ensures { Adds T.place text.old text.new (excerpt width input.now byte) }
+    ensures { Adds T.state text.old text.new (excerpt width input.now byte) }
 {
     let place = byte.min(input.len());
     let (before, after) = input.split_at(place);
@@ -124,7 +125,7 @@ fn begins_character(byte: u8) -> bool
 
 // Puts the text of the bytes, all of it visible.
 fn put_shown<T: Target, const SIZE: usize>(text: &mut Text<'_, T, SIZE>, bytes: &[u8])
-    ensures { Adds T.place text.old text.new (shown bytes.now) }
+    ensures { Adds T.state text.old text.new (lossy_text bytes.now) }
 {
     for chunk in bytes.utf8_chunks() {
         put_visible(text, chunk.valid());
@@ -135,7 +136,7 @@ fn put_shown<T: Target, const SIZE: usize>(text: &mut Text<'_, T, SIZE>, bytes: 
 }
 
 fn put_visible<T: Target, const SIZE: usize>(text: &mut Text<'_, T, SIZE>, characters: &str)
-    ensures { Adds T.place text.old text.new (visible_text (chars characters.now)) }
+    ensures { Adds T.state text.old text.new (visible_text (chars characters.now)) }
 {
     for c in characters.chars() {
         text.put(visible(c).encode_utf8(&mut [0; 4]).as_bytes());
@@ -150,7 +151,7 @@ fn visible(c: char) -> char
 }
 
 fn put_spaces<T: Target, const SIZE: usize>(text: &mut Text<'_, T, SIZE>, count: usize)
-    ensures { Adds T.place text.old text.new (repeat count (space ∷ [])) }
+    ensures { Adds T.state text.old text.new (repeat count (space ∷ [])) }
 {
     let mut left = count;
     while left > 0 {

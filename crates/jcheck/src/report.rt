@@ -1,9 +1,11 @@
 //! What is written about an input, and how the program ends.
-ghost use Rattle.std.specs.Prelude.{◌≡◌, ◌∷◌, ◌++◌, [], false, is_none, is_some, string_bytes, IfOk, IfErr, OnOk, OnErr};
+ghost use Rattle.std.specs.Prelude.{◌≡◌, ◌∷◌, ◌++◌, [], false, is_none, is_some, string_bytes};
+ghost use Rattle.std.specs.Prelude.{IfOk, IfErr, OnOk, OnErr};
 ghost use Rattle.std.specs.Io.KnownBytes.{Appends};
 ghost use Rattle.std.specs.List.{list_all};
-ghost use Rattle.jcheck.specs.Endings.{HasChecked, ended_of, is_closed, status_of, worse};
-ghost use Rattle.jcheck.specs.Reports.{is_clean, is_clean_line, line_text, lines_text, output_of, report, whole_text, words};
+ghost use Rattle.jcheck.specs.Endings.{HasChecked, ended_of, is_closed, ended_status, worse};
+ghost use Rattle.jcheck.specs.Reports.{is_clean, is_clean_line, line_text, lines_text, output_of};
+ghost use Rattle.jcheck.specs.Reports.{report, whole_text, words};
 ghost use Rattle.jcheck.specs.Writings.{HasPart, HasStopped};
 ghost use Rattle.jtape.specs.Pieces.{pieces};
 ghost use Rattle.simd_json.specs.Reasons.{found_in};
@@ -29,7 +31,7 @@ pub enum Ended {
     /// Each input is a document.
     Clean,
     /// An input was rejected.
-    Refused,
+    Rejected,
     /// A file can't be read, or a report can't be written.
     Failed,
 }
@@ -37,11 +39,11 @@ pub enum Ended {
 impl Ended {
     /// Returns the exit status of the program.
     pub fn status(self) -> u8
-        ensures { result ≡ status_of self }
+        ensures { result ≡ ended_status self }
     {
         match self {
             Ended::Clean => 0,
-            Ended::Refused => 1,
+            Ended::Rejected => 1,
             Ended::Failed => 3,
         }
     }
@@ -52,8 +54,8 @@ impl Ended {
     {
         match checked {
             Ok(true) => Ended::Clean,
-            Ok(false) => Ended::Refused,
-            Err(e) if e.kind() == ErrorKind::BrokenPipe => Ended::Refused,
+            Ok(false) => Ended::Rejected,
+            Err(e) if e.kind() == ErrorKind::BrokenPipe => Ended::Rejected,
             Err(_) => Ended::Failed,
         }
     }
@@ -64,8 +66,8 @@ impl Ended {
     {
         match (self, other) {
             (Ended::Clean, _) => other,
-            (Ended::Refused, Ended::Clean) => Ended::Refused,
-            (Ended::Refused, _) => other,
+            (Ended::Rejected, Ended::Clean) => Ended::Rejected,
+            (Ended::Rejected, _) => other,
             (Ended::Failed, _) => Ended::Failed,
         }
     }
@@ -145,9 +147,9 @@ fn put_input<T: Target, const SIZE: usize>(
 ) -> Result<bool, AllocError>
     ensures clean { IfOk result (λ clean. is_some text.new.fault ≡ false
         → clean ≡ is_clean input.now has_lines checker.old.buffers.limit) }
-    ensures put { OnOk result (Adds T.place text.old text.new
+    ensures put { OnOk result (Adds T.state text.old text.new
         (output_of file.now input.now has_lines width checker.old.buffers.limit)) }
-    ensures stopped { OnErr result (HasPart T.place text.old text.new
+    ensures stopped { OnErr result (HasPart T.state text.old text.new
         (output_of file.now input.now has_lines width checker.old.buffers.limit)) }
     ensures limit { checker.new.buffers.limit ≡ checker.old.buffers.limit }
 {
@@ -168,16 +170,16 @@ fn put_whole<T: Target, const SIZE: usize>(
 ) -> Result<bool, AllocError>
     ensures clean { IfOk result (λ clean. clean
         ≡ is_none (found_in input.now checker.old.buffers.limit)) }
-    ensures put { OnOk result (Adds T.place text.old text.new
+    ensures put { OnOk result (Adds T.state text.old text.new
         (whole_text file.now width input.now (found_in input.now checker.old.buffers.limit))) }
-    ensures stopped { OnErr result (HasPart T.place text.old text.new
+    ensures stopped { OnErr result (HasPart T.state text.old text.new
         (whole_text file.now width input.now (found_in input.now checker.old.buffers.limit))) }
     ensures limit { checker.new.buffers.limit ≡ checker.old.buffers.limit }
 {
     let Some(location) = checker.check(input)? else {
         return Ok(true);
     };
-    let place = Place {
+    let place = FilePlace {
         file,
         line: location.line(),
         byte: location.byte(),
@@ -196,14 +198,14 @@ fn put_lines<T: Target, const SIZE: usize>(
 ) -> Result<bool, AllocError>
     ensures clean { IfOk result (λ clean. is_some text.new.fault ≡ false
         → clean ≡ list_all (is_clean_line checker.old.buffers.limit) (pieces input.now)) }
-    ensures put { OnOk result (Adds T.place text.old text.new
+    ensures put { OnOk result (Adds T.state text.old text.new
         (lines_text file.now width checker.old.buffers.limit 1 0 (pieces input.now))) }
-    ensures stopped { OnErr result (HasPart T.place text.old text.new
+    ensures stopped { OnErr result (HasPart T.state text.old text.new
         (lines_text file.now width checker.old.buffers.limit 1 0 (pieces input.now))) }
     ensures limit { checker.new.buffers.limit ≡ checker.old.buffers.limit }
 {
     let mut clean = true;
-    let mut place = Place {
+    let mut place = FilePlace {
         file,
         line: 1,
         byte: 0,
@@ -227,16 +229,16 @@ fn put_lines<T: Target, const SIZE: usize>(
 fn put_line<T: Target, const SIZE: usize>(
     checker: &mut Checker<'_>,
     text: &mut Text<'_, T, SIZE>,
-    start: Place<'_>,
+    start: FilePlace<'_>,
     line: &[u8],
     width: usize,
 ) -> Result<bool, AllocError>
     ensures clean { IfOk result (λ clean. clean
         ≡ is_clean_line checker.old.buffers.limit line.now) }
-    ensures put { OnOk result (Adds T.place text.old text.new
+    ensures put { OnOk result (Adds T.state text.old text.new
         (line_text start.entry.file.now width checker.old.buffers.limit
         start.entry.line start.entry.byte line.now)) }
-    ensures none { OnErr result (Adds T.place text.old text.new []) }
+    ensures none { OnErr result (Adds T.state text.old text.new []) }
     ensures limit { checker.new.buffers.limit ≡ checker.old.buffers.limit }
 {
     if is_blank(line) {
@@ -245,7 +247,7 @@ fn put_line<T: Target, const SIZE: usize>(
     let Some(location) = checker.check(line)? else {
         return Ok(true);
     };
-    let place = Place {
+    let place = FilePlace {
         byte: start.byte.saturating_add(location.byte()),
         ..start
     };
@@ -255,7 +257,7 @@ fn put_line<T: Target, const SIZE: usize>(
 
 // A place in a file.
 #[derive(Clone, Copy)]
-struct Place<'a> {
+struct FilePlace<'a> {
     // the name of the file
     file: &'a str,
     // the line: from 1
@@ -264,7 +266,7 @@ struct Place<'a> {
     byte: usize,
 }
 
-impl Place<'_> {
+impl FilePlace<'_> {
     // Appends the report on an error here: where and why, and the text around it in the bytes that
     // were checked. If an allocation fails, nothing is appended.
     fn put<T: Target, const SIZE: usize>(
@@ -275,10 +277,10 @@ impl Place<'_> {
         location: &Location,
         width: usize,
     ) -> Result<(), AllocError>
-        ensures put { OnOk result (Adds T.place text.old text.new
+        ensures put { OnOk result (Adds T.state text.old text.new
             (report self.entry.file.now width self.entry.line self.entry.byte
             checked.now location.now)) }
-        ensures none { OnErr result (Adds T.place text.old text.new []) }
+        ensures none { OnErr result (Adds T.state text.old text.new []) }
     {
         let words = self.words(alloc, location)?;
         text.put(words.as_bytes());
@@ -292,7 +294,7 @@ impl Place<'_> {
             ≡ words self.entry.file.now self.entry.line self.entry.byte location.now
             ++ line_feed ∷ []) }
     {
-        let Place { file, line, byte } = self;
+        let FilePlace { file, line, byte } = self;
         let column = location.column();
         let reason = location.reason();
         let kind = location.error().error();

@@ -8,7 +8,7 @@ use Rattle.std.specs.Str.{all_ascii_digits}
 use Rattle.std.specs.Str.Parse.{ParsesUnsigned, digits_value}
 use Rattle.std.proofs.lemmas.Bool.{lt-ltb, ltb-true, false≢true}
 use Rattle.std.proofs.lemmas.Str.Parse.{numerals_by_value, tells_all_ascii_digits, parse_digits}
-use Rattle.jtape.specs.Settings.{number_of}
+use Rattle.jtape.specs.Settings.{word_number}
 
 digits-all : (ds : List ℕ) → list_all is_ascii_digit ds ≡ all_ascii_digits ds
 digits-all [] = refl
@@ -27,7 +27,7 @@ unless_all true false r x y none = refl
 unless_all false q r x y none = refl
 
 read-as : {E : Type 0} (word : List ℕ) (r : Result ℕ E) → list_all is_ascii_digit word ≡ true
-    → OkIff r ((0 < length word) × (digits_value 10 word < 2 ^ 64)) (digits_value 10 word) → result_ok r ≡ number_of word
+    → OkIff r ((0 < length word) × (digits_value 10 word < 2 ^ 64)) (digits_value 10 word) → result_ok r ≡ word_number word
 read-as word (Ok x) digits h =
     ap Some h.1 ∙ sym (if_all (list_all is_ascii_digit word) (nat_lt 0 (length word)) (nat_lt (digits_value 10 word) (2 ^ 64))
     (Some (digits_value 10 word)) None digits (lt-ltb 0 (length word) h.0.0) (lt-ltb (digits_value 10 word) (2 ^ 64) h.0.1))
@@ -36,7 +36,7 @@ read-as word (Err e) digits h =
     (Some (digits_value 10 word)) None (λ p q. h (ltb-true 0 (length word) p, ltb-true (digits_value 10 word) (2 ^ 64) q)))
 
 pub number-read : {E : Type 0} (word : List ℕ) (r : Result ℕ E) → list_all is_ascii_digit word ≡ true → ParsesUnsigned 64 10 word r
-    → result_ok r ≡ number_of word
+    → result_ok r ≡ word_number word
 number-read word r digits parsed =
     read-as word r digits (parse_digits (numerals_by_value (λ ds. all_ascii_digits ds ≡ true) tells_all_ascii_digits)
     64 word r parsed (sym (digits-all word) ∙ digits))

@@ -76,8 +76,7 @@ pub is-equal : (x : ℕ) → is_byte line_feed x ≡ true → x ≡ line_feed
 is-equal x is = grind (arith, is)
 
 pub found-cut : (hay piece after more : List ℕ) (k : ℕ) → IsFirstByte (is_byte line_feed) hay (Some k) → piece ≡ take k hay
-    → after ≡ drop k hay → more ≡ drop 1 after
-    → pieces hay ≡ piece ∷ pieces more
+    → after ≡ drop k hay → more ≡ drop 1 after → pieces hay ≡ piece ∷ pieces more
 found-cut hay piece after more k found front back next =
     let is : more ≡ drop 1 (drop k hay) = next ∙ ap (drop 1) back in
     ap pieces (split-at hay k found.0.high ∙ ap (λ x. take k hay ++ x ∷ drop 1 (drop k hay)) (is-equal (slice_index hay k) found.1))

@@ -10,9 +10,9 @@ fault_text (Refused e) = error_text e
 fault_text Read = codes "reading failed"
 fault_text Write = codes "writing failed"
 
-abbrev pub status_of : Result Bool RunFault → ℕ
-status_of (Ok true) = 0
-status_of (Ok false) = 1
-status_of (Err (Refused e)) = 1
-status_of (Err Read) = 3
-status_of (Err Write) = 3
+abbrev pub run_status : Result Bool RunFault → ℕ
+run_status (Ok true) = 0
+run_status (Ok false) = 1
+run_status (Err (Refused e)) = 1
+run_status (Err Read) = 3
+run_status (Err Write) = 3

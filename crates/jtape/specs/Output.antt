@@ -31,7 +31,7 @@ printed Pretty input d = pretty d ++ line_feed ∷ []
 abbrev pub all_printed : List ℕ → Output
 all_printed bytes = record { bytes = bytes; returned = Ok true }
 
--- nothing is written of what is refused
+-- nothing is written of what is rejected
 abbrev pub nothing_printed : RunFault → Output
 nothing_printed fault = record { bytes = []; returned = Err fault }
 

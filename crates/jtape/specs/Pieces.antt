@@ -22,7 +22,7 @@ pieces (x ∷ b) = if x == line_feed then [] ∷ pieces b else with_first x (pie
 abbrev pub is_blank : List ℕ → Bool
 is_blank piece = list_all is_whitespace piece
 
--- a document without whitespace; of what is refused its error, after a mark that begins no document
+-- a document without whitespace; of what is rejected its error, after a mark that begins no document
 abbrev pub answer_text : Result Document Error → List ℕ
 answer_text (Ok d) = compact d
 answer_text (Err e) = codes "! " ++ error_text e

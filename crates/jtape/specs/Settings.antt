@@ -1,5 +1,6 @@
 -- What the words after the program's name ask for.
-use Rattle.std.specs.Prelude.{ℕ, ◌^◌, List, [], ◌∷◌, length, codes, bytes_eq, Option, Some, None, option_map, option_and_then, ◌&&◌, nat_lt, if◌then◌else◌}
+use Rattle.std.specs.Prelude.{ℕ, ◌^◌, List, [], ◌∷◌, length, codes, bytes_eq, Option, Some, None, option_map, option_and_then, ◌&&◌, nat_lt}
+use Rattle.std.specs.Prelude.{if◌then◌else◌}
 use Rattle.std.specs.Char.{is_ascii_digit}
 use Rattle.std.specs.List.{list_all}
 use Rattle.std.specs.Str.Parse.{digits_value}
@@ -17,12 +18,13 @@ mode_of word =
     else None
 
 -- one digit or more, of a number below 2^64
-abbrev pub number_of : List ℕ → Option ℕ
-number_of word =
-    if list_all is_ascii_digit word && nat_lt 0 (length word) && nat_lt (digits_value 10 word) (2 ^ 64) then Some (digits_value 10 word) else None
+abbrev pub word_number : List ℕ → Option ℕ
+word_number word =
+    if list_all is_ascii_digit word && nat_lt 0 (length word) && nat_lt (digits_value 10 word) (2 ^ 64) then Some (digits_value 10 word)
+    else None
 
 -- a mode, and a depth limit after it or not
 abbrev pub settings_of : List (List ℕ) → Option (Mode × ℕ)
 settings_of (mode ∷ []) = option_map (λ m. (m, default_max_depth)) (mode_of mode)
-settings_of (mode ∷ depth ∷ []) = option_and_then (λ m. option_map (λ d. (m, d)) (number_of depth)) (mode_of mode)
+settings_of (mode ∷ depth ∷ []) = option_and_then (λ m. option_map (λ d. (m, d)) (word_number depth)) (mode_of mode)
 settings_of _ = None

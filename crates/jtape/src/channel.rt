@@ -1,4 +1,4 @@
-//! A reader or a writer that records failures and its end.
+//! Readers and writers that record failures and their end.
 use simd_json_print::text::Target;
 use std::io;
 use std::io::{Read, Write};
@@ -7,7 +7,7 @@ use std::marker::Model;
 /// A reader or a writer that records whether a call on it failed, and whether it ended. Only its
 /// own calls set these flags, [`failed`](Channel::failed) and [`ended`](Channel::ended).
 ///
-/// A [`Port`](crate::Port) is read and written only by [`run`](crate::run). This is for a program
+/// A [`Port`] is read and written only by [`run`](crate::run). This is for a program
 /// that does so itself: text is written to it as to any [`Target`].
 #[derive(Drop)]
 pub struct Channel<T> {
@@ -91,10 +91,14 @@ impl<W: Write> Target for Channel<W> {
     ghost use Rattle.std.specs.Prelude.{◌≡◌, Some};
     ghost use Rattle.simd_json_print.specs.Texts.{Takes};
 
-    ghost place = { λ channel. record { held = W.contents channel.inner; failed = Some channel.failed } };
+    ghost state = { λ channel. record {
+      held = W.contents channel.inner;
+      failed = Some channel.failed;
+    } };
 
     fn take_some(&mut self, bytes: &[u8]) -> io::Result<usize>
-        ensures takes { Takes (record { held = W.contents self.old.inner; failed = Some self.old.failed })
+        ensures takes { Takes
+            (record { held = W.contents self.old.inner; failed = Some self.old.failed })
             (record { held = W.contents self.new.inner; failed = Some self.new.failed })
             result bytes.now }
         ensures ended { self.new.ended ≡ self.old.ended }
@@ -105,5 +109,56 @@ impl<W: Write> Target for Channel<W> {
             _ => self.failed = true,
         }
         written
+    }
+}
+
+/// A reader or a writer for [`run`](crate::run) that records whether a call on it failed and
+/// whether it ended. Only the run's own calls set these flags, [`failed`](Port::failed) and
+/// [`ended`](Port::ended).
+#[derive(Drop)]
+pub struct Port<T> {
+    pub(crate) channel: Channel<T>,
+}
+
+impl<T> Model for Port<T> {
+    ghost use Rattle.jtape.specs.Ports.{Watched};
+
+    ghost Value = { Watched T };
+
+    ghost view = { λ port. port.channel };
+}
+
+impl<T> Port<T> {
+    ghost use Rattle.std.specs.Prelude.{◌≡◌, false};
+
+    /// A port that has neither failed nor ended.
+    pub fn new(inner: T) -> Port<T>
+        ensures { result ≡ record { inner = inner; failed = false; ended = false } }
+    {
+        Port {
+            channel: Channel::new(inner),
+        }
+    }
+
+    /// Whether a read or a write through the port returned an error, or a write wrote 0 bytes of a
+    /// non-empty buffer.
+    pub fn failed(&self) -> bool
+        ensures { result ≡ self.now.failed }
+    {
+        self.channel.failed()
+    }
+
+    /// Whether a read into a non-empty buffer returned 0.
+    pub fn ended(&self) -> bool
+        ensures { result ≡ self.now.ended }
+    {
+        self.channel.ended()
+    }
+
+    /// The reader or the writer.
+    pub fn into_inner(self) -> T
+        ensures { result ≡ self.inner }
+    {
+        self.channel.into_inner()
     }
 }

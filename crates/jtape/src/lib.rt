@@ -25,13 +25,11 @@
 mod channel;
 mod lines;
 mod output;
-mod port;
 mod positions;
 mod runs;
 mod stream;
 mod words;
 
-pub use channel::Channel;
-pub use port::Port;
+pub use channel::{Channel, Port};
 pub use runs::{Answer, RunFault, run, status};
 pub use words::{Mode, number_named, settings};

@@ -1,6 +1,6 @@
 //! The lines of a tape.
 ghost use Rattle.std.specs.Prelude.{◌≢◌, ◌++◌, ◌∷◌, [], List, ℕ, ℤ, map};
-ghost use Rattle.jtape.specs.Lines.{header_text, line, lines, static_text};
+ghost use Rattle.jtape.specs.Lines.{header_text, node_line, lines, typed_text};
 ghost use Rattle.simd_json_parts.specs.Bytes.{line_feed};
 ghost use Rattle.simd_json_parts.specs.Nodes.{item_of, static_item, string_item};
 ghost use Rattle.simd_json_parts.specs.declared.node.StaticNode.{StaticNode};
@@ -15,7 +15,7 @@ pub(crate) fn put_lines<T: Target, const SIZE: usize>(
     text: &mut Text<'_, T, SIZE>,
     nodes: &[Node<'_>],
 )
-    ensures { Adds T.place text.old text.new (lines (map item_of nodes.now)) }
+    ensures { Adds T.state text.old text.new (lines (map item_of nodes.now)) }
 {
     for node in nodes {
         if text.has_failed() {
@@ -29,7 +29,7 @@ pub(crate) fn put_lines<T: Target, const SIZE: usize>(
 // that one function for all of them would get.
 #[inline(always)]
 fn put_line<T: Target, const SIZE: usize>(text: &mut Text<'_, T, SIZE>, node: &Node<'_>)
-    ensures { Adds T.place text.old text.new (line (item_of node.now)) }
+    ensures { Adds T.state text.old text.new (node_line (item_of node.now)) }
 {
     if let Node::String(string) = *node {
         text.put_string(b"String \"", string, b"\"\n");
@@ -42,7 +42,7 @@ fn put_line<T: Target, const SIZE: usize>(text: &mut Text<'_, T, SIZE>, node: &N
 
 #[inline(never)]
 fn put_static<T: Target, const SIZE: usize>(text: &mut Text<'_, T, SIZE>, value: StaticNode)
-    ensures { Adds T.place text.old text.new (static_text value ++ line_feed ∷ []) }
+    ensures { Adds T.state text.old text.new (typed_text value ++ line_feed ∷ []) }
 {
     if let StaticNode::U64(_) = value {
         text.put_static(b"U64 ", value, b"\n");
@@ -58,7 +58,7 @@ fn put_static<T: Target, const SIZE: usize>(text: &mut Text<'_, T, SIZE>, value:
 fn put_word<T: Target, const SIZE: usize>(text: &mut Text<'_, T, SIZE>, value: StaticNode)
     requires unsigned { (number : ℕ) → value ≢ U64 number }
     requires signed { (number : ℤ) → value ≢ I64 number }
-    ensures { Adds T.place text.old text.new (static_text value ++ line_feed ∷ []) }
+    ensures { Adds T.state text.old text.new (typed_text value ++ line_feed ∷ []) }
 {
     if let StaticNode::Bool(_) = value {
         text.put_static(b"Bool ", value, b"\n");
@@ -76,7 +76,7 @@ fn put_word<T: Target, const SIZE: usize>(text: &mut Text<'_, T, SIZE>, value: S
 fn put_other<T: Target, const SIZE: usize>(text: &mut Text<'_, T, SIZE>, node: &Node<'_>)
     requires unquoted { (string : List ℕ) → item_of node.now ≢ string_item string }
     requires varying { (value : StaticNode) → item_of node.now ≢ static_item value }
-    ensures { Adds T.place text.old text.new (line (item_of node.now)) }
+    ensures { Adds T.state text.old text.new (node_line (item_of node.now)) }
 {
     if let Node::Object { len, count } = *node {
         put_header(text, b"Object ", len, count);
@@ -95,7 +95,7 @@ fn put_header<T: Target, const SIZE: usize>(
     len: usize,
     count: usize,
 )
-    ensures { Adds T.place text.old text.new (header_text kind.now len count ++ line_feed ∷ []) }
+    ensures { Adds T.state text.old text.new (header_text kind.now len count ++ line_feed ∷ []) }
 {
     text.put_static(kind, StaticNode::U64(len as u64), b" ");
     text.put_static(b"", StaticNode::U64(count as u64), b"\n");

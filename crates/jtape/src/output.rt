@@ -1,5 +1,6 @@
 //! From an input to its output.
-ghost use Rattle.std.specs.Prelude.{◌≡◌, ◌≢◌, ◌⊎◌, true, false, List, ℕ, map, take, IfErr, OnOk, OnErr, Ok};
+ghost use Rattle.std.specs.Prelude.{◌≡◌, ◌≢◌, ◌⊎◌, true, false, List, ℕ, map, take, IfErr, OnOk};
+ghost use Rattle.std.specs.Prelude.{OnErr, Ok};
 ghost use Rattle.std.specs.Io.KnownBytes.{Appends};
 ghost use Rattle.jtape.specs.Output.{document_output, printed, nothing_printed};
 ghost use Rattle.jtape.specs.Runs.{lacks_memory};
@@ -38,8 +39,9 @@ pub(crate) fn write_output<A: Allocator + Copy, W: Write>(
         × ((document_output layout depth input.old).returned ≡ Ok true)
         × Appends (W.contents writer.old.inner) (W.contents writer.new.inner)
         (document_output layout depth input.old).bytes) }
-    ensures refused { IfErr result (λ fault. fault ≢ faults.Write → (writer.new ≡ writer.old)
-        × ((fault ≡ lacks_memory) ⊎ (document_output layout depth input.old ≡ nothing_printed fault))) }
+    ensures rejected { IfErr result (λ fault. fault ≢ faults.Write → (writer.new ≡ writer.old)
+        × ((fault ≡ lacks_memory)
+        ⊎ (document_output layout depth input.old ≡ nothing_printed fault))) }
     ensures begun { IfErr result (λ fault. fault ≡ faults.Write → (writer.new.failed ≡ true)
         × ((count : ℕ) × Appends (W.contents writer.old.inner) (W.contents writer.new.inner)
         (take count (document_output layout depth input.old).bytes))) }
@@ -65,7 +67,8 @@ fn print<W: Write>(
         (printed layout input d)) }
     ensures begun { (d : Document) → (input : List ℕ)
         → map item_of nodes.now ≡ listing d → structural_indexes.now ≡ positions input
-        → OnErr result ((count : ℕ) × Appends (W.contents writer.old.inner) (W.contents writer.new.inner)
+        → OnErr result ((count : ℕ)
+        × Appends (W.contents writer.old.inner) (W.contents writer.new.inner)
         (take count (printed layout input d))) }
     ensures sound { OnOk result (writer.new.failed ≡ false) }
     ensures fault { IfErr result (λ fault. (fault ≡ faults.Write) × (writer.new.failed ≡ true)) }

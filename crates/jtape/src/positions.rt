@@ -10,7 +10,7 @@ pub(crate) fn put_positions<T: Target, const SIZE: usize>(
     text: &mut Text<'_, T, SIZE>,
     positions: &[u32],
 )
-    ensures { Adds T.place text.old text.new (number_lines positions.now) }
+    ensures { Adds T.state text.old text.new (number_lines positions.now) }
 {
     for &position in positions {
         if text.has_failed() {

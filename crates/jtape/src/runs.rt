@@ -2,14 +2,14 @@
 ghost use Rattle.std.specs.Prelude.{◌≡◌, ◌≢◌, ◌↔◌, ◌⊎◌, ◌<◌, ℕ, List, Option, length};
 ghost use Rattle.std.specs.Prelude.{true, false, IfOk, IfErr, OnOk, Err};
 ghost use Rattle.std.specs.Io.KnownBytes.{Consumes, IsAtEnd, Keeps};
-ghost use Rattle.jtape.specs.Failures.{status_of};
-ghost use Rattle.jtape.specs.Runs.{HasRead, HasRun, HasBegun, HasStopped, IsReadFault, OnAnswer, lacks_memory};
+ghost use Rattle.jtape.specs.Failures.{run_status};
+ghost use Rattle.jtape.specs.Runs.{HasRead, HasRun, HasBegun, HasStopped, IsReadFault, OnAnswer};
+ghost use Rattle.jtape.specs.Runs.{lacks_memory};
 ghost use Rattle.jtape.specs.declared.runs.RunFault.TheVariants as faults;
 ghost use Rattle.jtape.specs.declared.words.Mode.TheVariants as modes;
 
-use crate::channel::Channel;
+use crate::channel::{Channel, Port};
 use crate::output::write_output;
-use crate::port::Port;
 use crate::stream::write_stream;
 use crate::words::Mode;
 use simd_json::Error;
@@ -76,7 +76,7 @@ impl fmt::Display for RunFault {
 /// The exit status of a run: 0 if all was printed, 1 if an input was rejected or an allocation
 /// failed, 3 if the reader or the writer failed.
 pub fn status(answer: &Answer) -> u8
-    ensures { result ≡ status_of answer.now }
+    ensures { result ≡ run_status answer.now }
 {
     match answer {
         Ok(true) => 0,
@@ -124,7 +124,8 @@ pub fn run<A: Allocator + Copy, R: Read, W: Write>(
     ensures unread { result ≡ Err faults.Read
         → Keeps (W.contents writer.old.inner) (W.contents writer.new.inner) }
     ensures stopped { mode ≡ modes.Lines → result ≡ Err lacks_memory
-        → Keeps (W.contents writer.old.inner) (W.contents writer.new.inner) ⊎ ((reader.new.ended ≡ true)
+        → Keeps (W.contents writer.old.inner) (W.contents writer.new.inner)
+        ⊎ ((reader.new.ended ≡ true)
         × HasStopped depth (R.remaining reader.old.inner) (R.remaining reader.new.inner)
         (W.contents writer.old.inner) (W.contents writer.new.inner)) }
     ensures begun { result ≡ Err faults.Write → (reader.new.ended ≡ true)
@@ -161,38 +162,15 @@ fn read_all<R: Read, A: Allocator>(a: A, reader: &mut Channel<R>) -> Result<Vec<
 {
     let mut input = Vec::new(a);
     let mut block = [0; BLOCK];
-    while read_more(reader, &mut block, &mut input)? {}
-    Ok(input)
-}
-
-// Reads at most one block more after the input so far. Returns whether the reader may have more.
-fn read_more<R: Read, A: Allocator>(
-    reader: &mut Channel<R>,
-    block: &mut [u8],
-    input: &mut Vec<u8, A>,
-) -> Result<bool>
-    requires reader { (reader.old.failed ≡ false) × (reader.old.ended ≡ false) }
-    requires capacity { 0 < length block.old }
-    ensures kept { length block.new ≡ length block.old }
-    ensures read { OnOk result ((before : Option (List ℕ))
-        → Consumes before (R.remaining reader.old.inner) input.old.items
-        → Consumes before (R.remaining reader.new.inner) input.new.items) }
-    ensures more { IfOk result (λ more. more ≡ true
-        → (length input.old.items < length input.new.items) × (reader.new.ended ≡ false)) }
-    ensures end { IfOk result (λ more. more ≡ false
-        → IsAtEnd (R.remaining reader.new.inner) × (reader.new.ended ≡ true)) }
-    ensures sound { OnOk result (reader.new.failed ≡ false) }
-    ensures fault { IfErr result (IsReadFault reader.new.failed) }
-{
-    match reader.read(block) {
-        Ok(0) => Ok(false),
-        Ok(n) => {
-            if input.is_empty() && n == BLOCK {
-                input.reserve(MORE)?;
-            }
-            input.extend_from_slice(&block[..n])?;
-            Ok(true)
+    loop {
+        let count = match reader.read(&mut block) {
+            Ok(0) => return Ok(input),
+            Ok(count) => count,
+            Err(_) => return Err(RunFault::Read),
+        };
+        if input.is_empty() && count == BLOCK {
+            input.reserve(MORE)?;
         }
-        Err(_) => Err(RunFault::Read),
+        input.extend_from_slice(&block[..count])?;
     }
 }

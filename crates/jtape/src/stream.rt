@@ -4,10 +4,12 @@
 //! The parse of a line and the text of its error allocate before any byte of it is put. No contract
 //! can say at which line an allocation failed, since the allocator is not seen from outside; tests
 //! do.
-ghost use Rattle.std.specs.Prelude.{◌≡◌, ◌≢◌, ◌++◌, ◌∷◌, [], false, is_some, string_bytes, IfOk, IfErr, OnOk, OnErr, Err};
+ghost use Rattle.std.specs.Prelude.{◌≡◌, ◌≢◌, ◌++◌, ◌∷◌, [], false, is_some, string_bytes, IfOk};
+ghost use Rattle.std.specs.Prelude.{IfErr, OnOk, OnErr, Err};
 ghost use Rattle.std.specs.Io.KnownBytes.{Appends};
 ghost use Rattle.jtape.specs.Output.{stream_output};
-ghost use Rattle.jtape.specs.Pieces.{all_clean, answer_text, is_clean, piece_text, pieces, pieces_text};
+ghost use Rattle.jtape.specs.Pieces.{all_clean, answer_text, is_clean, piece_text, pieces};
+ghost use Rattle.jtape.specs.Pieces.{pieces_text};
 ghost use Rattle.jtape.specs.Runs.{lacks_memory};
 ghost use Rattle.jtape.specs.Streams.{HasPut, StopsWithin};
 ghost use Rattle.simd_json_parts.specs.Bytes.{line_feed};
@@ -60,9 +62,10 @@ fn put_stream<A: Allocator + Copy, T: Target, const SIZE: usize>(
 ) -> Result<bool, RunFault>
     ensures clean { IfOk result (λ clean. is_some text.new.fault ≡ false
         → clean ≡ all_clean depth (pieces input.old)) }
-    ensures put { OnOk result (Adds T.place text.old text.new (pieces_text depth (pieces input.old))) }
+    ensures put { OnOk result
+        (Adds T.state text.old text.new (pieces_text depth (pieces input.old))) }
     ensures fault { IfErr result (λ fault. fault ≡ lacks_memory) }
-    ensures stopped { OnErr result (HasPut T.place text.old text.new depth input.old) }
+    ensures stopped { OnErr result (HasPut T.state text.old text.new depth input.old) }
 {
     let mut stream = Stream::new(a, depth)?;
     let mut all_clean = true;
@@ -110,9 +113,9 @@ impl<'de, A: Allocator> Stream<'de, A> {
         text: &mut Text<'_, T, SIZE>,
     ) -> Result<bool, AllocError>
         ensures clean { IfOk result (λ clean. clean ≡ is_clean self.old.buffers.limit piece.old) }
-        ensures put { OnOk result (Adds T.place text.old text.new
+        ensures put { OnOk result (Adds T.state text.old text.new
             (piece_text self.old.buffers.limit piece.old)) }
-        ensures none { OnErr result (Adds T.place text.old text.new []) }
+        ensures none { OnErr result (Adds T.state text.old text.new []) }
         ensures limit { self.new.buffers.limit ≡ self.old.buffers.limit }
     {
         if is_blank(piece) {

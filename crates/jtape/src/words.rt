@@ -3,7 +3,7 @@ ghost use Rattle.std.specs.Prelude.{◌≡◌, map, string_bytes};
 ghost use Rattle.std.specs.Char.{is_ascii_digit};
 ghost use Rattle.std.specs.List.{list_all};
 ghost use Rattle.jtape.specs.Output.{layout_of};
-ghost use Rattle.jtape.specs.Settings.{mode_of, number_of, settings_of};
+ghost use Rattle.jtape.specs.Settings.{mode_of, word_number, settings_of};
 
 use simd_json::DEFAULT_MAX_DEPTH;
 
@@ -75,7 +75,7 @@ fn mode_named(word: &str) -> Option<Mode>
 
 /// The number of a word of one or more digits, or `None` for any other word and for 2^64 or more.
 pub fn number_named(word: &str) -> Option<usize>
-    ensures { result ≡ number_of word.now }
+    ensures { result ≡ word_number word.now }
 {
     if has_digits_alone(word) {
         word.parse().ok()

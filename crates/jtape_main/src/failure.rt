@@ -43,7 +43,8 @@ impl fmt::Display for Failure {
 /// Parses the program's arguments, of which the first is its name. Returns `Usage` if they can't be
 /// read, or if [`settings`] returns `None` for the others.
 pub fn requested(arguments: io::Result<Vec<String>>) -> Result<(Mode, usize), Failure>
-    ensures requested { IfOk arguments (λ words. result ≡ requested_of (map string_bytes words.items)) }
+    ensures requested { IfOk arguments (λ words.
+        result ≡ requested_of (map string_bytes words.items)) }
     ensures unread { IfErr arguments (λ _. result ≡ Err Usage) }
 {
     match arguments {

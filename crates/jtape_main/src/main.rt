@@ -19,12 +19,9 @@ fn main(rt: HostRuntime) -> ExitCode {
 }
 
 fn program(rt: &HostRuntime) -> Result<bool, Failure> {
-    let (mode, depth) = requested(arguments(rt))?;
+    let arguments = env::args(rt).and_then(|words| Ok(words.collect(rt.alloc())?));
+    let (mode, depth) = requested(arguments)?;
     let mut reader = Port::new(rt.reader());
     let mut writer = Port::new(io::writer(rt));
     Ok(run(rt.alloc(), mode, depth, &mut reader, &mut writer)?)
-}
-
-fn arguments(rt: &HostRuntime) -> io::Result<Vec<String>> {
-    Ok(env::args(rt)?.collect(rt.alloc())?)
 }

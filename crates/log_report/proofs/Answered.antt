@@ -11,7 +11,7 @@ use Rattle.simd_json_parts.specs.Document.{Document}
 use Rattle.simd_json_parts.specs.Listing.{listing}
 use Rattle.simd_json_parts.specs.Nodes.{Item}
 use Rattle.simd_json_parts.specs.declared.error.Error.{Error}
-use Rattle.log_report.specs.Report.{Report, next, with_answer, with_line, with_refusal}
+use Rattle.log_report.specs.Report.{Report, next, with_answer, with_line, with_rejection}
 use Rattle.log_report.proofs.Shown.{short-line}
 
 pub answered : (b : List ℕ) (limit : ℕ) (nodes : List Item) (d : Document) → IsParsed b limit nodes → limit ≡ default_max_depth
@@ -20,18 +20,16 @@ answered b limit nodes d p is same =
     ap (answer b) (sym is) ∙ p.answered ∙ ap Ok (sym (known d p.document (same ∙ p.listed)))
 
 pub answered-error : (b : List ℕ) (limit capacity : ℕ) (e : Error) (nodes : List Item) (listed : List ℕ)
-    → IsParse b limit capacity (Some e) nodes listed
-    → HasMemory (Some e) → limit ≡ default_max_depth → answer b default_max_depth ≡ Err e
+    → IsParse b limit capacity (Some e) nodes listed → HasMemory (Some e) → limit ≡ default_max_depth → answer b default_max_depth ≡ Err e
 answered-error b limit capacity e nodes listed p has is =
-    ap (answer b) (sym is) ∙ elim p.refused [ inl refused ↦ refused.answered | inr lacks ↦ absurd (has (ap Some lacks.0.0)) ]
+    ap (answer b) (sym is) ∙ elim p.rejected [ inl rejected ↦ rejected.answered | inr lacks ↦ absurd (has (ap Some lacks.0.0)) ]
 
--- of a line that is refused
-pub refused-line : (key : List ℕ) (longest : ℕ) (r : Report) (line : List ℕ) (limit capacity : ℕ) (answer : Result Unit Error) (e : Error)
-    (nodes : List Item) (listed : List ℕ)
-    → answer ≡ Err e → IsParse line limit capacity (result_err answer) nodes listed → HasMemory (result_err answer)
-    → limit ≡ default_max_depth → length line ≤ longest → is_blank line ≡ false
-    → with_refusal longest (next r) (Some e) ≡ with_line key longest r line
-refused-line key longest r line limit capacity answer e nodes listed is parse has limited fits some =
+-- of a line that is rejected
+pub rejected-line : (key : List ℕ) (longest : ℕ) (r : Report) (line : List ℕ) (limit capacity : ℕ) (answer : Result Unit Error) (e : Error)
+    (nodes : List Item) (listed : List ℕ) → answer ≡ Err e → IsParse line limit capacity (result_err answer) nodes listed
+    → HasMemory (result_err answer) → limit ≡ default_max_depth → length line ≤ longest → is_blank line ≡ false
+    → with_rejection longest (next r) (Some e) ≡ with_line key longest r line
+rejected-line key longest r line limit capacity answer e nodes listed is parse has limited fits some =
     ap (with_answer key longest (next r)) (sym (answered-error line limit capacity e nodes listed
     (subst (λ a. IsParse line limit capacity (result_err a) nodes listed) is parse)
     (subst (λ a. HasMemory (result_err a)) is has) limited))

@@ -12,7 +12,7 @@ use Rattle.simd_json_parts.specs.Answer.{answer}
 use Rattle.simd_json_parts.specs.Bytes.{line_feed}
 use Rattle.simd_json_parts.specs.Document.{Document}
 use Rattle.simd_json_parts.specs.declared.error.Error.{Error}
-use Rattle.log_report.specs.Report.{Report, next, refusal_line, with_answer, with_line, with_refusal}
+use Rattle.log_report.specs.Report.{Report, next, rejection_line, with_answer, with_line, with_rejection}
 use Rattle.log_report.specs.Runs.{Begins, State, after}
 
 pub begins-none : (held : Option (List ℕ)) (bytes : List ℕ) → Begins held held bytes
@@ -37,19 +37,19 @@ begins-more : (held holds : Option (List ℕ)) (front rest : List ℕ) → Begin
 begins-more held holds front rest begun =
     (length (take begun.0 front), subst (Appends held holds) (sym (front-of begun.0 front rest)) begun.1)
 
--- ---- the refusals of a report are in front of those of more lines
+-- ---- the rejections of a report are in front of those of more lines
 
 pub record Grows (r s : Report) : Type 0 where
   pub more : List ℕ
-  pub all : r.refusals ++ more ≡ s.refusals
+  pub all : r.rejections ++ more ≡ s.rejections
 
-grows-none : (r s : Report) → r.refusals ≡ s.refusals → Grows r s
-grows-none r s same = record { more = []; all = append-nil r.refusals ∙ same }
+grows-none : (r s : Report) → r.rejections ≡ s.rejections → Grows r s
+grows-none r s same = record { more = []; all = append-nil r.rejections ∙ same }
 
 grows-then : (r s t : Report) → Grows r s → Grows s t → Grows r t
 grows-then r s t g h = record {
   more = g.more ++ h.more;
-  all = sym (append_assoc r.refusals g.more h.more) ∙ ap (λ us. us ++ h.more) g.all ∙ h.all;
+  all = sym (append_assoc r.rejections g.more h.more) ∙ ap (λ us. us ++ h.more) g.all ∙ h.all;
 }
 
 grows-if : (b : Bool) (r s t : Report) → Grows r s → Grows r t → Grows r (cond b s t)
@@ -58,7 +58,7 @@ grows-if false r s t g h = h
 
 grows-answer : (key : List ℕ) (longest : ℕ) (r : Report) (a : Result Document Error) → Grows r (with_answer key longest r a)
 grows-answer key longest r (Ok d) = grows-none r _ refl
-grows-answer key longest r (Err e) = record { more = refusal_line longest r.number (Some e); all = refl }
+grows-answer key longest r (Err e) = record { more = rejection_line longest r.number (Some e); all = refl }
 
 pub grows-line : (key : List ℕ) (longest : ℕ) (r : Report) (line : List ℕ) → Grows r (with_line key longest r line)
 grows-line key longest r line =
@@ -66,8 +66,8 @@ grows-line key longest r line =
     let answered = with_answer key longest n (answer line default_max_depth) in
     let taken : Grows n (cond (is_blank line) n answered) =
     grows-if (is_blank line) n n answered (grows-none n n refl) (grows-answer key longest n (answer line default_max_depth)) in
-    let long : Grows n (with_refusal longest n None) = record { more = refusal_line longest n.number None; all = refl } in
-    grows-then r n _ (grows-none r n refl) (grows-if (nat_lt longest (length line)) n (with_refusal longest n None) _ long taken)
+    let long : Grows n (with_rejection longest n None) = record { more = rejection_line longest n.number None; all = refl } in
+    grows-then r n _ (grows-none r n refl) (grows-if (nat_lt longest (length line)) n (with_rejection longest n None) _ long taken)
 
 grows-byte : (key : List ℕ) (longest : ℕ) (s : State) (x : ℕ) (feed : Bool)
     → Grows s.0 (cond {A = State} feed (with_line key longest s.0 s.1, []) (s.0, s.1 ++ x ∷ [])).0
@@ -80,12 +80,13 @@ grows-after key longest s (x ∷ bytes) =
     let t : State = cond (x == line_feed) (with_line key longest s.0 s.1, []) (s.0, s.1 ++ x ∷ []) in
     grows-then s.0 t.0 _ (grows-byte key longest s x (x == line_feed)) (grows-after key longest t bytes)
 
-pub begins-grown : (held holds : Option (List ℕ)) (r s : Report) → Grows r s → Begins held holds r.refusals → Begins held holds s.refusals
-begins-grown held holds r s g begun = subst (Begins held holds) g.all (begins-more held holds r.refusals g.more begun)
+pub begins-grown : (held holds : Option (List ℕ)) (r s : Report) → Grows r s → Begins held holds r.rejections
+    → Begins held holds s.rejections
+begins-grown held holds r s g begun = subst (Begins held holds) g.all (begins-more held holds r.rejections g.more begun)
 
 -- of lines that have ended in a block, and of the whole block
 pub begins-block : (held holds : Option (List ℕ)) (key : List ℕ) (longest : ℕ) (s t : State) (block rest : List ℕ)
-    → after key longest t rest ≡ after key longest s block → Begins held holds t.0.refusals
-    → Begins held holds (after key longest s block).0.refusals
+    → after key longest t rest ≡ after key longest s block → Begins held holds t.0.rejections
+    → Begins held holds (after key longest s block).0.rejections
 begins-block held holds key longest s t block rest same begun =
-    subst (λ u. Begins held holds u.0.refusals) same (begins-grown held holds t.0 _ (grows-after key longest t rest) begun)
+    subst (λ u. Begins held holds u.0.rejections) same (begins-grown held holds t.0 _ (grows-after key longest t rest) begun)

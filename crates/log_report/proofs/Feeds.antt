@@ -95,9 +95,8 @@ abbrev ended : List ℕ → ℕ → State → Report
 ended key longest s = with_line key longest s.0 s.1
 
 ends-step : (key : List ℕ) (longest : ℕ) (r : Report) (p : List ℕ) (x : ℕ) (b : List ℕ) (feed : Bool) → has_none p ≡ true
-    → (x == line_feed) ≡ feed
-    → ((r : Report) (p : List ℕ) → has_none p ≡ true → with_lines key longest r (pieces (p ++ b)) ≡ ended key longest
-    (after key longest (r, p) b))
+    → (x == line_feed) ≡ feed → ((r : Report) (p : List ℕ) → has_none p ≡ true
+    → with_lines key longest r (pieces (p ++ b)) ≡ ended key longest (after key longest (r, p) b))
     → with_lines key longest r (pieces (p ++ x ∷ b)) ≡ ended key longest
     (after key longest (cond feed (with_line key longest r p, []) (r, p ++ x ∷ [])) b)
 ends-step key longest r p x b true none is more =
@@ -195,10 +194,10 @@ report-last key longest input kept is =
     let s = after key longest (no_line, []) input in
     ap (with_line key longest s.0) is ∙ cut-line key longest s.0 s.1 ∙ sym (ends key longest input no_line [] refl)
 
--- what was begun of the refusals of lines that have ended, was of those of the input
+-- what was begun of the rejections of lines that have ended, was of those of the input
 pub begins-report : (held holds : Option (List ℕ)) (key : List ℕ) (longest : ℕ) (input : List ℕ)
-    → Begins held holds (after key longest (no_line, []) input).0.refusals → Begins held holds (report_of key longest input).refusals
+    → Begins held holds (after key longest (no_line, []) input).0.rejections → Begins held holds (report_of key longest input).rejections
 begins-report held holds key longest input begun =
     let s = after key longest (no_line, []) input in
-    subst (λ r. Begins held holds r.refusals) (sym (ends key longest input no_line [] refl))
+    subst (λ r. Begins held holds r.rejections) (sym (ends key longest input no_line [] refl))
     (begins-grown held holds s.0 _ (grows-line key longest s.0 s.1) begun)

@@ -8,13 +8,13 @@ use Rattle.std.proofs.lemmas.Iterator.Adapters.{position_from-zero}
 use Rattle.std.proofs.lemmas.Bool.{lt-ltb, le-ltb}
 use Rattle.indexmap.specs.IndexMap.{insert_entry, set_value_at}
 use Rattle.log_report.specs.Table.{Count, added, counted, has_text, most_texts, others, plus}
-use Rattle.log_report.specs.Runs.{shown}
+use Rattle.log_report.specs.Runs.{as_count}
 
 abbrev Entry : Type 0 → Type 0
 Entry A = Vec ℕ A × ℕ
 
 abbrev counts : {A : Type 0} → List (Entry A) → List Count
-counts es = map shown es
+counts es = map as_count es
 
 abbrev pub is_text : {A : Type 0} → List ℕ → Vec ℕ A → Bool
 is_text t k = bytes_eq t k.items
@@ -37,8 +37,8 @@ shift : (i j k : ℕ) → k ≡ (i + 1) + j → k ≡ i + suc j
 shift i j k is = omega arith
 
 at-first : {A : Type 0} (n : ℕ) (t : List ℕ) (e : Entry A) (es : List (Entry A)) (b : Bool) → bytes_eq t e.0.items ≡ b
-    → added n t (counts (e ∷ es)) ≡ cond b ((e.0.items, plus n e.1) ∷ counts es) (shown e ∷ added n t (counts es))
-at-first n t e es b is = ap (λ x. cond x ((e.0.items, plus n e.1) ∷ counts es) (shown e ∷ added n t (counts es))) is
+    → added n t (counts (e ∷ es)) ≡ cond b ((e.0.items, plus n e.1) ∷ counts es) (as_count e ∷ added n t (counts es))
+at-first n t e es b is = ap (λ x. cond x ((e.0.items, plus n e.1) ∷ counts es) (as_count e ∷ added n t (counts es))) is
 
 first-at : {A : Type 0} (n : ℕ) (t : List ℕ) (e : Entry A) (es : List (Entry A)) → bytes_eq t e.0.items ≡ true → IsAt n t (e ∷ es) 0
 first-at n t e es is = record {
@@ -54,20 +54,19 @@ later-at n t e es j is at = record {
   has = ap (λ b. b || has_text t (counts es)) is ∙ at.has;
   count = at.count;
   is_there = at.is_there;
-  more = ap (λ cs. shown e ∷ cs) at.more ∙ sym (at-first n t e es false is);
+  more = ap (λ cs. as_count e ∷ cs) at.more ∙ sym (at-first n t e es false is);
 }
 
 later : {A : Type 0} (n : ℕ) (t : List ℕ) (e : Entry A) (es : List (Entry A)) (i : ℕ) (r : Option ℕ) → bytes_eq t e.0.items ≡ false
     → IsPlace n t es (i + 1) r → IsPlace n t (e ∷ es) i r
 later n t e es i None is absent = record {
   lacks = ap (λ b. b || has_text t (counts es)) is ∙ absent.lacks;
-  same = at-first n t e es false is ∙ ap (λ cs. shown e ∷ cs) absent.same;
+  same = at-first n t e es false is ∙ ap (λ cs. as_count e ∷ cs) absent.same;
 }
 later n t e es i (Some k) is (j, at_k, at) = (suc j, shift i j k at_k, later-at n t e es j is at)
 
 place-step : {A : Type 0} (n : ℕ) (t : List ℕ) (e : Entry A) (es : List (Entry A)) (i : ℕ) (r : Option ℕ) (b : Bool)
-    → bytes_eq t e.0.items ≡ b → IsPlace n t es (i + 1) r
-    → IsPlace n t (e ∷ es) i (cond b (Some i) r)
+    → bytes_eq t e.0.items ≡ b → IsPlace n t es (i + 1) r → IsPlace n t (e ∷ es) i (cond b (Some i) r)
 place-step n t e es i r true is _ = (0, omega arith, first-at n t e es is)
 place-step n t e es i r false is rest = later n t e es i r is rest
 
@@ -92,8 +91,7 @@ some-is is = cc
 
 -- the count that is there is this one
 pub more-at : {A : Type 0} (n : ℕ) (t : List ℕ) (es : List (Entry A)) (k count new : ℕ) → IsAt n t es k
-    → slice_get (values_of es) k ≡ Some count
-    → new ≡ plus n count → counts (set_value_at es k new) ≡ added n t (counts es)
+    → slice_get (values_of es) k ≡ Some count → new ≡ plus n count → counts (set_value_at es k new) ≡ added n t (counts es)
 more-at n t es k count new at is more =
     ap (λ m. counts (set_value_at es k m)) (more ∙ ap (plus n) (some-is (sym is ∙ at.is_there))) ∙ at.more
 
@@ -101,7 +99,7 @@ inserted-step : {A : Type 0} (k : Vec ℕ A) (n : ℕ) (e : Entry A) (es new : L
     → (rest ≡ false → counts new ≡ counts es ++ (k.items, n) ∷ [])
     → counts (cond b ((e.0, n) ∷ es) (e ∷ new)) ≡ counts (e ∷ es) ++ (k.items, n) ∷ []
 inserted-step k n e es new true rest is more = cc
-inserted-step k n e es new false rest is more = ap (λ cs. shown e ∷ cs) (more is)
+inserted-step k n e es new false rest is more = ap (λ cs. as_count e ∷ cs) (more is)
 
 -- a new text goes last
 pub inserted : {A : Type 0} (k : Vec ℕ A) (n : ℕ) (es : List (Entry A)) → has_text k.items (counts es) ≡ false

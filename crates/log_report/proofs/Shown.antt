@@ -7,9 +7,9 @@ use Rattle.simd_json.specs.Capacities.{default_max_depth}
 use Rattle.simd_json_parts.specs.Answer.{answer}
 use Rattle.simd_json_parts.specs.declared.error.Error.{Error}
 use Rattle.simd_json_print.proofs.Texts.{appends-then}
-use Rattle.log_report.specs.Report.{Report, next, refusal_line, with_answer, with_line, with_refusal}
-use Rattle.log_report.specs.Runs.{Adds, Begins, IsRefused, Shows}
-use Rattle.log_report.specs.Table.{counted, one_more, refused}
+use Rattle.log_report.specs.Report.{Report, next, rejection_line, with_answer, with_line, with_rejection}
+use Rattle.log_report.specs.Runs.{CountsMore, Begins, IsRejection, Shows}
+use Rattle.log_report.specs.Table.{counted, one_more, rejected}
 use Rattle.jtape.specs.Ports.{Watched}
 use Rattle.simd_json.specs.Capacities.{Capacities}
 use Rattle.simd_json.specs.Reserved.{IsReserved}
@@ -21,91 +21,61 @@ abbrev rest_of : List ℕ → ℕ → Report → List ℕ → Bool → Report
 rest_of key longest r line blank = cond blank (next r) (with_answer key longest (next r) (answer line default_max_depth))
 
 pub long-line : (key : List ℕ) (longest : ℕ) (r : Report) (line : List ℕ) → longest < length line
-    → with_refusal longest (next r) None ≡ with_line key longest r line
+    → with_rejection longest (next r) None ≡ with_line key longest r line
 long-line key longest r line more =
-    sym (ap (λ t. cond t (with_refusal longest (next r) None) (rest_of key longest r line (is_blank line)))
+    sym (ap (λ t. cond t (with_rejection longest (next r) None) (rest_of key longest r line (is_blank line)))
     (lt-ltb longest (length line) more))
 
 pub short-line : (key : List ℕ) (longest : ℕ) (r : Report) (line : List ℕ) (blank : Bool) → length line ≤ longest → is_blank line ≡ blank
     → rest_of key longest r line blank ≡ with_line key longest r line
 short-line key longest r line blank fits is =
-    sym (ap (λ t. cond t (with_refusal longest (next r) None) (rest_of key longest r line (is_blank line)))
+    sym (ap (λ t. cond t (with_rejection longest (next r) None) (rest_of key longest r line (is_blank line)))
     (le-ltb longest (length line) fits)
     ∙ ap (rest_of key longest r line) is)
 
 pub shows-next : {A : Type 0} (old : Lines A) (number : ℕ) (held holds : Option (List ℕ)) (key : List ℕ) (longest : ℕ) (r : Report)
     → number ≡ one_more old.number → Shows old held holds key longest r
     → Shows (record old { number = number }) held holds key longest (next r)
-shows-next old number held holds key longest r is shown = record {
-  by_key = shown.by_key;
-  most = shown.most;
-  limited = shown.limited;
-  reserved = shown.reserved;
-  number = is ∙ ap one_more shown.number;
-  all_taken = shown.all_taken;
-  counts = shown.counts;
-  refusals = shown.refusals;
-}
+shows-next old number held holds key longest r is shown = record shown { number = is ∙ ap one_more shown.number }
 
 -- after a parse
 pub shows-parsed : {A : Type 0} (lines : Lines A) (buffers : Capacities) (tape : Listed) (held holds : Option (List ℕ)) (key : List ℕ)
-    (longest : ℕ) (r : Report)
-    → buffers.limit ≡ lines.buffers.limit → IsReserved lines.longest buffers tape → Shows lines held holds key longest r
-    → Shows (record lines { buffers = buffers; tape = tape }) held holds key longest r
-shows-parsed lines buffers tape held holds key longest r limited reserved shown = record {
-  by_key = shown.by_key;
-  most = shown.most;
-  limited = limited ∙ shown.limited;
-  reserved = reserved;
-  number = shown.number;
-  all_taken = shown.all_taken;
-  counts = shown.counts;
-  refusals = shown.refusals;
-}
+    (longest : ℕ) (r : Report) → buffers.limit ≡ lines.buffers.limit → IsReserved lines.longest buffers tape
+    → Shows lines held holds key longest r → Shows (record lines { buffers = buffers; tape = tape }) held holds key longest r
+shows-parsed lines buffers tape held holds key longest r limited reserved shown =
+    record shown { limited = limited ∙ shown.limited; reserved = reserved }
 
-pub shows-added : {A : Type 0} (old new : Lines A) (held holds : Option (List ℕ)) (key : List ℕ) (longest : ℕ) (r : Report)
-    (text : List ℕ) (more : ℕ)
-    → Shows old held holds key longest r → Adds old new text more → Shows new held holds key longest
-    (record r { counts = counted more text r.counts })
-shows-added old new held holds key longest r text more shown h = record {
-  by_key = ap (λ l. l.key.now) h.same ∙ shown.by_key;
-  most = ap (λ l. l.longest) h.same ∙ shown.most;
-  limited = ap (λ l. l.buffers.limit) h.same ∙ shown.limited;
-  reserved = subst (λ l. IsReserved l.longest l.buffers l.tape) (sym h.same) shown.reserved;
-  number = ap (λ l. l.number) h.same ∙ shown.number;
-  all_taken = ap (λ l. l.all_taken) h.same ∙ shown.all_taken;
-  counts = h.counts ∙ ap (counted more text) shown.counts;
-  refusals = shown.refusals;
-}
+pub shows-added : {A : Type 0} (old new : Lines A) (held holds : Option (List ℕ)) (key : List ℕ) (longest : ℕ) (r : Report) (text : List ℕ)
+    (more : ℕ) → Shows old held holds key longest r → CountsMore old new text more
+    → Shows new held holds key longest (record r { counts = counted more text r.counts })
+shows-added old new held holds key longest r text more shown h =
+    subst (λ l. Shows l held holds key longest (record r { counts = counted more text r.counts })) (sym h.same)
+    (record shown { counts = h.counts ∙ ap (counted more text) shown.counts })
 
-pub added-over : {A : Type 0} (old new : Lines A) (tape : Listed) (text : List ℕ) (more : ℕ) → Adds old new text more
-    → Adds (record old { tape = tape }) (record new { tape = tape }) text more
+pub added-over : {A : Type 0} (old new : Lines A) (tape : Listed) (text : List ℕ) (more : ℕ) → CountsMore old new text more
+    → CountsMore (record old { tape = tape }) (record new { tape = tape }) text more
 added-over {A} old new tape text more h = record
     { counts = h.counts; same = ap {A = Lines A} (λ (l : Lines A). record l { tape = tape }) h.same }
 
-pub shows-refused : {A E : Type 0} (naming : E → Option (List ℕ)) (old new : Lines A) (refusals refuses : Watched E) (held : Option (List ℕ))
-    (key : List ℕ) (longest : ℕ) (r : Report)
-    (error : Option Error) → Shows old held (naming refusals.inner) key longest r → IsRefused naming old new refusals refuses error
-    → Shows new held (naming refuses.inner) key longest (with_refusal longest r error)
-shows-refused naming old new refusals refuses held key longest r error shown h = record {
-  by_key = ap (λ l. l.key.now) h.same ∙ shown.by_key;
-  most = ap (λ l. l.longest) h.same ∙ shown.most;
-  limited = ap (λ l. l.buffers.limit) h.same ∙ shown.limited;
-  reserved = subst (λ l. IsReserved l.longest l.buffers l.tape) (sym h.same) shown.reserved;
-  number = ap (λ l. l.number) h.same ∙ shown.number;
-  all_taken = ap (λ l. l.all_taken) h.same;
-  counts = h.counts ∙ ap (counted 1 refused) shown.counts;
-  refusals =
-      appends-then held (naming refusals.inner) (naming refuses.inner) r.refusals _ shown.refusals
-      (subst (λ n. Appends (naming refusals.inner) (naming refuses.inner) (refusal_line n r.number error)) shown.most
-      (subst (λ n. Appends (naming refusals.inner) (naming refuses.inner) (refusal_line old.longest n error)) shown.number h.named));
-}
+pub shows-rejected : {A E : Type 0} (naming : E → Option (List ℕ)) (old new : Lines A) (rejections rejects : Watched E)
+    (held : Option (List ℕ)) (key : List ℕ) (longest : ℕ) (r : Report) (error : Option Error)
+    → Shows old held (naming rejections.inner) key longest r → IsRejection naming old new rejections rejects error
+    → Shows new held (naming rejects.inner) key longest (with_rejection longest r error)
+shows-rejected naming old new rejections rejects held key longest r error shown h =
+    subst (λ l. Shows l held (naming rejects.inner) key longest (with_rejection longest r error)) (sym h.same) (record shown {
+      all_taken = refl;
+      counts = h.counts ∙ ap (counted 1 rejected) shown.counts;
+      rejections =
+          appends-then held (naming rejections.inner) (naming rejects.inner) r.rejections _ shown.rejections
+          (subst (λ n. Appends (naming rejections.inner) (naming rejects.inner) (rejection_line n r.number error)) shown.most
+          (subst (λ n. Appends (naming rejections.inner) (naming rejects.inner) (rejection_line old.longest n error)) shown.number h.named));
+    })
 
-pub refused-over : {A E : Type 0} (naming : E → Option (List ℕ)) (old new : Lines A) (tape : Listed) (refusals refuses : Watched E)
+pub rejected-over : {A E : Type 0} (naming : E → Option (List ℕ)) (old new : Lines A) (tape : Listed) (rejections rejects : Watched E)
     (error : Option Error)
-    → IsRefused naming old new refusals refuses error → IsRefused naming (record old { tape = tape }) (record new { tape = tape })
-    refusals refuses error
-refused-over {A} naming old new tape refusals refuses error h = record
+    → IsRejection naming old new rejections rejects error → IsRejection naming (record old { tape = tape }) (record new { tape = tape })
+    rejections rejects error
+rejected-over {A} naming old new tape rejections rejects error h = record
     { counts = h.counts; same = ap {A = Lines A} (λ (l : Lines A). record l { tape = tape }) h.same; named = h.named }
 
 pub reserved-as : (len : ℕ) (b c : Capacities) (t u : Listed) → c ≡ b → u ≡ t → IsReserved len b t → IsReserved len c u
@@ -113,18 +83,19 @@ reserved-as len b c t u is same reserved = subst (λ x. IsReserved len x u) (sym
 
 -- ---- after a call that failed
 
--- of a refused line, whose name was begun
-pub begins-refused : {A E : Type 0} (naming : E → Option (List ℕ)) (old : Lines A) (refusals refuses : Watched E) (held : Option (List ℕ))
-    (key : List ℕ) (longest : ℕ) (r : Report) (error : Option Error) → Shows old held (naming refusals.inner) key longest r
-    → Begins (naming refusals.inner) (naming refuses.inner) (refusal_line old.longest old.number error)
-    → Begins held (naming refuses.inner) (with_refusal longest r error).refusals
-begins-refused naming old refusals refuses held key longest r error shown begun =
-    begins-then held (naming refusals.inner) (naming refuses.inner) r.refusals _ shown.refusals
-    (subst (λ n. Begins (naming refusals.inner) (naming refuses.inner) (refusal_line n r.number error)) shown.most
-    (subst (λ n. Begins (naming refusals.inner) (naming refuses.inner) (refusal_line old.longest n error)) shown.number begun))
+-- of a rejected line, whose name was begun
+pub begins-rejected : {A E : Type 0} (naming : E → Option (List ℕ)) (old : Lines A) (rejections rejects : Watched E)
+    (held : Option (List ℕ)) (key : List ℕ) (longest : ℕ) (r : Report) (error : Option Error)
+    → Shows old held (naming rejections.inner) key longest r
+    → Begins (naming rejections.inner) (naming rejects.inner) (rejection_line old.longest old.number error)
+    → Begins held (naming rejects.inner) (with_rejection longest r error).rejections
+begins-rejected naming old rejections rejects held key longest r error shown begun =
+    begins-then held (naming rejections.inner) (naming rejects.inner) r.rejections _ shown.rejections
+    (subst (λ n. Begins (naming rejections.inner) (naming rejects.inner) (rejection_line n r.number error)) shown.most
+    (subst (λ n. Begins (naming rejections.inner) (naming rejects.inner) (rejection_line old.longest n error)) shown.number begun))
 
 -- of any line, before its name
 pub begins-line : {A : Type 0} (lines : Lines A) (held holds : Option (List ℕ)) (key : List ℕ) (longest : ℕ) (r : Report) (line : List ℕ)
-    → Shows lines held holds key longest r → Begins held holds (with_line key longest r line).refusals
+    → Shows lines held holds key longest r → Begins held holds (with_line key longest r line).rejections
 begins-line lines held holds key longest r line shown =
-    begins-grown held holds r _ (grows-line key longest r line) (begins-all held holds r.refusals shown.refusals)
+    begins-grown held holds r _ (grows-line key longest r line) (begins-all held holds r.rejections shown.rejections)

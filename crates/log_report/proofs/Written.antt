@@ -29,8 +29,7 @@ clash q y d a b = cc
 
 -- a value that came through `map_err`
 pub mapped : {T E F : Type 0} (r : Result T E) (q : Result T F) (x : T) (post : E → F → Type 0)
-    → MatchResult r (λ y. q ≡ Ok y) (λ e. IsErrAnd q (post e))
-    → q ≡ Ok x → r ≡ Ok x
+    → MatchResult r (λ y. q ≡ Ok y) (λ e. IsErrAnd q (post e)) → q ≡ Ok x → r ≡ Ok x
 mapped (Ok y) q x post is same = ap Ok (value-is q y x is same)
 mapped (Err e) q x post is same = absurd (subst (λ q. IsErrAnd q (post e)) same is)
 

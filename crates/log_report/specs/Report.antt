@@ -1,4 +1,4 @@
--- What is counted of a stream of lines, and how each refused line is named.
+-- What is counted of a stream of lines, and how each rejected line is named.
 use Rattle.std.specs.Prelude.{ℕ, List, [], ◌∷◌, ◌++◌, codes, length, nat_lt, Bool, true, false, Option, None, Some, Result, Ok, Err}
 use Rattle.std.specs.Prelude.{if◌then◌else◌}
 use Rattle.std.specs.Fmt.{decimal}
@@ -11,31 +11,31 @@ use Rattle.simd_json_parts.specs.ErrorKinds.{error_text}
 use Rattle.simd_json_parts.specs.Printed.{compact}
 use Rattle.simd_json_parts.specs.Views.{get}
 use Rattle.simd_json_parts.specs.declared.error.Error.{Error}
-use Rattle.log_report.specs.Table.{Count, one_more, none_counted, counted, no_value, others, refused}
+use Rattle.log_report.specs.Table.{Count, one_more, none_counted, counted, no_value, others, rejected}
 
 -- what a value counts under: its compact text, if that has at most 1,024 bytes
 abbrev pub value_label : Option Document → List ℕ
 value_label None = no_value
 value_label (Some d) = if nat_lt 1024 (length (compact d)) then others else compact d
 
--- why it is refused: for its error, or because it has more than `longest` bytes
-abbrev pub refusal_text : ℕ → Option Error → List ℕ
-refusal_text longest (Some e) = error_text e
-refusal_text longest None = codes "longer than " ++ decimal longest ++ codes " bytes"
+-- why it is rejected: for its error, or because it has more than `longest` bytes
+abbrev pub rejection_text : ℕ → Option Error → List ℕ
+rejection_text longest (Some e) = error_text e
+rejection_text longest None = codes "longer than " ++ decimal longest ++ codes " bytes"
 
 -- of the line with this number, from 1
-abbrev pub refusal_line : ℕ → ℕ → Option Error → List ℕ
-refusal_line longest number error = codes "line " ++ decimal number ++ codes ": " ++ refusal_text longest error ++ line_feed ∷ []
+abbrev pub rejection_line : ℕ → ℕ → Option Error → List ℕ
+rejection_line longest number error = codes "line " ++ decimal number ++ codes ": " ++ rejection_text longest error ++ line_feed ∷ []
 
--- how many lines there are so far, whether none of them was refused, the counts, and the lines that name refused ones
+-- how many lines there are so far, whether none of them was rejected, the counts, and the lines that name rejected ones
 pub record Report : Type 0 where
   pub number : ℕ
   pub all_taken : Bool
   pub counts : List Count
-  pub refusals : List ℕ
+  pub rejections : List ℕ
 
 abbrev pub no_line : Report
-no_line = record { number = 0; all_taken = true; counts = none_counted; refusals = [] }
+no_line = record { number = 0; all_taken = true; counts = none_counted; rejections = [] }
 
 abbrev pub next : Report → Report
 next r = record r { number = one_more r.number }
@@ -43,19 +43,19 @@ next r = record r { number = one_more r.number }
 abbrev pub with_text : Report → List ℕ → Report
 with_text r t = record r { counts = counted 1 t r.counts }
 
-abbrev pub with_refusal : ℕ → Report → Option Error → Report
-with_refusal longest r error =
-    record (with_text r refused) { all_taken = false; refusals = r.refusals ++ refusal_line longest r.number error }
+abbrev pub with_rejection : ℕ → Report → Option Error → Report
+with_rejection longest r error =
+    record (with_text r rejected) { all_taken = false; rejections = r.rejections ++ rejection_line longest r.number error }
 
 -- by its first value with the key
 abbrev pub with_answer : List ℕ → ℕ → Report → Result Document Error → Report
 with_answer key longest r (Ok d) = with_text r (value_label (get key d))
-with_answer key longest r (Err e) = with_refusal longest r (Some e)
+with_answer key longest r (Err e) = with_rejection longest r (Some e)
 
--- A line is refused if it is longer than this or no JSON text. One that is empty, or whitespace alone, counts under nothing.
+-- A line is rejected if it is longer than this or no JSON text. One that is empty, or whitespace alone, counts under nothing.
 abbrev pub with_line : List ℕ → ℕ → Report → List ℕ → Report
 with_line key longest r line =
-    if nat_lt longest (length line) then with_refusal longest (next r) None
+    if nat_lt longest (length line) then with_rejection longest (next r) None
     else if is_blank line then next r
     else with_answer key longest (next r) (answer line default_max_depth)
 

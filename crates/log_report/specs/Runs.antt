@@ -9,21 +9,21 @@ use Rattle.simd_json_parts.specs.declared.error.Error.{Error}
 use Rattle.simd_json_parts.specs.Bytes.{line_feed}
 use Rattle.simd_json.specs.Viewed.{doc}
 use Rattle.simd_json.specs.declared.value.tape.value.Value.{Value}
-use Rattle.log_report.specs.Report.{Report, no_line, refusal_line, report_of, value_label, with_line}
-use Rattle.log_report.specs.Table.{Count, counted, refused, report_text}
+use Rattle.log_report.specs.Report.{Report, no_line, rejection_line, report_of, value_label, with_line}
+use Rattle.log_report.specs.Table.{Count, counted, rejected, report_text}
 use Rattle.log_report.specs.declared.Failure.{Failure}
 use Rattle.log_report.specs.declared.Failure.TheVariants.{Read, Write, Resources}
 use Rattle.log_report.specs.declared.Lines.{Lines}
 
--- Of a reader with these bytes left before and after, a writer of the report and one that names refused lines, which held and
--- hold these: the reader was read to its end, and the report of its lines was written, and its refused lines were named.
-pub record HasRun (key : List ℕ) (longest : ℕ) (before after held holds named names : Option (List ℕ))
+-- Of a reader with these bytes left before and after, a writer of the report and one that names rejected lines, which held and
+-- hold these: the reader was read to its end, and the report of its lines was written, and its rejected lines were named.
+pub record HasReported (key : List ℕ) (longest : ℕ) (before after held holds named names : Option (List ℕ))
     (result : Result Bool Failure) : Type 0 where
   pub input : List ℕ
   pub read : Consumes before after input
   pub end : IsAtEnd after
   pub report : Appends held holds (report_text (report_of key longest input).counts)
-  pub refusals : Appends named names (report_of key longest input).refusals
+  pub rejections : Appends named names (report_of key longest input).rejections
   pub returned : result ≡ Ok (report_of key longest input).all_taken
 
 -- of a writer that held and holds these: a beginning of the bytes was written
@@ -31,12 +31,12 @@ abbrev pub Begins : Option (List ℕ) → Option (List ℕ) → List ℕ → Typ
 Begins held holds bytes = (count : ℕ) × Appends held holds (take count bytes)
 
 -- Of such a run that ended in an error, and whether the report's writer failed: of what was read, a beginning of the report was
--- written, and a beginning of its refused lines named. No byte of the report was, unless its writer failed; then all was read.
+-- written, and a beginning of its rejected lines named. No byte of the report was, unless its writer failed; then all was read.
 pub record HasBegun (key : List ℕ) (longest : ℕ) (before after held holds named names : Option (List ℕ)) (failed : Bool) : Type 0 where
   pub input : List ℕ
   pub read : Consumes before after input
   pub report : Begins held holds (report_text (report_of key longest input).counts)
-  pub refusals : Begins named names (report_of key longest input).refusals
+  pub rejections : Begins named names (report_of key longest input).rejections
   pub unwritten : failed ≡ false → Keeps held holds
   pub end : failed ≡ true → IsAtEnd after
 
@@ -44,13 +44,13 @@ pub record HasBegun (key : List ℕ) (longest : ℕ) (before after held holds na
 -- reader did, writing exactly where one of the writers did.
 pub record Reports {R W E : Type 0} (remaining : R → Option (List ℕ)) (written : W → Option (List ℕ)) (naming : E → Option (List ℕ))
     (key : List ℕ) (longest : ℕ)
-    (reader reads : Watched R) (report reports : Watched W) (refusals refuses : Watched E) (result : Result Bool Failure) : Type 0 where
-  pub run : OnOk result (HasRun key longest (remaining reader.inner) (remaining reads.inner) (written report.inner) (written reports.inner)
-      (naming refusals.inner) (naming refuses.inner) result)
+    (reader reads : Watched R) (report reports : Watched W) (rejections rejects : Watched E) (result : Result Bool Failure) : Type 0 where
+  pub run : OnOk result (HasReported key longest (remaining reader.inner) (remaining reads.inner) (written report.inner)
+      (written reports.inner) (naming rejections.inner) (naming rejects.inner) result)
   pub begun : OnErr result (HasBegun key longest (remaining reader.inner) (remaining reads.inner) (written report.inner)
-      (written reports.inner) (naming refusals.inner) (naming refuses.inner) reports.failed)
+      (written reports.inner) (naming rejections.inner) (naming rejects.inner) reports.failed)
   pub read : (result ≡ Err Read) ↔ (reads.failed ≡ true)
-  pub write : (result ≡ Err Write) ↔ ((reports.failed || refuses.failed) ≡ true)
+  pub write : (result ≡ Err Write) ↔ ((reports.failed || rejects.failed) ≡ true)
 
 -- ---- what private clauses cite
 
@@ -64,20 +64,20 @@ abbrev pub Ends : {T : Type 0} → Watched T → Watched T → Type 0 → Type 0
 Ends old new P Q result =
     old.failed ≡ false → MatchResult result (λ _. (new.failed ≡ false) × P) (λ failure. (failure ≡ fault_of new.failed) × Q)
 
-abbrev pub shown : {A : Type 0} → Vec ℕ A × ℕ → Count
-shown entry = (entry.0.items, entry.1)
+abbrev pub as_count : {A : Type 0} → Vec ℕ A × ℕ → Count
+as_count entry = (entry.0.items, entry.1)
 
 abbrev pub counts_of : {A : Type 0} → Lines A → List Count
-counts_of lines = map shown lines.counts.entries
+counts_of lines = map as_count lines.counts.entries
 
 -- so many lines more count under the text
-pub record Adds {A : Type 0} (old new : Lines A) (text : List ℕ) (more : ℕ) : Type 0 where
+pub record CountsMore {A : Type 0} (old new : Lines A) (text : List ℕ) (more : ℕ) : Type 0 where
   pub counts : counts_of new ≡ counted more text (counts_of old)
   pub same : new ≡ record old { counts = new.counts }
 
 -- one more, by the value at the key
 abbrev pub AddsValue : {A : Type 0} → Lines A → Lines A → Option Value → Type 0
-AddsValue old new value = Adds old new (value_label (option_map doc value)) 1
+AddsValue old new value = CountsMore old new (value_label (option_map doc value)) 1
 
 -- of a writer of what is known: the report is written
 abbrev pub Prints : {A W : Type 0} → (W → Option (List ℕ)) → Lines A → Watched W → Watched W → Type 0
@@ -88,14 +88,14 @@ pub record BeginsReport {A W : Type 0} (written : W → Option (List ℕ)) (line
   pub begun : Begins (written out.inner) (written outs.inner) (report_text (counts_of lines))
   pub unwritten : outs.failed ≡ false → Keeps (written out.inner) (written outs.inner)
 
--- of a writer of what is known: the last line counts as refused, and is named
-pub record IsRefused {A E : Type 0} (naming : E → Option (List ℕ)) (old new : Lines A) (refusals refuses : Watched E)
+-- of a writer of what is known: the last line counts as rejected, and is named
+pub record IsRejection {A E : Type 0} (naming : E → Option (List ℕ)) (old new : Lines A) (rejections rejects : Watched E)
     (error : Option Error) : Type 0 where
-  pub counts : counts_of new ≡ counted 1 refused (counts_of old)
+  pub counts : counts_of new ≡ counted 1 rejected (counts_of old)
   pub same : new ≡ record old { all_taken = false; counts = new.counts }
-  pub named : Appends (naming refusals.inner) (naming refuses.inner) (refusal_line old.longest old.number error)
+  pub named : Appends (naming rejections.inner) (naming rejects.inner) (rejection_line old.longest old.number error)
 
--- Since a writer held these bytes: the counts are those of this report, and the writer holds the lines that name refused ones, too.
+-- Since a writer held these bytes: the counts are those of this report, and the writer holds the lines that name rejected ones, too.
 pub record Shows {A : Type 0} (lines : Lines A) (held holds : Option (List ℕ)) (key : List ℕ) (longest : ℕ) (r : Report) : Type 0 where
   pub by_key : lines.key.now ≡ key
   pub most : lines.longest ≡ longest
@@ -104,7 +104,7 @@ pub record Shows {A : Type 0} (lines : Lines A) (held holds : Option (List ℕ))
   pub number : lines.number ≡ r.number
   pub all_taken : lines.all_taken ≡ r.all_taken
   pub counts : counts_of lines ≡ r.counts
-  pub refusals : Appends held holds r.refusals
+  pub rejections : Appends held holds r.rejections
 
 -- before any line
 abbrev pub IsStart : {A : Type 0} → List ℕ → ℕ → Lines A → Type 0
@@ -112,16 +112,16 @@ IsStart key longest lines = (held : Option (List ℕ)) → Shows lines held held
 
 -- any report that was shown has become that with this line
 abbrev pub TakesLine : {A E : Type 0} → (E → Option (List ℕ)) → Lines A → Lines A → Watched E → Watched E → List ℕ → Type 0
-TakesLine naming old new refusals refuses line =
+TakesLine naming old new rejections rejects line =
     (held : Option (List ℕ)) (key : List ℕ) (longest : ℕ) (r : Report)
-    → Shows old held (naming refusals.inner) key longest r → Shows new held (naming refuses.inner) key longest
+    → Shows old held (naming rejections.inner) key longest r → Shows new held (naming rejects.inner) key longest
     (with_line key longest r line)
 
--- of a call that fails: of any report that was shown, with this line, a beginning of the refusals was written
+-- of a call that fails: of any report that was shown, with this line, a beginning of the rejections was written
 abbrev pub BeginsLine : {A E : Type 0} → (E → Option (List ℕ)) → Lines A → Watched E → Watched E → List ℕ → Type 0
-BeginsLine naming old refusals refuses line =
+BeginsLine naming old rejections rejects line =
     (held : Option (List ℕ)) (key : List ℕ) (longest : ℕ) (r : Report)
-    → Shows old held (naming refusals.inner) key longest r → Begins held (naming refuses.inner) (with_line key longest r line).refusals
+    → Shows old held (naming rejections.inner) key longest r → Begins held (naming rejects.inner) (with_line key longest r line).rejections
 
 -- a report, and the line that has begun
 abbrev pub State : Type 0
@@ -140,14 +140,16 @@ pub record IsAt {A : Type 0} (lines : Lines A) (kept : List ℕ) (held holds : O
   pub line : kept ≡ take (longest + 1) s.1
 
 -- any report, and the line that has begun, have become those after this block
-abbrev pub After : {A E : Type 0} → (E → Option (List ℕ)) → Lines A → Lines A → Watched E → Watched E → List ℕ → List ℕ → List ℕ → Type 0
-After naming old new refusals refuses line kept block =
+abbrev pub TakesBlock : {A E : Type 0} → (E → Option (List ℕ)) → Lines A → Lines A → Watched E → Watched E → List ℕ → List ℕ → List ℕ
+    → Type 0
+TakesBlock naming old new rejections rejects line kept block =
     (held : Option (List ℕ)) (key : List ℕ) (longest : ℕ) (s : State)
-    → IsAt old line held (naming refusals.inner) key longest s → IsAt new kept held (naming refuses.inner) key longest
+    → IsAt old line held (naming rejections.inner) key longest s → IsAt new kept held (naming rejects.inner) key longest
     (after key longest s block)
 
 -- of a call that fails: after this block, likewise
 abbrev pub BeginsBlock : {A E : Type 0} → (E → Option (List ℕ)) → Lines A → Watched E → Watched E → List ℕ → List ℕ → Type 0
-BeginsBlock naming old refusals refuses line block =
+BeginsBlock naming old rejections rejects line block =
     (held : Option (List ℕ)) (key : List ℕ) (longest : ℕ) (s : State)
-    → IsAt old line held (naming refusals.inner) key longest s → Begins held (naming refuses.inner) (after key longest s block).0.refusals
+    → IsAt old line held (naming rejections.inner) key longest s
+    → Begins held (naming rejects.inner) (after key longest s block).0.rejections

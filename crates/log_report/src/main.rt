@@ -3,10 +3,12 @@
 #![tactic(auto)]
 
 ghost use Rattle.std.specs.Prelude.{◌≡◌, false, IfOk, OnOk, map, option_map, string_bytes};
-ghost use Rattle.log_report.specs.Failures.{settings_of, line_of, status_of};
+ghost use Rattle.log_report.specs.Failures.{settings_of, line_of, exit_status};
 ghost use Rattle.log_report.specs.declared.Failure.TheVariants.{Resources};
-ghost use Rattle.log_report.specs.Report.{refusal_line};
-ghost use Rattle.log_report.specs.Runs.{Adds, AddsValue, After, Ends, IsRefused, IsStart, Prints, Reports, TakesLine};
+ghost use Rattle.log_report.specs.Report.{rejection_line};
+ghost use Rattle.log_report.specs.Runs.{CountsMore, AddsValue, TakesBlock, Ends, IsRejection};
+ghost use Rattle.log_report.specs.Runs.{IsStart, Prints};
+ghost use Rattle.log_report.specs.Runs.{Reports, TakesLine};
 ghost use Rattle.log_report.specs.Runs.{Begins, BeginsBlock, BeginsLine, BeginsReport};
 
 use arrayvec::ArrayVec;
@@ -75,7 +77,8 @@ fn settings(words: &[String]) -> Option<(&str, usize)>
 
 // The status that the program ends with, and the line for standard error.
 fn ending(ended: &Result<bool, Failure>) -> (u8, Option<&'static str>)
-    ensures { (result.0 ≡ status_of ended.now) × (option_map (λ line. line.now) result.1 ≡ line_of ended.now) }
+    ensures { (result.0 ≡ exit_status ended.now)
+        × (option_map (λ line. line.now) result.1 ≡ line_of ended.now) }
 {
     match ended {
         Ok(true) => (0, None),
@@ -87,8 +90,9 @@ fn ending(ended: &Result<bool, Failure>) -> (u8, Option<&'static str>)
     }
 }
 
-// Counts the lines of the reader by their value at the key, names each rejected line on `refusals`,
-// and writes the report. Returns whether no line was rejected; one of more than `longest` bytes is.
+// Counts the lines of the reader by their value at the key, names each rejected line on
+// `rejections`, and writes the report. Returns whether no line was rejected; one of more than
+// `longest` bytes is.
 //
 // Fails with `Read` if reading fails, with `Write` if writing does, and with `Resources` if an
 // allocation of the start fails, or if the input does not end within 2^64 - 1 blocks. After an
@@ -100,13 +104,13 @@ fn run<A: Allocator + Copy, R: Read, W: Write, E: Write>(
     longest: usize,
     reader: &mut Channel<R>,
     report: &mut Channel<W>,
-    refusals: &mut Channel<E>,
+    rejections: &mut Channel<E>,
 ) -> Result<bool, Failure>
     requires reader { reader.old.failed ≡ false }
     requires report { report.old.failed ≡ false }
-    requires refusals { refusals.old.failed ≡ false }
+    requires rejections { rejections.old.failed ≡ false }
     ensures { Reports R.remaining W.contents E.contents key.now longest
-        reader.old reader.new report.old report.new refusals.old refusals.new result }
+        reader.old reader.new report.old report.new rejections.old rejections.new result }
 {
     // For each byte of the longest line 24 on the tape, somewhat over 4 in the buffers and 1 in the
     // line, and 2 MB for texts and for the sort of their counts.
@@ -117,10 +121,10 @@ fn run<A: Allocator + Copy, R: Read, W: Write, E: Write>(
     for _ in 0..u64::MAX {
         let read = reader.read(&mut block).map_err(|_| Failure::Read)?;
         if read == 0 {
-            lines.count(line.as_mut_slice(), refusals)?;
+            lines.count(line.as_mut_slice(), rejections)?;
             return lines.write(report).and(Ok(lines.all_taken));
         }
-        lines.take(&block[..read], &mut line, refusals)?;
+        lines.take(&block[..read], &mut line, rejections)?;
     }
     Err(Failure::Resources)
 }
@@ -163,7 +167,7 @@ impl<'k, A: Allocator + Copy> Lines<'k, A> {
     // than it may have.
     fn take<E: Write>(&mut self, block: &[u8], line: &mut Vec<u8, A>, err: &mut Channel<E>) -> Ended
         ensures { Ends err.old err.new
-            (After E.contents self.old self.new err.old err.new
+            (TakesBlock E.contents self.old self.new err.old err.new
             line.old.items line.new.items block.now)
             (BeginsBlock E.contents self.old err.old err.new line.old.items block.now) result }
     {
@@ -184,12 +188,13 @@ impl<'k, A: Allocator + Copy> Lines<'k, A> {
     // Counts a line. Of one that is too long, the first bytes are enough: one more than it may
     // have.
     fn count<E: Write>(&mut self, line: &mut [u8], err: &mut Channel<E>) -> Ended
-        ensures { Ends err.old err.new (TakesLine E.contents self.old self.new err.old err.new line.old)
+        ensures { Ends err.old err.new
+            (TakesLine E.contents self.old self.new err.old err.new line.old)
             (BeginsLine E.contents self.old err.old err.new line.old) result }
     {
         self.number = self.number.saturating_add(1);
         if line.len() > self.longest {
-            return self.refuse(None, err);
+            return self.reject(None, err);
         } else if is_blank(line) {
             return Ok(());
         }
@@ -197,19 +202,20 @@ impl<'k, A: Allocator + Copy> Lines<'k, A> {
         let (answer, tape) = refill_tape(line, &mut self.buffers, kept);
         match answer {
             Ok(()) => self.add_value(tape.as_value().get(self.key))?,
-            Err(e) => self.refuse(Some(e), err)?,
+            Err(e) => self.reject(Some(e), err)?,
         }
         drop(std::mem::replace(&mut self.tape, tape.reset()));
         Ok(())
     }
 
     // Names the last line as rejected, and counts it. Without an error it is too long.
-    fn refuse<E: Write>(&mut self, error: Option<Error>, err: &mut Channel<E>) -> Ended
-        ensures { Ends err.old err.new (IsRefused E.contents self.old self.new err.old err.new error)
+    fn reject<E: Write>(&mut self, error: Option<Error>, err: &mut Channel<E>) -> Ended
+        ensures { Ends err.old err.new
+            (IsRejection E.contents self.old self.new err.old err.new error)
             (Begins (E.contents err.old.inner) (E.contents err.new.inner)
-            (refusal_line self.old.longest self.old.number error)) result }
+            (rejection_line self.old.longest self.old.number error)) result }
     {
-        let line = self.refusal(error).map_err(|_| Failure::Resources)?;
+        let line = self.rejection(error).map_err(|_| Failure::Resources)?;
         let mut name = Text::<Channel<E>, 256>::new(err);
         name.put(line.as_slice());
         if name.finish().is_err() {
@@ -221,9 +227,9 @@ impl<'k, A: Allocator + Copy> Lines<'k, A> {
     }
 
     // The line that names the last line as rejected.
-    fn refusal(&self, error: Option<Error>) -> io::Result<ArrayVec<u8, 256>>
+    fn rejection(&self, error: Option<Error>) -> io::Result<ArrayVec<u8, 256>>
         ensures { IfOk result (λ line.
-            line.items ≡ refusal_line self.now.longest self.now.number error) }
+            line.items ≡ rejection_line self.now.longest self.now.number error) }
     {
         let mut line = ArrayVec::<u8, 256>::new();
         let (number, longest) = (self.number, self.longest);
@@ -251,7 +257,7 @@ impl<'k, A: Allocator + Copy> Lines<'k, A> {
 
     // Counts `more` lines under this text, or under `*` if all places for texts are taken.
     fn add(&mut self, text: &[u8], more: u64) -> Result<(), AllocError>
-        ensures { OnOk result (Adds self.old self.new text.now more) }
+        ensures { OnOk result (CountsMore self.old self.new text.now more) }
     {
         if let Some(place) = self.counts.get_index_of(text) {
             self.counts[place] = self.counts[place].saturating_add(more);

@@ -14,6 +14,7 @@ use Rattle.simd_json_parts.specs.Printed.{escaped_byte, quoted, text, elements_t
 use Rattle.simd_json_theorems.proofs.Printing.Shortest.{compact-shortest}
 use Rattle.simd_json.specs.Parsed.{IsParse, IsParsed}
 use Rattle.simd_json.proofs.Views.Listed.{known}
+use Rattle.simd_json_c.specs.Calls.{IsCompact}
 use Rattle.simd_json_c.specs.Nodes.{room_for, text_of, texts}
 use Rattle.simd_json_c.specs.declared.nodes.Room.{Room}
 
@@ -70,8 +71,7 @@ mutual
         members-texts left_brace (member k d ms) (suc n),
       )
 
-  elements-texts : (before : ℕ) (ds : Elements) (n : ℕ)
-      → length (texts (elements_listing ds)) ≤ length (elements_text false before ds n)
+  elements-texts : (before : ℕ) (ds : Elements) (n : ℕ) → length (texts (elements_listing ds)) ≤ length (elements_text false before ds n)
   elements-texts before no_elements n = omega arith
   elements-texts before (element d ds) n =
       omega (
@@ -82,8 +82,7 @@ mutual
         elements-texts comma ds n,
       )
 
-  members-texts : (before : ℕ) (ms : Members) (n : ℕ)
-      → length (texts (members_listing ms)) ≤ length (members_text false before ms n)
+  members-texts : (before : ℕ) (ms : Members) (n : ℕ) → length (texts (members_listing ms)) ≤ length (members_text false before ms n)
   members-texts before no_members n = omega arith
   members-texts before (member k d ms) n =
       omega (
@@ -107,31 +106,24 @@ texts-within b limit ns p =
     subst (λ ms. length (texts ms) ≤ length b) (sym p.listed) own
 
 -- of the nodes that are handed on
-pub same-texts-within : (b : List ℕ) (limit : ℕ) (ms ns : List Item) → ms ≡ ns → IsParsed b limit ns
-    → length (texts ms) ≤ length b
+pub same-texts-within : (b : List ℕ) (limit : ℕ) (ms ns : List Item) → ms ≡ ns → IsParsed b limit ns → length (texts ms) ≤ length b
 same-texts-within b limit ms ns same p =
     subst (λ ls. length (texts ls) ≤ length b) (sym same) (texts-within b limit ns p)
 
 pub room-within : (b : List ℕ) (limit capacity : ℕ) (ns : List Item) (listed : List ℕ) (room : Room)
-    → IsParse b limit capacity None ns listed → room ≡ room_for ns
-    → (room.nodes ≤ length b) × (room.text ≤ length b)
+    → IsParse b limit capacity None ns listed → room ≡ room_for ns → (room.nodes ≤ length b) × (room.text ≤ length b)
 room-within b limit capacity ns listed room p is =
     let few : length ns ≤ length b = omega (arith, p.few.0, p.few.1) in
     subst (λ r. (r.nodes ≤ length b) × (r.text ≤ length b)) (sym is) (few, texts-within b limit ns p.parsed)
 
-pub compact-within : {A E : Type 0} (r : Result (String A) E) (b : List ℕ) (limit : ℕ) (ns : List Item) (d : Document)
-    → IsParsed b limit ns → listing d ≡ ns → IfOk r (λ text. string_bytes text ≡ compact d)
-    → IfOk r (λ text. length (string_bytes text) ≤ length b)
+pub compact-within : {A E : Type 0} (r : Result (String A) E) (b : List ℕ) (limit : ℕ) (ns : List Item) (d : Document) → IsParsed b limit ns
+    → listing d ≡ ns → IfOk r (λ text. string_bytes text ≡ compact d) → IfOk r (λ text. IsCompact b limit (string_bytes text))
 compact-within (Ok text) b limit ns d p is same =
     let shortest : length (compact d) ≤ length b =
     subst (λ e. length (compact e) ≤ length b) (sym (known d p.document (is ∙ p.listed)))
     (compact-shortest b p.document p.denoted p.within.integers) in
-    subst (λ t. length t ≤ length b) (sym same) shortest
+    ((d, (ns, p, is), same), subst (λ t. length t ≤ length b) (sym same) shortest)
 compact-within (Err e) b limit ns d p is same = tt
-
-pub parse-of-ok : {A : Type 0} (r : Result A Error) (x : A) (b : List ℕ) (limit capacity : ℕ) (ns : List Item) (listed : List ℕ)
-    → r ≡ Ok x → IsParse b limit capacity (result_err r) ns listed → IsParse b limit capacity None ns listed
-parse-of-ok r x b limit capacity ns listed is = subst (λ s. IsParse b limit capacity (result_err s) ns listed) is
 
 -- what is counted is what is needed
 pub room-counted : (b : List ℕ) (limit capacity : ℕ) (ns : List Item) (listed : List ℕ) (room : Room)

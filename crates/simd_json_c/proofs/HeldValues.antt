@@ -41,10 +41,8 @@ abbrev pub Row : RattleType
 Row = handle.the_row
 
 module _ {M : Type 1} {𝓤 : Ura M} {𝓛 : Logic 𝓤} {K : Type 0} {Γ : List (Item 𝓤)} {G : Goal 𝓤 𝓛.H} where
-  pub held_out : K → (d : Row.Denot) (vs : List Val)
-      → ((h : Val) → vs ≡ both (ptr_val d.at) h ∷ [] → Good (layout Z) h → Seq K 𝓛 (‵ (held d.alloc d.at d.value) ∷ ‵ (Z.own_val d.alloc
-      (h ∷ [])) ∷ Γ) G)
-      → Seq K 𝓛 (‵ (Row.own_val d vs) ∷ Γ) G
+  pub held_out : K → (d : Row.Denot) (vs : List Val) → ((h : Val) → vs ≡ both (ptr_val d.at) h ∷ [] → Good (layout Z) h
+      → Seq K 𝓛 (‵ (held d.alloc d.at d.value) ∷ ‵ (Z.own_val d.alloc (h ∷ [])) ∷ Γ) G) → Seq K 𝓛 (‵ (Row.own_val d vs) ∷ Γ) G
   held_out t d vs k =
       fsplit t $ fpick t (λ vss. fsplit t $ feq_l t (λ ev. fsplit t $ feq_l t (λ ep. fsplit t $
       handle_tells al t d.alloc vss.1.0 (λ h ea fits. move t (1 ∷ []) $ drop t $ move t (1 ∷ []) $ k h

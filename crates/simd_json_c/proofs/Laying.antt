@@ -43,9 +43,8 @@ nodes-push start (n ∷ ns) x =
     omega (arith, length-append (text_of n) (texts ns)) in
     ap (λ r. node_of start n ∷ r) (nodes-push next ns x ∙ ap (λ s. nodes_from next ns ++ node_of s x ∷ []) along)
 
-pub laid-push : (n : Note) (x : Item) (now newer : List Node) (node : Node)
-    → length now ≡ length n.nodes_before → length newer ≡ length now → AreLaid n now
-    → (length (texts n.items) < 2 ^ 64 → node ≡ node_of (length (texts n.items)) x)
+pub laid-push : (n : Note) (x : Item) (now newer : List Node) (node : Node) → length now ≡ length n.nodes_before → length newer ≡ length now
+    → AreLaid n now → (length (texts n.items) < 2 ^ 64 → node ≡ node_of (length (texts n.items)) x)
     → (length n.items < length now → newer ≡ set now (length n.items) node) → AreLaid (noting n x) newer
 laid-push n x now newer node as_lent same laid is fits few small =
     let k = length n.items in
@@ -65,8 +64,8 @@ laid-push n x now newer node as_lent same laid is fits few small =
     ∙ ap (λ l. l ++ rest) (sym (nodes-push 0 n.items x))
     ∙ ap (λ j. nodes_from 0 (n.items ++ x ∷ []) ++ drop j n.nodes_before) (sym one)
 
-pub texts_laid-push : (n : Note) (x : Item) (now newer bytes : List ℕ) (used : ℕ)
-    → used ≡ min (length (texts n.items)) 18446744073709551615 → length newer ≡ length now → AreTextsLaid n now → text_of x ≡ bytes
+pub texts_laid-push : (n : Note) (x : Item) (now newer bytes : List ℕ) (used : ℕ) → used ≡ min (length (texts n.items)) 18446744073709551615
+    → length newer ≡ length now → AreTextsLaid n now → text_of x ≡ bytes
     → (used + length bytes ≤ length now → take (used + length bytes) newer ≡ take used now ++ bytes)
     → (used + length bytes ≤ length now → drop (used + length bytes) newer ≡ drop (used + length bytes) now)
     → AreTextsLaid (noting n x) newer
@@ -130,9 +129,8 @@ pub headed-push : (ns : List Item) (x : Item) → is_header x ≡ false → is_h
 headed-push [] x none = none
 headed-push (n ∷ ns) x none = refl
 
-pub laid-set : (n : Note) (i : ℕ) (y d : Item) (now newer : List Node) (node : Node)
-    → i < length n.items → length newer ≡ length now → AreLaid n now
-    → is_header (get_or n.items i d) ≡ true → is_header y ≡ true → ((s : ℕ) → node ≡ node_of s y)
+pub laid-set : (n : Note) (i : ℕ) (y d : Item) (now newer : List Node) (node : Node) → i < length n.items → length newer ≡ length now
+    → AreLaid n now → is_header (get_or n.items i d) ≡ true → is_header y ≡ true → ((s : ℕ) → node ≡ node_of s y)
     → (i < length now → newer ≡ set now i node) → AreLaid (record n { items = set n.items i y }) newer
 laid-set n i y d now newer node within same laid is header node_is fits few small =
     let k = length n.items in

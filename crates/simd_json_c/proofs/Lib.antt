@@ -1,5 +1,5 @@
 mod Bounds
-mod Behind
 mod LooseValues
 mod HeldValues
 mod Laying
+mod Printed

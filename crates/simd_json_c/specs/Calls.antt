@@ -8,51 +8,51 @@ use Rattle.simd_json_parts.specs.declared.error.Error.{Error}
 use Rattle.simd_json.specs.Memory.{IsOutOfMemory, LacksMemory}
 use Rattle.simd_json.specs.Parsed.{IsParse, IsParsed, IsRefused}
 use Rattle.simd_json_c.specs.Nodes.{nodes_from, room_for, texts}
-use Rattle.simd_json_c.specs.Statuses.{place_of, status_of, too_little_room}
+use Rattle.simd_json_c.specs.Statuses.{error_place, error_status, too_little_room}
 use Rattle.simd_json_c.specs.declared.nodes.Node.{Node}
 use Rattle.simd_json_c.specs.declared.nodes.Room.{Room}
-use Rattle.simd_json_c.specs.declared.status.Place.{Place}
+use Rattle.simd_json_c.specs.declared.status.ErrorPlace.{ErrorPlace}
 
 -- a parse of b, with no buffers before it
-abbrev pub IsRead : List ℕ → ℕ → Option Error → List Item → Type 0
-IsRead b limit fault ns = (listed : List ℕ) × IsParse b limit 0 fault ns listed
+abbrev pub IsFreshRead : List ℕ → ℕ → Option Error → List Item → Type 0
+IsFreshRead b limit fault ns = (listed : List ℕ) × IsParse b limit 0 fault ns listed
 
 -- what is told of a read that is such
-abbrev pub IsTold : (Option Error → List Item → Type 0) → ℤ → Place → Type 0
+abbrev pub IsTold : (Option Error → List Item → Type 0) → ℤ → ErrorPlace → Type 0
 IsTold Is status place =
-    (fault : Option Error) × (ns : List Item) × Is fault ns × (status ≡ status_of fault) × (place ≡ place_of fault)
+    (fault : Option Error) × (ns : List Item) × Is fault ns × (status ≡ error_status fault) × (place ≡ error_place fault)
 
-abbrev pub IsChecked : List ℕ → ℕ → ℤ → Place → Type 0
-IsChecked b limit status place = IsTold (IsRead b limit) status place
+abbrev pub IsChecked : List ℕ → ℕ → ℤ → ErrorPlace → Type 0
+IsChecked b limit status place = IsTold (IsFreshRead b limit) status place
 
 -- these are at the front, and what was behind them is there still
-abbrev pub IsPut : {A : Type 0} → List A → List A → List A → Type 0
-IsPut xs old new = new ≡ xs ++ drop (length xs) old
+abbrev pub IsAtFront : {A : Type 0} → List A → List A → List A → Type 0
+IsAtFront xs old new = new ≡ xs ++ drop (length xs) old
 
 -- nodes and texts are put, or one of the two has too little room, and it isn't said what they hold
 abbrev pub ArePut : List Item → ℤ → List Node → List Node → List ℕ → List ℕ → Type 0
 ArePut ns status old new old_text new_text =
-    ((status ≡ pos 0) × IsPut (nodes_from 0 ns) old new × IsPut (texts ns) old_text new_text)
+    ((status ≡ pos 0) × IsAtFront (nodes_from 0 ns) old new × IsAtFront (texts ns) old_text new_text)
     ⊎ ((status ≡ too_little_room) × ((length old < length ns) ⊎ (length old_text < length (texts ns))))
 
 -- Of a read that is such, neither nodes nor bytes of text are more than the bytes of b. After a fault it isn't said what they hold.
-abbrev pub IsLent : (Option Error → List Item → Type 0) → List ℕ → ℤ → Place → Room → Room
+abbrev pub IsTapeOf : (Option Error → List Item → Type 0) → List ℕ → ℤ → ErrorPlace → Room → Room
     → List Node → List Node → List ℕ → List ℕ → Type 0
-IsLent Is b status place old_room room old new old_text new_text =
-    (fault : Option Error) × (ns : List Item) × Is fault ns × (place ≡ place_of fault)
+IsTapeOf Is b status place old_room room old new old_text new_text =
+    (fault : Option Error) × (ns : List Item) × Is fault ns × (place ≡ error_place fault)
     × MatchOption fault
     ((room ≡ room_for ns) × (room.nodes ≤ length b) × (room.text ≤ length b) × ArePut ns status old new old_text new_text)
-    (λ e. (status ≡ status_of fault) × (room ≡ old_room))
+    (λ e. (status ≡ error_status fault) × (room ≡ old_room))
 
-abbrev pub IsTape : List ℕ → ℕ → ℤ → Place → Room → Room → List Node → List Node → List ℕ → List ℕ → Type 0
-IsTape b limit status place old_room room old new old_text new_text =
-    IsLent (IsRead b limit) b status place old_room room old new old_text new_text
+abbrev pub IsFreshTape : List ℕ → ℕ → ℤ → ErrorPlace → Room → Room → List Node → List Node → List ℕ → List ℕ → Type 0
+IsFreshTape b limit status place old_room room old new old_text new_text =
+    IsTapeOf (IsFreshRead b limit) b status place old_room room old new old_text new_text
 
 -- a text is put, or has too little room and all stays as it is
 abbrev pub IsTextPut : List ℕ → ℤ → ℕ → List ℕ → List ℕ → Type 0
 IsTextPut text status needed old new =
     (needed ≡ length text)
-    × (((status ≡ pos 0) × IsPut text old new) ⊎ ((status ≡ too_little_room) × (new ≡ old) × (length old < length text)))
+    × (((status ≡ pos 0) × IsAtFront text old new) ⊎ ((status ≡ too_little_room) × (new ≡ old) × (length old < length text)))
 
 -- what is printed of the document that b is
 abbrev pub IsTextOf : (Document → List ℕ) → List ℕ → ℕ → List ℕ → Type 0
@@ -65,19 +65,19 @@ IsCompact b limit text = IsTextOf compact b limit text × (length text ≤ lengt
 abbrev pub IsPretty : List ℕ → ℕ → List ℕ → Type 0
 IsPretty b limit text = IsTextOf pretty b limit text
 
--- b is refused, or the parse lacks memory, or b is a document and its text lacks memory
+-- b is rejected, or the parse lacks memory, or b is a document and its text lacks memory
 abbrev pub IsUnprinted : List ℕ → ℕ → Error → Type 0
 IsUnprinted b limit e =
     IsRefused b limit e ⊎ LacksMemory b e ⊎ (IsOutOfMemory e × ((ns : List Item) × IsParsed b limit ns))
 
-abbrev pub IsPrinted : (List ℕ → Type 0) → List ℕ → ℕ → ℤ → Place → ℕ → ℕ → List ℕ → List ℕ → Type 0
+abbrev pub IsPrinted : (List ℕ → Type 0) → List ℕ → ℕ → ℤ → ErrorPlace → ℕ → ℕ → List ℕ → List ℕ → Type 0
 IsPrinted IsText b limit status place old_needed needed old new =
-    (fault : Option Error) × (place ≡ place_of fault)
+    (fault : Option Error) × (place ≡ error_place fault)
     × MatchOption fault
     ((text : List ℕ) × IsText text × IsTextPut text status needed old new)
-    (λ e. (status ≡ status_of fault) × (needed ≡ old_needed) × (new ≡ old) × IsUnprinted b limit e)
+    (λ e. (status ≡ error_status fault) × (needed ≡ old_needed) × (new ≡ old) × IsUnprinted b limit e)
 
 -- a name is put where there is room for it
 abbrev pub IsNamed : List ℕ → ℕ → List ℕ → List ℕ → Type 0
 IsNamed name len old new =
-    (len ≡ length name) × ((length name ≤ length old × IsPut name old new) ⊎ ((length old < length name) × (new ≡ old)))
+    (len ≡ length name) × ((length name ≤ length old × IsAtFront name old new) ⊎ ((length old < length name) × (new ≡ old)))

@@ -4,12 +4,12 @@ use Rattle.simd_json.specs.Capacities.{KeepsCapacities, capacity, new_buffers}
 use Rattle.simd_json.specs.Parsed.{IsParse}
 use Rattle.simd_json_parts.specs.Nodes.{Item}
 use Rattle.simd_json_parts.specs.declared.error.Error.{Error}
-use Rattle.simd_json_c.specs.Statuses.{out_of_memory, parser_closed, place_of}
-use Rattle.simd_json_c.specs.Calls.{IsLent, IsTold}
+use Rattle.simd_json_c.specs.Statuses.{out_of_memory, parser_closed, error_place}
+use Rattle.simd_json_c.specs.Calls.{IsTapeOf, IsTold}
 use Rattle.simd_json_c.specs.declared.nodes.Node.{Node}
 use Rattle.simd_json_c.specs.declared.nodes.Room.{Room}
 use Rattle.simd_json_c.specs.declared.tape.Lists.{Lists}
-use Rattle.simd_json_c.specs.declared.status.Place.{Place}
+use Rattle.simd_json_c.specs.declared.status.ErrorPlace.{ErrorPlace}
 
 -- within the same limit, and no capacity is given up
 abbrev pub KeepsLists : Lists → Lists → Type 0
@@ -29,18 +29,18 @@ IsOpened limit status parser =
     ((status ≡ pos 0) × (parser ≡ Some (new_lists limit))) ⊎ ((status ≡ out_of_memory) × (parser ≡ None))
 
 -- a closed parser stays closed, and an open one open
-abbrev pub IsCallWith : Option Lists → Option Lists → ℤ → Place → Type 0 → (Lists → Lists → Type 0) → Type 0
+abbrev pub IsCallWith : Option Lists → Option Lists → ℤ → ErrorPlace → Type 0 → (Lists → Lists → Type 0) → Type 0
 IsCallWith old new status place Same Is =
     MatchOption old
-    ((new ≡ None) × (status ≡ parser_closed) × (place ≡ place_of None) × Same)
+    ((new ≡ None) × (status ≡ parser_closed) × (place ≡ error_place None) × Same)
     (λ was. (lists : Lists) × (new ≡ Some lists) × KeepsLists was lists × Is was lists)
 
-abbrev pub IsCheckedWith : Option Lists → Option Lists → List ℕ → ℤ → Place → Type 0
+abbrev pub IsCheckedWith : Option Lists → Option Lists → List ℕ → ℤ → ErrorPlace → Type 0
 IsCheckedWith old new b status place =
     IsCallWith old new status place ⊤ (λ was lists. IsTold (λ fault ns. IsReadWith was b fault ns lists) status place)
 
-abbrev pub IsTapeWith : Option Lists → Option Lists → List ℕ → ℤ → Place → Room → Room
+abbrev pub IsTapeWith : Option Lists → Option Lists → List ℕ → ℤ → ErrorPlace → Room → Room
     → List Node → List Node → List ℕ → List ℕ → Type 0
 IsTapeWith old new b status place old_room room old_nodes nodes old_text text =
     IsCallWith old new status place ((room ≡ old_room) × (nodes ≡ old_nodes) × (text ≡ old_text))
-    (λ was lists. IsLent (λ fault ns. IsReadWith was b fault ns lists) b status place old_room room old_nodes nodes old_text text)
+    (λ was lists. IsTapeOf (λ fault ns. IsReadWith was b fault ns lists) b status place old_room room old_nodes nodes old_text text)

@@ -24,14 +24,6 @@ static_node (fixed.U64 n) = words 3 n
 static_node (fixed.I128 z) = words 4 (cast_unsigned w128 z)
 static_node (fixed.U128 n) = words 5 n
 
--- the kind of a node with a text or members, and 0 of all others
-abbrev pub variant_kind : Item → ℕ
-variant_kind (static_item s) = 0
-variant_kind (decimal_item literal) = 6
-variant_kind (string_item t) = 7
-variant_kind (array_item len count) = 8
-variant_kind (object_item len count) = 9
-
 -- a node whose text, where it has one, begins at this index
 abbrev pub node_of : ℕ → Item → Node
 node_of start (static_item s) = static_node s

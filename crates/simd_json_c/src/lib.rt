@@ -4,7 +4,6 @@
 //! nothing for it. No export has a precondition.
 #![tactic(auto)]
 
-mod copies;
 mod nodes;
 mod parser;
 mod print;
@@ -17,5 +16,5 @@ pub use parser::{
     Parser, simd_json_close, simd_json_open, simd_json_parser_check, simd_json_parser_tape,
 };
 pub use print::{simd_json_compact, simd_json_pretty};
-pub use status::{Place, simd_json_kind_name, simd_json_status_name};
+pub use status::{ErrorPlace, simd_json_kind_name, simd_json_status_name};
 pub use tape::{simd_json_check, simd_json_tape};

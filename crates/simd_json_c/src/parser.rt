@@ -10,7 +10,7 @@ ghost use Rattle.simd_json_c.specs.declared.tape.Lists.{Lists};
 ghost use Rattle.std.specs.Box.Ownership.{box_owns};
 
 use crate::nodes::{Node, Room};
-use crate::status::{OUT_OF_MEMORY, PARSER_CLOSED, Place, reported};
+use crate::status::{OUT_OF_MEMORY, PARSER_CLOSED, ErrorPlace, reported};
 use crate::tape::Lists;
 use std::alloc::{Allocator, Global};
 use std::marker::Model;
@@ -45,7 +45,8 @@ impl Parser {
     }
 
     fn into_lists(self) -> Option<Box<Lists>>
-        ensures { MatchOption result (self.held.value ≡ None) (λ lists. self.held.value ≡ Some lists.value) }
+        ensures { MatchOption result (self.held.value ≡ None)
+            (λ lists. self.held.value ≡ Some lists.value) }
     {
         let Parser { held, is_open } = self;
         if is_open {
@@ -83,7 +84,7 @@ pub extern "C" fn simd_json_parser_check(
     alloc: Global,
     parser: &mut Parser,
     input: &mut [u8],
-    place: &mut Place,
+    place: &mut ErrorPlace,
 ) -> i32
     ensures { IsCheckedWith parser.old.held.value parser.new.held.value input.old result place.new }
 {
@@ -107,7 +108,7 @@ pub extern "C" fn simd_json_parser_tape(
     nodes: &mut [Node],
     text: &mut [u8],
     room: &mut Room,
-    place: &mut Place,
+    place: &mut ErrorPlace,
 ) -> i32
     ensures { IsTapeWith parser.old.held.value parser.new.held.value input.old result place.new
         room.old room.new nodes.old nodes.new text.old text.new }
@@ -130,8 +131,8 @@ pub extern "C" fn simd_json_close(alloc: Global, parser: &mut Parser)
     let _lists = replace(parser, Parser::closed(alloc)).into_lists();
 }
 
-/// An optional box of lists, as C holds it: it owns the lists that its pointer refers to, if any. Not
-/// exported.
+/// An optional box of lists, as C holds it: it owns the lists that its pointer refers to, if any.
+/// Not exported.
 // Dropping it would leak them: only one without lists is dropped.
 #[repr(C)]
 #[derive(Drop)]

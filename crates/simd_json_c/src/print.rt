@@ -1,18 +1,18 @@
 //! The printed text of a document. If the room is too small, only the needed size is written, so a
 //! text is made first and then copied.
-ghost use Rattle.std.specs.Prelude.{◌≤◌, IfOk, IfErr, length, string_bytes};
-ghost use Rattle.simd_json_c.specs.Calls.{IsCompact, IsPretty, IsPrinted, IsTextOf, IsTextPut, IsUnprinted};
-ghost use Rattle.simd_json_parts.specs.Printed.{compact, pretty};
+ghost use Rattle.std.specs.Prelude.{◌≡◌, IfOk, IfErr, Some, string_bytes};
+ghost use Rattle.std.specs.Result.{result_err};
+ghost use Rattle.simd_json_c.specs.Calls.{IsCompact, IsPretty, IsPrinted, IsTextPut, IsUnprinted};
+ghost use Rattle.simd_json_c.specs.Statuses.{error_place, error_status};
 
-use crate::copies::append;
-use crate::status::{Place, TOO_LITTLE_ROOM, reported};
+use crate::status::{ErrorPlace, TOO_LITTLE_ROOM, reported};
 use simd_json::{Buffers, Result, to_tape_with_buffers};
+use simd_json_print::text::store_bytes;
 use std::alloc::Global;
 
 fn compact_text(alloc: Global, input: &mut [u8], max_depth: usize) -> Result<String>
-    ensures text { IfOk result (λ text. IsTextOf compact input.old max_depth (string_bytes text)) }
-    ensures short { IfOk result (λ text. length (string_bytes text) ≤ length input.old) }
-    ensures refused { IfErr result (IsUnprinted input.old max_depth) }
+    ensures text { IfOk result (λ text. IsCompact input.old max_depth (string_bytes text)) }
+    ensures rejected { IfErr result (IsUnprinted input.old max_depth) }
 {
     let mut buffers = Buffers::with_max_depth(alloc, 0, max_depth)?;
     let tape = to_tape_with_buffers(input, &mut buffers)?;
@@ -20,24 +20,37 @@ fn compact_text(alloc: Global, input: &mut [u8], max_depth: usize) -> Result<Str
 }
 
 fn pretty_text(alloc: Global, input: &mut [u8], max_depth: usize) -> Result<String>
-    ensures text { IfOk result (λ text. IsTextOf pretty input.old max_depth (string_bytes text)) }
-    ensures refused { IfErr result (IsUnprinted input.old max_depth) }
+    ensures text { IfOk result (λ text. IsPretty input.old max_depth (string_bytes text)) }
+    ensures rejected { IfErr result (IsUnprinted input.old max_depth) }
 {
     let mut buffers = Buffers::with_max_depth(alloc, 0, max_depth)?;
     let tape = to_tape_with_buffers(input, &mut buffers)?;
     tape.as_value().encode_pp(alloc)
 }
 
-// Copies the text if there is room for it, and returns the status.
-fn lend_text(text: &[u8], out: &mut [u8], needed: &mut usize) -> i32
-    ensures { IsTextPut text.now result needed.new out.old out.new }
+// Copies the text if there is room for it, and returns the status; of an error its place, too.
+fn lend_text(
+    text: Result<String>,
+    out: &mut [u8],
+    needed: &mut usize,
+    place: &mut ErrorPlace,
+) -> i32
+    ensures place { place.new ≡ error_place (result_err text) }
+    ensures text { IfOk text (λ text.
+        IsTextPut (string_bytes text) result needed.new out.old out.new) }
+    ensures rejected { IfErr text (λ e. (result ≡ error_status (Some e))
+        × (needed.new ≡ needed.old) × (out.new ≡ out.old)) }
 {
-    *needed = text.len();
-    if text.len() <= out.len() {
-        append(out, 0, text);
-        0
-    } else {
-        TOO_LITTLE_ROOM
+    match text {
+        Ok(text) => {
+            *needed = text.len();
+            if text.len() > out.len() {
+                return reported(Ok(TOO_LITTLE_ROOM), place);
+            }
+            store_bytes(out, 0, text.as_bytes());
+            reported(Ok(0), place)
+        }
+        Err(e) => reported(Err(e), place),
     }
 }
 
@@ -49,15 +62,12 @@ pub extern "C" fn simd_json_compact(
     max_depth: usize,
     out: &mut [u8],
     needed: &mut usize,
-    place: &mut Place,
+    place: &mut ErrorPlace,
 ) -> i32
     ensures { IsPrinted (IsCompact input.old max_depth) input.old max_depth result place.new
         needed.old needed.new out.old out.new }
 {
-    match compact_text(alloc, input, max_depth) {
-        Ok(text) => reported(Ok(lend_text(text.as_bytes(), out, needed)), place),
-        Err(e) => reported(Err(e), place),
-    }
+    lend_text(compact_text(alloc, input, max_depth), out, needed, place)
 }
 
 /// Writes the pretty text of a document to the caller's memory.
@@ -68,13 +78,10 @@ pub extern "C" fn simd_json_pretty(
     max_depth: usize,
     out: &mut [u8],
     needed: &mut usize,
-    place: &mut Place,
+    place: &mut ErrorPlace,
 ) -> i32
     ensures { IsPrinted (IsPretty input.old max_depth) input.old max_depth result place.new
         needed.old needed.new out.old out.new }
 {
-    match pretty_text(alloc, input, max_depth) {
-        Ok(text) => reported(Ok(lend_text(text.as_bytes(), out, needed)), place),
-        Err(e) => reported(Err(e), place),
-    }
+    lend_text(pretty_text(alloc, input, max_depth), out, needed, place)
 }

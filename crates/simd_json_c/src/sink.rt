@@ -1,19 +1,21 @@
 //! The sinks of the C library: the caller's memory, where what does not fit is counted, so that the
-//! caller learns how much room it needs, and one that keeps nothing, which checks that an input is a
-//! document. A ghost record says which nodes were appended, also those that did not fit or were not
-//! kept.
-ghost use Rattle.std.specs.Prelude.{◌≡◌, ◌≤◌, ◌<◌, ◌+◌, ◌++◌, ℕ, List, drop, length, min, slice_set, take};
+//! caller learns how much room it needs, and one that keeps nothing, which checks that an input is
+//! a document. A ghost record says which nodes were appended, also those that did not fit or were
+//! not kept.
+ghost use Rattle.std.specs.Prelude.{◌≡◌, ◌≤◌, ◌<◌, ◌+◌, ◌++◌, ℕ, List, drop, length, min};
+ghost use Rattle.std.specs.Prelude.{slice_set, take};
 ghost use Rattle.simd_json_parts.specs.Nodes.{static_item};
 ghost use Rattle.simd_json_parts.specs.Limits.{max_length};
 ghost use Rattle.simd_json_stages.specs.Building.{header_of};
-ghost use Rattle.simd_json_c.specs.Loans.{AreLaid, AreTextsLaid, Loan, is_headed, noting, text_item};
+ghost use Rattle.simd_json_c.specs.Loans.{AreLaid, AreTextsLaid, Loan, is_headed, noting};
+ghost use Rattle.simd_json_c.specs.Loans.{text_item};
 ghost use Rattle.simd_json_c.specs.Nodes.{node_of, texts};
 ghost use base.Fml.{ftrue};
 ghost use Rattle.simd_json_c.specs.Notes.{Note};
 
-use crate::copies::append;
 use crate::nodes::{Node, span_of, static_of};
 use simd_json::{Container, NodeSink, StaticNode};
+use simd_json_print::text::store_bytes;
 use std::marker::Model;
 
 // Nodes and texts in the caller's memory, and how many there are, written or not.
@@ -46,7 +48,8 @@ impl CallerSink<'_> {
     #[inline(never)]
     fn put_text(&mut self, is_decimal: bool, bytes: &[u8])
         requires { length self.old.noted.note.items < max_length }
-        ensures note { self.new.noted.note ≡ noting self.old.noted.note (text_item is_decimal bytes.now) }
+        ensures note { self.new.noted.note
+            ≡ noting self.old.noted.note (text_item is_decimal bytes.now) }
         ensures nodes { self.new.nodes.ghost_name ≡ self.old.nodes.ghost_name }
         ensures text { self.new.text.ghost_name ≡ self.old.text.ghost_name }
     {
@@ -158,7 +161,7 @@ fn write_text(text: &mut [u8], at: usize, bytes: &[u8])
     ensures len { length text.new ≡ length text.old }
 {
     if at <= text.len() && bytes.len() <= text.len() - at {
-        append(text, at, bytes);
+        store_bytes(text, at, bytes);
     }
 }
 

@@ -1,17 +1,17 @@
 //! The errors that a program in C gets, and the names of statuses and kinds of node.
 ghost use Rattle.std.specs.Prelude.{◌≡◌, pos, Some, MatchResult};
 ghost use Rattle.std.specs.Result.{result_err};
-ghost use Rattle.simd_json_c.specs.Statuses.{number_of, place_of, status_of};
+ghost use Rattle.simd_json_c.specs.Statuses.{kind_status, error_place, error_status};
 ghost use Rattle.simd_json_c.specs.Calls.{IsNamed};
 ghost use Rattle.simd_json_c.specs.Names.{kind_name, status_name};
 
-use crate::copies::append;
 use simd_json::{Error, ErrorType, Result};
+use simd_json_print::text::store_bytes;
 
 /// Where an input is rejected.
 #[repr(C)]
 #[derive(Clone, Copy, Drop)]
-pub struct Place {
+pub struct ErrorPlace {
     /// The byte offset of the error; 0 if there is no place.
     pub index: usize,
     /// The byte there, or `u32::MAX` if there is none.
@@ -29,7 +29,7 @@ pub(crate) const PARSER_CLOSED: i32 = 20;
 
 // Each kind of error that a parse returns has its own number.
 fn number(kind: &ErrorType) -> i32
-    ensures { result ≡ pos (number_of kind.now) }
+    ensures { result ≡ pos (kind_status kind.now) }
 {
     match kind {
         ErrorType::OutOfMemory => 1,
@@ -55,11 +55,11 @@ fn number(kind: &ErrorType) -> i32
 }
 
 // The status and the place of an error.
-pub(crate) fn refused(e: Error, place: &mut Place) -> i32
-    ensures status { result ≡ status_of (Some e) }
-    ensures place { place.new ≡ place_of (Some e) }
+pub(crate) fn rejected(e: Error, place: &mut ErrorPlace) -> i32
+    ensures status { result ≡ error_status (Some e) }
+    ensures place { place.new ≡ error_place (Some e) }
 {
-    *place = Place {
+    *place = ErrorPlace {
         index: e.index(),
         character: e.character().map_or(u32::MAX, |c| c as u32),
     };
@@ -67,19 +67,20 @@ pub(crate) fn refused(e: Error, place: &mut Place) -> i32
 }
 
 // The status of a call, and its place.
-pub(crate) fn reported(outcome: Result<i32>, place: &mut Place) -> i32
-    ensures place { place.new ≡ place_of (result_err outcome) }
-    ensures status { MatchResult outcome (λ status. result ≡ status) (λ e. result ≡ status_of (Some e)) }
+pub(crate) fn reported(outcome: Result<i32>, place: &mut ErrorPlace) -> i32
+    ensures place { place.new ≡ error_place (result_err outcome) }
+    ensures status { MatchResult outcome (λ status. result ≡ status)
+        (λ e. result ≡ error_status (Some e)) }
 {
     match outcome {
         Ok(status) => {
-            *place = Place {
+            *place = ErrorPlace {
                 index: 0,
                 character: u32::MAX,
             };
             status
         }
-        Err(e) => refused(e, place),
+        Err(e) => rejected(e, place),
     }
 }
 
@@ -135,7 +136,7 @@ fn lend_name(name: &[u8], out: &mut [u8]) -> usize
     ensures { IsNamed name.now result out.old out.new }
 {
     if name.len() <= out.len() {
-        append(out, 0, name);
+        store_bytes(out, 0, name);
     }
     name.len()
 }

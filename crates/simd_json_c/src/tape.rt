@@ -1,6 +1,7 @@
 //! Checks and tapes of documents, with lists that parses use one after another.
-ghost use Rattle.std.specs.Prelude.{◌≡◌, ◌≤◌, List, length, IfOk, IfErr, Some, None, pos, [], min, MatchResult};
-ghost use Rattle.simd_json_c.specs.Calls.{ArePut, IsRead, IsTape, IsChecked};
+ghost use Rattle.std.specs.Prelude.{◌≡◌, ◌≤◌, List, length, IfOk, IfErr, Some, None, pos, [], min};
+ghost use Rattle.std.specs.Prelude.{MatchResult};
+ghost use Rattle.simd_json_c.specs.Calls.{ArePut, IsFreshRead, IsFreshTape, IsChecked};
 ghost use Rattle.simd_json_c.specs.Nodes.{room_for, texts};
 ghost use Rattle.simd_json_parts.specs.Nodes.{Item};
 ghost use Rattle.std.specs.Result.{result_err};
@@ -11,7 +12,7 @@ ghost use Rattle.simd_json_c.specs.Loans.{AreLaid, AreTextsLaid};
 
 use crate::nodes::{Node, Room};
 use crate::sink::{CallerSink, Counted, Noted};
-use crate::status::{Place, TOO_LITTLE_ROOM, reported};
+use crate::status::{ErrorPlace, TOO_LITTLE_ROOM, reported};
 use simd_json::{Buffers, Original, Result, fill_sink};
 use std::alloc::Global;
 use std::marker::Brand;
@@ -24,12 +25,13 @@ fn tape(
     text: &mut [u8],
     room: &mut Room,
 ) -> Result<i32>
-    ensures lent { IfOk result (λ status. (ns : List Item) × IsRead input.old max_depth None ns
-        × (room.new ≡ room_for ns) × ArePut ns status nodes.old nodes.new text.old text.new) }
+    ensures lent { IfOk result (λ status. (ns : List Item)
+        × IsFreshRead input.old max_depth None ns × (room.new ≡ room_for ns)
+        × ArePut ns status nodes.old nodes.new text.old text.new) }
     ensures few { IfOk result (λ _.
         (room.new.nodes ≤ length input.old) × (room.new.text ≤ length input.old)) }
-    ensures refused { IfErr result (λ e. (ns : List Item) × IsRead input.old max_depth (Some e) ns
-        × (room.new ≡ room.old)) }
+    ensures rejected { IfErr result (λ e. (ns : List Item)
+        × IsFreshRead input.old max_depth (Some e) ns × (room.new ≡ room.old)) }
 {
     Lists::new(alloc, max_depth)?.tape(input, nodes, text, room)
 }
@@ -44,16 +46,16 @@ pub extern "C" fn simd_json_tape(
     nodes: &mut [Node],
     text: &mut [u8],
     room: &mut Room,
-    place: &mut Place,
+    place: &mut ErrorPlace,
 ) -> i32
-    ensures { IsTape input.old max_depth result place.new room.old room.new
+    ensures { IsFreshTape input.old max_depth result place.new room.old room.new
         nodes.old nodes.new text.old text.new }
 {
     reported(tape(alloc, input, max_depth, nodes, text, room), place)
 }
 
 fn check(alloc: Global, input: &mut [u8], max_depth: usize) -> Result<i32>
-    ensures read { (ns : List Item) × IsRead input.old max_depth (result_err result) ns }
+    ensures read { (ns : List Item) × IsFreshRead input.old max_depth (result_err result) ns }
     ensures zero { IfOk result (λ status. status ≡ pos 0) }
 {
     Lists::new(alloc, max_depth)?.check(input)
@@ -65,7 +67,7 @@ pub extern "C" fn simd_json_check(
     alloc: Global,
     input: &mut [u8],
     max_depth: usize,
-    place: &mut Place,
+    place: &mut ErrorPlace,
 ) -> i32
     ensures { IsChecked input.old max_depth result place.new }
 {
@@ -90,7 +92,8 @@ impl Lists {
 
     // Returns 0 if the input is a document, or its error.
     pub(crate) fn check(&mut self, input: &mut [u8]) -> Result<i32>
-        ensures read { (ns : List Item) × IsReadWith self.old input.old (result_err result) ns self.new }
+        ensures read { (ns : List Item)
+            × IsReadWith self.old input.old (result_err result) ns self.new }
         ensures zero { IfOk result (λ status. status ≡ pos 0) }
         ensures kept { KeepsLists self.old self.new }
     {
@@ -107,12 +110,13 @@ impl Lists {
         text: &mut [u8],
         room: &mut Room,
     ) -> Result<i32>
-        ensures lent { IfOk result (λ status. (ns : List Item) × IsReadWith self.old input.old None ns self.new
-            × (room.new ≡ room_for ns) × ArePut ns status nodes.old nodes.new text.old text.new) }
+        ensures lent { IfOk result (λ status. (ns : List Item)
+            × IsReadWith self.old input.old None ns self.new × (room.new ≡ room_for ns)
+            × ArePut ns status nodes.old nodes.new text.old text.new) }
         ensures few { IfOk result (λ _.
             (room.new.nodes ≤ length input.old) × (room.new.text ≤ length input.old)) }
-        ensures refused { IfErr result (λ e. (ns : List Item) × IsReadWith self.old input.old (Some e) ns self.new
-            × (room.new ≡ room.old)) }
+        ensures rejected { IfErr result (λ e. (ns : List Item)
+            × IsReadWith self.old input.old (Some e) ns self.new × (room.new ≡ room.old)) }
         ensures kept { KeepsLists self.old self.new }
     {
         let (nodes_len, text_len) = (nodes.len(), text.len());
@@ -131,7 +135,8 @@ fn count<K: Original>(buffers: &mut Buffers, input: &mut [u8]) -> Result<()>
     requires { input.old ≡ K.bytes }
     ensures read { (ns : List Item) × IsParse K.bytes buffers.old.limit (capacity buffers.old)
         (result_err result) ns buffers.new.positions }
-    ensures kept { (buffers.new.limit ≡ buffers.old.limit) × KeepsCapacities buffers.old buffers.new }
+    ensures kept { (buffers.new.limit ≡ buffers.old.limit)
+        × KeepsCapacities buffers.old buffers.new }
 {
     let mut sink = Counted {
         count: 0,
@@ -159,15 +164,18 @@ fn write<K: Original>(
 ) -> Result<Written>
     requires { input.old ≡ K.bytes }
     ensures read { MatchResult result
-        (λ w. IsParse K.bytes buffers.old.limit (capacity buffers.old) None w.noted.note.items buffers.new.positions)
-        (λ e. IsParse K.bytes buffers.old.limit (capacity buffers.old) (Some e) [] buffers.new.positions) }
+        (λ w. IsParse K.bytes buffers.old.limit (capacity buffers.old) None w.noted.note.items
+        buffers.new.positions)
+        (λ e. IsParse K.bytes buffers.old.limit (capacity buffers.old) (Some e) []
+        buffers.new.positions) }
     ensures room { IfOk result (λ w. (w.room.nodes ≡ length w.noted.note.items)
         × (w.room.text ≡ min (length (texts w.noted.note.items)) 18446744073709551615)) }
     ensures before { IfOk result (λ w. (w.noted.note.nodes_before ≡ nodes.old)
         × (w.noted.note.text_before ≡ text.old)) }
     ensures nodes { IfOk result (λ w. AreLaid w.noted.note nodes.new) }
     ensures text { IfOk result (λ w. AreTextsLaid w.noted.note text.new) }
-    ensures kept { (buffers.new.limit ≡ buffers.old.limit) × KeepsCapacities buffers.old buffers.new }
+    ensures kept { (buffers.new.limit ≡ buffers.old.limit)
+        × KeepsCapacities buffers.old buffers.new }
 {
     let noted = Noted::of(&(&*nodes, &*text));
     let mut sink = CallerSink {

@@ -25,8 +25,7 @@ digits-count k n l u h =
 
 -- from an index on, with what stood in front of it
 pub stored-digits : (old new digits : List ℕ) (at from end : ℕ) → from + length digits ≡ end → end ≡ at + length digits
-    → drop from new ≡ digits ++ drop end old → take from new ≡ take from old
-    → take end new ≡ take at old ++ digits
+    → drop from new ≡ digits ++ drop end old → take from new ≡ take from old → take end new ≡ take at old ++ digits
 stored-digits old new digits at from end start size written before =
     let place : from + length digits ≡ end = omega arith in
     let same : from ≡ at = omega arith in

@@ -6,7 +6,7 @@ use Rattle.std.specs.Prelude.{if◌then◌else◌}
 use Rattle.simd_json_parts.proofs.Tables.{lists_values, table-value}
 use Rattle.simd_json_parts.specs.Bytes.{backspace, tab, line_feed, form_feed, carriage_return, quote, backslash, is_control}
 use Rattle.simd_json_parts.specs.Printed.{escaped_byte}
-use Rattle.simd_json_print.specs.Texts.{Place, Adds}
+use Rattle.simd_json_print.specs.Texts.{TargetState, Adds}
 use Rattle.simd_json_print.specs.declared.text.Text.{Text}
 use Rattle.simd_json_print.proofs.Texts.{adds-is}
 
@@ -31,21 +31,22 @@ digits-table xs c all l = table-value digit_char xs c 0 all l
 
 -- ---- what is given for a byte, by its letter
 
-pub as-it-is : {T : Type 0} {size : ℕ} (place : T → Place) (a b : Text T size) (x letter : ℕ) → Adds place a b (x ∷ []) → letter ≡ 0
-    → letter ≡ escape_letter x → Adds place a b (escaped_byte x)
-as-it-is place a b x letter g none is =
+pub as-it-is : {T : Type 0} {size : ℕ} (state : T → TargetState) (a b : Text T size) (x letter : ℕ) → Adds state a b (x ∷ []) → letter ≡ 0
+    → letter ≡ escape_letter x → Adds state a b (escaped_byte x)
+as-it-is state a b x letter g none is =
     let whole : x ∷ [] ≡ escaped_byte x = grind (arith, nat_tests, none, is) in
-    adds-is place a b _ _ whole g
+    adds-is state a b _ _ whole g
 
-pub by-number : {T : Type 0} {size : ℕ} (place : T → Place) (a b : Text T size) (x letter tens ones : ℕ)
-    → Adds place a b (codes "\\u00" ++ tens ∷ ones ∷ []) → letter ≡ 117 → letter ≡ escape_letter x
-    → tens ≡ digit_char (x / 16) → ones ≡ digit_char (x % 16) → Adds place a b (escaped_byte x)
-by-number place a b x letter tens ones g number is ten one =
+pub by-number : {T : Type 0} {size : ℕ} (state : T → TargetState) (a b : Text T size) (x letter tens ones : ℕ)
+    → Adds state a b (codes "\\u00" ++ tens ∷ ones ∷ []) → letter ≡ 117 → letter ≡ escape_letter x
+    → tens ≡ digit_char (x / 16) → ones ≡ digit_char (x % 16) → Adds state a b (escaped_byte x)
+by-number state a b x letter tens ones g number is ten one =
     let whole : codes "\\u00" ++ digit_char (x / 16) ∷ digit_char (x % 16) ∷ [] ≡ escaped_byte x = grind (arith, nat_tests, number, is) in
-    adds-is place a b _ _ (ap₂ (λ t o. codes "\\u00" ++ t ∷ o ∷ []) ten one ∙ whole) g
+    adds-is state a b _ _ (ap₂ (λ t o. codes "\\u00" ++ t ∷ o ∷ []) ten one ∙ whole) g
 
-pub by-letter : {T : Type 0} {size : ℕ} (place : T → Place) (a b : Text T size) (x letter : ℕ) → Adds place a b (backslash ∷ letter ∷ [])
-    → (letter ≡ 0 → ⊥) → (letter ≡ 117 → ⊥) → letter ≡ escape_letter x → Adds place a b (escaped_byte x)
-by-letter place a b x letter g some short is =
+pub by-letter : {T : Type 0} {size : ℕ} (state : T → TargetState) (a b : Text T size) (x letter : ℕ)
+    → Adds state a b (backslash ∷ letter ∷ []) → (letter ≡ 0 → ⊥) → (letter ≡ 117 → ⊥) → letter ≡ escape_letter x
+    → Adds state a b (escaped_byte x)
+by-letter state a b x letter g some short is =
     let whole : backslash ∷ letter ∷ [] ≡ escaped_byte x = grind (arith, nat_tests, some, short, is) in
-    adds-is place a b _ _ whole g
+    adds-is state a b _ _ whole g

@@ -10,19 +10,19 @@ use Rattle.simd_json_parts.specs.Printed.{escaped_byte, quoted, new_line}
 use Rattle.simd_json_parts.specs.declared.node.Node.{Node}
 use Rattle.simd_json_parts.specs.declared.node.Node.TheVariants as nodes
 use Rattle.simd_json_parts.specs.Printed.{line, after_name}
-use Rattle.simd_json_print.specs.Texts.{Place, Adds}
+use Rattle.simd_json_print.specs.Texts.{TargetState, Adds}
 use Rattle.simd_json_print.specs.declared.text.Text.{Text}
 use Rattle.simd_json_print.proofs.Texts.{adds-none, adds-is}
 
 -- ---- lines
 
-pub adds-no-line : {T : Type 0} {size : ℕ} (place : T → Place) (m n : ℕ) (a : Text T size) → m ≡ 0
-    → Adds place a a (line (not (nat_eq m 0)) n)
-adds-no-line place m n a is = subst (λ k. Adds place a a (line (not (nat_eq k 0)) n)) (sym is) (adds-none place a)
+pub adds-no-line : {T : Type 0} {size : ℕ} (state : T → TargetState) (m n : ℕ) (a : Text T size) → m ≡ 0
+    → Adds state a a (line (not (nat_eq m 0)) n)
+adds-no-line state m n a is = subst (λ k. Adds state a a (line (not (nat_eq k 0)) n)) (sym is) (adds-none state a)
 
-pub adds-a-line : {T : Type 0} {size : ℕ} (place : T → Place) (m n : ℕ) (a b : Text T size) → (m ≡ 0 → ⊥)
-    → Adds place a b (new_line n) → Adds place a b (line (not (nat_eq m 0)) n)
-adds-a-line place m n a b is g = subst (λ p. Adds place a b (line p n)) (sym (ap not (ne_eqb m 0 is))) g
+pub adds-a-line : {T : Type 0} {size : ℕ} (state : T → TargetState) (m n : ℕ) (a b : Text T size) → (m ≡ 0 → ⊥)
+    → Adds state a b (new_line n) → Adds state a b (line (not (nat_eq m 0)) n)
+adds-a-line state m n a b is g = subst (λ p. Adds state a b (line p n)) (sym (ap not (ne_eqb m 0 is))) g
 
 pub front-of-line : (n : ℕ) → n ≤ 32 → take (1 + n) (line_feed ∷ replicate 32 space) ≡ line_feed ∷ replicate n space
 front-of-line n within = take-append-add (line_feed ∷ []) (replicate 32 space) n
@@ -55,33 +55,33 @@ pub quoted-whole : (t : List ℕ) → quote ∷ (flat_map escaped_byte t ++ quot
 unfolding quoted
 quoted-whole t = refl
 
-pub adds-string : {T : Type 0} {size : ℕ} (place : T → Place) (a b : Text T size) (before : ℕ) (front t back : List ℕ)
-    → front ≡ before ∷ quote ∷ [] → Adds place a b (front ++ (flat_map escaped_byte t ++ quote ∷ back))
-    → Adds place a b (before ∷ (quoted t ++ back))
-adds-string place a b before front t back is g =
-    adds-is place a b _ _ (ap (λ us. us ++ (flat_map escaped_byte t ++ quote ∷ back)) is ∙ ap (λ us. before ∷ us) (quoted-then t back)) g
+pub adds-string : {T : Type 0} {size : ℕ} (state : T → TargetState) (a b : Text T size) (before : ℕ) (front t back : List ℕ)
+    → front ≡ before ∷ quote ∷ [] → Adds state a b (front ++ (flat_map escaped_byte t ++ quote ∷ back))
+    → Adds state a b (before ∷ (quoted t ++ back))
+adds-string state a b before front t back is g =
+    adds-is state a b _ _ (ap (λ us. us ++ (flat_map escaped_byte t ++ quote ∷ back)) is ∙ ap (λ us. before ∷ us) (quoted-then t back)) g
 
-pub adds-front : {T : Type 0} {size : ℕ} (place : T → Place) (a b : Text T size) (before : ℕ) (front : List ℕ)
-    → front ≡ before ∷ quote ∷ [] → Adds place a b (take 1 front) → Adds place a b (before ∷ [])
-adds-front place a b before front is g = adds-is place a b _ _ (ap (take 1) is) g
+pub adds-front : {T : Type 0} {size : ℕ} (state : T → TargetState) (a b : Text T size) (before : ℕ) (front : List ℕ)
+    → front ≡ before ∷ quote ∷ [] → Adds state a b (take 1 front) → Adds state a b (before ∷ [])
+adds-front state a b before front is g = adds-is state a b _ _ (ap (take 1) is) g
 
 -- ---- names
 
-pub adds-pretty-name : {T : Type 0} {size : ℕ} (place : T → Place) (m n before : ℕ) (a b : Text T size) (t k : List ℕ) → (m ≡ 0 → ⊥)
-    → string_item t ≡ string_item k → Adds place a b (before ∷ (new_line n ++ (quoted t ++ codes ": ")))
-    → Adds place a b (before ∷ (line (not (nat_eq m 0)) n ++ (quoted k ++ after_name (not (nat_eq m 0)))))
-adds-pretty-name place m n before a b t k is same g =
+pub adds-pretty-name : {T : Type 0} {size : ℕ} (state : T → TargetState) (m n before : ℕ) (a b : Text T size) (t k : List ℕ) → (m ≡ 0 → ⊥)
+    → string_item t ≡ string_item k → Adds state a b (before ∷ (new_line n ++ (quoted t ++ codes ": ")))
+    → Adds state a b (before ∷ (line (not (nat_eq m 0)) n ++ (quoted k ++ after_name (not (nat_eq m 0)))))
+adds-pretty-name state m n before a b t k is same g =
     let name : t ≡ k = cc in
-    subst (λ p. Adds place a b (before ∷ (line p n ++ (quoted k ++ after_name p)))) (sym (ap not (ne_eqb m 0 is)))
-    (subst (λ us. Adds place a b (before ∷ (new_line n ++ (quoted us ++ codes ": ")))) name g)
+    subst (λ p. Adds state a b (before ∷ (line p n ++ (quoted k ++ after_name p)))) (sym (ap not (ne_eqb m 0 is)))
+    (subst (λ us. Adds state a b (before ∷ (new_line n ++ (quoted us ++ codes ": ")))) name g)
 
-pub adds-compact-name : {T : Type 0} {size : ℕ} (place : T → Place) (m n before : ℕ) (a b : Text T size) (t k : List ℕ) → m ≡ 0
-    → string_item t ≡ string_item k → Adds place a b (before ∷ (quoted t ++ codes ":"))
-    → Adds place a b (before ∷ (line (not (nat_eq m 0)) n ++ (quoted k ++ after_name (not (nat_eq m 0)))))
-adds-compact-name place m n before a b t k is same g =
+pub adds-compact-name : {T : Type 0} {size : ℕ} (state : T → TargetState) (m n before : ℕ) (a b : Text T size) (t k : List ℕ) → m ≡ 0
+    → string_item t ≡ string_item k → Adds state a b (before ∷ (quoted t ++ codes ":"))
+    → Adds state a b (before ∷ (line (not (nat_eq m 0)) n ++ (quoted k ++ after_name (not (nat_eq m 0)))))
+adds-compact-name state m n before a b t k is same g =
     let name : t ≡ k = cc in
-    subst (λ j. Adds place a b (before ∷ (line (not (nat_eq j 0)) n ++ (quoted k ++ after_name (not (nat_eq j 0)))))) (sym is)
-    (subst (λ us. Adds place a b (before ∷ (quoted us ++ codes ":"))) name g)
+    subst (λ j. Adds state a b (before ∷ (line (not (nat_eq j 0)) n ++ (quoted k ++ after_name (not (nat_eq j 0)))))) (sym is)
+    (subst (λ us. Adds state a b (before ∷ (quoted us ++ codes ":"))) name g)
 
 -- a name is a string's node
 pub no-name : (x : Node) (k : List ℕ) → ((s : Bor (List ℕ)) → x ≡ nodes.String s → ⊥) → item_of x ≡ string_item k → ⊥

@@ -6,7 +6,7 @@ use Rattle.simd_json_parts.specs.Bytes.{is_control}
 use Rattle.simd_json_scalars.specs.StringContent.{is_stop}
 use Rattle.std.proofs.lemmas.List.Concat.{flat_map-append}
 use Rattle.simd_json_parts.specs.Printed.{escaped_byte}
-use Rattle.simd_json_print.specs.Texts.{Place, Adds}
+use Rattle.simd_json_print.specs.Texts.{TargetState, Adds}
 use Rattle.simd_json_print.specs.declared.text.Text.{Text}
 use Rattle.simd_json_print.proofs.Texts.{adds-then}
 
@@ -38,8 +38,7 @@ last-run done bytes (x ∷ xs) whole k so_far back none = cc
 
 -- a run, and the byte after it
 one-run : (done bytes others whole : List ℕ) (k default : ℕ) → done ++ flat_map escaped_byte bytes ≡ whole → others ≡ drop k bytes
-    → 0 < length others
-    → (done ++ (flat_map escaped_byte (take k bytes) ++ escaped_byte (get_or others 0 default)))
+    → 0 < length others → (done ++ (flat_map escaped_byte (take k bytes) ++ escaped_byte (get_or others 0 default)))
     ++ flat_map escaped_byte (drop 1 others) ≡ whole
 one-run done bytes [] whole k default so_far back some = absurd (omega arith)
 one-run done bytes (x ∷ xs) whole k default so_far back some =
@@ -47,14 +46,14 @@ one-run done bytes (x ∷ xs) whole k default so_far back some =
     ∙ ap (λ us. done ++ us) (append_assoc (flat_map escaped_byte (take k bytes)) (escaped_byte x) (flat_map escaped_byte xs)
     ∙ sym (split-run bytes (x ∷ xs) k back)) ∙ so_far
 
-pub given-run : {T : Type 0} {size : ℕ} (place : T → Place) (a b c d : Text T size)
+pub given-run : {T : Type 0} {size : ℕ} (state : T → TargetState) (a b c d : Text T size)
     (done bytes others after whole : List ℕ) (k default : ℕ)
-    → Adds place a b done → done ++ flat_map escaped_byte bytes ≡ whole → Adds place b c (flat_map escaped_byte (take k bytes))
-    → Adds place c d (escaped_byte (get_or others 0 default)) → others ≡ drop k bytes → 0 < length others → after ≡ drop 1 others
-    → (more : List ℕ) × Adds place a d more × (more ++ flat_map escaped_byte after ≡ whole)
-given-run place a b c d done bytes others after whole k default g so_far h e back some next = (
+    → Adds state a b done → done ++ flat_map escaped_byte bytes ≡ whole → Adds state b c (flat_map escaped_byte (take k bytes))
+    → Adds state c d (escaped_byte (get_or others 0 default)) → others ≡ drop k bytes → 0 < length others → after ≡ drop 1 others
+    → (more : List ℕ) × Adds state a d more × (more ++ flat_map escaped_byte after ≡ whole)
+given-run state a b c d done bytes others after whole k default g so_far h e back some next = (
   done ++ (flat_map escaped_byte (take k bytes) ++ escaped_byte (get_or others 0 default)),
-  adds-then place a b d done _ g (adds-then place b c d (flat_map escaped_byte (take k bytes)) _ h e),
+  adds-then state a b d done _ g (adds-then state b c d (flat_map escaped_byte (take k bytes)) _ h e),
   ap (λ us. (done ++ (flat_map escaped_byte (take k bytes) ++ escaped_byte (get_or others 0 default))) ++ flat_map escaped_byte us) next
       ∙ one-run done bytes others whole k default so_far back some,
 )

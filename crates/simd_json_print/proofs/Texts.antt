@@ -2,11 +2,11 @@
 use Rattle.std.proofs.Common.{◌≡◌, ◌∙◌, ap, sym, refl, subst, ℕ, Bool, true, false, List, [], ◌++◌, Option, None, Some}
 use Rattle.std.proofs.Common.{append_assoc, append-nil, length, take, drop, take-append-drop}
 use Rattle.std.proofs.Math.Seq.{take-append_seam}
+use Rattle.std.proofs.lemmas.Bool.{false≢true}
 use Rattle.std.specs.Prelude.{Result, Ok, Err, is_some, is_none, is_ok, OnOk, OnErr, IfNone, option_map, ◌||◌, ◌&&◌, ◌==◌, zero}
 use Rattle.std.specs.Prelude.{suc, nat_lt}
 use Rattle.std.specs.Io.KnownBytes.{Appends, Keeps}
-use Rattle.simd_json_print.specs.Prefix.{IsPrefix}
-use Rattle.simd_json_print.specs.Texts.{Place, Takes, IsLeft, failed_or, HasGiven, HasEnded, Adds, AddsSome, IsLonger}
+use Rattle.simd_json_print.specs.Texts.{TargetState, Takes, IsUnsent, failed_or, HasGiven, HasEnded, Adds, AddsSome, IsLonger, IsPrefix}
 use Rattle.simd_json_print.specs.declared.text.Text.{Text}
 
 pub appends-none : (a : Option (List ℕ)) → Appends a a []
@@ -26,7 +26,7 @@ appends-keeps (Some xs) (Some ys) None us p q = absurd q
 appends-keeps (Some xs) (Some ys) (Some zs) us p q = q ∙ p
 
 -- a beginning was taken, and the target failed
-abbrev pub HasFailed : Place → Place → List ℕ → Type 0
+abbrev pub HasFailed : TargetState → TargetState → List ℕ → Type 0
 HasFailed a b bytes = ((count : ℕ) × Appends a.held b.held (take count bytes)) × (b.failed ≡ option_map (λ _. true) a.failed)
 
 -- ---- one call, after these bytes were sent
@@ -41,8 +41,8 @@ none-now None t is = refl
 none-now (Some true) t is = refl
 none-now (Some false) t is = ap Some is
 
-pub write-failed : {E : Type 0} (e : E) (a b c : Place) (sent left whole : List ℕ) → Takes b c (Err e) left → Appends a.held b.held sent
-    → sent ++ left ≡ whole → b.failed ≡ a.failed → HasFailed a c whole
+pub write-failed : {E : Type 0} (e : E) (a b c : TargetState) (sent left whole : List ℕ) → Takes b c (Err e) left
+    → Appends a.held b.held sent → sent ++ left ≡ whole → b.failed ≡ a.failed → HasFailed a c whole
 write-failed e a b c sent left whole t p all same = (
   (
     length sent,
@@ -52,7 +52,7 @@ write-failed e a b c sent left whole t p all same = (
   t.failed ∙ failed-now b.failed _ ∙ ap (option_map (λ _. true)) same,
 )
 
-pub write-zero : {E : Type 0} (n : ℕ) (a b c : Place) (sent left whole : List ℕ) → n ≡ 0 → Takes {E = E} b c (Ok n) left
+pub write-zero : {E : Type 0} (n : ℕ) (a b c : TargetState) (sent left whole : List ℕ) → n ≡ 0 → Takes {E = E} b c (Ok n) left
     → nat_lt 0 (length left) ≡ true → Appends a.held b.held sent → sent ++ left ≡ whole → b.failed ≡ a.failed → HasFailed a c whole
 write-zero zero a b c sent left whole is t some p all same = (
   (
@@ -73,8 +73,8 @@ and-off : (b t : Bool) → b ≡ false → (b && t) ≡ false
 and-off true t is = cc
 and-off false t is = refl
 
-pub write-more : {E : Type 0} (n : ℕ) (a b c : Place) (sent left rest whole : List ℕ) → Takes {E = E} b c (Ok n) left → (n == 0) ≡ false
-    → rest ≡ drop n left → Appends a.held b.held sent → sent ++ left ≡ whole → b.failed ≡ a.failed
+pub write-more : {E : Type 0} (n : ℕ) (a b c : TargetState) (sent left rest whole : List ℕ) → Takes {E = E} b c (Ok n) left
+    → (n == 0) ≡ false → rest ≡ drop n left → Appends a.held b.held sent → sent ++ left ≡ whole → b.failed ≡ a.failed
     → (more : List ℕ) × Appends a.held c.held more × (more ++ rest ≡ whole) × (c.failed ≡ a.failed)
 write-more n a b c sent left rest whole t some is p all same = (
   sent ++ take n left,
@@ -86,23 +86,15 @@ write-more n a b c sent left rest whole t some is p all same = (
 
 -- ---- texts
 
-pub adds-then : {T : Type 0} {size : ℕ} (place : T → Place) (a b c : Text T size) (xs ys : List ℕ) → Adds place a b xs → Adds place b c ys
-    → Adds place a c (xs ++ ys)
-adds-then place a b c xs ys g h = record {
-  same_target = h.same_target ∙ g.same_target;
-  given = λ start before is.
-      subst (λ us. HasGiven place start c us) (append_assoc before xs ys) (h.given start (before ++ xs) (g.given start before is));
-}
-
-left-of : {E : Type 0} (o : Option E) (collected left : List ℕ) → is_some o ≡ false → IsLeft o collected left → left ≡ collected
+left-of : {E : Type 0} (o : Option E) (collected left : List ℕ) → is_some o ≡ false → IsUnsent o collected left → left ≡ collected
 left-of None collected left off is = is
 left-of (Some e) collected left off is = cc
 
-is-left : {E : Type 0} (o : Option E) (collected left : List ℕ) → is_some o ≡ false → left ≡ collected → IsLeft o collected left
+is-left : {E : Type 0} (o : Option E) (collected left : List ℕ) → is_some o ≡ false → left ≡ collected → IsUnsent o collected left
 is-left None collected left off is = is
 is-left (Some e) collected left off is = tt
 
-any-left : {E : Type 0} (o : Option E) (collected left : List ℕ) → is_some o ≡ true → IsLeft o collected left
+any-left : {E : Type 0} (o : Option E) (collected left : List ℕ) → is_some o ≡ true → IsUnsent o collected left
 any-left None collected left off = cc
 any-left (Some e) collected left off = tt
 
@@ -114,104 +106,108 @@ ended : (b : Bool) (o : Option Bool) → b ≡ true → failed_or b o ≡ option
 ended true o is = refl
 ended false o is = cc
 
--- what fits is collected, or dropped after a failure
-pub adds-collected : {T : Type 0} {size : ℕ} (place : T → Place) (old new : Text T size) (bytes : List ℕ) → new.target ≡ old.target
-    → new.fault ≡ old.fault → new.pieces ≡ old.pieces ++ bytes → Adds place old new bytes
-adds-collected place old new bytes target fault all = record {
-  same_target = ap (λ o. o.ghost_name) target;
-  given = λ start before is. record {
-    sent = is.sent;
-    left = is.left ++ bytes;
-    is_left = more old.fault new.fault old.pieces new.pieces is.left fault all is.is_left;
-    taken = subst (λ o. Appends start.held (place o.now).held is.sent) (sym target) is.taken;
-    whole = sym (append_assoc is.sent is.left bytes) ∙ ap (λ us. us ++ bytes) is.whole;
-    failed = ap (λ o. (place o.now).failed) target ∙ is.failed ∙ ap (λ f. failed_or (is_some f) start.failed) (sym fault);
-  };
-}
-  where
-    more : {E : Type 0} (o p : Option E) (xs ys left : List ℕ) → p ≡ o → ys ≡ xs ++ bytes → IsLeft o xs left → IsLeft p ys (left ++ bytes)
-    more None None xs ys left same is l = ap (λ us. us ++ bytes) l ∙ sym is
-    more (Some e) None xs ys left same is l = cc
-    more o (Some e) xs ys left same is l = tt
+module _ {T : Type 0} {size : ℕ} (state : T → TargetState) where
+  pub adds-then : (a b c : Text T size) (xs ys : List ℕ) → Adds state a b xs → Adds state b c ys → Adds state a c (xs ++ ys)
+  adds-then a b c xs ys g h = record {
+    same_target = h.same_target ∙ g.same_target;
+    given = λ start before is.
+        subst (λ us. HasGiven state start c us) (append_assoc before xs ys) (h.given start (before ++ xs) (g.given start before is));
+  }
 
--- all was taken
-pub adds-taken : {T : Type 0} {size : ℕ} (place : T → Place) (old new : Text T size) (bytes chunk : List ℕ)
-    → new.target.ghost_name ≡ old.target.ghost_name → is_some old.fault ≡ false → is_some new.fault ≡ false
-    → chunk ≡ old.pieces ++ bytes → new.pieces ≡ [] → Appends (place old.target.now).held (place new.target.now).held chunk
-    → (place new.target.now).failed ≡ (place old.target.now).failed → Adds place old new bytes
-adds-taken place old new bytes chunk same sound new_sound all none taken failed = record {
-  same_target = same;
-  given = λ start before is. record {
-    sent = is.sent ++ chunk;
-    left = [];
-    is_left = is-left new.fault new.pieces [] new_sound (sym none);
-    taken = appends-then start.held _ _ is.sent chunk is.taken taken;
-    whole = append-nil _
-        ∙ ap (λ us. is.sent ++ us) (all ∙ ap (λ us. us ++ bytes) (sym (left-of old.fault old.pieces is.left sound is.is_left)))
-        ∙ sym (append_assoc is.sent is.left bytes) ∙ ap (λ us. us ++ bytes) is.whole;
-    failed = failed ∙ is.failed ∙ still _ start.failed sound ∙ sym (still _ start.failed new_sound);
-  };
-}
+  -- what fits is collected, or dropped after a failure
+  pub adds-collected : (old new : Text T size) (bytes : List ℕ) → new.target ≡ old.target → new.fault ≡ old.fault
+      → new.collected ≡ old.collected ++ bytes → Adds state old new bytes
+  adds-collected old new bytes target fault all = record {
+    same_target = ap (λ o. o.ghost_name) target;
+    given = λ start before is. record {
+      sent = is.sent;
+      left = is.left ++ bytes;
+      is_left = more old.fault new.fault old.collected new.collected is.left fault all is.is_left;
+      taken = subst (λ o. Appends start.held (state o.now).held is.sent) (sym target) is.taken;
+      whole = sym (append_assoc is.sent is.left bytes) ∙ ap (λ us. us ++ bytes) is.whole;
+      failed = ap (λ o. (state o.now).failed) target ∙ is.failed ∙ ap (λ f. failed_or (is_some f) start.failed) (sym fault);
+    };
+  }
+    where
+      more : {E : Type 0} (o p : Option E) (xs ys left : List ℕ) → p ≡ o → ys ≡ xs ++ bytes → IsUnsent o xs left
+          → IsUnsent p ys (left ++ bytes)
+      more None None xs ys left same is l = ap (λ us. us ++ bytes) l ∙ sym is
+      more (Some e) None xs ys left same is l = cc
+      more o (Some e) xs ys left same is l = tt
 
--- a beginning was taken
-pub adds-failed : {T : Type 0} {size : ℕ} (place : T → Place) (old new : Text T size) (bytes chunk : List ℕ)
-    → new.target.ghost_name ≡ old.target.ghost_name → is_some old.fault ≡ false → is_some new.fault ≡ true
-    → chunk ≡ old.pieces ++ bytes → HasFailed (place old.target.now) (place new.target.now) chunk → Adds place old new bytes
-adds-failed place old new bytes chunk same sound stopped all ends = record {
-  same_target = same;
-  given = λ start before is. record {
-    sent = is.sent ++ take ends.0.0 chunk;
-    left = drop ends.0.0 chunk;
-    is_left = any-left new.fault new.pieces _ stopped;
-    taken = appends-then start.held _ _ is.sent (take ends.0.0 chunk) is.taken ends.0.1;
-    whole = append_assoc is.sent (take ends.0.0 chunk) (drop ends.0.0 chunk)
-        ∙ ap (λ us. is.sent ++ us) (take-append-drop ends.0.0 chunk ∙ all
-        ∙ ap (λ us. us ++ bytes) (sym (left-of old.fault old.pieces is.left sound is.is_left)))
-        ∙ sym (append_assoc is.sent is.left bytes) ∙ ap (λ us. us ++ bytes) is.whole;
-    failed = ends.1 ∙ ap (option_map (λ _. true)) (is.failed ∙ still _ start.failed sound) ∙ sym (ended _ start.failed stopped);
-  };
-}
+  -- all was taken
+  pub adds-taken : (old new : Text T size) (bytes chunk : List ℕ) → new.target.ghost_name ≡ old.target.ghost_name
+      → is_some old.fault ≡ false → is_some new.fault ≡ false → chunk ≡ old.collected ++ bytes → new.collected ≡ []
+      → Appends (state old.target.now).held (state new.target.now).held chunk
+      → (state new.target.now).failed ≡ (state old.target.now).failed → Adds state old new bytes
+  adds-taken old new bytes chunk same sound new_sound all none taken failed = record {
+    same_target = same;
+    given = λ start before is. record {
+      sent = is.sent ++ chunk;
+      left = [];
+      is_left = is-left new.fault new.collected [] new_sound (sym none);
+      taken = appends-then start.held _ _ is.sent chunk is.taken taken;
+      whole = append-nil _
+          ∙ ap (λ us. is.sent ++ us) (all ∙ ap (λ us. us ++ bytes) (sym (left-of old.fault old.collected is.left sound is.is_left)))
+          ∙ sym (append_assoc is.sent is.left bytes) ∙ ap (λ us. us ++ bytes) is.whole;
+      failed = failed ∙ is.failed ∙ still _ start.failed sound ∙ sym (still _ start.failed new_sound);
+    };
+  }
 
--- what is given after a failure is dropped
-pub adds-dropped : {T : Type 0} {size : ℕ} (place : T → Place) (old : Text T size) (bytes : List ℕ) → is_some old.fault ≡ true
-    → Adds place old old bytes
-adds-dropped place old bytes stopped = record {
-  same_target = refl;
-  given = λ start before is. record {
-    sent = is.sent;
-    left = is.left ++ bytes;
-    is_left = any-left old.fault old.pieces _ stopped;
-    taken = is.taken;
-    whole = sym (append_assoc is.sent is.left bytes) ∙ ap (λ us. us ++ bytes) is.whole;
-    failed = is.failed;
-  };
-}
+  -- a beginning was taken
+  pub adds-failed : (old new : Text T size) (bytes chunk : List ℕ) → new.target.ghost_name ≡ old.target.ghost_name
+      → is_some old.fault ≡ false → is_some new.fault ≡ true → chunk ≡ old.collected ++ bytes
+      → HasFailed (state old.target.now) (state new.target.now) chunk → Adds state old new bytes
+  adds-failed old new bytes chunk same sound stopped all ends = record {
+    same_target = same;
+    given = λ start before is. record {
+      sent = is.sent ++ take ends.0.0 chunk;
+      left = drop ends.0.0 chunk;
+      is_left = any-left new.fault new.collected _ stopped;
+      taken = appends-then start.held _ _ is.sent (take ends.0.0 chunk) is.taken ends.0.1;
+      whole = append_assoc is.sent (take ends.0.0 chunk) (drop ends.0.0 chunk)
+          ∙ ap (λ us. is.sent ++ us) (take-append-drop ends.0.0 chunk ∙ all
+          ∙ ap (λ us. us ++ bytes) (sym (left-of old.fault old.collected is.left sound is.is_left)))
+          ∙ sym (append_assoc is.sent is.left bytes) ∙ ap (λ us. us ++ bytes) is.whole;
+      failed = ends.1 ∙ ap (option_map (λ _. true)) (is.failed ∙ still _ start.failed sound) ∙ sym (ended _ start.failed stopped);
+    };
+  }
 
-pub adds-none : {T : Type 0} {size : ℕ} (place : T → Place) (a : Text T size) → Adds place a a []
-adds-none place a = record {
-  same_target = refl;
-  given = λ start before is. subst (λ us. HasGiven place start a us) (sym (append-nil before)) is;
-}
+  -- what is given after a failure is dropped
+  pub adds-dropped : (old : Text T size) (bytes : List ℕ) → is_some old.fault ≡ true → Adds state old old bytes
+  adds-dropped old bytes stopped = record {
+    same_target = refl;
+    given = λ start before is. record {
+      sent = is.sent;
+      left = is.left ++ bytes;
+      is_left = any-left old.fault old.collected _ stopped;
+      taken = is.taken;
+      whole = sym (append_assoc is.sent is.left bytes) ∙ ap (λ us. us ++ bytes) is.whole;
+      failed = is.failed;
+    };
+  }
 
-pub adds-is : {T : Type 0} {size : ℕ} (place : T → Place) (a b : Text T size) (xs ys : List ℕ) → xs ≡ ys → Adds place a b xs
-    → Adds place a b ys
-adds-is place a b xs ys is g = subst (λ us. Adds place a b us) is g
+  pub adds-none : (a : Text T size) → Adds state a a []
+  adds-none a = record {
+    same_target = refl;
+    given = λ start before is. subst (λ us. HasGiven state start a us) (sym (append-nil before)) is;
+  }
 
--- what is put after the target failed is dropped
-pub adds-lost : {T : Type 0} {size : ℕ} (place : T → Place) (a b : Text T size) (xs ys : List ℕ) → is_some b.fault ≡ true
-    → Adds place a b xs
-    → Adds place a b (xs ++ ys)
-adds-lost place a b xs ys stopped g = adds-then place a b b xs ys g (adds-dropped place b ys stopped)
+  pub adds-is : (a b : Text T size) (xs ys : List ℕ) → xs ≡ ys → Adds state a b xs → Adds state a b ys
+  adds-is a b xs ys is g = subst (λ us. Adds state a b us) is g
 
-pub some-none : {T : Type 0} {size : ℕ} (place : T → Place) (a : Text T size) → AddsSome place a a
-some-none place a = ([], adds-none place a)
+  -- what is put after the target failed is dropped
+  pub adds-lost : (a b : Text T size) (xs ys : List ℕ) → is_some b.fault ≡ true → Adds state a b xs → Adds state a b (xs ++ ys)
+  adds-lost a b xs ys stopped g = adds-then a b b xs ys g (adds-dropped b ys stopped)
 
-pub some-then : {T : Type 0} {size : ℕ} (place : T → Place) (a b c : Text T size) → AddsSome place a b → AddsSome place b c
-    → AddsSome place a c
-some-then place a b c g h = (g.0 ++ h.0, adds-then place a b c g.0 h.0 g.1 h.1)
+  pub some-none : (a : Text T size) → AddsSome state a a
+  some-none a = ([], adds-none a)
 
-pub adds-some : {T : Type 0} {size : ℕ} (place : T → Place) (a b : Text T size) (xs : List ℕ) → Adds place a b xs → AddsSome place a b
-adds-some place a b xs g = (xs, g)
+  pub some-then : (a b c : Text T size) → AddsSome state a b → AddsSome state b c → AddsSome state a c
+  some-then a b c g h = (g.0 ++ h.0, adds-then a b c g.0 h.0 g.1 h.1)
+
+  pub adds-some : (a b : Text T size) (xs : List ℕ) → Adds state a b xs → AddsSome state a b
+  adds-some a b xs g = (xs, g)
 
 -- ---- the end
 
@@ -219,12 +215,12 @@ pub none-then : {E : Type 0} {P : Type 0} (o : Option E) → is_none o ≡ true 
 none-then None is p = p
 none-then (Some e) is p = cc
 
-pub ends-before : {T : Type 0} {size : ℕ} (place : T → Place) (start : Place) (text : Text T size) (bytes : List ℕ)
-    → is_some text.fault ≡ true → HasGiven place start text bytes → HasFailed start (place text.target.now) bytes
-ends-before place start text bytes stopped g = (
+pub ends-before : {T : Type 0} {size : ℕ} (state : T → TargetState) (start : TargetState) (text : Text T size) (bytes : List ℕ)
+    → is_some text.fault ≡ true → HasGiven state start text bytes → HasFailed start (state text.target.now) bytes
+ends-before state start text bytes stopped g = (
   (
     length g.sent,
-    subst (λ us. Appends start.held (place text.target.now).held us)
+    subst (λ us. Appends start.held (state text.target.now).held us)
         (sym (take-append_seam g.sent g.left) ∙ ap (take (length g.sent)) g.whole) g.taken,
   ),
   g.failed ∙ ended _ start.failed stopped,
@@ -234,32 +230,32 @@ take-further : (xs ys : List ℕ) (n : ℕ) → take (length (xs ++ take n ys)) 
 take-further xs ys n = ap (λ us. take (length (xs ++ take n ys)) us) (ap (λ us. xs ++ us) (sym (take-append-drop n ys))
     ∙ sym (append_assoc xs (take n ys) (drop n ys))) ∙ take-append_seam (xs ++ take n ys) (drop n ys)
 
-pub ends-after : {E : Type 0} {T : Type 0} {size : ℕ} (r : Result Unit E) (place : T → Place) (start end : Place)
+pub ends-after : {E : Type 0} {T : Type 0} {size : ℕ} (r : Result Unit E) (state : T → TargetState) (start end : TargetState)
     (text : Text T size) (bytes : List ℕ) → is_some text.fault ≡ false
-    → HasGiven place start text bytes → HasEnded r (place text.target.now) end text.pieces → HasEnded r start end bytes
-ends-after (Ok u) place start end text bytes sound g ends = (
+    → HasGiven state start text bytes → HasEnded r (state text.target.now) end text.collected → HasEnded r start end bytes
+ends-after (Ok u) state start end text bytes sound g ends = (
   subst (λ us. Appends start.held end.held us)
-      (ap (λ us. g.sent ++ us) (sym (left-of text.fault text.pieces g.left sound g.is_left)) ∙ g.whole)
-      (appends-then start.held _ end.held g.sent text.pieces g.taken ends.0),
+      (ap (λ us. g.sent ++ us) (sym (left-of text.fault text.collected g.left sound g.is_left)) ∙ g.whole)
+      (appends-then start.held _ end.held g.sent text.collected g.taken ends.0),
   ends.1 ∙ g.failed ∙ still _ start.failed sound,
 )
-ends-after (Err e) place start end text bytes sound g ends = (
+ends-after (Err e) state start end text bytes sound g ends = (
   (
-    length (g.sent ++ take ends.0.0 text.pieces),
+    length (g.sent ++ take ends.0.0 text.collected),
     subst (λ us. Appends start.held end.held us)
-        (sym (take-further g.sent text.pieces ends.0.0) ∙ ap (take (length (g.sent ++ take ends.0.0 text.pieces)))
-        (ap (λ us. g.sent ++ us) (sym (left-of text.fault text.pieces g.left sound g.is_left)) ∙ g.whole))
-        (appends-then start.held _ end.held g.sent (take ends.0.0 text.pieces) g.taken ends.0.1),
+        (sym (take-further g.sent text.collected ends.0.0) ∙ ap (take (length (g.sent ++ take ends.0.0 text.collected)))
+        (ap (λ us. g.sent ++ us) (sym (left-of text.fault text.collected g.left sound g.is_left)) ∙ g.whole))
+        (appends-then start.held _ end.held g.sent (take ends.0.0 text.collected) g.taken ends.0.1),
   ),
   ends.1 ∙ ap (option_map (λ _. true)) (g.failed ∙ still _ start.failed sound),
 )
 
-pub ended-written : {E : Type 0} (r : Result Unit E) (a b : Place) (bytes : List ℕ) → HasEnded r a b bytes
+pub ended-written : {E : Type 0} (r : Result Unit E) (a b : TargetState) (bytes : List ℕ) → HasEnded r a b bytes
     → OnOk r (Appends a.held b.held bytes)
 ended-written (Ok u) a b bytes ends = ends.0
 ended-written (Err e) a b bytes ends = tt
 
-pub ended-begun : {E : Type 0} (r : Result Unit E) (a b : Place) (bytes : List ℕ) → HasEnded r a b bytes
+pub ended-begun : {E : Type 0} (r : Result Unit E) (a b : TargetState) (bytes : List ℕ) → HasEnded r a b bytes
     → OnErr r ((count : ℕ) × Appends a.held b.held (take count bytes))
 ended-begun (Ok u) a b bytes ends = tt
 ended-begun (Err e) a b bytes ends = ends.0
@@ -280,13 +276,51 @@ ended-failed (Ok u) a b old new bytes ends ok = cc
 ended-failed (Err e) a b old true bytes ends ok = (refl, ends.0)
 ended-failed (Err e) a b old false bytes ends ok = cc
 
-pub ended-longer : {E : Type 0} (r : Result Unit E) (a b : Place) (bytes : List ℕ) → HasEnded r a b bytes → IsLonger a.held b.held
+pub ended-longer : {E : Type 0} (r : Result Unit E) (a b : TargetState) (bytes : List ℕ) → HasEnded r a b bytes → IsLonger a.held b.held
 unfolding IsLonger
 ended-longer (Ok u) a b bytes ends = (bytes, ends.0)
 ended-longer (Err e) a b bytes ends = (take ends.0.0 bytes, ends.0.1)
 
+-- ---- where the text ends well
+
+-- what was given to the text, since any state of the target, is what it ends with
+abbrev pub Ends : {T E : Type 0} {size : ℕ} → (T → TargetState) → Result Unit E → Text T size → TargetState → Type 0
+Ends state r text end = (start : TargetState) (bytes : List ℕ) → HasGiven state start text bytes → HasEnded r start end bytes
+
+some-is : {x y : Bool} → Some x ≡ Some y → x ≡ y
+some-is is = cc
+
+-- nothing failed before
+pub sound-text : {T E : Type 0} {size : ℕ} (state : T → TargetState) (r : Result Unit E) (start end : TargetState) (text : Text T size)
+    (bytes : List ℕ) (failed : Bool) → is_some text.fault ≡ failed → is_ok r ≡ true → start.failed ≡ Some false
+    → HasGiven state start text bytes → Ends state r text end → is_some text.fault ≡ false
+sound-text state r start end text bytes false is ok old given ends = is
+sound-text state (Err e) start end text bytes true is ok old given ends = cc
+sound-text state (Ok u) start end text bytes true is ok old given ends =
+    let here = state text.target.now in
+    let failed : here.failed ≡ Some true = given.failed ∙ ap (λ f. failed_or f start.failed) is ∙ ap (failed_or true) old in
+    let again : HasGiven state here text [] = record {
+      sent = [];
+      left = [];
+      is_left = any-left text.fault text.collected [] is;
+      taken = appends-none here.held;
+      whole = refl;
+      failed = failed ∙ sym (ap (λ f. failed_or f here.failed) is ∙ ap (failed_or true) failed);
+    } in
+    let one = (ends here [] again).1 ∙ failed in
+    let two = (ends start bytes given).1 ∙ old in
+    absurd (false≢true (some-is (sym two ∙ one)))
+
+-- a beginning of a beginning
+pub take-front : (n : ℕ) (front rest : List ℕ) → (count : ℕ) × (take n front ≡ take count (front ++ rest))
+take-front n front rest =
+    let begun = take n front in
+    let all : begun ++ (drop n front ++ rest) ≡ front ++ rest =
+    sym (append_assoc begun (drop n front) rest) ∙ ap (λ us. us ++ rest) (take-append-drop n front) in
+    (length begun, sym (ap (take (length begun)) (sym all) ∙ take-append_seam begun (drop n front ++ rest)))
+
 -- ---- a list
 
-pub longer-prefix : (xs ys : List ℕ) → IsLonger (Some xs) (Some ys) → IsPrefix xs ys
+pub longer_prefix : (xs ys : List ℕ) → IsLonger (Some xs) (Some ys) → IsPrefix xs ys
 unfolding IsLonger
-longer-prefix xs ys more = ap (take (length xs)) more.1 ∙ take-append_seam xs more.0
+longer_prefix xs ys more = ap (take (length xs)) more.1 ∙ take-append_seam xs more.0

@@ -75,9 +75,8 @@ pub record IsOpened (p : Bool) (n : ℕ) (x : Item) (items rest : List Item) (d 
   pub printed : text p d n ≡ frame_text p n true frame
 
 opened : (p : Bool) (n : ℕ) (x y : Item) (items rest : List Item) (d : Document) (f : Frame) → x ∷ items ≡ y ∷ (frame_listing f ++ rest)
-    → is_object_item y ≡ has_members f
-    → count_of y ≡ length (frame_listing f) → listing d ≡ y ∷ frame_listing f → text p d n ≡ frame_text p n true f
-    → IsOpened p n x items rest d
+    → is_object_item y ≡ has_members f → count_of y ≡ length (frame_listing f) → listing d ≡ y ∷ frame_listing f
+    → text p d n ≡ frame_text p n true f → IsOpened p n x items rest d
 opened p n x y items rest d f is kind count whole printed = record {
   frame = f;
   kind = ap is_object_item (same-first x y items _ is) ∙ kind;

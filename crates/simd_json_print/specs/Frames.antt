@@ -39,7 +39,8 @@ frames_text p n first (f ∷ outer) = frame_text p (n + length outer) first f ++
 abbrev pub AreNested : List ℕ → List Bool → List Frame → Type 0
 AreNested ends are_objects [] = ⊤
 AreNested ends are_objects (f ∷ outer) =
-    (get_or ends (length outer) 0 ≡ length (frames_listing outer)) × (get_or are_objects (length outer) false ≡ has_members f) × AreNested ends are_objects outer
+    (get_or ends (length outer) 0 ≡ length (frames_listing outer))
+    × (get_or are_objects (length outer) false ≡ has_members f) × AreNested ends are_objects outer
 
 -- in front of an element or a member, or of an end: these nodes are left, and this is printed of the whole
 pub record IsBetween (p : Bool) (n : ℕ) (nesting : Nesting) (first : Bool) (left : List Item) (done whole : List ℕ) : Type 0 where

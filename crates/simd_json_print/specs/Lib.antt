@@ -1,4 +1,3 @@
-pub mod Prefix
 pub mod Texts
 pub mod Layout
 pub mod Frames

@@ -7,8 +7,7 @@ ghost use Rattle.simd_json_parts.specs.Document.{Document};
 ghost use Rattle.simd_json_parts.specs.Listing.{listing};
 ghost use Rattle.simd_json_parts.specs.Nodes.{item_of};
 ghost use Rattle.simd_json_parts.specs.Printed.{compact, pretty, quoted};
-ghost use Rattle.simd_json_print.specs.Texts.{Adds, AddsSome, IsLonger};
-ghost use Rattle.simd_json_print.specs.Prefix.{IsPrefix};
+ghost use Rattle.simd_json_print.specs.Texts.{Adds, AddsSome, IsLonger, IsPrefix};
 
 mod scalar;
 mod walk;
@@ -27,18 +26,18 @@ const PIECE: usize = 4096;
 
 /// Puts the compact text of the document that the nodes list.
 pub fn put_compact<T: Target, const SIZE: usize>(out: &mut Text<'_, T, SIZE>, nodes: &[Node<'_>])
-    ensures kept { AddsSome T.place out.old out.new }
+    ensures kept { AddsSome T.state out.old out.new }
     ensures given { (d : Document) → map item_of nodes.now ≡ listing d
-        → Adds T.place out.old out.new (compact d) }
+        → Adds T.state out.old out.new (compact d) }
 {
     put_value::<T, SIZE, false>(out, nodes, 0);
 }
 
 /// Puts the pretty text of the document that the nodes list.
 pub fn put_pretty<T: Target, const SIZE: usize>(out: &mut Text<'_, T, SIZE>, nodes: &[Node<'_>])
-    ensures kept { AddsSome T.place out.old out.new }
+    ensures kept { AddsSome T.state out.old out.new }
     ensures given { (d : Document) → map item_of nodes.now ≡ listing d
-        → Adds T.place out.old out.new (pretty d) }
+        → Adds T.state out.old out.new (pretty d) }
 {
     put_value::<T, SIZE, true>(out, nodes, 0);
 }
@@ -47,6 +46,7 @@ pub fn put_pretty<T: Target, const SIZE: usize>(out: &mut Text<'_, T, SIZE>, nod
 ///
 /// Returns an error if an allocation fails. `out` then has its old contents, and a part of the text
 /// may follow.
+#[tactic(auto, using(crate::proofs::Texts::longer_prefix))]
 pub fn append_compact<A: Allocator>(
     out: &mut Vec<u8, A>,
     nodes: &[Node<'_>],
@@ -62,6 +62,7 @@ pub fn append_compact<A: Allocator>(
 ///
 /// Returns an error if an allocation fails. `out` then has its old contents, and a part of the text
 /// may follow.
+#[tactic(auto, using(crate::proofs::Texts::longer_prefix))]
 pub fn append_pretty<A: Allocator>(
     out: &mut Vec<u8, A>,
     nodes: &[Node<'_>],
@@ -112,6 +113,7 @@ pub fn write_pretty<W: Write>(writer: &mut W, nodes: &[Node<'_>]) -> io::Result<
 ///
 /// Returns an error if an allocation fails. `out` then has its old contents, and a part of the
 /// string may follow.
+#[tactic(auto, using(crate::proofs::Texts::longer_prefix))]
 pub fn append_quoted<A: Allocator>(
     out: &mut Vec<u8, A>,
     string: &str,
@@ -128,8 +130,8 @@ pub fn append_quoted<A: Allocator>(
 pub fn write_quoted<W: Write>(writer: &mut W, string: &str) -> io::Result<()>
     ensures written { OnOk result
         (Appends (W.contents writer.old) (W.contents writer.new) (quoted string.now)) }
-    ensures begun { OnErr result ((count : ℕ)
-        × Appends (W.contents writer.old) (W.contents writer.new) (take count (quoted string.now))) }
+    ensures begun { OnErr result ((count : ℕ) × Appends (W.contents writer.old)
+        (W.contents writer.new) (take count (quoted string.now))) }
     ensures kept { IsLonger (W.contents writer.old) (W.contents writer.new) }
 {
     let mut out = Text::<W, 256>::new(writer);

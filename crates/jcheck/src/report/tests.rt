@@ -23,7 +23,7 @@ fn assert_written(
     Ok(())
 }
 
-const REFUSED: [(&[u8], &str); 10] = [
+const REJECTED: [(&[u8], &str); 10] = [
     (b"[1,[2]]\n", ""),
     (
         b"[1,\n  2 3]\n",
@@ -68,8 +68,8 @@ const REFUSED: [(&[u8], &str); 10] = [
 ];
 
 #[test]
-fn refusals_are_shown(rt: HostRuntime) -> Result<(), Fail> {
-    for (input, text) in &REFUSED {
+fn rejections_are_shown(rt: HostRuntime) -> Result<(), Fail> {
+    for (input, text) in &REJECTED {
         assert_written(&rt, input, text, false)?;
     }
     Ok(())
@@ -147,7 +147,7 @@ fn assert_stopped(
 // A writer that is full at each of its bytes in turn.
 #[test]
 fn failed_writes_end_the_check(rt: HostRuntime) -> Result<(), Fail> {
-    for (input, text) in &REFUSED {
+    for (input, text) in &REJECTED {
         assert_stopped(&rt, input, text, false)?;
     }
     for (input, text) in &LINES {
@@ -160,10 +160,10 @@ fn failed_writes_end_the_check(rt: HostRuntime) -> Result<(), Fail> {
 #[test]
 fn ends_have_statuses(rt: HostRuntime) {
     assert_eq!(rt; Ended::Clean.and(Ended::Clean).status(), 0);
-    assert_eq!(rt; Ended::Refused.and(Ended::Clean).status(), 1);
-    assert_eq!(rt; Ended::Clean.and(Ended::Refused).status(), 1);
-    assert_eq!(rt; Ended::Failed.and(Ended::Refused).status(), 3);
-    assert_eq!(rt; Ended::Refused.and(Ended::Failed).status(), 3);
+    assert_eq!(rt; Ended::Rejected.and(Ended::Clean).status(), 1);
+    assert_eq!(rt; Ended::Clean.and(Ended::Rejected).status(), 1);
+    assert_eq!(rt; Ended::Failed.and(Ended::Rejected).status(), 3);
+    assert_eq!(rt; Ended::Rejected.and(Ended::Failed).status(), 3);
 }
 
 // How many files are checked, and the status of them all, where their checks return these in turn.

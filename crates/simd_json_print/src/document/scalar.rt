@@ -16,7 +16,7 @@ const LINE: &[u8] = b"\n                                ";
 /// Puts a scalar, or an empty container. Not inlined: the walk is smaller so.
 #[inline(never)]
 pub(crate) fn put_leaf<T: Target, const SIZE: usize>(out: &mut Text<'_, T, SIZE>, node: &Node<'_>)
-    ensures { Adds T.place out.old out.new (leaf_text (item_of node.now)) }
+    ensures { Adds T.state out.old out.new (leaf_text (item_of node.now)) }
 {
     if let Node::String(string) = *node {
         out.put_string(b"\"", string, b"\"");
@@ -40,9 +40,9 @@ pub(crate) fn put_name<T: Target, const SIZE: usize, const PRETTY: bool>(
     depth: usize,
     node: &Node<'_>,
 )
-    ensures kept { AddsSome T.place out.old out.new }
+    ensures kept { AddsSome T.state out.old out.new }
     ensures given { (k : List ℕ) → item_of node.now ≡ string_item k
-        → Adds T.place out.old out.new
+        → Adds T.state out.old out.new
         (cond is_first left_brace comma ∷ (line PRETTY depth ++ (quoted k ++ after_name PRETTY))) }
 {
     if let Node::String(name) = *node {
@@ -65,7 +65,7 @@ pub(crate) fn put_element<T: Target, const SIZE: usize, const PRETTY: bool>(
     depth: usize,
     node: &Node<'_>,
 )
-    ensures { Adds T.place out.old out.new
+    ensures { Adds T.state out.old out.new
         (cond is_first left_bracket comma ∷ (line PRETTY depth ++ leaf_text (item_of node.now))) }
 {
     let front = front_of(is_first, false);
@@ -91,7 +91,8 @@ pub(crate) fn put_element<T: Target, const SIZE: usize, const PRETTY: bool>(
 /// before others.
 #[inline(always)]
 pub(crate) fn front_of(is_first: bool, is_object: bool) -> &'static [u8]
-    ensures { result.now ≡ cond is_first (cond is_object left_brace left_bracket) comma ∷ quote ∷ [] }
+    ensures { result.now
+        ≡ cond is_first (cond is_object left_brace left_bracket) comma ∷ quote ∷ [] }
 {
     if !is_first {
         b",\""
@@ -106,7 +107,7 @@ pub(crate) fn front_of(is_first: bool, is_object: bool) -> &'static [u8]
 /// Not inlined, as [`put_leaf`].
 #[inline(never)]
 pub(crate) fn put_new_line<T: Target, const SIZE: usize>(out: &mut Text<'_, T, SIZE>, depth: usize)
-    ensures { Adds T.place out.old out.new (new_line depth) }
+    ensures { Adds T.state out.old out.new (new_line depth) }
 {
     out.put(&LINE[..1 + 2 * (depth % 16)]);
     if depth >= 16 {
@@ -117,7 +118,7 @@ pub(crate) fn put_new_line<T: Target, const SIZE: usize>(out: &mut Text<'_, T, S
 // The spaces of `times` times 16 containers.
 #[inline(never)]
 fn put_spaces<T: Target, const SIZE: usize>(out: &mut Text<'_, T, SIZE>, times: usize)
-    ensures { Adds T.place out.old out.new
+    ensures { Adds T.state out.old out.new
         (replicate (32 * times) space) }
 {
     for _ in 0..times {

@@ -35,9 +35,9 @@ pub(crate) fn put_value<T: Target, const SIZE: usize, const PRETTY: bool>(
     depth: usize,
 )
     requires { depth + length nodes.now < 2 ^ 64 }
-    ensures kept { AddsSome T.place out.old out.new }
+    ensures kept { AddsSome T.state out.old out.new }
     ensures given { (d : Document) → map item_of nodes.now ≡ listing d
-        → Adds T.place out.old out.new (text PRETTY d depth) }
+        → Adds T.state out.old out.new (text PRETTY d depth) }
 {
     if nodes.is_empty() {
         return;
@@ -61,9 +61,10 @@ fn put_container<T: Target, const SIZE: usize, const PRETTY: bool>(
 )
     requires some { 0 < length nodes.now }
     requires room { depth + length nodes.now + 1 < 2 ^ 64 }
-    ensures kept { AddsSome T.place out.old out.new }
-    ensures given { (f : Frame) → has_members f ≡ is_object → map item_of nodes.now ≡ frame_listing f
-        → Adds T.place out.old out.new (frame_text PRETTY depth true f) }
+    ensures kept { AddsSome T.state out.old out.new }
+    ensures given { (f : Frame) → has_members f ≡ is_object
+        → map item_of nodes.now ≡ frame_listing f
+        → Adds T.state out.old out.new (frame_text PRETTY depth true f) }
 {
     let mut nesting = Nesting {
         ends: [0; OPEN],
@@ -120,11 +121,12 @@ fn put_elements<'tape, 'input, T: Target, const SIZE: usize, const PRETTY: bool>
     requires nested { (0 < nesting.now.count) × (nesting.now.count ≤ 64) }
     requires room { depth + nesting.now.count < 2 ^ 64 }
     ensures within { length result.0.nodes.now ≤ length nodes.entry.nodes.now }
-    ensures kept { AddsSome T.place out.old out.new }
+    ensures kept { AddsSome T.state out.old out.new }
     ensures given { (done whole : List ℕ)
         → IsBetween PRETTY depth nesting.now is_first (map item_of nodes.entry.nodes.now) done whole
-        → (more : List ℕ) × Adds T.place out.old out.new more
-        × IsBetween PRETTY depth nesting.now result.1 (map item_of result.0.nodes.now) (done ++ more) whole }
+        → (more : List ℕ) × Adds T.state out.old out.new more
+        × IsBetween PRETTY depth nesting.now result.1 (map item_of result.0.nodes.now)
+        (done ++ more) whole }
 {
     if nesting.are_objects[nesting.count - 1] {
         return (nodes, is_first);
@@ -158,11 +160,11 @@ fn put_before<'tape, 'input, T: Target, const SIZE: usize, const PRETTY: bool>(
     requires nested { (0 < nesting.now.count) × (nesting.now.count ≤ 64) }
     requires room { depth + nesting.now.count < 2 ^ 64 }
     ensures within { length result.nodes.now ≤ length left.entry.nodes.now }
-    ensures kept { AddsSome T.place out.old out.new }
+    ensures kept { AddsSome T.state out.old out.new }
     ensures given { (done whole : List ℕ)
         → get_or nesting.now.ends (nesting.now.count - 1) 0 < length left.entry.nodes.now
         → IsBetween PRETTY depth nesting.now is_first (map item_of left.entry.nodes.now) done whole
-        → (more : List ℕ) × Adds T.place out.old out.new more
+        → (more : List ℕ) × Adds T.state out.old out.new more
         × IsAtValue PRETTY depth nesting.now (map item_of result.nodes.now) (done ++ more) whole }
 {
     if nesting.are_objects[nesting.count - 1] {
@@ -194,11 +196,12 @@ fn put_next<'tape, 'input, T: Target, const SIZE: usize, const PRETTY: bool>(
     ensures nested { (0 < nesting.new.count) × (nesting.new.count ≤ 64) }
     ensures room { nesting.new.count + length result.0.nodes.now
         ≤ nesting.old.count + length left.entry.nodes.now }
-    ensures kept { AddsSome T.place out.old out.new }
+    ensures kept { AddsSome T.state out.old out.new }
     ensures given { (done whole : List ℕ)
         → IsAtValue PRETTY depth nesting.old (map item_of left.entry.nodes.now) done whole
-        → (more : List ℕ) × Adds T.place out.old out.new more
-        × IsBetween PRETTY depth nesting.new result.1 (map item_of result.0.nodes.now) (done ++ more) whole }
+        → (more : List ℕ) × Adds T.state out.old out.new more
+        × IsBetween PRETTY depth nesting.new result.1 (map item_of result.0.nodes.now)
+        (done ++ more) whole }
 {
     let (first, rest) = left.nodes.split_at(1);
     let count = beneath(&first[0]).min(rest.len());

@@ -1,5 +1,6 @@
 //! Stores bytes in a slice: any bytes, strings that are tested on the way, and numbers in decimal.
-ghost use Rattle.std.specs.Prelude.{◌≡◌, ◌+◌, ◌<◌, ◌≤◌, ◌++◌, flat_map, length, map, take, drop, IsTrue};
+ghost use Rattle.std.specs.Prelude.{◌≡◌, ◌+◌, ◌<◌, ◌≤◌, ◌++◌, flat_map, length, map, take, drop};
+ghost use Rattle.std.specs.Prelude.{IsTrue};
 ghost use Rattle.std.specs.Fmt.{decimal};
 ghost use Rattle.std.specs.Simd.Lanes.{mask_l};
 ghost use Rattle.simd_json_parts.specs.Printed.{escaped_byte};
@@ -11,11 +12,12 @@ use std::simd::prelude::*;
 // How many bytes are stored without a call.
 pub(super) const FEW: usize = 32;
 
-// Any number of bytes: a few by vectors, without a call.
+/// Copies bytes into a slice from index `at` on: at most 32 by vectors, without a call.
 #[inline(always)]
-pub(super) fn store_bytes(all: &mut [u8], at: usize, bytes: &[u8])
+pub fn store_bytes(all: &mut [u8], at: usize, bytes: &[u8])
     requires { at + length bytes.now ≤ length all.old }
     ensures stored { take (at + length bytes.now) all.new ≡ take at all.old ++ bytes.now }
+    ensures behind { drop (at + length bytes.now) all.new ≡ drop (at + length bytes.now) all.old }
     ensures size { length all.new ≡ length all.old }
 {
     if bytes.len() <= FEW {
@@ -30,6 +32,7 @@ pub(super) fn store_bytes(all: &mut [u8], at: usize, bytes: &[u8])
 fn store_many(all: &mut [u8], at: usize, bytes: &[u8])
     requires { at + length bytes.now ≤ length all.old }
     ensures stored { take (at + length bytes.now) all.new ≡ take at all.old ++ bytes.now }
+    ensures behind { drop (at + length bytes.now) all.new ≡ drop (at + length bytes.now) all.old }
     ensures size { length all.new ≡ length all.old }
 {
     all[at..at + bytes.len()].copy_from_slice(bytes);
@@ -41,6 +44,7 @@ pub(super) fn store_few(all: &mut [u8], at: usize, bytes: &[u8]) -> bool
     requires few { length bytes.now ≤ 32 }
     requires room { at + length bytes.now ≤ length all.old }
     ensures stored { take (at + length bytes.now) all.new ≡ take at all.old ++ bytes.now }
+    ensures behind { drop (at + length bytes.now) all.new ≡ drop (at + length bytes.now) all.old }
     ensures size { length all.new ≡ length all.old }
     ensures plain { IsTrue result → flat_map escaped_byte bytes.now ≡ bytes.now }
 {
@@ -67,13 +71,14 @@ fn store_ends<const N: usize>(all: &mut [u8], at: usize, bytes: &[u8]) -> bool
     requires ends { (N ≤ length bytes.now) × (length bytes.now ≤ N + N) }
     requires room { at + length bytes.now ≤ length all.old }
     ensures stored { take (at + length bytes.now) all.new ≡ take at all.old ++ bytes.now }
+    ensures behind { drop (at + length bytes.now) all.new ≡ drop (at + length bytes.now) all.old }
     ensures size { length all.new ≡ length all.old }
     ensures plain { IsTrue result → flat_map escaped_byte bytes.now ≡ bytes.now }
 {
     let last = bytes.len() - N;
     let front = store_marked::<N>(all, at, bytes, 0);
     let back = store_marked::<N>(all, at + last, bytes, last);
-    front == 0 && back == 0
+    (front == 0) & (back == 0)
 }
 
 // Stores N bytes from an index on. Returns a bit for each, set if it needs an escape.
@@ -88,6 +93,7 @@ pub(super) fn store_marked<const N: usize>(
     requires some { from + N ≤ length bytes.now }
     requires room { at + N ≤ length all.old }
     ensures stored { take (at + N) all.new ≡ take at all.old ++ take N (drop from bytes.now) }
+    ensures behind { drop (at + N) all.new ≡ drop (at + N) all.old }
     ensures size { length all.new ≡ length all.old }
     ensures escapes { result ≡ mask_l (map needs_escape (take N (drop from bytes.now))) }
 {

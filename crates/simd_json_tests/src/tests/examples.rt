@@ -35,7 +35,7 @@ mod service {
             match result {
                 Ok(()) => nodes = nodes.saturating_add(tape.nodes().len()),
                 Err(fault) => {
-                    let _ = eprintln!(rt; "refused: {fault}");
+                    let _ = eprintln!(rt; "rejected: {fault}");
                 }
             }
             kept = tape.reset();

@@ -6,7 +6,7 @@ use Rattle.jcheck.proofs.excerpt.put_spaces.Goals as goal
 use Rattle.simd_json_parts.specs.Bytes.{space}
 
 pub loop-left-init : goal.loop-left-init
-loop-left-init g c = none-done g.T.Target.place c.args.text.now (repeat c.args.count (space ∷ []))
+loop-left-init g c = none-done g.T.Target.state c.args.text.now (repeat c.args.count (space ∷ []))
 
 pub loop-left-preserved : goal.loop-left-preserved
 loop-left-preserved g c = one-more (repeat-one c.loop-left.left space c.loop-left-test.true) c.loop-left.invariant c.put.ensures

@@ -13,14 +13,14 @@ loop-c-preserved g c =
     let so_far = visible_text c.loop-c.yielded in
     let one = c.as_bytes.result.now in
     let is = c.as_bytes.ensures.value ∙ c.encode_utf8.ensures.value ∙ ap encode_utf8 c.visible.ensures in
-    adds-is g.T.Target.place c.args.text.now c.put.new.self (so_far ++ one) _
+    adds-is g.T.Target.state c.args.text.now c.put.new.self (so_far ++ one) _
     (ap (λ t. so_far ++ t) is ∙ sym (visible-push c.loop-c.yielded c.in-Some.c))
-    (adds-then g.T.Target.place c.args.text.now c.loop-c.text c.put.new.self so_far one c.loop-c.invariant c.put.ensures)
+    (adds-then g.T.Target.state c.args.text.now c.loop-c.text c.put.new.self so_far one c.loop-c.invariant c.put.ensures)
 
 pub returns : goal.returns
 returns g c =
     let all =
     YieldsList-end (YieldsList-from_chars c.args.characters.now c.utf8.characters cc) c.loop-c.yielded _ c.loop-c.yielded_by _ _
     c.in-None.is c.next.ensures.steps in
-    adds-is g.T.Target.place c.args.text.now c.loop-c.text (visible_text c.loop-c.yielded) _
+    adds-is g.T.Target.state c.args.text.now c.loop-c.text (visible_text c.loop-c.yielded) _
     (ap visible_text (sym (map-id c.loop-c.yielded) ∙ all.0)) c.loop-c.invariant

@@ -1,7 +1,8 @@
 use Rattle.std.proofs.Common.{ap, refl, rules}
 use Rattle.std.specs.Prelude.{Some}
 use Rattle.std.proofs.lemmas.Result.{err_from_is_err_and}
-use Rattle.jcheck.proofs.Written.{all-written, failed-written, part-written, port, sound-text}
+use Rattle.jcheck.proofs.Written.{all-written, failed-written, part-written, port}
+use Rattle.simd_json_print.proofs.Texts.{sound-text}
 use Rattle.jcheck.proofs.report.check_input.Goals as goal
 use Rattle.jcheck.specs.Reports.{output_of}
 

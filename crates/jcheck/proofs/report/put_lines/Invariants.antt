@@ -12,7 +12,7 @@ invariant-loop-end g l = record {
   file : l.place.file.now ≡ l.file;
   line : l.place.line + length l.rest ≤ length l.input + 1;
   byte : l.place.byte + length l.rest ≡ length l.input;
-  done : IsDone g.T.Target.place l.fn.text l.text
+  done : IsDone g.T.Target.state l.fn.text l.text
       (lines_text l.file l.width l.fn.checker.buffers.limit l.place.line l.place.byte (pieces l.rest))
       (lines_text l.file l.width l.fn.checker.buffers.limit 1 0 (pieces l.input));
   clean : (l.clean && list_all (is_clean_line l.fn.checker.buffers.limit) (pieces l.rest))

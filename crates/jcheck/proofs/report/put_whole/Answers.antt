@@ -6,7 +6,7 @@ use Rattle.simd_json_print.proofs.Texts.{adds-none}
 pub returns-in_err-location-clause-stopped : goal.returns-in_err-location-clause-stopped
 returns-in_err-location-clause-stopped g c =
     let p = err_from_is_err_and c.from_residual.result c.from_residual.ensures.1 in
-    rw p.1 (nothing-put _ (adds-none g.T.Target.place c.args.text.now))
+    rw p.1 (nothing-put _ (adds-none g.T.Target.state c.args.text.now))
 
 pub returns-in_err-put-clause-stopped : goal.returns-in_err-put-clause-stopped
 returns-in_err-put-clause-stopped g c =

@@ -1,7 +1,7 @@
 use Rattle.std.proofs.Common.{refl, rules, []}
 use Rattle.std.specs.Prelude.{Some}
 use Rattle.simd_json_parts.specs.Printed.{compact, pretty}
-use Rattle.simd_json_print.specs.Texts.{Place}
+use Rattle.simd_json_print.specs.Texts.{TargetState}
 use Rattle.simd_json_print.proofs.Texts.{ended-sound, ended-failed}
 use Rattle.jtape.specs.Output.{printed}
 use Rattle.jtape.specs.declared.words.Layout.TheVariants.{Compact, Pretty}
@@ -11,7 +11,7 @@ use Rattle.jtape.proofs.output.print.Goals.{in-Tape, in-Positions, in-Compact, i
 
 pub returns-in-Ok : goal.returns-in-Ok
 returns-in-Ok g c =
-    let start : Place = record { held = g.W.Write.contents c.args.writer.now.inner; failed = Some c.args.writer.now.failed } in
+    let start : TargetState = record { held = g.W.Write.contents c.args.writer.now.inner; failed = Some c.args.writer.now.failed } in
     let indexes = c.args.structural_indexes.now in
     let put : IsPut _ c.new-text.result c.match-layout.text c.args.layout c.args.nodes.now indexes = elim c.match-layout.branch [
       | in-Tape w ↦ put-into w.text-is w.in-Tape.is (put-tape _ _ _ _ _ w.put_lines.ensures)
@@ -38,7 +38,7 @@ returns-in-Ok g c =
 
 pub returns-in-Err : goal.returns-in-Err
 returns-in-Err g c =
-    let start : Place = record { held = g.W.Write.contents c.args.writer.now.inner; failed = Some c.args.writer.now.failed } in
+    let start : TargetState = record { held = g.W.Write.contents c.args.writer.now.inner; failed = Some c.args.writer.now.failed } in
     let indexes = c.args.structural_indexes.now in
     let put : IsPut _ c.new-text.result c.match-layout.text c.args.layout c.args.nodes.now indexes = elim c.match-layout.branch [
       | in-Tape w ↦ put-into w.text-is w.in-Tape.is (put-tape _ _ _ _ _ w.put_lines.ensures)

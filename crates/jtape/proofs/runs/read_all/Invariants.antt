@@ -1,10 +1,9 @@
-use Rattle.std.proofs.Common.{◌≡◌, ◌-◌, ◌^◌, ◌<◌, length, false}
+use Rattle.std.proofs.Common.{◌≡◌, ◌-◌, ◌^◌, length, false}
 use Rattle.std.specs.Io.KnownBytes.{Consumes}
 use Rattle.jtape.proofs.runs.read_all.Given as goal
 
 abbrev pub invariant-loop-input : goal.invariant-loop-input
 invariant-loop-input g l = record {
-  capacity : 0 < length l.block;
   read : Consumes (g.R.Read.remaining l.initial.reader.inner) (g.R.Read.remaining l.reader.inner) l.input.items;
   sound : l.reader.failed ≡ false;
   going : l.reader.ended ≡ false;

@@ -7,12 +7,12 @@ use Rattle.jtape.proofs.stream.put_stream.Goals as goal
 pub returns-in_err-stream-clause-stopped : goal.returns-in_err-stream-clause-stopped
 returns-in_err-stream-clause-stopped g c =
     let p = err_from_is_err_and c.from_residual.result c.from_residual.ensures.1 in
-    rw p.1 (stops-before g.T.Target.place c.args.text.now c.args.depth c.args.input.now)
+    rw p.1 (stops-before g.T.Target.state c.args.text.now c.args.depth c.args.input.now)
 
 pub loop-end-init : goal.loop-end-init
 loop-end-init g c = record {
   limit = c.in_ok-stream.ensures.made;
-  done = none-done g.T.Target.place c.args.text.now c.args.depth c.args.input.now;
+  done = none-done g.T.Target.state c.args.text.now c.args.depth c.args.input.now;
 }
 
 pub returns-in_err-all_clean-clause-stopped : goal.returns-in_err-all_clean-clause-stopped

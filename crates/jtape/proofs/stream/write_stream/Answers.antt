@@ -1,13 +1,13 @@
 use Rattle.std.proofs.Common.{rules, ap}
 use Rattle.std.specs.Prelude.{Some}
-use Rattle.simd_json_print.specs.Texts.{Place}
+use Rattle.simd_json_print.specs.Texts.{TargetState}
 use Rattle.jtape.specs.Pieces.{pieces, pieces_text}
 use Rattle.jtape.proofs.Streams.{stream-returned, stream-written, stream-stopped, stream-begun}
 use Rattle.jtape.proofs.stream.write_stream.Goals as goal
 
 pub returns-in-Ok-clause-returned : goal.returns-in-Ok-clause-returned
 returns-in-Ok-clause-returned g c =
-    let start : Place = record { held = g.W.Write.contents c.args.writer.now.inner; failed = Some c.args.writer.now.failed } in
+    let start : TargetState = record { held = g.W.Write.contents c.args.writer.now.inner; failed = Some c.args.writer.now.failed } in
     let put = c.put_stream-put.ensures in
     stream-returned c.finish.result {start = start} _ c.put_stream-put.result c.args.depth c.args.input.now
     (search rules) (ap Some c.requires) c.new-text.ensures.empty put.put put.clean c.finish.ensures

@@ -44,10 +44,10 @@ put_container-loop-nesting-preserved-then-left-nesting g t c =
     let outer = l.nesting.count - 1 in
     let bracket = cond (get_or l.nesting.are_objects outer false) right_brace right_bracket ∷ [] in
     let depth = c.args.depth + outer in
-    let before_end : Adds g.T.Target.place m.new.out c.if-this-ne0.out (line pretty depth) = elim c.if-this-ne0.branch [
-      | put_container-then-this-ne0 w ↦ subst (λ s. Adds g.T.Target.place m.new.out s (line pretty depth)) (sym w.out-is)
+    let before_end : Adds g.T.Target.state m.new.out c.if-this-ne0.out (line pretty depth) = elim c.if-this-ne0.branch [
+      | put_container-then-this-ne0 w ↦ subst (λ s. Adds g.T.Target.state m.new.out s (line pretty depth)) (sym w.out-is)
           (adds-a-line _ _ depth _ _ w.if-this-ne0.true w.put_new_line.ensures)
-      | put_container-else-this-ne0 w ↦ subst (λ s. Adds g.T.Target.place m.new.out s (line pretty depth)) (sym w.out-is)
+      | put_container-else-this-ne0 w ↦ subst (λ s. Adds g.T.Target.state m.new.out s (line pretty depth)) (sym w.out-is)
           (adds-no-line _ _ depth _ w.if-this-ne0.false)
     ] in
     let ended : c.if-ends_object.put.now ≡ bracket = elim c.if-ends_object.branch [
@@ -66,9 +66,8 @@ put_container-loop-nesting-preserved-then-left-nesting g t c =
           let at = m.ensures.given so_far.0 whole so_far.2 in (
             (so_far.0 ++ at.0) ++ (line pretty (c.args.depth + outer) ++ bracket),
             adds-then _ _ _ _ (so_far.0 ++ at.0) _ (adds-then _ _ _ _ so_far.0 at.0 so_far.1 at.1) end,
-            after-end pretty c.args.depth l.nesting _ m.result.1 (map item_of m.result.0.nodes.now) (so_far.0 ++ at.0) whole
-                (search (rules, arith)) (search (rules, arith, length-map))
-                refl refl refl at.2,
+            after-end pretty c.args.depth l.nesting whole _ m.result.1 (map item_of m.result.0.nodes.now) (so_far.0 ++ at.0) at.2
+                (search (rules, arith)) (search (rules, arith, length-map)) refl refl refl,
           ),
     )
 
@@ -84,7 +83,7 @@ put_container-returns-then-is_empty-clause-given g t c f kind is =
     let whole = frame_text pretty c.args.depth true f in
     let next = c.put_elements-is_still_first.ensures.given so_far.0 whole so_far.2 in
     let at = c.put_before-value.ensures.given (so_far.0 ++ next.0) whole (search (rules, arith)) next.2 in
-    absurd (no-value pretty c.args.depth c.loop-nesting.nesting (map item_of c.put_before-value.result.nodes.now) _ _
+    absurd (no-value pretty c.args.depth c.loop-nesting.nesting _ (map item_of c.put_before-value.result.nodes.now) _
     (search (rules, arith, length-map)) at.2)
 
 pub put_container-loop-nesting-preserved : goal.put_container-loop-nesting-preserved
@@ -116,9 +115,9 @@ pub put_next-returns-then-count-eq0-clause-given : goal.put_next-returns-then-co
 put_next-returns-then-count-eq0-clause-given g t c done whole is = (
   _,
   c.put_leaf.ensures,
-  leaf-step (not (nat_eq g.row.PRETTY 0)) c.args.depth c.args.nesting.now c.args.left.nodes.now c.split_at.result.0.now
-      c.split_at.result.1.now _ _ _ done whole c.requires.some
-      c.split_at.ensures.front c.split_at.ensures.back c.beneath.ensures c.min-count.ensures (search (rules, arith)) is,
+  leaf-step (not (nat_eq g.row.PRETTY 0)) c.args.depth c.args.nesting.now whole c.args.left.nodes.now c.split_at.result.0.now
+      c.split_at.result.1.now _ _ _ done c.requires.some
+      c.split_at.ensures.front c.split_at.ensures.back c.beneath.ensures c.min-count.ensures is (search (rules, arith)),
 )
 
 pub put_next-returns-then-nesting-lt-OPEN-clause-kept : goal.put_next-returns-then-nesting-lt-OPEN-clause-kept
@@ -132,20 +131,19 @@ put_next-returns-then-nesting-lt-OPEN-clause-given g t c done whole is =
     ] in (
       [],
       adds-none _ _,
-      open-step (not (nat_eq g.row.PRETTY 0)) c.args.depth c.args.nesting.now _ c.args.left.nodes.now c.split_at.result.0.now
-          c.split_at.result.1.now _ _ _ _ done whole c.requires.some
-          c.split_at.ensures.front c.split_at.ensures.back c.beneath.ensures c.min-count.ensures (search (rules, arith)) refl
+      open-step (not (nat_eq g.row.PRETTY 0)) c.args.depth c.args.nesting.now whole c.args.left.nodes.now c.split_at.result.0.now
+          c.split_at.result.1.now _ _ _ done c.requires.some
+          c.split_at.ensures.front c.split_at.ensures.back c.beneath.ensures c.min-count.ensures is _ _ (search (rules, arith)) refl
           (search (rules, arith)) (search (rules, arith))
-          refl (ap (λ b. set c.args.nesting.now.are_objects c.args.nesting.now.count b) object) refl is,
+          refl (ap (λ b. set c.args.nesting.now.are_objects c.args.nesting.now.count b) object) refl,
     )
 
 pub put_next-returns-clause-given : goal.put_next-returns-clause-given
 put_next-returns-clause-given g t c done whole is =
     let v = c.split_at-2 in
-    let deep = deep-step (not (nat_eq g.row.PRETTY 0)) c.args.depth c.args.nesting.now c.args.left.nodes.now c.split_at.result.0.now
-    c.split_at.result.1.now v.result.0.now v.result.1.now _ _ _
-    done whole c.requires.some c.split_at.ensures.front c.split_at.ensures.back c.beneath.ensures c.min-count.ensures
-    (search (rules, arith)) v.ensures.front v.ensures.back is in
+    let deep = deep-step (not (nat_eq g.row.PRETTY 0)) c.args.depth c.args.nesting.now whole c.args.left.nodes.now
+    c.split_at.result.0.now c.split_at.result.1.now _ _ _ done c.requires.some c.split_at.ensures.front c.split_at.ensures.back
+    c.beneath.ensures c.min-count.ensures is v.result.0.now v.result.1.now (search (rules, arith)) v.ensures.front v.ensures.back in
     (_, c.put_value.ensures.given deep.document deep.listed, deep.after)
 
 -- ---- a value
@@ -160,13 +158,13 @@ pub put_value-returns-then-is_empty-2-clause-given : goal.put_value-returns-then
 put_value-returns-then-is_empty-2-clause-given g t c d is =
     adds-is _ _ _ _ _ (value-leaf (not (nat_eq g.row.PRETTY 0))
     c.args.depth c.args.nodes.now c.split_at.result.0.now c.split_at.result.1.now _ d (search (rules, arith))
-    c.split_at.ensures.front c.split_at.ensures.back (search (rules, arith)) is) c.put_leaf.ensures
+    c.split_at.ensures.front c.split_at.ensures.back is (search (rules, arith))) c.put_leaf.ensures
 
 pub put_value-returns-after-matches-clause-given : goal.put_value-returns-after-matches-clause-given
 put_value-returns-after-matches-clause-given g t c d is =
     let o = value-opened (not (nat_eq g.row.PRETTY 0))
     c.args.depth c.args.nodes.now c.split_at.result.0.now c.split_at.result.1.now _ d (search (rules, arith))
-    c.split_at.ensures.front c.split_at.ensures.back (search (rules, arith)) is in
+    c.split_at.ensures.front c.split_at.ensures.back is (search (rules, arith)) in
     let object : c.match-matches.matches ≡ is_object_item (item_of (get_or c.split_at.result.0.now 0 _)) = elim c.match-matches.branch [
       | put_value-in-Object w ↦ w.matches-is ∙ ap (λ x. is_object_item (item_of x)) (sym w.in-Object.is)
       | put_value-in_default w ↦ w.matches-is ∙ sym (no-object _ w.in_default.not-Object)

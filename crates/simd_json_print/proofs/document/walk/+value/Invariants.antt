@@ -17,9 +17,9 @@ abbrev pub invariant-put_container-loop-nesting : goal.invariant-put_container-l
 invariant-put_container-loop-nesting g l =
     let pretty = not (nat_eq g.row.PRETTY 0) in
     (l.nesting.count ≤ 64) × (l.nesting.count + length l.left.nodes.now ≤ length l.nodes + 1)
-    × AddsSome g.T.Target.place l.fn.out l.out
+    × AddsSome g.T.Target.state l.fn.out l.out
     × ((f : Frame) → has_members f ≡ l.is_object → map item_of l.nodes ≡ frame_listing f
-    → (done : List ℕ) × Adds g.T.Target.place l.fn.out l.out done
+    → (done : List ℕ) × Adds g.T.Target.state l.fn.out l.out done
     × IsBetween pretty l.depth l.nesting l.is_first (map item_of l.left.nodes.now) done (frame_text pretty l.depth true f))
 
 abbrev pub decreases-put_container-loop-nesting : goal.decreases-put_container-loop-nesting

@@ -18,8 +18,8 @@ returns-then-nesting-clause-given g c done whole live is =
     let at = subst (λ us. IsBetween pretty c.args.depth c.args.nesting.now c.args.is_first us done whole) one is in
     let rest : length c.args.left.nodes.now ≡ suc (length (map item_of values)) = search (rules, arith, length-map) in
     let kind = c.if-nesting.true in
-    let member = member-before pretty c.args.depth c.args.nesting.now c.args.is_first _
-    (map item_of values) done whole at c.requires.nested.0 kind
+    let member = member-before pretty c.args.depth c.args.nesting.now whole c.args.is_first _
+    (map item_of values) done at c.requires.nested.0 kind
     (subst (λ n. get_or c.args.nesting.now.ends (c.args.nesting.now.count - 1) 0 < n) rest live) in
     (_, c.put_name.ensures.given member.name member.named, member.at)
 
@@ -27,8 +27,8 @@ pub returns-then-this-ne0-clause-given : goal.returns-then-this-ne0-clause-given
 returns-then-this-ne0-clause-given g c done whole live is =
     let pretty = not (nat_eq g.row.PRETTY 0) in
     let depth = c.args.depth + c.args.nesting.now.count in
-    let at = element-before pretty c.args.depth c.args.nesting.now c.args.is_first
-    (map item_of c.args.left.nodes.now) done whole is c.requires.nested.0 c.if-nesting.false
+    let at = element-before pretty c.args.depth c.args.nesting.now whole c.args.is_first
+    (map item_of c.args.left.nodes.now) done is c.requires.nested.0 c.if-nesting.false
     (omega (arith, live, length-map c.args.left.nodes.now item_of)) in
     let front = adds-front _ _ _ _ c.front_of.result.now c.front_of.ensures c.put.ensures in
     (_, adds-then _ _ _ _ _ (line pretty depth) front (adds-a-line _ _ depth _ _ c.if-this-ne0.true c.put_new_line.ensures), at)
@@ -37,8 +37,8 @@ pub returns-else-this-ne0-clause-given : goal.returns-else-this-ne0-clause-given
 returns-else-this-ne0-clause-given g c done whole live is =
     let pretty = not (nat_eq g.row.PRETTY 0) in
     let depth = c.args.depth + c.args.nesting.now.count in
-    let at = element-before pretty c.args.depth c.args.nesting.now c.args.is_first
-    (map item_of c.args.left.nodes.now) done whole is c.requires.nested.0 c.if-nesting.false
+    let at = element-before pretty c.args.depth c.args.nesting.now whole c.args.is_first
+    (map item_of c.args.left.nodes.now) done is c.requires.nested.0 c.if-nesting.false
     (omega (arith, live, length-map c.args.left.nodes.now item_of)) in
     let front = adds-front _ _ _ _ c.front_of.result.now c.front_of.ensures c.put.ensures in
     (_, adds-then _ _ _ _ _ (line pretty depth) front (adds-no-line _ _ depth _ c.if-this-ne0.false), at)

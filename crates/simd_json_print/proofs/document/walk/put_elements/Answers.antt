@@ -23,8 +23,8 @@ loop-left-preserved g c =
             so_far.0 ++ _,
             adds-then _ _ _ _ so_far.0 _ so_far.1 c.put_element.ensures,
             with-both pretty c.args.depth c.args.nesting.now false _ done so_far.0 _ whole
-                (element-step pretty c.args.depth c.args.nesting.now l.is_still_first l.left.nodes.now s.result.0.now s.result.1.now
-                _ _ (done ++ so_far.0) whole
+                (element-step pretty c.args.depth c.args.nesting.now whole l.is_still_first l.left.nodes.now s.result.0.now s.result.1.now
+                _ _ (done ++ so_far.0)
                 (search (rules, arith)) s.ensures.front s.ensures.back c.beneath.ensures (search (rules, arith))
                 (search (rules, arith)) (search (rules, arith)) (search (rules, arith)) so_far.2),
           ),

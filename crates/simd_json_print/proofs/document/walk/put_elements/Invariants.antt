@@ -7,9 +7,9 @@ use Rattle.simd_json_print.proofs.document.walk.put_elements.Given as goal
 abbrev pub invariant-loop-left : goal.invariant-loop-left
 invariant-loop-left g l =
     let pretty = not (nat_eq g.row.PRETTY 0) in
-    (length l.left.nodes.now ≤ length l.nodes.nodes.now) × AddsSome g.T.Target.place l.fn.out l.out
+    (length l.left.nodes.now ≤ length l.nodes.nodes.now) × AddsSome g.T.Target.state l.fn.out l.out
     × ((done whole : List ℕ) → IsBetween pretty l.depth l.nesting l.fn.is_first (map item_of l.nodes.nodes.now) done whole
-    → (more : List ℕ) × Adds g.T.Target.place l.fn.out l.out more
+    → (more : List ℕ) × Adds g.T.Target.state l.fn.out l.out more
     × IsBetween pretty l.depth l.nesting l.is_still_first (map item_of l.left.nodes.now) (done ++ more) whole)
 
 abbrev pub decreases-loop-left : goal.decreases-loop-left

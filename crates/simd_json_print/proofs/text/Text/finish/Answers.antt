@@ -4,10 +4,10 @@ use Rattle.simd_json_print.proofs.Texts.{ends-before, ends-after}
 use Rattle.simd_json_print.proofs.text.Text.finish.Goals as goal
 
 pub returns-in-Some : goal.returns-in-Some
-returns-in-Some g c start bytes given = ends-before g.T.Target.place start c.args.self bytes (search rules) given
+returns-in-Some g c start bytes given = ends-before g.T.Target.state start c.args.self bytes (search rules) given
 
 pub returns : goal.returns
-returns g c start bytes given = ends-after c.write_all.result g.T.Target.place start
-    (g.T.Target.place c.write_all.new.target) c.args.self bytes (search rules) given
-    (subst (λ us. HasEnded c.write_all.result (g.T.Target.place c.args.self.target.now)
-    (g.T.Target.place c.write_all.new.target) us) c.as_slice.ensures c.write_all.ensures)
+returns g c start bytes given = ends-after c.write_all.result g.T.Target.state start
+    (g.T.Target.state c.write_all.new.target) c.args.self bytes (search rules) given
+    (subst (λ us. HasEnded c.write_all.result (g.T.Target.state c.args.self.target.now)
+    (g.T.Target.state c.write_all.new.target) us) c.as_slice.ensures c.write_all.ensures)

@@ -23,14 +23,14 @@ returns g c =
     let done = c.loop-self.invariant in
     let left = c.loop-self.left.now in
     let escaped = flat_map escaped_byte c.args.string.now in
-    let all : Adds g.T.Target.place c.put.new.self c.loop-self-test.self escaped = elim c.loop-self-test.branch [
-      | then-loop-self-test+else-is_none w ↦ subst (λ s. Adds g.T.Target.place c.put.new.self s escaped) (sym w.self-is)
+    let all : Adds g.T.Target.state c.put.new.self c.loop-self-test.self escaped = elim c.loop-self-test.branch [
+      | then-loop-self-test+else-is_none w ↦ subst (λ s. Adds g.T.Target.state c.put.new.self s escaped) (sym w.self-is)
           (adds-is _ _ _ _ _ done.2 (adds-lost _ _ c.loop-self.self done.0 _ (search rules) done.1))
-      | else-loop-self-test w ↦ subst (λ s. Adds g.T.Target.place c.put.new.self s escaped) (sym w.self-is)
+      | else-loop-self-test w ↦ subst (λ s. Adds g.T.Target.state c.put.new.self s escaped) (sym w.self-is)
           (adds-is _ _ _ _ _ (no-run done.0 left escaped done.2 (search (arith, rules))) done.1)
       | then-loop-self-test+then-is_none+then-is_empty w ↦
           let run = flat_map escaped_byte (take w.collect_run.result left) in
-          subst (λ s. Adds g.T.Target.place c.put.new.self s escaped) (sym w.self-is)
+          subst (λ s. Adds g.T.Target.state c.put.new.self s escaped) (sym w.self-is)
           (adds-is _ _ _ _ _ (last-run done.0 left w.split_at.result.1.now escaped w.collect_run.result done.2
           w.split_at.ensures.back (search (arith, rules)))
           (adds-then _ _ _ _ done.0 run done.1 (adds-collected _ _ _ run refl refl w.collect_run.ensures.collected)))

@@ -5,14 +5,14 @@ use Rattle.simd_json_print.proofs.text.Text.put_past.Goals as goal
 pub returns-in-Err : goal.returns-in-Err
 returns-in-Err g c =
     let none = none-then c.send.new.self.fault (search rules) c.send.ensures.emptied in
-    adds-then g.T.Target.place _ c.send.new.self _ [] c.args.bytes.now c.send.ensures.sent
-    (adds-failed g.T.Target.place c.send.new.self _ c.args.bytes.now c.args.bytes.now refl (search rules) refl
+    adds-then g.T.Target.state _ c.send.new.self _ [] c.args.bytes.now c.send.ensures.sent
+    (adds-failed g.T.Target.state c.send.new.self _ c.args.bytes.now c.args.bytes.now refl (search rules) refl
     (ap (λ us. us ++ c.args.bytes.now) (sym none)) c.in-Err.ensures)
 
 pub returns-in_default : goal.returns-in_default
 returns-in_default g c =
     let none = none-then c.send.new.self.fault (search rules) c.send.ensures.emptied in
-    let kept : c.collect.new.self ≡ c.send.new.self.pieces = search rules in
-    adds-then g.T.Target.place _ c.send.new.self _ [] c.args.bytes.now c.send.ensures.sent
-    (adds-taken g.T.Target.place c.send.new.self _ c.args.bytes.now c.args.bytes.now refl (search rules) (search rules)
+    let kept : c.collect.new.self ≡ c.send.new.self.collected = search rules in
+    adds-then g.T.Target.state _ c.send.new.self _ [] c.args.bytes.now c.send.ensures.sent
+    (adds-taken g.T.Target.state c.send.new.self _ c.args.bytes.now c.args.bytes.now refl (search rules) (search rules)
     (ap (λ us. us ++ c.args.bytes.now) (sym none)) (kept ∙ none) c.in_default.ensures.0 c.in_default.ensures.1)

@@ -4,5 +4,5 @@ use Rattle.simd_json_print.proofs.text.Text.send.Goals as goal
 
 pub returns-in-Err-clause-sent : goal.returns-in-Err-clause-sent
 returns-in-Err-clause-sent g c =
-    adds-failed g.T.Target.place c.args.self.now _ [] c.as_slice.result.now refl (search rules) refl
+    adds-failed g.T.Target.state c.args.self.now _ [] c.as_slice.result.now refl (search rules) refl
     (c.as_slice.ensures ∙ sym (append-nil _)) c.in-Err.ensures

@@ -1,24 +1,23 @@
-use Rattle.std.proofs.Common.{arith, sym, ◌∙◌}
-use Rattle.std.proofs.lemmas.Bool.{eqb-true}
-use Rattle.simd_json_print.proofs.Stores.{stored-ends}
+use Rattle.std.proofs.Common.{arith, length, sym, ◌∙◌}
+use Rattle.std.proofs.lemmas.Bool.{and_parts, eqb-true}
+use Rattle.simd_json_print.proofs.Stores.{stored-ends, behind-ends}
 use Rattle.simd_json_print.proofs.Unescaped.{unescaped-overlap, unescaped-vector}
 use Rattle.simd_json_print.proofs.text.stores.store_ends.Goals as goal
 
-pub returns-then-front-eq0-clause-stored : goal.returns-then-front-eq0-clause-stored
-returns-then-front-eq0-clause-stored g c =
-    stored-ends c.args.all.now c.store_marked-front.new.all c.store_marked-back.new.all c.args.bytes.now c.args.at g.row.N
-    c.requires.ends.0 c.requires.ends.1
-    (omega arith) c.store_marked-front.ensures.stored c.store_marked-back.ensures.stored
-
-pub returns-then-front-eq0-clause-plain : goal.returns-then-front-eq0-clause-plain
-returns-then-front-eq0-clause-plain g c is =
+pub returns : goal.returns
+returns g c =
+    let f = c.store_marked-front in
+    let b = c.store_marked-back in
     let bytes = c.args.bytes.now in
-    let front = unescaped-vector bytes 0 g.row.N (omega arith) (sym c.store_marked-front.ensures.escapes ∙ c.if-front-eq0.true) in
-    let back = unescaped-vector bytes _ g.row.N (omega arith) (sym c.store_marked-back.ensures.escapes ∙ eqb-true _ 0 is) in
-    unescaped-overlap bytes g.row.N c.requires.ends.0 c.requires.ends.1 (λ k p q. front k p (omega (arith, q))) back
-
-pub returns-else-front-eq0-clause-stored : goal.returns-else-front-eq0-clause-stored
-returns-else-front-eq0-clause-stored g c =
-    stored-ends c.args.all.now c.store_marked-front.new.all c.store_marked-back.new.all c.args.bytes.now c.args.at g.row.N
-    c.requires.ends.0 c.requires.ends.1
-    (omega arith) c.store_marked-front.ensures.stored c.store_marked-back.ensures.stored
+    record {
+      stored = stored-ends c.args.all.now f.new.all b.new.all bytes c.args.at g.row.N c.requires.ends.0 c.requires.ends.1 (omega arith)
+          f.ensures.stored b.ensures.stored;
+      behind = behind-ends c.args.all.now f.new.all b.new.all c.args.at g.row.N (length bytes) c.requires.ends.0
+          f.ensures.behind b.ensures.behind;
+      size = b.ensures.size ∙ f.ensures.size;
+      plain = λ is.
+          let none = and_parts _ _ is in
+          let front = unescaped-vector bytes 0 g.row.N (omega arith) (sym f.ensures.escapes ∙ eqb-true _ 0 none.0) in
+          let back = unescaped-vector bytes _ g.row.N (omega arith) (sym b.ensures.escapes ∙ eqb-true _ 0 none.1) in
+          unescaped-overlap bytes g.row.N c.requires.ends.0 c.requires.ends.1 (λ k p q. front k p (omega (arith, q))) back;
+    }

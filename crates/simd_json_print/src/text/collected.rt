@@ -1,5 +1,6 @@
 //! The bytes that are collected for a target.
-ghost use Rattle.std.specs.Prelude.{◌≡◌, ◌+◌, ◌≤◌, [], ◌++◌, cond, flat_map, length, take, IsTrue, IsFalse};
+ghost use Rattle.std.specs.Prelude.{◌≡◌, ◌+◌, ◌≤◌, [], ◌++◌, cond, flat_map, length, take, IsTrue};
+ghost use Rattle.std.specs.Prelude.{IsFalse};
 ghost use Rattle.std.specs.Fmt.{decimal};
 ghost use Rattle.simd_json_parts.specs.Printed.{escaped_byte};
 
@@ -11,12 +12,12 @@ const MARKS: usize = 8;
 
 // The bytes that are not written yet, at most `SIZE`.
 #[derive(Drop)]
-pub(super) struct Pieces<const SIZE: usize> {
+pub(super) struct Collected<const SIZE: usize> {
     bytes: [u8; SIZE],
     used: usize,
 }
 
-impl<const SIZE: usize> Model for Pieces<SIZE> {
+impl<const SIZE: usize> Model for Collected<SIZE> {
     ghost use Rattle.std.specs.Prelude.{List, ℕ, ◌≤◌, take};
 
     ghost Value = { List ℕ };
@@ -26,11 +27,11 @@ impl<const SIZE: usize> Model for Pieces<SIZE> {
     ghost invariant = { λ p. p.used ≤ SIZE };
 }
 
-impl<const SIZE: usize> Pieces<SIZE> {
-    pub(super) fn new() -> Pieces<SIZE>
+impl<const SIZE: usize> Collected<SIZE> {
+    pub(super) fn new() -> Collected<SIZE>
         ensures { result ≡ [] }
     {
-        Pieces {
+        Collected {
             bytes: [0; SIZE],
             used: 0,
         }
@@ -74,8 +75,8 @@ impl<const SIZE: usize> Pieces<SIZE> {
         back: &[u8],
         is_string: bool,
     ) -> bool
-        ensures collected { IsTrue result → self.new ≡ self.old
-            ++ (front.now ++ (cond is_string (flat_map escaped_byte bytes.now) bytes.now ++ back.now)) }
+        ensures collected { IsTrue result → self.new ≡ self.old ++ (front.now
+            ++ (cond is_string (flat_map escaped_byte bytes.now) bytes.now ++ back.now)) }
         ensures kept { IsFalse result → self.new ≡ self.old }
     {
         if !self.holds(front, bytes.len(), back) {

@@ -1,7 +1,7 @@
 use Rattle.std.proofs.Common.{◌∙◌, ap}
 use Rattle.std.proofs.lemmas.Result.{IfOk-weaker}
 use Rattle.jcheck.proofs.Texts.{words-is}
-use Rattle.jcheck.proofs.report.Place.words.Goals as goal
+use Rattle.jcheck.proofs.report.FilePlace.words.Goals as goal
 
 pub returns : goal.returns
 returns c =

@@ -1,5 +1,5 @@
 use Rattle.std.proofs.Common.{◌≡◌, ◌∙◌, ◌++◌, ◌∷◌, [], ap}
-use Rattle.jcheck.proofs.report.Place.put.Goals as goal
+use Rattle.jcheck.proofs.report.FilePlace.put.Goals as goal
 use Rattle.jcheck.specs.Excerpts.{excerpt}
 use Rattle.jcheck.specs.Reports.{words}
 use Rattle.simd_json_parts.specs.Bytes.{line_feed}
@@ -13,8 +13,8 @@ returns-clause-put g c =
     let text = excerpt c.args.width checked location.byte in
     let is : c.as_bytes.result.now ≡ line = c.as_bytes.ensures.value ∙ c.in_ok-words.ensures in
     let first =
-    adds-is g.T.Target.place c.args.text.now c.put.new.self _ line is c.put.ensures in
+    adds-is g.T.Target.state c.args.text.now c.put.new.self _ line is c.put.ensures in
     let second =
-    adds-is g.T.Target.place c.put.new.self c.put_excerpt.new.text _ text (ap (excerpt c.args.width checked) c.byte.ensures)
+    adds-is g.T.Target.state c.put.new.self c.put_excerpt.new.text _ text (ap (excerpt c.args.width checked) c.byte.ensures)
     c.put_excerpt.ensures in
-    adds-then g.T.Target.place c.args.text.now c.put.new.self c.put_excerpt.new.text line text first second
+    adds-then g.T.Target.state c.args.text.now c.put.new.self c.put_excerpt.new.text line text first second
