@@ -1,2 +1,3 @@
 pub mod Viewed
 pub mod Closing
+pub mod Remaining
