@@ -1,3 +1,7 @@
 pub mod Skipping
-pub mod Levels
+pub mod Enough
 pub mod Sequence
+pub mod Groups
+pub mod Counting
+pub mod LowestBits
+pub mod ClosingBits

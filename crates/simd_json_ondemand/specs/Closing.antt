@@ -1,6 +1,6 @@
 -- Where a value ends among the structural indexes, by brackets alone. Nothing is asked of the other bytes, nor
 -- whether brackets match: over a value that is read, it ends where the descent does, and so says a law.
-use Rattle.std.specs.Prelude.{ℕ, zero, suc, List, [], ◌∷◌, map, Bool, ◌||◌, ◌==◌, if◌then◌else◌}
+use Rattle.std.specs.Prelude.{ℕ, zero, suc, ◌<◌, List, [], ◌∷◌, length, map, slice_index, Bool, ◌||◌, ◌==◌, if◌then◌else◌}
 use Rattle.simd_json_parts.specs.Bytes.{left_bracket, right_bracket, left_brace, right_brace, byte_at}
 
 abbrev pub is_opening : ℕ → Bool
@@ -28,3 +28,13 @@ first_bytes b is = map (byte_at b) is
 abbrev pub span : List ℕ → List ℕ → ℕ
 span b [] = 0
 span b (i ∷ is) = if is_opening (byte_at b i) then suc (closed_at 1 (first_bytes b is)) else 1
+
+-- how many containers are open after these tokens; none from where the container is closed
+unfoldable pub open_through : ℕ → List ℕ → ℕ
+open_through depth [] = depth
+open_through zero (c ∷ cs) = 0
+open_through (suc n) (c ∷ cs) = open_through (open_after n c) cs
+
+-- each of these indexes is of a byte of b
+abbrev pub AreWithin : List ℕ → List ℕ → Type 0
+AreWithin b is = (k : ℕ) → k < length is → slice_index is k < length b

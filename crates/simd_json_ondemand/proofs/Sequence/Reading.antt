@@ -1,19 +1,18 @@
 -- What one value is read as, and what it leaves.
-use Rattle.std.proofs.Common.{◌≡◌, refl, ◌∙◌, ap, subst, ℕ, zero, suc, ◌≤◌, ◌⊎◌, inl, inr, List, [], ◌∷◌, length, drop, arith}
-use Rattle.std.specs.Prelude.{Result, Ok, Err}
+use Rattle.std.proofs.Common.{◌≡◌, refl, ◌∙◌, ap, subst, ℕ, ◌≤◌, inr, List, length, drop, arith}
+use Rattle.std.specs.Prelude.{Ok}
 use Rattle.simd_json_parts.specs.Document.{Document}
 use Rattle.simd_json_parts.specs.Faults.{fault_at}
 use Rattle.simd_json_parts.specs.Tokens.{Token}
 use Rattle.simd_json_parts.specs.TokensAlong.{tokens_along}
 use Rattle.simd_json_parts.specs.Descent.{value_from}
-use Rattle.simd_json_parts.specs.declared.error.Error.{Error}
 use Rattle.simd_json_parts.specs.declared.error.ErrorType.TheVariants.{Syntax}
 use Rattle.simd_json_parts.proofs.Descent.ArrayTurns.{TakesTokens}
 use Rattle.simd_json_parts.proofs.Descent.Shrinking.{value_from-leaves}
 use Rattle.simd_json_ondemand.specs.Closing.{span}
 use Rattle.simd_json_ondemand.specs.Remaining.{value_at_first}
 use Rattle.simd_json_ondemand.proofs.Skipping.{Spanned, Spans, value_from-spans}
-use Rattle.simd_json_ondemand.proofs.Levels.{Keeps, value_from-keeps}
+use Rattle.simd_json_ondemand.proofs.Enough.{Keeps, value_from-keeps}
 
 module _ (b : List ℕ) where
   pub takes : TakesTokens (fault_at b Syntax 0) (value_at_first b)

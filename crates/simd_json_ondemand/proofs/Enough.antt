@@ -1,18 +1,18 @@
 -- What the descent reads stays the same with more levels, and with as many as there are tokens; nor does it matter
 -- which fault stands for a token that is missing.
-use Rattle.std.proofs.Common.{◌≡◌, refl, sym, ◌∙◌, ap, subst, ℕ, zero, suc, ◌<◌, ◌≤◌, ◌⊎◌, inl, inr, List, [], ◌∷◌, length, arith}
+use Rattle.std.proofs.Common.{◌≡◌, refl, ◌∙◌, ap, subst, ℕ, zero, suc, ◌<◌, ◌≤◌, ◌⊎◌, inl, inr, List, [], ◌∷◌, length, arith}
 use Rattle.std.specs.Prelude.{Result, Ok, Err, IfOk}
-use Rattle.simd_json_parts.specs.Document.{Document, array, object, Elements, element, Members, member}
+use Rattle.simd_json_parts.specs.Document.{Document, Elements, Members}
 use Rattle.simd_json_parts.specs.Tokens.{Token, Form, begin_array, end_array, begin_object, end_object, name_separator}
 use Rattle.simd_json_parts.specs.Tokens.{value_separator, string_token, scalar}
 use Rattle.simd_json_parts.specs.Descent.{◌>>=◌, Reads, after_element, element_end, elements_from, elements_by, first_element}
 use Rattle.simd_json_parts.specs.Descent.{array_from, name_of, name_from, after_name, name_end, after_member, member_end}
 use Rattle.simd_json_parts.specs.Descent.{members_from, members_by, first_member, object_from, value_of}
-use Rattle.simd_json_parts.specs.Descent.{value_with, too_deep, value_from}
+use Rattle.simd_json_parts.specs.Descent.{too_deep, value_from}
 use Rattle.simd_json_parts.specs.declared.error.Error.{Error}
 use Rattle.simd_json_parts.specs.declared.error.ErrorType.{ErrorType}
 use Rattle.simd_json_parts.specs.declared.error.ErrorType.TheVariants.{ExpectedObjectKey, ExpectedObjectContent}
-use Rattle.simd_json_parts.proofs.Descent.Shrinking.{value_from-takes, value_from-leaves, name_from-leaves, name_end-leaves}
+use Rattle.simd_json_parts.proofs.Descent.Shrinking.{value_from-leaves, name_from-leaves, name_end-leaves}
 use Rattle.simd_json_parts.proofs.Descent.ArrayTurns.{Leaves}
 
 -- what the one reads the other reads too
