@@ -1,0 +1,7 @@
+-- What values are: the document that begins at a structural index, and the scalar that stands there.
+pub mod Viewed
+pub mod Scanned
+pub mod Standing
+pub mod Docs
+-- What contracts see of an index: for how many bytes it has capacity.
+pub mod Capacities

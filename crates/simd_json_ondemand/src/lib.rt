@@ -1,0 +1,9 @@
+//! JSON values read along the structural indexes, without a tape.
+#![tactic(auto)]
+
+mod accessors;
+mod index;
+mod value;
+
+pub use index::Index;
+pub use value::{Document, Value};
