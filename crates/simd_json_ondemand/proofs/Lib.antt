@@ -1,3 +1,5 @@
 pub mod Levels
 pub mod Scans
 pub mod Standing
+pub mod Agreement
+pub mod Quoted

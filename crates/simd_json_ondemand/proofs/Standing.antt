@@ -14,7 +14,7 @@ use Rattle.simd_json_parts.specs.Numbers.{number_literal, integer_literal, has_m
 use Rattle.simd_json_parts.specs.StringAt.{string_at}
 use Rattle.simd_json_parts.specs.Tokens.{Form, begin_array, end_array, begin_object, end_object, name_separator, value_separator}
 use Rattle.simd_json_parts.specs.Tokens.{string_token, scalar, stray, form_at}
-use Rattle.simd_json_parts.specs.Views.{value_type, as_null, as_bool, as_integer, as_decimal}
+use Rattle.simd_json_parts.specs.Views.{value_type, as_null, as_bool, as_integer, as_decimal, as_str}
 use Rattle.simd_json_parts.specs.declared.error.Error.{Error}
 use Rattle.simd_json_parts.specs.declared.error.ErrorType.{ErrorType}
 use Rattle.simd_json_parts.specs.declared.error.ErrorType.TheVariants.{ExpectedTrue, ExpectedFalse, ExpectedNull}
@@ -197,6 +197,10 @@ module _ (b : List ℕ) (i : ℕ) where
       → option_and_then as_bool (scalar_of (form_at b i)) ≡ None
   no-bool none nor = none-standing as_bool _ (by_standing b i (λ d. as_bool d ≡ None) (λ _ _. refl) (λ e. absurd (false≢true (sym none ∙ e)))
       (λ e. absurd (false≢true (sym nor ∙ e))) (λ _. refl) (λ _ _ _. refl) (λ _ _. refl))
+
+  pub no-string : (byte_at b i == 34) ≡ false → option_and_then as_str (scalar_of (form_at b i)) ≡ None
+  no-string none = none-standing as_str _ (by_standing b i (λ d. as_str d ≡ None) (λ e _. other-byte b i 34 refl none e) (λ _. refl)
+      (λ _. refl) (λ _. refl) (λ _ _ _. refl) (λ _ _. refl))
 
   pub no-integer : begins_number b i (byte_at b i) ≡ false → option_and_then as_integer (scalar_of (form_at b i)) ≡ None
   no-integer none = none-standing as_integer _ (by_standing b i (λ d. as_integer d ≡ None) (λ _ _. refl) (λ _. refl) (λ _. refl)

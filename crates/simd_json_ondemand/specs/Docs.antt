@@ -1,7 +1,9 @@
 -- What contracts see of a document and of a value.
-use Rattle.std.specs.Prelude.{ℕ, List, drop, slice_index, Option, option_and_then}
+use Rattle.std.specs.Prelude.{◌≡◌, ◌<◌, ℕ, List, drop, slice_index, Option, option_and_then}
 use Rattle.simd_json_parts.specs.Accessors.{Accessor, as_t}
+use Rattle.simd_json_parts.specs.Bytes.{backslash, byte_at}
 use Rattle.simd_json_parts.specs.Document as parts
+use Rattle.simd_json_parts.specs.StringAt.{closing_quote}
 use Rattle.simd_json_parts.specs.Tokens.{Form, form_at}
 use Rattle.simd_json_parts.specs.declared.node.ValueType.{ValueType}
 use Rattle.simd_json_ondemand.specs.Viewed.{read_along}
@@ -43,3 +45,8 @@ as_standing t v = option_and_then (as_t t) (standing v)
 -- the kind of the value that begins there, by its token
 abbrev pub kind : Value → Option ValueType
 kind v = kind_of (form v)
+
+-- the string that stands there has an escape: a backslash before its closing quote
+abbrev pub HasEscape : Value → Type 0
+HasEscape v = let b = text v.document in
+    (j : ℕ) × (index_of v < j) × (j < closing_quote b (index_of v)) × (byte_at b j ≡ backslash)

@@ -83,8 +83,11 @@ impl<A: Allocator> Index<A> {
             → answer input.now limit ≡ Ok d → root document ≡ Some d) }
         ensures fault { IfErr result (λ e. IsRefused input.now self.old e) }
     {
-        let found =
-            BlockStage1Parse::find_structural_bits(input, &mut self.indexes, &mut self.escape_blocks)?;
+        let found = BlockStage1Parse::find_structural_bits(
+            input,
+            &mut self.indexes,
+            &mut self.escape_blocks,
+        )?;
         Ok(Document::new(input, &self.indexes[..found.positions]))
     }
 }

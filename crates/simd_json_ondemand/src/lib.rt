@@ -3,7 +3,9 @@
 
 mod accessors;
 mod index;
+mod strings;
 mod value;
+pub mod views;
 
 pub use index::Index;
 pub use value::{Document, Value};
