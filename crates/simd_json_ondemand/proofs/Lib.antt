@@ -1,3 +1,8 @@
+pub mod Levels
+pub mod Scans
+pub mod Standing
+pub mod Agreement
+pub mod Quoted
 pub mod Skipping
 pub mod Enough
 pub mod Sequence

@@ -1,0 +1,35 @@
+-- What a contract sees of an index: for how many bytes it has capacity.
+use Rattle.std.specs.Prelude.{◌≡◌, ◌≤◌, ◌<◌, ◌⊎◌, ℕ, ◌*◌, List, length, min, Some, IsUtf8}
+use Rattle.simd_json_parts.specs.Faults.{whole_fault}
+use Rattle.simd_json_parts.specs.InputFaults.{input_fault}
+use Rattle.simd_json_parts.specs.Limits.{max_length}
+use Rattle.simd_json_parts.specs.declared.error.Error.{Error}
+use Rattle.simd_json_parts.specs.declared.error.ErrorType.TheVariants.{OutOfMemory}
+
+-- for how many structural indexes, and blocks of 64 bytes
+pub record Capacities : Type 0 where
+  pub indexes : ℕ
+  pub blocks : ℕ
+
+-- for an input of how many bytes there is capacity
+abbrev pub capacity : Capacities → ℕ
+capacity r = min r.indexes (64 * r.blocks)
+
+-- of how many bytes a reservation is meant
+abbrev pub capped : ℕ → ℕ
+capped len = min len max_length
+
+-- no list is shorter
+abbrev pub KeepsCapacities : Capacities → Capacities → Type 0
+KeepsCapacities old new = (old.indexes ≤ new.indexes) × (old.blocks ≤ new.blocks)
+
+-- an allocation failed
+abbrev pub IsOutOfMemory : Error → Type 0
+IsOutOfMemory e = e ≡ whole_fault OutOfMemory
+
+-- What is refused of the input b: it as a whole, as by a parse; or it needs more memory than there is. Memory is
+-- asked for once size and encoding are known to be right, and only where there is no capacity for as many bytes.
+abbrev pub IsRefused : List ℕ → Capacities → Error → Type 0
+IsRefused b before e =
+    (input_fault b ≡ Some e)
+    ⊎ (IsOutOfMemory e × (length b ≤ max_length) × IsUtf8 b × (capacity before < length b))

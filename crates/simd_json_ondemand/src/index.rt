@@ -1,0 +1,106 @@
+//! The structural indexes of one input after another.
+ghost use Rattle.std.specs.Prelude.{◌≡◌, ◌≤◌, ◌<◌, length, max, Ok, Some, None, IfOk, OnOk, IfErr, ℕ};
+ghost use Rattle.simd_json_ondemand.specs.Capacities.{KeepsCapacities, IsOutOfMemory, IsRefused, capacity, capped};
+ghost use Rattle.simd_json_parts.specs.Answer.{answer};
+ghost use Rattle.simd_json_parts.specs.Document as parts;
+ghost use Rattle.simd_json_parts.specs.InputFaults.{input_fault};
+ghost use Rattle.simd_json_parts.specs.Positions.{positions};
+ghost use Rattle.simd_json_stages.specs.EscapeBlocks.{blocks_in};
+
+use crate::value::Document;
+use simd_json_parts::error::Result;
+use simd_json_stages::stage1::{BLOCK_LEN, BlockStage1Parse, Stage1Parse};
+use std::alloc::{Allocator, Global};
+use std::marker::Model;
+
+/// The memory for the structural indexes of one input after another.
+///
+/// It grows by what an input needs, and never shrinks. What it held before does not change a
+/// result.
+#[derive(Drop)]
+pub struct Index<A: Allocator = Global> {
+    // structural indexes (byte indexes into the input), and entries not in use
+    indexes: Vec<u32, A>,
+    // numbers of blocks of 64 bytes that hold a backslash, and entries not in use
+    escape_blocks: Vec<u32, A>,
+}
+
+impl<A: Allocator> Model for Index<A> {
+    ghost use Rattle.std.specs.Prelude.{length};
+    ghost use Rattle.simd_json_ondemand.specs.Capacities.{Capacities};
+
+    ghost Value = { Capacities };
+
+    ghost view = { λ i. record { indexes = length i.indexes.items; blocks = length i.escape_blocks.items } };
+}
+
+impl<A: Allocator + Copy> Index<A> {
+    /// Returns an index with capacity for inputs of up to `input_len` bytes (more than 4,294,967,295
+    /// count as that number, the greatest size of an input). `input_len` is a hint, and may be 0:
+    /// [`find`](Index::find) allocates what an input needs beyond it.
+    ///
+    /// Returns `OutOfMemory` if an allocation fails.
+    pub fn new(a: A, input_len: usize) -> Result<Index<A>>
+        ensures capacity { IfOk result (λ index. (index.indexes ≡ capped input_len)
+            × (index.blocks ≡ blocks_in (capped input_len))) }
+        ensures fault { IfErr result (λ e. IsOutOfMemory e × (0 < input_len)) }
+    {
+        let mut index = Index {
+            indexes: Vec::new(a),
+            escape_blocks: Vec::new(a),
+        };
+        index.reserve(input_len)?;
+        Ok(index)
+    }
+}
+
+impl<A: Allocator> Index<A> {
+    ghost use Rattle.simd_json_ondemand.specs.Docs.{text, places, root};
+
+    /// Reserves capacity for inputs of up to `input_len` bytes (more than 4,294,967,295 count as
+    /// that number): after it [`find`](Index::find) never returns `OutOfMemory` for such an input,
+    /// however many follow.
+    ///
+    /// Returns `OutOfMemory` if an allocation fails; what has been reserved by then stays.
+    pub fn reserve(&mut self, input_len: usize) -> Result<()>
+        ensures capacity { OnOk result ((self.new.indexes ≡ max self.old.indexes (capped input_len))
+            × (self.new.blocks ≡ max self.old.blocks (blocks_in (capped input_len)))) }
+        ensures kept { KeepsCapacities self.old self.new }
+        ensures fault { IfErr result (λ e. IsOutOfMemory e × (capacity self.old < capped input_len)) }
+    {
+        let len = input_len.min(u32::MAX as usize);
+        lengthen(&mut self.indexes, len)?;
+        lengthen(&mut self.escape_blocks, len.div_ceil(BLOCK_LEN))
+    }
+
+    /// Finds the structural indexes of an input: the byte index of the opening quote of each string
+    /// and, outside strings, of each structural character and of the first byte of each other token.
+    pub fn find<'d>(&'d mut self, input: &'d [u8]) -> Result<Document<'d>>
+        ensures input { IfOk result (λ document. text document ≡ input.now) }
+        ensures indexes { IfOk result (λ document. places document ≡ positions input.now) }
+        ensures whole { OnOk result (input_fault input.now ≡ None) }
+        ensures document { IfOk result (λ document. (d : parts.Document) (limit : ℕ)
+            → answer input.now limit ≡ Ok d → root document ≡ Some d) }
+        ensures fault { IfErr result (λ e. IsRefused input.now self.old e) }
+    {
+        let found = BlockStage1Parse::find_structural_bits(
+            input,
+            &mut self.indexes,
+            &mut self.escape_blocks,
+        )?;
+        Ok(Document::new(input, &self.indexes[..found.positions]))
+    }
+}
+
+// Makes the list at least `len` long: lists are kept filled, so that a store into them needs no
+// memory. If an allocation fails the list is unchanged.
+fn lengthen<A: Allocator>(list: &mut Vec<u32, A>, len: usize) -> Result<()>
+    ensures longer { OnOk result (length list.new.items ≡ max (length list.old.items) len) }
+    ensures kept { length list.old.items ≤ length list.new.items }
+    ensures fault { IfErr result (λ e. IsOutOfMemory e × (length list.old.items < len)) }
+{
+    if list.len() < len {
+        list.resize(len, 0)?;
+    }
+    Ok(())
+}
