@@ -10,3 +10,5 @@ pub mod Groups
 pub mod Counting
 pub mod LowestBits
 pub mod ClosingBits
+pub mod Tails
+pub mod ArrayViews

@@ -2,6 +2,7 @@
 #![tactic(auto)]
 
 mod accessors;
+mod array;
 mod index;
 pub mod laws;
 mod skip;
@@ -9,5 +10,6 @@ mod strings;
 mod value;
 pub mod views;
 
+pub use array::Array;
 pub use index::Index;
 pub use value::{Document, Value};
