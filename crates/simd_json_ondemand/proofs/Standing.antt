@@ -1,11 +1,11 @@
 -- Which scalar or string stands at an index, by cases on the first byte.
-use Rattle.std.proofs.Common.{◌≡◌, refl, sym, ◌∙◌, ap, ℕ, ◌+◌, List, length, take, drop, Bool, true, false, ◌||◌, ◌&&◌, ◌==◌, nat_le, nat_eq, inl, inr, [], ◌∷◌, arith}
-use Rattle.std.specs.Prelude.{Option, Some, None, Result, Ok, Err, IfOk, IfSome, nat_lt, codes, option_map, option_and_then, is_some, IsUtf8, ◌≤◌}
+use Rattle.std.proofs.Common.{◌≡◌, refl, sym, ◌∙◌, ap, subst, ℕ, ◌+◌, List, length, take, drop, Bool, true, false, ◌||◌, ◌&&◌, ◌==◌, nat_le, nat_eq, cond, inl, inr, [], ◌∷◌, arith}
+use Rattle.std.specs.Prelude.{Option, Some, None, Result, Ok, Err, IfOk, IfSome, nat_lt, codes, option_map, option_and_then, is_some, IsUtf8, ◌≤◌, if◌then◌else◌}
 use Rattle.std.specs.List.{starts_with}
 use Rattle.std.specs.Char.{is_ascii_digit}
 use Rattle.std.proofs.lemmas.Bool.{cases_Bool, cond_both, cond-true, and_parts, eqb-true, false≢true}
 use Rattle.simd_json_parts.specs.AtomAt.{atom_at, atom_or}
-use Rattle.simd_json_parts.specs.Bytes.{byte_at, is_terminator}
+use Rattle.simd_json_parts.specs.Bytes.{byte_at, is_terminator, quote}
 use Rattle.simd_json_parts.specs.Derivatives.{matches, longest_prefix}
 use Rattle.simd_json_parts.specs.Document.{Document, null, boolean, integer, decimal, string}
 use Rattle.simd_json_parts.specs.Integers.{max_magnitude}

@@ -1,6 +1,6 @@
 -- What stands at a structural index, whether or not the bytes are a document: a string or a scalar, whole and with
 -- what must follow it, or the kind of a value by its token.
-use Rattle.std.specs.Prelude.{◌≡◌, ℕ, Bool, true, false, Option, Some, None, Ok}
+use Rattle.std.specs.Prelude.{◌≡◌, ℕ, Bool, true, false, Option, Some, None, Ok, Err}
 use Rattle.simd_json_parts.specs.Document.{Document, integer, string}
 use Rattle.simd_json_parts.specs.Integers.{integer_node}
 use Rattle.simd_json_parts.specs.declared.node.StaticNode.{StaticNode}
