@@ -11,6 +11,10 @@ pub record Capacities : Type 0 where
   pub indexes : ℕ
   pub blocks : ℕ
 
+-- how the two lists are seen
+abbrev pub capacities_of : List ℕ → List ℕ → Capacities
+capacities_of indexes blocks = record { indexes = length indexes; blocks = length blocks }
+
 -- for an input of how many bytes there is capacity
 abbrev pub capacity : Capacities → ℕ
 capacity r = min r.indexes (64 * r.blocks)

@@ -3,5 +3,6 @@ pub mod Viewed
 pub mod Scanned
 pub mod Standing
 pub mod Docs
+pub mod Numerals
 -- What contracts see of an index: for how many bytes it has capacity.
 pub mod Capacities

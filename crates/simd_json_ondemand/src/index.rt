@@ -1,6 +1,8 @@
 //! The structural indexes of one input after another.
-ghost use Rattle.std.specs.Prelude.{◌≡◌, ◌≤◌, ◌<◌, length, max, Ok, Some, None, IfOk, OnOk, IfErr, ℕ};
-ghost use Rattle.simd_json_ondemand.specs.Capacities.{KeepsCapacities, IsOutOfMemory, IsRefused, capacity, capped};
+ghost use Rattle.std.specs.Prelude.{◌≡◌, ◌≤◌, ◌<◌, ℕ, length, max, Ok, Some, None};
+ghost use Rattle.std.specs.Prelude.{IfOk, OnOk, IfErr};
+ghost use Rattle.simd_json_ondemand.specs.Capacities.{capacity, capped, capacities_of};
+ghost use Rattle.simd_json_ondemand.specs.Capacities.{KeepsCapacities, IsOutOfMemory, IsRefused};
 ghost use Rattle.simd_json_parts.specs.Answer.{answer};
 ghost use Rattle.simd_json_parts.specs.Document as parts;
 ghost use Rattle.simd_json_parts.specs.InputFaults.{input_fault};
@@ -13,7 +15,8 @@ use simd_json_stages::stage1::{BLOCK_LEN, BlockStage1Parse, Stage1Parse};
 use std::alloc::{Allocator, Global};
 use std::marker::Model;
 
-/// The memory for the structural indexes of one input after another.
+/// The memory for the structural indexes of one input after another: four bytes for each, and as
+/// many for each block of 64 bytes that holds a backslash.
 ///
 /// It grows by what an input needs, and never shrinks. What it held before does not change a
 /// result.
@@ -26,18 +29,17 @@ pub struct Index<A: Allocator = Global> {
 }
 
 impl<A: Allocator> Model for Index<A> {
-    ghost use Rattle.std.specs.Prelude.{length};
-    ghost use Rattle.simd_json_ondemand.specs.Capacities.{Capacities};
+    ghost use Rattle.simd_json_ondemand.specs.Capacities.{Capacities, capacities_of};
 
     ghost Value = { Capacities };
 
-    ghost view = { λ i. record { indexes = length i.indexes.items; blocks = length i.escape_blocks.items } };
+    ghost view = { λ i. capacities_of i.indexes.items i.escape_blocks.items };
 }
 
 impl<A: Allocator + Copy> Index<A> {
-    /// Returns an index with capacity for inputs of up to `input_len` bytes (more than 4,294,967,295
-    /// count as that number, the greatest size of an input). `input_len` is a hint, and may be 0:
-    /// [`find`](Index::find) allocates what an input needs beyond it.
+    /// Returns an index with capacity for inputs of up to `input_len` bytes (more than
+    /// 4,294,967,295 count as that number, the greatest size of an input). `input_len` is a hint,
+    /// and may be 0: [`find`](Index::find) allocates what an input needs beyond it.
     ///
     /// Returns `OutOfMemory` if an allocation fails.
     pub fn new(a: A, input_len: usize) -> Result<Index<A>>
@@ -63,10 +65,12 @@ impl<A: Allocator> Index<A> {
     ///
     /// Returns `OutOfMemory` if an allocation fails; what has been reserved by then stays.
     pub fn reserve(&mut self, input_len: usize) -> Result<()>
-        ensures capacity { OnOk result ((self.new.indexes ≡ max self.old.indexes (capped input_len))
+        ensures reserved { OnOk result (capped input_len ≤ capacity self.new) }
+        ensures exact { OnOk result ((self.new.indexes ≡ max self.old.indexes (capped input_len))
             × (self.new.blocks ≡ max self.old.blocks (blocks_in (capped input_len)))) }
         ensures kept { KeepsCapacities self.old self.new }
-        ensures fault { IfErr result (λ e. IsOutOfMemory e × (capacity self.old < capped input_len)) }
+        ensures fault { IfErr result (λ e. IsOutOfMemory e
+            × (capacity self.old < capped input_len)) }
     {
         let len = input_len.min(u32::MAX as usize);
         lengthen(&mut self.indexes, len)?;
@@ -74,7 +78,36 @@ impl<A: Allocator> Index<A> {
     }
 
     /// Finds the structural indexes of an input: the byte index of the opening quote of each string
-    /// and, outside strings, of each structural character and of the first byte of each other token.
+    /// and, outside strings, of each structural character and of the first byte of each other
+    /// token. The input is neither copied nor written.
+    ///
+    /// Returns the error of the whole input, as a parse does, at index 0 and without a character:
+    ///
+    /// - `InputTooLarge`: it has more than 4,294,967,295 bytes
+    /// - `InvalidUtf8`: it is not UTF-8 (RFC 3629)
+    /// - `Syntax`: a string is left open or holds a byte below 0x20 (RFC 8259, section 7)
+    /// - `Eof`: there is nothing but whitespace
+    ///
+    /// Returns `OutOfMemory` if an allocation fails: only if size and encoding are right, and only
+    /// if there is no capacity for as many bytes as the input has.
+    ///
+    /// That each token stands where the grammar expects one is not tested here, but where values
+    /// are read. If the input is a document that a parse accepts, at any depth limit, the root is
+    /// that document.
+    ///
+    /// ```
+    /// use simd_json_ondemand::{Index, Result};
+    ///
+    /// fn sum(rt: &impl AllocGlobal, numbers: &[&[u8]]) -> Result<u64> {
+    ///     let mut index = Index::new(rt.alloc(), 64)?;
+    ///     let mut sum = 0u64;
+    ///     for number in numbers {
+    ///         let root = index.find(number)?.as_value();
+    ///         sum = sum.saturating_add(root.as_u64().unwrap_or(0));
+    ///     }
+    ///     Ok(sum)
+    /// }
+    /// ```
     pub fn find<'d>(&'d mut self, input: &'d [u8]) -> Result<Document<'d>>
         ensures input { IfOk result (λ document. text document ≡ input.now) }
         ensures indexes { IfOk result (λ document. places document ≡ positions input.now) }
