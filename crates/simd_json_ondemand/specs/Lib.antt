@@ -4,5 +4,5 @@ pub mod Scanned
 pub mod Standing
 pub mod Docs
 pub mod Numerals
--- What contracts see of an index: for how many bytes it has capacity.
+-- What contracts see of an index: what it lists, and for how many bytes it has capacity.
 pub mod Capacities

@@ -1,6 +1,6 @@
 //! The structural indexes of one input after another.
-ghost use Rattle.std.specs.Prelude.{◌≡◌, ◌≤◌, ◌<◌, ℕ, length, max, Ok, Some, None};
-ghost use Rattle.std.specs.Prelude.{IfOk, OnOk, IfErr};
+ghost use Rattle.std.specs.Prelude.{◌≡◌, ◌≤◌, ◌<◌, ℕ, length, take, max, Ok, Some, None};
+ghost use Rattle.std.specs.Prelude.{[], IfOk, OnOk, IfErr, OnErr};
 ghost use Rattle.simd_json_ondemand.specs.Capacities.{capacity, capped, capacities_of};
 ghost use Rattle.simd_json_ondemand.specs.Capacities.{KeepsCapacities, IsOutOfMemory, IsRefused};
 ghost use Rattle.simd_json_parts.specs.Answer.{answer};
@@ -19,21 +19,26 @@ use std::marker::Model;
 /// many for each block of 64 bytes that holds a backslash.
 ///
 /// It grows by what an input needs, and never shrinks. What it held before does not change a
-/// result.
+/// result. See [`find`](Index::find).
 #[derive(Drop)]
 pub struct Index<A: Allocator = Global> {
     // structural indexes (byte indexes into the input), and entries not in use
     indexes: Vec<u32, A>,
+    // how many of these are in use, from the front
+    used: usize,
     // numbers of blocks of 64 bytes that hold a backslash, and entries not in use
     escape_blocks: Vec<u32, A>,
 }
 
 impl<A: Allocator> Model for Index<A> {
+    ghost use Rattle.std.specs.Prelude.{◌≤◌, length};
     ghost use Rattle.simd_json_ondemand.specs.Capacities.{Capacities, capacities_of};
 
     ghost Value = { Capacities };
 
-    ghost view = { λ i. capacities_of i.indexes.items i.escape_blocks.items };
+    ghost view = { λ i. capacities_of i.indexes.items i.used i.escape_blocks.items };
+
+    ghost invariant = { λ i. i.used ≤ length i.indexes.items };
 }
 
 impl<A: Allocator + Copy> Index<A> {
@@ -49,6 +54,7 @@ impl<A: Allocator + Copy> Index<A> {
     {
         let mut index = Index {
             indexes: Vec::new(a),
+            used: 0,
             escape_blocks: Vec::new(a),
         };
         index.reserve(input_len)?;
@@ -63,12 +69,14 @@ impl<A: Allocator> Index<A> {
     /// that number): after it [`find`](Index::find) never returns `OutOfMemory` for such an input,
     /// however many follow.
     ///
-    /// Returns `OutOfMemory` if an allocation fails; what has been reserved by then stays.
+    /// What is listed stays. Returns `OutOfMemory` if an allocation fails; what has been reserved by
+    /// then stays.
     pub fn reserve(&mut self, input_len: usize) -> Result<()>
         ensures reserved { OnOk result (capped input_len ≤ capacity self.new) }
         ensures exact { OnOk result ((self.new.indexes ≡ max self.old.indexes (capped input_len))
             × (self.new.blocks ≡ max self.old.blocks (blocks_in (capped input_len)))) }
         ensures kept { KeepsCapacities self.old self.new }
+        ensures same { self.new.listed ≡ self.old.listed }
         ensures fault { IfErr result (λ e. IsOutOfMemory e
             × (capacity self.old < capped input_len)) }
     {
@@ -116,20 +124,52 @@ impl<A: Allocator> Index<A> {
             → answer input.now limit ≡ Ok d → root document ≡ Some d) }
         ensures fault { IfErr result (λ e. IsRefused input.now self.old e) }
     {
+        self.fill(input)?;
+        Ok(self.document(input))
+    }
+
+    /// Lists the structural indexes of an input, with the errors of [`find`](Index::find), of which
+    /// it is the first half: while `find` lends the index to the document, this one says that the
+    /// index keeps its capacity. After an error nothing is listed.
+    ///
+    /// So a caller that has reserved memory once can prove that no later call lacks it.
+    pub fn fill(&mut self, input: &[u8]) -> Result<()>
+        ensures indexes { OnOk result (self.new.listed ≡ positions input.now) }
+        ensures whole { OnOk result (input_fault input.now ≡ None) }
+        ensures empty { OnErr result (self.new.listed ≡ []) }
+        ensures kept { KeepsCapacities self.old self.new }
+        ensures fault { IfErr result (λ e. IsRefused input.now self.old e) }
+    {
+        self.used = 0;
         let found = BlockStage1Parse::find_structural_bits(
             input,
             &mut self.indexes,
             &mut self.escape_blocks,
         )?;
-        Ok(Document::new(input, &self.indexes[..found.positions]))
+        self.used = found.positions;
+        Ok(())
+    }
+
+    /// Returns the document of the input whose structural indexes are listed: that of the last
+    /// [`fill`](Index::fill), if it returned no error.
+    pub fn document<'d>(&'d self, input: &'d [u8]) -> Document<'d>
+        requires indexes { self.now.listed ≡ positions input.now }
+        requires whole { input_fault input.now ≡ None }
+        ensures input { text result ≡ input.now }
+        ensures indexes { places result ≡ positions input.now }
+        ensures document { (d : parts.Document) (limit : ℕ) → answer input.now limit ≡ Ok d
+            → root result ≡ Some d }
+    {
+        Document::new(input, &self.indexes[..self.used])
     }
 }
 
 // Makes the list at least `len` long: lists are kept filled, so that a store into them needs no
-// memory. If an allocation fails the list is unchanged.
+// memory. What it held stays. If an allocation fails the list is unchanged.
 fn lengthen<A: Allocator>(list: &mut Vec<u32, A>, len: usize) -> Result<()>
     ensures longer { OnOk result (length list.new.items ≡ max (length list.old.items) len) }
-    ensures kept { length list.old.items ≤ length list.new.items }
+    ensures kept { take (length list.old.items) list.new.items ≡ list.old.items }
+    ensures no_shorter { length list.old.items ≤ length list.new.items }
     ensures fault { IfErr result (λ e. IsOutOfMemory e × (length list.old.items < len)) }
 {
     if list.len() < len {
