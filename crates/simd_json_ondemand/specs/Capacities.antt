@@ -1,15 +1,20 @@
--- What a contract sees of an index: for how many bytes it has capacity.
-use Rattle.std.specs.Prelude.{◌≡◌, ◌≤◌, ◌<◌, ◌⊎◌, ℕ, ◌*◌, List, length, min, Some, IsUtf8}
+-- What a contract sees of an index: what it lists, and for how many bytes it has capacity.
+use Rattle.std.specs.Prelude.{◌≡◌, ◌≤◌, ◌<◌, ◌⊎◌, ℕ, ◌*◌, List, length, take, min, Some, IsUtf8}
 use Rattle.simd_json_parts.specs.Faults.{whole_fault}
 use Rattle.simd_json_parts.specs.InputFaults.{input_fault}
 use Rattle.simd_json_parts.specs.Limits.{max_length}
 use Rattle.simd_json_parts.specs.declared.error.Error.{Error}
 use Rattle.simd_json_parts.specs.declared.error.ErrorType.TheVariants.{OutOfMemory}
 
--- for how many structural indexes, and blocks of 64 bytes
+-- the structural indexes that are listed, and for how many, and how many blocks of 64 bytes, there is capacity
 pub record Capacities : Type 0 where
+  pub listed : List ℕ
   pub indexes : ℕ
   pub blocks : ℕ
+
+-- how the two lists are seen, of which the first has so many entries in use
+abbrev pub capacities_of : List ℕ → ℕ → List ℕ → Capacities
+capacities_of list used blocks = record { listed = take used list; indexes = length list; blocks = length blocks }
 
 -- for an input of how many bytes there is capacity
 abbrev pub capacity : Capacities → ℕ

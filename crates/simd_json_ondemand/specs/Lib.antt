@@ -3,10 +3,11 @@ pub mod Viewed
 pub mod Scanned
 pub mod Standing
 pub mod Docs
--- Where values end by brackets, and what is left of arrays and objects.
+pub mod Numerals
+-- Where values end by brackets, what is left of arrays and objects, and where a cursor goes.
 pub mod Closing
 pub mod Remaining
 pub mod Tails
 pub mod Iterated
--- What contracts see of an index: for how many bytes it has capacity.
+-- What contracts see of an index: what it lists, and for how many bytes it has capacity.
 pub mod Capacities

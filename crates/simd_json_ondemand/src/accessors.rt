@@ -16,8 +16,11 @@ use simd_json_scalars::numberparse::{
 };
 
 impl<'d> Value<'d> {
-    ghost use Rattle.std.specs.Prelude.{◌≡◌, ◌==◌, None, false, option_and_then, option_map, MatchOption};
-    ghost use Rattle.simd_json_ondemand.specs.Docs.{text, index_of, form, kind, standing, as_standing};
+    ghost use Rattle.std.specs.Prelude.{◌≡◌, ◌==◌, None, false};
+    ghost use Rattle.std.specs.Prelude.{option_and_then, option_map, MatchOption};
+    ghost use Rattle.simd_json_ondemand.specs.Docs.{text, index_of, form, kind};
+    ghost use Rattle.simd_json_ondemand.specs.Docs.{standing, as_standing};
+    ghost use Rattle.simd_json_ondemand.specs.Numerals.{IsNumeral, IsNoNumber};
     ghost use Rattle.simd_json_ondemand.specs.Standing.{IsInteger};
     ghost use Rattle.simd_json_parts.specs.Accessors as accessors;
     ghost use Rattle.simd_json_parts.specs.NumberAt.{number_at};
@@ -55,11 +58,8 @@ impl<'d> Value<'d> {
     // Reads the number that stands here, if one begins here.
     #[inline(always)]
     fn numeral(self) -> Option<Numeral>
-        ensures { MatchOption result
-            ((option_and_then as_integer (standing self.entry) ≡ None)
-            × (option_and_then as_decimal (standing self.entry) ≡ None))
-            (λ numeral. (form self.entry ≡ scalar (number_at (text self.entry.document) (index_of self.entry)))
-            × IsNumeralAt (text self.entry.document) (index_of self.entry) numeral) }
+        ensures { MatchOption result (IsNoNumber (standing self.entry))
+            (IsNumeral (text self.entry.document) (index_of self.entry)) }
     {
         if begins_number(self.first()) {
             Some(numeral(self.bytes()))

@@ -21,7 +21,8 @@ impl<'d> Value<'d> {
     /// string.
     #[inline(always)]
     pub fn as_str(self) -> Option<&'d str>
-        ensures { MatchOption result ((as_standing accessors.str self.entry ≡ None) ⊎ HasEscape self.entry)
+        ensures { MatchOption result
+            ((as_standing accessors.str self.entry ≡ None) ⊎ HasEscape self.entry)
             (λ s. as_standing accessors.str self.entry ≡ Some s.now) }
     {
         if self.first() != b'"' {
