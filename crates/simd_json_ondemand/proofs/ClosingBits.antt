@@ -50,7 +50,8 @@ first (c ∷ cs) some = go (is_closing c) refl (first cs)
         record {
           before = suc f.before;
           inside = omega (arith, f.inside);
-          others = same ∙ ap (λ n. 2 * n) f.others ∙ twice (1 + 2 * m) (2 ^ f.before) ∙ ap (λ n. (1 + 2 * m) * n) (sym (pow-suc 2 f.before));
+          others = same ∙ ap (λ n. 2 * n) f.others ∙ twice (1 + 2 * m) (2 ^ f.before)
+              ∙ ap (λ n. (1 + 2 * m) * n) (sym (pow-suc 2 f.before));
           closes = f.closes;
           none = count-step is_closing c (take f.before cs) ∙ ap₂ (λ s n. cond s 1 0 + n) h f.none;
         }
@@ -176,7 +177,8 @@ none_left levels cs left r =
     let j : ℕ = r.passed in
     let todo : List ℕ = drop j cs in
     let none : mask_l (map is_closing todo) ≡ 0 = zero_of (mask_l (map is_closing todo)) (2 ^ j) (pow_pos j) (sym r.others) in
-    let count : count_by is_closing todo ≡ 0 = sym (ones-mask_l is_closing todo) ∙ ap count_ones none ∙ omega (arith, ones-le 0 0 (omega arith)) in
+    let count : count_by is_closing todo ≡ 0 = sym (ones-mask_l is_closing todo) ∙ ap count_ones none
+    ∙ omega (arith, ones-le 0 0 (omega arith)) in
     let stays : 0 < open_through (open_through levels (take j cs)) todo =
     stays-open (open_through levels (take j cs)) todo (omega (arith, r.still)) in
     subst (λ xs. 0 < open_through levels xs) (take-append-drop j cs)

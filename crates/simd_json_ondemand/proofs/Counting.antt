@@ -1,5 +1,6 @@
 -- The count of open containers, token by token and group by group.
-use Rattle.std.proofs.Common.{◌≡◌, refl, sym, ◌∙◌, ap, ap₂, ℕ, zero, suc, ◌+◌, ◌-◌, ◌<◌, ◌≤◌, Bool, true, false, ◌==◌, cond, eqb, inl, inr, w8, Fits}
+use Rattle.std.proofs.Common.{◌≡◌, refl, sym, ◌∙◌, ap, ap₂, ℕ, zero, suc, ◌+◌, ◌-◌, ◌<◌, ◌≤◌, Bool, true, false, ◌==◌, cond, eqb, inl}
+use Rattle.std.proofs.Common.{inr, w8, Fits}
 use Rattle.std.proofs.Common.{List, [], ◌∷◌, ◌++◌, length, map, take, drop, get_or, bit_or, add-one, arith}
 use Rattle.std.proofs.Common.{take-append-drop}
 use Rattle.std.specs.List.{count_by}
@@ -69,7 +70,8 @@ module _ (b is : List ℕ) (within : AreWithin b is) (bytes : (i : ℕ) → Fits
       let x : ℕ = get_or b (get_or is i 0) 0 in
       let is_closed : is_closing x ≡ true = sym (test_closing x (bytes (get_or is i 0)).fits) ∙ ap (λ y. eqb y 125) e in
       closed_at-step b is i depth l some
-      ∙ ap (λ n. suc (closed_at n (first_bytes b (drop (i + 1) is)))) (ap (open_after (depth - 1)) here ∙ after-closing (depth - 1) x is_closed)
+      ∙ ap (λ n. suc (closed_at n (first_bytes b (drop (i + 1) is)))) (ap (open_after (depth - 1)) here
+      ∙ after-closing (depth - 1) x is_closed)
 
   pub step-other : (bit_or (get_or b (get_or is i 0) 0) 32 ≡ 125 → ⊥)
       → closed_at depth (first_bytes b (drop i is))
@@ -191,7 +193,8 @@ module _ (b is : List ℕ) (i : ℕ) (l : i + 8 ≤ length is) where
       (omega arith, omega arith)
 
   -- or it is not: the words count how many are open
-  pub group-open : (depth opens closes : ℕ) → opens ≡ mask_l (map is_opening (group b is i)) → closes ≡ mask_l (map is_closing (group b is i))
+  pub group-open : (depth opens closes : ℕ) → opens ≡ mask_l (map is_opening (group b is i)) → closes
+      ≡ mask_l (map is_closing (group b is i))
       → 0 < open_through depth (group b is i)
       → (closed_at depth (first_bytes b (drop i is)) ≡ 8 + closed_at (depth + ones opens - ones closes) (first_bytes b (drop (i + 8) is)))
       × (ones closes < depth + ones opens) × (ones opens ≤ 8)
@@ -216,10 +219,12 @@ module _ (b is : List ℕ) (within : AreWithin b is) (bytes : (i : ℕ) → Fits
   span-at =
       let x : ℕ = get_or b (get_or is i 0) 0 in
       ap (span b) (drop_more is i 0 l)
-      ∙ ap (λ y. cond (is_opening y) (suc (closed_at 1 (first_bytes b (drop (i + 1) is)))) 1) (sym (get_or_default b (get_or is i 0) 0 32 (within i l)))
+      ∙ ap (λ y. cond (is_opening y) (suc (closed_at 1 (first_bytes b (drop (i + 1) is)))) 1) (sym (get_or_default b
+      (get_or is i 0) 0 32 (within i l)))
       ∙ ap (λ t. cond t (suc (closed_at 1 (first_bytes b (drop (i + 1) is)))) 1) (sym (test_opening x (bytes (get_or is i 0)).fits))
 
-  pub span-container : bit_or (get_or b (get_or is i 0) 0) 32 ≡ 123 → span b (drop i is) ≡ suc (closed_at 1 (first_bytes b (drop (i + 1) is)))
+  pub span-container : bit_or (get_or b (get_or is i 0) 0) 32 ≡ 123 → span b (drop i is)
+      ≡ suc (closed_at 1 (first_bytes b (drop (i + 1) is)))
   span-container e = span-at ∙ ap (λ y. cond (eqb y 123) (suc (closed_at 1 (first_bytes b (drop (i + 1) is)))) 1) e
 
   pub span-other : (bit_or (get_or b (get_or is i 0) 0) 32 ≡ 123 → ⊥) → span b (drop i is) ≡ 1

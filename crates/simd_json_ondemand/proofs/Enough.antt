@@ -61,9 +61,11 @@ module _ (b : List ℕ) (m m' : Error) (n : ℕ) where
     elements_from-keeps zero ts l = tt
     elements_from-keeps (suc turns) ts l =
         both (value ts) (value' ts) _ _ (λ p. length p.1 < length ts) (takes ts) (keeps ts l)
-        (λ first h. both (element_end b m first.1 (elements_from b m value turns)) (element_end b m' first.1 (elements_from b m' value' turns))
+        (λ first h. both (element_end b m first.1 (elements_from b m value turns)) (element_end b m' first.1
+        (elements_from b m' value' turns))
         _ _ (λ p. Unit {0}) (any (element_end b m first.1 (elements_from b m value turns)))
-        (element_end-keeps (elements_from b m value turns) (elements_from b m' value' turns) (elements_from-keeps turns) first.1 (omega arith))
+        (element_end-keeps (elements_from b m value turns) (elements_from b m' value' turns) (elements_from-keeps turns) first.1
+        (omega arith))
         (λ rest _. refl))
 
     pub array_from-keeps : (ts : List Token) → length ts ≤ n → Keeps (array_from b m value ts) (array_from b m' value' ts)
@@ -77,7 +79,8 @@ module _ (b : List ℕ) (m m' : Error) (n : ℕ) where
 
     pub behind_element-keeps : (ts : List Token) → length ts ≤ n
         → Keeps (element_end b m ts (elements_by b m value)) (element_end b m' ts (elements_by b m' value'))
-    behind_element-keeps = element_end-keeps (elements_by b m value) (elements_by b m' value') (λ ts l. elements_from-keeps (length ts) ts l)
+    behind_element-keeps = element_end-keeps (elements_by b m value) (elements_by b m' value') (λ ts l. elements_from-keeps
+        (length ts) ts l)
 
     -- ---- objects
 

@@ -49,7 +49,8 @@ module _ (b is : List ℕ) (within : AreWithin b is) where
       ∙ ap (λ js. first_bytes b (take (suc n) js)) (sym (drop-cons is i 0 (omega arith)))
 
   pub eight : (i : ℕ) → i + 8 ≤ length is
-      → (loaded i ∷ loaded (i + 1) ∷ loaded (i + 2) ∷ loaded (i + 3) ∷ loaded (i + 4) ∷ loaded (i + 5) ∷ loaded (i + 6) ∷ loaded (i + 7) ∷ [])
+      → (loaded i ∷ loaded (i + 1) ∷ loaded (i + 2) ∷ loaded (i + 3) ∷ loaded (i + 4) ∷ loaded (i + 5) ∷ loaded (i + 6) ∷ loaded
+      (i + 7) ∷ [])
       ≡ first_bytes b (take 8 (drop i is))
   eight i l =
       let one = next (i + 7) (i + 8) 0 (omega arith) (omega arith) in

@@ -151,7 +151,8 @@ module _ (b : List ℕ) where
   next after i is r e q = further after (i ∷ is) (tokens_along b is) (one suc i is e) r q
 
   -- a reader that passes tokens, and what goes on from there
-  in_turn : {A B : Type 0} (after : ℕ → ℕ) (is : List ℕ) (r : Result (A × List Token) Error) (f : A × List Token → Result (B × List Token) Error)
+  in_turn : {A B : Type 0} (after : ℕ → ℕ) (is : List ℕ) (r : Result (A × List Token) Error) (f : A × List Token
+      → Result (B × List Token) Error)
       → Skips suc is r → ((x : A) (js : List ℕ) → Skips after js (f (x, tokens_along b js))) → Skips after is (r >>= f)
   in_turn after is (Err e) f p step = tt
   in_turn after is (Ok (x, mid)) f p step =
@@ -296,7 +297,8 @@ module _ (b : List ℕ) where
           all = tokens_along b (i ∷ is)
 
           go : (form : Form) → form_at b i ≡ form → Skips (λ k. k) (i ∷ is)
-              (first_member b missing form all (cond (goes_on form) (tokens_along b is) []) (members_by b missing value ExpectedObjectContent))
+              (first_member b missing form all (cond (goes_on form) (tokens_along b is) [])
+              (members_by b missing value ExpectedObjectContent))
           go end_object e = one (λ k. k) i is (λ k. ap (form_after k) e)
           go _ e = members_from-skips (length all) ExpectedObjectContent (i ∷ is)
 

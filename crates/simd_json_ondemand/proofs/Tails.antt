@@ -11,7 +11,8 @@ use Rattle.simd_json_ondemand.specs.Closing.{is_opening, span, closed_at, first_
 use Rattle.simd_json_ondemand.specs.Remaining.{elements_inside, elements_behind}
 use Rattle.simd_json_ondemand.specs.Tails.{next_tails, tails_from, tails_behind, tails_past, tails_inside}
 use Rattle.simd_json_ondemand.specs.Viewed.{read_along}
-use Rattle.simd_json_ondemand.proofs.Sequence.Arrays.{AtElement, inside-end, inside-none, inside-element, behind-comma, behind-end, behind-none}
+use Rattle.simd_json_ondemand.proofs.Sequence.Arrays.{AtElement, inside-end, inside-none, inside-element, behind-comma, behind-end}
+use Rattle.simd_json_ondemand.proofs.Sequence.Arrays.{behind-none}
 
 -- the documents of an array, as they are found
 abbrev pub all_some : List Document → List (Option Document)
@@ -21,7 +22,8 @@ module _ (b : List ℕ) where
   -- ---- the bound on the turns is never met
 
   span-some : (i : ℕ) (is : List ℕ) → 0 < span b (i ∷ is)
-  span-some i is = cond_both (is_opening (byte_at b i)) (suc (closed_at 1 (first_bytes b is))) 1 (λ n. 0 < n) (λ _. omega arith) (λ _. omega arith)
+  span-some i is = cond_both (is_opening (byte_at b i)) (suc (closed_at 1 (first_bytes b is))) 1 (λ n. 0 < n) (λ _. omega arith)
+      (λ _. omega arith)
 
   next-same : (is : List ℕ) (more more' : List ℕ → List (List ℕ)) (n : ℕ) → length is ≤ suc n
       → ((j : ℕ) (js : List ℕ) → length (j ∷ js) ≤ n → more (j ∷ js) ≡ more' (j ∷ js)) → next_tails b is more ≡ next_tails b is more'
@@ -61,7 +63,8 @@ module _ (b : List ℕ) where
       let both : drop k is ≡ get_or is k 0 ∷ get_or is (k + 1) 0 ∷ drop (k + 1 + 1) is =
       drop_more is k 0 (omega arith) ∙ ap (λ js. get_or is k 0 ∷ js) second in
       ap (tails_behind b) both
-      ∙ ap (λ t. cond t (tails_from b (suc (suc (length (drop (k + 1 + 1) is)))) (get_or is (k + 1) 0 ∷ drop (k + 1 + 1) is)) []) (ap (λ c. c == 44) e)
+      ∙ ap (λ t. cond t (tails_from b (suc (suc (length (drop (k + 1 + 1) is)))) (get_or is (k + 1) 0 ∷ drop (k + 1 + 1) is)) []) (ap
+      (λ c. c == 44) e)
       ∙ turn (suc (suc (length (drop (k + 1 + 1) is)))) (get_or is (k + 1) 0) (drop (k + 1 + 1) is) (omega arith)
       ∙ ap (λ js. js ∷ tails_past b js) (sym second)
 
@@ -118,7 +121,8 @@ module _ (b : List ℕ) where
 
       tails : (js : List ℕ) → 0 < length js → (byte_at b i == 44) ≡ true → tails_behind b (i ∷ js) ≡ js ∷ tails_past b js
       tails [] some h = absurd (omega arith)
-      tails (j ∷ js) some h = ap (λ t. cond t (tails_from b (suc (suc (length js))) (j ∷ js)) []) h ∙ turn (suc (suc (length js))) j js (omega arith)
+      tails (j ∷ js) some h = ap (λ t. cond t (tails_from b (suc (suc (length js))) (j ∷ js)) []) h
+          ∙ turn (suc (suc (length js))) j js (omega arith)
 
       none : (js : List ℕ) → (byte_at b i == 44) ≡ false → tails_behind b (i ∷ js) ≡ []
       none [] h = refl

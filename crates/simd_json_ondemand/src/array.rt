@@ -29,7 +29,8 @@ pub struct Array<'d> {
 }
 
 impl<'d> Document<'d> {
-    ghost use Rattle.std.specs.Prelude.{◌≡◌, ◌<◌, ◌≤◌, [], ◌∷◌, length, drop, slice_index, MatchOption};
+    ghost use Rattle.std.specs.Prelude.{◌≡◌, ◌<◌, ◌≤◌, [], ◌∷◌, length, drop, slice_index};
+    ghost use Rattle.std.specs.Prelude.{MatchOption};
     ghost use Rattle.simd_json_ondemand.specs.Docs.{places, text};
     ghost use Rattle.simd_json_parts.specs.Bytes.{byte_at};
     ghost use Rattle.simd_json_ondemand.specs.Tails.{tails_at};

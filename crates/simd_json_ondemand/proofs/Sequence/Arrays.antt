@@ -41,7 +41,8 @@ module _ (b : List ℕ) where
       more : Reads Elements
       more = elements_by b (fault_at b Syntax 0) (value_at_first b)
 
-      rest : (d : Document) (mid : List Token) → value_at_first b (tokens_along b is) ≡ Ok (d, mid) → (r : Result (Elements × List Token) Error)
+      rest : (d : Document) (mid : List Token) → value_at_first b (tokens_along b is) ≡ Ok (d, mid)
+          → (r : Result (Elements × List Token) Error)
           → element_end b (fault_at b Syntax 0) mid more ≡ r → listed b (r >>= λ rest. Ok (element d rest.0, rest.1)) ≡ Some ds
           → AtElement is ds
       rest d mid v (Ok x) r e = record {
@@ -54,7 +55,8 @@ module _ (b : List ℕ) where
       rest d mid v (Err f) r e = absurd (cc)
 
       first : (v : Result (Document × List Token) Error) → value_at_first b (tokens_along b is) ≡ v
-          → listed b (v >>= λ first. element_end b (fault_at b Syntax 0) first.1 more >>= λ rest. Ok (element first.0 rest.0, rest.1)) ≡ Some ds
+          → listed b (v >>= λ first. element_end b (fault_at b Syntax 0) first.1 more >>= λ rest. Ok
+          (element first.0 rest.0, rest.1)) ≡ Some ds
           → AtElement is ds
       first (Ok (d, mid)) v e = rest d mid v (element_end b (fault_at b Syntax 0) mid more) refl e
       first (Err f) v e = absurd (cc)

@@ -75,12 +75,14 @@ module _ (b : List ℕ) where
   module _ (kind : ErrorType) (ms : List (List ℕ × Document)) (i : ℕ) where
     -- the value, and what follows
     at_value : (c : ℕ) (vs : List ℕ) (key : List ℕ) (end : ℕ) → byte_at b i ≡ 34 → string_at b i ≡ Ok (key, end) → byte_at b c ≡ 58
-        → paired b (value_at_first b (tokens_along b vs) >>= rest_after_value b (fault_at b Syntax 0) (value_at_first b) (takes b) more key) ≡ Some ms
+        → paired b (value_at_first b (tokens_along b vs) >>= rest_after_value b (fault_at b Syntax 0) (value_at_first b)
+        (takes b) more key) ≡ Some ms
         → AtMember (i ∷ c ∷ vs) ms
     unfolding more
     at_value c vs key end quote string colon e = first (value_at_first b (tokens_along b vs)) refl e
       where
-        rest : (d : Document) (mid : List Token) → value_at_first b (tokens_along b vs) ≡ Ok (d, mid) → (r : Result (Members × List Token) Error)
+        rest : (d : Document) (mid : List Token) → value_at_first b (tokens_along b vs) ≡ Ok (d, mid)
+            → (r : Result (Members × List Token) Error)
             → member_end b (fault_at b Syntax 0) mid more ≡ r → paired b (r >>= λ rest. Ok (member key d rest.0, rest.1)) ≡ Some ms
             → AtMember (i ∷ c ∷ vs) ms
         rest d mid v (Ok x) r e = let there : read_along b vs ≡ Some d = ap first_read v in
@@ -101,7 +103,8 @@ module _ (b : List ℕ) where
         rest d mid v (Err f) r e = absurd (cc)
 
         first : (v : Result (Document × List Token) Error) → value_at_first b (tokens_along b vs) ≡ v
-            → paired b (v >>= rest_after_value b (fault_at b Syntax 0) (value_at_first b) (takes b) more key) ≡ Some ms → AtMember (i ∷ c ∷ vs) ms
+            → paired b (v >>= rest_after_value b (fault_at b Syntax 0) (value_at_first b) (takes b) more key) ≡ Some ms
+            → AtMember (i ∷ c ∷ vs) ms
         first (Ok (d, mid)) v e = rest d mid v (member_end b (fault_at b Syntax 0) mid more) refl e
         first (Err f) v e = absurd (cc)
 
@@ -112,7 +115,8 @@ module _ (b : List ℕ) where
     at_colon [] key end quote string e = absurd (cc)
     at_colon (c ∷ vs) key end quote string e = go (form_at b c) refl e
       where
-        go : (form : Form) → form_at b c ≡ form → paired b (after_name b (fault_at b Syntax 0) (record { index = c; form = form_at b c }) form
+        go : (form : Form) → form_at b c ≡ form → paired b (after_name b (fault_at b Syntax 0)
+            (record { index = c; form = form_at b c }) form
             (cond (goes_on form) (tokens_along b vs) [])
             >>= after_colon b (fault_at b Syntax 0) (value_at_first b) (takes b) more key) ≡ Some ms → AtMember (i ∷ c ∷ vs) ms
         go name_separator f e = at_value c vs key end quote string (colon_here c f) e
@@ -198,7 +202,8 @@ module _ (b : List ℕ) where
   inside-member i is ms byte e = go (form_at b i) (forms.no_end_object b i byte) e
     where
       go : (form : Form) → is_end_object form ≡ false → paired b (first_member b (fault_at b Syntax 0) form (tokens_along b (i ∷ is))
-          (cond (goes_on form) (tokens_along b is) []) (members_by b (fault_at b Syntax 0) (value_at_first b) ExpectedObjectContent)) ≡ Some ms
+          (cond (goes_on form) (tokens_along b is) []) (members_by b (fault_at b Syntax 0) (value_at_first b) ExpectedObjectContent))
+          ≡ Some ms
           → AtMember (i ∷ is) ms
       go end_object f e = absurd (false≢true (sym f))
       go _ f e = at_member ExpectedObjectContent (i ∷ is) ms e

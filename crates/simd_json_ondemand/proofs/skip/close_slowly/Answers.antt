@@ -11,7 +11,8 @@ returns-then-depth-eq0-clause-closed c =
     let b = c.args.input.now in
     let is = c.args.indexes.now in
     let l = c.loop-end in
-    let step = step-closing b is c.requires.within c.type_inv.input l.end l.depth c.loop-end-test.true l.invariant.some c.if-byte-eq125.true in
+    let step = step-closing b is c.requires.within c.type_inv.input l.end l.depth c.loop-end-test.true l.invariant.some
+    c.if-byte-eq125.true in
     let none = ap (λ n. closed_at n (first_bytes b (drop (l.end + 1) is))) c.if-depth-eq0.true ∙ closed_at-none _ in
     omega (arith, l.invariant.counted)
 
@@ -37,7 +38,8 @@ loop-end-preserved c =
       | else-byte-eq125 w ↦
           let step = step-other b is c.requires.within c.type_inv.input l.end l.depth c.loop-end-test.true i.some w.if-byte-eq125.false in
           let depth : c.if-byte-eq125.depth + c.from-depth.result
-          ≡ l.depth + bool_byte (eqb (bit_or (get_or b (get_or is l.end 0) 0) 32) 123) = ap (λ n. n + c.from-depth.result) w.depth-is ∙ ap (λ n. l.depth + n) c.from-depth.ensures in
+          ≡ l.depth + bool_byte (eqb (bit_or (get_or b (get_or is l.end 0) 0) 32) 123) = ap (λ n. n + c.from-depth.result) w.depth-is
+          ∙ ap (λ n. l.depth + n) c.from-depth.ensures in
           let rest = ap (λ n. closed_at n (first_bytes b (drop (l.end + 1) is))) depth in
           let small = byte-le (eqb (bit_or (get_or b (get_or is l.end 0) 0) 32) 123) in
           record {

@@ -6,6 +6,5 @@ pub returns : goal.returns
 returns c =
     let b = c.args.self.input.now in
     let is = c.args.self.indexes.now in
-    let two = c.if-self-after-lt2.false in
     let l : c.args.after + 1 < length is = omega arith in
     (l, tails-comma b is c.args.after l (sym c.byte.ensures ∙ c.if-byte-ne44.false))

@@ -16,7 +16,8 @@ returns-then-first-ne91-clause-document c = λ d h.
       | then-first-ne91-via-then-first-ne91 w ↦
           ap (option_map all_some) (sym (no-array b is v.at v.inside d h (λ e. w.if-first-ne91.true (c.first.ensures ∙ e))))
       | then-first-ne91-via-else-first-ne91+then-at-document w ↦
-          absurd (no-end b is v.at v.inside d h (sym c.first.ensures ∙ w.if-first-ne91.false) (let e = w.if-at-document.true in omega arith))
+          absurd (no-end b is v.at v.inside d h (sym c.first.ensures ∙ w.if-first-ne91.false)
+          (let e = w.if-at-document.true in omega arith))
     ]
 
 pub returns-clause-document : goal.returns-clause-document
