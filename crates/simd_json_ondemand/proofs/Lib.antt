@@ -1,0 +1,14 @@
+pub mod Levels
+pub mod Scans
+pub mod Standing
+pub mod Agreement
+pub mod Quoted
+pub mod Skipping
+pub mod Enough
+pub mod Sequence
+pub mod Groups
+pub mod Counting
+pub mod LowestBits
+pub mod ClosingBits
+pub mod Tails
+pub mod ArrayViews

@@ -1,0 +1,52 @@
+-- What contracts see of a document and of a value.
+use Rattle.std.specs.Prelude.{◌≡◌, ◌<◌, ℕ, List, drop, slice_index, Option, option_and_then}
+use Rattle.simd_json_parts.specs.Accessors.{Accessor, as_t}
+use Rattle.simd_json_parts.specs.Bytes.{backslash, byte_at}
+use Rattle.simd_json_parts.specs.Document as parts
+use Rattle.simd_json_parts.specs.StringAt.{closing_quote}
+use Rattle.simd_json_parts.specs.Tokens.{Form, form_at}
+use Rattle.simd_json_parts.specs.declared.node.ValueType.{ValueType}
+use Rattle.simd_json_ondemand.specs.Viewed.{read_along}
+use Rattle.simd_json_ondemand.specs.Standing.{scalar_of, kind_of}
+use Rattle.simd_json_ondemand.specs.declared.value.Document.{Document}
+use Rattle.simd_json_ondemand.specs.declared.value.Value.{Value}
+
+-- the bytes of the input, and its structural indexes
+abbrev pub text : Document → List ℕ
+text d = d.input.now
+
+abbrev pub places : Document → List ℕ
+places d = d.indexes.now
+
+-- the document of the grammar that begins at the first of these, if one does
+abbrev pub root : Document → Option parts.Document
+root d = read_along (text d) (places d)
+
+-- the document of the grammar that begins at the value, if one does
+abbrev pub doc : Value → Option parts.Document
+doc v = read_along (text v.document) (drop v.at (places v.document))
+
+-- the byte index at which the value begins
+abbrev pub index_of : Value → ℕ
+index_of v = slice_index (places v.document) v.at
+
+-- the token there
+abbrev pub form : Value → Form
+form v = form_at (text v.document) (index_of v)
+
+-- the string or scalar that stands there, if one does
+abbrev pub standing : Value → Option parts.Document
+standing v = scalar_of (form v)
+
+-- what an accessor returns of it
+abbrev pub as_standing : {A : Type 0} → Accessor A → Value → Option A
+as_standing t v = option_and_then (as_t t) (standing v)
+
+-- the kind of the value that begins there, by its token
+abbrev pub kind : Value → Option ValueType
+kind v = kind_of (form v)
+
+-- the string that stands there has an escape: a backslash before its closing quote
+abbrev pub HasEscape : Value → Type 0
+HasEscape v = let b = text v.document in
+    (j : ℕ) × (index_of v < j) × (j < closing_quote b (index_of v)) × (byte_at b j ≡ backslash)

@@ -1,0 +1,13 @@
+-- What values are: the document that begins at a structural index, and the scalar that stands there.
+pub mod Viewed
+pub mod Scanned
+pub mod Standing
+pub mod Docs
+pub mod Numerals
+-- Where values end by brackets, what is left of arrays and objects, and where a cursor goes.
+pub mod Closing
+pub mod Remaining
+pub mod Tails
+pub mod Iterated
+-- What contracts see of an index: what it lists, and for how many bytes it has capacity.
+pub mod Capacities

@@ -1,0 +1,35 @@
+-- What stands at a structural index, whether or not the bytes are a document: a string or a scalar, whole and with
+-- what must follow it, or the kind of a value by its token.
+use Rattle.std.specs.Prelude.{◌≡◌, ℕ, Bool, true, false, Option, Some, None, Ok, Err}
+use Rattle.simd_json_parts.specs.Document.{Document, integer, string}
+use Rattle.simd_json_parts.specs.Integers.{integer_node}
+use Rattle.simd_json_parts.specs.declared.node.StaticNode.{StaticNode}
+use Rattle.simd_json_parts.specs.Tokens.{Form, begin_array, begin_object, string_token, scalar}
+use Rattle.simd_json_parts.specs.Views.{value_type}
+use Rattle.simd_json_parts.specs.declared.node.ValueType.{ValueType}
+use Rattle.simd_json_parts.specs.declared.node.ValueType.TheVariants as kinds
+
+abbrev pub scalar_of : Form → Option Document
+scalar_of (string_token (Ok s)) = Some (string s.0)
+scalar_of (scalar (Ok s)) = Some s.0
+scalar_of _ = None
+
+-- of a string its kind alone, even if it has a bad escape
+abbrev pub kind_of : Form → Option ValueType
+kind_of begin_array = Some kinds.Array
+kind_of begin_object = Some kinds.Object
+kind_of (string_token read) = Some kinds.String
+kind_of (scalar (Ok s)) = Some (value_type s.0)
+kind_of _ = None
+
+abbrev pub opens_array : Form → Bool
+opens_array begin_array = true
+opens_array _ = false
+
+abbrev pub opens_object : Form → Bool
+opens_object begin_object = true
+opens_object _ = false
+
+-- the node of the integer that stands there
+abbrev pub IsInteger : StaticNode → Option Document → Type 0
+IsInteger node o = (minus : Bool) × (n : ℕ) × (o ≡ Some (integer minus n)) × (node ≡ integer_node minus n)

@@ -1,0 +1,280 @@
+//! The typed accessors: the value as a Rust type, where it is a string or a scalar.
+//!
+//! Each is stated of what stands at the value's structural index, so it holds of any input; a law
+//! says that where a document begins there, it is what the same accessor of a tape returns.
+ghost use Rattle.std.specs.Prelude.{◌≡◌, ◌==◌, ◌&&◌, ◌||◌, ℕ, List, length, drop, nat_eq};
+ghost use Rattle.std.specs.List.{starts_with};
+ghost use Rattle.simd_json_parts.specs.Bytes.{byte_at, is_terminator, minus_sign};
+ghost use Rattle.std.specs.Char.{is_ascii_digit};
+ghost use Rattle.simd_json_scalars.specs.NumeralRead.{IsNumeralAt};
+
+use crate::value::Value;
+use simd_json_parts::charutils::{byte_or_space, is_structural_or_whitespace};
+use simd_json_parts::node::{StaticNode, ValueType};
+use simd_json_scalars::numberparse::{
+    Numeral, integer_node, is_integer, parse_long, parse_numeral, parse_short,
+};
+
+impl<'d> Value<'d> {
+    ghost use Rattle.std.specs.Prelude.{◌≡◌, ◌==◌, None, false};
+    ghost use Rattle.std.specs.Prelude.{option_and_then, option_map, MatchOption};
+    ghost use Rattle.simd_json_ondemand.specs.Docs.{text, index_of, form, kind};
+    ghost use Rattle.simd_json_ondemand.specs.Docs.{standing, as_standing};
+    ghost use Rattle.simd_json_ondemand.specs.Numerals.{IsNumeral, IsNoNumber};
+    ghost use Rattle.simd_json_ondemand.specs.Standing.{IsInteger};
+    ghost use Rattle.simd_json_parts.specs.Accessors as accessors;
+    ghost use Rattle.simd_json_parts.specs.NumberAt.{number_at};
+    ghost use Rattle.simd_json_parts.specs.Tokens.{scalar};
+    ghost use Rattle.simd_json_parts.specs.Views.{as_integer, as_decimal, value_type};
+    ghost use Rattle.simd_json_parts.specs.Bytes.{byte_at, quote};
+
+    /// Returns `Some` if the value is null, else `None`.
+    #[inline(always)]
+    pub fn as_null(self) -> Option<()>
+        ensures { result ≡ as_standing accessors.null self.entry }
+    {
+        if spells(self.bytes(), b"null") {
+            Some(())
+        } else {
+            None
+        }
+    }
+
+    /// Returns the truth value, or `None`.
+    #[inline(always)]
+    pub fn as_bool(self) -> Option<bool>
+        ensures { result ≡ as_standing accessors.bool self.entry }
+    {
+        let bytes = self.bytes();
+        if spells(bytes, b"true") {
+            Some(true)
+        } else if spells(bytes, b"false") {
+            Some(false)
+        } else {
+            None
+        }
+    }
+
+    // Reads the number that stands here, if one begins here.
+    #[inline(always)]
+    fn numeral(self) -> Option<Numeral>
+        ensures { MatchOption result (IsNoNumber (standing self.entry))
+            (IsNumeral (text self.entry.document) (index_of self.entry)) }
+    {
+        if begins_number(self.first()) {
+            Some(numeral(self.bytes()))
+        } else {
+            None
+        }
+    }
+
+    // The integer, as a node.
+    #[inline(always)]
+    fn integer(self) -> Option<StaticNode>
+        ensures { MatchOption result (option_and_then as_integer (standing self.entry) ≡ None)
+            (λ node. IsInteger node (standing self.entry)) }
+    {
+        match self.numeral() {
+            Some(Numeral::Integer(magnitude)) => {
+                Some(integer_node(self.first() == b'-', magnitude))
+            }
+            Some(Numeral::Long(len)) => match parse_long(self.bytes(), len) {
+                Ok(node) => Some(node),
+                Err(_) => None,
+            },
+            Some(Numeral::Decimal(_)) | Some(Numeral::Invalid(_)) | None => None,
+        }
+    }
+
+    /// Returns the integer, if it fits `i8`, else `None`.
+    #[inline(always)]
+    pub fn as_i8(self) -> Option<i8>
+        ensures { result ≡ as_standing accessors.i8 self.entry }
+    {
+        i8::try_from(self.as_i64()?).ok()
+    }
+
+    /// Returns the integer, if it fits `i16`, else `None`.
+    #[inline(always)]
+    pub fn as_i16(self) -> Option<i16>
+        ensures { result ≡ as_standing accessors.i16 self.entry }
+    {
+        i16::try_from(self.as_i64()?).ok()
+    }
+
+    /// Returns the integer, if it fits `i32`, else `None`.
+    #[inline(always)]
+    pub fn as_i32(self) -> Option<i32>
+        ensures { result ≡ as_standing accessors.i32 self.entry }
+    {
+        i32::try_from(self.as_i64()?).ok()
+    }
+
+    /// Returns the integer, if it fits `i64`, else `None`.
+    #[inline(always)]
+    pub fn as_i64(self) -> Option<i64>
+        ensures { result ≡ as_standing accessors.i64 self.entry }
+    {
+        match self.integer()? {
+            StaticNode::I64(number) => Some(number),
+            StaticNode::U64(number) => i64::try_from(number).ok(),
+            _ => None,
+        }
+    }
+
+    /// Returns the integer, if it fits `i128`, else `None`.
+    #[inline(always)]
+    pub fn as_i128(self) -> Option<i128>
+        ensures { result ≡ as_standing accessors.i128 self.entry }
+    {
+        match self.integer()? {
+            StaticNode::I64(number) => Some(i128::from(number)),
+            StaticNode::U64(number) => Some(i128::from(number)),
+            StaticNode::I128(number) => Some(number),
+            StaticNode::U128(number) => i128::try_from(number).ok(),
+            _ => None,
+        }
+    }
+
+    /// Returns the integer, if it fits `u8`, else `None`.
+    #[inline(always)]
+    pub fn as_u8(self) -> Option<u8>
+        ensures { result ≡ as_standing accessors.u8 self.entry }
+    {
+        u8::try_from(self.as_u64()?).ok()
+    }
+
+    /// Returns the integer, if it fits `u16`, else `None`.
+    #[inline(always)]
+    pub fn as_u16(self) -> Option<u16>
+        ensures { result ≡ as_standing accessors.u16 self.entry }
+    {
+        u16::try_from(self.as_u64()?).ok()
+    }
+
+    /// Returns the integer, if it fits `u32`, else `None`.
+    #[inline(always)]
+    pub fn as_u32(self) -> Option<u32>
+        ensures { result ≡ as_standing accessors.u32 self.entry }
+    {
+        u32::try_from(self.as_u64()?).ok()
+    }
+
+    /// Returns the integer, if it fits `u64`, else `None`.
+    #[inline(always)]
+    pub fn as_u64(self) -> Option<u64>
+        ensures { result ≡ as_standing accessors.u64 self.entry }
+    {
+        match self.integer()? {
+            StaticNode::I64(number) => u64::try_from(number).ok(),
+            StaticNode::U64(number) => Some(number),
+            _ => None,
+        }
+    }
+
+    /// Returns the integer, if it is not negative, else `None`.
+    #[inline(always)]
+    pub fn as_u128(self) -> Option<u128>
+        ensures { result ≡ as_standing accessors.u128 self.entry }
+    {
+        match self.integer()? {
+            StaticNode::I64(number) => u128::try_from(number).ok(),
+            StaticNode::U64(number) => Some(u128::from(number)),
+            StaticNode::I128(number) => u128::try_from(number).ok(),
+            StaticNode::U128(number) => Some(number),
+            _ => None,
+        }
+    }
+
+    /// Returns the integer, if it fits `usize`, else `None`.
+    #[inline(always)]
+    pub fn as_usize(self) -> Option<usize>
+        ensures { result ≡ as_standing accessors.usize self.entry }
+    {
+        usize::try_from(self.as_u64()?).ok()
+    }
+
+    /// Returns the literal of a number with a fraction or an exponent, as it is written, or `None`.
+    #[inline(always)]
+    pub fn as_decimal(self) -> Option<&'d str>
+        ensures { option_map (λ s. s.now) result ≡ as_standing accessors.decimal self.entry }
+    {
+        match self.numeral() {
+            Some(Numeral::Decimal(len)) => {
+                let literal = &self.bytes()[..len];
+                Some(unsafe { str::from_utf8_unchecked(literal) })
+            }
+            Some(Numeral::Long(_)) => None,
+            Some(Numeral::Integer(_)) => None,
+            Some(Numeral::Invalid(_)) => None,
+            None => None,
+        }
+    }
+
+    /// Returns the kind of the value, or `None` where no value begins: a number, `true`, `false` or
+    /// `null` is read for it, a string, an array or an object is not.
+    pub fn value_type(self) -> Option<ValueType>
+        ensures { result ≡ kind self.entry }
+    {
+        let first = self.first();
+        if first == b'[' {
+            return Some(ValueType::Array);
+        }
+        if first == b'{' {
+            return Some(ValueType::Object);
+        }
+        if first == b'"' {
+            return Some(ValueType::String);
+        }
+        self.scalar_type()
+    }
+
+    // The kind of what stands here, which is no string.
+    #[inline(always)]
+    fn scalar_type(self) -> Option<ValueType>
+        requires { (byte_at (text self.document) (index_of self) == quote) ≡ false }
+        ensures { result ≡ option_map value_type (standing self.entry) }
+    {
+        if self.as_null().is_some() {
+            return Some(ValueType::Null);
+        }
+        if self.as_bool().is_some() {
+            return Some(ValueType::Bool);
+        }
+        if self.as_decimal().is_some() {
+            return Some(ValueType::Decimal);
+        }
+        match self.integer() {
+            Some(node) => Some(node.value_type()),
+            None => None,
+        }
+    }
+}
+
+// Whether a number may begin with the byte.
+#[inline(always)]
+fn begins_number(c: u8) -> bool
+    ensures { result ≡ ((c == minus_sign) || is_ascii_digit c) }
+{
+    c == b'-' || is_integer(c)
+}
+
+// Reads the number at the front.
+#[inline(always)]
+fn numeral(bytes: &[u8]) -> Numeral
+    ensures { (b : List ℕ) (i : ℕ) → drop i b ≡ bytes.now → IsNumeralAt b i result }
+{
+    match parse_short(bytes) {
+        Some(numeral) => numeral,
+        None => parse_numeral(bytes),
+    }
+}
+
+// Whether the letters are at the front, and what may follow a scalar after them.
+#[inline(always)]
+fn spells(bytes: &[u8], letters: &[u8]) -> bool
+    ensures { result ≡ (starts_with nat_eq bytes.now letters.now
+        && is_terminator (byte_at bytes.now (length letters.now))) }
+{
+    bytes.starts_with(letters) && is_structural_or_whitespace(byte_or_space(bytes, letters.len()))
+}

@@ -1,0 +1,159 @@
+//! An array of a document: a cursor over its values.
+ghost use Rattle.std.specs.Prelude.{◌<◌, length};
+
+use crate::skip::skip;
+use crate::value::{Document, Value};
+use std::iter::FusedIterator;
+
+/// Where a cursor is among the structural indexes.
+#[derive(Clone, Copy, Debug, PartialEq, Eq)]
+enum Position {
+    // at the first token inside the array
+    First,
+    // at the first token of a value that has been returned
+    AtValue,
+    // at the token after such a value
+    AfterValue,
+}
+
+/// The values of an array that are left: an iterator, which can be copied. A value is skipped when
+/// the one after it is asked for, in time linear in the number of its tokens.
+///
+/// Over bytes that are no document the values end where no comma follows.
+#[derive(Clone, Copy, Debug)]
+pub struct Array<'d> {
+    document: Document<'d>,
+    at: usize,
+    position: Position,
+    ghost inside: { at < length document.indexes.now },
+}
+
+impl<'d> Document<'d> {
+    ghost use Rattle.std.specs.Prelude.{◌≡◌, ◌<◌, ◌≤◌, [], ◌∷◌, length, drop, slice_index};
+    ghost use Rattle.std.specs.Prelude.{MatchOption};
+    ghost use Rattle.simd_json_ondemand.specs.Docs.{places, text};
+    ghost use Rattle.simd_json_parts.specs.Bytes.{byte_at};
+    ghost use Rattle.simd_json_ondemand.specs.Tails.{tails_at};
+    ghost use Rattle.simd_json_ondemand.specs.declared.array.Position.TheVariants.{First, AtValue};
+    ghost use Rattle.simd_json_ondemand.specs.declared.array.Position.TheVariants.{AfterValue};
+
+    // The first byte of the token with this structural index.
+    #[inline(always)]
+    #[tactic(auto, using(crate::proofs::Scans::within))]
+    fn byte(self, at: usize) -> u8
+        requires { at < length (places self) }
+        ensures { result ≡ byte_at (text self.entry) (slice_index (places self.entry) at) }
+    {
+        self.input[self.indexes[at] as usize]
+    }
+
+    // The number of the structural index at which the first value inside an array begins.
+    #[inline(always)]
+    fn first_value(self, at: usize) -> Option<usize>
+        requires { at < length (places self) }
+        ensures { MatchOption result (tails_at self.entry at First ≡ [])
+            (λ next. (next < length (places self.entry))
+            × (tails_at self.entry at First
+            ≡ drop next (places self.entry) ∷ tails_at self.entry next AtValue)) }
+    {
+        if self.byte(at) == b']' {
+            return None;
+        }
+        Some(at)
+    }
+
+    // The same of the value after the one whose last token is before this.
+    #[inline(always)]
+    fn value_behind(self, after: usize) -> Option<usize>
+        requires { after ≤ length (places self) }
+        ensures { MatchOption result (tails_at self.entry after AfterValue ≡ [])
+            (λ next. (next < length (places self.entry))
+            × (tails_at self.entry after AfterValue
+            ≡ drop next (places self.entry) ∷ tails_at self.entry next AtValue)) }
+    {
+        if self.indexes.len() - after < 2 || self.byte(after) != b',' {
+            return None;
+        }
+        Some(after + 1)
+    }
+
+    // The same of the value that a cursor comes to next.
+    #[inline(always)]
+    #[tactic(auto, using(crate::proofs::Scans::within))]
+    fn next_value(self, at: usize, position: Position) -> Option<usize>
+        requires { at < length (places self) }
+        ensures { MatchOption result (tails_at self.entry at position ≡ [])
+            (λ next. (next < length (places self.entry))
+            × (tails_at self.entry at position
+            ≡ drop next (places self.entry) ∷ tails_at self.entry next AtValue)) }
+    {
+        match position {
+            Position::First => self.first_value(at),
+            Position::AtValue => self.value_behind(skip(self.input, self.indexes, at)),
+            Position::AfterValue => self.value_behind(at),
+        }
+    }
+}
+
+impl<'d> Iterator for Array<'d> {
+    type Item = Value<'d>;
+
+    ghost use Rattle.std.specs.Iterator.{YieldsFirstBy, item_count};
+    ghost use Rattle.simd_json_ondemand.specs.Docs.{doc};
+    ghost use Rattle.simd_json_ondemand.specs.Iterated.{elements_left};
+
+    ghost next_gives = { YieldsFirstBy doc elements_left };
+
+    ghost remaining = { item_count elements_left };
+
+    #[inline(always)]
+    fn next(&mut self) -> Option<Value<'d>> {
+        let document = self.document;
+        let at = document.next_value(self.at, self.position)?;
+        *self = Array {
+            document,
+            at,
+            position: Position::AtValue,
+        };
+        Some(Value { document, at })
+    }
+}
+
+impl<'d> FusedIterator for Array<'d> {}
+
+impl<'d> Value<'d> {
+    ghost use Rattle.std.specs.Prelude.{◌≡◌, true, Some, IfSome, option_map};
+    ghost use Rattle.simd_json_ondemand.specs.Docs.{doc, form};
+    ghost use Rattle.simd_json_ondemand.specs.Iterated.{elements_left, all_some};
+    ghost use Rattle.simd_json_ondemand.specs.Standing.{opens_array};
+    ghost use Rattle.simd_json_parts.specs.Document as parts;
+    ghost use Rattle.simd_json_parts.specs.Views.{as_array, get_idx};
+
+    /// Returns the values of the array, or `None` if the value is no array.
+    #[inline(always)]
+    pub fn as_array(self) -> Option<Array<'d>>
+        ensures document { (d : parts.Document) → doc self.entry ≡ Some d
+            → option_map elements_left result ≡ option_map all_some (as_array d) }
+        ensures any { IfSome result (λ array. opens_array (form self.entry) ≡ true) }
+    {
+        let document = self.document;
+        let at = self.at + 1;
+        if self.first() != b'[' || at == document.indexes.len() {
+            return None;
+        }
+        Some(Array {
+            document,
+            at,
+            position: Position::First,
+        })
+    }
+
+    /// Returns the value at an index of the array, or `None` if the array has no more than `index`
+    /// values or the value is no array. The values before it are skipped.
+    pub fn get_idx(self, index: usize) -> Option<Value<'d>>
+        ensures document { (d : parts.Document) → doc self.entry ≡ Some d → option_map doc result
+            ≡ option_map (λ e. Some e) (get_idx index d) }
+    {
+        self.as_array()?.nth(index)
+    }
+}

@@ -1,0 +1,179 @@
+//! The structural indexes of one input after another.
+ghost use Rattle.std.specs.Prelude.{◌≡◌, ◌≤◌, ◌<◌, ℕ, length, take, max, Ok, Some, None};
+ghost use Rattle.std.specs.Prelude.{[], IfOk, OnOk, IfErr, OnErr};
+ghost use Rattle.simd_json_ondemand.specs.Capacities.{capacity, capped, capacities_of};
+ghost use Rattle.simd_json_ondemand.specs.Capacities.{KeepsCapacities, IsOutOfMemory, IsRefused};
+ghost use Rattle.simd_json_parts.specs.Answer.{answer};
+ghost use Rattle.simd_json_parts.specs.Document as parts;
+ghost use Rattle.simd_json_parts.specs.InputFaults.{input_fault};
+ghost use Rattle.simd_json_parts.specs.Positions.{positions};
+ghost use Rattle.simd_json_stages.specs.EscapeBlocks.{blocks_in};
+
+use crate::value::Document;
+use simd_json_parts::error::Result;
+use simd_json_stages::stage1::{BLOCK_LEN, BlockStage1Parse, Stage1Parse};
+use std::alloc::{Allocator, Global};
+use std::marker::Model;
+
+/// The memory for the structural indexes of one input after another: four bytes for each, and as
+/// many for each block of 64 bytes that holds a backslash.
+///
+/// It grows by what an input needs, and never shrinks. What it held before does not change a
+/// result. See [`find`](Index::find).
+#[derive(Drop)]
+pub struct Index<A: Allocator = Global> {
+    // structural indexes (byte indexes into the input), and entries not in use
+    indexes: Vec<u32, A>,
+    // how many of these are in use, from the front
+    used: usize,
+    // numbers of blocks of 64 bytes that hold a backslash, and entries not in use
+    escape_blocks: Vec<u32, A>,
+}
+
+impl<A: Allocator> Model for Index<A> {
+    ghost use Rattle.std.specs.Prelude.{◌≤◌, length};
+    ghost use Rattle.simd_json_ondemand.specs.Capacities.{Capacities, capacities_of};
+
+    ghost Value = { Capacities };
+
+    ghost view = { λ i. capacities_of i.indexes.items i.used i.escape_blocks.items };
+
+    ghost invariant = { λ i. i.used ≤ length i.indexes.items };
+}
+
+impl<A: Allocator + Copy> Index<A> {
+    /// Returns an index with capacity for inputs of up to `input_len` bytes (more than
+    /// 4,294,967,295 count as that number, the greatest size of an input). `input_len` is a hint,
+    /// and may be 0: [`find`](Index::find) allocates what an input needs beyond it.
+    ///
+    /// Returns `OutOfMemory` if an allocation fails.
+    pub fn new(a: A, input_len: usize) -> Result<Index<A>>
+        ensures capacity { IfOk result (λ index. (index.indexes ≡ capped input_len)
+            × (index.blocks ≡ blocks_in (capped input_len))) }
+        ensures fault { IfErr result (λ e. IsOutOfMemory e × (0 < input_len)) }
+    {
+        let mut index = Index {
+            indexes: Vec::new(a),
+            used: 0,
+            escape_blocks: Vec::new(a),
+        };
+        index.reserve(input_len)?;
+        Ok(index)
+    }
+}
+
+impl<A: Allocator> Index<A> {
+    ghost use Rattle.simd_json_ondemand.specs.Docs.{text, places, root};
+
+    /// Reserves capacity for inputs of up to `input_len` bytes (more than 4,294,967,295 count as
+    /// that number): after it [`find`](Index::find) never returns `OutOfMemory` for such an input,
+    /// however many follow.
+    ///
+    /// What is listed stays. Returns `OutOfMemory` if an allocation fails; what has been reserved by
+    /// then stays.
+    pub fn reserve(&mut self, input_len: usize) -> Result<()>
+        ensures reserved { OnOk result (capped input_len ≤ capacity self.new) }
+        ensures exact { OnOk result ((self.new.indexes ≡ max self.old.indexes (capped input_len))
+            × (self.new.blocks ≡ max self.old.blocks (blocks_in (capped input_len)))) }
+        ensures kept { KeepsCapacities self.old self.new }
+        ensures same { self.new.listed ≡ self.old.listed }
+        ensures fault { IfErr result (λ e. IsOutOfMemory e
+            × (capacity self.old < capped input_len)) }
+    {
+        let len = input_len.min(u32::MAX as usize);
+        lengthen(&mut self.indexes, len)?;
+        lengthen(&mut self.escape_blocks, len.div_ceil(BLOCK_LEN))
+    }
+
+    /// Finds the structural indexes of an input: the byte index of the opening quote of each string
+    /// and, outside strings, of each structural character and of the first byte of each other
+    /// token. The input is neither copied nor written.
+    ///
+    /// Returns the error of the whole input, as a parse does, at index 0 and without a character:
+    ///
+    /// - `InputTooLarge`: it has more than 4,294,967,295 bytes
+    /// - `InvalidUtf8`: it is not UTF-8 (RFC 3629)
+    /// - `Syntax`: a string is left open or holds a byte below 0x20 (RFC 8259, section 7)
+    /// - `Eof`: there is nothing but whitespace
+    ///
+    /// Returns `OutOfMemory` if an allocation fails: only if size and encoding are right, and only
+    /// if there is no capacity for as many bytes as the input has.
+    ///
+    /// That each token stands where the grammar expects one is not tested here, but where values
+    /// are read. If the input is a document that a parse accepts, at any depth limit, the root is
+    /// that document.
+    ///
+    /// ```
+    /// use simd_json_ondemand::{Index, Result};
+    ///
+    /// fn sum(rt: &impl AllocGlobal, numbers: &[&[u8]]) -> Result<u64> {
+    ///     let mut index = Index::new(rt.alloc(), 64)?;
+    ///     let mut sum = 0u64;
+    ///     for number in numbers {
+    ///         let root = index.find(number)?.as_value();
+    ///         sum = sum.saturating_add(root.as_u64().unwrap_or(0));
+    ///     }
+    ///     Ok(sum)
+    /// }
+    /// ```
+    pub fn find<'d>(&'d mut self, input: &'d [u8]) -> Result<Document<'d>>
+        ensures input { IfOk result (λ document. text document ≡ input.now) }
+        ensures indexes { IfOk result (λ document. places document ≡ positions input.now) }
+        ensures whole { OnOk result (input_fault input.now ≡ None) }
+        ensures document { IfOk result (λ document. (d : parts.Document) (limit : ℕ)
+            → answer input.now limit ≡ Ok d → root document ≡ Some d) }
+        ensures fault { IfErr result (λ e. IsRefused input.now self.old e) }
+    {
+        self.fill(input)?;
+        Ok(self.document(input))
+    }
+
+    /// Lists the structural indexes of an input, with the errors of [`find`](Index::find), of which
+    /// it is the first half: while `find` lends the index to the document, this one says that the
+    /// index keeps its capacity. After an error nothing is listed.
+    ///
+    /// So a caller that has reserved memory once can prove that no later call lacks it.
+    pub fn fill(&mut self, input: &[u8]) -> Result<()>
+        ensures indexes { OnOk result (self.new.listed ≡ positions input.now) }
+        ensures whole { OnOk result (input_fault input.now ≡ None) }
+        ensures empty { OnErr result (self.new.listed ≡ []) }
+        ensures kept { KeepsCapacities self.old self.new }
+        ensures fault { IfErr result (λ e. IsRefused input.now self.old e) }
+    {
+        self.used = 0;
+        let found = BlockStage1Parse::find_structural_bits(
+            input,
+            &mut self.indexes,
+            &mut self.escape_blocks,
+        )?;
+        self.used = found.positions;
+        Ok(())
+    }
+
+    /// Returns the document of the input whose structural indexes are listed: that of the last
+    /// [`fill`](Index::fill), if it returned no error.
+    pub fn document<'d>(&'d self, input: &'d [u8]) -> Document<'d>
+        requires indexes { self.now.listed ≡ positions input.now }
+        requires whole { input_fault input.now ≡ None }
+        ensures input { text result ≡ input.now }
+        ensures indexes { places result ≡ positions input.now }
+        ensures document { (d : parts.Document) (limit : ℕ) → answer input.now limit ≡ Ok d
+            → root result ≡ Some d }
+    {
+        Document::new(input, &self.indexes[..self.used])
+    }
+}
+
+// Makes the list at least `len` long: lists are kept filled, so that a store into them needs no
+// memory. What it held stays. If an allocation fails the list is unchanged.
+fn lengthen<A: Allocator>(list: &mut Vec<u32, A>, len: usize) -> Result<()>
+    ensures longer { OnOk result (length list.new.items ≡ max (length list.old.items) len) }
+    ensures kept { take (length list.old.items) list.new.items ≡ list.old.items }
+    ensures no_shorter { length list.old.items ≤ length list.new.items }
+    ensures fault { IfErr result (λ e. IsOutOfMemory e × (length list.old.items < len)) }
+{
+    if list.len() < len {
+        list.resize(len, 0)?;
+    }
+    Ok(())
+}

@@ -1,0 +1,55 @@
+//! JSON values (RFC 8259) read on demand: along the structural indexes of an input, without a tape.
+//!
+//! [`Index::find`] finds the structural indexes, as the first stage of a parse does, and returns a
+//! [`Document`]. Its values are read where they are asked for, from the input, which is shared and
+//! never written. What is not asked for is not read, and a value takes no memory but its own four
+//! words.
+//!
+//! # What is checked
+//!
+//! Of the whole input `find` checks size, encoding, quotes and control bytes, with the errors of a
+//! parse. All else is checked only where it is visited, as in simdjson's On-Demand:
+//!
+//! - If the input is a document that a parse accepts, each call returns what the same call of
+//!   `simd_json`'s tape returns.
+//! - If it is not, a call may return a value all the same: `1 2` has the root 1. A string or a scalar
+//!   that is returned is always the whole literal that stands at that place, with what must follow a
+//!   scalar there. `None` does not tell a value of another kind from bytes that are no value.
+//!
+//! So an input that may be no document, where that matters, is to be parsed by `simd_json`.
+//!
+//! # Example
+//!
+//! ```
+//! use simd_json_ondemand::{Index, Result};
+//!
+//! // The name in a JSON string, decoded where it has an escape.
+//! fn name_len(rt: &impl AllocGlobal, input: &[u8]) -> Result<Option<usize>> {
+//!     let mut index = Index::new(rt.alloc(), input.len())?;
+//!     let mut buffer = Vec::new(rt.alloc());
+//!     let root = index.find(input)?.as_value();
+//!     match root.decode(&mut buffer)? {
+//!         Some(name) => Ok(Some(name.len())),
+//!         None => Ok(None),
+//!     }
+//! }
+//! ```
+//!
+//! - [`views`]: laws of what calls return, each the contract of a function with an empty body.
+//! - [`laws`]: laws of the definitions, in the same form.
+#![tactic(auto)]
+
+mod accessors;
+mod array;
+mod index;
+pub mod laws;
+mod skip;
+mod strings;
+mod value;
+pub mod views;
+
+pub use array::Array;
+pub use index::Index;
+pub use simd_json_parts::error::{Error, ErrorType, Result};
+pub use simd_json_parts::node::ValueType;
+pub use value::{Document, Value};

@@ -1,0 +1,101 @@
+//! Strings: borrowed from the input where they have no escape, else decoded into a buffer.
+ghost use Rattle.std.specs.Prelude.{◌≡◌, ◌≤◌, ◌<◌, ◌+◌, length, drop, OnOk, IfErr};
+ghost use Rattle.std.specs.List.{prefix_len};
+ghost use Rattle.simd_json_ondemand.specs.Capacities.{IsOutOfMemory};
+ghost use Rattle.simd_json_parts.specs.Bytes.{byte_at, quote};
+ghost use Rattle.simd_json_parts.specs.StringAt.{closing_quote};
+ghost use Rattle.simd_json_scalars.specs.StringContent.{is_plain};
+
+use crate::value::Value;
+use memchr::memchr2;
+use simd_json_parts::error::Result;
+use simd_json_scalars::stringparse::parse_str;
+use std::alloc::Allocator;
+
+impl<'d> Value<'d> {
+    ghost use Rattle.std.specs.Prelude.{◌≡◌, ◌⊎◌, Some, None, MatchOption, IfOk, IfErr, option_map};
+    ghost use Rattle.simd_json_ondemand.specs.Docs.{as_standing, HasEscape};
+    ghost use Rattle.simd_json_parts.specs.Accessors as accessors;
+
+    /// Returns the string, if it has no escape, else `None`. [`decode`](Value::decode) returns any
+    /// string.
+    #[inline(always)]
+    pub fn as_str(self) -> Option<&'d str>
+        ensures { MatchOption result
+            ((as_standing accessors.str self.entry ≡ None) ⊎ HasEscape self.entry)
+            (λ s. as_standing accessors.str self.entry ≡ Some s.now) }
+    {
+        if self.first() != b'"' {
+            return None;
+        }
+        let bytes = self.bytes();
+        let end = plain_end(bytes, 1);
+        if bytes[end] != b'"' {
+            return None;
+        }
+        Some(unsafe { str::from_utf8_unchecked(&bytes[1..end]) })
+    }
+
+    /// Returns the string, or `None`. One that has an escape is decoded into the buffer, whose
+    /// contents are overwritten; another is borrowed from the input.
+    ///
+    /// Returns `OutOfMemory` if the buffer cannot grow.
+    pub fn decode<'s, A: Allocator>(self, buffer: &'s mut Vec<u8, A>) -> Result<Option<&'s str>>
+    where
+        'd: 's,
+        ensures string { IfOk result (λ string.
+            option_map (λ s. s.now) string ≡ as_standing accessors.str self.entry) }
+        ensures fault { IfErr result IsOutOfMemory }
+    {
+        if self.first() != b'"' {
+            return Ok(None);
+        }
+        if let Some(string) = self.as_str() {
+            return Ok(Some(string));
+        }
+        let bytes = self.bytes();
+        let end = closing(bytes);
+        copy(&bytes[..end + 1], buffer)?;
+        match parse_str(buffer.as_mut_slice()) {
+            Ok(parsed) => Ok(Some(parsed.string)),
+            Err(_) => Ok(None),
+        }
+    }
+}
+
+// The index of the next quote or backslash, or the length.
+#[inline(always)]
+fn plain_end(bytes: &[u8], from: usize) -> usize
+    requires { from ≤ length bytes.now }
+    ensures value { result ≡ from + prefix_len is_plain (drop from bytes.now) }
+    ensures bound { result ≤ length bytes.now }
+{
+    match memchr2(b'"', b'\\', &bytes[from..]) {
+        Some(at) => from + at,
+        None => bytes.len(),
+    }
+}
+
+// The index of the closing quote of the string whose opening quote is the first byte.
+fn closing(bytes: &[u8]) -> usize
+    requires opening { byte_at bytes.now 0 ≡ quote }
+    requires closing { closing_quote bytes.now 0 < length bytes.now }
+    ensures value { result ≡ closing_quote bytes.now 0 }
+    ensures quote { byte_at bytes.now result ≡ quote }
+{
+    let mut end = plain_end(bytes, 1);
+    while bytes[end] == b'\\' {
+        end = plain_end(bytes, end + 2);
+    }
+    end
+}
+
+// Makes the buffer hold these bytes alone.
+fn copy<A: Allocator>(bytes: &[u8], buffer: &mut Vec<u8, A>) -> Result<()>
+    ensures copied { OnOk result (buffer.new.items ≡ bytes.now) }
+    ensures fault { IfErr result IsOutOfMemory }
+{
+    buffer.clear();
+    buffer.extend_from_slice(bytes)?;
+    Ok(())
+}

@@ -1,0 +1,94 @@
+//! A document, and a value in it: places among the structural indexes.
+ghost use Rattle.std.specs.Prelude.{◌≡◌, ◌<◌, length};
+ghost use Rattle.simd_json_ondemand.specs.Scanned.{IsScanned};
+
+use simd_json_parts::node::ValueType;
+
+/// An input whose structural indexes are known. It is a document of the grammar if each token
+/// stands where one is expected, which is tested only where values are read.
+#[derive(Clone, Copy, Debug)]
+pub struct Document<'d> {
+    pub(crate) input: &'d [u8],
+    pub(crate) indexes: &'d [u32],
+    ghost scanned: { IsScanned input.now indexes.now },
+}
+
+/// A value of a document, or what stands in the place of one.
+#[derive(Clone, Copy, Debug)]
+pub struct Value<'d> {
+    pub(crate) document: Document<'d>,
+    // how many structural indexes are before its first
+    pub(crate) at: usize,
+    ghost inside: { at < length document.indexes.now },
+}
+
+impl<'d> Document<'d> {
+    ghost use Rattle.std.specs.Prelude.{◌≡◌};
+    ghost use Rattle.simd_json_ondemand.specs.Docs.{doc, root, text, places};
+
+    // Of an input, and the structural indexes that were found in it.
+    pub(crate) fn new(input: &'d [u8], indexes: &'d [u32]) -> Document<'d>
+        requires { IsScanned input.now indexes.now }
+        ensures input { text result ≡ input.now }
+        ensures indexes { places result ≡ indexes.now }
+    {
+        Document { input, indexes }
+    }
+
+    /// Returns the value of the document: its root.
+    #[inline(always)]
+    #[tactic(auto, using(crate::proofs::Scans::some_position))]
+    pub fn as_value(self) -> Value<'d>
+        ensures { doc result ≡ root self.entry }
+    {
+        Value {
+            document: self,
+            at: 0,
+        }
+    }
+}
+
+impl<'d> Value<'d> {
+    ghost use Rattle.std.specs.Prelude.{◌≡◌, ◌<◌, length, drop};
+    ghost use Rattle.simd_json_ondemand.specs.Docs.{text, index_of, form, kind};
+    ghost use Rattle.simd_json_parts.specs.Bytes.{byte_at};
+    ghost use Rattle.simd_json_ondemand.specs.Standing.{opens_array, opens_object};
+
+    // The input from the value's first byte on.
+    #[inline(always)]
+    #[tactic(auto, using(crate::proofs::Scans::within))]
+    pub(crate) fn bytes(self) -> &'d [u8]
+        ensures bytes { result.now ≡ drop (index_of self.entry) (text self.entry.document) }
+        ensures some { 0 < length result.now }
+    {
+        let at = self.document.indexes[self.at] as usize;
+        &self.document.input[at..]
+    }
+
+    // The value's first byte.
+    #[inline(always)]
+    #[tactic(auto, using(crate::proofs::Scans::within))]
+    pub(crate) fn first(self) -> u8
+        ensures { result ≡ byte_at (text self.entry.document) (index_of self.entry) }
+    {
+        self.document.input[self.document.indexes[self.at] as usize]
+    }
+
+    /// Returns whether the value is an array.
+    #[inline(always)]
+    #[tactic(auto, using(crate::proofs::Standing::opens_array_byte))]
+    pub fn is_array(self) -> bool
+        ensures { result ≡ opens_array (form self.entry) }
+    {
+        self.first() == b'['
+    }
+
+    /// Returns whether the value is an object.
+    #[inline(always)]
+    #[tactic(auto, using(crate::proofs::Standing::opens_object_byte))]
+    pub fn is_object(self) -> bool
+        ensures { result ≡ opens_object (form self.entry) }
+    {
+        self.first() == b'{'
+    }
+}

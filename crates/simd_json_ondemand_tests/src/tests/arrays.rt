@@ -1,0 +1,75 @@
+// The elements of arrays.
+use super::MEMORY;
+use simd_json_ondemand::{Index, ValueType};
+
+// An array, and of each element the integer, if it is one.
+const ARRAYS: &[(&[u8], &[Option<u8>])] = &[
+    (b"[]", &[]),
+    (b" [ ] ", &[]),
+    (b"[1]", &[Some(1)]),
+    (b"[1,2,3]", &[Some(1), Some(2), Some(3)]),
+    (b"[[],1,{},2]", &[None, Some(1), None, Some(2)]),
+    (
+        b"[[2,{\"a\":[3]}],4,{\"b\":[[],[]]}]",
+        &[None, Some(4), None],
+    ),
+    (b"[\"]\",1,\"[\",2]", &[None, Some(1), None, Some(2)]),
+    (b"[[1,2,3,4,5,6,7,8,9,10],11]", &[None, Some(11)]),
+    (b"[[[[[[[[[[[[1]]]]]]]]]],2],3]", &[None, Some(3)]),
+    (
+        b"[[{},{},{},{},{},{}],[[],[],[],[]],{\"a\":{\"b\":{\"c\":[0,0,0,0]}}},7]",
+        &[None, None, None, Some(7)],
+    ),
+];
+
+#[test]
+fn elements_come_in_order(rt: HostRuntime) {
+    let mut index = Index::new(rt.alloc(), 100).expect(&rt, MEMORY);
+    for (input, wanted) in ARRAYS {
+        let root = index.find(input).expect(&rt, "it is a document").as_value();
+        let array = root.as_array().expect(&rt, "it is an array");
+        assert_same!(&rt; array.count(), wanted.len(), *input);
+        for (i, element) in array.enumerate() {
+            let other = root.get_idx(i).expect(&rt, "it has so many elements");
+            assert_same!(&rt; Some(element.as_u8()), wanted.get(i).copied(), *input);
+            assert_same!(&rt; other.as_u8(), element.as_u8(), *input);
+        }
+        assert_that!(&rt; root.get_idx(wanted.len()).is_none());
+    }
+}
+
+#[test]
+fn elements_are_values(rt: HostRuntime) {
+    let mut index = Index::new(rt.alloc(), 0).expect(&rt, MEMORY);
+    let root = index
+        .find(b"[{\"a\":[1,2]},[3,[4,5]]]")
+        .expect(&rt, "it is a document")
+        .as_value();
+    let inner = root.get_idx(1).expect(&rt, "it has two elements");
+    let last = inner.get_idx(1).expect(&rt, "it has two elements");
+    assert_same!(&rt; root.get_idx(0).and_then(|v| v.value_type()), Some(ValueType::Object));
+    assert_same!(&rt; last.get_idx(1).and_then(|v| v.as_u64()), Some(5));
+}
+
+// Over bytes that are no document the elements end where no comma follows.
+#[test]
+fn other_bytes_have_elements_up_to_a_comma(rt: HostRuntime) {
+    let mut index = Index::new(rt.alloc(), 0).expect(&rt, MEMORY);
+    let cases: [(&[u8], usize); 5] = [
+        (b"[1 2]", 1),
+        (b"[1,2,", 2),
+        (b"[[1,2", 1),
+        (b"[1,2}}", 2),
+        (b"[,1]", 1),
+    ];
+    for (input, wanted) in cases {
+        let root = index.find(input).expect(&rt, "it is scanned").as_value();
+        let array = root.as_array().expect(&rt, "it begins an array");
+        assert_same!(&rt; array.count(), wanted, input);
+    }
+    for input in [b"1".as_slice(), b"{}", b"\"[\"", b"[", b"]"] {
+        let root = index.find(input).expect(&rt, "it is scanned").as_value();
+        assert_that!(&rt; root.as_array().is_none());
+        assert_that!(&rt; root.get_idx(0).is_none());
+    }
+}
