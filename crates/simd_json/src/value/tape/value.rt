@@ -130,8 +130,9 @@ impl<'tape, 'input> Value<'tape, 'input> {
         self.nodes[0]
     }
 
-    // All nodes of the value.
-    pub(crate) fn nodes(&self) -> &'tape [Node<'input>]
+    /// The nodes of the value, in preorder.
+    pub fn nodes(&self) -> &'tape [Node<'input>]
+        ensures listed { map item_of result.now ≡ listing (doc self.now) }
         ensures nodes { result.now ≡ self.now.nodes.now }
         ensures few { length result.now < 2 ^ 64 }
     {

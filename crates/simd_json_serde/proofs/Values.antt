@@ -1,0 +1,28 @@
+-- The nodes of a value that stands at a place.
+use Rattle.std.proofs.Common.{◌≡◌, ℕ, suc, ◌+◌, ◌<◌, List, ◌∷◌, ◌++◌, map, drop, drop-cons, get_or, length, slice_get, Some, sym, ap, ◌∙◌, arith}
+use Rattle.std.proofs.lemmas.Grind.{common_steps}
+use Rattle.std.proofs.lemmas.Option.{slice_get_within, get_or_from_slice_get}
+use Rattle.simd_json_parts.specs.Document.{Document, null, boolean, integer, decimal, string, array, object}
+use Rattle.simd_json_parts.specs.Listing.{listing}
+use Rattle.simd_json_parts.specs.Nodes.{Item, item_of}
+use Rattle.simd_json_parts.specs.declared.node.Node.{Node}
+use Rattle.simd_json_serde.specs.Steps.{nodes_beneath}
+
+-- a listing's first node says how many follow it
+beneath_first : (d : Document) (i : Item) (rest others : List Item) → listing d ++ rest ≡ i ∷ others → nodes_beneath i + 1 ≡ length (listing d)
+beneath_first null i rest others h = grind (arith, common_steps)
+beneath_first (boolean b) i rest others h = grind (arith, common_steps)
+beneath_first (integer minus n) i rest others h = grind (arith, common_steps)
+beneath_first (decimal t) i rest others h = grind (arith, common_steps)
+beneath_first (string t) i rest others h = grind (arith, common_steps)
+beneath_first (array ds) i rest others h = grind (arith, common_steps)
+beneath_first (object ms) i rest others h = grind (arith, common_steps)
+
+-- the node that is next begins the value that stands there
+pub stands_beneath : (ns : List Node) (at : ℕ) (d : Document) (n : Node) (rest : List Item) → slice_get ns at ≡ Some n →
+    map item_of (drop at ns) ≡ listing d ++ rest → nodes_beneath (item_of n) + 1 ≡ length (listing d)
+stands_beneath ns at d n rest got h =
+    let within : at < length ns = slice_get_within ns at n got in
+    let read : get_or ns at n ≡ n = get_or_from_slice_get ns at n n got in
+    let cut : drop at ns ≡ n ∷ drop (suc at) ns = drop-cons ns at n within ∙ ap (λ x. x ∷ drop (suc at) ns) read in
+    beneath_first d (item_of n) rest (map item_of (drop (suc at) ns)) (sym h ∙ ap (map item_of) cut)

@@ -1,0 +1,29 @@
+-- What a typed read of bytes returns.
+use Rattle.std.specs.Prelude.{◌⊎◌, ℕ, List, Result, Ok, Err}
+use Rattle.simd_json_parts.specs.Document.{Document}
+use Rattle.simd_json_parts.specs.Grammar.{Denotes}
+use Rattle.simd_json_parts.specs.Limits.{WithinLimits}
+use Rattle.simd_json.specs.Memory.{IsOutOfMemory}
+use Rattle.simd_json.specs.Parsed.{IsRefused}
+use Rattle.simd_json_serde.specs.declared.error.Error.{Error}
+use Rattle.simd_json_serde.specs.declared.error.Error.TheVariants.{Parse, Mismatch}
+
+-- the bytes are a document within the limits
+abbrev pub IsDocument : List ℕ → ℕ → Type 0
+IsDocument b limit = (d : Document) × Denotes b d × WithinLimits b d limit
+
+-- A read of b: a value and a mismatch come of documents alone; a parse error is the first one, or of memory.
+abbrev pub IsRead : {T : Type 0} → List ℕ → ℕ → Result T Error → Type 0
+IsRead b limit (Ok value) = IsDocument b limit
+IsRead b limit (Err (Mismatch m)) = IsDocument b limit
+IsRead b limit (Err (Parse e)) = IsRefused b limit e ⊎ IsOutOfMemory e
+
+-- not an error of a parse
+abbrev pub IsLate : {T : Type 0} → Result T Error → Type 0
+IsLate (Ok value) = Unit {0}
+IsLate (Err (Mismatch m)) = Unit {0}
+IsLate (Err (Parse e)) = ⊥
+
+abbrev pub IsMismatch : Error → Type 0
+IsMismatch (Mismatch m) = Unit {0}
+IsMismatch (Parse e) = ⊥

@@ -1,0 +1,213 @@
+//! Why nothing was read.
+ghost use Rattle.std.specs.Prelude.{◌≡◌, ◌⊎◌, ◌↔◌, IsTrue};
+
+use crate::path::append_path;
+use simd_json::{Node, ValueType};
+use std::alloc::Global;
+use std::fmt;
+use std::fmt::InlineText;
+
+// How many bytes of a field's name or of a message are kept.
+const NAME_LEN: usize = 32;
+
+/// How a value and a type disagree.
+#[derive(Clone, Copy, Debug, Drop, PartialEq, Eq)]
+pub enum MismatchKind {
+    /// A value of another kind was expected.
+    InvalidType {
+        /// The kind that was expected.
+        expected: ValueType,
+        /// The kind of the value.
+        got: ValueType,
+    },
+    /// The value is not one of the type's, as an integer out of its range.
+    InvalidValue,
+    /// An array has too few or too many elements.
+    InvalidLength,
+    /// A value was expected after the last one.
+    MissingValue,
+    /// An object has no member for a field.
+    MissingField,
+    /// An object has two members for a field.
+    DuplicateField,
+    /// The type has no field with the key, and denies unknown fields.
+    UnknownField,
+    /// The type has no such variant.
+    UnknownVariant,
+    /// A message of the type's own.
+    Custom,
+    /// An allocation failed.
+    OutOfMemory,
+}
+
+/// Why a step of a [`NodeReader`](crate::NodeReader) failed.
+#[derive(Clone, Copy, Drop)]
+pub struct Fault {
+    pub(crate) kind: MismatchKind,
+    // A node of the value.
+    pub(crate) node: usize,
+    // How many containers are open around the value.
+    pub(crate) depth: usize,
+    // The front of a field's name or of a message.
+    pub(crate) name: InlineText<NAME_LEN>,
+}
+
+impl Fault {
+    // Of the value around a node, with a name.
+    pub(crate) fn new(kind: MismatchKind, node: usize, depth: usize, name: &str) -> Fault
+        ensures { result.kind ≡ kind }
+    {
+        Fault {
+            kind,
+            node,
+            depth,
+            name: InlineText::of(name),
+        }
+    }
+
+    /// How the value and the type disagree.
+    pub fn kind(&self) -> MismatchKind
+        ensures { result ≡ self.now.kind }
+    {
+        self.kind
+    }
+
+    pub(crate) fn is_memory(&self) -> bool
+        ensures { IsTrue result ↔ (self.now.kind ≡ MismatchKind.OutOfMemory) }
+    {
+        self.kind == MismatchKind::OutOfMemory
+    }
+}
+
+/// Where a document does not fit a type, and how.
+///
+/// It prints as `/statuses/3/user/id: expected an integer, found a string`, without the path where
+/// the value that was read does not fit as a whole.
+#[derive(Drop)]
+pub struct Mismatch {
+    fault: Fault,
+    path: String,
+}
+
+impl Mismatch {
+    // The path is built only now: nothing is kept for it during a read.
+    #[cold]
+    pub(crate) fn new(alloc: Global, fault: Fault, nodes: &[Node<'_>]) -> Mismatch
+        ensures { (result.fault.kind ≡ fault.kind)
+            ⊎ (result.fault.kind ≡ MismatchKind.OutOfMemory) }
+    {
+        let mut path = String::new(alloc);
+        if fault.is_memory() || append_path(nodes, &fault, &mut path).is_err() {
+            return Mismatch::no_memory(alloc);
+        }
+        Mismatch { fault, path }
+    }
+
+    #[cold]
+    pub(crate) fn no_memory(alloc: Global) -> Mismatch
+        ensures { result.fault.kind ≡ MismatchKind.OutOfMemory }
+    {
+        Mismatch {
+            fault: Fault::new(MismatchKind::OutOfMemory, 0, 0, ""),
+            path: String::new(alloc),
+        }
+    }
+
+    /// How the value and the type disagree.
+    pub fn kind(&self) -> MismatchKind
+        ensures { result ≡ self.now.fault.kind }
+    {
+        self.fault.kind
+    }
+
+    /// The value's JSON Pointer (RFC 6901), from the value that was read on. For an unknown or a
+    /// duplicate field, and for a key that is no value of its type, it ends with the key; for a
+    /// missing field it leads to the object.
+    pub fn path(&self) -> &str {
+        self.path.as_str()
+    }
+
+    /// The name of a field that is missing or there twice, or the message of
+    /// [`MismatchKind::Custom`]: of both the first 32 bytes. Else it is empty.
+    pub fn name(&self) -> &str {
+        self.fault.name.as_str()
+    }
+}
+
+// The kind in words. Integers are one kind here, since those of the tape differ by their size.
+fn words(kind: ValueType) -> &'static str {
+    match kind {
+        ValueType::I64 | ValueType::U64 | ValueType::I128 | ValueType::U128 => "an integer",
+        _ => kind.words(),
+    }
+}
+
+// The same of the kind that was expected: a float may be any number.
+fn expected_words(kind: ValueType) -> &'static str {
+    match kind {
+        ValueType::Decimal => "a number",
+        _ => words(kind),
+    }
+}
+
+impl fmt::Display for Mismatch {
+    fn fmt<W: fmt::Write>(&self, f: &mut fmt::Formatter<W>) -> fmt::Result {
+        let (path, name) = (self.path(), self.name());
+        if !path.is_empty() {
+            write!(f, "{path}: ")?;
+        }
+        match self.fault.kind {
+            MismatchKind::InvalidType { expected, got } => {
+                let (expected, got) = (expected_words(expected), words(got));
+                write!(f, "expected {expected}, found {got}")
+            }
+            MismatchKind::InvalidValue => f.write_str("the value does not fit the type"),
+            MismatchKind::InvalidLength => f.write_str("the array has another length"),
+            MismatchKind::MissingValue => f.write_str("a value is missing"),
+            MismatchKind::MissingField => write!(f, "missing field `{name}`"),
+            MismatchKind::DuplicateField => write!(f, "duplicate field `{name}`"),
+            MismatchKind::UnknownField => f.write_str("unknown field"),
+            MismatchKind::UnknownVariant => f.write_str("unknown variant"),
+            MismatchKind::Custom => f.write_str(name),
+            MismatchKind::OutOfMemory => f.write_str("out of memory"),
+        }
+    }
+}
+
+impl fmt::Debug for Mismatch {
+    fn fmt<W: fmt::Write>(&self, f: &mut fmt::Formatter<W>) -> fmt::Result {
+        write!(f, "Mismatch({self})")
+    }
+}
+
+impl std::error::Error for Mismatch {}
+
+/// Why nothing was read.
+#[derive(Debug, Drop)]
+pub enum Error {
+    /// The input is not a document within the limits, or an allocation of the parse failed.
+    Parse(simd_json::Error),
+    /// The input is a document that does not fit the type, or an allocation of the read failed.
+    Mismatch(Mismatch),
+}
+
+impl Error {
+    ghost use Rattle.simd_json_serde.specs.Outcomes.{IsMismatch};
+
+    pub(crate) fn no_memory(alloc: Global) -> Error
+        ensures { IsMismatch result }
+    {
+        Error::Mismatch(Mismatch::no_memory(alloc))
+    }
+}
+
+impl fmt::Display for Error {
+    fn fmt<W: fmt::Write>(&self, f: &mut fmt::Formatter<W>) -> fmt::Result {
+        match self {
+            Error::Parse(e) => write!(f, "{e}"),
+            Error::Mismatch(e) => write!(f, "{e}"),
+        }
+    }
+}
+
+impl std::error::Error for Error {}

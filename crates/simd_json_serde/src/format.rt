@@ -1,0 +1,426 @@
+//! The steps of a read.
+ghost use Rattle.std.specs.Prelude.{◌≡◌, ◌+◌, false, length, slice_get, take, IfOk, OnOk};
+ghost use Rattle.std.specs.Float.{binary32, binary64};
+ghost use Rattle.simd_json_parts.specs.Document.{Document};
+ghost use Rattle.simd_json_parts.specs.Listing.{listing};
+ghost use Rattle.simd_json_parts.specs.Nodes.{item_of};
+ghost use Rattle.simd_json_parts.specs.declared.node.Node.{Node as SpecNode};
+ghost use Rattle.simd_json_serde.specs.Steps.{IsNearest, Reads, Picks, Stands, nodes_beneath};
+ghost use Rattle.simd_json_serde.specs.Places.{place};
+
+use crate::error::{Fault, MismatchKind};
+use crate::node_reader::{Mark, NodeReader, beneath};
+use serde::{Format, Kind, Name};
+use simd_json::{Node, StaticNode, ValueType};
+use std::alloc::Global;
+use std::num::{nearest_i64_to_f32, nearest_i64_to_f64, nearest_u64_to_f32, nearest_u64_to_f64};
+
+// Whether a key spells an integer as JSON does: without `+` and without leading zeros.
+fn is_integer_key(key: &str) -> bool {
+    let bytes = key.as_bytes();
+    match bytes.strip_prefix(b"-").unwrap_or(bytes) {
+        [b'0'] => true,
+        [b'1'..=b'9', ..] => true,
+        _ => false,
+    }
+}
+
+impl<'n, 'i> NodeReader<'n, 'i> {
+    // The float nearest to a literal, if it is finite.
+    fn nearest_f32(&self, literal: &str) -> Result<f32, Fault>
+        ensures { IfOk result (λ x. IsNearest binary32 x literal.now) }
+    {
+        match fast_float::parse::<f32, _>(literal) {
+            Ok(x) if x.is_finite() => Ok(x),
+            _ => Err(self.fault(MismatchKind::InvalidValue)),
+        }
+    }
+
+    #[inline(always)]
+    fn nearest_f64(&self, literal: &str) -> Result<f64, Fault>
+        ensures { IfOk result (λ x. IsNearest binary64 x literal.now) }
+    {
+        match fast_float::parse::<f64, _>(literal) {
+            Ok(x) if x.is_finite() => Ok(x),
+            _ => Err(self.fault(MismatchKind::InvalidValue)),
+        }
+    }
+}
+
+impl<'n, 'i> Format for NodeReader<'n, 'i> {
+    type Error = Fault;
+
+    type Mark = Mark;
+
+    ghost gives = { λ old _ e new. Reads (place old) e (place new) };
+
+    ghost picks = { λ old _ is_key names at new. Picks (place old) is_key names at (place new) };
+
+    ghost stays = { λ old new. place new ≡ place old };
+
+    #[inline(always)]
+    fn bool(&mut self, _input: &[u8]) -> Result<bool, Fault> {
+        let at_key = self.at_key;
+        match self.take()? {
+            Node::Static(StaticNode::Bool(b)) => Ok(b),
+            Node::String("true") if at_key => Ok(true),
+            Node::String("false") if at_key => Ok(false),
+            other => Err(self.unexpected(ValueType::Bool, other)),
+        }
+    }
+
+    #[inline(always)]
+    fn i64(&mut self, _input: &[u8]) -> Result<i64, Fault> {
+        let at_key = self.at_key;
+        match self.take()? {
+            Node::Static(StaticNode::I64(n)) => Ok(n),
+            Node::Static(StaticNode::U64(n)) if n < 1 << 63 => Ok(n as i64),
+            Node::Static(StaticNode::U64(_) | StaticNode::I128(_) | StaticNode::U128(_)) => {
+                Err(self.fault(MismatchKind::InvalidValue))
+            }
+            Node::String(key) if at_key && is_integer_key(key) => match key.parse::<i64>() {
+                Ok(n) => Ok(n),
+                Err(_) => Err(self.fault(MismatchKind::InvalidValue)),
+            },
+            other => Err(self.unexpected(ValueType::I64, other)),
+        }
+    }
+
+    #[inline(always)]
+    fn u64(&mut self, _input: &[u8]) -> Result<u64, Fault> {
+        let at_key = self.at_key;
+        match self.take()? {
+            Node::Static(StaticNode::U64(n)) => Ok(n),
+            Node::Static(StaticNode::I64(0)) => Ok(0),
+            Node::Static(StaticNode::I64(_) | StaticNode::I128(_) | StaticNode::U128(_)) => {
+                Err(self.fault(MismatchKind::InvalidValue))
+            }
+            Node::String(key) if at_key && is_integer_key(key) => match key.parse::<u64>() {
+                Ok(n) => Ok(n),
+                Err(_) => Err(self.fault(MismatchKind::InvalidValue)),
+            },
+            other => Err(self.unexpected(ValueType::U64, other)),
+        }
+    }
+
+    fn i128(&mut self, _input: &[u8]) -> Result<i128, Fault> {
+        let at_key = self.at_key;
+        match self.take()? {
+            Node::Static(StaticNode::I64(n)) => Ok(n as i128),
+            Node::Static(StaticNode::U64(n)) => Ok(n as i128),
+            Node::Static(StaticNode::I128(n)) => Ok(n),
+            Node::Static(StaticNode::U128(n)) if n < 1 << 127 => Ok(n as i128),
+            Node::Static(StaticNode::U128(_)) => Err(self.fault(MismatchKind::InvalidValue)),
+            Node::String(key) if at_key && is_integer_key(key) => match key.parse::<i128>() {
+                Ok(n) => Ok(n),
+                Err(_) => Err(self.fault(MismatchKind::InvalidValue)),
+            },
+            other => Err(self.unexpected(ValueType::I128, other)),
+        }
+    }
+
+    fn u128(&mut self, _input: &[u8]) -> Result<u128, Fault> {
+        let at_key = self.at_key;
+        match self.take()? {
+            Node::Static(StaticNode::U64(n)) => Ok(n as u128),
+            Node::Static(StaticNode::U128(n)) => Ok(n),
+            Node::Static(StaticNode::I64(0)) => Ok(0),
+            Node::Static(StaticNode::I64(_) | StaticNode::I128(_)) => {
+                Err(self.fault(MismatchKind::InvalidValue))
+            }
+            Node::String(key) if at_key && is_integer_key(key) => match key.parse::<u128>() {
+                Ok(n) => Ok(n),
+                Err(_) => Err(self.fault(MismatchKind::InvalidValue)),
+            },
+            other => Err(self.unexpected(ValueType::U128, other)),
+        }
+    }
+
+    fn f32(&mut self, _input: &[u8]) -> Result<f32, Fault> {
+        let mut digits = itoa::Buffer::new();
+        match self.take()? {
+            Node::Decimal(literal) => self.nearest_f32(literal),
+            Node::Static(StaticNode::I64(n)) => Ok(nearest_i64_to_f32(n)),
+            Node::Static(StaticNode::U64(n)) => Ok(nearest_u64_to_f32(n)),
+            Node::Static(StaticNode::I128(n)) => self.nearest_f32(digits.format(n)),
+            Node::Static(StaticNode::U128(n)) => self.nearest_f32(digits.format(n)),
+            other => Err(self.unexpected(ValueType::Decimal, other)),
+        }
+    }
+
+    #[inline(always)]
+    fn f64(&mut self, _input: &[u8]) -> Result<f64, Fault> {
+        match self.take()? {
+            Node::Decimal(literal) => self.nearest_f64(literal),
+            Node::Static(StaticNode::I64(n)) => Ok(nearest_i64_to_f64(n)),
+            Node::Static(StaticNode::U64(n)) => Ok(nearest_u64_to_f64(n)),
+            Node::Static(StaticNode::I128(n)) => {
+                let mut digits = itoa::Buffer::new();
+                self.nearest_f64(digits.format(n))
+            }
+            Node::Static(StaticNode::U128(n)) => {
+                let mut digits = itoa::Buffer::new();
+                self.nearest_f64(digits.format(n))
+            }
+            other => Err(self.unexpected(ValueType::Decimal, other)),
+        }
+    }
+
+    fn char(&mut self, _input: &[u8]) -> Result<char, Fault> {
+        match self.take_string()?.parse::<char>() {
+            Ok(c) => Ok(c),
+            Err(_) => Err(self.fault(MismatchKind::InvalidValue)),
+        }
+    }
+
+    // Where the string is in the input. The bytes there are compared, so that nothing else has to
+    // be known of them.
+    #[inline(always)]
+    fn plain_str(&mut self, input: &[u8]) -> Result<(usize, usize), Fault> {
+        let index = self.at;
+        let text = self.take_string()?;
+        let Some(start) = self.starts.get(index) else {
+            return Err(self.fault(MismatchKind::InvalidValue));
+        };
+        let start = *start as usize;
+        let end = start.saturating_add(text.len());
+        if input.get(start..end) == Some(text.as_bytes()) {
+            Ok((start, end))
+        } else {
+            Err(self.fault(MismatchKind::InvalidValue))
+        }
+    }
+
+    fn plain_bytes(&mut self, input: &[u8]) -> Result<(usize, usize), Fault> {
+        self.plain_str(input)
+    }
+
+    #[inline(always)]
+    fn string(&mut self, alloc: Global, _input: &[u8]) -> Result<String, Fault> {
+        match String::from_str(alloc, self.take_string()?) {
+            Ok(text) => Ok(text),
+            Err(_) => Err(self.fault(MismatchKind::OutOfMemory)),
+        }
+    }
+
+    // A string, or an array of integers.
+    fn byte_buf(&mut self, alloc: Global, input: &[u8]) -> Result<Vec<u8>, Fault> {
+        if let Node::String(_) = self.look()? {
+            return match Vec::from_slice(alloc, self.take_string()?.as_bytes()) {
+                Ok(bytes) => Ok(bytes),
+                Err(_) => Err(self.fault(MismatchKind::OutOfMemory)),
+            };
+        }
+        self.begin_seq(input)?;
+        let mut bytes = Vec::new(alloc);
+        for _ in 0..self.nodes.len() {
+            if !self.next_item(input)? {
+                return Ok(bytes);
+            }
+            let Ok(byte) = u8::try_from(self.u64(input)?) else {
+                return Err(self.fault(MismatchKind::InvalidValue));
+            };
+            if bytes.push(byte).is_err() {
+                return Err(self.fault(MismatchKind::OutOfMemory));
+            }
+        }
+        Err(self.fault(MismatchKind::MissingValue))
+    }
+
+    fn peek(&mut self, _input: &[u8]) -> Result<Kind, Fault> {
+        let node = self.look()?;
+        self.looked = true;
+        Ok(match node {
+            Node::Static(StaticNode::Null) => Kind::Unit,
+            Node::Static(StaticNode::Bool(_)) => Kind::Bool,
+            Node::Static(StaticNode::I64(_) | StaticNode::I128(_)) => Kind::Signed,
+            Node::Static(StaticNode::U64(_) | StaticNode::U128(_)) => Kind::Unsigned,
+            Node::Decimal(_) => Kind::Float,
+            Node::String(_) => Kind::Str,
+            Node::Array { .. } => Kind::Seq,
+            Node::Object { .. } => Kind::Map,
+        })
+    }
+
+    #[inline(always)]
+    fn take_unit(&mut self, _input: &[u8]) -> Result<bool, Fault> {
+        if let Node::Static(StaticNode::Null) = self.look()? {
+            self.take()?;
+            return Ok(true);
+        }
+        self.looked = true;
+        Ok(false)
+    }
+
+    #[inline(always)]
+    fn take_none(&mut self, input: &[u8]) -> Result<bool, Fault> {
+        self.take_unit(input)
+    }
+
+    #[inline(always)]
+    fn begin_seq(&mut self, _input: &[u8]) -> Result<(), Fault> {
+        match self.take()? {
+            Node::Array { count, .. } => self.enter(count),
+            other => Err(self.unexpected(ValueType::Array, other)),
+        }
+    }
+
+    #[inline(always)]
+    fn next_item(&mut self, _input: &[u8]) -> Result<bool, Fault> {
+        if self.at < self.end {
+            self.looked = true;
+            return Ok(true);
+        }
+        self.leave()?;
+        Ok(false)
+    }
+
+    #[inline(always)]
+    fn begin_map(&mut self, _input: &[u8]) -> Result<(), Fault> {
+        match self.take()? {
+            Node::Object { count, .. } => self.enter(count),
+            other => Err(self.unexpected(ValueType::Object, other)),
+        }
+    }
+
+    #[inline(always)]
+    fn begin_struct(&mut self, _input: &[u8]) -> Result<bool, Fault> {
+        match self.take()? {
+            Node::Object { count, .. } => {
+                self.enter(count)?;
+                Ok(false)
+            }
+            Node::Array { count, .. } => {
+                self.enter(count)?;
+                Ok(true)
+            }
+            other => Err(self.unexpected(ValueType::Object, other)),
+        }
+    }
+
+    #[inline(always)]
+    fn next_key(&mut self, _input: &[u8], names: &[Name<'_>]) -> Result<Option<usize>, Fault> {
+        if self.at < self.end {
+            return Ok(Some(serde::find(names, self.take_string()?)));
+        }
+        self.leave()?;
+        Ok(None)
+    }
+
+    #[inline(always)]
+    fn next_entry(&mut self, _input: &[u8]) -> Result<bool, Fault> {
+        if self.at < self.end {
+            self.at_key = true;
+            return Ok(true);
+        }
+        self.leave()?;
+        Ok(false)
+    }
+
+    fn variant(&mut self, _input: &[u8], names: &[Name<'_>]) -> Result<usize, Fault> {
+        Ok(serde::find(names, self.take_string()?))
+    }
+
+    // A container's members are passed in one step.
+    #[inline(always)]
+    fn skip(&mut self, _input: &[u8]) -> Result<(), Fault>
+        ensures passed { OnOk result ((n : SpecNode)
+            × (slice_get self.old.nodes.now self.old.at ≡ Some n)
+            × (place self.new ≡ record (place self.old) {
+              at = self.old.at + 1 + nodes_beneath (item_of n);
+              at_key = false;
+            })) }
+        ensures value { OnOk result ((d : Document) → Stands (place self.old) d
+            → self.new.at ≡ self.old.at + length (listing d)) }
+    {
+        let node = self.take()?;
+        let count = beneath(&node);
+        let Some(at) = self.at.checked_add(count) else {
+            return Err(self.fault(MismatchKind::MissingValue));
+        };
+        self.at = at;
+        Ok(())
+    }
+
+    fn mark(&mut self) -> Mark
+        ensures stays { place self.new ≡ place self.old }
+        ensures here { (result.at ≡ self.old.at) × (result.end ≡ self.old.end)
+            × (result.depth ≡ length self.old.outer.items)
+            × (result.at_key ≡ self.old.at_key) }
+    {
+        Mark {
+            at: self.at,
+            end: self.end,
+            depth: self.outer.len(),
+            at_key: self.at_key,
+        }
+    }
+
+    fn rewind(&mut self, mark: Mark)
+        ensures { place self.new ≡ record (place self.old) {
+          at = mark.at;
+          end = mark.end;
+          at_key = mark.at_key;
+          outer = take mark.depth self.old.outer.items;
+        } }
+    {
+        self.at = mark.at;
+        self.end = mark.end;
+        self.at_key = mark.at_key;
+        self.outer.truncate(mark.depth);
+        self.looked = true;
+    }
+
+    fn release(&mut self, _mark: Mark)
+        ensures { place self.new ≡ place self.old }
+    {}
+
+    fn is_fatal(&self, error: &Fault) -> bool {
+        error.is_memory()
+    }
+
+    #[cold]
+    fn missing(&self, name: &str) -> Fault {
+        self.named_fault(MismatchKind::MissingField, name)
+    }
+
+    #[cold]
+    fn duplicate(&self, name: &str) -> Fault {
+        self.named_fault(MismatchKind::DuplicateField, name)
+    }
+
+    #[cold]
+    fn unknown_key(&self) -> Fault {
+        self.fault(MismatchKind::UnknownField)
+    }
+
+    #[cold]
+    fn unknown_variant(&self) -> Fault {
+        self.fault(MismatchKind::UnknownVariant)
+    }
+
+    // Where an item was seen, the array was not left yet.
+    #[cold]
+    fn wrong_len(&self) -> Fault {
+        let mut fault = self.fault(MismatchKind::InvalidLength);
+        if self.looked {
+            fault.depth = fault.depth.saturating_sub(1);
+        }
+        fault
+    }
+
+    #[cold]
+    fn invalid(&self) -> Fault {
+        self.fault(MismatchKind::InvalidValue)
+    }
+
+    #[cold]
+    fn no_memory(&self) -> Fault {
+        self.fault(MismatchKind::OutOfMemory)
+    }
+
+    #[cold]
+    fn custom(&self, message: &str) -> Fault {
+        self.named_fault(MismatchKind::Custom, message)
+    }
+}

@@ -1,0 +1,77 @@
+//! Typed reading: a type that derives `serde::Deserialize` is read from the tape of
+//! [`simd_json`]. Name `simd_json_serde serde` in your crate's line of `crates.txt`.
+//!
+//! ```
+//! use serde::Deserialize;
+//! use std::alloc::Global;
+//!
+//! #[derive(Drop, Deserialize)]
+//! struct Line {
+//!     level: String,
+//!     status: u16,
+//! }
+//!
+//! // The status of a line of a log, as `{"level":"info","status":200}`.
+//! fn status(alloc: Global, input: &mut [u8]) -> Result<u16, simd_json_serde::Error> {
+//!     let line: Line = simd_json_serde::from_slice_owned(alloc, input)?;
+//!     Ok(line.status)
+//! }
+//! ```
+//!
+//! # What to call
+//!
+//! | to read | call |
+//! |---|---|
+//! | a type that owns its strings | [`from_slice_owned`] |
+//! | a type that borrows strings, as `&str` or `CowStr` | [`from_slice`] |
+//! | many inputs into the same memory | [`read_owned`], [`read`] with [`Texts`] |
+//! | a value of a tape, as one that `pointer` leads to | [`from_value`] |
+//! | a whole tape | [`from_tape`] |
+//! | nodes, by a `Deserialize` of your own | [`NodeReader`] |
+//!
+//! All that the derives read is read: structs, `Option`, `Vec`, tuples, maps, enums with or without
+//! a tag, `flatten`, `default`, `rename`, `deny_unknown_fields`, recursive types. Integers of all
+//! widths are exact, and a float is the nearest to the literal. A member without a field is passed
+//! in one step, whatever is in it.
+//!
+//! # Errors
+//!
+//! [`Error::Parse`] is the parse's error, with its kind, index and character. [`Error::Mismatch`]
+//! says how a document does not fit the type, and where, as
+//! `/statuses/3/user/id: expected an integer, found a string`: the path is a JSON Pointer
+//! (RFC 6901), found only after the read failed.
+//!
+//! # Costs
+//!
+//! - Beside the tape a read takes 8 bytes for each container that is open, and what the type owns.
+//! - Borrowing is slower than owning where strings are short: each string of the document is copied
+//!   once, since `serde::Format` lets a type borrow from one input alone. It takes 4 bytes for each
+//!   node, and the strings; [`from_slice`] takes 96 more for each node.
+//! - [`from_slice`] borrows strings with escapes too, but overwrites the input.
+//!
+//! # Differences from `serde_json`
+//!
+//! - `-0` is an integer: as a float it is 0.0, and as an unsigned integer 0.
+//! - An integer outside -2^127 to 2^128 - 1 is a parse error, also for a float.
+//! - The depth limit is the parse's, 1,024 unless set; recursive types end at 256 levels of their
+//!   own.
+//!
+//! # What is proved
+//!
+//! A value and a [`Mismatch`] are returned only if the input is a document of RFC 8259 within the
+//! limits, and else the parse's first error (`IsRead`). Each step of [`NodeReader`] returns what the
+//! node it takes says, and `skip` passes one value (`Reads`, `Picks`). Not proved, but tested beside
+//! `serde_json`: that a derived type is read as the document says, since derives have no contract;
+//! when a mismatch is returned, its words and its path.
+#![tactic(auto)]
+
+mod error;
+mod format;
+mod node_reader;
+mod path;
+mod reading;
+mod texts;
+
+pub use error::{Error, Fault, Mismatch, MismatchKind};
+pub use node_reader::{Mark, NodeReader};
+pub use reading::{Texts, from_slice, from_slice_owned, from_tape, from_value, read, read_owned};

@@ -1,0 +1,191 @@
+//! A place in the nodes of a document.
+ghost use Rattle.std.specs.Prelude.{◌≡◌, ◌+◌, ◌<◌, false, [], ◌∷◌, ◌++◌, length, slice_get};
+ghost use Rattle.std.specs.Prelude.{IfOk, OnOk};
+ghost use Rattle.simd_json_parts.specs.Nodes.{item_of, string_item};
+ghost use Rattle.simd_json_serde.specs.Steps.{IsTaken, Takes, nodes_beneath};
+ghost use Rattle.simd_json_serde.specs.Places.{place};
+
+use crate::error::{Fault, MismatchKind};
+use simd_json::{Node, ValueType};
+
+/// Reads the nodes of a tape as a [`serde::Format`]: for a `Deserialize` of your own.
+///
+/// Each step takes the next node, and returns what it says; `skip` passes a whole value.
+#[derive(Drop)]
+pub struct NodeReader<'n, 'i> {
+    pub(crate) nodes: &'n [Node<'i>],
+    // Where the string of each node starts in the input of the `Deserializer`, if types may borrow.
+    pub(crate) starts: &'n [u32],
+    pub(crate) at: usize,
+    // Where the innermost open container ends, and where those around it do.
+    pub(crate) end: usize,
+    pub(crate) outer: Vec<usize>,
+    // Whether the next node is a map's key, which may spell an integer or a truth value.
+    pub(crate) at_key: bool,
+    // Whether the next node was only looked at since the last one was taken: an error is about it.
+    pub(crate) looked: bool,
+}
+
+/// A place to go back to.
+#[derive(Clone, Copy, Drop)]
+pub struct Mark {
+    pub(crate) at: usize,
+    pub(crate) end: usize,
+    pub(crate) depth: usize,
+    pub(crate) at_key: bool,
+}
+
+impl<'n, 'i> NodeReader<'n, 'i> {
+    /// Begins at the first node. The list is used for the containers that are open: what it holds
+    /// does not matter.
+    pub fn new(nodes: &'n [Node<'i>], outer: Vec<usize>) -> NodeReader<'n, 'i>
+        ensures { place result ≡ record {
+          nodes = nodes.now;
+          at = 0;
+          end = length nodes.now;
+          outer = [];
+          at_key = false;
+        } }
+    {
+        NodeReader::with_starts(nodes, &[], outer)
+    }
+
+    // The same, for types that borrow: `starts` says where the string of each node starts in the
+    // input of the `Deserializer`.
+    pub(crate) fn with_starts(
+        nodes: &'n [Node<'i>],
+        starts: &'n [u32],
+        mut outer: Vec<usize>,
+    ) -> NodeReader<'n, 'i>
+        ensures { place result ≡ record {
+          nodes = nodes.now;
+          at = 0;
+          end = length nodes.now;
+          outer = [];
+          at_key = false;
+        } }
+    {
+        outer.clear();
+        NodeReader {
+            nodes,
+            starts,
+            at: 0,
+            end: nodes.len(),
+            outer,
+            at_key: false,
+            looked: false,
+        }
+    }
+
+    /// The list of [`new`](NodeReader::new), for the next reader.
+    pub fn into_outer(self) -> Vec<usize> {
+        let NodeReader { outer, .. } = self;
+        outer
+    }
+
+    // That the value does not fit, with a name: the value that was looked at, or else the one
+    // around the last node, on the level that the reader is on.
+    #[cold]
+    #[inline(never)]
+    pub(crate) fn named_fault(&self, kind: MismatchKind, name: &str) -> Fault {
+        let node = if self.looked {
+            self.at
+        } else {
+            self.at.saturating_sub(1)
+        };
+        Fault::new(kind, node, self.outer.len(), name)
+    }
+
+    #[cold]
+    #[inline(never)]
+    pub(crate) fn fault(&self, kind: MismatchKind) -> Fault {
+        self.named_fault(kind, "")
+    }
+
+    #[cold]
+    #[inline(never)]
+    pub(crate) fn unexpected(&self, expected: ValueType, got: Node<'i>) -> Fault {
+        let got = got.value_type();
+        self.fault(MismatchKind::InvalidType { expected, got })
+    }
+
+    // The next node of the innermost container.
+    #[inline(always)]
+    pub(crate) fn look(&self) -> Result<Node<'i>, Fault>
+        ensures { IfOk result (λ n. (self.now.at < self.now.end)
+            × (slice_get self.now.nodes.now self.now.at ≡ Some n)) }
+    {
+        match self.nodes.get(self.at) {
+            Some(node) if self.at < self.end => Ok(*node),
+            _ => Err(self.fault(MismatchKind::MissingValue)),
+        }
+    }
+
+    // The next node, which is passed.
+    #[inline(always)]
+    pub(crate) fn take(&mut self) -> Result<Node<'i>, Fault>
+        ensures { IfOk result (λ n. IsTaken (place self.old) n (place self.new)) }
+    {
+        let node = self.look()?;
+        self.at += 1;
+        self.at_key = false;
+        self.looked = false;
+        Ok(node)
+    }
+
+    #[inline(always)]
+    pub(crate) fn take_string(&mut self) -> Result<&'i str, Fault>
+        ensures { IfOk result (λ s. Takes (place self.old)
+            (λ _ item. item ≡ string_item s.now) (place self.new)) }
+    {
+        match self.take()? {
+            Node::String(text) => Ok(text),
+            other => Err(self.unexpected(ValueType::String, other)),
+        }
+    }
+
+    // Enters a container, whose header was taken and says how many nodes are beneath it.
+    #[inline(always)]
+    pub(crate) fn enter(&mut self, count: usize) -> Result<(), Fault>
+        ensures { OnOk result (place self.new ≡ record (place self.old) {
+          end = self.old.at + count;
+          outer = self.old.outer.items ++ self.old.end ∷ [];
+        }) }
+    {
+        let Some(end) = self.at.checked_add(count) else {
+            return Err(self.fault(MismatchKind::MissingValue));
+        };
+        if self.outer.push(self.end).is_err() {
+            return Err(self.fault(MismatchKind::OutOfMemory));
+        }
+        self.end = end;
+        Ok(())
+    }
+
+    // Leaves the innermost container.
+    #[inline(always)]
+    pub(crate) fn leave(&mut self) -> Result<(), Fault>
+        ensures { OnOk result ((self.new.at ≡ self.old.at)
+            × (self.old.outer.items ≡ self.new.outer.items ++ self.new.end ∷ [])
+            × (self.new.nodes ≡ self.old.nodes) × (self.new.at_key ≡ self.old.at_key)) }
+    {
+        match self.outer.pop() {
+            Some(end) => {
+                self.end = end;
+                Ok(())
+            }
+            None => Err(self.fault(MismatchKind::MissingValue)),
+        }
+    }
+}
+
+// How many nodes are beneath the node.
+#[inline(always)]
+pub(crate) fn beneath(node: &Node<'_>) -> usize
+    ensures { result ≡ nodes_beneath (item_of node.now) }
+{
+    match node {
+        Node::Array { count, .. } | Node::Object { count, .. } => *count,
+        _ => 0,
+    }
+}

@@ -1,0 +1,220 @@
+//! The entry points.
+ghost use Rattle.std.specs.Prelude.{◌≡◌};
+ghost use Rattle.simd_json.specs.MaxDepth.{default_max_depth};
+ghost use Rattle.simd_json_serde.specs.Outcomes.{IsRead, IsLate};
+
+use crate::error::{Error, Fault, Mismatch};
+use crate::node_reader::NodeReader;
+use crate::texts::{attach, copy_strings, detach};
+use serde::{Deserialize, DeserializeOwned, Deserializer};
+use simd_json::tape::Value;
+use simd_json::{Buffers, Node, Tape, refill_tape, to_tape};
+use std::alloc::Global;
+
+/// Reads a type that may borrow its strings, also those with escapes. They are copied, one after
+/// another, to the front of `input`, so the input's bytes are not kept.
+///
+/// A type that borrows nothing is read faster by [`from_slice_owned`].
+///
+/// Returns the parse's error where the input is not a document within the limits of
+/// [`to_tape`](simd_json::to_tape), and a [`Mismatch`] where it does not fit the type, or an
+/// allocation fails after the parse.
+pub fn from_slice<'de, T: Deserialize<'de>>(alloc: Global, input: &'de mut [u8]) -> Result<T, Error>
+    ensures { IsRead input.old default_max_depth result }
+{
+    let mut text = String::new(alloc);
+    let mut starts = Vec::new(alloc);
+    let mut bare = Vec::new(alloc);
+    parse_detached(alloc, input, &mut text, &mut starts, &mut bare)?;
+    let Some(front) = input.get_mut(..text.len()) else {
+        return Err(Error::no_memory(alloc));
+    };
+    front.copy_from_slice(text.as_bytes());
+    let mut nodes = Vec::new(alloc);
+    if attach(&bare, &text, &starts, &mut nodes).is_err() {
+        return Err(Error::no_memory(alloc));
+    }
+    let mut reader = NodeReader::with_starts(&nodes, &starts, Vec::new(alloc));
+    read_one(alloc, input, &mut reader)
+}
+
+// The nodes of a document, and apart from them their strings and literals.
+fn parse_detached(
+    alloc: Global,
+    input: &mut [u8],
+    text: &mut String,
+    starts: &mut Vec<u32>,
+    bare: &mut Vec<Node<'static>>,
+) -> Result<(), Error>
+    ensures { IsRead input.old default_max_depth result }
+{
+    match to_tape(alloc, input) {
+        Ok(tape) => match detach(tape.nodes(), text, starts, bare) {
+            Ok(()) => Ok(()),
+            Err(_) => Err(Error::no_memory(alloc)),
+        },
+        Err(e) => Err(Error::Parse(e)),
+    }
+}
+
+/// Reads a type that borrows nothing. Strings are copied only into the type.
+///
+/// Returns errors as [`from_slice`] does.
+pub fn from_slice_owned<T: DeserializeOwned>(alloc: Global, input: &mut [u8]) -> Result<T, Error>
+    ensures { IsRead input.old default_max_depth result }
+{
+    let tape = match to_tape(alloc, input) {
+        Ok(tape) => tape,
+        Err(e) => return Err(Error::Parse(e)),
+    };
+    from_tape(alloc, &tape)
+}
+
+/// Reads a type that borrows nothing from the document of a tape.
+///
+/// Returns a [`Mismatch`] where it does not fit the type, the tape is empty, or an allocation
+/// fails.
+pub fn from_tape<T: DeserializeOwned>(alloc: Global, tape: &Tape<'_, Global>) -> Result<T, Error>
+    ensures { IsLate result }
+{
+    let mut reader = NodeReader::new(tape.nodes(), Vec::new(alloc));
+    read_one_owned(alloc, &mut reader)
+}
+
+/// Reads a type that borrows nothing from a value of a tape, as one that
+/// [`pointer`](Value::pointer) leads to.
+///
+/// Returns a [`Mismatch`] where it does not fit the type, with its path from this value on, or an
+/// allocation fails.
+pub fn from_value<T: DeserializeOwned>(alloc: Global, value: &Value<'_, '_>) -> Result<T, Error>
+    ensures { IsLate result }
+{
+    let mut reader = NodeReader::new(value.nodes(), Vec::new(alloc));
+    read_one_owned(alloc, &mut reader)
+}
+
+/// What [`read`] keeps beside buffers and a tape: the strings that a type borrows. It grows as
+/// needed, and gives up no capacity.
+#[derive(Drop)]
+pub struct Texts {
+    alloc: Global,
+    text: String,
+    starts: Vec<u32>,
+    outer: Vec<usize>,
+}
+
+impl Texts {
+    /// Without strings or capacity. Allocates nothing.
+    pub fn new(alloc: Global) -> Texts {
+        Texts {
+            alloc,
+            text: String::new(alloc),
+            starts: Vec::new(alloc),
+            outer: Vec::new(alloc),
+        }
+    }
+}
+
+/// Reads a type into kept memory. It may borrow its strings from `texts`, and the tape is returned
+/// for the next read.
+///
+/// Returns errors as [`from_slice`] does, with the depth limit of the buffers.
+pub fn read<'de, 'k, T: Deserialize<'de>>(
+    input: &mut [u8],
+    buffers: &mut Buffers<Global>,
+    kept: Tape<'k, Global>,
+    texts: &'de mut Texts,
+) -> (Result<T, Error>, Tape<'k, Global>)
+    ensures read { IsRead input.old buffers.old.limit result.0 }
+    ensures limit { buffers.new.limit ≡ buffers.old.limit }
+{
+    let (parsed, tape) = refill_tape(input, buffers, kept);
+    let read = match parsed {
+        Ok(()) => read_nodes(tape.nodes(), texts),
+        Err(e) => Err(Error::Parse(e)),
+    };
+    (read, tape.reset())
+}
+
+/// Reads a type that borrows nothing, as [`read`] does. Strings are copied only into the type.
+pub fn read_owned<'k, T: DeserializeOwned>(
+    input: &mut [u8],
+    buffers: &mut Buffers<Global>,
+    kept: Tape<'k, Global>,
+    texts: &mut Texts,
+) -> (Result<T, Error>, Tape<'k, Global>)
+    ensures read { IsRead input.old buffers.old.limit result.0 }
+    ensures limit { buffers.new.limit ≡ buffers.old.limit }
+{
+    let (parsed, tape) = refill_tape(input, buffers, kept);
+    let read = match parsed {
+        Ok(()) => read_nodes_owned(tape.nodes(), texts),
+        Err(e) => Err(Error::Parse(e)),
+    };
+    (read, tape.reset())
+}
+
+fn read_nodes<'de, T: Deserialize<'de>>(
+    nodes: &[Node<'_>],
+    texts: &'de mut Texts,
+) -> Result<T, Error>
+    ensures { IsLate result }
+{
+    let Texts {
+        alloc,
+        text,
+        starts,
+        outer,
+    } = texts;
+    let alloc = *alloc;
+    if copy_strings(nodes, text, starts).is_err() {
+        return Err(Error::no_memory(alloc));
+    }
+    let kept = std::mem::replace(outer, Vec::new(alloc));
+    let mut reader = NodeReader::with_starts(nodes, starts, kept);
+    let read = read_one(alloc, text.as_bytes(), &mut reader);
+    *outer = reader.into_outer();
+    read
+}
+
+fn read_nodes_owned<T: DeserializeOwned>(nodes: &[Node<'_>], texts: &mut Texts) -> Result<T, Error>
+    ensures { IsLate result }
+{
+    let kept = std::mem::replace(&mut texts.outer, Vec::new(texts.alloc));
+    let mut reader = NodeReader::new(nodes, kept);
+    let read = read_one_owned(texts.alloc, &mut reader);
+    texts.outer = reader.into_outer();
+    read
+}
+
+fn read_one<'de, T: Deserialize<'de>>(
+    alloc: Global,
+    input: &'de [u8],
+    reader: &mut NodeReader<'_, '_>,
+) -> Result<T, Error>
+    ensures { IsLate result }
+{
+    let read = T::deserialize(alloc, &mut Deserializer::new(input, reader));
+    located(alloc, read, reader.nodes)
+}
+
+fn read_one_owned<T: DeserializeOwned>(
+    alloc: Global,
+    reader: &mut NodeReader<'_, '_>,
+) -> Result<T, Error>
+    ensures { IsLate result }
+{
+    let read = T::deserialize_owned(alloc, &mut Deserializer::new(&[], reader));
+    located(alloc, read, reader.nodes)
+}
+
+// The read, with the path of a value that does not fit.
+#[inline]
+fn located<T>(alloc: Global, read: Result<T, Fault>, nodes: &[Node<'_>]) -> Result<T, Error>
+    ensures { IsLate result }
+{
+    match read {
+        Ok(value) => Ok(value),
+        Err(fault) => Err(Error::Mismatch(Mismatch::new(alloc, fault, nodes))),
+    }
+}
