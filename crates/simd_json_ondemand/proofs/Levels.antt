@@ -1,16 +1,16 @@
 -- A document that is read within any depth limit is read with as many levels as there are tokens, whatever the error is
 -- where a token is missing. So an input that is answered as a document is that document along its structural indexes.
-use Rattle.std.proofs.Common.{◌≡◌, refl, sym, ◌∙◌, ap, subst, ℕ, zero, suc, ◌<◌, ◌≤◌, List, [], ◌∷◌, length, arith}
+use Rattle.std.proofs.Common.{◌≡◌, refl, sym, ap, subst, ℕ, zero, suc, ◌<◌, ◌≤◌, List, [], ◌∷◌, length, arith}
 use Rattle.std.specs.Prelude.{Result, Ok, Err, IfOk, Option, Some, None}
 use Rattle.simd_json_parts.specs.Answer.{answer, fault_or}
-use Rattle.simd_json_parts.specs.Document.{Document, array, object, string, Elements, element, Members, member}
+use Rattle.simd_json_parts.specs.Document.{Document, Elements, Members}
 use Rattle.simd_json_parts.specs.Faults.{fault_at}
 use Rattle.simd_json_parts.specs.InputFaults.{input_fault}
 use Rattle.simd_json_parts.specs.Positions.{positions}
 use Rattle.simd_json_parts.specs.Tokens.{Token, Form, begin_array, end_array, begin_object, end_object, name_separator}
 use Rattle.simd_json_parts.specs.Tokens.{value_separator, string_token, scalar, tokens}
 use Rattle.simd_json_parts.specs.TokensAlong.{tokens_along}
-use Rattle.simd_json_parts.specs.Descent.{◌>>=◌, Reads, next, after_element, element_end, elements_from, elements_by, first_element}
+use Rattle.simd_json_parts.specs.Descent.{◌>>=◌, Reads, after_element, element_end, elements_from, elements_by, first_element}
 use Rattle.simd_json_parts.specs.Descent.{array_from, name_of, name_from, after_name, name_end, after_member, member_end}
 use Rattle.simd_json_parts.specs.Descent.{members_from, members_by, first_member, object_from, value_of}
 use Rattle.simd_json_parts.specs.Descent.{value_with, too_deep, value_from, root_end, descent, last_index}

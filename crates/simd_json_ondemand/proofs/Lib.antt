@@ -3,3 +3,4 @@ pub mod Scans
 pub mod Standing
 pub mod Agreement
 pub mod Quoted
+pub mod Literals

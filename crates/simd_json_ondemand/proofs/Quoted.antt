@@ -1,9 +1,9 @@
 -- The string at a structural index: it is closed, and its literal alone is read as it is.
-use Rattle.std.proofs.Common.{◌≡◌, ◌≢◌, refl, sym, ◌∙◌, ap, subst, ℕ, zero, suc, ◌+◌, ◌-◌, ◌<◌, ◌≤◌, inl, inr, List, [], ◌∷◌, length, take}
-use Rattle.std.proofs.Common.{drop, get_or, Bool, true, false, cond, not, ◌||◌, ◌==◌, nat_eq, Contains, take-append-drop, arith}
-use Rattle.std.specs.Prelude.{Ok, Err, Some, None, IsUtf8, slice_range, option_and_then, if◌then◌else◌}
+use Rattle.std.proofs.Common.{◌≡◌, refl, sym, ◌∙◌, ap, subst, ℕ, zero, suc, ◌+◌, ◌<◌, ◌≤◌, inl, inr, List, [], ◌∷◌, length, take}
+use Rattle.std.proofs.Common.{drop, get_or, Bool, true, false, cond, not, ◌||◌, ◌==◌, nat_eq, Contains, arith}
+use Rattle.std.specs.Prelude.{Ok, Err, Some, None, IsUtf8, slice_range, option_and_then}
 use Rattle.std.specs.List.{prefix_len}
-use Rattle.std.proofs.lemmas.Bool.{cases_Bool, cond-true, cond-false, eqb-true, false≢true}
+use Rattle.std.proofs.lemmas.Bool.{cases_Bool, eqb-true, false≢true}
 use Rattle.std.proofs.lemmas.List.{length-drop, drop-drop, drop-take, get_or-drop, get_or_default, get_or-take, length-take-le}
 use Rattle.std.proofs.lemmas.List.Sums.{prefix_len_is, prefix_len_stops}
 use Rattle.std.proofs.lemmas.Str.{IsUtf8-take, IsCharBoundary-after_ascii}

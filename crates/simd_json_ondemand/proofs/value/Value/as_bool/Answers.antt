@@ -1,5 +1,5 @@
-use Rattle.std.proofs.Common.{◌≡◌, sym, ◌∙◌, ap, ℕ, List, Bool}
-use Rattle.std.specs.Prelude.{option_and_then, codes, true, false}
+use Rattle.std.proofs.Common.{◌≡◌, sym, ◌∙◌, ap, ℕ, List}
+use Rattle.std.specs.Prelude.{option_and_then, codes, true}
 use Rattle.simd_json_ondemand.specs.Docs.{text, index_of}
 use Rattle.simd_json_parts.specs.Views as views
 use Rattle.simd_json_ondemand.proofs.Standing.{spells, spelt-here}

@@ -1,11 +1,11 @@
-use Rattle.std.proofs.Common.{◌≡◌, refl, sym, ◌∙◌, ap, subst, ℕ, ◌+◌, List, take, length, ◌<◌, arith}
+use Rattle.std.proofs.Common.{◌≡◌, refl, sym, ◌∙◌, ap, subst, ℕ, ◌+◌, List, take, length, ◌<◌}
 use Rattle.std.proofs.lemmas.Bool.{ne_eqb}
 use Rattle.std.specs.Prelude.{IsUtf8}
 use Rattle.simd_json_parts.specs.Bytes.{byte_at, quote}
 use Rattle.simd_json_parts.specs.StringAt.{closing_quote, string_at}
 use Rattle.simd_json_ondemand.specs.Docs.{text, index_of}
 use Rattle.simd_json_ondemand.proofs.Standing.{no-string}
-use Rattle.simd_json_ondemand.proofs.Quoted.{IsQuoted, quoted-value, literal-opening, literal-closing, literal-utf8, literal-string}
+use Rattle.simd_json_ondemand.proofs.Quoted.{IsQuoted, quoted-value, literal-closing, literal-utf8, literal-string}
 use Rattle.simd_json_ondemand.proofs.Quoted.{alone-string, alone-none}
 use Rattle.simd_json_ondemand.proofs.value.Value.decode.Goals as goal
 
