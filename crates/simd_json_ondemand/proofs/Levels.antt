@@ -163,7 +163,8 @@ module _ (b : List ℕ) (missing missing' : Error) where
       value_with-Follows (too_deep b missing) (λ _. array_from b missing' (value_from b missing' enough))
       (too_deep b missing) (λ _. object_from b missing' (value_from b missing' enough)) (t ∷ ts) (λ u us k. tt) (λ u us k. tt)
   value_from-Follows (suc levels) (suc enough) (t ∷ ts) l =
-      value_with-Follows (λ _. array_from b missing (value_from b missing levels)) (λ _. array_from b missing' (value_from b missing' enough))
+      value_with-Follows (λ _. array_from b missing (value_from b missing levels))
+      (λ _. array_from b missing' (value_from b missing' enough))
       (λ _. object_from b missing (value_from b missing levels)) (λ _. object_from b missing' (value_from b missing' enough)) (t ∷ ts)
       (λ u us k. array_from-Follows (value_from b missing levels) (value_from b missing' enough) enough
       (λ vs m. value_from-Follows levels enough vs m) (value_from-leaves b missing levels) us (omega arith))
@@ -191,7 +192,8 @@ read-answered b limit d h =
     let missing' : Error = fault_at b Syntax 0 in
     let read : value_from b missing limit ts ≡ Ok (d, []) =
     rooted b ts (value_from b missing limit ts) d (answered (input_fault b) (descent b limit) d h) in
-    let along : value_from b missing limit us ≡ Ok (d, []) = subst (λ vs. value_from b missing limit vs ≡ Ok (d, [])) (tokens-positions b) read in
+    let along : value_from b missing limit us ≡ Ok (d, []) =
+    subst (λ vs. value_from b missing limit vs ≡ Ok (d, [])) (tokens-positions b) read in
     let follows : Follows (value_from b missing limit us) (value_from b missing' (length us) us) =
     value_from-Follows b missing missing' limit (length us) us (omega arith) in
     let whole : value_from b missing' (length us) us ≡ Ok (d, []) =

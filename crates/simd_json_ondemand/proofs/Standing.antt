@@ -1,6 +1,8 @@
 -- Which scalar or string stands at an index, by cases on the first byte.
-use Rattle.std.proofs.Common.{◌≡◌, refl, sym, ◌∙◌, ap, ℕ, ◌+◌, List, length, take, drop, Bool, true, false, ◌||◌, ◌&&◌, ◌==◌, nat_le, nat_eq, inl, inr, [], ◌∷◌, arith}
-use Rattle.std.specs.Prelude.{Option, Some, None, Result, Ok, Err, IfOk, IfSome, nat_lt, codes, option_map, option_and_then, is_some, IsUtf8, ◌≤◌}
+use Rattle.std.proofs.Common.{◌≡◌, refl, sym, ◌∙◌, ap, ℕ, ◌+◌, List, length, take, drop, Bool, true, false, ◌||◌, ◌&&◌, ◌==◌}
+use Rattle.std.proofs.Common.{nat_le, nat_eq, inl, inr, [], ◌∷◌, arith}
+use Rattle.std.specs.Prelude.{Option, Some, None, Result, Ok, Err, IfOk, IfSome, nat_lt, codes, option_map, option_and_then}
+use Rattle.std.specs.Prelude.{is_some, IsUtf8, ◌≤◌}
 use Rattle.std.specs.List.{starts_with}
 use Rattle.std.specs.Char.{is_ascii_digit}
 use Rattle.std.proofs.lemmas.Bool.{cases_Bool, cond_both, cond-true, and_parts, eqb-true, false≢true}
@@ -134,7 +136,8 @@ module _ (b : List ℕ) (i : ℕ) where
   pub kind-scalar : (byte_at b i == 91) ≡ false → (byte_at b i == 123) ≡ false → (byte_at b i == 34) ≡ false
       → kind_of (form_at b i) ≡ option_map value_type (scalar_of (form_at b i))
   kind-scalar a o s =
-      by_form (λ form. kind_of form ≡ option_map value_type (scalar_of form)) (other-byte 91 refl a) refl (other-byte 123 refl o) refl refl refl
+      by_form (λ form. kind_of form ≡ option_map value_type (scalar_of form)) (other-byte 91 refl a) refl
+      (other-byte 123 refl o) refl refl refl
       (other-byte 34 refl s) (of_scalar (atom_at b i)) (λ _. of_scalar (number_at b i)) refl
     where
       of_scalar : (r : Result (Document × ℕ) Error) → kind_of (scalar r) ≡ option_map value_type (scalar_of (scalar r))
@@ -195,7 +198,8 @@ module _ (b : List ℕ) (i : ℕ) where
 
   pub no-bool : spells b i (codes "true") ≡ false → spells b i (codes "false") ≡ false
       → option_and_then as_bool (scalar_of (form_at b i)) ≡ None
-  no-bool none nor = none-standing as_bool _ (by_standing b i (λ d. as_bool d ≡ None) (λ _ _. refl) (λ e. absurd (false≢true (sym none ∙ e)))
+  no-bool none nor = none-standing as_bool _ (by_standing b i (λ d. as_bool d ≡ None) (λ _ _. refl)
+      (λ e. absurd (false≢true (sym none ∙ e)))
       (λ e. absurd (false≢true (sym nor ∙ e))) (λ _. refl) (λ _ _ _. refl) (λ _ _. refl))
 
   pub no-string : (byte_at b i == 34) ≡ false → option_and_then as_str (scalar_of (form_at b i)) ≡ None

@@ -213,8 +213,8 @@ impl<'d> Value<'d> {
         }
     }
 
-    /// Returns the bytes of a string, with its quotes, or of a number, `true`, `false` or `null`, as
-    /// they are written, or `None`. That the escapes of a string are right is not tested.
+    /// Returns the bytes of a string, with its quotes, or of a number, `true`, `false` or `null`,
+    /// as they are written, or `None`. That the escapes of a string are right is not tested.
     pub fn raw(self) -> Option<&'d [u8]>
         ensures { option_map (λ bytes. bytes.now) result ≡ literal self.entry }
     {

@@ -100,7 +100,10 @@ fn literals_are_raw(rt: HostRuntime) {
         (b"-", None),
         (b",", None),
     ] {
-        let value = index.find(input).expect(&rt, "the strings are closed").as_value();
+        let value = index
+            .find(input)
+            .expect(&rt, "the strings are closed")
+            .as_value();
         assert_same!(&rt; value.raw(), raw, input);
     }
 }

@@ -10,7 +10,8 @@ pub returns-then-spells : goal.returns-then-spells
 returns-then-spells c =
     let b : List ℕ = text c.args.self.document in
     let i : ℕ = index_of c.args.self in
-    let here : spells b i (codes "null") ≡ true = spelt-here b _ (codes "null") i _ c.bytes.ensures.bytes c.spells.ensures ∙ c.if-spells.true in
+    let here : spells b i (codes "null") ≡ true =
+    spelt-here b _ (codes "null") i _ c.bytes.ensures.bytes c.spells.ensures ∙ c.if-spells.true in
     sym (ap (option_and_then views.as_null) (null-standing b i here))
 
 pub returns-else-spells : goal.returns-else-spells

@@ -34,7 +34,8 @@ parse_str-requires-clause-closing g c =
     let q : IsQuoted bs = quoted-value v first bs c.bytes-bytes.ensures.bytes in
     let end : ℕ = c.closing-end.result in
     let lit : c.as_mut_slice.result.now ≡ take (end + 1) bs = c.as_mut_slice.ensures.value ∙ c.in_ok-copy.ensures.copied in
-    subst (λ us. closing_quote us 0 < length us) (sym lit) (literal-closing bs q end c.closing-end.ensures.value c.closing-end.ensures.quote)
+    subst (λ us. closing_quote us 0 < length us) (sym lit)
+    (literal-closing bs q end c.closing-end.ensures.value c.closing-end.ensures.quote)
 
 pub parse_str-requires-clause-utf8 : goal.parse_str-requires-clause-utf8
 parse_str-requires-clause-utf8 g c =
