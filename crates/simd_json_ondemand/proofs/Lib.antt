@@ -12,3 +12,4 @@ pub mod LowestBits
 pub mod ClosingBits
 pub mod Tails
 pub mod ArrayViews
+pub mod Literals

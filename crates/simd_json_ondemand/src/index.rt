@@ -69,8 +69,8 @@ impl<A: Allocator> Index<A> {
     /// that number): after it [`find`](Index::find) never returns `OutOfMemory` for such an input,
     /// however many follow.
     ///
-    /// What is listed stays. Returns `OutOfMemory` if an allocation fails; what has been reserved by
-    /// then stays.
+    /// What is listed stays. Returns `OutOfMemory` if an allocation fails; what has been reserved
+    /// by then stays.
     pub fn reserve(&mut self, input_len: usize) -> Result<()>
         ensures reserved { OnOk result (capped input_len ≤ capacity self.new) }
         ensures exact { OnOk result ((self.new.indexes ≡ max self.old.indexes (capped input_len))
