@@ -49,7 +49,7 @@ impl<A: Allocator + Copy> Index<A> {
     /// Returns `OutOfMemory` if an allocation fails.
     pub fn new(a: A, input_len: usize) -> Result<Index<A>>
         ensures capacity { IfOk result (λ index. (index.indexes ≡ capped input_len)
-            × (index.blocks ≡ blocks_in (capped input_len))) }
+            × (index.blocks ≡ blocks_in (capped input_len)) × (index.listed ≡ [])) }
         ensures fault { IfErr result (λ e. IsOutOfMemory e × (0 < input_len)) }
     {
         let mut index = Index {
