@@ -10,7 +10,7 @@ ghost use Rattle.simd_json_c.specs.declared.tape.Lists.{Lists};
 ghost use Rattle.std.specs.Box.Ownership.{box_owns};
 
 use crate::nodes::{Node, Room};
-use crate::status::{OUT_OF_MEMORY, PARSER_CLOSED, ErrorPlace, reported};
+use crate::status::{ErrorPlace, OUT_OF_MEMORY, PARSER_CLOSED, reported};
 use crate::tape::Lists;
 use std::alloc::{Allocator, Global};
 use std::marker::Model;
