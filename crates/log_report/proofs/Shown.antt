@@ -48,9 +48,16 @@ shows-parsed lines buffers tape held holds key longest r limited reserved shown 
 pub shows-added : {A : Type 0} (old new : Lines A) (held holds : Option (List ℕ)) (key : List ℕ) (longest : ℕ) (r : Report) (text : List ℕ)
     (more : ℕ) → Shows old held holds key longest r → CountsMore old new text more
     → Shows new held holds key longest (record r { counts = counted more text r.counts })
-shows-added old new held holds key longest r text more shown h =
-    subst (λ l. Shows l held holds key longest (record r { counts = counted more text r.counts })) (sym h.same)
-    (record shown { counts = h.counts ∙ ap (counted more text) shown.counts })
+shows-added old new held holds key longest r text more shown h = record {
+  by_key = ap (λ l. l.key.now) h.same ∙ shown.by_key;
+  most = ap (λ l. l.longest) h.same ∙ shown.most;
+  limited = ap (λ l. l.buffers.limit) h.same ∙ shown.limited;
+  reserved = subst (λ l. IsReserved l.longest l.buffers l.tape) (sym h.same) shown.reserved;
+  number = ap (λ l. l.number) h.same ∙ shown.number;
+  all_taken = ap (λ l. l.all_taken) h.same ∙ shown.all_taken;
+  counts = h.counts ∙ ap (counted more text) shown.counts;
+  rejections = shown.rejections;
+}
 
 pub added-over : {A : Type 0} (old new : Lines A) (tape : Listed) (text : List ℕ) (more : ℕ) → CountsMore old new text more
     → CountsMore (record old { tape = tape }) (record new { tape = tape }) text more
@@ -61,15 +68,19 @@ pub shows-rejected : {A E : Type 0} (naming : E → Option (List ℕ)) (old new 
     (held : Option (List ℕ)) (key : List ℕ) (longest : ℕ) (r : Report) (error : Option Error)
     → Shows old held (naming rejections.inner) key longest r → IsRejection naming old new rejections rejects error
     → Shows new held (naming rejects.inner) key longest (with_rejection longest r error)
-shows-rejected naming old new rejections rejects held key longest r error shown h =
-    subst (λ l. Shows l held (naming rejects.inner) key longest (with_rejection longest r error)) (sym h.same) (record shown {
-      all_taken = refl;
-      counts = h.counts ∙ ap (counted 1 rejected) shown.counts;
-      rejections =
-          appends-then held (naming rejections.inner) (naming rejects.inner) r.rejections _ shown.rejections
-          (subst (λ n. Appends (naming rejections.inner) (naming rejects.inner) (rejection_line n r.number error)) shown.most
-          (subst (λ n. Appends (naming rejections.inner) (naming rejects.inner) (rejection_line old.longest n error)) shown.number h.named));
-    })
+shows-rejected naming old new rejections rejects held key longest r error shown h = record {
+  by_key = ap (λ l. l.key.now) h.same ∙ shown.by_key;
+  most = ap (λ l. l.longest) h.same ∙ shown.most;
+  limited = ap (λ l. l.buffers.limit) h.same ∙ shown.limited;
+  reserved = subst (λ l. IsReserved l.longest l.buffers l.tape) (sym h.same) shown.reserved;
+  number = ap (λ l. l.number) h.same ∙ shown.number;
+  all_taken = ap (λ l. l.all_taken) h.same;
+  counts = h.counts ∙ ap (counted 1 rejected) shown.counts;
+  rejections =
+      appends-then held (naming rejections.inner) (naming rejects.inner) r.rejections _ shown.rejections
+      (subst (λ n. Appends (naming rejections.inner) (naming rejects.inner) (rejection_line n r.number error)) shown.most
+      (subst (λ n. Appends (naming rejections.inner) (naming rejects.inner) (rejection_line old.longest n error)) shown.number h.named));
+}
 
 pub rejected-over : {A E : Type 0} (naming : E → Option (List ℕ)) (old new : Lines A) (tape : Listed) (rejections rejects : Watched E)
     (error : Option Error)
