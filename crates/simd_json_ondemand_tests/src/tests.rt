@@ -21,6 +21,7 @@ macro_rules! assert_that {
     };
 }
 
+mod examples;
 mod memory;
 mod other;
 mod tape;
