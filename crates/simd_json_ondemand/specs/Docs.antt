@@ -34,7 +34,7 @@ index_of v = slice_index (places v.document) v.at
 abbrev pub form : Value → Form
 form v = form_at (text v.document) (index_of v)
 
--- the string or scalar that stands there, if one does
+-- the string or scalar there, if one is
 abbrev pub standing : Value → Option parts.Document
 standing v = scalar_of (form v)
 
@@ -50,7 +50,7 @@ literal v = let b = text v.document in option_map (slice_range b (index_of v)) (
 abbrev pub kind : Value → Option ValueType
 kind v = kind_of (form v)
 
--- the string that stands there has an escape: a backslash before its closing quote
+-- the string there has an escape: a backslash before its closing quote
 abbrev pub HasEscape : Value → Type 0
 HasEscape v = let b = text v.document in
     (j : ℕ) × (index_of v < j) × (j < closing_quote b (index_of v)) × (byte_at b j ≡ backslash)

@@ -1,6 +1,6 @@
 //! The typed accessors: the value as a Rust type, where it is a string or a scalar.
 //!
-//! Each is stated of what stands at the value's structural index, so it holds of any input; a law
+//! Each contract is of what is at the value's structural index, so it holds for any input; a law
 //! says that where a document begins there, it is what the same accessor of a tape returns.
 ghost use Rattle.std.specs.Prelude.{◌≡◌, ◌==◌, ◌&&◌, ◌||◌, ℕ, List, length, drop, nat_eq};
 ghost use Rattle.std.specs.List.{starts_with};
@@ -57,7 +57,7 @@ impl<'d> Value<'d> {
         }
     }
 
-    // Reads the number that stands here, if one begins here.
+    // Reads the number here, if one begins here.
     #[inline(always)]
     fn numeral(self) -> Option<Numeral>
         ensures { MatchOption result (IsNoNumber (standing self.entry))
@@ -266,7 +266,7 @@ impl<'d> Value<'d> {
         self.scalar_type()
     }
 
-    // The kind of what stands here, which is no string.
+    // The kind of the scalar here, which is no string.
     #[inline(always)]
     fn scalar_type(self) -> Option<ValueType>
         requires { (byte_at (text self.document) (index_of self) == quote) ≡ false }

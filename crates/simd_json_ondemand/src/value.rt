@@ -2,8 +2,8 @@
 ghost use Rattle.std.specs.Prelude.{◌≡◌, ◌<◌, length};
 ghost use Rattle.simd_json_ondemand.specs.Scanned.{IsScanned};
 
-/// An input whose structural indexes are known. It is a document of the grammar if each token
-/// stands where one is expected, which is tested only where values are read.
+/// An input whose structural indexes are known. Whether it is a document of the grammar is tested
+/// only where values are read.
 #[derive(Clone, Copy, Debug)]
 pub struct Document<'d> {
     pub(crate) input: &'d [u8],
@@ -11,7 +11,7 @@ pub struct Document<'d> {
     ghost scanned: { IsScanned input.now indexes.now },
 }
 
-/// A value of a document, or what stands in the place of one.
+/// A value of a document, or what is found in the place of one.
 #[derive(Clone, Copy, Debug)]
 pub struct Value<'d> {
     pub(crate) document: Document<'d>,
@@ -34,12 +34,13 @@ impl<'d> Document<'d> {
         Document { input, indexes }
     }
 
-    /// Returns the root of the document: what stands at the first structural index.
+    /// Returns the root of the document: the value at the first structural index.
     #[inline(always)]
     #[tactic(auto, using(crate::proofs::Scans::some_position))]
     pub fn as_value(self) -> Value<'d>
         ensures document { doc result ≡ root self.entry }
-        ensures token { form result ≡ form_at (text self.entry) (slice_index (places self.entry) 0) }
+        ensures token { form result
+            ≡ form_at (text self.entry) (slice_index (places self.entry) 0) }
     {
         Value {
             document: self,

@@ -1,4 +1,4 @@
-//! Laws of what stands at a value. Each function has an empty body: its contract is the law, which
+//! Laws of what accessors return. Each function has an empty body: its contract is the law, which
 //! is proved.
 ghost use Rattle.std.specs.Prelude.{◌≡◌, Some, None};
 ghost use Rattle.simd_json_ondemand.specs.Docs.{doc, form, kind, standing, as_standing};

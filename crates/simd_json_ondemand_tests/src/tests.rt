@@ -21,12 +21,16 @@ macro_rules! assert_that {
     };
 }
 
+<<<<<<< HEAD
 mod arrays;
+=======
+mod examples;
+>>>>>>> 6f4fedb1f407615fdaf1567f6562a2eb27e0ae3f
 mod memory;
 mod other;
 mod tape;
 
-// Why a test goes on: the allocations that are not to be refused.
+// Why a test goes on: the allocations that are not to fail.
 const MEMORY: &str = "there is memory";
 
 fn same<T: PartialEq + Debug + Drop>(rt: &impl Abort, what: &str, found: T, wanted: T) {
