@@ -9,7 +9,8 @@ use Rattle.simd_json_parts.specs.declared.node.Node.{Node}
 use Rattle.simd_json_serde.specs.Steps.{nodes_beneath}
 
 -- a listing's first node says how many follow it
-beneath_first : (d : Document) (i : Item) (rest others : List Item) → listing d ++ rest ≡ i ∷ others → nodes_beneath i + 1 ≡ length (listing d)
+beneath_first : (d : Document) (i : Item) (rest others : List Item) → listing d ++ rest ≡ i ∷ others →
+    nodes_beneath i + 1 ≡ length (listing d)
 beneath_first null i rest others h = grind (arith, common_steps)
 beneath_first (boolean b) i rest others h = grind (arith, common_steps)
 beneath_first (integer minus n) i rest others h = grind (arith, common_steps)

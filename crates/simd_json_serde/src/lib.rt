@@ -59,10 +59,10 @@
 //! # What is proved
 //!
 //! A value and a [`Mismatch`] are returned only if the input is a document of RFC 8259 within the
-//! limits, and else the parse's first error (`IsRead`). Each step of [`NodeReader`] returns what the
-//! node it takes says, and `skip` passes one value (`Reads`, `Picks`). Not proved, but tested beside
-//! `serde_json`: that a derived type is read as the document says, since derives have no contract;
-//! when a mismatch is returned, its words and its path.
+//! limits, and else the parse's first error (`IsRead`). Each step of [`NodeReader`] returns what
+//! the node that it takes says, and `skip` passes one value (`Reads`, `Picks`). Not proved, but
+//! tested beside `serde_json`: that a derived type is read as the document says, since derives have
+//! no contract; when a mismatch is returned, its words and its path.
 #![tactic(auto)]
 
 mod error;
