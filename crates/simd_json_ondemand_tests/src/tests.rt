@@ -21,11 +21,8 @@ macro_rules! assert_that {
     };
 }
 
-<<<<<<< HEAD
 mod arrays;
-=======
 mod examples;
->>>>>>> 6f4fedb1f407615fdaf1567f6562a2eb27e0ae3f
 mod memory;
 mod other;
 mod tape;
