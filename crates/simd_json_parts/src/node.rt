@@ -191,3 +191,5 @@ pub struct TryTypeError {
     /// The kind of the value.
     pub got: ValueType,
 }
+
+impl std::error::Error for TryTypeError {}

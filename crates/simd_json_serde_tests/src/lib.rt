@@ -1,0 +1,6 @@
+//! Tests of `simd_json_serde` through public calls alone: the same types are read by it and by
+//! `serde_json` from the same bytes. Other crates need nothing of it.
+#![tactic(auto)]
+
+#[cfg(test)]
+mod tests;

@@ -1,0 +1,44 @@
+// The example of the crate's page, and a read by the steps of a reader.
+use crate::tests::{MEMORY, bytes_of};
+use serde::{DeserializeOwned, Deserializer, Format};
+use simd_json::to_tape;
+use simd_json_serde::NodeReader;
+
+// As it is written there.
+mod page {
+    use serde::Deserialize;
+    use std::alloc::Global;
+
+    #[derive(Drop, Deserialize)]
+    struct Line {
+        level: String,
+        status: u16,
+    }
+
+    // The status of a line of a log, as `{"level":"info","status":200}`.
+    pub(super) fn status(alloc: Global, input: &mut [u8]) -> Result<u16, simd_json_serde::Error> {
+        let line: Line = simd_json_serde::from_slice_owned(alloc, input)?;
+        Ok(line.status)
+    }
+}
+
+#[test]
+fn status_of_a_line_is_read(rt: HostRuntime) {
+    let mut input = *br#"{"level":"info","status":200}"#;
+    assert_same!(&rt; page::status(rt.alloc(), &mut input).ok(), Some(200));
+}
+
+#[test]
+fn steps_pass_one_value_each(rt: HostRuntime) {
+    let alloc = rt.alloc();
+    let mut input = bytes_of(&rt, alloc, r#"[[1,{"a":[]}],7,"x"]"#);
+    let tape = to_tape(alloc, &mut input).ok().expect(&rt, MEMORY);
+    let mut reader = NodeReader::new(tape.nodes(), Vec::new(alloc));
+    assert_that!(&rt; reader.begin_seq(&[]).is_ok(), "an array");
+    assert_that!(&rt; reader.skip(&[]).is_ok(), "an array in it");
+    let seven = u64::deserialize_owned(alloc, &mut Deserializer::new(&[], &mut reader));
+    assert_same!(&rt; seven.ok(), Some(7));
+    let text = String::deserialize_owned(alloc, &mut Deserializer::new(&[], &mut reader));
+    assert_same!(&rt; text.ok().expect(&rt, MEMORY).as_str(), "x");
+    assert_same!(&rt; reader.next_item(&[]).ok(), Some(false));
+}

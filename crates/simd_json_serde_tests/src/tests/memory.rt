@@ -1,0 +1,40 @@
+// Each read returns its value or an error of memory, also where an allocation fails: by hand,
+// `rt try --test --fail-alloc N` for each N, where the other tests may fail.
+use crate::tests::types::{Line, Strict, Timeline};
+use simd_json::{Buffers, ErrorType, Tape};
+use simd_json_serde::{Error, MismatchKind, Texts, from_slice, from_slice_owned, read};
+use std::process::Abort;
+
+fn assert_read_or_of_memory<T>(rt: &impl Abort, what: &str, read: &Result<T, Error>) {
+    let is_read = match read {
+        Ok(_) => true,
+        Err(Error::Parse(e)) => *e.error() == ErrorType::OutOfMemory,
+        Err(Error::Mismatch(e)) => e.kind() == MismatchKind::OutOfMemory,
+    };
+    assert_that!(rt; is_read, what);
+}
+
+#[test]
+fn failed_allocations_are_errors(rt: HostRuntime) {
+    let alloc = rt.alloc();
+    let mut input = *br#"{"statuses":[{"id":1,"text":"a","user":{"name":"","handle":"b"}}]}"#;
+    let owned: Result<Timeline, Error> = from_slice_owned(alloc, &mut input);
+    assert_read_or_of_memory(&rt, "owned", &owned);
+    let mut input = *br#"[["a",1.5],["\n",2],["",3]]"#;
+    let borrowed: Result<Vec<(&str, f64)>, Error> = from_slice(alloc, &mut input);
+    assert_read_or_of_memory(&rt, "borrowed", &borrowed);
+    let mut input = *br#"{"b":{},"a":"x"}"#;
+    let misfit: Result<Strict, Error> = from_slice_owned(alloc, &mut input);
+    assert_that!(&rt; misfit.is_err(), "a misfit");
+    let mut texts = Texts::new(alloc);
+    let mut kept = Tape::empty(alloc);
+    let Ok(mut buffers) = Buffers::new(alloc, 0) else {
+        return;
+    };
+    for _ in 0..2 {
+        let mut input = *br#"{"time":"\u0041","level":"","status":200,"path":"\/a","z":[{}]}"#;
+        let (line, tape) = read::<Line<'_>>(&mut input, &mut buffers, kept, &mut texts);
+        assert_read_or_of_memory(&rt, "kept", &line);
+        kept = tape;
+    }
+}
