@@ -12,3 +12,5 @@ pub mod LowestBits
 pub mod ClosingBits
 pub mod Tails
 pub mod ArrayViews
+pub mod MemberTails
+pub mod ObjectViews
