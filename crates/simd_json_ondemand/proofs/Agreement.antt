@@ -1,5 +1,5 @@
 -- What stands at a value is what the document says that begins there.
-use Rattle.std.proofs.Common.{◌≡◌, refl, sym, ◌∙◌, ap, subst, ℕ, zero, suc, ◌+◌, ◌<◌, List, [], ◌∷◌, length, drop, get_or, Bool, true, false, cond, arith}
+use Rattle.std.proofs.Common.{◌≡◌, refl, sym, ◌∙◌, ap, subst, ℕ, ◌+◌, ◌<◌, List, [], ◌∷◌, length, drop, get_or, false, cond}
 use Rattle.std.specs.Prelude.{Option, Some, None, Result, Ok, Err, IfSome, option_and_then}
 use Rattle.std.proofs.lemmas.List.{drop_more}
 use Rattle.simd_json_parts.specs.Document.{Document, array, object, string, Elements, Members}

@@ -1,16 +1,16 @@
 -- A document that is read within any depth limit is read with as many levels as there are tokens, whatever the error is
 -- where a token is missing. So an input that is answered as a document is that document along its structural indexes.
-use Rattle.std.proofs.Common.{◌≡◌, refl, sym, ◌∙◌, ap, subst, ℕ, zero, suc, ◌<◌, ◌≤◌, List, [], ◌∷◌, length, arith}
+use Rattle.std.proofs.Common.{◌≡◌, refl, sym, ap, subst, ℕ, zero, suc, ◌<◌, ◌≤◌, List, [], ◌∷◌, length, arith}
 use Rattle.std.specs.Prelude.{Result, Ok, Err, IfOk, Option, Some, None}
 use Rattle.simd_json_parts.specs.Answer.{answer, fault_or}
-use Rattle.simd_json_parts.specs.Document.{Document, array, object, string, Elements, element, Members, member}
+use Rattle.simd_json_parts.specs.Document.{Document, Elements, Members}
 use Rattle.simd_json_parts.specs.Faults.{fault_at}
 use Rattle.simd_json_parts.specs.InputFaults.{input_fault}
 use Rattle.simd_json_parts.specs.Positions.{positions}
 use Rattle.simd_json_parts.specs.Tokens.{Token, Form, begin_array, end_array, begin_object, end_object, name_separator}
 use Rattle.simd_json_parts.specs.Tokens.{value_separator, string_token, scalar, tokens}
 use Rattle.simd_json_parts.specs.TokensAlong.{tokens_along}
-use Rattle.simd_json_parts.specs.Descent.{◌>>=◌, Reads, next, after_element, element_end, elements_from, elements_by, first_element}
+use Rattle.simd_json_parts.specs.Descent.{◌>>=◌, Reads, after_element, element_end, elements_from, elements_by, first_element}
 use Rattle.simd_json_parts.specs.Descent.{array_from, name_of, name_from, after_name, name_end, after_member, member_end}
 use Rattle.simd_json_parts.specs.Descent.{members_from, members_by, first_member, object_from, value_of}
 use Rattle.simd_json_parts.specs.Descent.{value_with, too_deep, value_from, root_end, descent, last_index}
@@ -163,7 +163,8 @@ module _ (b : List ℕ) (missing missing' : Error) where
       value_with-Follows (too_deep b missing) (λ _. array_from b missing' (value_from b missing' enough))
       (too_deep b missing) (λ _. object_from b missing' (value_from b missing' enough)) (t ∷ ts) (λ u us k. tt) (λ u us k. tt)
   value_from-Follows (suc levels) (suc enough) (t ∷ ts) l =
-      value_with-Follows (λ _. array_from b missing (value_from b missing levels)) (λ _. array_from b missing' (value_from b missing' enough))
+      value_with-Follows (λ _. array_from b missing (value_from b missing levels))
+      (λ _. array_from b missing' (value_from b missing' enough))
       (λ _. object_from b missing (value_from b missing levels)) (λ _. object_from b missing' (value_from b missing' enough)) (t ∷ ts)
       (λ u us k. array_from-Follows (value_from b missing levels) (value_from b missing' enough) enough
       (λ vs m. value_from-Follows levels enough vs m) (value_from-leaves b missing levels) us (omega arith))
@@ -191,7 +192,8 @@ read-answered b limit d h =
     let missing' : Error = fault_at b Syntax 0 in
     let read : value_from b missing limit ts ≡ Ok (d, []) =
     rooted b ts (value_from b missing limit ts) d (answered (input_fault b) (descent b limit) d h) in
-    let along : value_from b missing limit us ≡ Ok (d, []) = subst (λ vs. value_from b missing limit vs ≡ Ok (d, [])) (tokens-positions b) read in
+    let along : value_from b missing limit us ≡ Ok (d, []) =
+    subst (λ vs. value_from b missing limit vs ≡ Ok (d, [])) (tokens-positions b) read in
     let follows : Follows (value_from b missing limit us) (value_from b missing' (length us) us) =
     value_from-Follows b missing missing' limit (length us) us (omega arith) in
     let whole : value_from b missing' (length us) us ≡ Ok (d, []) =

@@ -3,6 +3,7 @@ pub mod Scans
 pub mod Standing
 pub mod Agreement
 pub mod Quoted
+pub mod Literals
 pub mod Skipping
 pub mod Enough
 pub mod Sequence

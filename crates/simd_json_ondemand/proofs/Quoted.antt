@@ -1,9 +1,9 @@
 -- The string at a structural index: it is closed, and its literal alone is read as it is.
-use Rattle.std.proofs.Common.{◌≡◌, ◌≢◌, refl, sym, ◌∙◌, ap, subst, ℕ, zero, suc, ◌+◌, ◌-◌, ◌<◌, ◌≤◌, inl, inr, List, [], ◌∷◌, length, take}
-use Rattle.std.proofs.Common.{drop, get_or, Bool, true, false, cond, not, ◌||◌, ◌==◌, nat_eq, Contains, take-append-drop, arith}
-use Rattle.std.specs.Prelude.{Ok, Err, Some, None, IsUtf8, slice_range, option_and_then, if◌then◌else◌}
+use Rattle.std.proofs.Common.{◌≡◌, refl, sym, ◌∙◌, ap, subst, ℕ, zero, suc, ◌+◌, ◌<◌, ◌≤◌, inl, inr, List, [], ◌∷◌, length, take}
+use Rattle.std.proofs.Common.{drop, get_or, Bool, true, false, cond, not, ◌||◌, ◌==◌, nat_eq, Contains, arith}
+use Rattle.std.specs.Prelude.{Ok, Err, Some, None, IsUtf8, slice_range, option_and_then}
 use Rattle.std.specs.List.{prefix_len}
-use Rattle.std.proofs.lemmas.Bool.{cases_Bool, cond-true, cond-false, eqb-true, false≢true}
+use Rattle.std.proofs.lemmas.Bool.{cases_Bool, eqb-true, false≢true}
 use Rattle.std.proofs.lemmas.List.{length-drop, drop-drop, drop-take, get_or-drop, get_or_default, get_or-take, length-take-le}
 use Rattle.std.proofs.lemmas.List.Sums.{prefix_len_is, prefix_len_stops}
 use Rattle.std.proofs.lemmas.Str.{IsUtf8-take, IsCharBoundary-after_ascii}
@@ -38,7 +38,8 @@ pub record IsQuoted (bs : List ℕ) : Type 0 where
   pub closing : closing_quote bs 0 < length bs
   pub utf8 : IsUtf8 bs
 
-pub quoted : (b is : List ℕ) → IsScanned b is → (k : ℕ) → k < length is → byte_at b (get_or is k 0) ≡ quote → IsQuoted (drop (get_or is k 0) b)
+pub quoted : (b is : List ℕ) → IsScanned b is → (k : ℕ) → k < length is → byte_at b (get_or is k 0) ≡ quote
+    → IsQuoted (drop (get_or is k 0) b)
 quoted b is s k l e =
     let i : ℕ = get_or is k 0 in
     let same : i + 0 ≡ i = omega arith in
@@ -72,7 +73,8 @@ plain-ahead bs k n ahead closing is =
     let short : m < length (drop k bs) = omega (arith, ahead, closing, size, length-drop k bs) in
     record {
       closed = omega (arith, ahead, size, is);
-      stops = ap (λ j. is_plain (byte_at bs (k + j))) is ∙ ap is_plain (sym (get_or-drop k bs m 32)) ∙ prefix_len_stops is_plain (drop k bs) 32 short;
+      stops = ap (λ j. is_plain (byte_at bs (k + j))) is ∙ ap is_plain (sym (get_or-drop k bs m 32))
+          ∙ prefix_len_stops is_plain (drop k bs) 32 short;
       inside = omega (arith, short, is, length-drop k bs);
     }
 
@@ -138,7 +140,8 @@ content_from-take true (suc n) (x ∷ us) l = ap (λ vs. x ∷ vs) (content_from
 content_from-take false (suc n) (x ∷ us) l = go (x == quote) (content_from-take (x == backslash) n us) l
   where
     go : (t : Bool) → (length (content_from (x == backslash) us) < n
-        → content_from (x == backslash) (take n us) ≡ content_from (x == backslash) us) → length (cond t [] (x ∷ content_from (x == backslash) us)) < suc n
+        → content_from (x == backslash) (take n us) ≡ content_from (x == backslash) us)
+        → length (cond t [] (x ∷ content_from (x == backslash) us)) < suc n
         → cond t [] (x ∷ content_from (x == backslash) (take n us)) ≡ cond t [] (x ∷ content_from (x == backslash) us)
     go true more k = refl
     go false more k = ap (λ vs. x ∷ vs) (more (omega arith))
@@ -185,7 +188,8 @@ quoted-value v e bs is = subst IsQuoted (sym is) (quoted (text v.document) (plac
 
 -- the first quote or backslash after the opening quote
 pub first-stop : (bs : List ℕ) → IsQuoted bs → (end : ℕ) → end ≡ 1 + prefix_len is_plain (drop 1 bs) → IsAhead bs end
-first-stop bs q end e = subst (IsAhead bs) (sym e) (plain-ahead bs 1 (prefix_len is_plain (drop 1 bs)) (opening-ahead bs q.opening) q.closing refl)
+first-stop bs q end e =
+    subst (IsAhead bs) (sym e) (plain-ahead bs 1 (prefix_len is_plain (drop 1 bs)) (opening-ahead bs q.opening) q.closing refl)
 
 -- it is a backslash where it is no quote
 pub has-escape : (v : Value) (bs : List ℕ) → bs ≡ drop (index_of v) (text v.document) → byte_at (text v.document) (index_of v) ≡ quote

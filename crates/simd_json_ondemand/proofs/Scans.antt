@@ -1,5 +1,6 @@
 -- The structural indexes of an input: there are some, and they lie within it.
-use Rattle.std.proofs.Common.{◌≡◌, refl, sym, subst, ℕ, ◌<◌, List, length, slice_index, Bool, true, false, cond, not, ◌==◌, nat_lt, zero, suc, arith}
+use Rattle.std.proofs.Common.{◌≡◌, refl, sym, subst, ℕ, ◌<◌, List, length, slice_index, Bool, true, false, cond, not, ◌==◌}
+use Rattle.std.proofs.Common.{nat_lt, zero, suc, arith}
 use Rattle.std.specs.Prelude.{Option, Some, None}
 use Rattle.simd_json_parts.specs.InputFaults.{input_fault, has_bad_string, scan_fault}
 use Rattle.simd_json_parts.specs.Faults.{whole_fault}

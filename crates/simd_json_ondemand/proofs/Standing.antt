@@ -1,11 +1,13 @@
 -- Which scalar or string stands at an index, by cases on the first byte.
-use Rattle.std.proofs.Common.{◌≡◌, refl, sym, ◌∙◌, ap, subst, ℕ, ◌+◌, List, length, take, drop, Bool, true, false, ◌||◌, ◌&&◌, ◌==◌, nat_le, nat_eq, cond, inl, inr, [], ◌∷◌, arith}
-use Rattle.std.specs.Prelude.{Option, Some, None, Result, Ok, Err, IfOk, IfSome, nat_lt, codes, option_map, option_and_then, is_some, IsUtf8, ◌≤◌, if◌then◌else◌}
+use Rattle.std.proofs.Common.{◌≡◌, refl, sym, ◌∙◌, ap, ℕ, ◌+◌, List, length, take, drop, Bool, true, false, ◌||◌, ◌&&◌, ◌==◌}
+use Rattle.std.proofs.Common.{nat_le, nat_eq, inl, inr, [], ◌∷◌, arith}
+use Rattle.std.specs.Prelude.{Option, Some, None, Result, Ok, Err, IfOk, IfSome, nat_lt, codes, option_map, option_and_then}
+use Rattle.std.specs.Prelude.{is_some, IsUtf8, ◌≤◌}
 use Rattle.std.specs.List.{starts_with}
 use Rattle.std.specs.Char.{is_ascii_digit}
 use Rattle.std.proofs.lemmas.Bool.{cases_Bool, cond_both, cond-true, and_parts, eqb-true, false≢true}
 use Rattle.simd_json_parts.specs.AtomAt.{atom_at, atom_or}
-use Rattle.simd_json_parts.specs.Bytes.{byte_at, is_terminator, quote}
+use Rattle.simd_json_parts.specs.Bytes.{byte_at, is_terminator}
 use Rattle.simd_json_parts.specs.Derivatives.{matches, longest_prefix}
 use Rattle.simd_json_parts.specs.Document.{Document, null, boolean, integer, decimal, string}
 use Rattle.simd_json_parts.specs.Integers.{max_magnitude}
@@ -111,7 +113,7 @@ module _ (b : List ℕ) (i : ℕ) where
 
   -- ---- brackets
 
-  other-byte : {A : Type 0} (c : ℕ) → (c == c) ≡ true → (byte_at b i == c) ≡ false → byte_at b i ≡ c → A
+  pub other-byte : {A : Type 0} (c : ℕ) → (c == c) ≡ true → (byte_at b i == c) ≡ false → byte_at b i ≡ c → A
   other-byte c same e is = absurd (false≢true (sym e ∙ ap (λ y. y == c) is ∙ same))
 
   pub opens_array_byte : (byte_at b i == 91) ≡ opens_array (form_at b i)
@@ -134,7 +136,8 @@ module _ (b : List ℕ) (i : ℕ) where
   pub kind-scalar : (byte_at b i == 91) ≡ false → (byte_at b i == 123) ≡ false → (byte_at b i == 34) ≡ false
       → kind_of (form_at b i) ≡ option_map value_type (scalar_of (form_at b i))
   kind-scalar a o s =
-      by_form (λ form. kind_of form ≡ option_map value_type (scalar_of form)) (other-byte 91 refl a) refl (other-byte 123 refl o) refl refl refl
+      by_form (λ form. kind_of form ≡ option_map value_type (scalar_of form)) (other-byte 91 refl a) refl
+      (other-byte 123 refl o) refl refl refl
       (other-byte 34 refl s) (of_scalar (atom_at b i)) (λ _. of_scalar (number_at b i)) refl
     where
       of_scalar : (r : Result (Document × ℕ) Error) → kind_of (scalar r) ≡ option_map value_type (scalar_of (scalar r))
@@ -159,12 +162,12 @@ first-letter b i c letters h = byte_at-here ∙ go (drop i b) h
     go [] e = cc
     go (x ∷ bs) e = sym (eqb-true c x (and_parts _ _ e).0)
 
-spelt : (b : List ℕ) (i : ℕ) (letters : List ℕ) → spells b i letters ≡ true
+pub spelt : (b : List ℕ) (i : ℕ) (letters : List ℕ) → spells b i letters ≡ true
     → (starts_with nat_eq (drop i b) letters && is_terminator (byte_at (drop i b) (length letters))) ≡ true
 spelt b i letters h =
     ap (λ c. starts_with nat_eq (drop i b) letters && is_terminator c) (sym (byte_at-after b (drop i b) i (length letters) refl)) ∙ h
 
-first : (b : List ℕ) (i c : ℕ) (letters : List ℕ) → spells b i (c ∷ letters) ≡ true → byte_at b i ≡ c
+pub first : (b : List ℕ) (i c : ℕ) (letters : List ℕ) → spells b i (c ∷ letters) ≡ true → byte_at b i ≡ c
 first b i c letters h =
     let parts : (starts_with nat_eq (drop i b) (c ∷ letters) ≡ true) × (is_terminator (byte_at b (i + length (c ∷ letters))) ≡ true) =
     and_parts _ _ h in
@@ -195,7 +198,8 @@ module _ (b : List ℕ) (i : ℕ) where
 
   pub no-bool : spells b i (codes "true") ≡ false → spells b i (codes "false") ≡ false
       → option_and_then as_bool (scalar_of (form_at b i)) ≡ None
-  no-bool none nor = none-standing as_bool _ (by_standing b i (λ d. as_bool d ≡ None) (λ _ _. refl) (λ e. absurd (false≢true (sym none ∙ e)))
+  no-bool none nor = none-standing as_bool _ (by_standing b i (λ d. as_bool d ≡ None) (λ _ _. refl)
+      (λ e. absurd (false≢true (sym none ∙ e)))
       (λ e. absurd (false≢true (sym nor ∙ e))) (λ _. refl) (λ _ _ _. refl) (λ _ _. refl))
 
   pub no-string : (byte_at b i == 34) ≡ false → option_and_then as_str (scalar_of (form_at b i)) ≡ None

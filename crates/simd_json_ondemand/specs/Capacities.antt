@@ -12,7 +12,7 @@ pub record Capacities : Type 0 where
   pub indexes : ℕ
   pub blocks : ℕ
 
--- how the two lists are seen, of which the first has so many entries in use
+-- how the two lists are seen; `used` entries of the first are in use
 abbrev pub capacities_of : List ℕ → ℕ → List ℕ → Capacities
 capacities_of list used blocks = record { listed = take used list; indexes = length list; blocks = length blocks }
 
@@ -32,7 +32,7 @@ KeepsCapacities old new = (old.indexes ≤ new.indexes) × (old.blocks ≤ new.b
 abbrev pub IsOutOfMemory : Error → Type 0
 IsOutOfMemory e = e ≡ whole_fault OutOfMemory
 
--- What is refused of the input b: it as a whole, as by a parse; or it needs more memory than there is. Memory is
+-- The error of the input b: that of the whole input, as in a parse, or it needs more memory than there is. Memory is
 -- asked for once size and encoding are known to be right, and only where there is no capacity for as many bytes.
 abbrev pub IsRefused : List ℕ → Capacities → Error → Type 0
 IsRefused b before e =

@@ -1,5 +1,5 @@
 -- What contracts see of a document and of a value.
-use Rattle.std.specs.Prelude.{◌≡◌, ◌<◌, ℕ, List, drop, slice_index, Option, option_and_then}
+use Rattle.std.specs.Prelude.{◌≡◌, ◌<◌, ℕ, List, drop, slice_index, slice_range, Option, option_map, option_and_then}
 use Rattle.simd_json_parts.specs.Accessors.{Accessor, as_t}
 use Rattle.simd_json_parts.specs.Bytes.{backslash, byte_at}
 use Rattle.simd_json_parts.specs.Document as parts
@@ -7,7 +7,7 @@ use Rattle.simd_json_parts.specs.StringAt.{closing_quote}
 use Rattle.simd_json_parts.specs.Tokens.{Form, form_at}
 use Rattle.simd_json_parts.specs.declared.node.ValueType.{ValueType}
 use Rattle.simd_json_ondemand.specs.Viewed.{read_along}
-use Rattle.simd_json_ondemand.specs.Standing.{scalar_of, kind_of}
+use Rattle.simd_json_ondemand.specs.Standing.{scalar_of, kind_of, literal_end}
 use Rattle.simd_json_ondemand.specs.declared.value.Document.{Document}
 use Rattle.simd_json_ondemand.specs.declared.value.Value.{Value}
 
@@ -34,7 +34,7 @@ index_of v = slice_index (places v.document) v.at
 abbrev pub form : Value → Form
 form v = form_at (text v.document) (index_of v)
 
--- the string or scalar that stands there, if one does
+-- the string or scalar there, if one is
 abbrev pub standing : Value → Option parts.Document
 standing v = scalar_of (form v)
 
@@ -42,11 +42,15 @@ standing v = scalar_of (form v)
 abbrev pub as_standing : {A : Type 0} → Accessor A → Value → Option A
 as_standing t v = option_and_then (as_t t) (standing v)
 
+-- its bytes as they are written, a string's with its quotes
+abbrev pub literal : Value → Option (List ℕ)
+literal v = let b = text v.document in option_map (slice_range b (index_of v)) (literal_end b (index_of v) (form v))
+
 -- the kind of the value that begins there, by its token
 abbrev pub kind : Value → Option ValueType
 kind v = kind_of (form v)
 
--- the string that stands there has an escape: a backslash before its closing quote
+-- the string there has an escape: a backslash before its closing quote
 abbrev pub HasEscape : Value → Type 0
 HasEscape v = let b = text v.document in
     (j : ℕ) × (index_of v < j) × (j < closing_quote b (index_of v)) × (byte_at b j ≡ backslash)

@@ -1,4 +1,4 @@
--- What values are: the document that begins at a structural index, and the scalar that stands there.
+-- What values are: the document that begins at a structural index, and the scalar there.
 pub mod Viewed
 pub mod Scanned
 pub mod Standing

@@ -1,26 +1,28 @@
 //! The typed accessors: the value as a Rust type, where it is a string or a scalar.
 //!
-//! Each is stated of what stands at the value's structural index, so it holds of any input; a law
+//! Each contract is of what is at the value's structural index, so it holds for any input; a law
 //! says that where a document begins there, it is what the same accessor of a tape returns.
 ghost use Rattle.std.specs.Prelude.{◌≡◌, ◌==◌, ◌&&◌, ◌||◌, ℕ, List, length, drop, nat_eq};
 ghost use Rattle.std.specs.List.{starts_with};
 ghost use Rattle.simd_json_parts.specs.Bytes.{byte_at, is_terminator, minus_sign};
 ghost use Rattle.std.specs.Char.{is_ascii_digit};
+ghost use Rattle.simd_json_ondemand.specs.Numerals.{IsNumberLen};
 ghost use Rattle.simd_json_scalars.specs.NumeralRead.{IsNumeralAt};
 
+use crate::strings::closing;
 use crate::value::Value;
 use simd_json_parts::charutils::{byte_or_space, is_structural_or_whitespace};
 use simd_json_parts::node::{StaticNode, ValueType};
 use simd_json_scalars::numberparse::{
-    Numeral, integer_node, is_integer, parse_long, parse_numeral, parse_short,
+    Number, Numeral, integer_node, is_integer, parse_long, parse_number, parse_numeral, parse_short,
 };
 
 impl<'d> Value<'d> {
     ghost use Rattle.std.specs.Prelude.{◌≡◌, ◌==◌, None, false};
     ghost use Rattle.std.specs.Prelude.{option_and_then, option_map, MatchOption};
     ghost use Rattle.simd_json_ondemand.specs.Docs.{text, index_of, form, kind};
-    ghost use Rattle.simd_json_ondemand.specs.Docs.{standing, as_standing};
-    ghost use Rattle.simd_json_ondemand.specs.Numerals.{IsNumeral, IsNoNumber};
+    ghost use Rattle.simd_json_ondemand.specs.Docs.{standing, as_standing, literal};
+    ghost use Rattle.simd_json_ondemand.specs.Numerals.{IsNumeral, IsNoNumber, IsLiteralLen};
     ghost use Rattle.simd_json_ondemand.specs.Standing.{IsInteger};
     ghost use Rattle.simd_json_parts.specs.Accessors as accessors;
     ghost use Rattle.simd_json_parts.specs.NumberAt.{number_at};
@@ -55,7 +57,7 @@ impl<'d> Value<'d> {
         }
     }
 
-    // Reads the number that stands here, if one begins here.
+    // Reads the number here, if one begins here.
     #[inline(always)]
     fn numeral(self) -> Option<Numeral>
         ensures { MatchOption result (IsNoNumber (standing self.entry))
@@ -211,6 +213,41 @@ impl<'d> Value<'d> {
         }
     }
 
+    /// Returns the bytes of a string, with its quotes, or of a number, `true`, `false` or `null`,
+    /// as they are written, or `None`. That the escapes of a string are right is not tested.
+    pub fn raw(self) -> Option<&'d [u8]>
+        ensures { option_map (λ bytes. bytes.now) result ≡ literal self.entry }
+    {
+        match self.literal_len() {
+            Some(len) => Some(&self.bytes()[..len]),
+            None => None,
+        }
+    }
+
+    // How many bytes that is.
+    fn literal_len(self) -> Option<usize>
+        ensures { IsLiteralLen (text self.entry.document) (index_of self.entry) result }
+    {
+        let first = self.first();
+        let bytes = self.bytes();
+        if first == b'"' {
+            return Some(closing(bytes) + 1);
+        }
+        if begins_number(first) {
+            return number_len(bytes);
+        }
+        if spells(bytes, b"null") {
+            return Some(4);
+        }
+        if spells(bytes, b"true") {
+            return Some(4);
+        }
+        if spells(bytes, b"false") {
+            return Some(5);
+        }
+        None
+    }
+
     /// Returns the kind of the value, or `None` where no value begins: a number, `true`, `false` or
     /// `null` is read for it, a string, an array or an object is not.
     pub fn value_type(self) -> Option<ValueType>
@@ -229,7 +266,7 @@ impl<'d> Value<'d> {
         self.scalar_type()
     }
 
-    // The kind of what stands here, which is no string.
+    // The kind of the scalar here, which is no string.
     #[inline(always)]
     fn scalar_type(self) -> Option<ValueType>
         requires { (byte_at (text self.document) (index_of self) == quote) ≡ false }
@@ -267,6 +304,17 @@ fn numeral(bytes: &[u8]) -> Numeral
     match parse_short(bytes) {
         Some(numeral) => numeral,
         None => parse_numeral(bytes),
+    }
+}
+
+// The length of the number at the front, if one is there.
+fn number_len(bytes: &[u8]) -> Option<usize>
+    ensures { (b : List ℕ) (i : ℕ) → drop i b ≡ bytes.now → IsNumberLen b i result }
+{
+    match parse_number(bytes) {
+        Number::Integer(_, len) => Some(len),
+        Number::Decimal(len) => Some(len),
+        Number::Invalid(_) => None,
     }
 }
 

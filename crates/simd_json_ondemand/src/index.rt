@@ -49,7 +49,7 @@ impl<A: Allocator + Copy> Index<A> {
     /// Returns `OutOfMemory` if an allocation fails.
     pub fn new(a: A, input_len: usize) -> Result<Index<A>>
         ensures capacity { IfOk result (λ index. (index.indexes ≡ capped input_len)
-            × (index.blocks ≡ blocks_in (capped input_len))) }
+            × (index.blocks ≡ blocks_in (capped input_len)) × (index.listed ≡ [])) }
         ensures fault { IfErr result (λ e. IsOutOfMemory e × (0 < input_len)) }
     {
         let mut index = Index {
@@ -69,8 +69,8 @@ impl<A: Allocator> Index<A> {
     /// that number): after it [`find`](Index::find) never returns `OutOfMemory` for such an input,
     /// however many follow.
     ///
-    /// What is listed stays. Returns `OutOfMemory` if an allocation fails; what has been reserved by
-    /// then stays.
+    /// What is listed stays. Returns `OutOfMemory` if an allocation fails; what has been reserved
+    /// by then stays.
     pub fn reserve(&mut self, input_len: usize) -> Result<()>
         ensures reserved { OnOk result (capped input_len ≤ capacity self.new) }
         ensures exact { OnOk result ((self.new.indexes ≡ max self.old.indexes (capped input_len))
@@ -99,8 +99,8 @@ impl<A: Allocator> Index<A> {
     /// Returns `OutOfMemory` if an allocation fails: only if size and encoding are right, and only
     /// if there is no capacity for as many bytes as the input has.
     ///
-    /// That each token stands where the grammar expects one is not tested here, but where values
-    /// are read. If the input is a document that a parse accepts, at any depth limit, the root is
+    /// Whether each token is where the grammar expects one is not tested here, but where values are
+    /// read. If the input is a document that a parse accepts, at any depth limit, the root is
     /// that document.
     ///
     /// ```
@@ -129,8 +129,9 @@ impl<A: Allocator> Index<A> {
     }
 
     /// Lists the structural indexes of an input, with the errors of [`find`](Index::find), of which
-    /// it is the first half: while `find` lends the index to the document, this one says that the
-    /// index keeps its capacity. After an error nothing is listed.
+    /// it is the first half. `find` lets the document borrow the index, and its contract says
+    /// nothing of the index afterwards; that of this call says that the index keeps its capacity.
+    /// After an error nothing is listed.
     ///
     /// So a caller that has reserved memory once can prove that no later call lacks it.
     pub fn fill(&mut self, input: &[u8]) -> Result<()>

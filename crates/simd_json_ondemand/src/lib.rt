@@ -2,7 +2,7 @@
 //!
 //! [`Index::find`] finds the structural indexes, as the first stage of a parse does, and returns a
 //! [`Document`]. Its values are read where they are asked for, from the input, which is shared and
-//! never written. What is not asked for is not read, and a value takes no memory but its own four
+//! never written. What is not asked for is not read, and a value takes no memory but its own five
 //! words.
 //!
 //! # What is checked
@@ -12,9 +12,10 @@
 //!
 //! - If the input is a document that a parse accepts, each call returns what the same call of
 //!   `simd_json`'s tape returns.
-//! - If it is not, a call may return a value all the same: `1 2` has the root 1. A string or a scalar
-//!   that is returned is always the whole literal that stands at that place, with what must follow a
-//!   scalar there. `None` does not tell a value of another kind from bytes that are no value.
+//! - If it is not, a call may return a value all the same: `1 2` has the root 1. A string or a
+//!   scalar that is returned is always the whole literal at that place, followed by what must
+//!   follow a scalar. `None` does not tell a value of another kind from bytes that are no
+//!   value.
 //!
 //! So an input that may be no document, where that matters, is to be parsed by `simd_json`.
 //!

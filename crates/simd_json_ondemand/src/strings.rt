@@ -77,7 +77,7 @@ fn plain_end(bytes: &[u8], from: usize) -> usize
 }
 
 // The index of the closing quote of the string whose opening quote is the first byte.
-fn closing(bytes: &[u8]) -> usize
+pub(crate) fn closing(bytes: &[u8]) -> usize
     requires opening { byte_at bytes.now 0 ≡ quote }
     requires closing { closing_quote bytes.now 0 < length bytes.now }
     ensures value { result ≡ closing_quote bytes.now 0 }

@@ -2,10 +2,8 @@
 ghost use Rattle.std.specs.Prelude.{◌≡◌, ◌<◌, length};
 ghost use Rattle.simd_json_ondemand.specs.Scanned.{IsScanned};
 
-use simd_json_parts::node::ValueType;
-
-/// An input whose structural indexes are known. It is a document of the grammar if each token
-/// stands where one is expected, which is tested only where values are read.
+/// An input whose structural indexes are known. Whether it is a document of the grammar is tested
+/// only where values are read.
 #[derive(Clone, Copy, Debug)]
 pub struct Document<'d> {
     pub(crate) input: &'d [u8],
@@ -13,7 +11,7 @@ pub struct Document<'d> {
     ghost scanned: { IsScanned input.now indexes.now },
 }
 
-/// A value of a document, or what stands in the place of one.
+/// A value of a document, or what is found in the place of one.
 #[derive(Clone, Copy, Debug)]
 pub struct Value<'d> {
     pub(crate) document: Document<'d>,
@@ -23,8 +21,9 @@ pub struct Value<'d> {
 }
 
 impl<'d> Document<'d> {
-    ghost use Rattle.std.specs.Prelude.{◌≡◌};
-    ghost use Rattle.simd_json_ondemand.specs.Docs.{doc, root, text, places};
+    ghost use Rattle.std.specs.Prelude.{◌≡◌, slice_index};
+    ghost use Rattle.simd_json_ondemand.specs.Docs.{doc, form, root, text, places};
+    ghost use Rattle.simd_json_parts.specs.Tokens.{form_at};
 
     // Of an input, and the structural indexes that were found in it.
     pub(crate) fn new(input: &'d [u8], indexes: &'d [u32]) -> Document<'d>
@@ -35,11 +34,13 @@ impl<'d> Document<'d> {
         Document { input, indexes }
     }
 
-    /// Returns the value of the document: its root.
+    /// Returns the root of the document: the value at the first structural index.
     #[inline(always)]
     #[tactic(auto, using(crate::proofs::Scans::some_position))]
     pub fn as_value(self) -> Value<'d>
-        ensures { doc result ≡ root self.entry }
+        ensures document { doc result ≡ root self.entry }
+        ensures token { form result
+            ≡ form_at (text self.entry) (slice_index (places self.entry) 0) }
     {
         Value {
             document: self,
@@ -50,7 +51,7 @@ impl<'d> Document<'d> {
 
 impl<'d> Value<'d> {
     ghost use Rattle.std.specs.Prelude.{◌≡◌, ◌<◌, length, drop};
-    ghost use Rattle.simd_json_ondemand.specs.Docs.{text, index_of, form, kind};
+    ghost use Rattle.simd_json_ondemand.specs.Docs.{text, index_of, form};
     ghost use Rattle.simd_json_parts.specs.Bytes.{byte_at};
     ghost use Rattle.simd_json_ondemand.specs.Standing.{opens_array, opens_object};
 

@@ -1,4 +1,4 @@
-//! Laws of what stands at a value. Each function has an empty body: its contract is the law, which
+//! Laws of what accessors return. Each function has an empty body: its contract is the law, which
 //! is proved.
 ghost use Rattle.std.specs.Prelude.{◌≡◌, Some, None};
 ghost use Rattle.simd_json_ondemand.specs.Docs.{doc, form, kind, standing, as_standing};
@@ -9,8 +9,8 @@ ghost use Rattle.simd_json_parts.specs.Document.{Document, Elements, Members, ar
 ghost use Rattle.simd_json_parts.specs.Views.{value_type, is_array, is_object};
 
 /// Where a document begins at a value, each accessor of a string or a scalar returns what the same
-/// accessor of a tape does. An accessor is of a string or a scalar if it returns nothing of an array
-/// or an object.
+/// accessor of a tape does. An accessor is of a string or a scalar if it returns `None` for an
+/// array or an object.
 pub fn accessors_return_what_a_tape_does<T>()
     ensures { (t : Accessor T) → ((ds : Elements) → as_t t (array ds) ≡ None)
         → ((ms : Members) → as_t t (object ms) ≡ None)

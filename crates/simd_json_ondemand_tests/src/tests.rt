@@ -22,12 +22,13 @@ macro_rules! assert_that {
 }
 
 mod arrays;
+mod examples;
 mod memory;
 mod objects;
 mod other;
 mod tape;
 
-// Why a test goes on: the allocations that are not to be refused.
+// Why a test goes on: the allocations that are not to fail.
 const MEMORY: &str = "there is memory";
 
 fn same<T: PartialEq + Debug + Drop>(rt: &impl Abort, what: &str, found: T, wanted: T) {

@@ -36,6 +36,7 @@ fn reserved_indexes_take_no_memory(rt: HostRuntime) {
         for line in LINES {
             let found = index.find(line).is_ok();
             assert_that!(&rt; found);
+            assert_same!(&rt; index.fill(line), Ok(()));
         }
     }
     assert_same!(&rt; heap.used(), used);

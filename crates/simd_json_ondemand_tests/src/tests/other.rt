@@ -79,3 +79,31 @@ fn what_is_not_visited_is_not_checked(rt: HostRuntime) {
     let decoded = value.decode(&mut buffer).expect(&rt, MEMORY);
     assert_same!(&rt; decoded, None);
 }
+
+// As they are written, with quotes and escapes.
+#[test]
+fn literals_are_raw(rt: HostRuntime) {
+    let mut index = Index::new(rt.alloc(), 0).expect(&rt, MEMORY);
+    for (input, raw) in [
+        (b" true ".as_slice(), Some(b"true".as_slice())),
+        (b"false", Some(b"false")),
+        (b"\tnull\n", Some(b"null")),
+        (b" -0 ", Some(b"-0")),
+        (b"12345678901234567890123", Some(b"12345678901234567890123")),
+        (b"-12.50e+1 ", Some(b"-12.50e+1")),
+        (b" \"\" ", Some(b"\"\"")),
+        (b"\"a\\n\\\"\" ", Some(b"\"a\\n\\\"\"")),
+        (b"\"\\q\"", Some(b"\"\\q\"")),
+        (b"[1]", None),
+        (b"{}", None),
+        (b"tru", None),
+        (b"-", None),
+        (b",", None),
+    ] {
+        let value = index
+            .find(input)
+            .expect(&rt, "the strings are closed")
+            .as_value();
+        assert_same!(&rt; value.raw(), raw, input);
+    }
+}

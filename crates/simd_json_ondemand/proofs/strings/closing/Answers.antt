@@ -1,8 +1,7 @@
-use Rattle.std.proofs.Common.{◌≡◌, refl, sym, ◌∙◌, ap, subst, ℕ, ◌+◌, List, arith}
+use Rattle.std.proofs.Common.{◌≡◌, refl, sym, ◌∙◌, subst, ◌+◌, arith}
 use Rattle.std.proofs.lemmas.List.{get_or_default}
-use Rattle.simd_json_parts.specs.Bytes.{byte_at, backslash, quote}
-use Rattle.simd_json_parts.specs.StringAt.{closing_quote}
-use Rattle.simd_json_ondemand.proofs.Quoted.{IsAhead, IsEscaped, plain-ahead, opening-ahead, escape-ahead, closing-found}
+use Rattle.simd_json_parts.specs.Bytes.{byte_at, backslash}
+use Rattle.simd_json_ondemand.proofs.Quoted.{IsAhead, plain-ahead, opening-ahead, escape-ahead, closing-found}
 use Rattle.simd_json_ondemand.proofs.strings.closing.Goals as goal
 
 pub loop-end-init : goal.loop-end-init

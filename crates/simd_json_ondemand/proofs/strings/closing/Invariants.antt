@@ -1,4 +1,4 @@
-use Rattle.std.proofs.Common.{length, ◌-◌, ℕ}
+use Rattle.std.proofs.Common.{length, ◌-◌}
 use Rattle.simd_json_ondemand.proofs.Quoted.{IsAhead}
 use Rattle.simd_json_ondemand.proofs.strings.closing.Given as goal
 

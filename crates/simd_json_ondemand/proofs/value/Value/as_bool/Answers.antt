@@ -1,5 +1,5 @@
-use Rattle.std.proofs.Common.{◌≡◌, sym, ◌∙◌, ap, ℕ, List, Bool}
-use Rattle.std.specs.Prelude.{option_and_then, codes, true, false}
+use Rattle.std.proofs.Common.{◌≡◌, sym, ◌∙◌, ap, ℕ, List}
+use Rattle.std.specs.Prelude.{option_and_then, codes, true}
 use Rattle.simd_json_ondemand.specs.Docs.{text, index_of}
 use Rattle.simd_json_parts.specs.Views as views
 use Rattle.simd_json_ondemand.proofs.Standing.{spells, spelt-here}
@@ -10,7 +10,8 @@ pub returns-then-spells : goal.returns-then-spells
 returns-then-spells c =
     let b : List ℕ = text c.args.self.document in
     let i : ℕ = index_of c.args.self in
-    let here : spells b i (codes "true") ≡ true = spelt-here b _ (codes "true") i _ c.bytes-bytes.ensures.bytes c.spells.ensures ∙ c.if-spells.true in
+    let here : spells b i (codes "true") ≡ true =
+    spelt-here b _ (codes "true") i _ c.bytes-bytes.ensures.bytes c.spells.ensures ∙ c.if-spells.true in
     sym (ap (option_and_then views.as_bool) (true-standing b i here))
 
 pub returns-then-spells-2 : goal.returns-then-spells-2

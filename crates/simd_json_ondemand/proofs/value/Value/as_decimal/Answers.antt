@@ -1,13 +1,11 @@
-use Rattle.std.proofs.Common.{◌≡◌, sym, ◌∙◌, ap, subst, ℕ, List, length, take, drop, ◌≤◌, arith}
-use Rattle.std.specs.Prelude.{IsUtf8, option_and_then}
+use Rattle.std.proofs.Common.{◌≡◌, sym, subst, ℕ, List, length, take, ◌≤◌, arith}
+use Rattle.std.specs.Prelude.{IsUtf8}
 use Rattle.std.proofs.lemmas.List.{length-take-le}
-use Rattle.simd_json_parts.specs.Views as views
 use Rattle.simd_json_ondemand.specs.Docs.{text, index_of, form}
 use Rattle.simd_json_parts.specs.Tokens.{scalar}
 use Rattle.simd_json_parts.specs.NumberAt.{number_at}
 use Rattle.simd_json_scalars.specs.NumeralRead.{IsNumeralAt}
 use Rattle.simd_json_scalars.specs.declared.numberparse.Numeral.TheVariants.{Decimal, Long}
-use Rattle.simd_json_ondemand.specs.Standing.{scalar_of}
 use Rattle.simd_json_ondemand.proofs.Scans.{within}
 use Rattle.simd_json_ondemand.proofs.Standing.{decimal-within, long-no_decimal}
 use Rattle.simd_json_ondemand.specs.declared.value.Value.{Value}

@@ -1,11 +1,11 @@
-use Rattle.std.proofs.Common.{◌≡◌, refl, sym, ◌∙◌, ap, subst, ℕ, ◌+◌, List, take, length, ◌<◌, arith}
+use Rattle.std.proofs.Common.{◌≡◌, refl, sym, ◌∙◌, ap, subst, ℕ, ◌+◌, List, take, length, ◌<◌}
 use Rattle.std.proofs.lemmas.Bool.{ne_eqb}
 use Rattle.std.specs.Prelude.{IsUtf8}
 use Rattle.simd_json_parts.specs.Bytes.{byte_at, quote}
 use Rattle.simd_json_parts.specs.StringAt.{closing_quote, string_at}
 use Rattle.simd_json_ondemand.specs.Docs.{text, index_of}
 use Rattle.simd_json_ondemand.proofs.Standing.{no-string}
-use Rattle.simd_json_ondemand.proofs.Quoted.{IsQuoted, quoted-value, literal-opening, literal-closing, literal-utf8, literal-string}
+use Rattle.simd_json_ondemand.proofs.Quoted.{IsQuoted, quoted-value, literal-closing, literal-utf8, literal-string}
 use Rattle.simd_json_ondemand.proofs.Quoted.{alone-string, alone-none}
 use Rattle.simd_json_ondemand.proofs.value.Value.decode.Goals as goal
 
@@ -34,7 +34,8 @@ parse_str-requires-clause-closing g c =
     let q : IsQuoted bs = quoted-value v first bs c.bytes-bytes.ensures.bytes in
     let end : ℕ = c.closing-end.result in
     let lit : c.as_mut_slice.result.now ≡ take (end + 1) bs = c.as_mut_slice.ensures.value ∙ c.in_ok-copy.ensures.copied in
-    subst (λ us. closing_quote us 0 < length us) (sym lit) (literal-closing bs q end c.closing-end.ensures.value c.closing-end.ensures.quote)
+    subst (λ us. closing_quote us 0 < length us) (sym lit)
+    (literal-closing bs q end c.closing-end.ensures.value c.closing-end.ensures.quote)
 
 pub parse_str-requires-clause-utf8 : goal.parse_str-requires-clause-utf8
 parse_str-requires-clause-utf8 g c =

@@ -1,4 +1,4 @@
-use Rattle.std.proofs.Common.{refl, sym, ◌∙◌, ap, ℕ, List, Bool, ◌≡◌, true, false}
+use Rattle.std.proofs.Common.{refl, sym, ◌∙◌, ap, ℕ, List, ◌≡◌, true, false}
 use Rattle.simd_json_parts.specs.Bytes.{byte_at}
 use Rattle.simd_json_stages.proofs.Tokens.ScalarLaws.{form_at-number}
 use Rattle.simd_json_ondemand.specs.Docs.{text, index_of}

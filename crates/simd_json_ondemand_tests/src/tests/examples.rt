@@ -1,0 +1,31 @@
+// The examples of the documents.
+use super::MEMORY;
+use simd_json_ondemand::{Index, Result};
+
+fn name_len(rt: &impl AllocGlobal, input: &[u8]) -> Result<Option<usize>> {
+    let mut index = Index::new(rt.alloc(), input.len())?;
+    let mut buffer = Vec::new(rt.alloc());
+    let root = index.find(input)?.as_value();
+    match root.decode(&mut buffer)? {
+        Some(name) => Ok(Some(name.len())),
+        None => Ok(None),
+    }
+}
+
+fn sum(rt: &impl AllocGlobal, numbers: &[&[u8]]) -> Result<u64> {
+    let mut index = Index::new(rt.alloc(), 64)?;
+    let mut sum = 0u64;
+    for number in numbers {
+        let root = index.find(number)?.as_value();
+        sum = sum.saturating_add(root.as_u64().unwrap_or(0));
+    }
+    Ok(sum)
+}
+
+#[test]
+fn examples_run(rt: HostRuntime) {
+    let len = name_len(&rt, b"\"caf\\u00e9\"").expect(&rt, MEMORY);
+    assert_same!(&rt; len, Some(5));
+    let sum = sum(&rt, &[b"1", b"\"2\"", b"3"]).expect(&rt, MEMORY);
+    assert_same!(&rt; sum, 4);
+}
