@@ -18,7 +18,8 @@ use Rattle.simd_json_ondemand.specs.Remaining.{members_inside, members_behind}
 use Rattle.simd_json_ondemand.specs.MemberTails.{member_here, next_members, members_along, member_tails_inside, member_tails_behind}
 use Rattle.simd_json_ondemand.specs.MemberTails.{member_tails_past, pair_along}
 use Rattle.simd_json_ondemand.specs.Viewed.{read_along, first_read}
-use Rattle.simd_json_ondemand.proofs.Sequence.Objects.{AtMember, inside-end, inside-none, inside-member, behind-comma, behind-end, behind-none}
+use Rattle.simd_json_ondemand.proofs.Sequence.Objects.{AtMember, inside-end, inside-none, inside-member, behind-comma, behind-end}
+use Rattle.simd_json_ondemand.proofs.Sequence.Objects.{behind-none}
 use Rattle.simd_json_stages.proofs.Tokens.TokenForms as forms
 
 -- the members of an object, as they are found
