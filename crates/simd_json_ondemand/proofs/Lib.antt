@@ -3,6 +3,7 @@ pub mod Scans
 pub mod Standing
 pub mod Agreement
 pub mod Quoted
+pub mod Literals
 pub mod Skipping
 pub mod Enough
 pub mod Sequence
@@ -13,3 +14,5 @@ pub mod ClosingBits
 pub mod Tails
 pub mod ArrayViews
 pub mod Literals
+pub mod MemberTails
+pub mod ObjectViews

@@ -9,5 +9,7 @@ pub mod Closing
 pub mod Remaining
 pub mod Tails
 pub mod Iterated
+pub mod MemberTails
+pub mod IteratedMembers
 -- What contracts see of an index: what it lists, and for how many bytes it has capacity.
 pub mod Capacities

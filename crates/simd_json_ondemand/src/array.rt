@@ -7,7 +7,7 @@ use std::iter::FusedIterator;
 
 /// Where a cursor is among the structural indexes.
 #[derive(Clone, Copy, Debug, PartialEq, Eq)]
-enum Position {
+pub(crate) enum Position {
     // at the first token inside the array
     First,
     // at the first token of a value that has been returned
@@ -40,7 +40,7 @@ impl<'d> Document<'d> {
     // The first byte of the token with this structural index.
     #[inline(always)]
     #[tactic(auto, using(crate::proofs::Scans::within))]
-    fn byte(self, at: usize) -> u8
+    pub(crate) fn byte(self, at: usize) -> u8
         requires { at < length (places self) }
         ensures { result ≡ byte_at (text self.entry) (slice_index (places self.entry) at) }
     {

@@ -44,6 +44,7 @@ mod accessors;
 mod array;
 mod index;
 pub mod laws;
+mod object;
 mod skip;
 mod strings;
 mod value;
@@ -51,6 +52,7 @@ pub mod views;
 
 pub use array::Array;
 pub use index::Index;
+pub use object::Object;
 pub use simd_json_parts::error::{Error, ErrorType, Result};
 pub use simd_json_parts::node::ValueType;
 pub use value::{Document, Value};

@@ -24,6 +24,7 @@ macro_rules! assert_that {
 mod arrays;
 mod examples;
 mod memory;
+mod objects;
 mod other;
 mod tape;
 

@@ -1,6 +1,6 @@
 // The elements of arrays.
 use super::MEMORY;
-use simd_json_ondemand::{Index, ValueType};
+use simd_json_ondemand::{Array, Index, ValueType};
 
 // An array, and of each element the integer, if it is one.
 const ARRAYS: &[(&[u8], &[Option<u8>])] = &[
@@ -22,17 +22,27 @@ const ARRAYS: &[(&[u8], &[Option<u8>])] = &[
     ),
 ];
 
+fn count(array: Array<'_>) -> usize {
+    let mut count = 0_usize;
+    for _element in array {
+        count = count.saturating_add(1);
+    }
+    count
+}
+
 #[test]
 fn elements_come_in_order(rt: HostRuntime) {
     let mut index = Index::new(rt.alloc(), 100).expect(&rt, MEMORY);
     for (input, wanted) in ARRAYS {
         let root = index.find(input).expect(&rt, "it is a document").as_value();
         let array = root.as_array().expect(&rt, "it is an array");
-        assert_same!(&rt; array.count(), wanted.len(), *input);
-        for (i, element) in array.enumerate() {
+        assert_same!(&rt; count(array), wanted.len(), *input);
+        let mut i = 0_usize;
+        for element in array {
             let other = root.get_idx(i).expect(&rt, "it has so many elements");
             assert_same!(&rt; Some(element.as_u8()), wanted.get(i).copied(), *input);
             assert_same!(&rt; other.as_u8(), element.as_u8(), *input);
+            i = i.saturating_add(1);
         }
         assert_that!(&rt; root.get_idx(wanted.len()).is_none());
     }
@@ -65,7 +75,7 @@ fn other_bytes_have_elements_up_to_a_comma(rt: HostRuntime) {
     for (input, wanted) in cases {
         let root = index.find(input).expect(&rt, "it is scanned").as_value();
         let array = root.as_array().expect(&rt, "it begins an array");
-        assert_same!(&rt; array.count(), wanted, input);
+        assert_same!(&rt; count(array), wanted, input);
     }
     for input in [b"1".as_slice(), b"{}", b"\"[\"", b"[", b"]"] {
         let root = index.find(input).expect(&rt, "it is scanned").as_value();

@@ -1,0 +1,134 @@
+//! An object of a document: a cursor over its members.
+ghost use Rattle.std.specs.Prelude.{◌<◌, length};
+
+use crate::array::Position;
+use crate::skip::skip;
+use crate::value::{Document, Value};
+use std::iter::FusedIterator;
+
+/// The members of an object that are left: an iterator over pairs of a key and a value, which can
+/// be copied. The key is a string. A value is skipped when the member after it is asked for, in
+/// time linear in the number of its tokens.
+///
+/// Over bytes that are no document the members end where no comma follows, or no string.
+#[derive(Clone, Copy, Debug)]
+pub struct Object<'d> {
+    document: Document<'d>,
+    at: usize,
+    position: Position,
+    ghost inside: { at < length document.indexes.now },
+}
+
+impl<'d> Document<'d> {
+    ghost use Rattle.std.specs.Prelude.{◌≡◌, ◌<◌, ◌≤◌, ◌-◌, [], ◌∷◌, length, drop, MatchOption};
+    ghost use Rattle.simd_json_ondemand.specs.Docs.{places};
+    ghost use Rattle.simd_json_ondemand.specs.MemberTails.{member_tails_at};
+    ghost use Rattle.simd_json_ondemand.specs.declared.array.Position.TheVariants.{First, AtValue};
+    ghost use Rattle.simd_json_ondemand.specs.declared.array.Position.TheVariants.{AfterValue};
+
+    // The number of the structural index of the value of the member that begins here, if one does.
+    #[inline(always)]
+    fn member(self, at: usize) -> Option<usize>
+        requires { at ≤ length (places self) }
+        ensures { MatchOption result (member_tails_at self.entry at First ≡ [])
+            (λ value. (2 ≤ value) × (value < length (places self.entry))
+            × (member_tails_at self.entry at First
+            ≡ drop (value - 2) (places self.entry) ∷ member_tails_at self.entry value AtValue)) }
+    {
+        if self.indexes.len() - at < 3 || self.byte(at) != b'"' {
+            return None;
+        }
+        Some(at + 2)
+    }
+
+    // The same of the member after the one whose last token is before this.
+    #[inline(always)]
+    fn member_behind(self, after: usize) -> Option<usize>
+        requires { after ≤ length (places self) }
+        ensures { MatchOption result (member_tails_at self.entry after AfterValue ≡ [])
+            (λ value. (2 ≤ value) × (value < length (places self.entry))
+            × (member_tails_at self.entry after AfterValue
+            ≡ drop (value - 2) (places self.entry) ∷ member_tails_at self.entry value AtValue)) }
+    {
+        if after == self.indexes.len() || self.byte(after) != b',' {
+            return None;
+        }
+        self.member(after + 1)
+    }
+
+    // The same of the member that a cursor comes to next.
+    #[inline(always)]
+    #[tactic(auto, using(crate::proofs::Scans::within))]
+    fn next_member(self, at: usize, position: Position) -> Option<usize>
+        requires { at < length (places self) }
+        ensures { MatchOption result (member_tails_at self.entry at position ≡ [])
+            (λ value. (2 ≤ value) × (value < length (places self.entry))
+            × (member_tails_at self.entry at position
+            ≡ drop (value - 2) (places self.entry) ∷ member_tails_at self.entry value AtValue)) }
+    {
+        match position {
+            Position::First => self.member(at),
+            Position::AtValue => self.member_behind(skip(self.input, self.indexes, at)),
+            Position::AfterValue => self.member_behind(at),
+        }
+    }
+}
+
+impl<'d> Iterator for Object<'d> {
+    type Item = (Value<'d>, Value<'d>);
+
+    ghost use Rattle.std.specs.Iterator.{YieldsFirstBy, item_count};
+    ghost use Rattle.simd_json_ondemand.specs.IteratedMembers.{members_left, pair_doc};
+
+    ghost next_gives = { YieldsFirstBy pair_doc members_left };
+
+    ghost remaining = { item_count members_left };
+
+    #[inline(always)]
+    fn next(&mut self) -> Option<(Value<'d>, Value<'d>)> {
+        let document = self.document;
+        let at = document.next_member(self.at, self.position)?;
+        *self = Object {
+            document,
+            at,
+            position: Position::AtValue,
+        };
+        Some((
+            Value {
+                document,
+                at: at - 2,
+            },
+            Value { document, at },
+        ))
+    }
+}
+
+impl<'d> FusedIterator for Object<'d> {}
+
+impl<'d> Value<'d> {
+    ghost use Rattle.std.specs.Prelude.{◌≡◌, true, Some, IfSome, option_map};
+    ghost use Rattle.simd_json_ondemand.specs.Docs.{doc, form};
+    ghost use Rattle.simd_json_ondemand.specs.IteratedMembers.{members_left, all_members};
+    ghost use Rattle.simd_json_ondemand.specs.Standing.{opens_object};
+    ghost use Rattle.simd_json_parts.specs.Document as parts;
+    ghost use Rattle.simd_json_parts.specs.Views.{as_object};
+
+    /// Returns the members of the object, or `None` if the value is no object.
+    #[inline(always)]
+    pub fn as_object(self) -> Option<Object<'d>>
+        ensures document { (d : parts.Document) → doc self.entry ≡ Some d
+            → option_map members_left result ≡ option_map all_members (as_object d) }
+        ensures any { IfSome result (λ object. opens_object (form self.entry) ≡ true) }
+    {
+        let document = self.document;
+        let at = self.at + 1;
+        if self.first() != b'{' || at == document.indexes.len() {
+            return None;
+        }
+        Some(Object {
+            document,
+            at,
+            position: Position::First,
+        })
+    }
+}
