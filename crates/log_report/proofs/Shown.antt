@@ -36,14 +36,31 @@ short-line key longest r line blank fits is =
 pub shows-next : {A : Type 0} (old : Lines A) (number : ℕ) (held holds : Option (List ℕ)) (key : List ℕ) (longest : ℕ) (r : Report)
     → number ≡ one_more old.number → Shows old held holds key longest r
     → Shows (record old { number = number }) held holds key longest (next r)
-shows-next old number held holds key longest r is shown = record shown { number = is ∙ ap one_more shown.number }
+shows-next old number held holds key longest r is shown = record {
+  by_key = shown.by_key;
+  most = shown.most;
+  limited = shown.limited;
+  reserved = shown.reserved;
+  number = is ∙ ap one_more shown.number;
+  all_taken = shown.all_taken;
+  counts = shown.counts;
+  rejections = shown.rejections;
+}
 
 -- after a parse
 pub shows-parsed : {A : Type 0} (lines : Lines A) (buffers : Capacities) (tape : Listed) (held holds : Option (List ℕ)) (key : List ℕ)
     (longest : ℕ) (r : Report) → buffers.limit ≡ lines.buffers.limit → IsReserved lines.longest buffers tape
     → Shows lines held holds key longest r → Shows (record lines { buffers = buffers; tape = tape }) held holds key longest r
-shows-parsed lines buffers tape held holds key longest r limited reserved shown =
-    record shown { limited = limited ∙ shown.limited; reserved = reserved }
+shows-parsed lines buffers tape held holds key longest r limited reserved shown = record {
+  by_key = shown.by_key;
+  most = shown.most;
+  limited = limited ∙ shown.limited;
+  reserved = reserved;
+  number = shown.number;
+  all_taken = shown.all_taken;
+  counts = shown.counts;
+  rejections = shown.rejections;
+}
 
 pub shows-added : {A : Type 0} (old new : Lines A) (held holds : Option (List ℕ)) (key : List ℕ) (longest : ℕ) (r : Report) (text : List ℕ)
     (more : ℕ) → Shows old held holds key longest r → CountsMore old new text more

@@ -13,6 +13,5 @@ pub mod LowestBits
 pub mod ClosingBits
 pub mod Tails
 pub mod ArrayViews
-pub mod Literals
 pub mod MemberTails
 pub mod ObjectViews

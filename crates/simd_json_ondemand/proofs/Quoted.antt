@@ -12,8 +12,8 @@ use Rattle.simd_json_parts.specs.Positions.{positions}
 use Rattle.simd_json_parts.specs.StringAt.{closing_quote, read_pieces, string_read, string_at}
 use Rattle.simd_json_scalars.specs.StringContent.{content_from, content, is_plain}
 use Rattle.simd_json_scalars.proofs.Strings.Content.{content-escape, closing_quote-content, string_at-content}
-use Rattle.simd_json_scalars.proofs.Strings.Decoding.{Backslash, backslash-first}
-use Rattle.simd_json_scalars.proofs.Strings.Reader.{content-closed, opened, decoded-first, decoded-string, string_at-shared}
+use Rattle.simd_json_scalars.proofs.Strings.Decoding.{Backslash, backslash-first, run-decoded}
+use Rattle.simd_json_scalars.proofs.Strings.Reader.{content-closed, opened, decoded-string, string_at-shared}
 use Rattle.simd_json_scalars.proofs.Strings.Steps.{PassesPieces, plain-passes}
 use Rattle.simd_json_scalars.proofs.Strings.Standalone.{closing_quote-further, string_at-further}
 use Rattle.simd_json_stages.proofs.Tokens.Places.{string-closed, string-utf8}
@@ -210,7 +210,7 @@ has-escape v bs is first end e other =
     )
 
 first-decoded : (bs : List ℕ) → IsQuoted bs → (end : ℕ) → end ≡ 1 + prefix_len is_plain (drop 1 bs) → IsDecoded bs 1 1 bs end end
-first-decoded bs q end e = decoded-first bs end (opened bs q.opening q.closing q.utf8) e
+first-decoded bs q end e = run-decoded bs 1 end (opened bs q.opening q.closing q.utf8) e
 
 pub plain-utf8 : (bs : List ℕ) → IsQuoted bs → (end : ℕ) → end ≡ 1 + prefix_len is_plain (drop 1 bs) → IsUtf8 (slice_range bs 1 end)
 plain-utf8 bs q end e = decoded-string bs bs end end (first-decoded bs q end e)
