@@ -32,7 +32,8 @@ const UNKNOWN: i64 = -2;
 
 fn reported(count: Result<usize>) -> i64
     ensures count { (n : ℕ) → result ≡ pos n → count ≡ Ok n }
-    ensures refused { result ≡ refused → (e : Error) × (count ≡ Err e) × (e.error ≢ ErrorType.OutOfMemory) }
+    ensures refused { result ≡ refused → (e : Error) × (count ≡ Err e)
+        × (e.error ≢ ErrorType.OutOfMemory) }
 {
     match count {
         Ok(count) => i64::try_from(count).unwrap_or(UNKNOWN),

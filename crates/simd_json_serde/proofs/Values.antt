@@ -1,5 +1,6 @@
 -- The nodes of a value that stands at a place.
-use Rattle.std.proofs.Common.{◌≡◌, ℕ, suc, ◌+◌, ◌<◌, List, ◌∷◌, ◌++◌, map, drop, drop-cons, get_or, length, slice_get, Some, sym, ap, ◌∙◌, arith}
+use Rattle.std.proofs.Common.{◌≡◌, ℕ, suc, ◌+◌, ◌<◌, List, ◌∷◌, ◌++◌, map, drop, drop-cons, get_or, length}
+use Rattle.std.proofs.Common.{slice_get, Some, sym, ap, ◌∙◌, arith}
 use Rattle.std.proofs.lemmas.Grind.{common_steps}
 use Rattle.std.proofs.lemmas.Option.{slice_get_within, get_or_from_slice_get}
 use Rattle.simd_json_parts.specs.Document.{Document, null, boolean, integer, decimal, string, array, object}

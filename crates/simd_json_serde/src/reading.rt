@@ -1,6 +1,6 @@
 //! The entry points.
 ghost use Rattle.std.specs.Prelude.{◌≡◌};
-ghost use Rattle.simd_json.specs.MaxDepth.{default_max_depth};
+ghost use Rattle.simd_json.specs.Capacities.{default_max_depth};
 ghost use Rattle.simd_json_serde.specs.Outcomes.{IsRead, IsLate};
 
 use crate::error::{Error, Fault, Mismatch};

@@ -74,7 +74,8 @@ pub record IsKept (p : List ℕ) (i e : ℕ) (ends : List ℕ) : Type 0 where
   pub at : IsTokenAt p i e
   pub others : ends ≡ ends_from e (tokens_after (drop e p))
 
-kept-by : (p : List ℕ) (i x e : ℕ) (ends : List ℕ) → IsTokenAt p i x → e ∷ ends ≡ x ∷ ends_from x (tokens_after (drop x p)) → IsKept p i e ends
+kept-by : (p : List ℕ) (i x e : ℕ) (ends : List ℕ) → IsTokenAt p i x
+    → e ∷ ends ≡ x ∷ ends_from x (tokens_after (drop x p)) → IsKept p i e ends
 kept-by p i x e ends at is =
     let same : x ≡ e = cc in
     let others : ends ≡ ends_from x (tokens_after (drop x p)) = cc in
@@ -83,7 +84,8 @@ kept-by p i x e ends at is =
 no-ends : (e : ℕ) (es : List ℕ) → e ∷ es ≡ [] → ⊥
 no-ends e es is = cc
 
-inside-by : (p : List ℕ) (i e : ℕ) (es : List ℕ) → e ∷ es ≡ ends_from i (tokens_after (drop i p)) → (i < length p) ⊎ (length p ≤ i) → i < length p
+inside-by : (p : List ℕ) (i e : ℕ) (es : List ℕ) → e ∷ es ≡ ends_from i (tokens_after (drop i p))
+    → (i < length p) ⊎ (length p ≤ i) → i < length p
 inside-by p i e es is (inl less) = less
 inside-by p i e es is (inr past) = absurd (no-ends e es (is ∙ ap (λ q. ends_from i (tokens_after q)) (drop_all i p past)))
 

@@ -130,7 +130,8 @@ object-of xs ns len count is headed =
 
 pub headed : (xs ns : List Node) (x y : Node) → map item_of xs ≡ item_of x ∷ map item_of (drop 1 xs)
     → x ≡ y → ns ≡ drop 1 xs → map item_of xs ≡ item_of y ∷ map item_of ns
-headed xs ns x y is kind beneath = is ∙ ap (λ z. item_of z ∷ map item_of (drop 1 xs)) kind ∙ ap (λ zs. item_of y ∷ map item_of zs) (sym beneath)
+headed xs ns x y is kind beneath =
+    is ∙ ap (λ z. item_of z ∷ map item_of (drop 1 xs)) kind ∙ ap (λ zs. item_of y ∷ map item_of zs) (sym beneath)
 
 -- ---- a scalar at the front of nodes
 

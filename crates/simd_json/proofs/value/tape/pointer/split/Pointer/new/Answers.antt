@@ -5,7 +5,8 @@ use Rattle.simd_json.specs.Followed.{tokens_after}
 use Rattle.simd_json.specs.Pointed.{is_pointer, token_count}
 use Rattle.simd_json.proofs.Pointers.Splitting.{count-so-far, ends-more, formed-at, more-tokens}
 use Rattle.simd_json.proofs.value.tape.pointer.split.Pointer.new.Goals as goal
-use Rattle.simd_json.proofs.value.tape.pointer.split.Pointer.new.Goals.{then-len-via-then-len, then-len-via-else-len+then-not-is_well_formed}
+use Rattle.simd_json.proofs.value.tape.pointer.split.Pointer.new.Goals.{then-len-via-then-len}
+use Rattle.simd_json.proofs.value.tape.pointer.split.Pointer.new.Goals.{then-len-via-else-len+then-not-is_well_formed}
 
 pub returns-then-len-clause-formed : goal.returns-then-len-clause-formed
 returns-then-len-clause-formed g c =
