@@ -80,9 +80,10 @@ test-c: has-rt
 bench: has-rt
 	MAKEFLAGS= SAVE=$(SAVE) sh bench/run.sh $(FILES)
 
-# The crates of the library, into the repository in the folder DIR.
+# CRATES, and those that they stand on, into the repository in the folder DIR.
+CRATES = simd_json
 vendor:
-	@sh scripts/vendor.sh "$(DIR)"
+	@sh scripts/vendor.sh "$(DIR)" $(CRATES)
 
 # The programs, the library for programs in C, and their manual pages, under PREFIX.
 PREFIX = /usr/local
@@ -117,7 +118,7 @@ help:
 	@echo "make library                the same of the library for C: build/libsimd_json.a and .so"
 	@echo "make build/log_report       the same of the program that counts the lines of a log"
 	@echo "make install PREFIX=DIR     installs programs, library and manual pages; make uninstall PREFIX=DIR removes them"
-	@echo "make vendor DIR=DIR         copies the library's crates into another repository"
+	@echo "make vendor DIR=DIR         copies the library's crates into another repository; with CRATES=simd_json_serde that crate too"
 	@echo "make test                   the gate: proofs from nothing, edits that must be rejected, tests, programs"
 	@echo "make test-c                 the library, called from C and Python"
 	@echo "make bench FILES=\"..\"       measures beside the other parsers that are installed"

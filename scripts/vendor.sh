@@ -1,16 +1,19 @@
 #!/bin/sh
-# Copies the crate simd_json and those of this repository that it stands on, by crates.txt, into another repository's crates/, with
-# what proving them needs (src, specs, proofs) and the licenses, and adds their lines to its crates.txt. What is there already stays
-# as it is. If a crate or a line with such a name is there and differs, says so, copies nothing, and ends with status 1.
+# Copies crates, simd_json if none is named, and those of this repository that they stand on, by crates.txt, into another
+# repository's crates/, with what proving them needs (src, specs, proofs) and the licenses, and adds their lines to its crates.txt.
+# What is there already stays as it is. If a crate or a line with such a name is there and differs, or a crate that is named is not
+# here, says so, copies nothing, and ends with status 1.
 #
-# usage: sh scripts/vendor.sh DIR        as `make vendor DIR=DIR` does; DIR is the folder that holds crates.txt, or is to
+# usage: sh scripts/vendor.sh DIR [CRATE..]
+#     as `make vendor DIR=DIR CRATES="CRATE.."` does; DIR is the folder that holds crates.txt, or is to
 set -eu
 ours=$(cd "$(dirname "$0")/.." && pwd)
-if [ $# -ne 1 ] || ! [ -d "$1" ]; then
-    echo "usage: make vendor DIR=FOLDER, the folder of another repository" >&2
+if [ $# -eq 0 ] || ! [ -d "$1" ]; then
+    echo "usage: make vendor DIR=FOLDER [CRATES=\"CRATE..\"], the folder of another repository" >&2
     exit 2
 fi
 theirs=$(cd "$1" && pwd)
+shift
 
 # line CRATE FOLDER: the crate's line in the folder's crates.txt, without its comment.
 line() { [ ! -e "$2/crates.txt" ] || sed -n "s/[[:space:]]*#.*//; /^[[:space:]]*$1[[:space:]:]/p" "$2/crates.txt"; }
@@ -25,9 +28,12 @@ collect() {
     crates="$crates $1"
     for below in ${found#*:}; do collect "$below"; done
 }
-collect simd_json
-
 differs=
+for name in "${@:-simd_json}"; do
+    [ -d "$ours/crates/$name" ] || differs="$name is no crate of this repository"
+    collect "$name"
+done
+
 [ ! -s "$theirs/crates.txt" ] || [ -d "$theirs/crates" ] || differs="$theirs has crates.txt and no folder crates"
 for name in $crates; do
     there=$(line "$name" "$theirs")

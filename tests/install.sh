@@ -39,6 +39,9 @@ again() {
     (cd "$1" && find . -type f -exec cksum {} +) | cmp -s - "$room/before" || wrong "make vendor over $3 changed something"
 }
 again "$room/empty" 0 "its own crates"
+make -s -C "$top" vendor DIR="$room/empty" CRATES=simd_json_serde > "$room/out" 2>&1 && [ -d "$room/empty/crates/simd_json_serde/src" ] ||
+    wrong "make vendor does not copy the crate that is named: $(cat "$room/out")"
+make -s -C "$top" vendor DIR="$room/theirs" CRATES=simd > "$room/out" 2>&1 && wrong "make vendor copies a crate that is not there"
 echo '// a change' >> "$room/empty/crates/simd_json_print/src/lib.rt"
 again "$room/empty" 2 "a crate that was changed"
 mkdir -p "$room/theirs/crates/simd_json_parts/src"
