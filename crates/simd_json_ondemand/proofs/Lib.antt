@@ -15,3 +15,4 @@ pub mod Tails
 pub mod ArrayViews
 pub mod MemberTails
 pub mod ObjectViews
+pub mod Whole

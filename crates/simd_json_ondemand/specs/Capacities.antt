@@ -6,15 +6,18 @@ use Rattle.simd_json_parts.specs.Limits.{max_length}
 use Rattle.simd_json_parts.specs.declared.error.Error.{Error}
 use Rattle.simd_json_parts.specs.declared.error.ErrorType.TheVariants.{OutOfMemory}
 
--- the structural indexes that are listed, and for how many, and how many blocks of 64 bytes, there is capacity
+-- the structural indexes and the blocks with a backslash that are listed, and for how many indexes, and how many blocks of 64 bytes,
+-- there is capacity
 pub record Capacities : Type 0 where
   pub listed : List ℕ
+  pub escapes : List ℕ
   pub indexes : ℕ
   pub blocks : ℕ
 
--- how the two lists are seen; `used` entries of the first are in use
-abbrev pub capacities_of : List ℕ → ℕ → List ℕ → Capacities
-capacities_of list used blocks = record { listed = take used list; indexes = length list; blocks = length blocks }
+-- how the two lists are seen, of which so many entries are in use
+abbrev pub capacities_of : List ℕ → ℕ → List ℕ → ℕ → Capacities
+capacities_of list used blocks used_blocks =
+    record { listed = take used list; escapes = take used_blocks blocks; indexes = length list; blocks = length blocks }
 
 -- for an input of how many bytes there is capacity
 abbrev pub capacity : Capacities → ℕ
@@ -31,6 +34,10 @@ KeepsCapacities old new = (old.indexes ≤ new.indexes) × (old.blocks ≤ new.b
 -- an allocation failed
 abbrev pub IsOutOfMemory : Error → Type 0
 IsOutOfMemory e = e ≡ whole_fault OutOfMemory
+
+-- so it is in a parse of b: memory is asked for once size and encoding are known to be right
+abbrev pub LacksMemory : List ℕ → Error → Type 0
+LacksMemory b e = IsOutOfMemory e × (length b ≤ max_length) × IsUtf8 b
 
 -- The error of the input b: that of the whole input, as in a parse, or it needs more memory than there is. Memory is
 -- asked for once size and encoding are known to be right, and only where there is no capacity for as many bytes.

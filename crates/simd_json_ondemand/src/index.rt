@@ -7,7 +7,7 @@ ghost use Rattle.simd_json_parts.specs.Answer.{answer};
 ghost use Rattle.simd_json_parts.specs.Document as parts;
 ghost use Rattle.simd_json_parts.specs.InputFaults.{input_fault};
 ghost use Rattle.simd_json_parts.specs.Positions.{positions};
-ghost use Rattle.simd_json_stages.specs.EscapeBlocks.{blocks_in};
+ghost use Rattle.simd_json_stages.specs.EscapeBlocks.{backslash_blocks, blocks_in};
 
 use crate::value::Document;
 use simd_json_parts::error::Result;
@@ -23,11 +23,13 @@ use std::marker::Model;
 #[derive(Drop)]
 pub struct Index<A: Allocator = Global> {
     // structural indexes (byte indexes into the input), and entries not in use
-    indexes: Vec<u32, A>,
+    pub(crate) indexes: Vec<u32, A>,
     // how many of these are in use, from the front
-    used: usize,
+    pub(crate) used: usize,
     // numbers of blocks of 64 bytes that hold a backslash, and entries not in use
-    escape_blocks: Vec<u32, A>,
+    pub(crate) escape_blocks: Vec<u32, A>,
+    // how many of these are in use, from the front
+    pub(crate) used_blocks: usize,
 }
 
 impl<A: Allocator> Model for Index<A> {
@@ -36,9 +38,11 @@ impl<A: Allocator> Model for Index<A> {
 
     ghost Value = { Capacities };
 
-    ghost view = { λ i. capacities_of i.indexes.items i.used i.escape_blocks.items };
+    ghost view = { λ i. capacities_of i.indexes.items i.used
+        i.escape_blocks.items i.used_blocks };
 
-    ghost invariant = { λ i. i.used ≤ length i.indexes.items };
+    ghost invariant = { λ i. (i.used ≤ length i.indexes.items)
+        × (i.used_blocks ≤ length i.escape_blocks.items) };
 }
 
 impl<A: Allocator + Copy> Index<A> {
@@ -56,6 +60,7 @@ impl<A: Allocator + Copy> Index<A> {
             indexes: Vec::new(a),
             used: 0,
             escape_blocks: Vec::new(a),
+            used_blocks: 0,
         };
         index.reserve(input_len)?;
         Ok(index)
@@ -136,18 +141,21 @@ impl<A: Allocator> Index<A> {
     /// So a caller that has reserved memory once can prove that no later call lacks it.
     pub fn fill(&mut self, input: &[u8]) -> Result<()>
         ensures indexes { OnOk result (self.new.listed ≡ positions input.now) }
+        ensures escapes { OnOk result (self.new.escapes ≡ backslash_blocks input.now) }
         ensures whole { OnOk result (input_fault input.now ≡ None) }
         ensures empty { OnErr result (self.new.listed ≡ []) }
         ensures kept { KeepsCapacities self.old self.new }
         ensures fault { IfErr result (λ e. IsRefused input.now self.old e) }
     {
         self.used = 0;
+        self.used_blocks = 0;
         let found = BlockStage1Parse::find_structural_bits(
             input,
             &mut self.indexes,
             &mut self.escape_blocks,
         )?;
         self.used = found.positions;
+        self.used_blocks = found.escape_blocks;
         Ok(())
     }
 

@@ -42,6 +42,7 @@
 
 mod accessors;
 mod array;
+mod check;
 mod index;
 pub mod laws;
 mod object;

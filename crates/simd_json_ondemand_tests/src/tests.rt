@@ -22,6 +22,7 @@ macro_rules! assert_that {
 }
 
 mod arrays;
+mod check;
 mod examples;
 mod memory;
 mod objects;

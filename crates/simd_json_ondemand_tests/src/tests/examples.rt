@@ -1,6 +1,6 @@
 // The examples of the documents.
 use super::MEMORY;
-use simd_json_ondemand::{Index, Result};
+use simd_json_ondemand::{ErrorType, Index, Result};
 
 fn name_len(rt: &impl AllocGlobal, input: &[u8]) -> Result<Option<usize>> {
     let mut index = Index::new(rt.alloc(), input.len())?;
@@ -22,10 +22,21 @@ fn sum(rt: &impl AllocGlobal, numbers: &[&[u8]]) -> Result<u64> {
     Ok(sum)
 }
 
+fn is_json(rt: &impl AllocGlobal, input: &[u8]) -> Result<bool> {
+    let mut index = Index::new(rt.alloc(), input.len())?;
+    match index.check(input, 1024) {
+        Ok(_document) => Ok(true),
+        Err(e) if *e.error() == ErrorType::OutOfMemory => Err(e),
+        Err(_) => Ok(false),
+    }
+}
+
 #[test]
 fn examples_run(rt: HostRuntime) {
     let len = name_len(&rt, b"\"caf\\u00e9\"").expect(&rt, MEMORY);
     assert_same!(&rt; len, Some(5));
     let sum = sum(&rt, &[b"1", b"\"2\"", b"3"]).expect(&rt, MEMORY);
     assert_same!(&rt; sum, 4);
+    assert_same!(&rt; is_json(&rt, b"[1,2]").expect(&rt, MEMORY), true);
+    assert_same!(&rt; is_json(&rt, b"[1,2").expect(&rt, MEMORY), false);
 }

@@ -4,11 +4,13 @@ use linked_list_allocator::LocalHeap;
 use simd_json_ondemand::{Error, ErrorType, Index};
 use std::process::Abort;
 
-// Takes all free memory of the heap.
-fn ballast<'h>(
+// Takes all free memory of the heap but this many bytes in one block.
+pub(super) fn ballast<'h>(
     rt: &(impl AllocGlobal + Abort),
     heap: &'h LocalHeap,
+    left: usize,
 ) -> Vec<Vec<u8, &'h LocalHeap>> {
+    let spare = Vec::<u8, &LocalHeap>::with_capacity(heap, left).expect(rt, MEMORY);
     let mut pieces = Vec::new(rt.alloc());
     let mut size = 32_768;
     for _ in 0..16 {
@@ -19,6 +21,7 @@ fn ballast<'h>(
         }
         size /= 2;
     }
+    drop(spare);
     pieces
 }
 
@@ -30,7 +33,7 @@ fn reserved_indexes_take_no_memory(rt: HostRuntime) {
     let heap = LocalHeap::new(rt.alloc(), 1 << 16).expect(&rt, MEMORY);
     let mut index = Index::new(&heap, 0).expect(&rt, MEMORY);
     index.reserve(16).expect(&rt, MEMORY);
-    let _ballast = ballast(&rt, &heap);
+    let _ballast = ballast(&rt, &heap, 0);
     let used = heap.used();
     for _ in 0..100 {
         for line in LINES {
@@ -48,7 +51,7 @@ fn allocations_fail(rt: HostRuntime) {
     let mut index = Index::new(&heap, 0).expect(&rt, MEMORY);
     let mut buffer: Vec<u8, &LocalHeap> = Vec::new(&heap);
     let mut global = Index::new(rt.alloc(), 16).expect(&rt, MEMORY);
-    let _ballast = ballast(&rt, &heap);
+    let _ballast = ballast(&rt, &heap, 0);
     let wanted = Error::generic(ErrorType::OutOfMemory);
     match index.find(b"[1]") {
         Ok(_) => assert_that!(&rt; false),

@@ -4,7 +4,7 @@ use simd_json::{Tape, tape, to_tape};
 use simd_json_ondemand::{Index, Value};
 use std::process::Abort;
 
-const SCALARS: &[&[u8]] = &[
+pub(super) const SCALARS: &[&[u8]] = &[
     b"null",
     b" true ",
     b"\tfalse\n",

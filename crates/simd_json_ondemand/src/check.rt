@@ -1,0 +1,219 @@
+//! The test of a whole input: the second stage of a parse, over a copy of the input and into a sink
+//! that keeps no node.
+ghost use Rattle.std.specs.Prelude.{◌≡◌, ◌≤◌, ◌<◌, ◌⊎◌, ◌++◌, ◌∷◌, [], List, length, get_or};
+ghost use Rattle.std.specs.Prelude.{Ok, Err, Some, IfOk, OnOk, IfErr, min, max};
+ghost use Rattle.simd_json_ondemand.specs.Capacities.{LacksMemory};
+ghost use Rattle.simd_json_ondemand.specs.Docs.{text, places, root};
+ghost use Rattle.simd_json_parts.specs.Answer.{answer};
+ghost use Rattle.simd_json_parts.specs.Descent.{descent};
+ghost use Rattle.simd_json_parts.specs.Document as parts;
+ghost use Rattle.simd_json_parts.specs.Limits.{max_length};
+ghost use Rattle.simd_json_parts.specs.Nodes.{Item, static_item};
+ghost use Rattle.simd_json_parts.specs.Positions.{positions};
+ghost use Rattle.simd_json_parts.specs.declared.node.StaticNode.TheVariants.{Null};
+ghost use Rattle.simd_json_stages.specs.Building.{header_of, is_header};
+ghost use Rattle.simd_json_stages.specs.Scans.{IsScanOf};
+ghost use base.Fml.{ftrue};
+
+use crate::index::Index;
+use crate::value::Document;
+use simd_json_parts::error::Result;
+use simd_json_parts::node::StaticNode;
+use simd_json_stages::stage2::{Container, NodeSink, Original, Scanned, StackState, build_tape};
+use std::alloc::Allocator;
+use std::marker::{Brand, Model};
+
+// For how many open containers there is a stack that is not allocated.
+const FEW_OPEN: usize = 64;
+
+impl<A: Allocator + Copy> Index<A> {
+    /// Finds the structural indexes of an input, as [`find`](Index::find) does, and checks all of
+    /// it: that it is one document (RFC 8259) with at most `max_depth` containers open at a time.
+    /// So each call on the values of the document returns what the same call of `simd_json`'s tape
+    /// returns.
+    ///
+    /// Returns the error of a parse by `simd_json` within that depth limit: the first one, with its
+    /// kind, index and character. Returns `OutOfMemory` if an allocation fails, and only if size
+    /// and encoding are right.
+    ///
+    /// It takes about the time of a parse. A parse decodes strings in place, so a copy is parsed;
+    /// the input stays unchanged, and no node is kept. From the allocator of the index it takes as
+    /// many bytes as the input has, and 24 for each container that may be open (`max_depth`, or one
+    /// for each structural index, whichever is less) if these are more than 64, and frees them
+    /// before it returns.
+    ///
+    /// ```
+    /// use simd_json_ondemand::{ErrorType, Index, Result};
+    ///
+    /// // Whether the bytes are a JSON text.
+    /// fn is_json(rt: &impl AllocGlobal, input: &[u8]) -> Result<bool> {
+    ///     let mut index = Index::new(rt.alloc(), input.len())?;
+    ///     match index.check(input, 1024) {
+    ///         Ok(_document) => Ok(true),
+    ///         Err(e) if *e.error() == ErrorType::OutOfMemory => Err(e),
+    ///         Err(_) => Ok(false),
+    ///     }
+    /// }
+    /// ```
+    pub fn check<'d>(&'d mut self, input: &'d [u8], max_depth: usize) -> Result<Document<'d>>
+        ensures input { IfOk result (λ document. text document ≡ input.now) }
+        ensures indexes { IfOk result (λ document. places document ≡ positions input.now) }
+        ensures document { IfOk result (λ document. (d : parts.Document)
+            × (answer input.now max_depth ≡ Ok d) × (root document ≡ Some d)) }
+        ensures fault { IfErr result (λ e. (answer input.now max_depth ≡ Err e)
+            ⊎ LacksMemory input.now e) }
+    {
+        self.fill(input)?;
+        let scanned = Scanned {
+            structural_indexes: &self.indexes[..self.used],
+            escape_blocks: &self.escape_blocks[..self.used_blocks],
+        };
+        parse_copy(*self.indexes.allocator(), input, scanned, max_depth)?;
+        Ok(self.document(input))
+    }
+}
+
+// Parses a copy of an input whose structural indexes and blocks with a backslash are known.
+fn parse_copy<A: Allocator + Copy>(
+    a: A,
+    input: &[u8],
+    scanned: Scanned<'_>,
+    max_depth: usize,
+) -> Result<()>
+    requires { IsScanOf input.now scanned }
+    ensures document { OnOk result ((d : parts.Document) × (answer input.now max_depth ≡ Ok d)) }
+    ensures fault { IfErr result (λ e. (answer input.now max_depth ≡ Err e)
+        ⊎ LacksMemory input.now e) }
+{
+    let mut copy = Vec::from_slice(a, input)?;
+    let mut stack = Vec::new(a);
+    let open = scanned.structural_indexes.len().min(max_depth);
+    if open > FEW_OPEN {
+        stack.resize(open, StackState::EMPTY)?;
+    }
+    count_nodes::<Brand>(
+        copy.as_mut_slice(),
+        scanned,
+        stack.as_mut_slice(),
+        max_depth,
+    )
+}
+
+// Runs the second stage, and keeps none of the nodes.
+fn count_nodes<K: Original>(
+    input: &mut [u8],
+    scanned: Scanned<'_>,
+    stack: &mut [StackState],
+    max_depth: usize,
+) -> Result<()>
+    requires input { input.old ≡ K.bytes }
+    requires scanned { IsScanOf K.bytes scanned }
+    requires stack { min (length (positions K.bytes)) max_depth ≤ max (length stack.old) 64 }
+    ensures document { OnOk result ((d : parts.Document) × (descent K.bytes max_depth ≡ Ok d)) }
+    ensures fault { IfErr result (λ e. descent K.bytes max_depth ≡ Err e) }
+{
+    let mut few = [StackState::EMPTY; FEW_OPEN];
+    let mut sink = Counted {
+        count: 0,
+        is_container: false,
+        noted: Noted::of(&()),
+    };
+    build_tape::<K, Counted>(input, scanned, stack, &mut few, &mut sink, max_depth)
+}
+
+// The counts of a sink without nodes.
+#[derive(Drop)]
+struct Counted {
+    // how many nodes were appended
+    count: usize,
+    // whether the first node is the header of a container
+    is_container: bool,
+    // the ghost record of the nodes
+    noted: Noted,
+    ghost counted: { count ≡ length noted.items },
+    ghost headed: { is_container
+        ≡ is_header (get_or noted.items 0 (static_item Null)) },
+}
+
+impl Counted {
+    // Counts a node that the caller's proof chooses; `seen` makes its values available to that
+    // proof.
+    #[inline(always)]
+    fn put<T>(&mut self, opens: bool, seen: &T)
+        ghost item: { Item }
+        requires room { length self.old.noted.items < max_length }
+        requires header { opens ≡ is_header item }
+        ensures { self.new.noted.items ≡ self.old.noted.items ++ item ∷ [] }
+    {
+        self.is_container |= opens & (self.count == 0);
+        self.count += 1;
+        self.noted = Noted::of(&(&self.noted, seen));
+    }
+}
+
+impl<'de> NodeSink<'de> for Counted {
+    ghost held_nodes = { λ s. s.noted.items };
+
+    ghost node_room = { λ _. max_length };
+
+    ghost Lender = { Unit {0} };
+
+    ghost lender = { λ _. tt };
+
+    #[inline(always)]
+    fn len(&self) -> usize {
+        self.count
+    }
+
+    #[inline(always)]
+    fn push_string(&mut self, string: &'de str) {
+        self.put(false, &string);
+    }
+
+    #[inline(always)]
+    fn push_decimal(&mut self, literal: &'de str) {
+        self.put(false, &literal);
+    }
+
+    #[inline(always)]
+    fn push_static(&mut self, value: StaticNode) {
+        self.put(false, &value);
+    }
+
+    #[inline(always)]
+    fn push_header(&mut self, container: Container) {
+        self.put(true, &container);
+    }
+
+    #[inline(always)]
+    fn set_counts(&mut self, header: usize, container: Container, len: usize, count: usize) {
+        self.noted = Noted::of(&(&self.noted, header, container, len, count));
+    }
+
+    #[inline(always)]
+    fn starts_with_header(&self) -> bool {
+        self.is_container
+    }
+}
+
+// The record. It has no bytes at run time, and only clauses determine `items`.
+#[derive(Drop)]
+struct Noted {
+    ghost items: { List Item },
+}
+
+impl Model for Noted {
+    ghost also_owns = { λ _. ftrue };
+}
+
+impl Noted {
+    // The record that the caller's proof chooses; `seen` makes its values available to that proof.
+    #[inline(always)]
+    fn of<T>(seen: &T) -> Noted
+        ghost items: { List Item }
+        ensures { result.items ≡ items }
+    {
+        let _ = seen;
+        Noted {}
+    }
+}

@@ -1,0 +1,168 @@
+// The test of a whole input, beside a parse.
+use super::MEMORY;
+use super::tape::SCALARS;
+use linked_list_allocator::LocalHeap;
+use simd_json::{Buffers, to_tape_with_buffers};
+use simd_json_ondemand::{Error, ErrorType, Index, Result};
+use std::process::Abort;
+
+const DOCUMENTS: &[&[u8]] = &[
+    b"[1,\"a\\n\",{\"\\u0061\":[true,{}],\"b\":-2.5e3}]",
+    b" { \"a\" : null , \"a\" : [ [ ] , \"\\ud83d\\ude00\" ] } ",
+    b"\"caf\xc3\xa9 \\\"\\\\\"",
+    b"-12.5e3",
+];
+
+const REJECTED: &[(&[u8], ErrorType)] = &[
+    (b"", ErrorType::Eof),
+    (b" \t\r\n", ErrorType::Eof),
+    (b"[\"a", ErrorType::Syntax),
+    (b"[\"\x1f\"]", ErrorType::Syntax),
+    (b"[1,2", ErrorType::Syntax),
+    (b"{\"a\":", ErrorType::Syntax),
+    (b"[\"\xff\"]", ErrorType::InvalidUtf8),
+    (b"[\xed\xa0\x80]", ErrorType::InvalidUtf8),
+    (b"]", ErrorType::InternalError),
+    (b"[1,]", ErrorType::InternalError),
+    (b"[1 2]", ErrorType::ExpectedArrayContent),
+    (b"[[],{}}", ErrorType::ExpectedArrayContent),
+    (b"{1:2}", ErrorType::ExpectedObjectContent),
+    (b"{\"a\":1]", ErrorType::ExpectedObjectContent),
+    (b"{\"a\":1,}", ErrorType::ExpectedObjectKey),
+    (b"{\"a\":1,2:3}", ErrorType::ExpectedObjectKey),
+    (b"{\"a\" 1}", ErrorType::ExpectedObjectColon),
+    (b"{\"a\",1}", ErrorType::ExpectedObjectColon),
+    (b"1 2", ErrorType::TrailingData),
+    (b"\"\\n\" \"\"", ErrorType::TrailingData),
+    (b"[tru]", ErrorType::ExpectedTrue),
+    (b"truex", ErrorType::ExpectedTrue),
+    (b"[fals]", ErrorType::ExpectedFalse),
+    (b"falsey", ErrorType::ExpectedFalse),
+    (b"[nul]", ErrorType::ExpectedNull),
+    (b"nullx", ErrorType::ExpectedNull),
+    (b"[01]", ErrorType::InvalidNumber),
+    (b"[1.]", ErrorType::InvalidNumber),
+    (b"[340282366920938463463374607431768211456]", ErrorType::InvalidNumber),
+    (b"[\"\\q\"]", ErrorType::InvalidEscape),
+    (b"{\"a\\n\\x\":1}", ErrorType::InvalidEscape),
+    (b"[\"\\u12\"]", ErrorType::InvalidUnicodeCodepoint),
+    (b"[\"\\ud83d\"]", ErrorType::InvalidUnicodeCodepoint),
+];
+
+// The error of a parse, if it has one.
+fn parsed(rt: &(impl AllocGlobal + Abort), input: &[u8], max_depth: usize) -> Option<Error> {
+    let mut copy = Vec::from_slice(rt.alloc(), input).expect(rt, MEMORY);
+    let mut buffers = Buffers::with_max_depth(rt.alloc(), 0, max_depth).expect(rt, MEMORY);
+    to_tape_with_buffers(&mut copy, &mut buffers).err()
+}
+
+// The error of a check is that of a parse, and the input stays as it is. Returns the error.
+fn checked(
+    rt: &(impl AllocGlobal + Abort),
+    index: &mut Index,
+    input: &[u8],
+    max_depth: usize,
+) -> Option<Error> {
+    let before = Vec::from_slice(rt.alloc(), input).expect(rt, MEMORY);
+    let error = index.check(input, max_depth).err();
+    assert_same!(rt; input, before.as_slice());
+    assert_same!(rt; &error, &parsed(rt, input, max_depth), input);
+    error
+}
+
+#[test]
+fn documents_are_accepted(rt: HostRuntime) {
+    let mut index = Index::new(rt.alloc(), 0).expect(&rt, MEMORY);
+    let mut other = Index::new(rt.alloc(), 0).expect(&rt, MEMORY);
+    for documents in [SCALARS, DOCUMENTS] {
+        for input in documents {
+            assert_same!(&rt; checked(&rt, &mut index, input, 1024), None, *input);
+            let document = index.check(input, 1024).expect(&rt, "it is a document");
+            let wanted = other.find(input).expect(&rt, "it is scanned");
+            let (value, wanted) = (document.as_value(), wanted.as_value());
+            assert_same!(&rt; value.value_type(), wanted.value_type(), *input);
+            assert_same!(&rt; value.raw(), wanted.raw(), *input);
+        }
+    }
+}
+
+#[test]
+fn errors_are_those_of_a_parse(rt: HostRuntime) {
+    let mut index = Index::new(rt.alloc(), 0).expect(&rt, MEMORY);
+    for (input, kind) in REJECTED {
+        let error = checked(&rt, &mut index, input, 1024).expect(&rt, "it is rejected");
+        assert_same!(&rt; error.error(), kind, *input);
+    }
+}
+
+// Each beginning of a document, and each of its bytes replaced by each of several.
+#[test]
+fn changed_documents_are_checked_as_they_are_parsed(rt: HostRuntime) {
+    let mut index = Index::new(rt.alloc(), 0).expect(&rt, MEMORY);
+    let mut rejected = 0_usize;
+    for document in DOCUMENTS {
+        let mut changed = Vec::from_slice(rt.alloc(), document).expect(&rt, MEMORY);
+        for i in 0..document.len() {
+            for byte in *b"\"\\[]{}:, 1-.etfnu\x01\xff" {
+                changed[i] = byte;
+                if checked(&rt, &mut index, &changed, 4).is_some() {
+                    rejected = rejected.saturating_add(1);
+                }
+            }
+            changed[i] = document[i];
+            checked(&rt, &mut index, &document[..i], 4);
+        }
+    }
+    assert_that!(&rt; rejected > 1000);
+}
+
+// Arrays in one another, with fewer and with more levels than have a stack that is not allocated.
+#[test]
+fn depth_is_limited(rt: HostRuntime) {
+    let mut index = Index::new(rt.alloc(), 0).expect(&rt, MEMORY);
+    for depth in [0, 1, 2, 63, 64, 65, 66, 200] {
+        let mut input = Vec::new(rt.alloc());
+        input.resize(depth, b'[').expect(&rt, MEMORY);
+        input.push(b'1').expect(&rt, MEMORY);
+        input
+            .resize(depth.saturating_mul(2).saturating_add(1), b']')
+            .expect(&rt, MEMORY);
+        for limit in [0, 1, 2, 63, 64, 65, 66, 1024, usize::MAX] {
+            let error = checked(&rt, &mut index, &input, limit);
+            let deep = Error::new(limit, Some('['), ErrorType::DepthLimitExceeded);
+            let wanted = if depth > limit { Some(deep) } else { None };
+            assert_same!(&rt; error, wanted, (depth, limit));
+        }
+    }
+}
+
+// What a check of 70 nested arrays returns where the heap has so many bytes left.
+fn checked_with(rt: &(impl AllocGlobal + Abort), left: usize) -> Result<()> {
+    let mut input = [b'['; 141];
+    input[70] = b'1';
+    for byte in &mut input[71..] {
+        *byte = b']';
+    }
+    let heap = LocalHeap::new(rt.alloc(), 1 << 16).expect(rt, MEMORY);
+    let mut index = Index::new(&heap, input.len()).expect(rt, MEMORY);
+    let full = super::memory::ballast(rt, &heap, left);
+    let used = heap.used();
+    let answer = match index.check(&input, 1024) {
+        Ok(_document) => Ok(()),
+        Err(e) => Err(e),
+    };
+    assert_same!(rt; heap.used(), used);
+    drop(full);
+    assert_same!(rt; index.check(&input, 1024).is_ok(), true);
+    answer
+}
+
+// The copy takes 141 bytes, and the stack 24 for each of 141 structural indexes.
+#[test]
+fn memory_is_taken_for_a_copy_and_a_stack(rt: HostRuntime) {
+    for left in [0, 100, 200, 1000, 3000] {
+        let wanted = Err(Error::generic(ErrorType::OutOfMemory));
+        assert_same!(&rt; checked_with(&rt, left), wanted, left);
+    }
+    assert_same!(&rt; checked_with(&rt, 4000), Ok(()));
+}
