@@ -1,4 +1,5 @@
 pub mod Levels
+pub mod Whole
 pub mod Scans
 pub mod Standing
 pub mod Agreement
@@ -15,4 +16,3 @@ pub mod Tails
 pub mod ArrayViews
 pub mod MemberTails
 pub mod ObjectViews
-pub mod Whole

@@ -57,7 +57,8 @@ few-positions b = omega (
 )
 
 -- so a sink with room for as many nodes has enough
-pub nodes-within : (b : List ℕ) (count limit : ℕ) → input_fault b ≡ None → count ≡ length (positions b) → nodes_enough count limit ≤ max_length
+pub nodes-within : (b : List ℕ) (count limit : ℕ) → input_fault b ≡ None → count ≡ length (positions b)
+    → nodes_enough count limit ≤ max_length
 unfolding nodes_enough
 nodes-within b count limit none is = omega (arith, is, few-positions b, (right-input b none).0)
 

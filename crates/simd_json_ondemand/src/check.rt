@@ -32,15 +32,22 @@ impl<A: Allocator + Copy> Index<A> {
     /// So each call on the values of the document returns what the same call of `simd_json`'s tape
     /// returns.
     ///
-    /// Returns the error of a parse by `simd_json` within that depth limit: the first one, with its
-    /// kind, index and character. Returns `OutOfMemory` if an allocation fails, and only if size
-    /// and encoding are right.
+    /// Returns the first error of a parse by `simd_json` within that depth limit, with its kind,
+    /// index and character:
     ///
-    /// It takes about the time of a parse. A parse decodes strings in place, so a copy is parsed;
-    /// the input stays unchanged, and no node is kept. From the allocator of the index it takes as
-    /// many bytes as the input has, and 24 for each container that may be open (`max_depth`, or one
-    /// for each structural index, whichever is less) if these are more than 64, and frees them
-    /// before it returns.
+    /// - an error of the whole input, as [`find`](Index::find) returns it, or else
+    /// - that of the first token that is rejected, from the left: because another is expected
+    ///   (RFC 8259, sections 2, 4 and 5), because of its letters (section 3), as a number
+    ///   (section 6), for an escape (section 7), or because it opens a container beyond the limit
+    ///   (section 9)
+    ///
+    /// Returns `OutOfMemory` if an allocation fails, and only if size and encoding are right.
+    ///
+    /// It does the work of a parse, except that it keeps no node. A parse decodes strings in place,
+    /// so it works on a copy; the input stays unchanged. The copy, of as many bytes as the input
+    /// has, is taken from the allocator of the index. So are 24 bytes for each container that may
+    /// be open (`max_depth`, or one for each structural index, whichever is less) if these are more
+    /// than 64. Both are freed before it returns.
     ///
     /// ```
     /// use simd_json_ondemand::{ErrorType, Index, Result};

@@ -105,8 +105,8 @@ impl<A: Allocator> Index<A> {
     /// if there is no capacity for as many bytes as the input has.
     ///
     /// Whether each token is where the grammar expects one is not tested here, but where values are
-    /// read. If the input is a document that a parse accepts, at any depth limit, the root is
-    /// that document.
+    /// read; [`check`](Index::check) tests it. If the input is a document that a parse accepts, at
+    /// any depth limit, the root is that document.
     ///
     /// ```
     /// use simd_json_ondemand::{Index, Result};

@@ -17,7 +17,9 @@
 //!   follow a scalar. `None` does not tell a value of another kind from bytes that are no
 //!   value.
 //!
-//! So an input that may be no document, where that matters, is to be parsed by `simd_json`.
+//! Where that matters call [`Index::check`] in place of `find`: it checks the whole input, as a
+//! parse does, and returns the error of the parse. It keeps no node, but copies the input for the
+//! time of the call.
 //!
 //! # Example
 //!

@@ -13,42 +13,6 @@ const DOCUMENTS: &[&[u8]] = &[
     b"-12.5e3",
 ];
 
-const REJECTED: &[(&[u8], ErrorType)] = &[
-    (b"", ErrorType::Eof),
-    (b" \t\r\n", ErrorType::Eof),
-    (b"[\"a", ErrorType::Syntax),
-    (b"[\"\x1f\"]", ErrorType::Syntax),
-    (b"[1,2", ErrorType::Syntax),
-    (b"{\"a\":", ErrorType::Syntax),
-    (b"[\"\xff\"]", ErrorType::InvalidUtf8),
-    (b"[\xed\xa0\x80]", ErrorType::InvalidUtf8),
-    (b"]", ErrorType::InternalError),
-    (b"[1,]", ErrorType::InternalError),
-    (b"[1 2]", ErrorType::ExpectedArrayContent),
-    (b"[[],{}}", ErrorType::ExpectedArrayContent),
-    (b"{1:2}", ErrorType::ExpectedObjectContent),
-    (b"{\"a\":1]", ErrorType::ExpectedObjectContent),
-    (b"{\"a\":1,}", ErrorType::ExpectedObjectKey),
-    (b"{\"a\":1,2:3}", ErrorType::ExpectedObjectKey),
-    (b"{\"a\" 1}", ErrorType::ExpectedObjectColon),
-    (b"{\"a\",1}", ErrorType::ExpectedObjectColon),
-    (b"1 2", ErrorType::TrailingData),
-    (b"\"\\n\" \"\"", ErrorType::TrailingData),
-    (b"[tru]", ErrorType::ExpectedTrue),
-    (b"truex", ErrorType::ExpectedTrue),
-    (b"[fals]", ErrorType::ExpectedFalse),
-    (b"falsey", ErrorType::ExpectedFalse),
-    (b"[nul]", ErrorType::ExpectedNull),
-    (b"nullx", ErrorType::ExpectedNull),
-    (b"[01]", ErrorType::InvalidNumber),
-    (b"[1.]", ErrorType::InvalidNumber),
-    (b"[340282366920938463463374607431768211456]", ErrorType::InvalidNumber),
-    (b"[\"\\q\"]", ErrorType::InvalidEscape),
-    (b"{\"a\\n\\x\":1}", ErrorType::InvalidEscape),
-    (b"[\"\\u12\"]", ErrorType::InvalidUnicodeCodepoint),
-    (b"[\"\\ud83d\"]", ErrorType::InvalidUnicodeCodepoint),
-];
-
 // The error of a parse, if it has one.
 fn parsed(rt: &(impl AllocGlobal + Abort), input: &[u8], max_depth: usize) -> Option<Error> {
     let mut copy = Vec::from_slice(rt.alloc(), input).expect(rt, MEMORY);
@@ -87,11 +51,68 @@ fn documents_are_accepted(rt: HostRuntime) {
 }
 
 #[test]
-fn errors_are_those_of_a_parse(rt: HostRuntime) {
+fn errors_of_the_whole_input_are_those_of_a_parse(rt: HostRuntime) {
     let mut index = Index::new(rt.alloc(), 0).expect(&rt, MEMORY);
-    for (input, kind) in REJECTED {
+    for (input, kind) in [
+        (b"".as_slice(), ErrorType::Eof),
+        (b" \t\r\n", ErrorType::Eof),
+        (b"[\"a", ErrorType::Syntax),
+        (b"[\"\x1f\"]", ErrorType::Syntax),
+        (b"[\"\xff\"]", ErrorType::InvalidUtf8),
+        (b"[\xed\xa0\x80]", ErrorType::InvalidUtf8),
+    ] {
         let error = checked(&rt, &mut index, input, 1024).expect(&rt, "it is rejected");
-        assert_same!(&rt; error.error(), kind, *input);
+        assert_same!(&rt; error.error(), &kind, input);
+    }
+}
+
+#[test]
+fn errors_of_structure_are_those_of_a_parse(rt: HostRuntime) {
+    let mut index = Index::new(rt.alloc(), 0).expect(&rt, MEMORY);
+    for (input, kind) in [
+        (b"[1,2".as_slice(), ErrorType::Syntax),
+        (b"{\"a\":", ErrorType::Syntax),
+        (b"]", ErrorType::InternalError),
+        (b"[1,]", ErrorType::InternalError),
+        (b"[1 2]", ErrorType::ExpectedArrayContent),
+        (b"[[],{}}", ErrorType::ExpectedArrayContent),
+        (b"{1:2}", ErrorType::ExpectedObjectContent),
+        (b"{\"a\":1]", ErrorType::ExpectedObjectContent),
+        (b"{\"a\":1,}", ErrorType::ExpectedObjectKey),
+        (b"{\"a\":1,2:3}", ErrorType::ExpectedObjectKey),
+        (b"{\"a\" 1}", ErrorType::ExpectedObjectColon),
+        (b"{\"a\",1}", ErrorType::ExpectedObjectColon),
+        (b"1 2", ErrorType::TrailingData),
+        (b"\"\\n\" \"\"", ErrorType::TrailingData),
+    ] {
+        let error = checked(&rt, &mut index, input, 1024).expect(&rt, "it is rejected");
+        assert_same!(&rt; error.error(), &kind, input);
+    }
+}
+
+#[test]
+fn errors_of_scalars_are_those_of_a_parse(rt: HostRuntime) {
+    let mut index = Index::new(rt.alloc(), 0).expect(&rt, MEMORY);
+    for (input, kind) in [
+        (b"[tru]".as_slice(), ErrorType::ExpectedTrue),
+        (b"truex", ErrorType::ExpectedTrue),
+        (b"[fals]", ErrorType::ExpectedFalse),
+        (b"falsey", ErrorType::ExpectedFalse),
+        (b"[nul]", ErrorType::ExpectedNull),
+        (b"nullx", ErrorType::ExpectedNull),
+        (b"[01]", ErrorType::InvalidNumber),
+        (b"[1.]", ErrorType::InvalidNumber),
+        (
+            b"[340282366920938463463374607431768211456]",
+            ErrorType::InvalidNumber,
+        ),
+        (b"[\"\\q\"]", ErrorType::InvalidEscape),
+        (b"{\"a\\n\\x\":1}", ErrorType::InvalidEscape),
+        (b"[\"\\u12\"]", ErrorType::InvalidUnicodeCodepoint),
+        (b"[\"\\ud83d\"]", ErrorType::InvalidUnicodeCodepoint),
+    ] {
+        let error = checked(&rt, &mut index, input, 1024).expect(&rt, "it is rejected");
+        assert_same!(&rt; error.error(), &kind, input);
     }
 }
 
