@@ -43,6 +43,7 @@
 mod accessors;
 mod array;
 mod index;
+mod key;
 pub mod laws;
 mod object;
 mod skip;

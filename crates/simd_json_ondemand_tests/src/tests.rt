@@ -23,6 +23,7 @@ macro_rules! assert_that {
 
 mod arrays;
 mod examples;
+mod keys;
 mod memory;
 mod objects;
 mod other;
