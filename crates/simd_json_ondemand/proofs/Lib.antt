@@ -16,3 +16,5 @@ pub mod Tails
 pub mod ArrayViews
 pub mod MemberTails
 pub mod ObjectViews
+pub mod Keys
+pub mod Lookup

@@ -109,7 +109,7 @@ stop-is c h other =
       ]
     ]
 
-stop-other : (c : ℕ) → is_plain c ≡ false → (c ≡ quote → ⊥) → c ≡ backslash
+pub stop-other : (c : ℕ) → is_plain c ≡ false → (c ≡ quote → ⊥) → c ≡ backslash
 stop-other c h other =
     elim (cases_Bool (nat_eq c 92)) [
       | inl e ↦ eqb-true c 92 e

@@ -11,5 +11,8 @@ pub mod Tails
 pub mod Iterated
 pub mod MemberTails
 pub mod IteratedMembers
+-- Look-up by key.
+pub mod Keys
+pub mod Wanted
 -- What contracts see of an index: what it lists, and for how many bytes it has capacity.
 pub mod Capacities

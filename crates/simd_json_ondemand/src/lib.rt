@@ -46,6 +46,7 @@ mod accessors;
 mod array;
 mod check;
 mod index;
+mod key;
 pub mod laws;
 mod object;
 mod skip;

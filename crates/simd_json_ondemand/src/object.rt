@@ -2,6 +2,7 @@
 ghost use Rattle.std.specs.Prelude.{◌<◌, length};
 
 use crate::array::Position;
+use crate::key::Wanted;
 use crate::skip::skip;
 use crate::value::{Document, Value};
 use std::iter::FusedIterator;
@@ -105,13 +106,43 @@ impl<'d> Iterator for Object<'d> {
 
 impl<'d> FusedIterator for Object<'d> {}
 
+impl<'d> Object<'d> {
+    ghost use Rattle.std.specs.Prelude.{◌≡◌, [], ◌∷◌, Some, MatchOption};
+    ghost use Rattle.simd_json_ondemand.specs.Docs.{doc};
+    ghost use Rattle.simd_json_ondemand.specs.IteratedMembers.{members_left};
+    ghost use Rattle.simd_json_ondemand.specs.Keys.{from_key};
+    ghost use Rattle.simd_json_parts.specs.Document.{string};
+
+    /// Returns the value of the first member that is left with this key, and goes on behind that
+    /// member; or `None`, and then the same members are left. Values before it are skipped. A key
+    /// in the input may have escapes.
+    #[inline(always)]
+    pub fn find(&mut self, key: &str) -> Option<Value<'d>>
+        ensures { MatchOption result
+            ((from_key key.now (members_left self.old) ≡ []) × (self.new ≡ self.old))
+            (λ value. from_key key.now (members_left self.old)
+            ≡ (Some (string key.now), doc value) ∷ members_left self.new) }
+    {
+        let wanted = Wanted::new(key);
+        let mut left = *self;
+        while let Some((name, value)) = left.next() {
+            if name.is_key(wanted) {
+                *self = left;
+                return Some(value);
+            }
+        }
+        None
+    }
+}
+
 impl<'d> Value<'d> {
-    ghost use Rattle.std.specs.Prelude.{◌≡◌, true, Some, IfSome, option_map};
+    ghost use Rattle.std.specs.Prelude.{◌≡◌, true, Some, IfSome, option_map, option_and_then};
     ghost use Rattle.simd_json_ondemand.specs.Docs.{doc, form};
     ghost use Rattle.simd_json_ondemand.specs.IteratedMembers.{members_left, all_members};
     ghost use Rattle.simd_json_ondemand.specs.Standing.{opens_object};
     ghost use Rattle.simd_json_parts.specs.Document as parts;
-    ghost use Rattle.simd_json_parts.specs.Views.{as_object};
+    ghost use Rattle.simd_json_parts.specs.Views.{as_object, as_str, get};
+    ghost use Rattle.simd_json_ondemand.specs.Keys.{is_key};
 
     /// Returns the members of the object, or `None` if the value is no object.
     #[inline(always)]
@@ -130,5 +161,27 @@ impl<'d> Value<'d> {
             at,
             position: Position::First,
         })
+    }
+
+    /// Returns the value of the first member of the object with this key, or `None` if the object
+    /// has no such member or the value is no object.
+    ///
+    /// The keys of the objects that are its values are passed over. `{"\u0061":1}` has the key `a`.
+    #[inline(always)]
+    pub fn get(self, key: &str) -> Option<Value<'d>>
+        ensures document { (d : parts.Document) → doc self.entry ≡ Some d → option_map doc result
+            ≡ option_map (λ e. Some e) (get key.now d) }
+        ensures any { IfSome result (λ value. opens_object (form self.entry) ≡ true) }
+    {
+        let mut members = self.as_object()?;
+        members.find(key)
+    }
+
+    // Whether the value is a string, and the key.
+    #[inline(always)]
+    fn is_key(self, wanted: Wanted<'_>) -> bool
+        ensures { result ≡ is_key wanted.entry.key.now (option_and_then as_str (doc self.entry)) }
+    {
+        self.first() == b'"' && wanted.is_at(self.bytes())
     }
 }

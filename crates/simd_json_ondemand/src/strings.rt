@@ -65,7 +65,7 @@ impl<'d> Value<'d> {
 
 // The index of the next quote or backslash, or the length.
 #[inline(always)]
-fn plain_end(bytes: &[u8], from: usize) -> usize
+pub(crate) fn plain_end(bytes: &[u8], from: usize) -> usize
     requires { from ≤ length bytes.now }
     ensures value { result ≡ from + prefix_len is_plain (drop from bytes.now) }
     ensures bound { result ≤ length bytes.now }

@@ -24,6 +24,7 @@ macro_rules! assert_that {
 mod arrays;
 mod check;
 mod examples;
+mod keys;
 mod memory;
 mod objects;
 mod other;

@@ -13,6 +13,7 @@ mod escapes;
 #[cfg(test)]
 mod tests;
 
+pub use escapes::escape;
 use escapes::unescape_one;
 use std::simd::prelude::*;
 

@@ -1,0 +1,14 @@
+use Rattle.std.proofs.Common.{◌∙◌, ap}
+use Rattle.std.specs.Prelude.{option_map}
+use Rattle.simd_json_ondemand.specs.Docs.{doc}
+use Rattle.simd_json_ondemand.specs.IteratedMembers.{members_left}
+use Rattle.simd_json_ondemand.proofs.Lookup.{no-member, found, if-some}
+use Rattle.simd_json_ondemand.proofs.value.Value.get.Goals as goal
+
+pub returns-in_err-members-clause-document : goal.returns-in_err-members-clause-document
+returns-in_err-members-clause-document c = λ d h.
+    ap (option_map doc) c.from_residual.ensures ∙ no-member c.args.key.now d (c.in_err-members.ensures.document d h)
+
+pub returns-clause-document : goal.returns-clause-document
+returns-clause-document c = λ d h.
+    found _ _ c.args.key.now d _ c.find.result (c.in_ok-members.ensures.document d h) c.find.ensures

@@ -1,0 +1,28 @@
+-- A key as it is compared with strings. It serves proofs: only the crate's private clauses cite it.
+use Rattle.std.specs.Prelude.{◌≡◌, ◌≢◌, ◌<◌, ◌≤◌, ℕ, List, [], ◌∷◌, length, get_or, Bool, true, false, Option, Some, None, Result, Ok, Err, IsTrue, bytes_eq}
+use Rattle.std.specs.List.{prefix_len}
+use Rattle.simd_json_parts.specs.Bytes.{quote}
+use Rattle.simd_json_parts.specs.declared.error.Error.{Error}
+use Rattle.simd_json_scalars.specs.StringContent.{is_plain}
+
+-- the string that is read, if one is
+abbrev pub read_string : Result (List ℕ × ℕ) Error → Option (List ℕ)
+read_string (Ok r) = Some r.0
+read_string (Err e) = None
+
+-- whether pieces are read to their end, as the key
+abbrev pub names : List ℕ → List ℕ × List ℕ → Bool
+names key (t, []) = bytes_eq t key
+names key (t, x ∷ left) = false
+
+-- the first eight bytes of the key, and quotes after its end; whether it has neither a quote nor a backslash
+pub record IsWanted (key first : List ℕ) (plain : Bool) : Type 0 where
+  pub lanes : (k : ℕ) → k < 8 → get_or first k 0 ≡ get_or key k quote
+  pub size : length first ≡ 8
+  pub plain_key : IsTrue plain → prefix_len is_plain key ≡ length key
+
+-- two lists have k first elements in common, and no more
+pub record AgreesTo (xs ys : List ℕ) (k : ℕ) : Type 0 where
+  pub bound : k ≤ length xs
+  pub same : (j : ℕ) → j < k → get_or xs j 0 ≡ get_or ys j 0
+  pub other : k < length xs → get_or xs k 0 ≢ get_or ys k 0

@@ -1,0 +1,143 @@
+//! Compares strings of the input with a key, as they are written: nothing is decoded into memory.
+ghost use Rattle.std.specs.Prelude.{◌≡◌, ◌<◌, ◌≤◌, ◌+◌, ◌++◌, ℕ, List, length, get_or};
+ghost use Rattle.std.specs.Prelude.{MatchOption, Some};
+ghost use Rattle.simd_json_ondemand.specs.Keys.{is_key};
+ghost use Rattle.simd_json_ondemand.specs.Wanted.{AgreesTo, IsWanted, read_string};
+ghost use Rattle.simd_json_parts.specs.Bytes.{byte_at, quote};
+ghost use Rattle.simd_json_parts.specs.StringAt.{closing_quote, escape_at, string_at};
+
+use crate::strings::plain_end;
+use memchr::memchr2;
+use simd_json_parts::charutils::codepoint_to_utf8;
+use simd_json_scalars::stringparse::escape;
+use std::simd::prelude::*;
+
+/// A key, and its first eight bytes as they are compared, with quotes after its end.
+#[derive(Clone, Copy)]
+pub(crate) struct Wanted<'k> {
+    key: &'k [u8],
+    first: [u8; 8],
+    // Only a key without quote and backslash can be written as it is.
+    is_plain: bool,
+    ghost made: { IsWanted key.now first is_plain },
+}
+
+impl<'k> Wanted<'k> {
+    ghost use Rattle.std.specs.Prelude.{◌≡◌, ◌<◌, length};
+    ghost use Rattle.simd_json_ondemand.specs.Keys.{is_key};
+    ghost use Rattle.simd_json_ondemand.specs.Wanted.{read_string};
+    ghost use Rattle.simd_json_parts.specs.Bytes.{byte_at, quote};
+    ghost use Rattle.simd_json_parts.specs.StringAt.{closing_quote, string_at};
+
+    #[inline(always)]
+    pub(crate) fn new(key: &'k str) -> Wanted<'k>
+        ensures { result.key.now ≡ key.now }
+    {
+        let key = key.as_bytes();
+        Wanted {
+            key,
+            first: first_eight(key),
+            is_plain: memchr2(b'"', b'\\', key).is_none(),
+        }
+    }
+
+    // Whether the string whose opening quote is the first byte is the key. The first byte that
+    // differs decides, but for a backslash.
+    #[inline(always)]
+    pub(crate) fn is_at(self, bytes: &[u8]) -> bool
+        requires opening { byte_at bytes.now 0 ≡ quote }
+        requires closing { closing_quote bytes.now 0 < length bytes.now }
+        ensures { result ≡ is_key self.entry.key.now (read_string (string_at bytes.now 0)) }
+    {
+        if !self.is_plain || bytes.len() < 9 {
+            return is_written(bytes, self.key);
+        }
+        let same = common(u8x8::from_slice(&bytes[1..]), self.first);
+        if same < 8 && same <= self.key.len() {
+            return bytes[1 + same] == b'\\' && is_written(bytes, self.key);
+        }
+        self.key.len() < 8 || is_written(bytes, self.key)
+    }
+}
+
+// The number of the first byte that differs, or 8.
+#[inline(always)]
+fn common(bytes: u8x8, others: [u8; 8]) -> usize
+    requires { length others ≡ 8 }
+    ensures { AgreesTo bytes others result }
+{
+    let differ = bytes.simd_ne(u8x8::from_array(others)).to_bitmask();
+    if differ == 0 {
+        return 8;
+    }
+    differ.trailing_zeros() as usize
+}
+
+// The first eight bytes, and quotes after the end.
+#[inline(always)]
+fn first_eight(key: &[u8]) -> [u8; 8]
+    ensures lanes { (k : ℕ) → k < 8 → get_or result k 0 ≡ get_or key.now k quote }
+    ensures size { length result ≡ 8 }
+{
+    [
+        byte_or_quote(key, 0),
+        byte_or_quote(key, 1),
+        byte_or_quote(key, 2),
+        byte_or_quote(key, 3),
+        byte_or_quote(key, 4),
+        byte_or_quote(key, 5),
+        byte_or_quote(key, 6),
+        byte_or_quote(key, 7),
+    ]
+}
+
+#[inline(always)]
+fn byte_or_quote(key: &[u8], k: usize) -> u8
+    ensures { result ≡ get_or key.now k quote }
+{
+    if k < key.len() { key[k] } else { b'"' }
+}
+
+// Whether the string whose opening quote is the first byte is the key: runs of plain bytes, and
+// the characters of escapes, are taken off the key.
+#[inline(never)]
+fn is_written(bytes: &[u8], key: &[u8]) -> bool
+    requires opening { byte_at bytes.now 0 ≡ quote }
+    requires closing { closing_quote bytes.now 0 < length bytes.now }
+    ensures { result ≡ is_key key.now (read_string (string_at bytes.now 0)) }
+{
+    let mut from = 1;
+    let mut left = key;
+    loop {
+        let end = plain_end(bytes, from);
+        let Some(rest) = left.strip_prefix(&bytes[from..end]) else {
+            return false;
+        };
+        if bytes[end] == b'"' {
+            return rest.is_empty();
+        }
+        let Some((rest, more)) = after_escape(&bytes[end..], rest) else {
+            return false;
+        };
+        left = rest;
+        from = end + 1 + more;
+    }
+}
+
+// What is left of the key after the character of the escape at the front, and how many bytes of the
+// escape follow the backslash.
+#[cold]
+#[inline(never)]
+fn after_escape<'k>(bytes: &[u8], key: &'k [u8]) -> Option<(&'k [u8], usize)>
+    requires { 2 ≤ length bytes.now }
+    ensures { MatchOption result
+        ((p : List ℕ × ℕ) (rest : List ℕ) → escape_at bytes.now ≡ Some p
+        → key.now ≡ p.0 ++ rest → ⊥)
+        (λ r. (s : List ℕ) × (escape_at bytes.now ≡ Some (s, r.1)) × (key.now ≡ s ++ r.0.now)) }
+{
+    let (character, more) = escape(bytes)?;
+    let mut utf8 = [0; 4];
+    let len = codepoint_to_utf8(character, &mut utf8);
+    let rest = key.strip_prefix(&utf8[..len])?;
+    Some((rest, more))
+}
