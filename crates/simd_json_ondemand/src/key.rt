@@ -6,10 +6,10 @@ ghost use Rattle.simd_json_ondemand.specs.Wanted.{AgreesTo, IsWanted, read_strin
 ghost use Rattle.simd_json_parts.specs.Bytes.{byte_at, quote};
 ghost use Rattle.simd_json_parts.specs.StringAt.{closing_quote, escape_at, string_at};
 
+use crate::escape::escape;
 use crate::strings::plain_end;
 use memchr::memchr2;
 use simd_json_parts::charutils::codepoint_to_utf8;
-use simd_json_scalars::stringparse::escape;
 use std::simd::prelude::*;
 
 /// A key, and its first eight bytes as they are compared, with quotes after its end.

@@ -45,6 +45,7 @@
 mod accessors;
 mod array;
 mod check;
+mod escape;
 mod index;
 mod key;
 pub mod laws;

@@ -13,7 +13,6 @@ mod escapes;
 #[cfg(test)]
 mod tests;
 
-pub use escapes::escape;
 use escapes::unescape_one;
 use std::simd::prelude::*;
 

@@ -26,9 +26,9 @@ pub(super) fn unescape_one(unread: &mut [u8], ends: Ends) -> Option<Ends>
     Some(Ends { read, written })
 }
 
-/// Returns the character of the escape at the front, and how many of its bytes follow the backslash.
-// The table comes first, since most escapes have one letter.
-pub fn escape(bytes: &[u8]) -> Option<(char, usize)>
+// The character of the escape at the front, and how many of its bytes follow the backslash. The
+// table comes first, since most escapes have one letter.
+fn escape(bytes: &[u8]) -> Option<(char, usize)>
     requires { 2 ≤ length bytes.now }
     ensures value { MatchOption result (escape_at bytes.now ≡ None)
         (λ e. escape_at bytes.now ≡ Some (encode_utf8 e.0, e.1)) }
