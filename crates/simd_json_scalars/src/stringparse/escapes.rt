@@ -26,7 +26,8 @@ pub(super) fn unescape_one(unread: &mut [u8], ends: Ends) -> Option<Ends>
     Some(Ends { read, written })
 }
 
-/// Returns the character of the escape at the front, and how many of its bytes follow the backslash.
+/// Returns the character of the escape at the front, and how many of its bytes follow the
+/// backslash.
 // The table comes first, since most escapes have one letter.
 pub fn escape(bytes: &[u8]) -> Option<(char, usize)>
     requires { 2 ≤ length bytes.now }

@@ -1,4 +1,4 @@
-use Rattle.std.proofs.Common.{◌≡◌, refl, sym, ◌∙◌, ap, ℕ, ◌+◌, List, ◌++◌, length, take, drop, arith, rules}
+use Rattle.std.proofs.Common.{◌≡◌, sym, ◌∙◌, ap, ◌++◌, length, take}
 use Rattle.std.proofs.lemmas.Str.{length-encode}
 use Rattle.std.specs.Prelude.{encode_utf8}
 use lib.Seq.{take-append_seam}
