@@ -18,7 +18,8 @@ use std::simd::prelude::*;
 pub(crate) struct Wanted<'k> {
     key: &'k [u8],
     first: [u8; 8],
-    // Whether its first eight bytes have neither a quote nor a backslash.
+    // Whether its first eight bytes have neither a quote nor a backslash. A key that has one is
+    // written with an escape.
     is_plain: bool,
     ghost made: { IsWanted key.now first is_plain },
 }
