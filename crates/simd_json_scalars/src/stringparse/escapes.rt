@@ -29,6 +29,7 @@ pub(super) fn unescape_one(unread: &mut [u8], ends: Ends) -> Option<Ends>
 /// Returns the character of the escape at the front, and how many of its bytes follow the
 /// backslash.
 // The table comes first, since most escapes have one letter.
+#[inline(always)]
 pub fn escape(bytes: &[u8]) -> Option<(char, usize)>
     requires { 2 ≤ length bytes.now }
     ensures value { MatchOption result (escape_at bytes.now ≡ None)
@@ -60,6 +61,7 @@ const ESCAPED: [u8; 256] = [
 ];
 
 // A code unit, or a high and a low surrogate.
+#[inline(always)]
 fn unicode_escape(bytes: &[u8]) -> Option<(char, usize)>
     ensures value { let piece =
         unicode_piece (code_unit_at bytes.now) (code_unit_at (drop 6 bytes.now)) in
@@ -80,6 +82,7 @@ fn unicode_escape(bytes: &[u8]) -> Option<(char, usize)>
 }
 
 // The code unit of a `\u` escape at the front.
+#[inline(always)]
 fn code_unit(bytes: &[u8]) -> Option<u32>
     ensures value { result ≡ code_unit_at bytes.now }
     ensures bounds { IfSome result (λ u. (u < 65536) × (6 ≤ length bytes.now)) }
