@@ -1,19 +1,27 @@
 -- What the descent reads stays the same with more levels, and with as many as there are tokens; nor does it matter
--- which fault stands for a token that is missing.
+-- which fault stands for a token that is missing. So an input that is answered as a document, at any depth limit, is
+-- that document along its structural indexes.
 use Rattle.std.proofs.Common.{◌≡◌, refl, ◌∙◌, ap, subst, ℕ, zero, suc, ◌<◌, ◌≤◌, ◌⊎◌, inl, inr, List, [], ◌∷◌, length, arith}
-use Rattle.std.specs.Prelude.{Result, Ok, Err, IfOk}
+use Rattle.std.specs.Prelude.{Result, Ok, Err, IfOk, Option, Some, None}
+use Rattle.simd_json_parts.specs.Answer.{answer, fault_or}
 use Rattle.simd_json_parts.specs.Document.{Document, Elements, Members}
 use Rattle.simd_json_parts.specs.Tokens.{Token, Form, begin_array, end_array, begin_object, end_object, name_separator}
-use Rattle.simd_json_parts.specs.Tokens.{value_separator, string_token, scalar}
+use Rattle.simd_json_parts.specs.Tokens.{value_separator, string_token, scalar, tokens}
 use Rattle.simd_json_parts.specs.Descent.{◌>>=◌, Reads, after_element, element_end, elements_from, elements_by, first_element}
 use Rattle.simd_json_parts.specs.Descent.{array_from, name_of, name_from, after_name, name_end, after_member, member_end}
 use Rattle.simd_json_parts.specs.Descent.{members_from, members_by, first_member, object_from, value_of}
-use Rattle.simd_json_parts.specs.Descent.{too_deep, value_from}
+use Rattle.simd_json_parts.specs.Descent.{too_deep, value_from, root_end, descent, last_index}
+use Rattle.simd_json_parts.specs.Faults.{fault_at}
+use Rattle.simd_json_parts.specs.InputFaults.{input_fault}
+use Rattle.simd_json_parts.specs.Positions.{positions}
+use Rattle.simd_json_parts.specs.TokensAlong.{tokens_along}
 use Rattle.simd_json_parts.specs.declared.error.Error.{Error}
 use Rattle.simd_json_parts.specs.declared.error.ErrorType.{ErrorType}
-use Rattle.simd_json_parts.specs.declared.error.ErrorType.TheVariants.{ExpectedObjectKey, ExpectedObjectContent}
+use Rattle.simd_json_parts.specs.declared.error.ErrorType.TheVariants.{ExpectedObjectKey, ExpectedObjectContent, Syntax}
 use Rattle.simd_json_parts.proofs.Descent.Shrinking.{value_from-leaves, name_from-leaves, name_end-leaves}
 use Rattle.simd_json_parts.proofs.Descent.ArrayTurns.{Leaves}
+use Rattle.simd_json_parts.proofs.Positions.TokensAtPositions.{tokens-positions}
+use Rattle.simd_json_ondemand.specs.Viewed.{first_read, read_along}
 
 -- what the one reads the other reads too
 abbrev pub Keeps : {A : Type 0} → Result A Error → Result A Error → Type 0
@@ -186,3 +194,29 @@ module _ (b : List ℕ) (m m' : Error) where
       (array_from-keeps b m m' (length ts) (value_from b m levels) (value_from b m' levels') (value_from-leaves b m levels) keeps ts whole)
       (object_from-keeps b m m' (length ts) (value_from b m levels) (value_from b m' levels') (value_from-leaves b m levels) keeps ts whole)
       t.form
+
+-- ---- an input that is answered as a document
+
+answered : (o : Option Error) (r : Result Document Error) (d : Document) → fault_or o r ≡ Ok d → r ≡ Ok d
+answered None r d h = h
+answered (Some e) r d h = cc
+
+rooted : (b : List ℕ) (ts : List Token) (r : Result (Document × List Token) Error) (d : Document) → (r >>= root_end b ts) ≡ Ok d
+    → r ≡ Ok (d, [])
+rooted b ts (Ok (e, [])) d h = let same : e ≡ d = cc in ap (λ x. Ok (x, [])) same
+rooted b ts (Ok (e, t ∷ rest)) d h = cc
+rooted b ts (Err e) d h = cc
+
+pub read-answered : (b : List ℕ) (limit : ℕ) (d : Document) → answer b limit ≡ Ok d → read_along b (positions b) ≡ Some d
+unfolding answer descent
+read-answered b limit d h =
+    let ts : List Token = tokens b in
+    let us : List Token = tokens_along b (positions b) in
+    let missing : Error = fault_at b Syntax (last_index ts) in
+    let missing' : Error = fault_at b Syntax 0 in
+    let read : value_from b missing limit ts ≡ Ok (d, []) =
+    rooted b ts (value_from b missing limit ts) d (answered (input_fault b) (descent b limit) d h) in
+    let along : value_from b missing limit us ≡ Ok (d, []) =
+    subst (λ vs. value_from b missing limit vs ≡ Ok (d, [])) (tokens-positions b) read in
+    ap first_read (kept (value_from b missing limit us) (value_from b missing' (length us) us) (d, [])
+    (value_from-keeps b missing missing' limit (length us) us (inr (omega arith))) along)

@@ -1,28 +1,27 @@
 -- Strings compared with a key as they are written.
-use Rattle.std.proofs.Common.{◌≡◌, ◌≢◌, refl, sym, ◌∙◌, ap, subst, ℕ, zero, suc, ◌+◌, ◌-◌, ◌<◌, ◌≤◌, inl, inr, List, [], ◌∷◌, ◌++◌, length, take}
-use Rattle.std.proofs.Common.{drop, get_or, Bool, true, false, cond, not, ◌||◌, ◌&&◌, ◌==◌, nat_eq, bytes_eq, arith}
-use Rattle.std.specs.Prelude.{Some, None, Option, MatchOption, IsTrue, is_some}
+use Rattle.std.proofs.Common.{◌≡◌, ◌≢◌, refl, sym, ◌∙◌, ap, subst, ℕ, zero, suc, ◌+◌, ◌-◌, ◌<◌, ◌≤◌, inl, inr, List, [], ◌∷◌, ◌++◌, length}
+use Rattle.std.proofs.Common.{take, drop, get_or, Bool, true, false, cond, not, ◌||◌, ◌&&◌, ◌==◌, nat_eq, bytes_eq, ◌%◌, ◌^◌, map, w8, arith}
+use Rattle.std.specs.Prelude.{Some, None, Option}
 use Rattle.std.specs.List.{prefix_len}
-use Rattle.std.proofs.lemmas.Bool.{cases_Bool, cases_eq, cases_lt, eqb-true, ne_eqb, eq-eqb, cond-true, cond-false, false≢true, false_from_ne_true}
+use Rattle.std.proofs.lemmas.Bool.{cases_Bool, cases_eq, cases_lt, eqb-true, ne_eqb, eq-eqb, false≢true, false_from_ne_true}
 use Rattle.std.proofs.lemmas.List.{length-drop, drop-drop, get_or-drop, get_or-take, length-take-le}
-use Rattle.std.proofs.lemmas.List.Sums.{prefix_len_stops}
+use Rattle.std.proofs.lemmas.List.Sums.{prefix_len_stops, prefix_len_passes}
 use Rattle.std.proofs.lemmas.Slice.Eq.{bytes_eq-Decides}
 use Rattle.simd_json_parts.specs.Bytes.{quote, byte_at}
 use Rattle.simd_json_parts.specs.StringAt.{closing_quote, read_pieces, string_read, string_at, escape_at}
-use Rattle.simd_json_scalars.specs.StringContent.{content, is_plain, with_prefix}
+use Rattle.simd_json_scalars.specs.StringContent.{content, is_plain, is_stop, with_prefix}
 use Rattle.simd_json_scalars.proofs.Strings.Content.{content-byte, content-quote, closing_quote-content, string_at-content}
 use Rattle.simd_json_scalars.proofs.Strings.Decoding.{Backslash, backslash-first}
 use Rattle.simd_json_scalars.proofs.Strings.Pieces.{read_byte}
 use Rattle.simd_json_scalars.proofs.Strings.Reader.{content-closed, read_pieces-none}
 use Rattle.simd_json_scalars.proofs.Strings.Steps.{PassesPieces, plain-passes, escape-passes, escape-stops}
-use Rattle.simd_json_ondemand.proofs.Quoted.{stop-other, plain-run}
+use Rattle.simd_json_ondemand.proofs.Quoted.{stop-other}
 use Rattle.simd_json_ondemand.specs.Keys.{is_key}
 use Rattle.simd_json_ondemand.specs.Wanted.{AgreesTo, IsWanted, names, read_string}
 use lib.ListN.{take-append-drop}
 use lib.Seq.{take-append_seam}
 use lib.Lanes.{zip2, mask_l, top}
 use lib.Count.{count_trailing_zeros}
-use Rattle.std.proofs.Common.{◌%◌, ◌^◌, map, w8}
 use Rattle.std.proofs.lemmas.Simd.{tops_compared, mask_l-mod, length-zip2, leading_from_mask_l, trailing_mask_l}
 
 -- ---- prefixes
@@ -121,7 +120,9 @@ module _ (bs key : List ℕ) (from : ℕ) (left : List ℕ) (c : IsCompared bs k
 
     module _ (other : byte_at bs end ≢ 34) where
       slash : Backslash (drop end bs)
-      slash = backslash-first (drop end bs) (omega (arith, stop-closed, length-drop end bs)) (here ∙ stop-other (byte_at bs end) stops other)
+      slash =
+          backslash-first (drop end bs) (omega (arith, stop-closed, length-drop end bs))
+          (here ∙ stop-other (byte_at bs end) stops other)
 
       pub escape-fits : 2 ≤ length (drop end bs)
       escape-fits = omega (arith, ap length slash.is)
@@ -157,15 +158,13 @@ module _ (bs key : List ℕ) (from : ℕ) (left : List ℕ) (c : IsCompared bs k
 
 -- ---- a key that is written as it is
 
-plain-head : (c : ℕ) (cs : List ℕ) → prefix_len is_plain (c ∷ cs) ≡ length (c ∷ cs)
-    → (nat_eq c 34 ≡ false) × (nat_eq c 92 ≡ false) × (prefix_len is_plain cs ≡ length cs)
-plain-head c cs h = go (nat_eq c 34) (nat_eq c 92) h
+plain-is : (c : ℕ) → is_plain c ≡ true → (nat_eq c 34 ≡ false) × (nat_eq c 92 ≡ false)
+plain-is c h = go (nat_eq c 34) (nat_eq c 92) h
   where
-    go : (t u : Bool) → cond (not (t || u)) (1 + prefix_len is_plain cs) 0 ≡ suc (length cs)
-        → (t ≡ false) × (u ≡ false) × (prefix_len is_plain cs ≡ length cs)
-    go true u e = absurd (omega arith)
-    go false true e = absurd (omega arith)
-    go false false e = (refl, refl, omega arith)
+    go : (t u : Bool) → not (t || u) ≡ true → (t ≡ false) × (u ≡ false)
+    go true u e = absurd (false≢true e)
+    go false true e = absurd (false≢true e)
+    go false false e = (refl, refl)
 
 -- a byte that stands for itself
 read-plain : (x : ℕ) (xs : List ℕ) → nat_eq x 34 ≡ false → nat_eq x 92 ≡ false
@@ -179,12 +178,13 @@ names-byte c x cs xs e q s =
     ∙ names-prefix (c ∷ []) cs (read_pieces 0 (content xs))
 
 -- the first byte that differs is no backslash
-pub differs : (k : ℕ) (key us : List ℕ) → prefix_len is_plain key ≡ length key → k < length us → k ≤ length key
+pub differs : (k : ℕ) (key us : List ℕ) → ((j : ℕ) → j < k → is_plain (get_or key j 34) ≡ true) → k < length us → k ≤ length key
     → ((j : ℕ) → j < k → get_or us j 0 ≡ get_or key j 34) → get_or us k 0 ≢ get_or key k 34 → get_or us k 0 ≢ 92
     → names key (read_pieces 0 (content us)) ≡ false
 differs k key [] plain l m same other plain_too = absurd (omega arith)
 differs zero [] (x ∷ xs) plain l m same other plain_too =
-    ap (names []) (read-plain x xs (ne_eqb x 34 other) (ne_eqb x 92 plain_too)) ∙ names-other [] (x ∷ []) (read_pieces 0 (content xs)) (λ rest e. cc)
+    ap (names []) (read-plain x xs (ne_eqb x 34 other) (ne_eqb x 92 plain_too))
+    ∙ names-other [] (x ∷ []) (read_pieces 0 (content xs)) (λ rest e. cc)
 differs zero (c ∷ cs) (x ∷ xs) plain l m same other plain_too = elim (cases_eq x 34) [
   | inl e ↦ ap (λ y. names (c ∷ cs) (read_pieces 0 (content (y ∷ xs)))) e
       ∙ ap (λ us. names (c ∷ cs) (read_pieces 0 us)) (content-quote xs) ∙ ap (names (c ∷ cs)) read_pieces-none
@@ -194,21 +194,22 @@ differs zero (c ∷ cs) (x ∷ xs) plain l m same other plain_too = elim (cases_
 ]
 differs (suc k) [] (x ∷ xs) plain l m same other plain_too = absurd (omega arith)
 differs (suc k) (c ∷ cs) (x ∷ xs) plain l m same other plain_too =
-    let p = plain-head c cs plain in
+    let p = plain-is c (plain 0 (omega arith)) in
     names-byte c x cs xs (same 0 (omega arith)) p.0 p.1
-    ∙ differs k cs xs p.2 (omega arith) (omega arith) (λ j h. same (suc j) (omega arith)) other plain_too
+    ∙ differs k cs xs (λ j h. plain (suc j) (omega (arith, h))) (omega arith) (omega arith)
+    (λ j h. same (suc j) (omega arith)) other plain_too
 
 -- none differs, up to the quote
-pub agrees : (key us : List ℕ) → prefix_len is_plain key ≡ length key → length key < length us
+pub agrees : (key us : List ℕ) → ((j : ℕ) → j < length key → is_plain (get_or key j 34) ≡ true) → length key < length us
     → ((j : ℕ) → j ≤ length key → get_or us j 0 ≡ get_or key j 34) → names key (read_pieces 0 (content us)) ≡ true
 agrees key [] plain l same = absurd (omega arith)
 agrees [] (x ∷ xs) plain l same =
     ap (λ y. names [] (read_pieces 0 (content (y ∷ xs)))) (same 0 (omega arith))
     ∙ ap (λ us. names [] (read_pieces 0 us)) (content-quote xs) ∙ ap (names []) read_pieces-none
 agrees (c ∷ cs) (x ∷ xs) plain l same =
-    let p = plain-head c cs plain in
+    let p = plain-is c (plain 0 (omega arith)) in
     names-byte c x cs xs (same 0 (omega arith)) p.0 p.1
-    ∙ agrees cs xs p.2 (omega arith) (λ j h. same (suc j) (omega arith))
+    ∙ agrees cs xs (λ j h. plain (suc j) (omega (arith, h))) (omega arith) (λ j h. same (suc j) (omega arith))
 
 -- ---- eight bytes at once
 
@@ -264,24 +265,30 @@ module _ (xs ys : List ℕ) (long : length xs ≡ 8) (too : length ys ≡ 8) whe
 
   pub first-differs : (word ≡ 0 → ⊥) → AgreesTo xs ys (count_trailing_zeros 64 word)
   first-differs ne0 =
-      let some : 0 < mask_l (map (λ t. t) (zip2 ne xs ys)) = omega (arith, (λ (e : mask_l (map (λ t. t) (zip2 ne xs ys)) ≡ 0). ne0 (word-is ∙ e))) in
-      subst (AgreesTo xs ys) (sym (ap (count_trailing_zeros 64) word-is ∙ trailing_mask_l (λ t. t) 64 (zip2 ne xs ys) (omega (arith, size)) some))
-      (agrees-to xs ys (long ∙ sym too))
+      let m : ℕ = mask_l (map (λ t. t) (zip2 ne xs ys)) in
+      let some : 0 < m = omega (arith, (λ (e : m ≡ 0). ne0 (word-is ∙ e))) in
+      let place : count_trailing_zeros 64 word ≡ ahead (zip2 ne xs ys) =
+      ap (count_trailing_zeros 64) word-is ∙ trailing_mask_l (λ t. t) 64 (zip2 ne xs ys) (omega (arith, size)) some in
+      subst (AgreesTo xs ys) (sym place) (agrees-to xs ys (long ∙ sym too))
 
 -- ---- a key and its first eight bytes
 
-pub plain-key : (o : Option ℕ) (bs : List ℕ) (P : ℕ → Type 0) (none : Bool)
-    → MatchOption o ((k : ℕ) → 0 ≤ k → k < length bs → ((get_or bs k 0 == 34) || (get_or bs k 0 == 92)) ≡ true → ⊥) P
-    → is_some o ≡ not none → IsTrue none → prefix_len is_plain bs ≡ length bs
-plain-key None bs P none h e t = sym (plain-run bs (length bs) (omega arith) (λ k l. h k (omega arith) l) (λ l. absurd (omega (arith, l))))
-plain-key (Some k) bs P true h e t = absurd (false≢true (sym e))
-plain-key (Some k) bs P false h e t = absurd (false≢true t)
+-- where stops are none, or none is before
+module _ (bs : List ℕ) (long : length bs ≡ 8) where
+  passes : (n : ℕ) → n ≡ prefix_len (λ c. not (is_stop c)) bs → (k : ℕ) → k < n → is_plain (get_or bs k 0) ≡ true
+  passes n is k l = prefix_len_passes (λ c. not (is_stop c)) bs k 0 (omega (arith, is, l))
+
+  pub no-stop : mask_l (map is_stop bs) ≡ 0 → (k : ℕ) → k < 8 → is_plain (get_or bs k 0) ≡ true
+  no-stop e = passes 8 (sym (leading_from_mask_l is_stop bs e ∙ long))
+
+  pub before-stop : (mask_l (map is_stop bs) ≡ 0 → ⊥) → (k : ℕ) → k < count_trailing_zeros 64 (mask_l (map is_stop bs))
+      → is_plain (get_or bs k 0) ≡ true
+  before-stop ne0 =
+      let some : 0 < mask_l (map is_stop bs) = omega (arith, ne0) in
+      passes (count_trailing_zeros 64 (mask_l (map is_stop bs))) (trailing_mask_l is_stop 64 bs (omega (arith, long)) some)
 
 module _ (bs key first : List ℕ) (plain : Bool) (made : IsWanted key first plain) (is : plain ≡ true) (long : 9 ≤ length bs)
     (opening : byte_at bs 0 ≡ quote) (k : ℕ) (a : AgreesTo (take 8 (drop 1 bs)) first k) where
-  plain-all : prefix_len is_plain key ≡ length key
-  plain-all = made.plain_key is
-
   lane : (j : ℕ) → j < 8 → get_or (take 8 (drop 1 bs)) j 0 ≡ get_or (drop 1 bs) j 0
   lane j l = get_or-take 8 (drop 1 bs) j 0 l
 
@@ -291,13 +298,16 @@ module _ (bs key first : List ℕ) (plain : Bool) (made : IsWanted key first pla
   pub not-key : k < 8 → k ≤ length key → get_or bs (1 + k) 0 ≢ 92 → false ≡ is_key key (read_string (string_at bs 0))
   not-key l m other =
       let taken : length (take 8 (drop 1 bs)) ≡ 8 = length-take-le 8 (drop 1 bs) (omega (arith, length-drop 1 bs)) in
-      sym (names-content bs key opening ∙ differs k key (drop 1 bs) plain-all (omega (arith, length-drop 1 bs)) m
+      sym (names-content bs key opening ∙ differs k key (drop 1 bs)
+      (λ j n. made.plain_key is j (omega (arith, n)) (omega (arith, n, m))) (omega (arith, length-drop 1 bs)) m
       (λ j n. same-lane j (omega (arith, n)) n)
       (λ e. a.other (omega (arith, taken)) (lane k l ∙ e ∙ sym (made.lanes k l)))
       (λ e. other (sym (get_or-drop 1 bs k 0) ∙ e)))
 
   pub the-key : (k < 8 → k ≤ length key → ⊥) → length key < 8 → true ≡ is_key key (read_string (string_at bs 0))
   the-key none short =
-      let beyond : (j : ℕ) → j ≤ length key → j < k = λ j l. elim (cases_lt j k) [ inl m ↦ m | inr m ↦ absurd (none (omega (arith, l)) (omega (arith, l))) ] in
-      sym (names-content bs key opening ∙ agrees key (drop 1 bs) plain-all (omega (arith, length-drop 1 bs))
+      let beyond : (j : ℕ) → j ≤ length key → j < k =
+      λ j l. elim (cases_lt j k) [ inl m ↦ m | inr m ↦ absurd (none (omega (arith, l)) (omega (arith, l))) ] in
+      sym (names-content bs key opening ∙ agrees key (drop 1 bs)
+      (λ j n. made.plain_key is j (omega (arith, n)) n) (omega (arith, length-drop 1 bs))
       (λ j l. same-lane j (omega (arith, l)) (beyond j l)))

@@ -1,4 +1,3 @@
-pub mod Levels
 pub mod Whole
 pub mod Scans
 pub mod Standing

@@ -1,5 +1,5 @@
 -- The string at a value, and members looked up by key.
-use Rattle.std.proofs.Common.{◌≡◌, refl, sym, ◌∙◌, ap, subst, ℕ, ◌+◌, ◌<◌, List, [], ◌∷◌, length, drop, get_or, Bool, true, false, cond, bytes_eq, ◌==◌}
+use Rattle.std.proofs.Common.{◌≡◌, refl, sym, ◌∙◌, ap, ℕ, ◌+◌, List, [], ◌∷◌, length, drop, Bool, true, false, cond, bytes_eq, ◌==◌}
 use Rattle.std.specs.Prelude.{Option, Some, None, Result, Ok, Err, option_and_then, option_map, IfSome, MatchOption}
 use Rattle.std.proofs.lemmas.Bool.{cond-true, cond-false, false≢true}
 use Rattle.std.proofs.lemmas.List.{drop_more}
@@ -20,7 +20,6 @@ use Rattle.simd_json_stages.proofs.Tokens.TokenForms.{quotes}
 use Rattle.simd_json_ondemand.specs.Docs.{text, places, index_of, doc, form}
 use Rattle.simd_json_ondemand.specs.IteratedMembers.{all_members}
 use Rattle.simd_json_ondemand.specs.Keys.{is_key, from_key}
-use Rattle.simd_json_ondemand.specs.Standing.{scalar_of}
 use Rattle.simd_json_ondemand.specs.Viewed.{first_read, read_along}
 use Rattle.simd_json_ondemand.specs.Wanted.{read_string}
 use Rattle.simd_json_ondemand.specs.declared.value.Value.{Value}
@@ -106,7 +105,8 @@ abbrev first-value : Pairs → Option (Option Document)
 first-value [] = None
 first-value (m ∷ ms) = Some m.1
 
-from-members : (key : List ℕ) (ms : Members) → first-value (from_key key (all_members (members ms))) ≡ option_map (λ e. Some e) (first_with key ms)
+from-members : (key : List ℕ) (ms : Members)
+    → first-value (from_key key (all_members (members ms))) ≡ option_map (λ e. Some e) (first_with key ms)
 unfolding from_key
 from-members key no_members = refl
 from-members key (member k d ms) = go (bytes_eq k key) (from-members key ms)

@@ -9,6 +9,7 @@ is_key key (Some s) = bytes_eq s key
 is_key key None = false
 
 -- the members from the first with the key on
-unfoldable pub from_key : List ℕ → List (Option parts.Document × Option parts.Document) → List (Option parts.Document × Option parts.Document)
+unfoldable pub from_key : List ℕ → List (Option parts.Document × Option parts.Document)
+    → List (Option parts.Document × Option parts.Document)
 from_key key [] = []
 from_key key (m ∷ ms) = if is_key key (option_and_then as_str m.0) then m ∷ ms else from_key key ms

@@ -1,6 +1,6 @@
 -- A key as it is compared with strings. It serves proofs: only the crate's private clauses cite it.
-use Rattle.std.specs.Prelude.{◌≡◌, ◌≢◌, ◌<◌, ◌≤◌, ℕ, List, [], ◌∷◌, length, get_or, Bool, true, false, Option, Some, None, Result, Ok, Err, IsTrue, bytes_eq}
-use Rattle.std.specs.List.{prefix_len}
+use Rattle.std.specs.Prelude.{◌≡◌, ◌≢◌, ◌<◌, ◌≤◌, ℕ, List, [], ◌∷◌, length, get_or, Bool, true, false}
+use Rattle.std.specs.Prelude.{Option, Some, None, Result, Ok, Err, IsTrue, bytes_eq}
 use Rattle.simd_json_parts.specs.Bytes.{quote}
 use Rattle.simd_json_parts.specs.declared.error.Error.{Error}
 use Rattle.simd_json_scalars.specs.StringContent.{is_plain}
@@ -15,11 +15,11 @@ abbrev pub names : List ℕ → List ℕ × List ℕ → Bool
 names key (t, []) = bytes_eq t key
 names key (t, x ∷ left) = false
 
--- the first eight bytes of the key, and quotes after its end; whether it has neither a quote nor a backslash
+-- the first eight bytes of the key, and quotes after its end; whether they have neither a quote nor a backslash
 pub record IsWanted (key first : List ℕ) (plain : Bool) : Type 0 where
   pub lanes : (k : ℕ) → k < 8 → get_or first k 0 ≡ get_or key k quote
   pub size : length first ≡ 8
-  pub plain_key : IsTrue plain → prefix_len is_plain key ≡ length key
+  pub plain_key : IsTrue plain → (k : ℕ) → k < 8 → k < length key → is_plain (get_or key k quote) ≡ true
 
 -- two lists have k first elements in common, and no more
 pub record AgreesTo (xs ys : List ℕ) (k : ℕ) : Type 0 where

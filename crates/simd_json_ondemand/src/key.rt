@@ -1,14 +1,15 @@
 //! Compares strings of the input with a key, as they are written: nothing is decoded into memory.
 ghost use Rattle.std.specs.Prelude.{◌≡◌, ◌<◌, ◌≤◌, ◌+◌, ◌++◌, ℕ, List, length, get_or};
-ghost use Rattle.std.specs.Prelude.{MatchOption, Some};
+ghost use Rattle.std.specs.Prelude.{IsTrue, MatchOption, Some, map, true};
+ghost use Rattle.std.specs.Simd.Lanes.{mask_l};
 ghost use Rattle.simd_json_ondemand.specs.Keys.{is_key};
 ghost use Rattle.simd_json_ondemand.specs.Wanted.{AgreesTo, IsWanted, read_string};
 ghost use Rattle.simd_json_parts.specs.Bytes.{byte_at, quote};
 ghost use Rattle.simd_json_parts.specs.StringAt.{closing_quote, escape_at, string_at};
+ghost use Rattle.simd_json_scalars.specs.StringContent.{is_plain, is_stop};
 
 use crate::escape::escape;
 use crate::strings::plain_end;
-use memchr::memchr2;
 use simd_json_parts::charutils::codepoint_to_utf8;
 use std::simd::prelude::*;
 
@@ -17,7 +18,8 @@ use std::simd::prelude::*;
 pub(crate) struct Wanted<'k> {
     key: &'k [u8],
     first: [u8; 8],
-    // Only a key without quote and backslash can be written as it is.
+    // Whether its first eight bytes have neither a quote nor a backslash. A key that has one is
+    // written with an escape.
     is_plain: bool,
     ghost made: { IsWanted key.now first is_plain },
 }
@@ -34,10 +36,11 @@ impl<'k> Wanted<'k> {
         ensures { result.key.now ≡ key.now }
     {
         let key = key.as_bytes();
+        let first = first_eight(key);
         Wanted {
             key,
-            first: first_eight(key),
-            is_plain: memchr2(b'"', b'\\', key).is_none(),
+            first,
+            is_plain: is_plain_up_to(first, key.len()),
         }
     }
 
@@ -58,6 +61,24 @@ impl<'k> Wanted<'k> {
         }
         self.key.len() < 8 || is_written(bytes, self.key)
     }
+}
+
+// Whether the bytes before an index have neither a quote nor a backslash.
+#[inline(always)]
+fn is_plain_up_to(bytes: [u8; 8], end: usize) -> bool
+    requires { length bytes ≡ 8 }
+    ensures { IsTrue result → (k : ℕ) → k < 8 → k < end → is_plain (get_or bytes k 0) ≡ true }
+{
+    let stops = stops(u8x8::from_array(bytes));
+    stops == 0 || end <= stops.trailing_zeros() as usize
+}
+
+// A bit for each byte, set if it is a quote or a backslash.
+#[inline(always)]
+fn stops(bytes: u8x8) -> u64
+    ensures { result ≡ mask_l (map is_stop bytes) }
+{
+    (bytes.simd_eq(u8x8::splat(b'"')) | bytes.simd_eq(u8x8::splat(b'\\'))).to_bitmask()
 }
 
 // The number of the first byte that differs, or 8.

@@ -5,6 +5,9 @@
 //! never written. What is not asked for is not read, and a value takes no memory but its own five
 //! words.
 //!
+//! [`Value::get`] returns the value of the first member with a key. [`Object::find`] goes on where
+//! the search before it ended, so keys that are asked for in the order of the input take one pass.
+//!
 //! # What is checked
 //!
 //! Of the whole input `find` checks size, encoding, quotes and control bytes, with the errors of a

@@ -113,9 +113,11 @@ impl<'d> Object<'d> {
     ghost use Rattle.simd_json_ondemand.specs.Keys.{from_key};
     ghost use Rattle.simd_json_parts.specs.Document.{string};
 
-    /// Returns the value of the first member that is left with this key, and goes on behind that
-    /// member; or `None`, and then the same members are left. Values before it are skipped. A key
-    /// in the input may have escapes.
+    /// Returns the value of the first of the members left that has this key, and leaves those after
+    /// it; or returns `None`, and leaves them all. The values before it are skipped.
+    ///
+    /// A key in the input may have escapes: `{"\u0061":1}` has the key `a`. One with an invalid
+    /// escape is equal to none.
     #[inline(always)]
     pub fn find(&mut self, key: &str) -> Option<Value<'d>>
         ensures { MatchOption result
@@ -164,9 +166,7 @@ impl<'d> Value<'d> {
     }
 
     /// Returns the value of the first member of the object with this key, or `None` if the object
-    /// has no such member or the value is no object.
-    ///
-    /// The keys of the objects that are its values are passed over. `{"\u0061":1}` has the key `a`.
+    /// has no such member or the value is no object. Members of nested objects are passed over.
     #[inline(always)]
     pub fn get(self, key: &str) -> Option<Value<'d>>
         ensures document { (d : parts.Document) → doc self.entry ≡ Some d → option_map doc result

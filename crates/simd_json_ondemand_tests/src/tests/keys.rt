@@ -92,17 +92,24 @@ const SEVEN_FIRST: &[u8] = b"{\"1234567\":7,\"12345678\":8,\"123456789\":9,\
 const FORTY_FIRST: &[u8] = b"{\"1234567890123456789012345678901234567890\":40,\
     \"123456789\":9,\"12345678\":8,\"1234567\":7}";
 
+// Near the end of the input, and before many more bytes.
 #[test]
 fn values_are_found_by_key(rt: HostRuntime) {
     let mut index = Index::new(rt.alloc(), 100).expect(&rt, MEMORY);
     for (input, key, wanted) in LOOKUPS {
-        let mut copy = Vec::from_slice(rt.alloc(), input).expect(&rt, MEMORY);
-        let tape: Tape<'_> = to_tape(rt.alloc(), &mut copy).expect(&rt, "it is a document");
-        assert_that!(&rt; !tape.is_empty());
-        let other = tape.as_value().get(key).and_then(|v| v.as_u64());
-        assert_same!(&rt; other, *wanted, *key);
-        let root = index.find(input).expect(&rt, "it is a document").as_value();
-        assert_same!(&rt; root.get(key).and_then(|v| v.as_u64()), *wanted, *key);
+        for spaces in [b"".as_slice(), b"                "] {
+            let mut bytes = Vec::from_slice(rt.alloc(), input).expect(&rt, MEMORY);
+            bytes.extend_from_slice(spaces).expect(&rt, MEMORY);
+            let root = index
+                .find(&bytes)
+                .expect(&rt, "it is a document")
+                .as_value();
+            assert_same!(&rt; root.get(key).and_then(|v| v.as_u64()), *wanted, *key);
+            let tape: Tape<'_> = to_tape(rt.alloc(), &mut bytes).expect(&rt, "it is a document");
+            assert_that!(&rt; !tape.is_empty());
+            let other = tape.as_value().get(key).and_then(|v| v.as_u64());
+            assert_same!(&rt; other, *wanted, *key);
+        }
     }
 }
 

@@ -1,4 +1,4 @@
-use Rattle.std.proofs.Common.{◌≡◌, refl, sym, ◌∙◌, ap, ℕ, ◌+◌, List, ◌++◌, length, take, drop, arith, rules}
+use Rattle.std.proofs.Common.{◌≡◌, sym, ◌∙◌, ap, ◌++◌, length, take}
 use Rattle.std.proofs.lemmas.Str.{length-encode}
 use Rattle.std.specs.Prelude.{encode_utf8}
 use lib.Seq.{take-append_seam}
@@ -14,7 +14,7 @@ returns c =
     ap (λ n. take n put.new.bytes) (put.ensures.len ∙ sym (length-encode character))
     ∙ ap (take (length (encode_utf8 character))) put.ensures.written ∙ take-append_seam (encode_utf8 character) _ in (
       _,
-      c.in_ok-character.ensures.value,
+      c.in_ok-character.ensures,
       stripped c.args.key.now _ c.in_ok-rest.rest.now e.0 e.1
           ∙ ap (λ us. us ++ c.in_ok-rest.rest.now) utf8,
     )

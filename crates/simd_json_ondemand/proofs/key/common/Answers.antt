@@ -1,4 +1,3 @@
-use Rattle.std.proofs.Common.{length}
 use Rattle.simd_json_ondemand.proofs.Keys.{none-differs, first-differs}
 use Rattle.simd_json_ondemand.proofs.key.common.Goals as goal
 

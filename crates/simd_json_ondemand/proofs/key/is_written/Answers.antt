@@ -1,4 +1,4 @@
-use Rattle.std.proofs.Common.{◌≡◌, sym, ◌∙◌, ap, subst, ℕ, ◌+◌, ◌-◌, List, take, drop, length, arith, rules}
+use Rattle.std.proofs.Common.{sym, ◌∙◌, ℕ, List, arith}
 use Rattle.std.proofs.lemmas.List.{get_or_default, take_rest}
 use Rattle.simd_json_ondemand.proofs.Keys.{from-quote, other-run, stop-closed, at-quote, escape-fits, other-escape, after-escape}
 use Rattle.simd_json_ondemand.proofs.Keys.{not-stripped, stripped}

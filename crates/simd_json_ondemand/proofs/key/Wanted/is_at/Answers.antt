@@ -1,4 +1,4 @@
-use Rattle.std.proofs.Common.{sym, ◌∙◌, length, arith}
+use Rattle.std.proofs.Common.{◌∙◌, arith}
 use Rattle.std.proofs.lemmas.Bool.{lt-ltb, ne_eqb}
 use Rattle.simd_json_ondemand.proofs.Keys.{not-key, the-key}
 use Rattle.simd_json_ondemand.proofs.key.Wanted.is_at.Goals.{then-bytes-same-eq92, else-bytes-same-eq92}

@@ -1,4 +1,4 @@
-use Rattle.std.proofs.Common.{◌≡◌, sym, ◌∙◌, ap}
+use Rattle.std.proofs.Common.{sym, ◌∙◌, ap}
 use Rattle.std.specs.Prelude.{option_and_then}
 use Rattle.simd_json_parts.specs.Views.{as_str}
 use Rattle.simd_json_ondemand.specs.Docs.{doc}
@@ -20,7 +20,8 @@ loop-name-preserved c =
       c.loop-name.invariant.0,
       c.loop-name.invariant.1 ∙ ap (from_key key) c.in-Some.ensures.steps
           ∙ from-later key (doc c.in-Some.name) (doc c.in-Some.value) (members_left c.next.new.self)
-          (ap (λ k. is_key k (option_and_then as_str (doc c.in-Some.name))) (sym c.new-wanted.ensures) ∙ sym c.is_key.ensures ∙ c.if-is_key.false),
+          (ap (λ k. is_key k (option_and_then as_str (doc c.in-Some.name))) (sym c.new-wanted.ensures)
+          ∙ sym c.is_key.ensures ∙ c.if-is_key.false),
     )
 
 pub returns : goal.returns

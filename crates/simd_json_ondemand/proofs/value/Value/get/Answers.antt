@@ -1,8 +1,7 @@
 use Rattle.std.proofs.Common.{◌∙◌, ap}
 use Rattle.std.specs.Prelude.{option_map}
 use Rattle.simd_json_ondemand.specs.Docs.{doc}
-use Rattle.simd_json_ondemand.specs.IteratedMembers.{members_left}
-use Rattle.simd_json_ondemand.proofs.Lookup.{no-member, found, if-some}
+use Rattle.simd_json_ondemand.proofs.Lookup.{no-member, found}
 use Rattle.simd_json_ondemand.proofs.value.Value.get.Goals as goal
 
 pub returns-in_err-members-clause-document : goal.returns-in_err-members-clause-document

@@ -1,7 +1,5 @@
-use Rattle.std.proofs.Common.{◌≡◌, sym, ◌∙◌, ap, ◌==◌}
+use Rattle.std.proofs.Common.{sym, ◌∙◌, ap, ◌==◌}
 use Rattle.std.proofs.lemmas.Bool.{ne_eqb}
-use Rattle.simd_json_parts.specs.Bytes.{byte_at, quote}
-use Rattle.simd_json_ondemand.specs.Docs.{text, index_of}
 use Rattle.simd_json_ondemand.specs.Keys.{is_key}
 use Rattle.simd_json_ondemand.proofs.Lookup.{string-is, string-none}
 use Rattle.simd_json_ondemand.proofs.Quoted.{IsQuoted, quoted-value}
