@@ -29,13 +29,11 @@
 //! ```
 //! use simd_json_ondemand::{Index, Result};
 //!
-//! // The name in a JSON string, decoded where it has an escape.
-//! fn name_len(rt: &impl AllocGlobal, input: &[u8]) -> Result<Option<usize>> {
-//!     let mut index = Index::new(rt.alloc(), input.len())?;
-//!     let mut buffer = Vec::new(rt.alloc());
-//!     let root = index.find(input)?.as_value();
-//!     match root.decode(&mut buffer)? {
-//!         Some(name) => Ok(Some(name.len())),
+//! // The status of a line of a log, as `{"level":"info","status":200}`.
+//! fn status(rt: &impl AllocGlobal, line: &[u8]) -> Result<Option<u64>> {
+//!     let mut index = Index::new(rt.alloc(), line.len())?;
+//!     match index.find(line)?.as_value().get("status") {
+//!         Some(status) => Ok(status.as_u64()),
 //!         None => Ok(None),
 //!     }
 //! }

@@ -40,6 +40,20 @@ impl<'d> Value<'d> {
     /// contents are overwritten; another is borrowed from the input.
     ///
     /// Returns `OutOfMemory` if the buffer cannot grow.
+    ///
+    /// ```
+    /// use simd_json_ondemand::{Index, Result};
+    ///
+    /// fn name_len(rt: &impl AllocGlobal, input: &[u8]) -> Result<Option<usize>> {
+    ///     let mut index = Index::new(rt.alloc(), input.len())?;
+    ///     let mut buffer = Vec::new(rt.alloc());
+    ///     let root = index.find(input)?.as_value();
+    ///     match root.decode(&mut buffer)? {
+    ///         Some(name) => Ok(Some(name.len())),
+    ///         None => Ok(None),
+    ///     }
+    /// }
+    /// ```
     pub fn decode<'s, A: Allocator>(self, buffer: &'s mut Vec<u8, A>) -> Result<Option<&'s str>>
     where
         'd: 's,

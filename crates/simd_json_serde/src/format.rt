@@ -1,51 +1,19 @@
 //! The steps of a read.
-ghost use Rattle.std.specs.Prelude.{◌≡◌, ◌+◌, false, length, slice_get, take, IfOk, OnOk};
-ghost use Rattle.std.specs.Float.{binary32, binary64};
+ghost use Rattle.std.specs.Prelude.{◌≡◌, ◌+◌, false, length, slice_get, take, OnOk};
 ghost use Rattle.simd_json_parts.specs.Document.{Document};
 ghost use Rattle.simd_json_parts.specs.Listing.{listing};
 ghost use Rattle.simd_json_parts.specs.Nodes.{item_of};
 ghost use Rattle.simd_json_parts.specs.declared.node.Node.{Node as SpecNode};
-ghost use Rattle.simd_json_serde.specs.Steps.{IsNearest, Reads, Picks, Stands, nodes_beneath};
+ghost use Rattle.simd_json_serde.specs.Steps.{Reads, Picks, Stands, nodes_beneath};
 ghost use Rattle.simd_json_serde.specs.Places.{place};
 
 use crate::error::{Fault, MismatchKind};
 use crate::node_reader::{Mark, NodeReader, beneath};
+use crate::numbers::is_integer_key;
 use serde::{Format, Kind, Name};
 use simd_json::{Node, StaticNode, ValueType};
 use std::alloc::Global;
 use std::num::{nearest_i64_to_f32, nearest_i64_to_f64, nearest_u64_to_f32, nearest_u64_to_f64};
-
-// Whether a key spells an integer as JSON does: without `+` and without leading zeros.
-fn is_integer_key(key: &str) -> bool {
-    let bytes = key.as_bytes();
-    match bytes.strip_prefix(b"-").unwrap_or(bytes) {
-        [b'0'] => true,
-        [b'1'..=b'9', ..] => true,
-        _ => false,
-    }
-}
-
-impl<'n, 'i> NodeReader<'n, 'i> {
-    // The float nearest to a literal, if it is finite.
-    fn nearest_f32(&self, literal: &str) -> Result<f32, Fault>
-        ensures { IfOk result (λ x. IsNearest binary32 x literal.now) }
-    {
-        match fast_float::parse::<f32, _>(literal) {
-            Ok(x) if x.is_finite() => Ok(x),
-            _ => Err(self.fault(MismatchKind::InvalidValue)),
-        }
-    }
-
-    #[inline(always)]
-    fn nearest_f64(&self, literal: &str) -> Result<f64, Fault>
-        ensures { IfOk result (λ x. IsNearest binary64 x literal.now) }
-    {
-        match fast_float::parse::<f64, _>(literal) {
-            Ok(x) if x.is_finite() => Ok(x),
-            _ => Err(self.fault(MismatchKind::InvalidValue)),
-        }
-    }
-}
 
 impl<'n, 'i> Format for NodeReader<'n, 'i> {
     type Error = Fault;

@@ -68,6 +68,7 @@
 mod error;
 mod format;
 mod node_reader;
+mod numbers;
 mod path;
 mod reading;
 mod texts;

@@ -31,8 +31,18 @@ fn is_json(rt: &impl AllocGlobal, input: &[u8]) -> Result<bool> {
     }
 }
 
+fn status(rt: &impl AllocGlobal, line: &[u8]) -> Result<Option<u64>> {
+    let mut index = Index::new(rt.alloc(), line.len())?;
+    match index.find(line)?.as_value().get("status") {
+        Some(status) => Ok(status.as_u64()),
+        None => Ok(None),
+    }
+}
+
 #[test]
 fn examples_run(rt: HostRuntime) {
+    let line = br#"{"level":"info","status":200}"#;
+    assert_same!(&rt; status(&rt, line).expect(&rt, MEMORY), Some(200));
     let len = name_len(&rt, b"\"caf\\u00e9\"").expect(&rt, MEMORY);
     assert_same!(&rt; len, Some(5));
     let sum = sum(&rt, &[b"1", b"\"2\"", b"3"]).expect(&rt, MEMORY);

@@ -1,0 +1,39 @@
+//! Numbers that are not integers of a node: the float nearest to a literal, and integers as keys.
+ghost use Rattle.std.specs.Prelude.{IfOk};
+ghost use Rattle.std.specs.Float.{binary32, binary64};
+ghost use Rattle.simd_json_serde.specs.Steps.{IsNearest};
+
+use crate::error::{Fault, MismatchKind};
+use crate::node_reader::NodeReader;
+
+impl<'n, 'i> NodeReader<'n, 'i> {
+    // The float nearest to a literal, if it is finite.
+    pub(crate) fn nearest_f32(&self, literal: &str) -> Result<f32, Fault>
+        ensures { IfOk result (λ x. IsNearest binary32 x literal.now) }
+    {
+        match fast_float::parse::<f32, _>(literal) {
+            Ok(x) if x.is_finite() => Ok(x),
+            _ => Err(self.fault(MismatchKind::InvalidValue)),
+        }
+    }
+
+    #[inline(always)]
+    pub(crate) fn nearest_f64(&self, literal: &str) -> Result<f64, Fault>
+        ensures { IfOk result (λ x. IsNearest binary64 x literal.now) }
+    {
+        match fast_float::parse::<f64, _>(literal) {
+            Ok(x) if x.is_finite() => Ok(x),
+            _ => Err(self.fault(MismatchKind::InvalidValue)),
+        }
+    }
+}
+
+// Whether a key spells an integer as JSON does: without `+` and without leading zeros.
+pub(crate) fn is_integer_key(key: &str) -> bool {
+    let bytes = key.as_bytes();
+    match bytes.strip_prefix(b"-").unwrap_or(bytes) {
+        [b'0'] => true,
+        [b'1'..=b'9', ..] => true,
+        _ => false,
+    }
+}
