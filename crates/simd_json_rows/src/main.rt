@@ -6,6 +6,7 @@
 mod bytes;
 mod doors;
 mod listing;
+mod on_demand;
 mod pointers;
 mod printing;
 mod rows;
