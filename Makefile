@@ -1,6 +1,6 @@
 # `make` proves and builds the programs and shows the first run, `make test` passes the gate, and `make help` lists the rest.
 # All need the toolchain's command `rt` on the PATH, and nothing else.
-.PHONY: all jtape jcheck library test test-c bench vendor install install-library uninstall clean has-rt help build/log_report
+.PHONY: all jtape jcheck library wheel test test-c test-bindings bench vendor install install-library uninstall clean has-rt help build/log_report
 
 # The level that programs are built for: x86-64-v3 where this processor has what that asks for, else the toolchain's default.
 # A package for other machines is built with CPU=x86-64-v2.
@@ -76,6 +76,14 @@ test: has-rt
 test-c: has-rt
 	MAKEFLAGS= sh tests/c.sh
 
+# The wrapper for C++, the package for Python and the crate for Rust. Each part is left out where its compiler is not installed.
+test-bindings: has-rt
+	MAKEFLAGS= sh tests/bindings.sh
+
+# The package for Python, with the library in it, for each Python from 3.10 on.
+wheel: library
+	python3 -B python/backend.py $(into)
+
 # Beside the parsers that are installed, over generated texts and FILES. SAVE=1 puts the results into docs/.
 bench: has-rt
 	MAKEFLAGS= SAVE=$(SAVE) sh bench/run.sh $(FILES)
@@ -97,14 +105,14 @@ install: install-library
 install-library:
 	test -e build/libsimd_json.so || $(MAKE) library
 	install -d $(under)/include $(under)/lib/pkgconfig $(under)/share/man/man3
-	install -m 644 include/simd_json.h $(under)/include/simd_json.h
+	install -m 644 include/simd_json.h include/simd_json.hpp $(under)/include/
 	install -m 644 build/libsimd_json.a $(under)/lib/libsimd_json.a
 	install -m 755 build/libsimd_json.so $(under)/lib/libsimd_json.so
 	sed 's|@PREFIX@|$(abspath $(PREFIX))|' simd_json.pc.in > $(under)/lib/pkgconfig/simd_json.pc
 	install -m 644 man/simd_json.3 $(under)/share/man/man3/simd_json.3
 
 uninstall:
-	rm -f $(under)/bin/jtape $(under)/bin/jcheck $(under)/share/man/man1/jtape.1 $(under)/share/man/man1/jcheck.1 $(under)/include/simd_json.h $(under)/lib/libsimd_json.a \
+	rm -f $(under)/bin/jtape $(under)/bin/jcheck $(under)/share/man/man1/jtape.1 $(under)/share/man/man1/jcheck.1 $(under)/include/simd_json.h $(under)/include/simd_json.hpp $(under)/lib/libsimd_json.a \
 		$(under)/lib/libsimd_json.so $(under)/lib/pkgconfig/simd_json.pc $(under)/share/man/man3/simd_json.3
 
 has-rt:
@@ -116,11 +124,13 @@ clean:
 help:
 	@echo "make                        proves and builds build/jtape and build/jcheck, and shows the first run"
 	@echo "make library                the same of the library for C: build/libsimd_json.a and .so"
+	@echo "make wheel                  the package for Python: build/simd_json-0.2.0-*.whl"
 	@echo "make build/log_report       the same of the program that counts the lines of a log"
 	@echo "make install PREFIX=DIR     installs programs, library and manual pages; make uninstall PREFIX=DIR removes them"
 	@echo "make vendor DIR=DIR         copies the library's crates into another repository; with CRATES=simd_json_serde that crate too"
 	@echo "make test                   the gate: proofs from nothing, edits that must be rejected, tests, programs"
 	@echo "make test-c                 the library, called from C and Python"
+	@echo "make test-bindings          the wrapper for C++, the package for Python, the crate for Rust"
 	@echo "make bench FILES=\"..\"       measures beside the other parsers that are installed"
 	@echo "make clean                  removes what was made"
 	@echo "CPU=x86-64-v2               builds for that level, and not for this machine ($(or $(CPU),x86-64-v2))"

@@ -1,0 +1,104 @@
+//! Why an input is rejected, and where.
+use std::fmt;
+
+macro_rules! kinds {
+    ($($(#[$doc:meta])* $name:ident = $status:literal,)*) => {
+        /// The kind of an error, as `simd-json` names it.
+        #[derive(Clone, Copy, Debug, PartialEq, Eq, Hash)]
+        #[non_exhaustive]
+        pub enum ErrorType {
+            $($(#[$doc])* $name = $status,)*
+        }
+
+        impl ErrorType {
+            pub(crate) fn of_status(status: i32) -> Option<ErrorType> {
+                match status {
+                    $($status => Some(ErrorType::$name),)*
+                    _ => None,
+                }
+            }
+        }
+    };
+}
+
+kinds! {
+    /// An allocation failed.
+    OutOfMemory = 1,
+    /// More than 4,294,967,295 bytes.
+    InputTooLarge = 2,
+    /// Not UTF-8 (RFC 3629).
+    InvalidUtf8 = 3,
+    /// A string is left open, or holds a byte below 0x20; with a character: the input ends early, reported at the last token.
+    Syntax = 4,
+    /// Nothing but whitespace.
+    Eof = 5,
+    /// No value where one is expected; or more text after the root container, reported at its closing bracket.
+    InternalError = 6,
+    /// No `,` or `]` after an element.
+    ExpectedArrayContent = 7,
+    /// No key or `}` after `{`, no `,` or `}` after a member.
+    ExpectedObjectContent = 8,
+    /// No key after `,`.
+    ExpectedObjectKey = 9,
+    /// No `:` after a key.
+    ExpectedObjectColon = 10,
+    /// More text after a root scalar, reported at the scalar.
+    TrailingData = 11,
+    /// More containers are open than the depth limit allows.
+    DepthLimitExceeded = 12,
+    /// Another word that begins with `t`.
+    ExpectedTrue = 13,
+    /// Another word that begins with `f`.
+    ExpectedFalse = 14,
+    /// Another word that begins with `n`.
+    ExpectedNull = 15,
+    /// A malformed number, or an integer out of range.
+    InvalidNumber = 16,
+    /// A backslash before a byte that no escape has.
+    InvalidEscape = 17,
+    /// A malformed `\u` escape, or half of a surrogate pair.
+    InvalidUnicodeCodepoint = 18,
+}
+
+impl fmt::Display for ErrorType {
+    fn fmt(&self, f: &mut fmt::Formatter<'_>) -> fmt::Result {
+        fmt::Debug::fmt(self, f)
+    }
+}
+
+/// The first error of an input.
+#[derive(Clone, Copy, Debug, PartialEq, Eq)]
+pub struct Error {
+    pub(crate) kind: ErrorType,
+    pub(crate) index: usize,
+    pub(crate) character: Option<char>,
+}
+
+impl Error {
+    /// Its kind.
+    pub fn error(&self) -> ErrorType {
+        self.kind
+    }
+
+    /// Its index in the input, in bytes; 0 for an error of the whole input.
+    pub fn index(&self) -> usize {
+        self.index
+    }
+
+    /// The byte there, as a character; `None` for an error of the whole input.
+    pub fn character(&self) -> Option<char> {
+        self.character
+    }
+}
+
+impl fmt::Display for Error {
+    fn fmt(&self, f: &mut fmt::Formatter<'_>) -> fmt::Result {
+        write!(f, "{} at character {}", self.kind, self.index)?;
+        match self.character {
+            Some(character) => write!(f, " ('{character}')"),
+            None => Ok(()),
+        }
+    }
+}
+
+impl std::error::Error for Error {}

@@ -1,0 +1,236 @@
+//! Values of a tape. A node of a container is followed by the nodes of its members; its `value` is how many they are.
+use crate::ffi::Node;
+
+/// The kind of a value.
+#[derive(Clone, Copy, Debug, PartialEq, Eq, Hash)]
+pub enum ValueType {
+    /// `null`
+    Null,
+    /// `true` or `false`
+    Bool,
+    /// An integer with a `-`, of 64 bits
+    I64,
+    /// An integer without a `-`, of 64 bits
+    U64,
+    /// An integer with a `-`, of 128 bits
+    I128,
+    /// An integer without a `-`, of 128 bits
+    U128,
+    /// A number with a fraction or an exponent
+    Decimal,
+    /// A string
+    String,
+    /// An array
+    Array,
+    /// An object
+    Object,
+}
+
+const KINDS: [ValueType; 10] = [
+    ValueType::Null,
+    ValueType::Bool,
+    ValueType::I64,
+    ValueType::U64,
+    ValueType::I128,
+    ValueType::U128,
+    ValueType::Decimal,
+    ValueType::String,
+    ValueType::Array,
+    ValueType::Object,
+];
+
+/// A parsed document: its nodes in preorder, and the text of its strings and decimals.
+#[derive(Clone, Debug)]
+pub struct Tape {
+    nodes: Vec<Node>,
+    text: String,
+}
+
+impl Tape {
+    pub(crate) fn new(nodes: Vec<Node>, text: String) -> Tape {
+        Tape { nodes, text }
+    }
+
+    /// The document as a value.
+    pub fn as_value(&self) -> Value<'_> {
+        Value { nodes: &self.nodes, text: &self.text }
+    }
+
+    /// How many nodes the document has: values and keys.
+    pub fn node_count(&self) -> usize {
+        self.nodes.len()
+    }
+}
+
+/// A value of a tape.
+#[derive(Clone, Copy, Debug)]
+pub struct Value<'tape> {
+    // its nodes, and those after them
+    nodes: &'tape [Node],
+    text: &'tape str,
+}
+
+impl<'tape> Value<'tape> {
+    fn node(self) -> &'tape Node {
+        &self.nodes[0]
+    }
+
+    // The value of the nodes from an index on.
+    fn at(self, index: usize) -> Value<'tape> {
+        Value { nodes: &self.nodes[index..], text: self.text }
+    }
+
+    // How many nodes the value has.
+    fn count(self) -> usize {
+        match self.value_type() {
+            ValueType::Array | ValueType::Object => 1 + self.node().value as usize,
+            _ => 1,
+        }
+    }
+
+    fn literal(self) -> &'tape str {
+        let node = self.node();
+        &self.text[node.value as usize..node.value as usize + node.len]
+    }
+
+    // The integer, in two's complement where it has a `-`.
+    fn bits(self) -> u128 {
+        u128::from(self.node().high) << 64 | u128::from(self.node().value)
+    }
+
+    /// Its kind.
+    pub fn value_type(self) -> ValueType {
+        KINDS[self.node().kind as usize]
+    }
+
+    /// Whether it is null.
+    pub fn is_null(self) -> bool {
+        self.value_type() == ValueType::Null
+    }
+
+    /// The truth value, or `None`.
+    pub fn as_bool(self) -> Option<bool> {
+        (self.value_type() == ValueType::Bool).then(|| self.node().value != 0)
+    }
+
+    /// The integer, if it fits `i128`.
+    pub fn as_i128(self) -> Option<i128> {
+        match self.value_type() {
+            ValueType::I64 => Some(i128::from(self.node().value as i64)),
+            ValueType::I128 => Some(self.bits() as i128),
+            ValueType::U64 | ValueType::U128 => i128::try_from(self.bits()).ok(),
+            _ => None,
+        }
+    }
+
+    /// The integer, if it is not negative.
+    pub fn as_u128(self) -> Option<u128> {
+        match self.value_type() {
+            ValueType::U64 | ValueType::U128 => Some(self.bits()),
+            _ => self.as_i128().and_then(|number| u128::try_from(number).ok()),
+        }
+    }
+
+    /// The integer, if it fits `i64`.
+    pub fn as_i64(self) -> Option<i64> {
+        self.as_i128().and_then(|number| i64::try_from(number).ok())
+    }
+
+    /// The integer, if it fits `u64`.
+    pub fn as_u64(self) -> Option<u64> {
+        self.as_i128().and_then(|number| u64::try_from(number).ok())
+    }
+
+    /// The integer, if it fits `usize`.
+    pub fn as_usize(self) -> Option<usize> {
+        self.as_u64().and_then(|number| usize::try_from(number).ok())
+    }
+
+    /// The number as the nearest float, infinite where it is past the greatest; `None` if it is no number.
+    pub fn as_f64(self) -> Option<f64> {
+        match self.value_type() {
+            ValueType::Decimal => self.literal().parse().ok(),
+            ValueType::U128 => Some(self.bits() as f64),
+            _ => self.as_i128().map(|number| number as f64),
+        }
+    }
+
+    /// The literal of a number with a fraction or an exponent, as it is written.
+    pub fn as_decimal(self) -> Option<&'tape str> {
+        (self.value_type() == ValueType::Decimal).then(|| self.literal())
+    }
+
+    /// The string, with its escapes decoded.
+    pub fn as_str(self) -> Option<&'tape str> {
+        (self.value_type() == ValueType::String).then(|| self.literal())
+    }
+
+    /// The elements, if it is an array.
+    pub fn as_array(self) -> Option<Array<'tape>> {
+        (self.value_type() == ValueType::Array).then(|| Array { rest: self.at(1), left: self.node().len })
+    }
+
+    /// The members, if it is an object.
+    pub fn as_object(self) -> Option<Object<'tape>> {
+        (self.value_type() == ValueType::Object).then(|| Object { rest: self.at(1), left: self.node().len })
+    }
+
+    /// The value of the first member of an object with this key.
+    pub fn get(self, key: &str) -> Option<Value<'tape>> {
+        self.as_object()?.find(|(name, _)| *name == key).map(|(_, value)| value)
+    }
+
+    /// The element of an array with this index.
+    pub fn get_idx(self, index: usize) -> Option<Value<'tape>> {
+        self.as_array()?.nth(index)
+    }
+}
+
+/// The elements of an array that are left.
+#[derive(Clone, Copy, Debug)]
+pub struct Array<'tape> {
+    rest: Value<'tape>,
+    left: usize,
+}
+
+impl<'tape> Iterator for Array<'tape> {
+    type Item = Value<'tape>;
+
+    fn next(&mut self) -> Option<Value<'tape>> {
+        self.left = self.left.checked_sub(1)?;
+        let value = self.rest;
+        self.rest = value.at(value.count());
+        Some(value)
+    }
+
+    fn size_hint(&self) -> (usize, Option<usize>) {
+        (self.left, Some(self.left))
+    }
+}
+
+impl ExactSizeIterator for Array<'_> {}
+
+/// The members of an object that are left, each a key and a value.
+#[derive(Clone, Copy, Debug)]
+pub struct Object<'tape> {
+    rest: Value<'tape>,
+    left: usize,
+}
+
+impl<'tape> Iterator for Object<'tape> {
+    type Item = (&'tape str, Value<'tape>);
+
+    fn next(&mut self) -> Option<(&'tape str, Value<'tape>)> {
+        self.left = self.left.checked_sub(1)?;
+        let key = self.rest.literal();
+        let value = self.rest.at(1);
+        self.rest = value.at(value.count());
+        Some((key, value))
+    }
+
+    fn size_hint(&self) -> (usize, Option<usize>) {
+        (self.left, Some(self.left))
+    }
+}
+
+impl ExactSizeIterator for Object<'_> {}

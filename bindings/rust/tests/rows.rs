@@ -1,0 +1,146 @@
+//! The rows of tests/vectors, whose answers are in the files.
+use simd_json_proved::{to_tape, Buffers, ErrorType, Value, ValueType};
+use std::fs;
+use std::path::Path;
+
+// The bytes that an input of a row stands for: `%XX` is a byte, `%(N:TEXT)` a text so many times.
+fn decoded(text: &[u8]) -> Vec<u8> {
+    let (mut out, mut rest) = (Vec::new(), text);
+    while let Some((first, after)) = rest.split_first() {
+        if *first != b'%' {
+            out.push(*first);
+            rest = after;
+        } else if after[0] == b'(' {
+            let colon = after.iter().position(|byte| *byte == b':').unwrap();
+            let end = after.iter().position(|byte| *byte == b')').unwrap();
+            let times: usize = std::str::from_utf8(&after[1..colon]).unwrap().parse().unwrap();
+            out.extend(decoded(&after[colon + 1..end]).repeat(times));
+            rest = &after[end + 1..];
+        } else {
+            out.push(u8::from_str_radix(std::str::from_utf8(&after[..2]).unwrap(), 16).unwrap());
+            rest = &after[2..];
+        }
+    }
+    out
+}
+
+// As the rows show a text.
+fn shown(text: &str) -> String {
+    let hidden = |c: char| c < ' ' || c == '%' || c == '\x7f';
+    text.chars().map(|c| if hidden(c) { format!("%{:02X}", c as u32) } else { c.to_string() }).collect()
+}
+
+fn quoted(text: &str) -> String {
+    let mut out = String::from("\"");
+    for c in text.chars() {
+        match c {
+            '"' => out.push_str("\\\""),
+            '\\' => out.push_str("\\\\"),
+            '\n' => out.push_str("\\n"),
+            '\r' => out.push_str("\\r"),
+            '\t' => out.push_str("\\t"),
+            '\x08' => out.push_str("\\b"),
+            '\x0c' => out.push_str("\\f"),
+            c if c < ' ' => out.push_str(&format!("\\u{:04x}", c as u32)),
+            c => out.push(c),
+        }
+    }
+    out + "\""
+}
+
+// The lines of the nodes of a value.
+fn lines(value: Value<'_>, out: &mut Vec<String>) {
+    let kind = format!("{:?}", value.value_type());
+    let at = out.len();
+    out.push(match value.value_type() {
+        ValueType::Null => kind,
+        ValueType::Bool => format!("{kind} {}", value.as_bool().unwrap()),
+        ValueType::I64 => format!("{kind} {}", value.as_i64().unwrap()),
+        ValueType::U64 => format!("{kind} {}", value.as_u64().unwrap()),
+        ValueType::I128 => format!("{kind} {}", value.as_i128().unwrap()),
+        ValueType::U128 => format!("{kind} {}", value.as_u128().unwrap()),
+        ValueType::Decimal => format!("{kind} {}", value.as_decimal().unwrap()),
+        ValueType::String => format!("{kind} {}", quoted(value.as_str().unwrap())),
+        ValueType::Array | ValueType::Object => kind,
+    });
+    let mut members = 0;
+    if let Some(array) = value.as_array() {
+        members = array.len();
+        array.for_each(|element| lines(element, out));
+    }
+    if let Some(object) = value.as_object() {
+        members = object.len();
+        for (key, member) in object {
+            out.push(format!("String {}", quoted(key)));
+            lines(member, out);
+        }
+    }
+    if matches!(value.value_type(), ValueType::Array | ValueType::Object) {
+        out[at] = format!("{} {members} {}", out[at], out.len() - at - 1);
+    }
+}
+
+fn answer(input: &mut [u8], limit: usize) -> String {
+    match Buffers::with_max_depth(limit).unwrap().parse(input) {
+        Ok(tape) => {
+            let mut out = Vec::new();
+            lines(tape.as_value(), &mut out);
+            assert_eq!(out.len(), tape.node_count());
+            shown(&out.join(", "))
+        }
+        Err(error) => shown(&format!("! {error}")),
+    }
+}
+
+fn judge_rows() {
+    let folder = Path::new(env!("CARGO_MANIFEST_DIR")).join("../../tests/vectors");
+    let mut judged = 0;
+    for file in fs::read_dir(folder).unwrap() {
+        for row in fs::read_to_string(file.unwrap().path()).unwrap().lines() {
+            let Some((question, wanted)) = row.split_once(" => ") else { continue };
+            let Some((word, text)) = question.split_once(' ') else { continue };
+            let (word, limit) = word.split_once(':').unwrap_or((word, "1024"));
+            if word == "parse" {
+                let mut input = decoded(text.as_bytes());
+                let mut checked = input.clone();
+                let limit = limit.parse().unwrap();
+                assert_eq!(answer(&mut input, limit), wanted, "{row}");
+                let check = Buffers::with_max_depth(limit).unwrap().check(&mut checked);
+                assert_eq!(check.is_ok(), !wanted.starts_with("! "), "{row}");
+                judged += 1;
+            }
+        }
+    }
+    assert!(judged > 100, "{judged} rows");
+}
+
+#[test]
+fn rows() {
+    // The recursion of this test, not of the library, needs more stack than a test has.
+    std::thread::Builder::new().stack_size(64 << 20).spawn(judge_rows).unwrap().join().unwrap();
+}
+
+#[test]
+fn values() {
+    let mut input = *br#"{"a":[1,-2,2.5,1e400,"\u00e9"],"b":null,"a":true,"wide":340282366920938463463374607431768211455}"#;
+    let tape = to_tape(&mut input).unwrap();
+    let root = tape.as_value();
+    let a = root.get("a").unwrap();
+    assert_eq!(a.as_array().unwrap().len(), 5);
+    assert_eq!((a.get_idx(0).unwrap().as_u64(), a.get_idx(1).unwrap().as_u64()), (Some(1), None));
+    assert_eq!((a.get_idx(1).unwrap().as_i64(), a.get_idx(2).unwrap().as_f64()), (Some(-2), Some(2.5)));
+    assert_eq!(a.get_idx(3).unwrap().as_f64(), Some(f64::INFINITY));
+    assert_eq!((a.get_idx(4).unwrap().as_str(), a.get_idx(5).is_none()), (Some("é"), true));
+    assert!(root.get("b").unwrap().is_null() && root.get("c").is_none());
+    assert_eq!(root.get("wide").unwrap().as_u128(), Some(u128::MAX));
+    assert_eq!(root.as_object().unwrap().map(|(key, _)| key).collect::<Vec<_>>(), ["a", "b", "a", "wide"]);
+}
+
+#[test]
+fn errors() {
+    let error = to_tape(&mut b"[1,]".to_vec()).unwrap_err();
+    assert_eq!((error.error(), error.index(), error.character()), (ErrorType::InternalError, 3, Some(']')));
+    assert_eq!(to_tape(&mut [0xff]).unwrap_err().to_string(), "InvalidUtf8 at character 0");
+    assert_eq!(to_tape(&mut b"[[]]".repeat(1)).unwrap().node_count(), 2);
+    assert_eq!(Buffers::with_max_depth(1).unwrap().parse(&mut *b"[[]]".to_vec()).unwrap_err().index(), 1);
+}

@@ -1,0 +1,78 @@
+"""JSON (RFC 8259) by libsimd_json, a parser whose results are proved.
+
+    import simd_json
+    simd_json.loads(b'{"the_answer": 42}')["the_answer"]
+
+The parse is proved: what is accepted, the nodes, the first error and its place. What makes Python values of the nodes is C code
+that is tested alone.
+"""
+
+from . import _native
+from ._native import check, loads
+
+__all__ = ["Parser", "SimdJsonError", "check", "loads"]
+__version__ = "0.2.0"
+
+
+class SimdJsonError(ValueError):
+    """The input is not a JSON document within the limits.
+
+    msg: the error in words
+    reason: its kind, as "InvalidNumber"
+    pos: its index in the input, in characters of a str, else in bytes; 0 for an error of the whole input
+    lineno, colno: the line, and the column in characters, both from 1
+    """
+
+    def __init__(self, msg, reason, pos, lineno, colno):
+        super().__init__(f"{msg}: line {lineno} column {colno} ({reason} at {pos})")
+        self.msg, self.reason, self.pos, self.lineno, self.colno = msg, reason, pos, lineno, colno
+
+    def __reduce__(self):
+        return type(self), (self.msg, self.reason, self.pos, self.lineno, self.colno)
+
+
+_WORDS = {
+    "InputTooLarge": "more than 4294967295 bytes",
+    "InvalidUtf8": "not UTF-8",
+    "Syntax": "a string has no end, or contains a control character; or the input ends early",
+    "Eof": "expected a value, found only whitespace",
+    "InternalError": "expected a value, or more text after the document",
+    "ExpectedArrayContent": "expected `,` or `]` after an element",
+    "ExpectedObjectContent": "expected a key or `}` after `{`, or `,` or `}` after a member",
+    "ExpectedObjectKey": "expected a key after `,`",
+    "ExpectedObjectColon": "expected `:` after a key",
+    "TrailingData": "more text after the document",
+    "DepthLimitExceeded": "one container more than the depth limit",
+    "ExpectedTrue": "expected `true`",
+    "ExpectedFalse": "expected `false`",
+    "ExpectedNull": "expected `null`",
+    "InvalidNumber": "malformed number, or integer out of range",
+    "InvalidEscape": "expected an escape after the backslash",
+    "InvalidUnicodeCodepoint": "malformed `\\u` escape, or half of a surrogate pair",
+}
+
+
+def _error(reason, index, data):
+    before = data.encode()[:index] if isinstance(data, str) else bytes(data)[:index]
+    line = before[before.rfind(b"\n") + 1:]
+    pos = len(before.decode()) if isinstance(data, str) else index
+    column = len(line.decode("utf-8", "replace")) + 1
+    return SimdJsonError(_WORDS.get(reason, reason), reason, pos, before.count(b"\n") + 1, column)
+
+
+_native._set_error(_error)
+
+
+class Parser(_native.Parser):
+    """Reads one document after another with memory that is kept between them.
+
+    Parser(*, max_depth=1024, parse_float=float): as loads has them. One thread may use it at a time.
+    """
+
+    __slots__ = ()
+
+    def lines(self, file):
+        """The values of the lines of a binary file, or of any other iterable of lines; blank lines are passed over."""
+        for line in file:
+            if line.strip(b" \t\r\n" if not isinstance(line, str) else " \t\r\n"):
+                yield self.loads(line)

@@ -1,0 +1,93 @@
+"""Each allocation fails in turn: those of the module and the library (where tests/refuse.c is linked in), and Python's own.
+A call that fails raises MemoryError, leaves nothing behind, and the next one succeeds."""
+import ctypes
+import gc
+import sys
+import unittest
+
+import simd_json
+
+TEXT = b'{"a":[1,-2.5,"\\u00e9",{"' + b"k" * 70 + b'":[[[[[[[[[[[[[[[[[[[]]]]]]]]]]]]]]]]]]]}],"wide":340282366920938463463374607431768211455}'
+VALUE = simd_json.loads(TEXT)
+LARGE = b"[" + b" " * (1 << 21) + b"]"  # after it the module keeps no memory
+
+
+def fails(call):
+    try:
+        call()
+    except MemoryError:
+        return True
+    return False
+
+
+def calls():
+    yield lambda: simd_json.loads(TEXT)
+    yield lambda: simd_json.check(TEXT)
+    yield lambda: simd_json.Parser().loads(TEXT)
+    yield lambda: simd_json.Parser().check(TEXT)
+
+
+def nested():
+    """A call within a call, which has memory of its own."""
+    return simd_json.loads("[1.5]", parse_float=lambda literal: simd_json.loads(TEXT))
+
+
+class Memory(unittest.TestCase):
+    def test_the_module_s_own(self):
+        native = ctypes.CDLL(simd_json._native.__file__)
+        try:
+            allowed, held = (ctypes.c_int.in_dll(native, "simd_json_" + name) for name in ("allowed", "held"))
+        except ValueError:
+            self.skipTest("refuse.c is not linked in")
+        for call in [*calls(), nested]:
+            refused = 0
+            for count in range(1000):
+                simd_json.loads(LARGE)
+                self.assertEqual(held.value, 0)
+                allowed.value = count
+                failed = fails(call)
+                allowed.value = -1
+                if not failed:
+                    break
+                refused += 1
+                self.assertEqual(simd_json.loads(TEXT), VALUE)
+            self.assertGreater(refused, 2)
+
+    def test_python_s(self):
+        try:
+            from _testcapi import remove_mem_hooks, set_nomemory
+        except ImportError:
+            self.skipTest("_testcapi is not installed")
+        refused = 0
+        for call in [*calls(), nested]:
+            for start in range(1, 400):
+                set_nomemory(start, start + 1)
+                try:
+                    failed = fails(call)
+                finally:
+                    remove_mem_hooks()
+                refused += failed
+            self.assertEqual(simd_json.loads(TEXT), VALUE)
+        self.assertGreater(refused, 50)
+
+    def test_references(self):
+        """The same calls again and again hold nothing more."""
+        def once():
+            for text in (TEXT, b"[1,]", b'{"a":1.5', "\x00", b"\xff"):
+                try:
+                    simd_json.loads(text)
+                except simd_json.SimdJsonError:
+                    pass
+        once()
+        gc.collect()
+        before = sys.getrefcount(None), len(gc.get_objects())
+        for _ in range(1000):
+            once()
+        gc.collect()
+        after = sys.getrefcount(None), len(gc.get_objects())
+        self.assertLess(abs(after[0] - before[0]), 100)
+        self.assertLess(abs(after[1] - before[1]), 100)
+
+
+if __name__ == "__main__":
+    unittest.main()

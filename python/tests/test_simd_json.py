@@ -1,0 +1,182 @@
+"""Tests of the package, beside Python's json: the rows of tests/vectors, mutants, Python's own documents for json, and types.
+
+    python3 -m unittest discover python/tests     with the wheel on the path
+"""
+import io
+import json
+import os
+import pathlib
+import pickle
+import random
+import sys
+import unittest
+
+import simd_json
+
+ROOT = pathlib.Path(__file__).resolve().parents[2]
+sys.path.insert(0, str(ROOT / "tests" / "c"))
+sys.path.insert(1, str(ROOT / "examples" / "python"))
+sys.path.append(str(ROOT / "examples" / "python"))
+import mutants  # noqa: E402
+
+MUTANTS = int(os.environ.get("MUTANTS", "100000"))
+
+
+def by(call, *arguments, **named):
+    try:
+        return call(*arguments, **named)
+    except simd_json.SimdJsonError as error:
+        return error
+
+
+def changed(rng):
+    text = bytearray(rng.choice(mutants.SEEDS))
+    for _ in range(rng.choice([0, 1, 1, 2, 3])):
+        at = rng.randrange(len(text))
+        rng.choice([lambda: text.__setitem__(at, rng.choice(mutants.BYTES)),
+                    lambda: text.insert(at, rng.choice(mutants.BYTES)), lambda: text.pop(at)])()
+    return bytes(text)
+
+
+class Agreement(unittest.TestCase):
+    def judge(self, data, depth):
+        found = by(simd_json.loads, data, parse_float=mutants.Decimal, max_depth=depth)
+        checked = by(simd_json.check, data, max_depth=depth)
+        try:
+            mutants.read(data)
+            wanted = json.loads(data.decode(), parse_float=mutants.Decimal)
+        except ValueError:
+            self.assertIsInstance(found, simd_json.SimdJsonError, data)
+            self.assertEqual(str(found), str(checked), data)
+            return
+        if isinstance(found, simd_json.SimdJsonError):
+            self.assertEqual((found.reason, str(found)), ("DepthLimitExceeded", str(checked)), data)
+        else:
+            self.assertEqual((found, checked), (wanted, None), data)
+            self.assertEqual(json.dumps(found), json.dumps(wanted), data)
+
+    def test_mutants(self):
+        rng = random.Random(8259)
+        for _ in range(MUTANTS):
+            self.judge(changed(rng), 8)
+
+    def test_rows(self):
+        import rows
+
+        judged = 0
+        for path in sorted((ROOT / "tests" / "vectors").glob("*.txt")):
+            for line in path.read_bytes().decode().splitlines():
+                question, arrow, answer = line.partition(" => ")
+                word, _, limit = question.partition(" ")[0].partition(":")
+                if word != "parse" or not arrow:
+                    continue
+                data = rows.decoded(question[question.index(" ") + 1:].encode())
+                found = by(simd_json.loads, data, max_depth=int(limit or 1024))
+                if answer.startswith("! "):
+                    reason, index = answer[2:].split()[0], int(answer.split()[4])
+                    self.assertEqual((found.reason, found.pos), (reason, index), line)
+                else:
+                    self.assertNotIsInstance(found, simd_json.SimdJsonError, line)
+                judged += 1
+        self.assertGreater(judged, 100)
+
+
+class Values(unittest.TestCase):
+    def test_inputs(self):
+        for data in ('["é"]', '["é"]'.encode(), bytearray('["é"]'.encode()), memoryview('["é"]'.encode())):
+            self.assertEqual(simd_json.loads(data), ["é"])
+        for data in (None, 1, ["[]"], {}):
+            with self.assertRaises(TypeError):
+                simd_json.loads(data)
+
+    def test_numbers(self):
+        for text in ("0", "-0", "9223372036854775807", "-9223372036854775808", "18446744073709551615", "-9223372036854775809",
+                     "18446744073709551616", str(2**128 - 1), str(-(2**127)), "1e5", "-0.0", "1.5", "1e400", "-1e400", "4.9e-324",
+                     "0." + "1" * 200, "3.141592653589793238462643383279"):
+            found = simd_json.loads(text)
+            self.assertEqual((type(found), repr(found)), (type(json.loads(text)), repr(json.loads(text))))
+        rng = random.Random(754)
+        for _ in range(20000):
+            text = repr(rng.choice([-1, 1]) * rng.random() * 10 ** rng.randrange(-12, 12))[:rng.randrange(4, 25)].rstrip("e.-+")
+            if "." in text or "e" in text:
+                self.assertEqual(repr(simd_json.loads(text)), repr(float(text)), text)
+        for text in (str(2**128), str(-(2**127) - 1)):
+            self.assertEqual(by(simd_json.loads, text).reason, "InvalidNumber")
+        self.assertEqual(simd_json.loads("[1.10]", parse_float=str), ["1.10"])
+
+    def test_keys(self):
+        text = json.dumps([{"a": 1, "é" * 40: 2, "k" * 100: 3}] * 3 + [{f"k{i}": i for i in range(5000)}])
+        self.assertEqual(simd_json.loads(text), json.loads(text))
+        self.assertEqual(simd_json.loads('{"a":1,"a":2}'), {"a": 2})
+
+    def test_depth(self):
+        for depth in (1, 1000, 1024):
+            value = simd_json.loads("[" * depth + "]" * depth)
+            for _ in range(depth - 1):
+                (value,) = value
+            self.assertEqual(value, [])
+        self.assertEqual(by(simd_json.loads, "[" * 1025 + "]" * 1025).reason, "DepthLimitExceeded")
+        deep = simd_json.loads("[" * 100000 + "]" * 100000, max_depth=100000)
+        self.assertEqual(len(deep), 1)
+        with self.assertRaises(ValueError):
+            simd_json.loads("1", max_depth=-1)
+
+    def test_parse_float_may_parse(self):
+        inner = lambda literal: simd_json.loads(f'{{"literal":"{literal}"}}')
+        self.assertEqual(simd_json.loads('{"a":1.5,"b":[2.5,"text"]}', parse_float=inner),
+                         {"a": {"literal": "1.5"}, "b": [{"literal": "2.5"}, "text"]})
+
+        def fails(literal):
+            raise ZeroDivisionError
+
+        for text in ("1.5", '{"a":[1,{"b":1.5}]}', '[[["x",1.5]]]'):
+            with self.assertRaises(ZeroDivisionError):
+                simd_json.loads(text, parse_float=fails)
+        self.assertEqual(simd_json.loads("[1.5]"), [1.5])
+
+    def test_python_s_own_documents(self):
+        try:
+            from test.test_json import test_fail, test_pass1, test_pass2, test_pass3
+        except ImportError:
+            self.skipTest("Python's tests are not installed")
+        for document in (test_pass1.JSON, test_pass2.JSON, test_pass3.JSON):
+            self.assertEqual(simd_json.loads(document), json.loads(document))
+        for number, document in enumerate(test_fail.JSONDOCS, 1):
+            if number not in test_fail.SKIPS:
+                self.assertIsInstance(by(simd_json.loads, document), simd_json.SimdJsonError, document)
+
+
+class Errors(unittest.TestCase):
+    def test_place(self):
+        error = by(simd_json.loads, '{\n "é": 01}')
+        self.assertEqual((error.reason, error.pos, error.lineno, error.colno), ("InvalidNumber", 9, 2, 8))
+        self.assertEqual(by(simd_json.loads, '{\n "é": 01}'.encode()).pos, 10)
+        self.assertIn("line 2 column 8", str(error))
+        self.assertIsInstance(error, ValueError)
+        again = pickle.loads(pickle.dumps(error))
+        self.assertEqual((str(again), again.pos), (str(error), error.pos))
+        self.assertEqual(by(simd_json.check, b"\xff").reason, "InvalidUtf8")
+        self.assertEqual(by(simd_json.check, "").reason, "Eof")
+
+
+class Kept(unittest.TestCase):
+    def test_parser(self):
+        parser = simd_json.Parser(max_depth=2)
+        self.assertEqual(parser.loads("[[]]"), [[]])
+        self.assertEqual(by(parser.loads, "[[[]]]").reason, "DepthLimitExceeded")
+        self.assertIsNone(parser.check(b"[1]"))
+        self.assertEqual(by(parser.check, b"[1").reason, "Syntax")
+        self.assertEqual(list(parser.lines(io.BytesIO(b'{"a":1}\n\n[2]\r\n3'))), [{"a": 1}, [2], 3])
+        self.assertEqual(simd_json.Parser(parse_float=str).loads("1.0"), "1.0")
+
+    def test_many_sizes(self):
+        parser = simd_json.Parser()
+        for size in (0, 1, 7, 8, 100, 5000, 200000, 3):
+            value = [[i, "x" * (i % 9)] for i in range(size)]
+            self.assertEqual(parser.loads(json.dumps(value)), value)
+        wide = "[" + "[]," * 100000 + "0]"
+        self.assertEqual(parser.loads(wide), json.loads(wide))
+
+
+if __name__ == "__main__":
+    unittest.main()

@@ -1,0 +1,54 @@
+#!/bin/sh
+# The wrapper for C++, the package for Python and the crate for Rust, each over the library that `make library` builds: their tests,
+# a part of them under valgrind too. Silent where all is well but for a line of what was left out; else it says what differs, and
+# ends with status 1.
+set -eu
+top=$(cd "$(dirname "$0")/.." && pwd)
+cd "$top"
+room=$(mktemp -d)
+trap 'rm -rf "$room"' EXIT
+left_out=
+
+# run COMMAND..: its output is shown only where it fails.
+run() {
+    "$@" > "$room/log" 2>&1 || { echo "failed: $*"; tail -n 40 "$room/log"; exit 1; }
+}
+
+run make -s library
+check='valgrind -q --leak-check=full --error-exitcode=1'
+command -v valgrind > /dev/null || { left_out="$left_out valgrind (not installed);"; check=; }
+
+if command -v c++ > /dev/null; then
+    run c++ -std=c++17 -O1 -Wall -Wextra -Werror -pedantic -Iinclude tests/c/wrapper.cpp build/libsimd_json.a -o "$room/wrapper"
+    # shellcheck disable=SC2086
+    run $check "$room/wrapper"
+else
+    left_out="$left_out C++ (no c++);"
+fi
+
+if python3 -c 'import sysconfig, os; raise SystemExit(not os.path.exists(sysconfig.get_paths()["include"] + "/Python.h"))' 2> /dev/null; then
+    run python3 -B python/backend.py "$room"
+    run python3 -m zipfile -e "$room"/simd_json-*.whl "$room/site"
+    export PYTHONPATH="$room/site" PYTHONDONTWRITEBYTECODE=1
+    run python3 -m unittest discover -s python/tests
+    # The same with a module whose allocations fail in turn.
+    include=$(python3 -c 'import sysconfig; print(sysconfig.get_paths()["include"])')
+    run cc -O1 -fPIC -shared -fvisibility=hidden "-I$include" -Iinclude python/native.c python/tests/refuse.c build/libsimd_json.a \
+        -Wl,--wrap=malloc,--wrap=realloc,--wrap=free -o "$room/site/simd_json/_native.abi3.so"
+    run python3 python/tests/test_memory.py
+    if [ -n "$check" ]; then
+        # shellcheck disable=SC2086
+        PYTHONMALLOC=malloc MUTANTS=300 run valgrind -q --error-exitcode=1 python3 python/tests/test_simd_json.py
+    fi
+else
+    left_out="$left_out Python (no python3 with its headers);"
+fi
+
+if command -v cargo > /dev/null; then
+    export CARGO_TARGET_DIR="$room/target" SIMD_JSON_LIB_DIR="$top/build"
+    run cargo test --offline -q --manifest-path bindings/rust/Cargo.toml
+else
+    left_out="$left_out Rust (no cargo);"
+fi
+
+[ -z "$left_out" ] || echo "tests/bindings.sh: left out:${left_out%;}"
