@@ -104,8 +104,8 @@ impl fmt::Display for PointerError {
 
 impl std::error::Error for PointerError {}
 
-/// Where a pointer stops, and what it lacks there: its first `followed` bytes lead to a value of the
-/// kind `got`, and the reference token after them leads nowhere from there.
+/// Where a pointer stops, and what it lacks there: its first `followed` bytes lead to a value of
+/// the kind `got`, and the reference token after them leads nowhere from there.
 ///
 /// Requires that the pointer has more bytes than these.
 #[cold]

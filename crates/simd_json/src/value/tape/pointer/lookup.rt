@@ -4,7 +4,8 @@ ghost use Rattle.std.specs.Prelude.{◌≡◌, ◌-◌, ◌↔◌, IsTrue, Some,
 ghost use Rattle.std.specs.List.{count_by};
 ghost use Rattle.std.specs.Result.{result_ok};
 ghost use Rattle.simd_json_parts.specs.Followed.{IsPlain, is_tilde};
-ghost use Rattle.simd_json_parts.specs.Pointed.{array_index, element_at, member_at, named, unescaped};
+ghost use Rattle.simd_json_parts.specs.Pointed.{array_index, element_at, member_at, named};
+ghost use Rattle.simd_json_parts.specs.Pointed.{unescaped};
 ghost use Rattle.simd_json.specs.Viewed.{doc, docs, pairs};
 
 use crate::value::tape::{Array, Object, Value};
