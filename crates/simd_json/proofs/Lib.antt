@@ -1,5 +1,4 @@
 mod Parses
 pub mod Views
 pub mod Walks
-mod Pointers
 mod Places

@@ -14,9 +14,6 @@ pub mod Beneath
 pub mod Sizes
 pub mod Descending
 pub mod MapCompared
-pub mod Pointed
-pub mod PointedText
-pub mod Followed
 pub mod Locations
 pub mod Reasons
 pub mod Messages

@@ -1,10 +1,8 @@
--- What contracts see of a view: the document of a value, the documents of an array, the pairs of an object; and of a pointer
--- that is split: its text.
-use Rattle.std.specs.Prelude.{List, map, ℕ}
+-- What contracts see of a view: the document of a value, the documents of an array, the pairs of an object.
+use Rattle.std.specs.Prelude.{map}
 use Rattle.simd_json_parts.specs.Document.{Document, Elements, Members}
 use Rattle.simd_json_parts.specs.Nodes.{item_of}
 use Rattle.simd_json.specs.Documents.{document_of, elements_of, members_of}
-use Rattle.simd_json.specs.declared.value.tape.pointer.split.Pointer.{Pointer}
 use Rattle.simd_json.specs.declared.value.tape.array.Array.{Array}
 use Rattle.simd_json.specs.declared.value.tape.object.Object.{Object}
 use Rattle.simd_json.specs.declared.value.tape.value.Value.{Value}
@@ -17,6 +15,3 @@ docs a = elements_of (map item_of a.nodes.now)
 
 abbrev pub pairs : Object → Members
 pairs o = members_of (map item_of o.nodes.now)
-
-abbrev pub text : {N : ℕ} → Pointer N → List ℕ
-text p = p.text.now

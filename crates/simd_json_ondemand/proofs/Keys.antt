@@ -18,22 +18,9 @@ use Rattle.simd_json_scalars.proofs.Strings.Steps.{PassesPieces, plain-passes, e
 use Rattle.simd_json_ondemand.proofs.Quoted.{stop-other}
 use Rattle.simd_json_ondemand.specs.Keys.{is_key}
 use Rattle.simd_json_ondemand.specs.Wanted.{AgreesTo, IsWanted, names, read_string}
-use lib.ListN.{take-append-drop}
-use lib.Seq.{take-append_seam}
 use lib.Lanes.{zip2, mask_l, top}
 use lib.Count.{count_trailing_zeros}
 use Rattle.std.proofs.lemmas.Simd.{tops_compared, mask_l-mod, length-zip2, leading_from_mask_l, trailing_mask_l}
-
--- ---- prefixes
-
-pub not-stripped : (s p : List ℕ) → bytes_eq (take (length p) s) p ≡ false → (rest : List ℕ) → s ≢ p ++ rest
-not-stripped s p h rest e =
-    false≢true (sym h ∙ (bytes_eq-Decides (take (length p) s) p).1 (ap (take (length p)) e ∙ take-append_seam p rest))
-
-pub stripped : (s p r : List ℕ) → bytes_eq (take (length p) s) p ≡ true → r ≡ drop (length p) s → s ≡ p ++ r
-stripped s p r h e =
-    sym (take-append-drop (length p) s) ∙ ap (λ l. l ++ drop (length p) s) ((bytes_eq-Decides (take (length p) s) p).0 h)
-    ∙ ap (λ l. p ++ l) (sym e)
 
 -- ---- a string and a key by their first pieces
 

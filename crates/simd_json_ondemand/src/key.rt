@@ -8,9 +8,9 @@ ghost use Rattle.simd_json_parts.specs.Bytes.{byte_at, quote};
 ghost use Rattle.simd_json_parts.specs.StringAt.{closing_quote, escape_at, string_at};
 ghost use Rattle.simd_json_scalars.specs.StringContent.{is_plain, is_stop};
 
-use crate::escape::escape;
 use crate::strings::plain_end;
 use simd_json_parts::charutils::codepoint_to_utf8;
+use simd_json_scalars::stringparse::escape;
 use std::simd::prelude::*;
 
 /// A key, and its first eight bytes as they are compared, with quotes after its end.

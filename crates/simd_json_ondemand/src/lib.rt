@@ -46,7 +46,6 @@
 mod accessors;
 mod array;
 mod check;
-mod escape;
 mod index;
 mod key;
 pub mod laws;

@@ -1,4 +1,5 @@
--- Nodes of integers, listings, and what is at the front of nodes.
+-- Nodes of integers, listings, what is at the front of nodes, and the first of pairs.
 pub mod Integers
 pub mod Listing
 pub mod Fronts
+pub mod Members

@@ -3,3 +3,4 @@ pub mod Drops
 pub mod Moves
 pub mod LaneRuns
 pub mod Parity
+pub mod Prefixes

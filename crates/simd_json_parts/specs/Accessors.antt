@@ -3,7 +3,8 @@
 use Rattle.std.specs.Prelude.{ℕ, ℤ, List, Bool, false, Option, option_and_then, Result, ok_or}
 use Rattle.std.specs.Option.{option_map_or}
 use Rattle.simd_json_parts.specs.Document.{Document}
-use Rattle.simd_json_parts.specs.Views.{as_null, as_bool, as_signed, as_unsigned, as_str, as_decimal, as_array, as_object, get, mismatch, try_get_as}
+use Rattle.simd_json_parts.specs.Views.{as_null, as_bool, as_signed, as_unsigned, as_str, as_decimal, as_array}
+use Rattle.simd_json_parts.specs.Views.{as_object, get, mismatch, try_get_as}
 use Rattle.simd_json_parts.specs.declared.node.TryTypeError.{TryTypeError}
 use Rattle.simd_json_parts.specs.declared.node.ValueType.{ValueType}
 use Rattle.simd_json_parts.specs.declared.node.ValueType.TheVariants as kinds

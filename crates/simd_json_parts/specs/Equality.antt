@@ -2,7 +2,8 @@
 -- by their bytes. Neither acceptance nor faults rest on it.
 use Rattle.std.specs.Prelude.{ℕ, Bool, true, false, ◌&&◌, ◌||◌, ◌==◌, bytes_eq}
 use Rattle.std.specs.Bool.{beq}
-use Rattle.simd_json_parts.specs.Document.{Document, null, boolean, integer, decimal, string, array, object, Elements, no_elements, element, Members, no_members, member}
+use Rattle.simd_json_parts.specs.Document.{Document, null, boolean, integer, decimal, string, array, object, Elements}
+use Rattle.simd_json_parts.specs.Document.{no_elements, element, Members, no_members, member}
 
 -- 0 has no sign
 abbrev pub same_number : Bool → ℕ → Bool → ℕ → Bool

@@ -3,7 +3,8 @@
 use Rattle.std.specs.Prelude.{◌≡◌, ℕ, List, [], ◌∷◌, ◌++◌, true, false, codes, IsTrue}
 use Rattle.std.specs.List.{list_all}
 use Rattle.simd_json_parts.specs.Bytes.{is_whitespace, comma, colon, left_bracket, right_bracket, left_brace, right_brace}
-use Rattle.simd_json_parts.specs.Document.{Document, null, boolean, integer, decimal, string, array, object, Elements, no_elements, element, Members, no_members, member}
+use Rattle.simd_json_parts.specs.Document.{Document, null, boolean, integer, decimal, string, array, object, Elements}
+use Rattle.simd_json_parts.specs.Document.{no_elements, element, Members, no_members, member}
 use Rattle.simd_json_parts.specs.Patterns.{Matches}
 use Rattle.simd_json_parts.specs.Numbers.{integer_literal, decimal_literal, has_minus, magnitude}
 use Rattle.simd_json_parts.specs.Strings.{IsStringLiteral}

@@ -31,6 +31,10 @@ pub mod Equality
 pub mod MapEquality
 pub mod Accessors
 pub mod Printed
+-- Of JSON Pointers.
+pub mod Pointed
+pub mod PointedText
+pub mod Followed
 -- Where tokens end, and the headers of a listing. They serve proofs, and a law of each.
 pub mod TokensAlong
 pub mod Headers

@@ -1,6 +1,7 @@
 -- How deep a document nests, and what a parser accepts of the grammar (RFC 8259, section 9). Acceptance rests on it.
 use Rattle.std.specs.Prelude.{ℕ, suc, ◌≤◌, max, List, length, ⊤}
-use Rattle.simd_json_parts.specs.Document.{Document, null, boolean, integer, decimal, string, array, object, Elements, no_elements, element, Members, no_members, member}
+use Rattle.simd_json_parts.specs.Document.{Document, null, boolean, integer, decimal, string, array, object, Elements}
+use Rattle.simd_json_parts.specs.Document.{no_elements, element, Members, no_members, member}
 use Rattle.simd_json_parts.specs.Integers.{max_magnitude}
 
 abbrev mutual

@@ -1,10 +1,13 @@
 -- The two printed forms of a document: compact, and pretty with a line for each member. Both are JSON texts (RFC
 -- 8259, section 2). Neither acceptance nor faults rest on it.
-use Rattle.std.specs.Prelude.{ℕ, suc, ◌*◌, ◌/◌, ◌%◌, List, [], ◌∷◌, ◌++◌, replicate, flat_map, Bool, true, false, ◌==◌, if◌then◌else◌, codes}
+use Rattle.std.specs.Prelude.{ℕ, suc, ◌*◌, ◌/◌, ◌%◌, List, [], ◌∷◌, ◌++◌, replicate, flat_map, Bool, true, false, ◌==◌}
+use Rattle.std.specs.Prelude.{if◌then◌else◌, codes}
 use Rattle.std.specs.Fmt.{signed_decimal}
 use Rattle.std.specs.Char.{digit_char}
-use Rattle.simd_json_parts.specs.Document.{Document, null, boolean, integer, decimal, string, array, object, Elements, no_elements, element, Members, no_members, member}
-use Rattle.simd_json_parts.specs.Bytes.{backspace, tab, line_feed, form_feed, carriage_return, space, quote, comma, left_bracket, backslash, right_bracket, left_brace, right_brace, is_control}
+use Rattle.simd_json_parts.specs.Document.{Document, null, boolean, integer, decimal, string, array, object, Elements}
+use Rattle.simd_json_parts.specs.Document.{no_elements, element, Members, no_members, member}
+use Rattle.simd_json_parts.specs.Bytes.{backspace, tab, line_feed, form_feed, carriage_return, space, quote, comma}
+use Rattle.simd_json_parts.specs.Bytes.{left_bracket, backslash, right_bracket, left_brace, right_brace, is_control}
 use Rattle.simd_json_parts.specs.Integers.{number_of}
 
 -- a byte of a string as it is printed: a quote, a backslash and what is below 0x20 are escaped

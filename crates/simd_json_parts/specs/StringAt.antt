@@ -2,7 +2,8 @@
 -- read that is pieces, as the string of their characters: so says a law. If that is not the whole, a backslash
 -- follows, and the fault is there, with the byte after it. Faults rest on it. A byte that is no backslash is taken
 -- as it is: that no control byte is inside, and that all is UTF-8, is asked of the whole input before.
-use Rattle.std.specs.Prelude.{ℕ, zero, suc, ◌+◌, ◌-◌, List, [], ◌∷◌, ◌++◌, length, drop, slice_range, ◌&&◌, ◌==◌, Option, Some, None, Result, Ok, Err, if◌then◌else◌, encode_utf8}
+use Rattle.std.specs.Prelude.{ℕ, zero, suc, ◌+◌, ◌-◌, List, [], ◌∷◌, ◌++◌, length, drop, slice_range, ◌&&◌, ◌==◌}
+use Rattle.std.specs.Prelude.{Option, Some, None, Result, Ok, Err, if◌then◌else◌, encode_utf8}
 use Rattle.std.specs.List.{position_or_len, range_with_len}
 use Rattle.simd_json_parts.specs.Bytes.{backslash, byte_at, lower_u}
 use Rattle.simd_json_parts.specs.Strings.{escaped_character, hex_value, is_high_surrogate, is_low_surrogate, paired}

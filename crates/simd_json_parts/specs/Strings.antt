@@ -1,7 +1,10 @@
 -- String literals (RFC 8259, section 7; RFC 3629, section 3). Acceptance rests on it.
-use Rattle.std.specs.Prelude.{◌≡◌, ◌≢◌, ◌≤◌, ◌⊎◌, ℕ, ◌+◌, ◌-◌, ◌*◌, List, [], ◌∷◌, ◌++◌, Bool, cond, ◌&&◌, ◌||◌, ◌==◌, nat_lt, nat_le, if◌then◌else◌, Option, Some, None, IsTrue, IsFalse, encode_utf8, encode_utf8_all}
+use Rattle.std.specs.Prelude.{◌≡◌, ◌≢◌, ◌≤◌, ◌⊎◌, ℕ, ◌+◌, ◌-◌, ◌*◌, List, [], ◌∷◌, ◌++◌, Bool, cond, ◌&&◌, ◌||◌, ◌==◌}
+use Rattle.std.specs.Prelude.{nat_lt, nat_le, if◌then◌else◌, Option, Some, None, IsTrue, IsFalse, encode_utf8}
+use Rattle.std.specs.Prelude.{encode_utf8_all}
 use Rattle.std.specs.Char.{digit_value, is_digit, IsScalar}
-use Rattle.simd_json_parts.specs.Bytes.{quote, backslash, slash, backspace, tab, line_feed, form_feed, carriage_return, lower_b, lower_f, lower_n, lower_r, lower_t, lower_u}
+use Rattle.simd_json_parts.specs.Bytes.{quote, backslash, slash, backspace, tab, line_feed, form_feed, carriage_return}
+use Rattle.simd_json_parts.specs.Bytes.{lower_b, lower_f, lower_n, lower_r, lower_t, lower_u}
 
 -- the character of the escape with this letter: \" \\ \/ \b \f \n \r \t
 abbrev pub escaped_character : ℕ → Option ℕ

@@ -3,7 +3,8 @@
 use Rattle.std.specs.Prelude.{ℕ, zero, suc, ◌-◌, List, [], ◌∷◌, ◌||◌, ◌==◌, Option, Some, None, Result, Ok, Err, if◌then◌else◌}
 use Rattle.std.specs.Char.{is_ascii_digit}
 use Rattle.std.specs.Option.{option_map_or}
-use Rattle.simd_json_parts.specs.Bytes.{quote, comma, minus_sign, colon, left_bracket, right_bracket, lower_f, lower_n, lower_t, left_brace, right_brace, is_whitespace, byte_at}
+use Rattle.simd_json_parts.specs.Bytes.{quote, comma, minus_sign, colon, left_bracket, right_bracket, lower_f, lower_n}
+use Rattle.simd_json_parts.specs.Bytes.{lower_t, left_brace, right_brace, is_whitespace, byte_at}
 use Rattle.simd_json_parts.specs.Document.{Document}
 use Rattle.simd_json_parts.specs.AtomAt.{atom_at}
 use Rattle.simd_json_parts.specs.NumberAt.{number_at}

@@ -1,6 +1,8 @@
 -- What a view of a document answers. Neither acceptance nor faults rest on it.
-use Rattle.std.specs.Prelude.{ℕ, ◌-◌, ◌^◌, ℤ, pos, neg_ℤ, int_le, int_lt, List, length, map, slice_get, Bool, cond, ◌&&◌, Option, Some, None, is_some, option_and_then, Result, Ok, Err, bytes_eq}
-use Rattle.simd_json_parts.specs.Document.{Document, null, boolean, integer, decimal, string, array, object, elements, Members, no_members, member, members}
+use Rattle.std.specs.Prelude.{ℕ, ◌-◌, ◌^◌, ℤ, pos, neg_ℤ, int_le, int_lt, List, length, map, slice_get, Bool, cond}
+use Rattle.std.specs.Prelude.{◌&&◌, Option, Some, None, is_some, option_and_then, Result, Ok, Err, bytes_eq}
+use Rattle.simd_json_parts.specs.Document.{Document, null, boolean, integer, decimal, string, array, object, elements}
+use Rattle.simd_json_parts.specs.Document.{Members, no_members, member, members}
 use Rattle.simd_json_parts.specs.Integers.{number_of, integer_node}
 use Rattle.simd_json_parts.specs.NodeTypes.{static_type}
 use Rattle.simd_json_parts.specs.declared.node.ValueType.{ValueType}

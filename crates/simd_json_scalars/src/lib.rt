@@ -1,7 +1,7 @@
 //! The readers of one scalar.
 //!
 //! - [`numberparse`]: reads one number.
-//! - [`stringparse`]: reads one string.
+//! - [`stringparse`]: reads one string, or one escape.
 #![tactic(auto)]
 
 pub mod numberparse;

@@ -1,4 +1,4 @@
-//! Reads one string, decoded in the bytes it was written in (RFC 8259, section 7).
+//! Reads one string, decoded in the bytes it was written in, or one escape (RFC 8259, section 7).
 ghost use Rattle.std.specs.Prelude.{◌≡◌, ◌≤◌, ◌<◌, ◌+◌, ℕ, List, length, drop, map, MatchResult};
 ghost use Rattle.std.specs.Prelude.{IsUtf8, false};
 ghost use Rattle.std.specs.List.{prefix_len, copy_within};
@@ -13,6 +13,7 @@ mod escapes;
 #[cfg(test)]
 mod tests;
 
+pub use escapes::escape;
 use escapes::unescape_one;
 use std::simd::prelude::*;
 

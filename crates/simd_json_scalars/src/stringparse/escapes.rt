@@ -1,4 +1,4 @@
-//! One escape, decoded in place (RFC 8259, section 7).
+//! One escape: its character, and decoded in place (RFC 8259, section 7).
 ghost use Rattle.std.specs.Prelude.{◌≡◌, ◌≤◌, ◌<◌, length, drop, encode_utf8, Some, None};
 ghost use Rattle.std.specs.Prelude.{MatchOption, IfSome};
 ghost use Rattle.std.specs.Char.{len_utf8};
@@ -26,9 +26,18 @@ pub(super) fn unescape_one(unread: &mut [u8], ends: Ends) -> Option<Ends>
     Some(Ends { read, written })
 }
 
-// The character of the escape at the front, and how many of its bytes follow the backslash. The
-// table comes first, since most escapes have one letter.
-fn escape(bytes: &[u8]) -> Option<(char, usize)>
+/// The character of the escape whose backslash is the first byte, and how many bytes of it follow
+/// the backslash (RFC 8259, section 7).
+///
+/// Returns `None` where the bytes after the backslash are no escape: another letter, fewer than
+/// four hexadecimal digits after `u`, or the code unit of a surrogate that is not in a pair.
+/// Requires two bytes at least.
+///
+/// Of `\n` it returns a line feed and 1, of `\u00e9` an `é` and 5, and of `\ud83d\ude00` the
+/// character of the pair and 11.
+// The table comes first, since most escapes have one letter.
+#[inline(always)]
+pub fn escape(bytes: &[u8]) -> Option<(char, usize)>
     requires { 2 ≤ length bytes.now }
     ensures value { MatchOption result (escape_at bytes.now ≡ None)
         (λ e. escape_at bytes.now ≡ Some (encode_utf8 e.0, e.1)) }
@@ -59,6 +68,7 @@ const ESCAPED: [u8; 256] = [
 ];
 
 // A code unit, or a high and a low surrogate.
+#[inline(always)]
 fn unicode_escape(bytes: &[u8]) -> Option<(char, usize)>
     ensures value { let piece =
         unicode_piece (code_unit_at bytes.now) (code_unit_at (drop 6 bytes.now)) in
@@ -79,6 +89,7 @@ fn unicode_escape(bytes: &[u8]) -> Option<(char, usize)>
 }
 
 // The code unit of a `\u` escape at the front.
+#[inline(always)]
 fn code_unit(bytes: &[u8]) -> Option<u32>
     ensures value { result ≡ code_unit_at bytes.now }
     ensures bounds { IfSome result (λ u. (u < 65536) × (6 ≤ length bytes.now)) }

@@ -2,7 +2,7 @@ use Rattle.std.proofs.Common.{◌≡◌, sym, ◌∙◌, ap, ◌++◌, length, t
 use Rattle.std.proofs.lemmas.Str.{length-encode}
 use Rattle.std.specs.Prelude.{encode_utf8}
 use lib.Seq.{take-append_seam}
-use Rattle.simd_json_ondemand.proofs.Keys.{stripped}
+use Rattle.simd_json_parts.proofs.Lists.Prefixes.{stripped}
 use Rattle.simd_json_ondemand.proofs.key.after_escape.Goals as goal
 
 pub returns : goal.returns
@@ -14,7 +14,7 @@ returns c =
     ap (λ n. take n put.new.bytes) (put.ensures.len ∙ sym (length-encode character))
     ∙ ap (take (length (encode_utf8 character))) put.ensures.written ∙ take-append_seam (encode_utf8 character) _ in (
       _,
-      c.in_ok-character.ensures,
+      c.in_ok-character.ensures.value,
       stripped c.args.key.now _ c.in_ok-rest.rest.now e.0 e.1
           ∙ ap (λ us. us ++ c.in_ok-rest.rest.now) utf8,
     )

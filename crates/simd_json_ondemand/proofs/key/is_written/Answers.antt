@@ -1,7 +1,7 @@
 use Rattle.std.proofs.Common.{sym, ◌∙◌, ℕ, List, arith}
 use Rattle.std.proofs.lemmas.List.{get_or_default, take_rest}
 use Rattle.simd_json_ondemand.proofs.Keys.{from-quote, other-run, stop-closed, at-quote, escape-fits, other-escape, after-escape}
-use Rattle.simd_json_ondemand.proofs.Keys.{not-stripped, stripped}
+use Rattle.simd_json_parts.proofs.Lists.Prefixes.{not-stripped, stripped}
 use Rattle.simd_json_ondemand.proofs.key.is_written.Goals as goal
 
 pub loop-rest-init : goal.loop-rest-init

@@ -2,10 +2,10 @@ use Rattle.std.proofs.Common.{◌+◌, ◌∙◌, ap, sym, subst, arith}
 use Rattle.std.proofs.lemmas.Str.{IsCharBoundary-after_ascii}
 use Rattle.std.specs.List.{slice_range}
 use Rattle.std.specs.Result.{result_ok}
-use Rattle.simd_json.specs.Followed.{IsPlain, IsTokenAt}
-use Rattle.simd_json.specs.Pointed.{named}
+use Rattle.simd_json_parts.specs.Followed.{IsPlain, IsTokenAt}
+use Rattle.simd_json_parts.specs.Pointed.{named}
 use Rattle.simd_json.specs.Viewed.{doc}
-use Rattle.simd_json.proofs.Pointers.Pointed.{further}
+use Rattle.simd_json_parts.proofs.Pointers.Pointed.{further}
 use Rattle.simd_json.proofs.value.tape.pointer.walk.Goals as goal
 
 pub range-text-requires-clause-start_boundary : goal.range-text-requires-clause-start_boundary

@@ -1,5 +1,5 @@
 use Rattle.std.proofs.Common.{◌≡◌, ◌≤◌, ◌-◌, length, drop}
-use Rattle.simd_json.specs.Pointed.{pointed, pointed_from}
+use Rattle.simd_json_parts.specs.Pointed.{pointed, pointed_from}
 use Rattle.simd_json.specs.Viewed.{doc}
 use Rattle.simd_json.proofs.value.tape.pointer.walk.Given as goal
 

@@ -3,7 +3,7 @@ use Rattle.std.proofs.lemmas.Bool.{false_from_ne_true}
 use Rattle.std.proofs.lemmas.Slice.Eq.{bytes_eq-Decides}
 use Rattle.simd_json_parts.specs.Views.{first_with}
 use Rattle.simd_json.specs.Viewed.{doc, pairs}
-use Rattle.simd_json.proofs.Views.Split.{first_with-pair, members_cancel}
+use Rattle.simd_json_parts.proofs.Documents.Members.{first_with-pair, members_cancel}
 use Rattle.simd_json.proofs.value.tape.object.Object.find.Goals as goal
 use Rattle.simd_json.proofs.value.tape.object.Object.find.Goals.{else-key-k-via-then-key-k+else-is_same, else-key-k-via-else-key-k}
 

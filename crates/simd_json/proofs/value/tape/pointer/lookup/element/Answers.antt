@@ -1,7 +1,7 @@
 use Rattle.std.proofs.Common.{◌∙◌, ap, sym, option_map, arith}
-use Rattle.simd_json.specs.Pointed.{array_index}
+use Rattle.simd_json_parts.specs.Pointed.{array_index}
 use Rattle.simd_json.specs.Viewed.{doc, docs}
-use Rattle.simd_json.proofs.Pointers.Pointed.{element-past}
+use Rattle.simd_json_parts.proofs.Pointers.Pointed.{element-past}
 use Rattle.simd_json.proofs.value.tape.pointer.lookup.element.Goals as goal
 
 pub returns-in_err-read_index : goal.returns-in_err-read_index

@@ -1,9 +1,9 @@
 use Rattle.std.proofs.Common.{◌≡◌, ◌∙◌, ap, sym, refl, Some, true≢false}
-use Rattle.simd_json.specs.Pointed.{unescaped}
+use Rattle.simd_json_parts.specs.Pointed.{unescaped}
 use Rattle.simd_json.specs.Viewed.{doc, pairs}
-use Rattle.simd_json.proofs.Pointers.Keys.{member-plain}
-use Rattle.simd_json.proofs.Pointers.Pointed.{found, member-here, member-later, member-none}
-use Rattle.simd_json.proofs.Views.Split.{members_cancel}
+use Rattle.simd_json_parts.proofs.Pointers.Keys.{member-plain}
+use Rattle.simd_json_parts.proofs.Pointers.Pointed.{found, member-here, member-later, member-none}
+use Rattle.simd_json_parts.proofs.Documents.Members.{members_cancel}
 use Rattle.simd_json.proofs.value.tape.pointer.lookup.member.Goals as goal
 
 pub returns-then-is_plain : goal.returns-then-is_plain

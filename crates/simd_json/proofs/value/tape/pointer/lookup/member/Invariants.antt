@@ -1,6 +1,6 @@
 use Rattle.std.proofs.Common.{◌≡◌}
 use Rattle.simd_json.specs.Viewed.{pairs}
-use Rattle.simd_json.proofs.Pointers.Pointed.{found}
+use Rattle.simd_json_parts.proofs.Pointers.Pointed.{found}
 use Rattle.simd_json.proofs.value.tape.pointer.lookup.member.Given as goal
 
 abbrev pub invariant-loop-key : goal.invariant-loop-key

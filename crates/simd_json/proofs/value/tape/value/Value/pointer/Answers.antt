@@ -1,7 +1,7 @@
 use Rattle.std.proofs.Common.{◌∙◌, ap, sym, drop}
 use Rattle.std.specs.Result.{result_ok}
 use Rattle.simd_json.specs.Viewed.{doc}
-use Rattle.simd_json.proofs.Pointers.Pointed.{some-left, stop-of}
+use Rattle.simd_json_parts.proofs.Pointers.Pointed.{some-left, stop-of}
 use Rattle.simd_json.proofs.value.tape.value.Value.pointer.Goals as goal
 
 pub returns-then-followed-pointer : goal.returns-then-followed-pointer

@@ -1,6 +1,0 @@
--- JSON Pointers.
-pub mod Pointed
-pub mod Splitting
-pub mod Keys
-pub mod Indexes
-pub mod Fronts

@@ -1,9 +1,0 @@
-use Rattle.std.proofs.Common.{◌∙◌}
-use Rattle.simd_json.specs.Pointed.{unescaped}
-use Rattle.simd_json.proofs.Pointers.Keys.{formed-further}
-use Rattle.simd_json.proofs.value.tape.pointer.lookup.is_well_formed.Goals as goal
-
-pub loop-rest-preserved : goal.loop-rest-preserved
-loop-rest-preserved c =
-    c.loop-rest.invariant
-    ∙ formed-further (unescaped c.loop-rest.left.now) (unescaped c.in-Some.rest.now) _ c.in-Some.ensures.0
