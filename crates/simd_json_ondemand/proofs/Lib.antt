@@ -17,3 +17,5 @@ pub mod MemberTails
 pub mod ObjectViews
 pub mod Keys
 pub mod Lookup
+pub mod Escaped
+pub mod Along

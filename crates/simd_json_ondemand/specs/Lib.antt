@@ -16,3 +16,5 @@ pub mod Keys
 pub mod Wanted
 -- What contracts see of an index: what it lists, and for how many bytes it has capacity.
 pub mod Capacities
+-- What the test of a whole input finds.
+pub mod Whole

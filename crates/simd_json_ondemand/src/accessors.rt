@@ -18,13 +18,14 @@ use simd_json_scalars::numberparse::{
 };
 
 impl<'d> Value<'d> {
-    ghost use Rattle.std.specs.Prelude.{◌≡◌, ◌==◌, None, false};
+    ghost use Rattle.std.specs.Prelude.{◌≡◌, ◌==◌, Some, None, false, IsTrue};
     ghost use Rattle.std.specs.Prelude.{option_and_then, option_map, MatchOption};
     ghost use Rattle.simd_json_ondemand.specs.Docs.{text, index_of, form, kind};
     ghost use Rattle.simd_json_ondemand.specs.Docs.{standing, as_standing, literal};
     ghost use Rattle.simd_json_ondemand.specs.Numerals.{IsNumeral, IsNoNumber, IsLiteralLen};
     ghost use Rattle.simd_json_ondemand.specs.Standing.{IsInteger};
     ghost use Rattle.simd_json_parts.specs.Accessors as accessors;
+    ghost use Rattle.simd_json_parts.specs.Document as parts;
     ghost use Rattle.simd_json_parts.specs.NumberAt.{number_at};
     ghost use Rattle.simd_json_parts.specs.Tokens.{scalar};
     ghost use Rattle.simd_json_parts.specs.Views.{as_integer, as_decimal, value_type};
@@ -67,6 +68,20 @@ impl<'d> Value<'d> {
             Some(numeral(self.bytes()))
         } else {
             None
+        }
+    }
+
+    // Whether a number, `true`, `false` or `null` is here.
+    #[inline(always)]
+    pub(crate) fn is_scalar(self) -> bool
+        ensures { IsTrue result → (d : parts.Document) × (standing self.entry ≡ Some d) }
+    {
+        match self.numeral() {
+            Some(Numeral::Integer(_)) => true,
+            Some(Numeral::Decimal(_)) => true,
+            Some(Numeral::Long(len)) => parse_long(self.bytes(), len).is_ok(),
+            Some(Numeral::Invalid(_)) => false,
+            None => self.as_null().is_some() || self.as_bool().is_some(),
         }
     }
 

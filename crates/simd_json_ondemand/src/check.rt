@@ -1,7 +1,7 @@
-//! The test of a whole input: the second stage of a parse, over a copy of the input and into a sink
-//! that keeps no node.
+//! The test of a whole input: along its structural indexes and, where that finds a fault, by the
+//! second stage of a parse over a copy of the input, into a sink that keeps no node.
 ghost use Rattle.std.specs.Prelude.{◌≡◌, ◌≤◌, ◌<◌, ◌⊎◌, ◌++◌, ◌∷◌, [], List, length, get_or};
-ghost use Rattle.std.specs.Prelude.{Ok, Err, Some, IfOk, OnOk, IfErr, min, max};
+ghost use Rattle.std.specs.Prelude.{Ok, Err, Some, IsTrue, IfOk, OnOk, IfErr, min, max};
 ghost use Rattle.simd_json_ondemand.specs.Capacities.{LacksMemory};
 ghost use Rattle.simd_json_ondemand.specs.Docs.{text, places, root};
 ghost use Rattle.simd_json_parts.specs.Answer.{answer};
@@ -15,6 +15,7 @@ ghost use Rattle.simd_json_stages.specs.Building.{header_of, is_header};
 ghost use Rattle.simd_json_stages.specs.Scans.{IsScanOf};
 ghost use base.Fml.{ftrue};
 
+use crate::escapes::are_escapes_valid;
 use crate::index::Index;
 use crate::value::Document;
 use simd_json_parts::error::Result;
@@ -43,11 +44,12 @@ impl<A: Allocator + Copy> Index<A> {
     ///
     /// Returns `OutOfMemory` if an allocation fails, and only if size and encoding are right.
     ///
-    /// It does the work of a parse, except that it keeps no node. A parse decodes strings in place,
-    /// so it works on a copy; the input stays unchanged. The copy, of as many bytes as the input
-    /// has, is taken from the allocator of the index. So are 24 bytes for each container that may
-    /// be open (`max_depth`, or one for each structural index, whichever is less) if these are more
-    /// than 64. Both are freed before it returns.
+    /// The input stays unchanged. A document with at most 64 containers open at a time is checked in
+    /// place, and takes no memory but the index's. For any other input the second stage of a parse
+    /// runs, without keeping a node. A parse decodes strings in place, so it works on a copy of the
+    /// input, of as many bytes, which is taken from the allocator of the index. So are 24 bytes for
+    /// each container that may be open (`max_depth`, or one for each structural index, whichever is
+    /// less) if these are more than 64. Both are freed before it returns.
     ///
     /// ```
     /// use simd_json_ondemand::{ErrorType, Index, Result};
@@ -75,8 +77,27 @@ impl<A: Allocator + Copy> Index<A> {
             structural_indexes: &self.indexes[..self.used],
             escape_blocks: &self.escape_blocks[..self.used_blocks],
         };
-        parse_copy(*self.indexes.allocator(), input, scanned, max_depth)?;
+        if !is_document(input, scanned, max_depth) {
+            parse_copy(*self.indexes.allocator(), input, scanned, max_depth)?;
+        }
         Ok(self.document(input))
+    }
+}
+
+// Whether an input whose structural indexes and blocks with a backslash are known is a document
+// within the depth limit, and with at most `FEW_OPEN` containers open at a time: so deep the calls
+// nest.
+fn is_document(input: &[u8], scanned: Scanned<'_>, max_depth: usize) -> bool
+    requires { IsScanOf input.now scanned }
+    ensures { IsTrue result → (d : parts.Document) × (answer input.now max_depth ≡ Ok d) }
+{
+    if !are_escapes_valid(input, scanned.escape_blocks) {
+        return false;
+    }
+    let document = Document::new(input, scanned.structural_indexes);
+    match document.value_end(0, max_depth.min(FEW_OPEN)) {
+        Some(end) => end == document.indexes.len(),
+        None => false,
     }
 }
 

@@ -21,8 +21,8 @@
 //!   value.
 //!
 //! Where that matters call [`Index::check`] in place of `find`: it checks the whole input, as a
-//! parse does, and returns the error of the parse. It keeps no node, but copies the input for the
-//! time of the call.
+//! parse does, and returns the error of the parse. It keeps no node, and copies the input only if
+//! it finds a fault or more than 64 nested containers.
 //!
 //! # Example
 //!
@@ -46,9 +46,11 @@
 mod accessors;
 mod array;
 mod check;
+mod escapes;
 mod index;
 mod key;
 pub mod laws;
+mod nested;
 mod object;
 mod skip;
 mod strings;

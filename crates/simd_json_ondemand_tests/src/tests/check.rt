@@ -116,6 +116,32 @@ fn errors_of_scalars_are_those_of_a_parse(rt: HostRuntime) {
     }
 }
 
+// An escape after so many plain bytes, in the first block of 64 bytes or across its end.
+#[test]
+fn escapes_are_checked_in_each_block(rt: HostRuntime) {
+    let mut index = Index::new(rt.alloc(), 0).expect(&rt, MEMORY);
+    for (escape, wanted) in [
+        (r"\n\/", None),
+        (r"\u00e9\ud83d\ude00\\", None),
+        (r"\q", Some(ErrorType::InvalidEscape)),
+        (r"\n\x", Some(ErrorType::InvalidEscape)),
+        (r"\u12g4", Some(ErrorType::InvalidUnicodeCodepoint)),
+        (r"\ud83d\n", Some(ErrorType::InvalidUnicodeCodepoint)),
+        (r"\\\ude00", Some(ErrorType::InvalidUnicodeCodepoint)),
+    ] {
+        for plain in 0..130 {
+            let mut input = Vec::from_slice(rt.alloc(), b"[\"").expect(&rt, MEMORY);
+            input.resize(plain + 2, b'a').expect(&rt, MEMORY);
+            input
+                .extend_from_slice(escape.as_bytes())
+                .expect(&rt, MEMORY);
+            input.extend_from_slice(b"\"]").expect(&rt, MEMORY);
+            let error = checked(&rt, &mut index, &input, 1024);
+            assert_same!(&rt; error.as_ref().map(|e| e.error()), wanted.as_ref(), (escape, plain));
+        }
+    }
+}
+
 // Each beginning of a document, and each of its bytes replaced by each of several.
 #[test]
 fn changed_documents_are_checked_as_they_are_parsed(rt: HostRuntime) {
@@ -157,13 +183,13 @@ fn depth_is_limited(rt: HostRuntime) {
     }
 }
 
-// What a check of 70 nested arrays returns where the heap has so many bytes left.
-fn checked_with(rt: &(impl AllocGlobal + Abort), left: usize) -> Result<()> {
-    let mut input = [b'['; 141];
-    input[70] = b'1';
-    for byte in &mut input[71..] {
-        *byte = b']';
-    }
+// What a check of so many nested arrays returns where the heap has so many bytes left.
+fn checked_with(rt: &(impl AllocGlobal + Abort), depth: usize, left: usize) -> Result<()> {
+    let mut input = Vec::new(rt.alloc());
+    input.resize(depth, b'[').expect(rt, MEMORY);
+    input
+        .resize(depth.saturating_mul(2), b']')
+        .expect(rt, MEMORY);
     let heap = LocalHeap::new(rt.alloc(), 1 << 16).expect(rt, MEMORY);
     let mut index = Index::new(&heap, input.len()).expect(rt, MEMORY);
     let full = super::memory::ballast(rt, &heap, left);
@@ -178,12 +204,14 @@ fn checked_with(rt: &(impl AllocGlobal + Abort), left: usize) -> Result<()> {
     answer
 }
 
-// The copy takes 141 bytes, and the stack 24 for each of 141 structural indexes.
+// With 70 nested arrays the copy takes 140 bytes, and the stack 24 for each of 140 structural
+// indexes. With 64 there is neither.
 #[test]
 fn memory_is_taken_for_a_copy_and_a_stack(rt: HostRuntime) {
     for left in [0, 100, 200, 1000, 3000] {
         let wanted = Err(Error::generic(ErrorType::OutOfMemory));
-        assert_same!(&rt; checked_with(&rt, left), wanted, left);
+        assert_same!(&rt; checked_with(&rt, 70, left), wanted, left);
     }
-    assert_same!(&rt; checked_with(&rt, 4000), Ok(()));
+    assert_same!(&rt; checked_with(&rt, 70, 4000), Ok(()));
+    assert_same!(&rt; checked_with(&rt, 64, 0), Ok(()));
 }
