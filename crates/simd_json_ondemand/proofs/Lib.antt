@@ -5,6 +5,7 @@ pub mod Agreement
 pub mod Quoted
 pub mod Literals
 pub mod Skipping
+pub mod Written
 pub mod Enough
 pub mod Sequence
 pub mod Groups
@@ -17,3 +18,4 @@ pub mod MemberTails
 pub mod ObjectViews
 pub mod Keys
 pub mod Lookup
+pub mod Inside

@@ -46,17 +46,20 @@
 mod accessors;
 mod array;
 mod check;
+mod end;
 mod escape;
 mod index;
 mod key;
 pub mod laws;
 mod object;
+mod raw;
 mod skip;
 mod strings;
 mod value;
 pub mod views;
 
 pub use array::Array;
+pub use end::End;
 pub use index::Index;
 pub use object::Object;
 pub use simd_json_parts::error::{Error, ErrorType, Result};
