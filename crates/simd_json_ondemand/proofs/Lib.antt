@@ -5,6 +5,7 @@ pub mod Agreement
 pub mod Quoted
 pub mod Literals
 pub mod Skipping
+pub mod Written
 pub mod Enough
 pub mod Sequence
 pub mod Groups
@@ -19,3 +20,4 @@ pub mod Keys
 pub mod Lookup
 pub mod Escaped
 pub mod Along
+pub mod Inside

@@ -20,9 +20,9 @@ use Rattle.simd_json_scalars.proofs.Strings.Standalone.{closing_quote-further}
 use Rattle.simd_json_stages.proofs.Tokens.ScalarLaws.{form_at-number, form_at-null, form_at-true, form_at-false}
 use Rattle.simd_json_stages.proofs.Tokens.TokenForms.{quotes}
 use Rattle.simd_json_ondemand.specs.Numerals.{IsNumberLen, IsLiteralLen}
-use Rattle.simd_json_ondemand.specs.Standing.{literal_end}
+use Rattle.simd_json_ondemand.specs.Standing.{literal_end, begins_number}
 use Rattle.simd_json_ondemand.proofs.Quoted.{IsQuoted}
-use Rattle.simd_json_ondemand.proofs.Standing.{spells, begins_number, by_form, by_atom, other-byte, first, spelt}
+use Rattle.simd_json_ondemand.proofs.Standing.{spells, by_form, by_atom, other-byte, first, spelt}
 
 module _ (b : List ℕ) (i : ℕ) where
   -- ---- a string
@@ -61,7 +61,7 @@ module _ (b : List ℕ) (i : ℕ) where
       range (Some k) = tt
       range None = cond_both (nat_lt (max_magnitude (has_minus digits)) (magnitude digits)) _ _ Within (λ _. tt) (λ _. within)
 
-  pub number-ends : (o : Option ℕ) → i ≤ length b → begins_number b i (byte_at b i) ≡ true → IsNumberLen b i o → IsLiteralLen b i o
+  pub number-ends : (o : Option ℕ) → i ≤ length b → begins_number (byte_at b i) ≡ true → IsNumberLen b i o → IsLiteralLen b i o
   number-ends (Some len) l is (d, h) = (
     ap (literal_end b i) (form_at-number b i (byte_at b i) refl is ∙ ap scalar h),
     subst (λ r. IfOk r (λ p. p.1 ≤ length b)) h (number-inside l),
@@ -100,7 +100,7 @@ module _ (b : List ℕ) (i : ℕ) where
 
   -- ---- none of these
 
-  pub none-ends : (byte_at b i == 34) ≡ false → begins_number b i (byte_at b i) ≡ false → spells b i (codes "null") ≡ false
+  pub none-ends : (byte_at b i == 34) ≡ false → begins_number (byte_at b i) ≡ false → spells b i (codes "null") ≡ false
       → spells b i (codes "true") ≡ false → spells b i (codes "false") ≡ false → IsLiteralLen b i None
   none-ends s d n t f =
       by_form b i (λ form. literal_end b i form ≡ None) (λ _. refl) refl (λ _. refl) refl refl refl (other-byte b i 34 refl s)

@@ -1,10 +1,10 @@
 -- Counting brackets ends where the descent does: from the first token of a value to the first after it, and from
 -- the first token inside a container to the first after its closing bracket.
-use Rattle.std.proofs.Common.{◌≡◌, refl, sym, ◌∙◌, ap, subst, ℕ, zero, suc, ◌+◌, ◌≤◌, Bool, true, false, ◌||◌, ◌&&◌, ◌==◌, nat_le, cond}
+use Rattle.std.proofs.Common.{◌≡◌, refl, sym, ◌∙◌, ap, subst, ℕ, zero, suc, ◌+◌, ◌-◌, ◌<◌, ◌≤◌, get_or, Bool, true, false, ◌||◌, ◌&&◌, ◌==◌, nat_le, cond}
 use Rattle.std.proofs.Common.{List, [], ◌∷◌, length, drop, arith}
 use Rattle.std.specs.Prelude.{Result, Ok, Err, IfOk}
-use Rattle.std.proofs.lemmas.Bool.{cond_both, eqb-true}
-use Rattle.std.proofs.lemmas.List.{length-drop}
+use Rattle.std.proofs.lemmas.Bool.{cond_both, eqb-true, false≢true}
+use Rattle.std.proofs.lemmas.List.{length-drop, get_or-drop}
 use Rattle.std.proofs.Math.Seq.{drop-drop}
 use Rattle.simd_json_parts.specs.Bytes.{byte_at}
 use Rattle.simd_json_parts.specs.Document.{Document, array, object, Elements, Members}
@@ -58,6 +58,14 @@ opens_not c l = go (is_opening c) (is_closing c) l
     go true t l = absurd (omega arith)
     go false t l = refl
 
+closes : (c : ℕ) → open_after 0 c ≡ 0 → is_closing c ≡ true
+closes c e = go (is_opening c) (is_closing c) e
+  where
+    go : (s t : Bool) → cond {A = ℕ} s 2 (cond t 0 1) ≡ 0 → t ≡ true
+    go true t e = absurd (omega arith)
+    go false true e = refl
+    go false false e = absurd (omega arith)
+
 module _ (b : List ℕ) where
   pub form-after : (n i : ℕ) → open_after n (byte_at b i) ≡ form_after n (form_at b i)
   unfolding form_at
@@ -89,6 +97,8 @@ module _ (b : List ℕ) where
     pub within : count ≤ length is
     pub along : rest ≡ tokens_along b (drop count is)
     pub counted : (k : ℕ) → closed_at (suc k) (first_bytes b is) ≡ count + closed_at (after k) (first_bytes b (drop count is))
+    -- where a container is closed, by the last of them
+    pub closed : after 0 ≡ 0 → (0 < count) × (is_closing (byte_at b (get_or is (count - 1) 0)) ≡ true)
 
   -- all that was passed and more
   and_then : (after : ℕ → ℕ) (is : List ℕ) (mid rest : List Token) (p : Passed suc is mid) → Passed after (drop p.count is) rest
@@ -104,6 +114,11 @@ module _ (b : List ℕ) where
             ≡ closed_at (after k) (first_bytes b (drop (p.count + q.count) is)) =
             ap (λ js. closed_at (after k) (first_bytes b js)) same in
             omega arith;
+        closed = λ z. let last = q.closed z in
+            let here : p.count + (q.count - 1) ≡ p.count + q.count - 1 = omega (arith, last.0) in (
+              omega (arith, last.0),
+              ap (λ j. is_closing (byte_at b j)) (sym (get_or-drop p.count is (q.count - 1) 0 ∙ ap (λ n. get_or is n 0) here)) ∙ last.1,
+            );
       }
 
   -- one token
@@ -117,6 +132,7 @@ module _ (b : List ℕ) where
     counted = λ k. let same : closed_at (open_after k (byte_at b i)) (first_bytes b is) ≡ closed_at (after k) (first_bytes b is) =
         ap (λ n. closed_at n (first_bytes b is)) (form-after b k i ∙ e k) in
         omega arith;
+    closed = λ z. (omega arith, closes (byte_at b i) (form-after b 0 i ∙ e 0 ∙ z));
   }
 
   -- a container, from its opening bracket on
@@ -131,6 +147,7 @@ module _ (b : List ℕ) where
         let same : closed_at (open_after k (byte_at b i)) (first_bytes b is) ≡ closed_at (suc (suc k)) (first_bytes b is) =
         ap (λ n. closed_at n (first_bytes b is)) (form-after b k i ∙ e k) in
         omega arith;
+    closed = λ z. absurd (let no : 1 ≡ 0 = z in omega arith);
   }
 
   -- ---- readers
@@ -171,6 +188,7 @@ module _ (b : List ℕ) where
   pub record Spanned (is : List ℕ) (rest : List Token) : Type 0 where
     pub passed : Passed suc is rest
     pub whole : passed.count ≡ span b is
+    pub ended : is_opening (byte_at b (get_or is 0 0)) ≡ true → is_closing (byte_at b (get_or is (span b is - 1) 0)) ≡ true
 
   abbrev pub Spans : List ℕ → Result (Document × List Token) Error → Type 0
   Spans is r = IfOk r (λ p. Spanned is p.1)
@@ -186,6 +204,7 @@ module _ (b : List ℕ) where
     passed = one suc i is e;
     whole = sym (ap (λ t. cond t (suc (closed_at 1 (first_bytes b is))) 1)
         (opens_not (byte_at b i) (let f = form-after b 0 i ∙ e 0 in omega arith)));
+    ended = λ o. absurd (false≢true (sym (opens_not (byte_at b i) (let f = form-after b 0 i ∙ e 0 in omega arith)) ∙ o));
   }
 
   -- a container
@@ -194,12 +213,19 @@ module _ (b : List ℕ) where
       → Spans (i ∷ is) (r >>= λ x. Ok (f x.0, x.1))
   unfolding enclosed
   bracketed i is (Err g) f e q = tt
-  bracketed i is (Ok (x, rest)) f e q = record {
-    passed = enclosed i is rest e q;
-    whole = let inner = q.counted 0 in let none = closed_at-none (first_bytes b (drop q.count is)) in
-        let same : suc q.count ≡ suc (closed_at 1 (first_bytes b is)) = omega arith in
-        same ∙ sym (ap (λ t. cond t (suc (closed_at 1 (first_bytes b is))) 1) (opens (byte_at b i) (form-after b 0 i ∙ e 0)));
-  }
+  bracketed i is (Ok (x, rest)) f e q =
+      let inner = q.counted 0 in
+      let none = closed_at-none (first_bytes b (drop q.count is)) in
+      let same : suc q.count ≡ suc (closed_at 1 (first_bytes b is)) = omega arith in
+      let all : suc q.count ≡ span b (i ∷ is) =
+      same ∙ sym (ap (λ t. cond t (suc (closed_at 1 (first_bytes b is))) 1) (opens (byte_at b i) (form-after b 0 i ∙ e 0))) in
+      let last = q.closed refl in
+      let next : suc (q.count - 1) ≡ span b (i ∷ is) - 1 = omega (arith, all, last.0) in
+      record {
+        passed = enclosed i is rest e q;
+        whole = all;
+        ended = λ o. ap (λ n. is_closing (byte_at b (get_or (i ∷ is) n 0))) (sym next) ∙ last.1;
+      }
 
   module _ (missing : Error) where
     module _ (value : Reads Document) (skips : (is : List ℕ) → Skips suc is (value (tokens_along b is))) where

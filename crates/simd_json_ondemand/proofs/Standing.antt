@@ -4,7 +4,6 @@ use Rattle.std.proofs.Common.{nat_le, nat_eq, inl, inr, [], ◌∷◌, arith}
 use Rattle.std.specs.Prelude.{Option, Some, None, Result, Ok, Err, IfOk, IfSome, nat_lt, codes, option_map, option_and_then}
 use Rattle.std.specs.Prelude.{is_some, IsUtf8, ◌≤◌}
 use Rattle.std.specs.List.{starts_with}
-use Rattle.std.specs.Char.{is_ascii_digit}
 use Rattle.std.proofs.lemmas.Bool.{cases_Bool, cond_both, cond-true, and_parts, eqb-true, false≢true}
 use Rattle.simd_json_parts.specs.AtomAt.{atom_at, atom_or}
 use Rattle.simd_json_parts.specs.Bytes.{byte_at, is_terminator}
@@ -28,15 +27,12 @@ use Rattle.simd_json_scalars.specs.NumeralRead.{IsIntegerLiteral}
 use Rattle.simd_json_parts.proofs.Patterns.Sets.{Matches-matches}
 use Rattle.std.proofs.lemmas.List.{get_or-drop, length-drop}
 use Rattle.std.proofs.Common.{take-append-drop}
-use Rattle.simd_json_ondemand.specs.Standing.{scalar_of, kind_of, opens_array, opens_object}
+use Rattle.simd_json_ondemand.specs.Standing.{scalar_of, kind_of, opens_array, opens_object, begins_number}
 
 module _ (b : List ℕ) (i : ℕ) where
   -- these letters stand at the index, and a terminator after them
   abbrev pub spells : List ℕ → Bool
   spells letters = starts_with nat_eq (drop i b) letters && is_terminator (byte_at b (i + length letters))
-
-  abbrev pub begins_number : ℕ → Bool
-  begins_number c = (c == 45) || is_ascii_digit c
 
   -- what holds of each form holds of the one that stands there
   pub by_form : (P : Form → Type 0) → (byte_at b i ≡ 91 → P begin_array) → P end_array → (byte_at b i ≡ 123 → P begin_object)
@@ -206,11 +202,11 @@ module _ (b : List ℕ) (i : ℕ) where
   no-string none = none-standing as_str _ (by_standing b i (λ d. as_str d ≡ None) (λ e _. other-byte b i 34 refl none e) (λ _. refl)
       (λ _. refl) (λ _. refl) (λ _ _ _. refl) (λ _ _. refl))
 
-  pub no-integer : begins_number b i (byte_at b i) ≡ false → option_and_then as_integer (scalar_of (form_at b i)) ≡ None
+  pub no-integer : begins_number (byte_at b i) ≡ false → option_and_then as_integer (scalar_of (form_at b i)) ≡ None
   no-integer none = none-standing as_integer _ (by_standing b i (λ d. as_integer d ≡ None) (λ _ _. refl) (λ _. refl) (λ _. refl)
       (λ _. refl) (λ e _ _. absurd (false≢true (sym none ∙ e))) (λ _ _. refl))
 
-  pub no-decimal : begins_number b i (byte_at b i) ≡ false → option_and_then as_decimal (scalar_of (form_at b i)) ≡ None
+  pub no-decimal : begins_number (byte_at b i) ≡ false → option_and_then as_decimal (scalar_of (form_at b i)) ≡ None
   no-decimal none = none-standing as_decimal _ (by_standing b i (λ d. as_decimal d ≡ None) (λ _ _. refl) (λ _. refl) (λ _. refl)
       (λ _. refl) (λ _ _ _. refl) (λ e _. absurd (false≢true (sym none ∙ e))))
 

@@ -21,7 +21,7 @@ all_some = map (λ d. Some d)
 module _ (b : List ℕ) where
   -- ---- the bound on the turns is never met
 
-  span-some : (i : ℕ) (is : List ℕ) → 0 < span b (i ∷ is)
+  pub span-some : (i : ℕ) (is : List ℕ) → 0 < span b (i ∷ is)
   span-some i is = cond_both (is_opening (byte_at b i)) (suc (closed_at 1 (first_bytes b is))) 1 (λ n. 0 < n) (λ _. omega arith)
       (λ _. omega arith)
 

@@ -1,5 +1,5 @@
 -- What contracts see of a document and of a value.
-use Rattle.std.specs.Prelude.{◌≡◌, ◌<◌, ℕ, List, drop, slice_index, slice_range, Option, option_map, option_and_then}
+use Rattle.std.specs.Prelude.{◌≡◌, ◌<◌, ℕ, List, drop, slice_index, slice_range, Option, None, option_map, option_and_then, if◌then◌else◌}
 use Rattle.simd_json_parts.specs.Accessors.{Accessor, as_t}
 use Rattle.simd_json_parts.specs.Bytes.{backslash, byte_at}
 use Rattle.simd_json_parts.specs.Document as parts
@@ -7,7 +7,7 @@ use Rattle.simd_json_parts.specs.StringAt.{closing_quote}
 use Rattle.simd_json_parts.specs.Tokens.{Form, form_at}
 use Rattle.simd_json_parts.specs.declared.node.ValueType.{ValueType}
 use Rattle.simd_json_ondemand.specs.Viewed.{read_along}
-use Rattle.simd_json_ondemand.specs.Standing.{scalar_of, kind_of, literal_end}
+use Rattle.simd_json_ondemand.specs.Standing.{scalar_of, kind_of, literal_end, begins_number}
 use Rattle.simd_json_ondemand.specs.declared.value.Document.{Document}
 use Rattle.simd_json_ondemand.specs.declared.value.Value.{Value}
 
@@ -45,6 +45,10 @@ as_standing t v = option_and_then (as_t t) (standing v)
 -- its bytes as they are written, a string's with its quotes
 abbrev pub literal : Value → Option (List ℕ)
 literal v = let b = text v.document in option_map (slice_range b (index_of v)) (literal_end b (index_of v) (form v))
+
+-- the literal of the number there, if one is: it begins with `-` or a digit
+abbrev pub number : Value → Option (List ℕ)
+number v = if begins_number (byte_at (text v.document) (index_of v)) then literal v else None
 
 -- the kind of the value that begins there, by its token
 abbrev pub kind : Value → Option ValueType

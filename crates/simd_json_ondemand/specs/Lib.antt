@@ -6,11 +6,13 @@ pub mod Docs
 pub mod Numerals
 -- Where values end by brackets, what is left of arrays and objects, and where a cursor goes.
 pub mod Closing
+pub mod Written
 pub mod Remaining
 pub mod Tails
 pub mod Iterated
 pub mod MemberTails
 pub mod IteratedMembers
+pub mod Within
 -- Look-up by key.
 pub mod Keys
 pub mod Wanted

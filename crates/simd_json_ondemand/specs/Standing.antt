@@ -1,6 +1,8 @@
 -- What is at a structural index, whether or not the bytes are a document: a string or a scalar, whole and with
 -- what must follow it, or the kind of a value by its token.
-use Rattle.std.specs.Prelude.{◌≡◌, ℕ, suc, List, Bool, true, false, Option, Some, None, Ok}
+use Rattle.std.specs.Prelude.{◌≡◌, ℕ, suc, List, Bool, true, false, ◌||◌, ◌==◌, Option, Some, None, Ok}
+use Rattle.std.specs.Char.{is_ascii_digit}
+use Rattle.simd_json_parts.specs.Bytes.{minus_sign}
 use Rattle.simd_json_parts.specs.Document.{Document, integer, string}
 use Rattle.simd_json_parts.specs.Integers.{integer_node}
 use Rattle.simd_json_parts.specs.declared.node.StaticNode.{StaticNode}
@@ -30,6 +32,10 @@ opens_array _ = false
 abbrev pub opens_object : Form → Bool
 opens_object begin_object = true
 opens_object _ = false
+
+-- whether a token with this first byte is a number, or should be one
+abbrev pub begins_number : ℕ → Bool
+begins_number c = (c == minus_sign) || is_ascii_digit c
 
 -- the node of the integer there
 abbrev pub IsInteger : StaticNode → Option Document → Type 0

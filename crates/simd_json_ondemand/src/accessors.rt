@@ -20,8 +20,10 @@ use simd_json_scalars::numberparse::{
 impl<'d> Value<'d> {
     ghost use Rattle.std.specs.Prelude.{◌≡◌, ◌==◌, Some, None, false, IsTrue};
     ghost use Rattle.std.specs.Prelude.{option_and_then, option_map, MatchOption};
+    ghost use Rattle.std.specs.Float.{binary64};
+    ghost use Rattle.fast_float.specs.Parse.{parse_float};
     ghost use Rattle.simd_json_ondemand.specs.Docs.{text, index_of, form, kind};
-    ghost use Rattle.simd_json_ondemand.specs.Docs.{standing, as_standing, literal};
+    ghost use Rattle.simd_json_ondemand.specs.Docs.{standing, as_standing, literal, number};
     ghost use Rattle.simd_json_ondemand.specs.Numerals.{IsNumeral, IsNoNumber, IsLiteralLen};
     ghost use Rattle.simd_json_ondemand.specs.Standing.{IsInteger};
     ghost use Rattle.simd_json_parts.specs.Accessors as accessors;
@@ -228,9 +230,34 @@ impl<'d> Value<'d> {
         }
     }
 
-    /// Returns the bytes of a string, with its quotes, or of a number, `true`, `false` or `null`,
-    /// as they are written, or `None`. That the escapes of a string are right is not tested.
-    pub fn raw(self) -> Option<&'d [u8]>
+    /// Returns the `f64` nearest to the number, an integer or one with a fraction or an exponent, or
+    /// `None` if the value is no number. Of two that are equally near it is the one with the even
+    /// significand.
+    ///
+    /// A number beyond the range of `f64` gives an infinity of its sign, as `1e400` does, and one
+    /// that is too near zero gives a zero of its sign.
+    #[inline(always)]
+    pub fn as_f64(self) -> Option<f64>
+        ensures { result ≡ option_and_then (parse_float binary64) (number self.entry) }
+    {
+        fast_float::parse(self.number()?).ok()
+    }
+
+    // The literal of the number here, if one begins here.
+    #[inline(always)]
+    fn number(self) -> Option<&'d [u8]>
+        ensures { option_map (λ bytes. bytes.now) result ≡ number self.entry }
+    {
+        if begins_number(self.first()) {
+            self.literal()
+        } else {
+            None
+        }
+    }
+
+    // The bytes of the string or the scalar here, if one is.
+    #[inline(always)]
+    pub(crate) fn literal(self) -> Option<&'d [u8]>
         ensures { option_map (λ bytes. bytes.now) result ≡ literal self.entry }
     {
         match self.literal_len() {
@@ -323,9 +350,13 @@ fn numeral(bytes: &[u8]) -> Numeral
 }
 
 // The length of the number at the front, if one is there.
+#[inline(always)]
 fn number_len(bytes: &[u8]) -> Option<usize>
     ensures { (b : List ℕ) (i : ℕ) → drop i b ≡ bytes.now → IsNumberLen b i result }
 {
+    if let Some(Numeral::Decimal(len)) = parse_short(bytes) {
+        return Some(len);
+    }
     match parse_number(bytes) {
         Number::Integer(_, len) => Some(len),
         Number::Decimal(len) => Some(len),

@@ -1,6 +1,7 @@
 //! An array of a document: a cursor over its values.
 ghost use Rattle.std.specs.Prelude.{◌<◌, length};
 
+use crate::end::End;
 use crate::skip::skip;
 use crate::value::{Document, Value};
 use std::iter::FusedIterator;
@@ -30,8 +31,9 @@ pub struct Array<'d> {
 
 impl<'d> Document<'d> {
     ghost use Rattle.std.specs.Prelude.{◌≡◌, ◌<◌, ◌≤◌, [], ◌∷◌, length, drop, slice_index};
-    ghost use Rattle.std.specs.Prelude.{MatchOption};
+    ghost use Rattle.std.specs.Prelude.{MatchOption, IfSome};
     ghost use Rattle.simd_json_ondemand.specs.Docs.{places, text};
+    ghost use Rattle.simd_json_ondemand.specs.Within.{StaysInArray};
     ghost use Rattle.simd_json_parts.specs.Bytes.{byte_at};
     ghost use Rattle.simd_json_ondemand.specs.Tails.{tails_at};
     ghost use Rattle.simd_json_ondemand.specs.declared.array.Position.TheVariants.{First, AtValue};
@@ -51,10 +53,11 @@ impl<'d> Document<'d> {
     #[inline(always)]
     fn first_value(self, at: usize) -> Option<usize>
         requires { at < length (places self) }
-        ensures { MatchOption result (tails_at self.entry at First ≡ [])
+        ensures found { MatchOption result (tails_at self.entry at First ≡ [])
             (λ next. (next < length (places self.entry))
             × (tails_at self.entry at First
             ≡ drop next (places self.entry) ∷ tails_at self.entry next AtValue)) }
+        ensures inside { IfSome result (StaysInArray self.entry at First) }
     {
         if self.byte(at) == b']' {
             return None;
@@ -66,10 +69,11 @@ impl<'d> Document<'d> {
     #[inline(always)]
     fn value_behind(self, after: usize) -> Option<usize>
         requires { after ≤ length (places self) }
-        ensures { MatchOption result (tails_at self.entry after AfterValue ≡ [])
+        ensures found { MatchOption result (tails_at self.entry after AfterValue ≡ [])
             (λ next. (next < length (places self.entry))
             × (tails_at self.entry after AfterValue
             ≡ drop next (places self.entry) ∷ tails_at self.entry next AtValue)) }
+        ensures inside { IfSome result (StaysInArray self.entry after AfterValue) }
     {
         if self.indexes.len() - after < 2 || self.byte(after) != b',' {
             return None;
@@ -82,10 +86,11 @@ impl<'d> Document<'d> {
     #[tactic(auto, using(crate::proofs::Scans::within))]
     fn next_value(self, at: usize, position: Position) -> Option<usize>
         requires { at < length (places self) }
-        ensures { MatchOption result (tails_at self.entry at position ≡ [])
+        ensures found { MatchOption result (tails_at self.entry at position ≡ [])
             (λ next. (next < length (places self.entry))
             × (tails_at self.entry at position
             ≡ drop next (places self.entry) ∷ tails_at self.entry next AtValue)) }
+        ensures inside { IfSome result (StaysInArray self.entry at position) }
     {
         match position {
             Position::First => self.first_value(at),
@@ -98,16 +103,25 @@ impl<'d> Document<'d> {
 impl<'d> Iterator for Array<'d> {
     type Item = Value<'d>;
 
-    ghost use Rattle.std.specs.Iterator.{YieldsFirstBy, item_count};
+    ghost use Rattle.std.specs.Prelude.{◌≡◌, ⊤, Some, IfSome};
+    ghost use Rattle.std.specs.Iterator.{YieldsFirstBy, item_count, MakesProgress};
     ghost use Rattle.simd_json_ondemand.specs.Docs.{doc};
     ghost use Rattle.simd_json_ondemand.specs.Iterated.{elements_left};
+    ghost use Rattle.simd_json_ondemand.specs.Within.{IsInArray, after, after_last};
+    ghost use Rattle.simd_json_ondemand.specs.declared.value.Value.{Value};
 
     ghost next_gives = { YieldsFirstBy doc elements_left };
 
     ghost remaining = { item_count elements_left };
 
     #[inline(always)]
-    fn next(&mut self) -> Option<Value<'d>> {
+    fn next(&mut self) -> Option<Value<'d>>
+        ensures steps { YieldsFirstBy doc elements_left self.old result self.new }
+        ensures goes { MakesProgress (λ _. ⊤) (item_count elements_left) self.old result self.new }
+        ensures last { IfSome result (λ value.
+            after_last self.new.document self.new.at self.new.position ≡ Some (after value)) }
+        ensures inside { (v : Value) → IsInArray v self.old → IsInArray v self.new }
+    {
         let document = self.document;
         let at = document.next_value(self.at, self.position)?;
         *self = Array {
@@ -121,6 +135,41 @@ impl<'d> Iterator for Array<'d> {
 
 impl<'d> FusedIterator for Array<'d> {}
 
+impl<'d> Array<'d> {
+    ghost use Rattle.std.specs.Prelude.{◌≡◌, Some};
+    ghost use Rattle.simd_json_ondemand.specs.Iterated.{elements_left};
+    ghost use Rattle.simd_json_ondemand.specs.Within.{IsInArray, after_at, after_last};
+    ghost use Rattle.simd_json_ondemand.specs.declared.value.Value.{Value};
+
+    /// Returns where the array ends. Only what is left of it is read.
+    #[inline(always)]
+    pub fn end(self) -> End
+        ensures { result.after ≡ after_at self.entry.document self.entry.at self.entry.position }
+    {
+        self.document.end(self.at, self.position)
+    }
+
+    /// Goes on at the end of the value that was returned last, as [`Object::pass`] does.
+    ///
+    /// [`Object::pass`]: crate::Object::pass
+    #[inline(always)]
+    pub fn pass(&mut self, end: End)
+        ensures left { after_last self.old.document self.old.at self.old.position ≡ Some end.after
+            → elements_left self.new ≡ elements_left self.old }
+        ensures inside { after_last self.old.document self.old.at self.old.position
+            ≡ Some end.after → (v : Value) → IsInArray v self.old → IsInArray v self.new }
+    {
+        let document = self.document;
+        if self.at < end.after && end.after < document.indexes.len() {
+            *self = Array {
+                document,
+                at: end.after,
+                position: Position::AfterValue,
+            };
+        }
+    }
+}
+
 impl<'d> Value<'d> {
     ghost use Rattle.std.specs.Prelude.{◌≡◌, true, Some, IfSome, option_map};
     ghost use Rattle.simd_json_ondemand.specs.Docs.{doc, form};
@@ -128,12 +177,15 @@ impl<'d> Value<'d> {
     ghost use Rattle.simd_json_ondemand.specs.Standing.{opens_array};
     ghost use Rattle.simd_json_parts.specs.Document as parts;
     ghost use Rattle.simd_json_parts.specs.Views.{as_array, get_idx};
+    ghost use Rattle.simd_json_ondemand.specs.Within.{IsInArray};
 
     /// Returns the values of the array, or `None` if the value is no array.
     #[inline(always)]
     pub fn as_array(self) -> Option<Array<'d>>
         ensures document { (d : parts.Document) → doc self.entry ≡ Some d
             → option_map elements_left result ≡ option_map all_some (as_array d) }
+        ensures inside { (d : parts.Document) → doc self.entry ≡ Some d
+            → IfSome result (IsInArray self.entry) }
         ensures any { IfSome result (λ array. opens_array (form self.entry) ≡ true) }
     {
         let document = self.document;

@@ -2,6 +2,7 @@
 ghost use Rattle.std.specs.Prelude.{◌<◌, length};
 
 use crate::array::Position;
+use crate::end::End;
 use crate::key::Wanted;
 use crate::skip::skip;
 use crate::value::{Document, Value};
@@ -21,8 +22,11 @@ pub struct Object<'d> {
 }
 
 impl<'d> Document<'d> {
-    ghost use Rattle.std.specs.Prelude.{◌≡◌, ◌<◌, ◌≤◌, ◌-◌, [], ◌∷◌, length, drop, MatchOption};
-    ghost use Rattle.simd_json_ondemand.specs.Docs.{places};
+    ghost use Rattle.std.specs.Prelude.{◌≡◌, ◌<◌, ◌≤◌, ◌+◌, ◌-◌, [], ◌∷◌, length, drop, MatchOption};
+    ghost use Rattle.std.specs.Prelude.{slice_index, IfSome};
+    ghost use Rattle.simd_json_parts.specs.Bytes.{byte_at, quote};
+    ghost use Rattle.simd_json_ondemand.specs.Docs.{places, text};
+    ghost use Rattle.simd_json_ondemand.specs.Within.{StaysInObject};
     ghost use Rattle.simd_json_ondemand.specs.MemberTails.{member_tails_at};
     ghost use Rattle.simd_json_ondemand.specs.declared.array.Position.TheVariants.{First, AtValue};
     ghost use Rattle.simd_json_ondemand.specs.declared.array.Position.TheVariants.{AfterValue};
@@ -31,10 +35,12 @@ impl<'d> Document<'d> {
     #[inline(always)]
     fn member(self, at: usize) -> Option<usize>
         requires { at ≤ length (places self) }
-        ensures { MatchOption result (member_tails_at self.entry at First ≡ [])
+        ensures found { MatchOption result (member_tails_at self.entry at First ≡ [])
             (λ value. (2 ≤ value) × (value < length (places self.entry))
             × (member_tails_at self.entry at First
             ≡ drop (value - 2) (places self.entry) ∷ member_tails_at self.entry value AtValue)) }
+        ensures key { IfSome result (λ value. (value ≡ at + 2)
+            × (byte_at (text self.entry) (slice_index (places self.entry) at) ≡ quote)) }
     {
         if self.indexes.len() - at < 3 || self.byte(at) != b'"' {
             return None;
@@ -46,10 +52,11 @@ impl<'d> Document<'d> {
     #[inline(always)]
     fn member_behind(self, after: usize) -> Option<usize>
         requires { after ≤ length (places self) }
-        ensures { MatchOption result (member_tails_at self.entry after AfterValue ≡ [])
+        ensures found { MatchOption result (member_tails_at self.entry after AfterValue ≡ [])
             (λ value. (2 ≤ value) × (value < length (places self.entry))
             × (member_tails_at self.entry after AfterValue
             ≡ drop (value - 2) (places self.entry) ∷ member_tails_at self.entry value AtValue)) }
+        ensures inside { IfSome result (StaysInObject self.entry after AfterValue) }
     {
         if after == self.indexes.len() || self.byte(after) != b',' {
             return None;
@@ -62,10 +69,11 @@ impl<'d> Document<'d> {
     #[tactic(auto, using(crate::proofs::Scans::within))]
     fn next_member(self, at: usize, position: Position) -> Option<usize>
         requires { at < length (places self) }
-        ensures { MatchOption result (member_tails_at self.entry at position ≡ [])
+        ensures found { MatchOption result (member_tails_at self.entry at position ≡ [])
             (λ value. (2 ≤ value) × (value < length (places self.entry))
             × (member_tails_at self.entry at position
             ≡ drop (value - 2) (places self.entry) ∷ member_tails_at self.entry value AtValue)) }
+        ensures inside { IfSome result (StaysInObject self.entry at position) }
     {
         match position {
             Position::First => self.member(at),
@@ -78,15 +86,24 @@ impl<'d> Document<'d> {
 impl<'d> Iterator for Object<'d> {
     type Item = (Value<'d>, Value<'d>);
 
-    ghost use Rattle.std.specs.Iterator.{YieldsFirstBy, item_count};
+    ghost use Rattle.std.specs.Prelude.{◌≡◌, ⊤, Some, IfSome};
+    ghost use Rattle.std.specs.Iterator.{YieldsFirstBy, item_count, MakesProgress};
     ghost use Rattle.simd_json_ondemand.specs.IteratedMembers.{members_left, pair_doc};
+    ghost use Rattle.simd_json_ondemand.specs.Within.{IsInObject, after, after_last};
+    ghost use Rattle.simd_json_ondemand.specs.declared.value.Value.{Value};
 
     ghost next_gives = { YieldsFirstBy pair_doc members_left };
 
     ghost remaining = { item_count members_left };
 
     #[inline(always)]
-    fn next(&mut self) -> Option<(Value<'d>, Value<'d>)> {
+    fn next(&mut self) -> Option<(Value<'d>, Value<'d>)>
+        ensures steps { YieldsFirstBy pair_doc members_left self.old result self.new }
+        ensures goes { MakesProgress (λ _. ⊤) (item_count members_left) self.old result self.new }
+        ensures last { IfSome result (λ pair.
+            after_last self.new.document self.new.at self.new.position ≡ Some (after pair.1)) }
+        ensures inside { (v : Value) → IsInObject v self.old → IsInObject v self.new }
+    {
         let document = self.document;
         let at = document.next_member(self.at, self.position)?;
         *self = Object {
@@ -107,9 +124,11 @@ impl<'d> Iterator for Object<'d> {
 impl<'d> FusedIterator for Object<'d> {}
 
 impl<'d> Object<'d> {
-    ghost use Rattle.std.specs.Prelude.{◌≡◌, [], ◌∷◌, Some, MatchOption};
+    ghost use Rattle.std.specs.Prelude.{◌≡◌, [], ◌∷◌, Some, MatchOption, IfSome};
     ghost use Rattle.simd_json_ondemand.specs.Docs.{doc};
     ghost use Rattle.simd_json_ondemand.specs.IteratedMembers.{members_left};
+    ghost use Rattle.simd_json_ondemand.specs.Within.{IsInObject, after, after_at, after_last};
+    ghost use Rattle.simd_json_ondemand.specs.declared.value.Value.{Value};
     ghost use Rattle.simd_json_ondemand.specs.Keys.{from_key};
     ghost use Rattle.simd_json_parts.specs.Document.{string};
 
@@ -120,10 +139,13 @@ impl<'d> Object<'d> {
     /// escape is equal to none.
     #[inline(always)]
     pub fn find(&mut self, key: &str) -> Option<Value<'d>>
-        ensures { MatchOption result
+        ensures found { MatchOption result
             ((from_key key.now (members_left self.old) ≡ []) × (self.new ≡ self.old))
             (λ value. from_key key.now (members_left self.old)
             ≡ (Some (string key.now), doc value) ∷ members_left self.new) }
+        ensures last { IfSome result (λ value.
+            after_last self.new.document self.new.at self.new.position ≡ Some (after value)) }
+        ensures inside { (v : Value) → IsInObject v self.old → IsInObject v self.new }
     {
         let wanted = Wanted::new(key);
         let mut left = *self;
@@ -135,6 +157,50 @@ impl<'d> Object<'d> {
         }
         None
     }
+
+    /// Returns where the object ends. Only what is left of it is read.
+    #[inline(always)]
+    pub fn end(self) -> End
+        ensures { result.after ≡ after_at self.entry.document self.entry.at self.entry.position }
+    {
+        self.document.end(self.at, self.position)
+    }
+
+    /// Goes on at the end of the value that was returned last, so that it is not skipped from its
+    /// beginning: a cursor that has read some of it tells where it ends. The members that are left
+    /// stay the same.
+    ///
+    /// The end must be that of the value that was returned last. With another, members may be
+    /// passed over, or those of another object follow.
+    ///
+    /// ```
+    /// use simd_json_ondemand::Value;
+    ///
+    /// // Two fields of a message, with the name of its author between them.
+    /// fn fields<'d>(message: Value<'d>) -> Option<(&'d str, Option<u64>)> {
+    ///     let mut fields = message.as_object()?;
+    ///     let mut author = fields.find("author")?.as_object()?;
+    ///     let name = author.find("name")?.as_str()?;
+    ///     fields.pass(author.end());
+    ///     Some((name, fields.find("likes")?.as_u64()))
+    /// }
+    /// ```
+    #[inline(always)]
+    pub fn pass(&mut self, end: End)
+        ensures left { after_last self.old.document self.old.at self.old.position ≡ Some end.after
+            → members_left self.new ≡ members_left self.old }
+        ensures inside { after_last self.old.document self.old.at self.old.position
+            ≡ Some end.after → (v : Value) → IsInObject v self.old → IsInObject v self.new }
+    {
+        let document = self.document;
+        if self.at < end.after && end.after < document.indexes.len() {
+            *self = Object {
+                document,
+                at: end.after,
+                position: Position::AfterValue,
+            };
+        }
+    }
 }
 
 impl<'d> Value<'d> {
@@ -145,12 +211,15 @@ impl<'d> Value<'d> {
     ghost use Rattle.simd_json_parts.specs.Document as parts;
     ghost use Rattle.simd_json_parts.specs.Views.{as_object, as_str, get};
     ghost use Rattle.simd_json_ondemand.specs.Keys.{is_key};
+    ghost use Rattle.simd_json_ondemand.specs.Within.{IsInObject};
 
     /// Returns the members of the object, or `None` if the value is no object.
     #[inline(always)]
     pub fn as_object(self) -> Option<Object<'d>>
         ensures document { (d : parts.Document) → doc self.entry ≡ Some d
             → option_map members_left result ≡ option_map all_members (as_object d) }
+        ensures inside { (d : parts.Document) → doc self.entry ≡ Some d
+            → IfSome result (IsInObject self.entry) }
         ensures any { IfSome result (λ object. opens_object (form self.entry) ≡ true) }
     {
         let document = self.document;

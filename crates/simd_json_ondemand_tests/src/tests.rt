@@ -24,10 +24,12 @@ macro_rules! assert_that {
 mod arrays;
 mod check;
 mod examples;
+mod floats;
 mod keys;
 mod memory;
 mod objects;
 mod other;
+mod pass;
 mod tape;
 
 // Why a test goes on: the allocations that are not to fail.

@@ -23,8 +23,9 @@ module _ (b : List ℕ) where
   pub enough : (n : ℕ) (ts : List Token) → length ts ≤ n → Keeps (value_from b (fault_at b Syntax 0) n ts) (value_at_first b ts)
   enough n ts l = value_from-keeps b (fault_at b Syntax 0) (fault_at b Syntax 0) n (length ts) ts (inr (omega arith))
 
+  pub spans : (is : List ℕ) (d : Document) (rest : List Token) → value_at_first b (tokens_along b is) ≡ Ok (d, rest) → Spanned b is rest
+  spans is d rest e = subst (Spans b is) e (value_from-spans b (fault_at b Syntax 0) (length (tokens_along b is)) is)
+
   pub left : (is : List ℕ) (d : Document) (rest : List Token) → value_at_first b (tokens_along b is) ≡ Ok (d, rest)
       → rest ≡ tokens_along b (drop (span b is) is)
-  left is d rest e =
-      let s : Spanned b is rest = subst (Spans b is) e (value_from-spans b (fault_at b Syntax 0) (length (tokens_along b is)) is) in
-      s.passed.along ∙ ap (λ n. tokens_along b (drop n is)) s.whole
+  left is d rest e = let s = spans is d rest e in s.passed.along ∙ ap (λ n. tokens_along b (drop n is)) s.whole

@@ -56,6 +56,7 @@ fn literals_are_whole(rt: HostRuntime) {
         assert_same!(&rt; value.as_i128(), None, input);
         assert_same!(&rt; value.as_u128(), None, input);
         assert_same!(&rt; value.as_decimal(), None, input);
+        assert_same!(&rt; value.as_f64(), None, input);
         assert_same!(&rt; value.as_str(), None, input);
     }
 }
@@ -94,8 +95,12 @@ fn literals_are_raw(rt: HostRuntime) {
         (b" \"\" ", Some(b"\"\"")),
         (b"\"a\\n\\\"\" ", Some(b"\"a\\n\\\"\"")),
         (b"\"\\q\"", Some(b"\"\\q\"")),
-        (b"[1]", None),
-        (b"{}", None),
+        (b" [ 1 , [2]] ", Some(b"[ 1 , [2]]")),
+        (b"{\"a]\": []}", Some(b"{\"a]\": []}")),
+        (b"[1,2}", Some(b"[1,2}")),
+        (b"[[1]", Some(b"[[1]")),
+        (b"[[1],", None),
+        (b"{", None),
         (b"tru", None),
         (b"-", None),
         (b",", None),

@@ -10,7 +10,7 @@ returns-clause-steps c =
     let b = d.input.now in
     let is = d.indexes.now in
     let at = c.in_ok-at.at in
-    let e = c.in_ok-at.ensures in
+    let e = c.in_ok-at.ensures.found in
     let there : at - 2 + 2 ≡ at = (let two = e.0 in omega arith) in
     ap (map (pair_along b)) e.2
     ∙ ap (λ js. (read_along b (drop (at - 2) is), read_along b js) ∷ map (pair_along b) (member_tails_past b (drop at is)))

@@ -6,8 +6,8 @@ use Rattle.simd_json_ondemand.proofs.value.Document.member.Goals.{then-self-at-l
 use Rattle.simd_json_ondemand.proofs.value.Document.member.Goals.{then-self-at-lt3-via-else-self-at-lt3+then-byte-ne34}
 use Rattle.simd_json_ondemand.proofs.value.Document.member.Goals as goal
 
-pub returns-then-self-at-lt3 : goal.returns-then-self-at-lt3
-returns-then-self-at-lt3 c =
+pub returns-then-self-at-lt3-clause-found : goal.returns-then-self-at-lt3-clause-found
+returns-then-self-at-lt3-clause-found c =
     let b = c.args.self.input.now in
     let is = c.args.self.indexes.now in
     elim c.then-self-at-lt3.branch [
@@ -16,8 +16,8 @@ returns-then-self-at-lt3 c =
           members-other b is c.args.at (λ e. w.if-byte-ne34.true (w.byte.ensures ∙ e)) (let h = w.if-self-at-lt3.false in omega arith)
     ]
 
-pub returns : goal.returns
-returns c =
+pub returns-clause-found : goal.returns-clause-found
+returns-clause-found c =
     let b = c.args.self.input.now in
     let is = c.args.self.indexes.now in
     let l : c.args.at + 2 < length is = omega arith in

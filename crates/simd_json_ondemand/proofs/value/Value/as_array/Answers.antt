@@ -1,7 +1,9 @@
-use Rattle.std.proofs.Common.{◌∙◌, sym, ap, eqb, arith}
+use Rattle.std.proofs.Common.{refl, ◌∙◌, sym, ap, eqb, arith}
 use Rattle.std.specs.Prelude.{option_map}
+use Rattle.simd_json_parts.specs.Document.{elements}
 use Rattle.simd_json_ondemand.specs.Iterated.{all_some}
-use Rattle.simd_json_ondemand.proofs.ArrayViews.{no-array, no-end, found-elements}
+use Rattle.simd_json_ondemand.proofs.Inside.{open-ends}
+use Rattle.simd_json_ondemand.proofs.ArrayViews.{no-array, no-end, found-elements, within}
 use Rattle.simd_json_ondemand.proofs.Standing.{opens_array_byte}
 use Rattle.simd_json_ondemand.proofs.value.Value.as_array.Goals.{then-first-ne91-via-then-first-ne91}
 use Rattle.simd_json_ondemand.proofs.value.Value.as_array.Goals.{then-first-ne91-via-else-first-ne91+then-at-document}
@@ -29,3 +31,12 @@ pub returns-clause-any : goal.returns-clause-any
 returns-clause-any c =
     let v = c.args.self in
     sym (opens_array_byte v.document.input.now _) ∙ ap (λ x. eqb x 91) (sym c.first.ensures ∙ c.if-first-ne91.false)
+
+pub returns-clause-inside : goal.returns-clause-inside
+returns-clause-inside c = λ d h.
+    let v = c.args.self in
+    let b = v.document.input.now in
+    let is = v.document.indexes.now in
+    let e = sym c.first.ensures ∙ c.if-first-ne91.false in
+    let array = within b is v.at v.inside d h e in
+    record { left = elements array.held; here = array.inside; ends = open-ends b is v.at 91 v.inside e refl }

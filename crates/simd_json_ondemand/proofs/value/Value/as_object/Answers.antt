@@ -1,7 +1,9 @@
-use Rattle.std.proofs.Common.{◌∙◌, sym, ap, eqb, arith}
+use Rattle.std.proofs.Common.{refl, ◌∙◌, sym, ap, eqb, arith}
 use Rattle.std.specs.Prelude.{option_map}
+use Rattle.simd_json_parts.specs.Document.{members}
 use Rattle.simd_json_ondemand.specs.IteratedMembers.{all_members}
-use Rattle.simd_json_ondemand.proofs.ObjectViews.{no-object, no-end, found-members}
+use Rattle.simd_json_ondemand.proofs.Inside.{open-ends}
+use Rattle.simd_json_ondemand.proofs.ObjectViews.{no-object, no-end, found-members, within}
 use Rattle.simd_json_ondemand.proofs.Standing.{opens_object_byte}
 use Rattle.simd_json_ondemand.proofs.value.Value.as_object.Goals.{then-first-ne123-via-then-first-ne123}
 use Rattle.simd_json_ondemand.proofs.value.Value.as_object.Goals.{then-first-ne123-via-else-first-ne123+then-at-document}
@@ -29,3 +31,12 @@ pub returns-clause-any : goal.returns-clause-any
 returns-clause-any c =
     let v = c.args.self in
     sym (opens_object_byte v.document.input.now _) ∙ ap (λ x. eqb x 123) (sym c.first.ensures ∙ c.if-first-ne123.false)
+
+pub returns-clause-inside : goal.returns-clause-inside
+returns-clause-inside c = λ d h.
+    let v = c.args.self in
+    let b = v.document.input.now in
+    let is = v.document.indexes.now in
+    let e = sym c.first.ensures ∙ c.if-first-ne123.false in
+    let object = within b is v.at v.inside d h e in
+    record { left = members object.held; here = object.inside; ends = open-ends b is v.at 123 v.inside e refl }

@@ -10,4 +10,4 @@ returns-in_err-members-clause-document c = λ d h.
 
 pub returns-clause-document : goal.returns-clause-document
 returns-clause-document c = λ d h.
-    found _ _ c.args.key.now d _ c.find.result (c.in_ok-members.ensures.document d h) c.find.ensures
+    found _ _ c.args.key.now d _ c.find.result (c.in_ok-members.ensures.document d h) c.find.ensures.found

@@ -5,7 +5,8 @@ use Rattle.simd_json_parts.specs.Bytes.{byte_at, quote}
 use Rattle.simd_json_ondemand.specs.Docs.{text, index_of}
 use Rattle.simd_json_ondemand.specs.declared.value.Value.{Value}
 use Rattle.simd_json_ondemand.proofs.Scans.{within}
-use Rattle.simd_json_ondemand.proofs.Standing.{begins_number, spelt-here}
+use Rattle.simd_json_ondemand.specs.Standing.{begins_number}
+use Rattle.simd_json_ondemand.proofs.Standing.{spelt-here}
 use Rattle.simd_json_ondemand.proofs.Quoted.{IsQuoted, quoted-value}
 use Rattle.simd_json_ondemand.proofs.Literals.{string-ends, number-ends, null-ends, true-ends, false-ends, none-ends}
 use Rattle.simd_json_ondemand.proofs.value.Value.literal_len.Goals as goal
@@ -38,8 +39,8 @@ returns-then-begins_number c =
     let v = c.args.self in
     let b : List ℕ = text v.document in
     let i : ℕ = index_of v in
-    let begins : begins_number b i (byte_at b i) ≡ true =
-    ap (begins_number b i) (sym c.first-first.ensures) ∙ sym c.begins_number.ensures ∙ c.if-begins_number.true in
+    let begins : begins_number (byte_at b i) ≡ true =
+    ap (begins_number) (sym c.first-first.ensures) ∙ sym c.begins_number.ensures ∙ c.if-begins_number.true in
     number-ends b i c.number_len.result (inside v) begins (c.number_len.ensures b i (sym c.bytes-bytes.ensures.bytes))
 
 pub returns-then-spells : goal.returns-then-spells
@@ -68,8 +69,8 @@ returns c =
     let v = c.args.self in
     let b : List ℕ = text v.document in
     let i : ℕ = index_of v in
-    let none : begins_number b i (byte_at b i) ≡ false =
-    ap (begins_number b i) (sym c.first-first.ensures) ∙ sym c.begins_number.ensures ∙ c.if-begins_number.false in
+    let none : begins_number (byte_at b i) ≡ false =
+    ap (begins_number) (sym c.first-first.ensures) ∙ sym c.begins_number.ensures ∙ c.if-begins_number.false in
     none-ends b i (ne_eqb (byte_at b i) 34 (λ e. c.if-first-eq34.false (c.first-first.ensures ∙ e))) none
     (spelt-here b _ (codes "null") i _ c.bytes-bytes.ensures.bytes c.spells.ensures ∙ c.if-spells.false)
     (spelt-here b _ (codes "true") i _ c.bytes-bytes.ensures.bytes c.spells-2.ensures ∙ c.if-spells-2.false)

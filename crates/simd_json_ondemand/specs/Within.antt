@@ -1,0 +1,69 @@
+-- Where containers end among the structural indexes, by counting brackets, and a cursor inside a container.
+use Rattle.std.specs.Prelude.{◌≡◌, ℕ, ◌+◌, List, drop, Option, Some, None}
+use Rattle.simd_json_parts.specs.Document as parts
+use Rattle.simd_json_ondemand.specs.Closing.{closed_at, first_bytes, span}
+use Rattle.simd_json_ondemand.specs.Docs.{text, places}
+use Rattle.simd_json_ondemand.specs.Remaining.{elements_inside, elements_past, elements_behind}
+use Rattle.simd_json_ondemand.specs.Remaining.{members_inside, members_past, members_behind}
+use Rattle.simd_json_ondemand.specs.declared.array.Array.{Array}
+use Rattle.simd_json_ondemand.specs.declared.array.Position.{Position}
+use Rattle.simd_json_ondemand.specs.declared.array.Position.TheVariants.{First, AtValue, AfterValue}
+use Rattle.simd_json_ondemand.specs.declared.object.Object.{Object}
+use Rattle.simd_json_ondemand.specs.declared.value.Document.{Document}
+use Rattle.simd_json_ondemand.specs.declared.value.Value.{Value}
+
+-- the number of the structural index after the value that begins at this one
+abbrev pub after_value : Document → ℕ → ℕ
+after_value d at = at + span (text d) (drop at (places d))
+
+abbrev pub after : Value → ℕ
+after v = after_value v.document v.at
+
+-- the same of the container that is open here
+abbrev pub after_open : Document → ℕ → ℕ
+after_open d at = at + closed_at 1 (first_bytes (text d) (drop at (places d)))
+
+-- of the container that a cursor is in
+abbrev pub after_at : Document → ℕ → Position → ℕ
+after_at d at AtValue = after_open d (after_value d at)
+after_at d at _ = after_open d at
+
+-- of the value that a cursor returned last
+abbrev pub after_last : Document → ℕ → Position → Option ℕ
+after_last d at First = None
+after_last d at AtValue = Some (after_value d at)
+after_last d at AfterValue = Some at
+
+-- what is left, if an array or an object goes on here and ends
+abbrev pub elements_at : Document → ℕ → Position → Option (List parts.Document)
+elements_at d at First = elements_inside (text d) (drop at (places d))
+elements_at d at AtValue = elements_past (text d) (drop at (places d))
+elements_at d at AfterValue = elements_behind (text d) (drop at (places d))
+
+abbrev pub members_at : Document → ℕ → Position → Option (List (List ℕ × parts.Document))
+members_at d at First = members_inside (text d) (drop at (places d))
+members_at d at AtValue = members_past (text d) (drop at (places d))
+members_at d at AfterValue = members_behind (text d) (drop at (places d))
+
+-- the cursor is inside the array that begins at the value
+pub record IsInArray (v : Value) (a : Array) : Type 0 where
+  pub left : List parts.Document
+  pub here : elements_at a.document a.at a.position ≡ Some left
+  pub ends : after_at a.document a.at a.position ≡ after v
+
+-- inside the object
+pub record IsInObject (v : Value) (o : Object) : Type 0 where
+  pub left : List (List ℕ × parts.Document)
+  pub here : members_at o.document o.at o.position ≡ Some left
+  pub ends : after_at o.document o.at o.position ≡ after v
+
+-- A cursor that comes to a value at `next` is in the same container as before. They serve proofs: only the crate's private clauses
+-- cite them.
+abbrev pub StaysInArray : Document → ℕ → Position → ℕ → Type 0
+StaysInArray d at position next = (ds : List parts.Document) → elements_at d at position ≡ Some ds
+    → ((left : List parts.Document) × (elements_at d next AtValue ≡ Some left)) × (after_at d next AtValue ≡ after_at d at position)
+
+abbrev pub StaysInObject : Document → ℕ → Position → ℕ → Type 0
+StaysInObject d at position next = (ms : List (List ℕ × parts.Document)) → members_at d at position ≡ Some ms
+    → ((left : List (List ℕ × parts.Document)) × (members_at d next AtValue ≡ Some left))
+    × (after_at d next AtValue ≡ after_at d at position)
