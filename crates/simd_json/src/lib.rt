@@ -31,6 +31,7 @@
 //! | keep the tape too | [`fill_tape`] |
 //! | read each input into the same memory | [`refill_tape`] |
 //! | read an input that [`INPUT_PADDING`] bytes follow | [`fill_tape_padded`] |
+//! | learn whether an input is a document, without a tape | [`check`] |
 //! | exclude `OutOfMemory` for inputs up to a size | [`reserve`], before the parses |
 //! | make nodes of your own, without a tape | [`fill_sink`] with a [`NodeSink`] |
 //! | look at values | [`Value`](tape::Value), [`Array`](tape::Array), [`Object`](tape::Object) |
@@ -82,7 +83,8 @@ pub use buffers::Buffers;
 pub use deserializer::Deserializer;
 pub use location::{Location, Reason, locate};
 pub use parse::{
-    fill_sink, fill_tape, fill_tape_padded, refill_tape, reserve, to_tape, to_tape_with_buffers,
+    check, fill_sink, fill_tape, fill_tape_padded, refill_tape, reserve, to_tape,
+    to_tape_with_buffers,
 };
 pub use simd_json_parts::error::{Error, ErrorType, Result};
 pub use simd_json_parts::node::{Node, StaticNode, TryTypeError, ValueType};

@@ -9,8 +9,7 @@ mod place;
 mod reason;
 mod scan;
 
-use crate::buffers::Buffers;
-use crate::parse::to_tape_with_buffers;
+use crate::parse::check;
 use context::reason_for;
 use place::{byte_of, column, line};
 pub use reason::Reason;
@@ -105,11 +104,11 @@ impl Location {
 
 /// Checks whether the bytes are one document, with at most `max_depth` containers open at a time,
 /// and finds the place of the error if not. Returns `None` if they are, otherwise the location of
-/// the error that [`to_tape_with_buffers`](crate::to_tape_with_buffers) returns if memory suffices.
+/// the error that [`check`] returns if memory suffices.
 ///
-/// `input` holds the bytes as they were before a parse. They are copied and the copy is parsed, in
-/// the time and the memory that these take; an input that is too large is not copied. A caller who
-/// has parsed the bytes already has the error, and needs only [`Location::new`].
+/// `input` holds the bytes as they were before a parse. They are checked in the time and the memory
+/// that [`check`] takes. A caller who has parsed the bytes already has the error, and needs only
+/// [`Location::new`].
 ///
 /// Returns `AllocError` if an allocation fails. So `OutOfMemory` is never the error of a location.
 ///
@@ -122,7 +121,6 @@ impl Location {
 ///     Ok(location.map(|location| location.line()))
 /// }
 /// ```
-#[tactic(auto, using(crate::proofs::Parses::ParseLaws::large_answered))]
 pub fn locate<A: Allocator + Copy>(
     alloc: A,
     input: &[u8],
@@ -131,13 +129,7 @@ pub fn locate<A: Allocator + Copy>(
     ensures found { IfOk result (λ found. found ≡ found_in input.now max_depth) }
     ensures size { OnErr result (length input.now ≤ max_length) }
 {
-    if input.len() > u32::MAX as usize {
-        let error = Error::generic(ErrorType::InputTooLarge);
-        return Ok(Some(Location::new(input, error)));
-    }
-    let mut copy = Vec::from_slice(alloc, input)?;
-    let mut buffers = Buffers::empty(alloc, max_depth);
-    match to_tape_with_buffers(copy.as_mut_slice(), &mut buffers).err() {
+    match check(alloc, input, max_depth).err() {
         None => Ok(None),
         Some(e) if *e.error() == ErrorType::OutOfMemory => Err(AllocError),
         Some(e) => Ok(Some(Location::new(input, e))),

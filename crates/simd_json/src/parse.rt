@@ -1,18 +1,19 @@
 //! The entry points. Each finds the structural indexes of its input into the buffers
 //! (`find_positions`), and then builds nodes from them, into a tape (`build`) or a sink
-//! (`build_tape` of the buffers).
+//! (`build_tape` of the buffers). `check` keeps no node, and works on a copy.
 ghost use Rattle.std.specs.Prelude.{◌≡◌, ◌≢◌, ◌≤◌, ◌<◌, [], ℕ, List};
 ghost use Rattle.std.specs.Prelude.{length, map, vec_capacity};
-ghost use Rattle.std.specs.Prelude.{IfErr, IfOk, OnOk, OnErr, None, Err};
+ghost use Rattle.std.specs.Prelude.{IfErr, IfOk, OnOk, OnErr, None, Err, ◌⊎◌};
 ghost use Rattle.std.specs.Result.{result_err};
-ghost use Rattle.simd_json.specs.Parsed.{IsPaddedParse, IsParse, nodes_of, written};
+ghost use Rattle.simd_json.specs.Parsed.{IsPaddedParse, IsParse, IsParsed, IsRefused};
+ghost use Rattle.simd_json.specs.Parsed.{nodes_of, written};
 ghost use Rattle.simd_json.specs.Capacities.{HoldsScan, KeepsCapacities, ListsSame, capacity};
 ghost use Rattle.simd_json.specs.Capacities.{capped};
-ghost use Rattle.simd_json.specs.Memory.{HasMemory, IsOutOfMemory};
+ghost use Rattle.simd_json.specs.Memory.{HasMemory, IsOutOfMemory, LacksMemory};
 ghost use Rattle.simd_json.specs.Reserved.{IsReserved, parse_capacity};
 ghost use Rattle.simd_json_parts.specs.Descent.{descent};
 ghost use Rattle.simd_json_parts.specs.Limits.{max_length};
-ghost use Rattle.simd_json_parts.specs.Nodes.{item_of};
+ghost use Rattle.simd_json_parts.specs.Nodes.{Item, item_of};
 ghost use Rattle.simd_json.specs.Capacities.{default_max_depth};
 ghost use Rattle.simd_json_parts.specs.Positions.{positions};
 ghost use Rattle.simd_json_stages.specs.Building.{IsWritten};
@@ -22,6 +23,7 @@ ghost use Rattle.simd_json_stages.specs.Refusals.{IsTokenFault};
 use crate::buffers::Buffers;
 use crate::tape::Tape;
 use crate::{DEFAULT_MAX_DEPTH, INPUT_PADDING};
+use simd_json_ondemand::Index;
 use simd_json_parts::error::{Error, ErrorType, Result};
 use simd_json_parts::node::Node;
 use simd_json_stages::stage2::{ListSink, NodeSink, Original, nodes_enough};
@@ -263,6 +265,37 @@ pub fn refill_tape<'de, A: Allocator, B: Allocator>(
     let mut tape = tape.reset();
     let answer = fill_tape(s, buffers, &mut tape);
     (answer, tape)
+}
+
+/// Checks that the bytes are one document (RFC 8259), with at most `max_depth` containers open at a
+/// time; 0 allows scalars only. The input is shared and stays unchanged, and there is no tape.
+///
+/// The errors are those of [`to_tape`], the first that a parse within the same depth limit returns.
+/// If an allocation fails, `OutOfMemory` is returned, and only if size and encoding are right.
+///
+/// It takes four bytes for each structural index and one for each byte of the input, which are freed
+/// before it returns. For many inputs keep a [`simd_json_ondemand::Index`] and call its `check`,
+/// which returns the same and keeps that memory of the structural indexes.
+///
+/// ```
+/// use simd_json::{DEFAULT_MAX_DEPTH, check};
+///
+/// // Where the bytes are no JSON text, if they are not.
+/// fn first_error(rt: &impl AllocGlobal, input: &[u8]) -> Option<usize> {
+///     match check(rt.alloc(), input, DEFAULT_MAX_DEPTH) {
+///         Ok(()) => None,
+///         Err(e) => Some(e.index()),
+///     }
+/// }
+/// ```
+pub fn check<A: Allocator + Copy>(a: A, input: &[u8], max_depth: usize) -> Result<()>
+    ensures parsed { OnOk result ((nodes : List Item) × IsParsed input.now max_depth nodes) }
+    ensures refused { IfErr result (λ e. IsRefused input.now max_depth e
+        ⊎ LacksMemory input.now e) }
+{
+    let mut index = Index::new(a, 0)?;
+    index.check(input, max_depth)?;
+    Ok(())
 }
 
 /// Reserves capacity in buffers and tape for inputs of up to `input_len` bytes (more than

@@ -1,11 +1,10 @@
 -- From what the steps of a parse find to what the definitions answer.
-use Rattle.std.proofs.Common.{◌≡◌, ◌∙◌, ap, sym, ◌<◌, ◌≤◌, ℕ, List, length, true, Some, None, Ok, Err, arith, map, inl, inr}
-use Rattle.std.proofs.Common.{false, refl, is_some}
+use Rattle.std.proofs.Common.{◌≡◌, ◌∙◌, ap, sym, ◌≤◌, ℕ, List, length, true, Some, None, Ok, Err, arith, map, inl, inr}
+use Rattle.std.proofs.Common.{false, refl, is_some, Option, Result, subst, ◌⊎◌}
 use Rattle.std.specs.Result.{is_err}
 use Rattle.std.proofs.lemmas.Bool.{false≢true}
 use Rattle.std.proofs.lemmas.List.Sums.{length-filter, count_by-le-length}
 use Rattle.std.proofs.lemmas.List.FromFn.{length-range_with_len}
-use Rattle.simd_json_parts.proofs.Positions.ScannedInputs.{too_large}
 use Rattle.simd_json_theorems.proofs.Complete.Answer.{answer-Denotes}
 use Rattle.simd_json_theorems.proofs.Faults.Kinds.{input-fault, token-fault}
 use Rattle.simd_json_theorems.proofs.Faults.Root.{fault-reported}
@@ -18,8 +17,8 @@ use Rattle.simd_json_parts.specs.Document.{Document}
 use Rattle.simd_json_parts.specs.ErrorKinds.{is_unexpected_token}
 use Rattle.simd_json_parts.specs.FaultKinds.{is_input_kind}
 use Rattle.simd_json_parts.specs.Grammar.{Denotes}
-use Rattle.simd_json_parts.specs.Faults.{whole_fault}
-use Rattle.simd_json_parts.specs.Limits.{WithinLimits, max_length}
+use Rattle.simd_json_parts.specs.Limits.{WithinLimits}
+use Rattle.simd_json_parts.specs.Listing.{listing}
 use Rattle.simd_json_parts.specs.Nodes.{Item, item_of}
 use Rattle.simd_json_parts.specs.declared.node.Node.{Node}
 use Rattle.simd_json_stages.specs.Building.{IsListed, IsWritten}
@@ -36,9 +35,6 @@ use Rattle.simd_json_parts.specs.declared.error.ErrorType.TheVariants as errors
 pub fault-answered : (b : List ℕ) (limit : ℕ) (e : Error) → input_fault b ≡ Some e → answer b limit ≡ Err e
 unfolding answer
 fault-answered b limit e is = ap (λ o. fault_or o (descent b limit)) is
-
-pub large_answered : (b : List ℕ) (limit : ℕ) → max_length < length b → answer b limit ≡ Err (whole_fault errors.InputTooLarge)
-large_answered b limit large = fault-answered b limit (whole_fault errors.InputTooLarge) (too_large b large)
 
 pub none-answered : (b : List ℕ) (limit : ℕ) → input_fault b ≡ None → answer b limit ≡ descent b limit
 unfolding answer
@@ -60,6 +56,12 @@ few-positions b = omega (
 
 not-both : (d : Document) (e : Error) → Ok d ≡ Err e → ⊥
 not-both d e is = false≢true (ap is_err is)
+
+one-error : {A : Type 0} (r : Result A Error) (f e : Error) → r ≡ Err f → r ≡ Err e → f ≡ e
+one-error {A} r f e first is = ap error_in (sym first ∙ is) where
+  error_in : Result A Error → Error
+  error_in (Ok x) = f
+  error_in (Err x) = x
 
 not-answered : (b : List ℕ) (limit : ℕ) (e : Error) → answer b limit ≡ Err e → (d : Document) → Denotes b d → WithinLimits b d limit → ⊥
 not-answered b limit e is d denoted within = not-both d e (sym (answer-Denotes b d limit denoted within) ∙ is)
@@ -96,7 +98,26 @@ refused-whole b limit e is =
       not_early = λ unexpected. absurd (false≢true (sym (input-expected e.error of_input.0) ∙ unexpected));
     }
 
--- ---- what the second stage lists
+-- what the definitions reject
+pub refused : (b : List ℕ) (limit : ℕ) (e : Error) → answer b limit ≡ Err e → IsRefused b limit e
+refused b limit e is = by_whole (input_fault b) refl where
+  by_whole : (o : Option Error) → input_fault b ≡ o → IsRefused b limit e
+  by_whole None none = refused-token b limit e none (sym (none-answered b limit none) ∙ is)
+  by_whole (Some f) some =
+      subst (IsRefused b limit) (one-error (answer b limit) f e (fault-answered b limit f some) is) (refused-whole b limit f some)
+
+pub refused-or : {A : Type 0} (b : List ℕ) (limit : ℕ) (e : Error) → (answer b limit ≡ Err e) ⊎ A → IsRefused b limit e ⊎ A
+refused-or b limit e (inl is) = inl (refused b limit e is)
+refused-or b limit e (inr other) = inr other
+
+-- ---- what is listed
+
+pub answered-parsed : (b : List ℕ) (limit : ℕ) (d : Document) → answer b limit ≡ Ok d → IsParsed b limit (listing d)
+answered-parsed b limit d answered =
+    let right = answer-sound b limit d answered in
+    record { document = d; denoted = right.0; within = right.1; answered = answered; listed = refl }
+
+-- what the second stage lists
 
 pub written-parsed : (b : List ℕ) (limit : ℕ) (nodes : List Item) → input_fault b ≡ None → IsWritten b limit nodes
     → IsParsed b limit nodes
