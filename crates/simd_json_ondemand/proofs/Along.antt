@@ -1,5 +1,6 @@
 -- What is read along structural indexes, step by step: a string or a scalar, a container, an element, a member.
-use Rattle.std.proofs.Common.{◌≡◌, ◌≢◌, refl, sym, ◌∙◌, ap, ℕ, zero, suc, ◌+◌, ◌<◌, List, [], ◌∷◌, drop, length, get_or, true, false, ◌≤◌, inl, arith}
+use Rattle.std.proofs.Common.{◌≡◌, ◌≢◌, refl, sym, ◌∙◌, ap, ℕ, zero, suc, ◌+◌, ◌<◌, List, [], ◌∷◌, drop, length, get_or, true, false}
+use Rattle.std.proofs.Common.{◌≤◌, inl, arith}
 use Rattle.std.specs.Prelude.{Some, None, Ok, Err}
 use Rattle.std.proofs.lemmas.List.{drop_all}
 use Rattle.simd_json_parts.specs.Answer.{answer}
@@ -83,7 +84,8 @@ module _ (b is : List ℕ) where
 
     -- ---- an array
 
-    pub array-read : (k end : ℕ) → k < length is → byte_at b (index k) ≡ 91 → IsElements b is levels (k + 1) end → IsValue b is (suc levels) k end
+    pub array-read : (k end : ℕ) → k < length is → byte_at b (index k) ≡ 91 → IsElements b is levels (k + 1) end
+        → IsValue b is (suc levels) k end
     unfolding value_from
     array-read k end l e (es, h) = (
       array es,

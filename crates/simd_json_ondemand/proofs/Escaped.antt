@@ -1,5 +1,6 @@
 -- Where an input is pieces from its first byte on, each string in it is read.
-use Rattle.std.proofs.Common.{◌≡◌, refl, sym, ◌∙◌, ap, subst, ℕ, zero, suc, ◌+◌, ◌-◌, ◌<◌, ◌≤◌, inl, inr, List, [], ◌∷◌, length, drop, get_or}
+use Rattle.std.proofs.Common.{◌≡◌, refl, sym, ◌∙◌, ap, subst, ℕ, zero, suc, ◌+◌, ◌-◌, ◌<◌, ◌≤◌, inl, inr, List, [], ◌∷◌, length}
+use Rattle.std.proofs.Common.{drop, get_or}
 use Rattle.std.proofs.Common.{true, false, not, cond, min, nat_eq, ◌&&◌, ◌||◌, ◌==◌, arith}
 use Rattle.std.specs.Prelude.{Option, Some, None, Ok}
 use Rattle.std.proofs.lemmas.Bool.{cases_lt, cases_eq, eqb-true, ne_eqb, false≢true, and_parts, or_cases}
@@ -38,7 +39,8 @@ pub byte-left : (x : ℕ) (xs : List ℕ) → nat_eq x 92 ≡ false → (read_pi
 byte-left x xs e = ap (λ r. r.1) (read_byte x xs e)
 
 -- an escape
-pub escape-left : (xs : List ℕ) (p : List ℕ × ℕ) → escape_at (92 ∷ xs) ≡ Some p → (read_pieces 0 (92 ∷ xs)).1 ≡ (read_pieces 0 (drop p.1 xs)).1
+pub escape-left : (xs : List ℕ) (p : List ℕ × ℕ) → escape_at (92 ∷ xs) ≡ Some p
+    → (read_pieces 0 (92 ∷ xs)).1 ≡ (read_pieces 0 (drop p.1 xs)).1
 unfolding read_pieces piece_at
 escape-left xs p e = ap (λ o. (with_piece o (92 ∷ xs) (λ n. read_pieces n xs)).1) e ∙ ap (λ r. r.1) (skipped p.1 xs)
 
@@ -240,7 +242,8 @@ escape-passed b [] at more s is e l f h = absurd (omega arith)
 escape-passed b (x ∷ xs) at more s is e l f h =
     let slash : x ∷ xs ≡ 92 ∷ xs = ap (λ y. y ∷ xs) e in
     let rest : drop more xs ≡ drop (at + (1 + more)) b =
-    (let sum : 1 + more ≡ suc more = omega arith in ap (λ k. drop k (x ∷ xs)) (sym sum) ∙ ap (drop (1 + more)) is ∙ drop-drop (1 + more) at b) in
+    (let sum : 1 + more ≡ suc more = omega arith in
+    ap (λ k. drop k (x ∷ xs)) (sym sum) ∙ ap (drop (1 + more)) is ∙ drop-drop (1 + more) at b) in
     ap (λ us. (read_pieces 0 us).1) (sym is ∙ slash) ∙ escape-left xs (s, more) (ap escape_at (sym slash) ∙ f)
     ∙ ap (λ us. (read_pieces 0 us).1) rest ∙ h
 

@@ -83,7 +83,8 @@ impl<'d> Value<'d> {
             Some(Numeral::Decimal(_)) => true,
             Some(Numeral::Long(len)) => parse_long(self.bytes(), len).is_ok(),
             Some(Numeral::Invalid(_)) => false,
-            None => self.as_null().is_some() || self.as_bool().is_some(),
+            None if self.first() == b'n' => self.as_null().is_some(),
+            None => self.as_bool().is_some(),
         }
     }
 

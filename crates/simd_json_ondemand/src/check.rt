@@ -44,12 +44,12 @@ impl<A: Allocator + Copy> Index<A> {
     ///
     /// Returns `OutOfMemory` if an allocation fails, and only if size and encoding are right.
     ///
-    /// The input stays unchanged. A document with at most 64 containers open at a time is checked in
-    /// place, and takes no memory but the index's. For any other input the second stage of a parse
-    /// runs, without keeping a node. A parse decodes strings in place, so it works on a copy of the
-    /// input, of as many bytes, which is taken from the allocator of the index. So are 24 bytes for
-    /// each container that may be open (`max_depth`, or one for each structural index, whichever is
-    /// less) if these are more than 64. Both are freed before it returns.
+    /// The input stays unchanged. A document with at most 64 containers open at a time is checked
+    /// in place, without memory but for the index. For any other input the second stage of a parse
+    /// runs, and keeps no node. A parse decodes strings in place, so it works on a copy of the
+    /// input, which is taken from the allocator of the index. So are 24 bytes for each container
+    /// that may be open (`max_depth`, or one for each structural index, whichever is less) if these
+    /// are more than 64. Both are freed before it returns.
     ///
     /// ```
     /// use simd_json_ondemand::{ErrorType, Index, Result};

@@ -1,14 +1,16 @@
 //! Whether each backslash of an input begins an escape (RFC 8259, section 7). Only the blocks that
 //! hold one are read.
-ghost use Rattle.std.specs.Prelude.{◌≡◌, ◌≤◌, ◌<◌, length, IsTrue, IfSome};
-ghost use Rattle.simd_json_ondemand.specs.Whole.{AreAllPieces, PassesFrom};
-ghost use Rattle.simd_json_parts.specs.Bytes.{byte_at, backslash};
+ghost use Rattle.std.specs.Prelude.{◌≡◌, ◌≤◌, length, map, IsTrue, IfSome};
+ghost use Rattle.std.specs.Simd.Lanes.{mask_l};
+ghost use Rattle.simd_json_ondemand.specs.Whole.{AreAllPieces, IsBackslashOrEnd, PassesFrom};
+ghost use Rattle.simd_json_ondemand.specs.Whole.{is_backslash};
 ghost use Rattle.simd_json_stages.specs.EscapeBlocks.{backslash_blocks};
 ghost use Rattle.simd_json_stages.specs.EscapesAhead.{PlainFrom};
 
 use memchr::memchr;
 use simd_json_scalars::stringparse::escape;
 use simd_json_stages::stage1::BLOCK_LEN;
+use std::simd::prelude::*;
 
 // Whether each escape is valid: a backslash in a string begins one, and one outside strings is no
 // token. `blocks` are the blocks that hold a backslash.
@@ -49,13 +51,42 @@ fn escapes_end(input: &[u8], from: usize, to: usize) -> Option<usize>
     Some(at)
 }
 
-// The index of the next backslash, or the end.
+// The index of the next backslash, or the end: 32 bytes at a time.
 #[inline(always)]
 fn backslash_or_end(input: &[u8], from: usize, end: usize) -> usize
     requires { (from ≤ end) × (end ≤ length input.now) }
-    ensures bounds { (from ≤ result) × (result ≤ end) }
-    ensures plain { PlainFrom input.now from result }
-    ensures found { result < end → byte_at input.now result ≡ backslash }
+    ensures { IsBackslashOrEnd input.now from end result }
+{
+    let mut at = from;
+    while input.len() - at >= LANES {
+        let found = backslashes(u8x32::from_slice(&input[at..]));
+        if found != 0 {
+            return end.min(at + found.trailing_zeros() as usize);
+        }
+        at += LANES;
+        if at >= end {
+            return end;
+        }
+    }
+    backslash_or_end_slowly(input, at, end)
+}
+
+// How many bytes are compared at a time.
+const LANES: usize = 32;
+
+// A bit for each byte, set if it is a backslash.
+#[inline(always)]
+fn backslashes(bytes: u8x32) -> u64
+    ensures { result ≡ mask_l (map is_backslash bytes) }
+{
+    bytes.simd_eq(u8x32::splat(b'\\')).to_bitmask()
+}
+
+// The same where fewer bytes are left.
+#[cold]
+fn backslash_or_end_slowly(input: &[u8], from: usize, end: usize) -> usize
+    requires { (from ≤ end) × (end ≤ length input.now) }
+    ensures { IsBackslashOrEnd input.now from end result }
 {
     match memchr(b'\\', &input[from..end]) {
         Some(run) => from + run,

@@ -1,8 +1,7 @@
-use Rattle.std.proofs.Common.{◌≡◌, sym, ◌∙◌, ap, ℕ, suc, ◌+◌, ◌*◌, ◌-◌, ◌<◌, ◌≤◌, List, length, get_or, ◌⊎◌, inl, inr, arith}
-use Rattle.std.proofs.Common.{nat_cmp, cond}
-use Rattle.std.specs.Cmp.{nat_cmp_is}
-use Rattle.std.specs.Ordering.{ord_max, is_lt}
-use Rattle.std.specs.declared.cmp.Ordering.TheVariants.{Less, Equal, Greater}
+use Rattle.std.proofs.Common.{◌≡◌, ◌∙◌, ap, ℕ, suc, ◌+◌, ◌*◌, ◌-◌, ◌<◌, ◌≤◌, List, length, get_or, ◌⊎◌, inl, inr, arith}
+use Rattle.std.proofs.Common.{refl, nat_cmp, cond, Ordering, Less, Equal, Greater}
+use Rattle.std.specs.Ordering.{MatchOrdering, ord_max, is_lt}
+use Rattle.std.proofs.lemmas.Cmp.{ranked}
 use Rattle.std.proofs.lemmas.Bool.{cases_lt}
 use Rattle.std.proofs.lemmas.List.{get_or_past}
 use Rattle.simd_json_stages.specs.EscapeBlocks.{blocks_in, backslash_blocks, listed_start}
@@ -43,14 +42,12 @@ next-block b blocks k at from end p l passes up near forward more plain =
 
 -- the later of two indexes
 later : (x y z : ℕ) → z ≡ ord_max nat_cmp x y → (x ≤ z) × ((z ≤ x) ⊎ (z ≤ y))
-later x y z is = elim (cases_lt x y) [
-  | inl l ↦ let here : z ≡ y = is ∙ ap (λ o. cond (is_lt o) x y) (sym (nat_cmp_is y x Greater l)) in (omega (arith, here, l), inr (omega (arith, here)))
-  | inr g ↦ elim (cases_lt y x) [
-    | inl l ↦ let here : z ≡ x = is ∙ ap (λ o. cond (is_lt o) x y) (sym (nat_cmp_is y x Less l)) in (omega (arith, here), inl (omega (arith, here)))
-    | inr h ↦ let same : y ≡ x = omega (arith, g, h) in
-        let here : z ≡ y = is ∙ ap (λ o. cond (is_lt o) x y) (sym (nat_cmp_is y x Equal same)) in (omega (arith, here, same), inr (omega (arith, here)))
-  ]
-]
+later x y z is = go (nat_cmp y x) refl (ranked y x (nat_cmp y x) refl)
+  where
+    go : (o : Ordering) → nat_cmp y x ≡ o → MatchOrdering o (y < x) (y ≡ x) (x < y) → (x ≤ z) × ((z ≤ x) ⊎ (z ≤ y))
+    go Less e h = let here : z ≡ x = is ∙ ap (λ o. cond (is_lt o) x y) e in (omega (arith, here), inl (omega (arith, here)))
+    go Equal e h = let here : z ≡ y = is ∙ ap (λ o. cond (is_lt o) x y) e in (omega (arith, here, h), inr (omega (arith, here)))
+    go Greater e h = let here : z ≡ y = is ∙ ap (λ o. cond (is_lt o) x y) e in (omega (arith, here, h), inr (omega (arith, here)))
 
 pub loop-block-preserved : goal.loop-block-preserved
 loop-block-preserved c =

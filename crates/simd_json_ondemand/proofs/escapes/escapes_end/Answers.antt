@@ -11,11 +11,11 @@ pub returns-then-at-end : goal.returns-then-at-end
 returns-then-at-end c =
     let b = c.args.input.now in
     let at = c.backslash_or_end-at.result in
-    let bounds = c.backslash_or_end-at.ensures.bounds in
+    let found = c.backslash_or_end-at.ensures in
     let same = c.if-at-end.true in (
-      omega (arith, c.loop-at.invariant.0, bounds, same),
-      λ h. c.loop-at.invariant.1 (plain-passes (at - c.loop-at.at) b c.loop-at.at at (omega (arith, bounds)) bounds.0
-          c.backslash_or_end-at.ensures.plain (subst-end b at c.min-end.result same h)),
+      omega (arith, c.loop-at.invariant.0, found.later, same),
+      λ h. c.loop-at.invariant.1 (plain-passes (at - c.loop-at.at) b c.loop-at.at at (omega (arith, found.later)) found.later
+          found.plain (subst-end b at c.min-end.result same h)),
       plain-beyond b c.min-end.result c.args.to (omega (arith, c.min-end.ensures)),
     )
   where
@@ -45,8 +45,9 @@ pub overflow_add-at : goal.overflow_add-at
 overflow_add-at c =
     let b = c.args.input.now in
     let at = c.backslash_or_end-at.result in
-    let found = c.backslash_or_end-at.ensures.found (omega (arith, c.backslash_or_end-at.ensures.bounds, c.if-at-end.false)) in
-    let x = at-escape b (here b at) at c.in_ok-_character.more _ (take_rest b at) (omega (arith, c.if-input-at-lt2.false)) found
+    let found = c.backslash_or_end-at.ensures in
+    let slash = found.there (omega (arith, found.within, c.if-at-end.false)) in
+    let x = at-escape b (here b at) at c.in_ok-_character.more _ (take_rest b at) (omega (arith, c.if-input-at-lt2.false)) slash
     c.in_ok-_character.ensures in
     omega (arith, x.within)
 
@@ -54,8 +55,9 @@ pub overflow_add-at-in-loop-at : goal.overflow_add-at-in-loop-at
 overflow_add-at-in-loop-at c =
     let b = c.args.input.now in
     let at = c.backslash_or_end-at.result in
-    let found = c.backslash_or_end-at.ensures.found (omega (arith, c.backslash_or_end-at.ensures.bounds, c.if-at-end.false)) in
-    let x = at-escape b (here b at) at c.in_ok-_character.more _ (take_rest b at) (omega (arith, c.if-input-at-lt2.false)) found
+    let found = c.backslash_or_end-at.ensures in
+    let slash = found.there (omega (arith, found.within, c.if-at-end.false)) in
+    let x = at-escape b (here b at) at c.in_ok-_character.more _ (take_rest b at) (omega (arith, c.if-input-at-lt2.false)) slash
     c.in_ok-_character.ensures in
     omega (arith, x.within)
 
@@ -63,11 +65,11 @@ pub loop-at-preserved : goal.loop-at-preserved
 loop-at-preserved c =
     let b = c.args.input.now in
     let at = c.backslash_or_end-at.result in
-    let bounds = c.backslash_or_end-at.ensures.bounds in
-    let found = c.backslash_or_end-at.ensures.found (omega (arith, bounds, c.if-at-end.false)) in
-    let x = at-escape b (here b at) at c.in_ok-_character.more _ (take_rest b at) (omega (arith, c.if-input-at-lt2.false)) found
+    let found = c.backslash_or_end-at.ensures in
+    let slash = found.there (omega (arith, found.within, c.if-at-end.false)) in
+    let x = at-escape b (here b at) at c.in_ok-_character.more _ (take_rest b at) (omega (arith, c.if-input-at-lt2.false)) slash
     c.in_ok-_character.ensures in (
-      omega (arith, c.loop-at.invariant.0, bounds),
-      λ h. c.loop-at.invariant.1 (plain-passes (at - c.loop-at.at) b c.loop-at.at at (omega (arith, bounds)) bounds.0
-          c.backslash_or_end-at.ensures.plain (x.passes h)),
+      omega (arith, c.loop-at.invariant.0, found.later),
+      λ h. c.loop-at.invariant.1 (plain-passes (at - c.loop-at.at) b c.loop-at.at at (omega (arith, found.later)) found.later
+          found.plain (x.passes h)),
     )
