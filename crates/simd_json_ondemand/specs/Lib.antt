@@ -16,5 +16,7 @@ pub mod Within
 -- Look-up by key.
 pub mod Keys
 pub mod Wanted
+-- The lines of a stream.
+pub mod Lines
 -- What contracts see of an index: what it lists, and for how many bytes it has capacity.
 pub mod Capacities

@@ -7,3 +7,4 @@ pub mod Patterns
 pub mod Positions
 pub mod Descent
 pub mod Documents
+pub mod Pieces

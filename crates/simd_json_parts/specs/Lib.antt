@@ -34,3 +34,5 @@ pub mod Printed
 -- Where tokens end, and the headers of a listing. They serve proofs, and a law of each.
 pub mod TokensAlong
 pub mod Headers
+-- The lines of a stream, each a document of its own.
+pub mod Pieces
