@@ -1,26 +1,14 @@
--- The pieces of a stream of lines, and what is written of each.
-use Rattle.std.specs.Prelude.{ℕ, List, [], ◌∷◌, ◌++◌, flat_map, codes, Bool, ◌==◌, ◌||◌, is_ok, Result, Ok, Err, if◌then◌else◌}
+-- What is written of each piece of a stream of lines.
+use Rattle.std.specs.Prelude.{ℕ, List, [], ◌∷◌, ◌++◌, flat_map, codes, Bool, ◌||◌, is_ok, Result, Ok, Err, if◌then◌else◌}
 use Rattle.std.specs.List.{list_all}
 use Rattle.simd_json_parts.specs.Answer.{answer}
-use Rattle.simd_json_parts.specs.Bytes.{is_whitespace, line_feed}
+use Rattle.simd_json_parts.specs.Bytes.{line_feed}
 use Rattle.simd_json_parts.specs.Document.{Document}
 use Rattle.simd_json_parts.specs.ErrorKinds.{error_text}
 use Rattle.simd_json_parts.specs.Printed.{compact}
 use Rattle.simd_json_parts.specs.declared.error.Error.{Error}
-
--- with a byte in front of the first piece
-abbrev pub with_first : ℕ → List (List ℕ) → List (List ℕ)
-with_first x [] = (x ∷ []) ∷ []
-with_first x (piece ∷ more) = (x ∷ piece) ∷ more
-
--- what stands between line feeds: one piece more than there are line feeds
-unfoldable pub pieces : List ℕ → List (List ℕ)
-pieces [] = [] ∷ []
-pieces (x ∷ b) = if x == line_feed then [] ∷ pieces b else with_first x (pieces b)
-
--- empty, or whitespace alone
-abbrev pub is_blank : List ℕ → Bool
-is_blank piece = list_all is_whitespace piece
+pub use Rattle.simd_json_parts.specs.Pieces.{is_blank}
+unfoldable pub use Rattle.simd_json_parts.specs.Pieces.{pieces}
 
 -- a document without whitespace; of what is rejected its error, after a mark that begins no document
 abbrev pub answer_text : Result Document Error → List ℕ

@@ -16,6 +16,8 @@ pub mod Within
 -- Look-up by key.
 pub mod Keys
 pub mod Wanted
+-- The lines of a stream.
+pub mod Lines
 -- What contracts see of an index: what it lists, and for how many bytes it has capacity.
 pub mod Capacities
 -- What the test of a whole input finds.

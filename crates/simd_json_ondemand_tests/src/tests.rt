@@ -30,6 +30,7 @@ mod memory;
 mod objects;
 mod other;
 mod pass;
+mod stream;
 mod tape;
 
 // Why a test goes on: the allocations that are not to fail.

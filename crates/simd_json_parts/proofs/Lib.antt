@@ -8,3 +8,4 @@ pub mod Positions
 pub mod Descent
 pub mod Documents
 pub mod Pointers
+pub mod Pieces

@@ -38,3 +38,5 @@ pub mod Followed
 -- Where tokens end, and the headers of a listing. They serve proofs, and a law of each.
 pub mod TokensAlong
 pub mod Headers
+-- The lines of a stream, each a document of its own.
+pub mod Pieces

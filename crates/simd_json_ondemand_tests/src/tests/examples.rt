@@ -1,6 +1,6 @@
 // The examples of the documents.
 use super::MEMORY;
-use simd_json_ondemand::{ErrorType, Index, Result};
+use simd_json_ondemand::{ErrorType, Index, Result, Value, lines};
 
 fn name_len(rt: &impl AllocGlobal, input: &[u8]) -> Result<Option<usize>> {
     let mut index = Index::new(rt.alloc(), input.len())?;
@@ -39,6 +39,25 @@ fn status(rt: &impl AllocGlobal, line: &[u8]) -> Result<Option<u64>> {
     }
 }
 
+fn fields<'d>(message: Value<'d>) -> Option<(&'d str, Option<u64>)> {
+    let mut fields = message.as_object()?;
+    let mut author = fields.find("author")?.as_object()?;
+    let name = author.find("name")?.as_str()?;
+    fields.pass(author.end());
+    Some((name, fields.find("likes")?.as_u64()))
+}
+
+fn sum_of(rt: &impl AllocGlobal, log: &[u8], key: &str) -> Result<u64> {
+    let mut index = Index::new(rt.alloc(), 1024)?;
+    let mut sum = 0u64;
+    for line in lines(log) {
+        if let Some(value) = index.find(line)?.as_value().get(key) {
+            sum = sum.saturating_add(value.as_u64().unwrap_or(0));
+        }
+    }
+    Ok(sum)
+}
+
 #[test]
 fn examples_run(rt: HostRuntime) {
     let line = br#"{"level":"info","status":200}"#;
@@ -49,4 +68,10 @@ fn examples_run(rt: HostRuntime) {
     assert_same!(&rt; sum, 4);
     assert_same!(&rt; is_json(&rt, b"[1,2]").expect(&rt, MEMORY), true);
     assert_same!(&rt; is_json(&rt, b"[1,2").expect(&rt, MEMORY), false);
+    let log = b"{\"bytes\":1}\n \n{\"other\":2}\r\n{\"bytes\":3}";
+    assert_same!(&rt; sum_of(&rt, log, "bytes").expect(&rt, MEMORY), 4);
+    let message = br#"{"author":{"id":1,"name":"a","likes":2},"likes":3}"#;
+    let mut index = Index::new(rt.alloc(), 0).expect(&rt, MEMORY);
+    let root = index.find(message).expect(&rt, MEMORY).as_value();
+    assert_same!(&rt; fields(root), Some(("a", Some(3))));
 }
