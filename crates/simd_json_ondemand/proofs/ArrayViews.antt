@@ -26,7 +26,7 @@ module _ (b is : List ℕ) (k : ℕ) (l : k < length is) (d : Document) (h : rea
       none-array d (sym (array-is b i d (begins-at b is k l d h)) ∙ sym (opens_array_byte b i) ∙ ne_eqb (byte_at b i) 91 ne)
 
   module _ (e : byte_at b (get_or is k 0) ≡ 91) where
-    within : InArray b (drop (k + 1) is) d
+    pub within : InArray b (drop (k + 1) is) d
     within = opened b (get_or is k 0) (drop (k + 1) is) d e (ap (read_along b) (sym (drop_more is k 0 l)) ∙ h)
 
     pub no-end : length is ≤ k + 1 → ⊥

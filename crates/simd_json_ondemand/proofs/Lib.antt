@@ -17,3 +17,6 @@ pub mod MemberTails
 pub mod ObjectViews
 pub mod Keys
 pub mod Lookup
+pub mod Turns
+pub mod Walks
+pub mod WalkViews

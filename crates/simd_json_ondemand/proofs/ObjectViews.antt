@@ -25,7 +25,7 @@ module _ (b is : List ℕ) (k : ℕ) (l : k < length is) (d : Document) (h : rea
       none-object d (sym (object-is b i d (begins-at b is k l d h)) ∙ sym (opens_object_byte b i) ∙ ne_eqb (byte_at b i) 123 ne)
 
   module _ (e : byte_at b (get_or is k 0) ≡ 123) where
-    within : InObject b (drop (k + 1) is) d
+    pub within : InObject b (drop (k + 1) is) d
     within = opened b (get_or is k 0) (drop (k + 1) is) d e (ap (read_along b) (sym (drop_more is k 0 l)) ∙ h)
 
     pub no-end : length is ≤ k + 1 → ⊥

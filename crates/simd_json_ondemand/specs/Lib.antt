@@ -14,5 +14,9 @@ pub mod IteratedMembers
 -- Look-up by key.
 pub mod Keys
 pub mod Wanted
+-- Walks that tell their end from a place where they stop.
+pub mod Unexpected
+pub mod Walks
+pub mod Walked
 -- What contracts see of an index: what it lists, and for how many bytes it has capacity.
 pub mod Capacities

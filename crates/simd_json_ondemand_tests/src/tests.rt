@@ -29,6 +29,7 @@ mod memory;
 mod objects;
 mod other;
 mod tape;
+mod walks;
 
 // Why a test goes on: the allocations that are not to fail.
 const MEMORY: &str = "there is memory";
