@@ -21,3 +21,6 @@ pub mod Lookup
 pub mod Escaped
 pub mod Along
 pub mod Inside
+pub mod Turns
+pub mod Walks
+pub mod WalkViews

@@ -77,7 +77,7 @@ module _ (v : Value) where
 abbrev pub Pairs : Type 0
 Pairs = List (Option Document × Option Document)
 
-key-is : (key : List ℕ) (o : Option Document) → is_key key (option_and_then as_str o) ≡ true → o ≡ Some (string key)
+pub key-is : (key : List ℕ) (o : Option Document) → is_key key (option_and_then as_str o) ≡ true → o ≡ Some (string key)
 key-is key None h = absurd (false≢true h)
 key-is key (Some (string s)) h = ap (λ t. Some (string t)) ((bytes_eq-Decides s key).0 h)
 key-is key (Some _) h = absurd (false≢true h)

@@ -116,7 +116,7 @@ module _ (b : List ℕ) where
   abbrev found : List (List ℕ) → List (Option Document × Option Document)
   found = map (pair_along b)
 
-  key-read : (is : List ℕ) (key : List ℕ) (end : ℕ) → 0 < length is → byte_at b (get_or is 0 0) ≡ 34
+  pub key-read : (is : List ℕ) (key : List ℕ) (end : ℕ) → 0 < length is → byte_at b (get_or is 0 0) ≡ 34
       → string_at b (get_or is 0 0) ≡ Ok (key, end) → read_along b is ≡ Some (string key)
   unfolding value_from
   key-read [] key end l q s = absurd (omega arith)

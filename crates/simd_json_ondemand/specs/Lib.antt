@@ -18,6 +18,10 @@ pub mod Keys
 pub mod Wanted
 -- The lines of a stream.
 pub mod Lines
+-- Walks that tell their end from a place where they stop.
+pub mod Unexpected
+pub mod Walks
+pub mod Walked
 -- What contracts see of an index: what it lists, and for how many bytes it has capacity.
 pub mod Capacities
 -- What the test of a whole input finds.

@@ -20,12 +20,13 @@ pub(crate) enum Position {
 /// The values of an array that are left: an iterator, which can be copied. A value is skipped when
 /// the one after it is asked for, in time linear in the number of its tokens.
 ///
-/// Over bytes that are no document the values end where no comma follows.
+/// Over bytes that are no document the values end where no comma follows. The iterator does not
+/// tell that from the end of the array; [`try_next`](Array::try_next) does.
 #[derive(Clone, Copy, Debug)]
 pub struct Array<'d> {
-    document: Document<'d>,
-    at: usize,
-    position: Position,
+    pub(crate) document: Document<'d>,
+    pub(crate) at: usize,
+    pub(crate) position: Position,
     ghost inside: { at < length document.indexes.now },
 }
 
@@ -201,7 +202,8 @@ impl<'d> Value<'d> {
     }
 
     /// Returns the value at an index of the array, or `None` if the array has no more than `index`
-    /// values or the value is no array. The values before it are skipped.
+    /// values or the value is no array. The values before it are skipped. `None` does not tell a
+    /// missing value from bytes that are no array; [`try_get_idx`](Value::try_get_idx) does.
     pub fn get_idx(self, index: usize) -> Option<Value<'d>>
         ensures document { (d : parts.Document) → doc self.entry ≡ Some d → option_map doc result
             ≡ option_map (λ e. Some e) (get_idx index d) }

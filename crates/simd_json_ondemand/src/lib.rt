@@ -17,8 +17,9 @@
 //!   `simd_json`'s tape returns.
 //! - If it is not, a call may return a value all the same: `1 2` has the root 1. A string or a
 //!   scalar that is returned is always the whole literal at that place, followed by what must
-//!   follow a scalar. `None` does not tell a value of another kind from bytes that are no
-//!   value.
+//!   follow a scalar. `None` does not tell a missing value, or one of another kind, from bytes that
+//!   are none; the `try_` forms do: their error, [`Unexpected`], names the place where the walk
+//!   stopped, and what was expected there.
 //!
 //! Where that matters call [`Index::check`] in place of `find`: it checks the whole input, as a
 //! parse does, and returns the error of the parse. It keeps no node, and copies the input only if
@@ -57,8 +58,11 @@ mod raw;
 mod skip;
 mod stream;
 mod strings;
+mod tries;
+mod unexpected;
 mod value;
 pub mod views;
+mod walk;
 
 pub use array::Array;
 pub use end::End;
@@ -67,4 +71,5 @@ pub use object::Object;
 pub use simd_json_parts::error::{Error, ErrorType, Result};
 pub use simd_json_parts::node::ValueType;
 pub use stream::{InputLines, lines};
+pub use unexpected::{Expected, Found, Unexpected};
 pub use value::{Document, Value};

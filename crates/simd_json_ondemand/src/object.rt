@@ -12,12 +12,13 @@ use std::iter::FusedIterator;
 /// be copied. The key is a string. A value is skipped when the member after it is asked for, in
 /// time linear in the number of its tokens.
 ///
-/// Over bytes that are no document the members end where no comma follows, or no string.
+/// Over bytes that are no document the members end where no comma follows, or no string. The
+/// iterator does not tell that from the end of the object; [`try_next`](Object::try_next) does.
 #[derive(Clone, Copy, Debug)]
 pub struct Object<'d> {
-    document: Document<'d>,
-    at: usize,
-    position: Position,
+    pub(crate) document: Document<'d>,
+    pub(crate) at: usize,
+    pub(crate) position: Position,
     ghost inside: { at < length document.indexes.now },
 }
 
@@ -133,7 +134,8 @@ impl<'d> Object<'d> {
     ghost use Rattle.simd_json_parts.specs.Document.{string};
 
     /// Returns the value of the first of the members left that has this key, and leaves those after
-    /// it; or returns `None`, and leaves them all. The values before it are skipped.
+    /// it; or returns `None`, and leaves them all. The values before it are skipped. `None` does
+    /// not tell a missing key from bytes that are no object; [`try_find`](Object::try_find) does.
     ///
     /// A key in the input may have escapes: `{"\u0061":1}` has the key `a`. One with an invalid
     /// escape is equal to none.
@@ -236,6 +238,8 @@ impl<'d> Value<'d> {
 
     /// Returns the value of the first member of the object with this key, or `None` if the object
     /// has no such member or the value is no object. Members of nested objects are passed over.
+    /// `None` does not tell a missing key from bytes that are no object;
+    /// [`try_get`](Value::try_get) does.
     #[inline(always)]
     pub fn get(self, key: &str) -> Option<Value<'d>>
         ensures document { (d : parts.Document) → doc self.entry ≡ Some d → option_map doc result
@@ -248,7 +252,7 @@ impl<'d> Value<'d> {
 
     // Whether the value is a string, and the key.
     #[inline(always)]
-    fn is_key(self, wanted: Wanted<'_>) -> bool
+    pub(crate) fn is_key(self, wanted: Wanted<'_>) -> bool
         ensures { result ≡ is_key wanted.entry.key.now (option_and_then as_str (doc self.entry)) }
     {
         self.first() == b'"' && wanted.is_at(self.bytes())

@@ -32,6 +32,7 @@ mod other;
 mod pass;
 mod stream;
 mod tape;
+mod walks;
 
 // Why a test goes on: the allocations that are not to fail.
 const MEMORY: &str = "there is memory";

@@ -6,7 +6,7 @@ use simd_json::{Buffers, to_tape_with_buffers};
 use simd_json_ondemand::{Error, ErrorType, Index, Result};
 use std::process::Abort;
 
-const DOCUMENTS: &[&[u8]] = &[
+pub(super) const DOCUMENTS: &[&[u8]] = &[
     b"[1,\"a\\n\",{\"\\u0061\":[true,{}],\"b\":-2.5e3}]",
     b" { \"a\" : null , \"a\" : [ [ ] , \"\\ud83d\\ude00\" ] } ",
     b"\"caf\xc3\xa9 \\\"\\\\\"",

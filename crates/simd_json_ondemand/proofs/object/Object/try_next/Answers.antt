@@ -1,0 +1,36 @@
+use Rattle.std.proofs.Common.{◌≡◌, refl, sym, ◌∙◌, ap, subst, ◌+◌, ◌-◌, ◌<◌, ◌≤◌, length, drop, arith}
+use Rattle.std.specs.Prelude.{Ok, IfSome, option_map}
+use Rattle.std.proofs.lemmas.List.{drop-drop}
+use Rattle.simd_json_ondemand.specs.Viewed.{read_along}
+use Rattle.simd_json_ondemand.specs.Walks.{came, members_walk}
+use Rattle.simd_json_ondemand.specs.declared.array.Position.TheVariants.{AtValue}
+use Rattle.simd_json_ondemand.proofs.Turns.{member-comes, members-end, members-stop}
+use Rattle.simd_json_ondemand.proofs.object.Object.try_next.Goals as goal
+
+pub returns-in-Ok-Some : goal.returns-in-Ok-Some
+returns-in-Ok-Some c =
+    let o = c.args.self.now in
+    let b = o.document.input.now in
+    let is = o.document.indexes.now in
+    let at = c.in-Ok-Some.at in
+    let at-least : (2 ≤ at) × (at < length is) =
+    subst (λ o. IfSome o (λ k. (2 ≤ k) × (k < length is))) c.in-Ok-Some.field-0-is c.in-Ok-Some.ensures.bound in
+    let there : at - 2 + 2 ≡ at = (let two = at-least.0 in omega arith) in
+    member-comes b o.position (drop o.at is) (drop (at - 2) is)
+    (sym c.in-Ok-Some.ensures.member ∙ ap (λ o. Ok (option_map (λ k. drop (k - 2) is) o)) c.in-Ok-Some.field-0-is)
+    ∙ ap (λ js. came (read_along b (drop (at - 2) is), read_along b js) (members_walk b AtValue js))
+    (drop-drop 2 (at - 2) is ∙ ap (λ k. drop k is) there)
+
+pub returns-in-Ok-None : goal.returns-in-Ok-None
+returns-in-Ok-None c =
+    let o = c.args.self.now in
+    let is = o.document.indexes.now in (
+      members-end o.document.input.now o.position (drop o.at is)
+          (sym c.in-Ok-None.ensures.member ∙ ap (λ o. Ok (option_map (λ k. drop (k - 2) is) o)) c.in-Ok-None.field-0-is),
+      refl,
+    )
+
+pub returns-in-Err : goal.returns-in-Err
+returns-in-Err c =
+    let o = c.args.self.now in
+    (members-stop o.document.input.now o.position (drop o.at o.document.indexes.now) c.in-Err.e (sym c.in-Err.ensures.member), refl)

@@ -1,0 +1,54 @@
+use Rattle.std.proofs.Common.{◌∙◌, sym, ap, ◌+◌, ◌≤◌, length, arith}
+use Rattle.std.specs.Prelude.{option_map}
+use Rattle.simd_json_ondemand.specs.Iterated.{all_some}
+use Rattle.simd_json_ondemand.specs.Walks.{whole}
+use Rattle.simd_json_ondemand.proofs.ArrayViews.{no-array, no-end, found-elements}
+use Rattle.simd_json_ondemand.proofs.WalkViews.{array-other, array-inside, array-unended, elements-found}
+use Rattle.simd_json_ondemand.proofs.value.Value.try_as_array.Goals as goal
+
+pub returns-then-first-ne91-clause-walk : goal.returns-then-first-ne91-clause-walk
+returns-then-first-ne91-clause-walk c =
+    array-other c.args.self c.unexpected.result (λ e. c.if-first-ne91.true (c.first.ensures ∙ e)) c.unexpected.ensures
+
+pub returns-then-first-ne91-clause-document : goal.returns-then-first-ne91-clause-document
+returns-then-first-ne91-clause-document c = λ d h.
+    let v = c.args.self in
+    ap (option_map all_some)
+    (sym (no-array v.document.input.now v.document.indexes.now v.at v.inside d h (λ e. c.if-first-ne91.true (c.first.ensures ∙ e))))
+
+pub returns-then-first-ne91-clause-all : goal.returns-then-first-ne91-clause-all
+returns-then-first-ne91-clause-all c = λ d h.
+    let v = c.args.self in
+    ap (option_map (λ ds. whole (all_some ds)))
+    (sym (no-array v.document.input.now v.document.indexes.now v.at v.inside d h (λ e. c.if-first-ne91.true (c.first.ensures ∙ e))))
+
+pub returns-then-at-document-clause-walk : goal.returns-then-at-document-clause-walk
+returns-then-at-document-clause-walk c =
+    let end : length c.args.self.document.indexes.now ≤ c.args.self.at + 1 = (let e = c.if-at-document.true in omega arith) in
+    array-unended c.args.self c.unexpected-then-at-document.result (sym c.first.ensures ∙ c.if-first-ne91.false) end
+    c.unexpected-then-at-document.ensures
+
+pub returns-then-at-document-clause-document : goal.returns-then-at-document-clause-document
+returns-then-at-document-clause-document c = λ d h.
+    let v = c.args.self in
+    absurd (no-end v.document.input.now v.document.indexes.now v.at v.inside d h (sym c.first.ensures ∙ c.if-first-ne91.false)
+    (let e = c.if-at-document.true in omega arith))
+
+pub returns-then-at-document-clause-all : goal.returns-then-at-document-clause-all
+returns-then-at-document-clause-all c = λ d h.
+    let v = c.args.self in
+    absurd (no-end v.document.input.now v.document.indexes.now v.at v.inside d h (sym c.first.ensures ∙ c.if-first-ne91.false)
+    (let e = c.if-at-document.true in omega arith))
+
+pub returns-clause-walk : goal.returns-clause-walk
+returns-clause-walk c = array-inside c.args.self (sym c.first.ensures ∙ c.if-first-ne91.false)
+
+pub returns-clause-document : goal.returns-clause-document
+returns-clause-document c = λ d h.
+    let v = c.args.self in
+    found-elements v.document.input.now v.document.indexes.now v.at v.inside d h (sym c.first.ensures ∙ c.if-first-ne91.false)
+
+pub returns-clause-all : goal.returns-clause-all
+returns-clause-all c = λ d h.
+    let v = c.args.self in
+    elements-found v.document.input.now v.document.indexes.now v.at v.inside d h (sym c.first.ensures ∙ c.if-first-ne91.false)

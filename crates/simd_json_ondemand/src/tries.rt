@@ -1,0 +1,191 @@
+//! Accessors and look-up with errors: each names the place where it stopped, and what it expected.
+use crate::array::{Array, Position};
+use crate::object::Object;
+use crate::unexpected::{Expected, Unexpected};
+use crate::value::Value;
+use simd_json_parts::node::ValueType;
+
+impl<'d> Value<'d> {
+    ghost use Rattle.std.specs.Prelude.{◌≡◌, ◌⊎◌, Some, None, MatchResult, ok_or, option_map};
+    ghost use Rattle.std.specs.Result.{result_ok};
+    ghost use Rattle.simd_json_ondemand.specs.Docs.{doc, form, as_standing, HasEscape};
+    ghost use Rattle.simd_json_ondemand.specs.Iterated.{elements_left, all_some};
+    ghost use Rattle.simd_json_ondemand.specs.IteratedMembers.{members_left, all_members};
+    ghost use Rattle.simd_json_ondemand.specs.Walked.{refused, tried, string_wanted, first_with};
+    ghost use Rattle.simd_json_ondemand.specs.Walked.{array_walk, object_walk};
+    ghost use Rattle.simd_json_ondemand.specs.Walked.{elements_ahead, members_ahead};
+    ghost use Rattle.simd_json_ondemand.specs.Walks.{ok_map, stopped, whole, first, walk_past};
+    ghost use Rattle.simd_json_ondemand.specs.declared.unexpected.Expected.TheVariants.{Kind};
+    ghost use Rattle.simd_json_parts.specs.Accessors as accessors;
+    ghost use Rattle.simd_json_parts.specs.Document as parts;
+    ghost use Rattle.simd_json_parts.specs.Views.{as_array, as_object, try_get, try_get_idx};
+
+    /// Returns the error that says that something else was expected of the value: for accessors
+    /// that have no `try_` form.
+    #[cold]
+    pub fn unexpected(self, expected: Expected) -> Unexpected
+        ensures { result ≡ refused expected self.entry }
+    {
+        self.document.unexpected(self.at, expected)
+    }
+
+    // The result of an accessor, or the error that a value of this kind was expected.
+    #[inline(always)]
+    fn or_refused<T>(self, value: Option<T>, kind: ValueType) -> Result<T, Unexpected>
+        ensures { result ≡ ok_or value (refused (Kind kind) self.entry) }
+    {
+        match value {
+            Some(value) => Ok(value),
+            None => Err(self.unexpected(Expected::Kind(kind))),
+        }
+    }
+
+    /// Returns the truth value, or an error that expects `Bool`.
+    #[inline(always)]
+    pub fn try_as_bool(self) -> Result<bool, Unexpected>
+        ensures { result ≡ tried accessors.bool self.entry }
+    {
+        self.or_refused(self.as_bool(), ValueType::Bool)
+    }
+
+    /// Returns the integer, if it fits `i64`, else an error that expects `I64`.
+    #[inline(always)]
+    pub fn try_as_i64(self) -> Result<i64, Unexpected>
+        ensures { result ≡ tried accessors.i64 self.entry }
+    {
+        self.or_refused(self.as_i64(), ValueType::I64)
+    }
+
+    /// Returns the integer, if it fits `u64`, else an error that expects `U64`.
+    #[inline(always)]
+    pub fn try_as_u64(self) -> Result<u64, Unexpected>
+        ensures { result ≡ tried accessors.u64 self.entry }
+    {
+        self.or_refused(self.as_u64(), ValueType::U64)
+    }
+
+    /// Returns the literal of a number with a fraction or an exponent, as it is written, or an
+    /// error that expects `Decimal`.
+    #[inline(always)]
+    pub fn try_as_decimal(self) -> Result<&'d str, Unexpected>
+        ensures { ok_map (λ s. s.now) result ≡ tried accessors.decimal self.entry }
+    {
+        self.or_refused(self.as_decimal(), ValueType::Decimal)
+    }
+
+    /// Returns the string, if it has no escape, else an error that expects `PlainString`, or
+    /// `String` if the value is no string. [`decode`](Value::decode) returns any string.
+    #[inline(always)]
+    pub fn try_as_str(self) -> Result<&'d str, Unexpected>
+        ensures { MatchResult result (λ s. as_standing accessors.str self.entry ≡ Some s.now)
+            (λ e. (e ≡ refused (string_wanted (form self.entry)) self.entry)
+            × ((as_standing accessors.str self.entry ≡ None) ⊎ HasEscape self.entry)) }
+    {
+        match self.as_str() {
+            Some(string) => Ok(string),
+            None if self.first() == b'"' => Err(self.unexpected(Expected::PlainString)),
+            None => Err(self.unexpected(Expected::Kind(ValueType::String))),
+        }
+    }
+
+    /// Returns the values of the array, or an error that expects `Array`; if the input ends behind
+    /// the opening bracket, one that expects a value.
+    pub fn try_as_array(self) -> Result<Array<'d>, Unexpected>
+        ensures walk { MatchResult result (λ array. array_walk self.entry ≡ elements_ahead array)
+            (λ e. array_walk self.entry ≡ stopped e) }
+        ensures document { (d : parts.Document) → doc self.entry ≡ Some d
+            → option_map elements_left (result_ok result) ≡ option_map all_some (as_array d) }
+        ensures all { (d : parts.Document) → doc self.entry ≡ Some d
+            → option_map elements_ahead (result_ok result)
+            ≡ option_map (λ ds. whole (all_some ds)) (as_array d) }
+    {
+        let document = self.document;
+        let at = self.at + 1;
+        if self.first() != b'[' {
+            return Err(self.unexpected(Expected::Kind(ValueType::Array)));
+        }
+        if at == document.indexes.len() {
+            return Err(document.unexpected(at, Expected::Value));
+        }
+        Ok(Array {
+            document,
+            at,
+            position: Position::First,
+        })
+    }
+
+    /// Returns the members of the object, or an error that expects `Object`; if the input ends
+    /// behind the opening brace, one that expects a key.
+    pub fn try_as_object(self) -> Result<Object<'d>, Unexpected>
+        ensures walk { MatchResult result (λ object. object_walk self.entry ≡ members_ahead object)
+            (λ e. object_walk self.entry ≡ stopped e) }
+        ensures document { (d : parts.Document) → doc self.entry ≡ Some d
+            → option_map members_left (result_ok result) ≡ option_map all_members (as_object d) }
+        ensures all { (d : parts.Document) → doc self.entry ≡ Some d
+            → option_map members_ahead (result_ok result)
+            ≡ option_map (λ ms. whole (all_members ms)) (as_object d) }
+    {
+        let document = self.document;
+        let at = self.at + 1;
+        if self.first() != b'{' {
+            return Err(self.unexpected(Expected::Kind(ValueType::Object)));
+        }
+        if at == document.indexes.len() {
+            return Err(document.unexpected(at, Expected::Key));
+        }
+        Ok(Object {
+            document,
+            at,
+            position: Position::First,
+        })
+    }
+
+    /// Returns the value of the first member of the object with this key, or `None` if the members
+    /// come to the closing brace and none has the key. Members of nested objects are passed over.
+    ///
+    /// Returns an error that expects `Object` if the value is no object, and one that names the
+    /// place where the walk along the members stopped before, as
+    /// [`Object::try_next`](Object::try_next) does.
+    ///
+    /// ```
+    /// use simd_json_ondemand::{Unexpected, Value};
+    ///
+    /// fn port(settings: Value<'_>) -> std::result::Result<Option<u64>, Unexpected> {
+    ///     match settings.try_get("port")? {
+    ///         Some(port) => Ok(Some(port.try_as_u64()?)),
+    ///         None => Ok(None),
+    ///     }
+    /// }
+    /// ```
+    pub fn try_get(self, key: &str) -> Result<Option<Value<'d>>, Unexpected>
+        ensures walk { ok_map (option_map doc) result
+            ≡ first_with key.now (object_walk self.entry) }
+        ensures document { (d : parts.Document) → doc self.entry ≡ Some d
+            → result_ok (ok_map (option_map doc) result)
+            ≡ option_map (option_map (λ e. Some e)) (result_ok (try_get key.now d)) }
+    {
+        match self.try_as_object() {
+            Ok(mut members) => members.try_find(key),
+            Err(e) => Err(e),
+        }
+    }
+
+    /// Returns the value at an index of the array, or `None` if the values come to the closing
+    /// bracket and are no more than `index`. The values before it are skipped.
+    ///
+    /// Returns an error that expects `Array` if the value is no array, and one that names the place
+    /// where the walk along the values stopped before, as [`Array::try_next`](Array::try_next)
+    /// does.
+    pub fn try_get_idx(self, index: usize) -> Result<Option<Value<'d>>, Unexpected>
+        ensures walk { ok_map (option_map doc) result
+            ≡ first (walk_past index (array_walk self.entry)) }
+        ensures document { (d : parts.Document) → doc self.entry ≡ Some d
+            → result_ok (ok_map (option_map doc) result)
+            ≡ option_map (option_map (λ e. Some e)) (result_ok (try_get_idx index d)) }
+    {
+        match self.try_as_array() {
+            Ok(elements) => elements.behind(index),
+            Err(e) => Err(e),
+        }
+    }
+}
