@@ -47,8 +47,8 @@
 mod accessors;
 mod array;
 mod check;
-mod escapes;
 mod end;
+mod escapes;
 mod index;
 mod key;
 pub mod laws;
