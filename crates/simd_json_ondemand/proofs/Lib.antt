@@ -4,6 +4,7 @@ pub mod Standing
 pub mod Agreement
 pub mod Quoted
 pub mod Literals
+pub mod Floats
 pub mod Skipping
 pub mod Written
 pub mod Enough

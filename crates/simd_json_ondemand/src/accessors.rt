@@ -19,7 +19,7 @@ use simd_json_scalars::numberparse::{
 
 impl<'d> Value<'d> {
     ghost use Rattle.std.specs.Prelude.{◌≡◌, ◌==◌, Some, None, false, IsTrue};
-    ghost use Rattle.std.specs.Prelude.{option_and_then, option_map, MatchOption};
+    ghost use Rattle.std.specs.Prelude.{option_and_then, option_map, is_some, MatchOption};
     ghost use Rattle.std.specs.Float.{binary64};
     ghost use Rattle.fast_float.specs.Parse.{parse_float};
     ghost use Rattle.simd_json_ondemand.specs.Docs.{text, index_of, form, kind};
@@ -239,7 +239,8 @@ impl<'d> Value<'d> {
     /// that is too near zero gives a zero of its sign.
     #[inline(always)]
     pub fn as_f64(self) -> Option<f64>
-        ensures { result ≡ option_and_then (parse_float binary64) (number self.entry) }
+        ensures nearest { result ≡ option_and_then (parse_float binary64) (number self.entry) }
+        ensures some { is_some result ≡ is_some (number self.entry) }
     {
         fast_float::parse(self.number()?).ok()
     }

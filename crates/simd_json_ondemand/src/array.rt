@@ -104,21 +104,35 @@ impl<'d> Document<'d> {
 impl<'d> Iterator for Array<'d> {
     type Item = Value<'d>;
 
-    ghost use Rattle.std.specs.Prelude.{◌≡◌, ⊤, Some, IfSome};
-    ghost use Rattle.std.specs.Iterator.{YieldsFirstBy, item_count, MakesProgress};
+    ghost use Rattle.std.specs.Iterator.{YieldsFirstBy, item_count};
     ghost use Rattle.simd_json_ondemand.specs.Docs.{doc};
     ghost use Rattle.simd_json_ondemand.specs.Iterated.{elements_left};
-    ghost use Rattle.simd_json_ondemand.specs.Within.{IsInArray, after, after_last};
-    ghost use Rattle.simd_json_ondemand.specs.declared.value.Value.{Value};
 
     ghost next_gives = { YieldsFirstBy doc elements_left };
 
     ghost remaining = { item_count elements_left };
 
     #[inline(always)]
-    fn next(&mut self) -> Option<Value<'d>>
+    fn next(&mut self) -> Option<Value<'d>> {
+        self.next_value()
+    }
+}
+
+impl<'d> FusedIterator for Array<'d> {}
+
+impl<'d> Array<'d> {
+    ghost use Rattle.std.specs.Prelude.{◌≡◌, Some, IfSome};
+    ghost use Rattle.std.specs.Iterator.{YieldsFirstBy};
+    ghost use Rattle.simd_json_ondemand.specs.Docs.{doc};
+    ghost use Rattle.simd_json_ondemand.specs.Iterated.{elements_left};
+    ghost use Rattle.simd_json_ondemand.specs.Within.{IsInArray, after, after_at, after_last};
+    ghost use Rattle.simd_json_ondemand.specs.declared.value.Value.{Value};
+
+    /// Returns the next value, as `next` does. The contract of this function says more: that the
+    /// cursor stays in its array, as [`end`](Array::end) and [`pass`](Array::pass) want it.
+    #[inline(always)]
+    pub fn next_value(&mut self) -> Option<Value<'d>>
         ensures steps { YieldsFirstBy doc elements_left self.old result self.new }
-        ensures goes { MakesProgress (λ _. ⊤) (item_count elements_left) self.old result self.new }
         ensures last { IfSome result (λ value.
             after_last self.new.document self.new.at self.new.position ≡ Some (after value)) }
         ensures inside { (v : Value) → IsInArray v self.old → IsInArray v self.new }
@@ -132,15 +146,6 @@ impl<'d> Iterator for Array<'d> {
         };
         Some(Value { document, at })
     }
-}
-
-impl<'d> FusedIterator for Array<'d> {}
-
-impl<'d> Array<'d> {
-    ghost use Rattle.std.specs.Prelude.{◌≡◌, Some};
-    ghost use Rattle.simd_json_ondemand.specs.Iterated.{elements_left};
-    ghost use Rattle.simd_json_ondemand.specs.Within.{IsInArray, after_at, after_last};
-    ghost use Rattle.simd_json_ondemand.specs.declared.value.Value.{Value};
 
     /// Returns where the array ends. Only what is left of it is read.
     #[inline(always)]

@@ -6,7 +6,9 @@
 //! words.
 //!
 //! [`Value::get`] returns the value of the first member with a key. [`Object::find`] goes on where
-//! the search before it ended, so keys that are asked for in the order of the input take one pass.
+//! the search before it ended, so keys that are asked for in the order of the input take one pass;
+//! [`Object::pass`] goes on at the end of a value that another cursor has read. [`lines()`] returns
+//! the lines of JSON Lines, each a document of its own.
 //!
 //! # What is checked
 //!

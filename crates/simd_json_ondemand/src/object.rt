@@ -87,20 +87,37 @@ impl<'d> Document<'d> {
 impl<'d> Iterator for Object<'d> {
     type Item = (Value<'d>, Value<'d>);
 
-    ghost use Rattle.std.specs.Prelude.{◌≡◌, ⊤, Some, IfSome};
-    ghost use Rattle.std.specs.Iterator.{YieldsFirstBy, item_count, MakesProgress};
+    ghost use Rattle.std.specs.Iterator.{YieldsFirstBy, item_count};
     ghost use Rattle.simd_json_ondemand.specs.IteratedMembers.{members_left, pair_doc};
-    ghost use Rattle.simd_json_ondemand.specs.Within.{IsInObject, after, after_last};
-    ghost use Rattle.simd_json_ondemand.specs.declared.value.Value.{Value};
 
     ghost next_gives = { YieldsFirstBy pair_doc members_left };
 
     ghost remaining = { item_count members_left };
 
     #[inline(always)]
-    fn next(&mut self) -> Option<(Value<'d>, Value<'d>)>
+    fn next(&mut self) -> Option<(Value<'d>, Value<'d>)> {
+        self.next_member()
+    }
+}
+
+impl<'d> FusedIterator for Object<'d> {}
+
+impl<'d> Object<'d> {
+    ghost use Rattle.std.specs.Prelude.{◌≡◌, [], ◌∷◌, Some, MatchOption, IfSome};
+    ghost use Rattle.simd_json_ondemand.specs.Docs.{doc};
+    ghost use Rattle.simd_json_ondemand.specs.IteratedMembers.{members_left, pair_doc};
+    ghost use Rattle.std.specs.Iterator.{YieldsFirstBy};
+    ghost use Rattle.simd_json_ondemand.specs.Within.{IsInObject, after, after_at, after_last};
+    ghost use Rattle.simd_json_ondemand.specs.declared.value.Value.{Value};
+    ghost use Rattle.simd_json_ondemand.specs.Keys.{from_key};
+    ghost use Rattle.simd_json_parts.specs.Document.{string};
+
+    /// Returns the next pair of a key and a value, as `next` does. The contract of this function
+    /// says more: that the cursor stays in its object, as [`end`](Object::end) and
+    /// [`pass`](Object::pass) want it.
+    #[inline(always)]
+    pub fn next_member(&mut self) -> Option<(Value<'d>, Value<'d>)>
         ensures steps { YieldsFirstBy pair_doc members_left self.old result self.new }
-        ensures goes { MakesProgress (λ _. ⊤) (item_count members_left) self.old result self.new }
         ensures last { IfSome result (λ pair.
             after_last self.new.document self.new.at self.new.position ≡ Some (after pair.1)) }
         ensures inside { (v : Value) → IsInObject v self.old → IsInObject v self.new }
@@ -120,18 +137,6 @@ impl<'d> Iterator for Object<'d> {
             Value { document, at },
         ))
     }
-}
-
-impl<'d> FusedIterator for Object<'d> {}
-
-impl<'d> Object<'d> {
-    ghost use Rattle.std.specs.Prelude.{◌≡◌, [], ◌∷◌, Some, MatchOption, IfSome};
-    ghost use Rattle.simd_json_ondemand.specs.Docs.{doc};
-    ghost use Rattle.simd_json_ondemand.specs.IteratedMembers.{members_left};
-    ghost use Rattle.simd_json_ondemand.specs.Within.{IsInObject, after, after_at, after_last};
-    ghost use Rattle.simd_json_ondemand.specs.declared.value.Value.{Value};
-    ghost use Rattle.simd_json_ondemand.specs.Keys.{from_key};
-    ghost use Rattle.simd_json_parts.specs.Document.{string};
 
     /// Returns the value of the first of the members left that has this key, and leaves those after
     /// it; or returns `None`, and leaves them all. The values before it are skipped. `None` does
@@ -151,7 +156,7 @@ impl<'d> Object<'d> {
     {
         let wanted = Wanted::new(key);
         let mut left = *self;
-        while let Some((name, value)) = left.next() {
+        while let Some((name, value)) = left.next_member() {
             if name.is_key(wanted) {
                 *self = left;
                 return Some(value);

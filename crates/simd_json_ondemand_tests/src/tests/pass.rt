@@ -27,7 +27,7 @@ fn end_after(value: Value<'_>, steps: usize) -> Option<End> {
     Some(elements.end())
 }
 
-// Every other cursor comes to the same values without an end.
+// A cursor that passes containers comes to the same values as one that skips them.
 fn assert_object(rt: &impl Abort, members: Object<'_>, steps: usize, case: &[u8]) {
     let mut passing = members;
     for (key, value) in members {

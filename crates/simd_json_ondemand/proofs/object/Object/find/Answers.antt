@@ -12,7 +12,7 @@ pub returns-then-is_key-clause-found : goal.returns-then-is_key-clause-found
 returns-then-is_key-clause-found c =
     let key = c.args.key.now in
     c.loop-name.invariant.1 ∙ ap (from_key key) c.in-Some.ensures.steps
-    ∙ from-here key (doc c.in-Some.name) (doc c.in-Some.value) (members_left c.next.new.self)
+    ∙ from-here key (doc c.in-Some.name) (doc c.in-Some.value) (members_left c.next_member.new.self)
     (ap (λ k. is_key k (option_and_then as_str (doc c.in-Some.name))) (sym c.new-wanted.ensures) ∙ sym c.is_key.ensures ∙ c.if-is_key.true)
 
 pub loop-name-preserved : goal.loop-name-preserved
@@ -20,7 +20,7 @@ loop-name-preserved c =
     let key = c.args.key.now in (
       c.loop-name.invariant.0,
       c.loop-name.invariant.1 ∙ ap (from_key key) c.in-Some.ensures.steps
-          ∙ from-later key (doc c.in-Some.name) (doc c.in-Some.value) (members_left c.next.new.self)
+          ∙ from-later key (doc c.in-Some.name) (doc c.in-Some.value) (members_left c.next_member.new.self)
           (ap (λ k. is_key k (option_and_then as_str (doc c.in-Some.name))) (sym c.new-wanted.ensures)
           ∙ sym c.is_key.ensures ∙ c.if-is_key.false),
       λ v h. c.in-Some.ensures.inside v (c.loop-name.invariant.2 v h),

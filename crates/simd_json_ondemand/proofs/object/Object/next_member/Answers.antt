@@ -2,7 +2,7 @@ use Rattle.std.proofs.Common.{◌≡◌, ◌∙◌, ap, ◌∷◌, ◌+◌, ◌-
 use Rattle.std.proofs.lemmas.List.{drop-drop}
 use Rattle.simd_json_ondemand.specs.MemberTails.{pair_along, member_tails_past}
 use Rattle.simd_json_ondemand.specs.Viewed.{read_along}
-use Rattle.simd_json_ondemand.proofs.object.ObjectIterator.next.Goals as goal
+use Rattle.simd_json_ondemand.proofs.object.Object.next_member.Goals as goal
 
 pub returns-clause-steps : goal.returns-clause-steps
 returns-clause-steps c =
