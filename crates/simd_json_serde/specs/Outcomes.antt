@@ -27,3 +27,9 @@ IsLate (Err (Parse e)) = ⊥
 abbrev pub IsMismatch : Error → Type 0
 IsMismatch (Mismatch m) = Unit {0}
 IsMismatch (Parse e) = ⊥
+
+-- no allocation of the parse failed
+abbrev pub HasParseMemory : {T : Type 0} → Result T Error → Type 0
+HasParseMemory (Ok value) = Unit {0}
+HasParseMemory (Err (Mismatch m)) = Unit {0}
+HasParseMemory (Err (Parse e)) = IsOutOfMemory e → ⊥

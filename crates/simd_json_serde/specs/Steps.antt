@@ -84,6 +84,10 @@ IsFloat format x key (object_item len count) = ⊥
 abbrev pub IsText : List ℕ → Bool → Item → Type 0
 IsText t key item = item ≡ string_item t
 
+-- what the first node of a document says, where it is no key
+abbrev pub Says : Document → (Bool → Item → Type 0) → Type 0
+Says d P = (item : Item) × (slice_get (listing d) 0 ≡ Some item) × P false item
+
 abbrev pub Closes : Place → Place → Type 0
 Closes old new =
     (old.end ≤ old.at) × (old.outer ≡ new.outer ++ new.end ∷ []) × (new.at ≡ old.at) × (new.nodes ≡ old.nodes) × (new.at_key ≡ old.at_key)

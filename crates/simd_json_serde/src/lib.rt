@@ -27,6 +27,7 @@
 //! | many inputs into the same memory | [`read_owned`], [`read`] with [`Texts`] |
 //! | a value of a tape, as one that `pointer` leads to | [`from_value`] |
 //! | a whole tape | [`from_tape`] |
+//! | a scalar, with a contract | [`bool_of`], [`u64_of`], [`f64_of`], [`string_of`], .. |
 //! | nodes, by a `Deserialize` of your own | [`NodeReader`] |
 //!
 //! All that the derives read is read: structs, `Option`, `Vec`, tuples, maps, enums with or without
@@ -71,8 +72,10 @@ mod node_reader;
 mod numbers;
 mod path;
 mod reading;
+mod scalars;
 mod texts;
 
 pub use error::{Error, Fault, Mismatch, MismatchKind};
 pub use node_reader::{Mark, NodeReader};
 pub use reading::{Texts, from_slice, from_slice_owned, from_tape, from_value, read, read_owned};
+pub use scalars::{bool_of, char_of, f32_of, f64_of, i64_of, i128_of, string_of, u64_of, u128_of};

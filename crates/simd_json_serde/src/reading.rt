@@ -1,7 +1,8 @@
 //! The entry points.
-ghost use Rattle.std.specs.Prelude.{◌≡◌};
+ghost use Rattle.std.specs.Prelude.{◌≡◌, ◌≤◌, ◌<◌, ℕ, length, Ok, IfOk, OnOk, OnErr};
 ghost use Rattle.simd_json.specs.Capacities.{default_max_depth};
-ghost use Rattle.simd_json_serde.specs.Outcomes.{IsRead, IsLate};
+ghost use Rattle.simd_json.specs.Reserved.{IsReserved};
+ghost use Rattle.simd_json_serde.specs.Outcomes.{IsRead, IsLate, HasParseMemory};
 
 use crate::error::{Error, Fault, Mismatch};
 use crate::node_reader::NodeReader;
@@ -9,7 +10,7 @@ use crate::texts::{attach, copy_strings, detach};
 use serde::{Deserialize, DeserializeOwned, Deserializer};
 use simd_json::tape::Value;
 use simd_json::{Buffers, Node, Tape, refill_tape, to_tape};
-use std::alloc::Global;
+use std::alloc::{AllocError, Global};
 
 /// Reads a type that may borrow its strings, also those with escapes. They are copied, one after
 /// another, to the front of `input`, so the input's bytes are not kept.
@@ -94,7 +95,7 @@ pub fn from_value<T: DeserializeOwned>(alloc: Global, value: &Value<'_, '_>) -> 
 }
 
 /// What [`read`] keeps beside buffers and a tape: the strings that a type borrows. It grows as
-/// needed, and gives up no capacity.
+/// needed, and gives up no capacity; [`reserve`](Texts::reserve) makes it large enough at once.
 #[derive(Drop)]
 pub struct Texts {
     alloc: Global,
@@ -113,12 +114,34 @@ impl Texts {
             outer: Vec::new(alloc),
         }
     }
+
+    ghost use Rattle.simd_json_serde.specs.Kept.{capacity};
+
+    /// Reserves capacity for inputs of up to `input_len` bytes, about 9 bytes for each. With as
+    /// much in buffers and tape, which [`reserve`](simd_json::reserve) sees to, a read of such an
+    /// input allocates what the type itself owns, and nothing else.
+    ///
+    /// Returns an error if an allocation fails; what has been reserved by then stays.
+    pub fn reserve(&mut self, input_len: usize) -> Result<(), AllocError>
+        ensures enough { OnOk result (input_len ≤ capacity self.new) }
+        ensures kept { capacity self.old ≤ capacity self.new }
+        ensures fault { OnErr result (capacity self.old < input_len) }
+    {
+        self.text.clear();
+        self.starts.clear();
+        self.outer.clear();
+        self.text.reserve(input_len)?;
+        self.starts.reserve(input_len)?;
+        self.outer.reserve(input_len.div_ceil(2))
+    }
 }
 
 /// Reads a type into kept memory. It may borrow its strings from `texts`, and the tape is returned
 /// for the next read.
 ///
-/// Returns errors as [`from_slice`] does, with the depth limit of the buffers.
+/// Returns errors as [`from_slice`] does, with the depth limit of the buffers. After a reservation
+/// for inputs as long, with [`reserve`](simd_json::reserve) and [`Texts::reserve`], it allocates
+/// what the type itself owns, and nothing else.
 pub fn read<'de, 'k, T: Deserialize<'de>>(
     input: &mut [u8],
     buffers: &mut Buffers<Global>,
@@ -127,6 +150,9 @@ pub fn read<'de, 'k, T: Deserialize<'de>>(
 ) -> (Result<T, Error>, Tape<'k, Global>)
     ensures read { IsRead input.old buffers.old.limit result.0 }
     ensures limit { buffers.new.limit ≡ buffers.old.limit }
+    ensures reserved { (len : ℕ) → IsReserved len buffers.old kept.entry
+        → IsReserved len buffers.new result.1
+        × (length input.old ≤ len → HasParseMemory result.0) }
 {
     let (parsed, tape) = refill_tape(input, buffers, kept);
     let read = match parsed {
@@ -145,6 +171,9 @@ pub fn read_owned<'k, T: DeserializeOwned>(
 ) -> (Result<T, Error>, Tape<'k, Global>)
     ensures read { IsRead input.old buffers.old.limit result.0 }
     ensures limit { buffers.new.limit ≡ buffers.old.limit }
+    ensures reserved { (len : ℕ) → IsReserved len buffers.old kept.entry
+        → IsReserved len buffers.new result.1
+        × (length input.old ≤ len → HasParseMemory result.0) }
 {
     let (parsed, tape) = refill_tape(input, buffers, kept);
     let read = match parsed {
@@ -210,8 +239,13 @@ fn read_one_owned<T: DeserializeOwned>(
 
 // The read, with the path of a value that does not fit.
 #[inline]
-fn located<T>(alloc: Global, read: Result<T, Fault>, nodes: &[Node<'_>]) -> Result<T, Error>
-    ensures { IsLate result }
+pub(crate) fn located<T>(
+    alloc: Global,
+    read: Result<T, Fault>,
+    nodes: &[Node<'_>],
+) -> Result<T, Error>
+    ensures late { IsLate result }
+    ensures same { IfOk result (λ value. read ≡ Ok value) }
 {
     match read {
         Ok(value) => Ok(value),
