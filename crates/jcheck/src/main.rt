@@ -81,7 +81,7 @@ fn print_failure(rt: &HostRuntime, file: &str, checked: &io::Result<bool>) {
 
 fn check_file(
     rt: &HostRuntime,
-    checker: &mut Checker<'_>,
+    checker: &mut Checker,
     file: &str,
     has_lines: bool,
     width: usize,

@@ -111,7 +111,7 @@ pub fn check_each<'a, F: FnMut(&'a str) -> io::Result<bool>>(
 /// Returns an error if the writer or an allocation fails. A beginning of the output is written
 /// then.
 pub fn check_input<W: Write>(
-    checker: &mut Checker<'_>,
+    checker: &mut Checker,
     out: &mut Channel<W>,
     file: &str,
     input: &[u8],
@@ -120,14 +120,14 @@ pub fn check_input<W: Write>(
 ) -> io::Result<bool>
     requires { out.old.failed ≡ false }
     ensures clean { IfOk result (λ clean. clean
-        ≡ is_clean input.now has_lines checker.old.buffers.limit) }
+        ≡ is_clean input.now has_lines checker.old.depth) }
     ensures written { OnOk result ((out.new.failed ≡ false)
         × Appends (W.contents out.old.inner) (W.contents out.new.inner)
-        (output_of file.now input.now has_lines width checker.old.buffers.limit)) }
+        (output_of file.now input.now has_lines width checker.old.depth)) }
     ensures stopped { IfErr result (λ e. HasStopped e out.new.failed
         (W.contents out.old.inner) (W.contents out.new.inner)
-        (output_of file.now input.now has_lines width checker.old.buffers.limit)) }
-    ensures limit { checker.new.buffers.limit ≡ checker.old.buffers.limit }
+        (output_of file.now input.now has_lines width checker.old.depth)) }
+    ensures depth { checker.new.depth ≡ checker.old.depth }
 {
     let mut text = Text::<Channel<W>, PIECE>::new(out);
     let put = put_input(checker, &mut text, file, input, has_lines, width);
@@ -138,7 +138,7 @@ pub fn check_input<W: Write>(
 // Appends the report on an input, and returns whether it is empty. If the target fails, this ends
 // at once, and the result is unspecified. If an allocation fails, a beginning was appended.
 fn put_input<T: Target, const SIZE: usize>(
-    checker: &mut Checker<'_>,
+    checker: &mut Checker,
     text: &mut Text<'_, T, SIZE>,
     file: &str,
     input: &[u8],
@@ -146,12 +146,12 @@ fn put_input<T: Target, const SIZE: usize>(
     width: usize,
 ) -> Result<bool, AllocError>
     ensures clean { IfOk result (λ clean. is_some text.new.fault ≡ false
-        → clean ≡ is_clean input.now has_lines checker.old.buffers.limit) }
+        → clean ≡ is_clean input.now has_lines checker.old.depth) }
     ensures put { OnOk result (Adds T.state text.old text.new
-        (output_of file.now input.now has_lines width checker.old.buffers.limit)) }
+        (output_of file.now input.now has_lines width checker.old.depth)) }
     ensures stopped { OnErr result (HasPart T.state text.old text.new
-        (output_of file.now input.now has_lines width checker.old.buffers.limit)) }
-    ensures limit { checker.new.buffers.limit ≡ checker.old.buffers.limit }
+        (output_of file.now input.now has_lines width checker.old.depth)) }
+    ensures depth { checker.new.depth ≡ checker.old.depth }
 {
     if has_lines {
         put_lines(checker, text, file, input, width)
@@ -162,19 +162,19 @@ fn put_input<T: Target, const SIZE: usize>(
 
 // The same for an input that is one document.
 fn put_whole<T: Target, const SIZE: usize>(
-    checker: &mut Checker<'_>,
+    checker: &mut Checker,
     text: &mut Text<'_, T, SIZE>,
     file: &str,
     input: &[u8],
     width: usize,
 ) -> Result<bool, AllocError>
     ensures clean { IfOk result (λ clean. clean
-        ≡ is_none (found_in input.now checker.old.buffers.limit)) }
+        ≡ is_none (found_in input.now checker.old.depth)) }
     ensures put { OnOk result (Adds T.state text.old text.new
-        (whole_text file.now width input.now (found_in input.now checker.old.buffers.limit))) }
+        (whole_text file.now width input.now (found_in input.now checker.old.depth))) }
     ensures stopped { OnErr result (HasPart T.state text.old text.new
-        (whole_text file.now width input.now (found_in input.now checker.old.buffers.limit))) }
-    ensures limit { checker.new.buffers.limit ≡ checker.old.buffers.limit }
+        (whole_text file.now width input.now (found_in input.now checker.old.depth))) }
+    ensures depth { checker.new.depth ≡ checker.old.depth }
 {
     let Some(location) = checker.check(input)? else {
         return Ok(true);
@@ -190,19 +190,19 @@ fn put_whole<T: Target, const SIZE: usize>(
 
 // The same for an input of which each line is one.
 fn put_lines<T: Target, const SIZE: usize>(
-    checker: &mut Checker<'_>,
+    checker: &mut Checker,
     text: &mut Text<'_, T, SIZE>,
     file: &str,
     input: &[u8],
     width: usize,
 ) -> Result<bool, AllocError>
     ensures clean { IfOk result (λ clean. is_some text.new.fault ≡ false
-        → clean ≡ list_all (is_clean_line checker.old.buffers.limit) (pieces input.now)) }
+        → clean ≡ list_all (is_clean_line checker.old.depth) (pieces input.now)) }
     ensures put { OnOk result (Adds T.state text.old text.new
-        (lines_text file.now width checker.old.buffers.limit 1 0 (pieces input.now))) }
+        (lines_text file.now width checker.old.depth 1 0 (pieces input.now))) }
     ensures stopped { OnErr result (HasPart T.state text.old text.new
-        (lines_text file.now width checker.old.buffers.limit 1 0 (pieces input.now))) }
-    ensures limit { checker.new.buffers.limit ≡ checker.old.buffers.limit }
+        (lines_text file.now width checker.old.depth 1 0 (pieces input.now))) }
+    ensures depth { checker.new.depth ≡ checker.old.depth }
 {
     let mut clean = true;
     let mut place = FilePlace {
@@ -227,19 +227,19 @@ fn put_lines<T: Target, const SIZE: usize>(
 
 // Appends the report on a line that begins at this place, and returns whether it is empty.
 fn put_line<T: Target, const SIZE: usize>(
-    checker: &mut Checker<'_>,
+    checker: &mut Checker,
     text: &mut Text<'_, T, SIZE>,
     start: FilePlace<'_>,
     line: &[u8],
     width: usize,
 ) -> Result<bool, AllocError>
     ensures clean { IfOk result (λ clean. clean
-        ≡ is_clean_line checker.old.buffers.limit line.now) }
+        ≡ is_clean_line checker.old.depth line.now) }
     ensures put { OnOk result (Adds T.state text.old text.new
-        (line_text start.entry.file.now width checker.old.buffers.limit
+        (line_text start.entry.file.now width checker.old.depth
         start.entry.line start.entry.byte line.now)) }
     ensures none { OnErr result (Adds T.state text.old text.new []) }
-    ensures limit { checker.new.buffers.limit ≡ checker.old.buffers.limit }
+    ensures depth { checker.new.depth ≡ checker.old.depth }
 {
     if is_blank(line) {
         return Ok(true);
