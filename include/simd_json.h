@@ -31,8 +31,8 @@
  * Pointers are to memory of the caller, which a call uses until it returns. Regions may not overlap. A pointer may be
  * null where its length is 0. Nothing past a length is read or written.
  *
- * INPUT IS OVERWRITTEN: escapes are decoded in place, and afterwards its contents are unspecified. Pass a copy of what is
- * needed again. It needs no terminator and no padding.
+ * INPUT IS OVERWRITTEN, but by simd_json_index: escapes are decoded in place, and afterwards its contents are unspecified.
+ * Pass a copy of what is needed again. It needs no terminator and no padding.
  *
  * `max_depth` is how many arrays and objects may be open at a time: 1024 is usual, 0 allows scalars only.
  */
@@ -77,7 +77,7 @@ enum {
     SIMD_JSON_INVALID_ESCAPE = 17,          /* a backslash before a byte that no escape has (section 7) */
     SIMD_JSON_INVALID_UNICODE_CODEPOINT = 18, /* a malformed `\u` escape, or a lone surrogate (section 7) */
 
-    /* The input is a document, and the memory for its result is too small. */
+    /* The input has a result, and the memory for it is too small. */
     SIMD_JSON_TOO_LITTLE_ROOM = 19,
 
     /* The parser is not open. The input is not read. */
@@ -155,6 +155,18 @@ int32_t simd_json_compact(void *input, size_t len, size_t max_depth, void *out, 
  * the input. */
 int32_t simd_json_pretty(void *input, size_t len, size_t max_depth, void *out, size_t out_len, size_t *needed,
                          simd_json_place *place);
+
+/* The structural indexes of the input, in ascending order: the byte offset of the opening quote of each string and, outside
+ * strings, of each structural character and of the first byte of each other token. The input is not written. Writes *place.
+ *
+ * Size, encoding, and strings that have no end or hold a byte below 0x20 are checked, and no more: the only errors are those
+ * of the whole input. That the tokens make a document is not checked.
+ *
+ * OK: *used is how many indexes there are; nothing behind them is written.
+ * TOO_LITTLE_ROOM: *used is how many there are, and indexes is unchanged. Room for `len` of them is always enough.
+ * Any other status: *used and indexes are unchanged. */
+int32_t simd_json_index(const void *input, size_t len, uint32_t *indexes, size_t indexes_len, size_t *used,
+                        simd_json_place *place);
 
 /* A parser that keeps its memory from one input to the next, which is faster for many small inputs:
  *

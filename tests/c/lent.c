@@ -81,6 +81,22 @@ static void prints(print *call, const char *wanted) {
     }
 }
 
+// Counted by hand: 27 tokens. The last six begin at `,` `"` `:` `t` and two braces.
+static void indexes(void) {
+    for (size_t room = 0; room <= 28; room++) {
+        lent input = lend_copy(document, len), out = lend(room * sizeof(uint32_t));
+        size_t used = 0;
+        simd_json_place place;
+        int status = simd_json_index(input.at, len, out.at, room, &used, &place);
+        int fits = room >= 27;
+        WANT(status == (fits ? SIMD_JSON_OK : SIMD_JSON_TOO_LITTLE_ROOM) && used == 27);
+        for (size_t i = 0; fits && i < 6; i++) WANT(document[((uint32_t *)out.at)[21 + i]] == ",\":t}}"[i]);
+        WANT(memcmp(input.at, document, len) == 0);
+        give_back(input, len);
+        give_back(out, (fits ? 27 : 0) * sizeof(uint32_t));
+    }
+}
+
 static void names(void) {
     for (size_t room = 0; room <= 9; room++) {
         lent out = lend(room);
@@ -111,6 +127,7 @@ int main(void) {
     prints(simd_json_compact, "{\"a\":[1,-2,2.5,\"\\n\303\251\",18446744073709551616],\"b\":{\"c\":null,\"d\":true}}");
     prints(simd_json_pretty, "{\n  \"a\": [\n    1,\n    -2,\n    2.5,\n    \"\\n\303\251\",\n    18446744073709551616\n  ],\n"
                              "  \"b\": {\n    \"c\": null,\n    \"d\": true\n  }\n}");
+    indexes();
     names();
     prefixes();
 }

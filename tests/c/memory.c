@@ -46,11 +46,13 @@ static simd_json_node nodes[16];
 static simd_json_room room;
 static simd_json_place place;
 static size_t needed;
+static uint32_t indexes[32];
 
 static int check(void) { return simd_json_check(input, sizeof document - 1, 3, &place); }
 static int tape(void) { return simd_json_tape(input, sizeof document - 1, 3, nodes, 16, out, 64, &room, &place); }
 static int compact(void) { return simd_json_compact(input, sizeof document - 1, 3, out, 64, &needed, &place); }
 static int pretty(void) { return simd_json_pretty(input, sizeof document - 1, 3, out, 64, &needed, &place); }
+static int indexed(void) { return simd_json_index(input, sizeof document - 1, indexes, 32, &needed, &place); }
 
 // A parser that is opened and closed again.
 static int kept(void) {
@@ -99,7 +101,7 @@ static void each_fails(int call(void)) {
         strcpy(input, document);
         memset(out, 0, sizeof out);
         memset(nodes, 0, sizeof nodes);
-        room.nodes = needed = 77;
+        room.nodes = needed = indexes[0] = 77;
         int before = held;
         allowed = failures++;
         status = call();
@@ -108,7 +110,7 @@ static void each_fails(int call(void)) {
         if (status != SIMD_JSON_OK) {
             WANT(status == SIMD_JSON_OUT_OF_MEMORY);
             WANT(place.index == 0 && place.character == SIMD_JSON_NO_CHARACTER);
-            WANT(room.nodes == 77 && needed == 77 && nodes[0].kind == 0 && out[0] == 0);
+            WANT(room.nodes == 77 && needed == 77 && nodes[0].kind == 0 && out[0] == 0 && indexes[0] == 77);
         }
     } while (status != SIMD_JSON_OK);
     WANT(failures > 2);
@@ -119,6 +121,7 @@ int main(void) {
     each_fails(tape);
     each_fails(compact);
     each_fails(pretty);
+    each_fails(indexed);
     each_fails(kept);
     memory_is_kept();
 }

@@ -1,5 +1,5 @@
 // Prints the rows of tests/vectors with the answers of the library: `parse` rows by each call that reads a document, `compact`
-// and `pretty` rows by the two that print one. Rows that C has no call for and comments are copied. So a file of right rows
+// and `pretty` rows by the two that print one, `indexes` rows by the one that finds them. Rows that C has no call for and comments are copied. So a file of right rows
 // comes out unchanged.
 #include <simd_json.h>
 #include <stdbool.h>
@@ -377,11 +377,35 @@ static void answer_print(struct bytes *to, const struct row *row, bool is_pretty
     free(wrong.at);
 }
 
+// Into no memory, and then into just as much as is needed. Nothing is listed of what is rejected as a whole.
+static void answer_indexes(struct bytes *to, const struct row *row) {
+    size_t used = NOT_WRITTEN, again = NOT_WRITTEN;
+    simd_json_place place = {NOT_WRITTEN, NOT_WRITTEN};
+    void *copy = copy_of(&row->input);
+    int status = simd_json_index(copy, row->input.len, 0, 0, &used, &place);
+    if (status != SIMD_JSON_TOO_LITTLE_ROOM) {
+        put_text(to, "none");
+        if (used != NOT_WRITTEN) blame(to, "simd_json_index", " changed *used");
+    } else {
+        uint32_t *indexes = memory(used * sizeof *indexes);
+        status = simd_json_index(copy, row->input.len, indexes, used, &again, &place);
+        for (size_t i = 0; i < used; i++) {
+            if (i) put_text(to, " ");
+            put_number(to, indexes[i]);
+        }
+        if (status != SIMD_JSON_OK || again != used) blame(to, "simd_json_index", " is wrong with just enough room");
+        free(indexes);
+    }
+    if (!is_nowhere(place)) blame(to, "simd_json_index", " has a place");
+    if (row->input.len && memcmp(copy, row->input.at, row->input.len) != 0) blame(to, "simd_json_index", " changed the input");
+    free(copy);
+}
+
 static bool is_word(const char *line, size_t len, const char *word) { return len == strlen(word) && memcmp(line, word, len) == 0; }
 
 // A row without its answer is followed by the one that is found. `kept` is open for 1,024 containers, `other` for any number.
 static void answer(const char *line, struct bytes *to, simd_json_parser *kept, simd_json_parser *other) {
-    static const char *const copied[] = {"indexes", "locate", "document", "pointer", "padded"};
+    static const char *const copied[] = {"locate", "document", "pointer", "padded"};
     const char *input = strchr(line, ' '), *end = input ? strstr(input, " => ") : 0;
     size_t len = strcspn(line, ": ");
     for (size_t i = 0; i < sizeof copied / sizeof *copied; i++)
@@ -390,11 +414,14 @@ static void answer(const char *line, struct bytes *to, simd_json_parser *kept, s
             return;
         }
     bool is_parse = is_word(line, len, "parse"), is_pretty = is_word(line, len, "pretty");
-    if (!end || !(is_parse || is_pretty || is_word(line, len, "compact"))) stop("no row", line);
+    bool is_indexes = is_word(line, len, "indexes");
+    if (!end || !(is_parse || is_pretty || is_indexes || is_word(line, len, "compact"))) stop("no row", line);
     struct row row = {.limit = line[len] == ':' ? strtoull(line + len + 1, 0, 10) : 1024};
     decode(input + 1, end, &row.input);
     put(to, line, (size_t)(end + 4 - line));
-    if (is_parse && row.limit == 1024) {
+    if (is_indexes) {
+        answer_indexes(to, &row);
+    } else if (is_parse && row.limit == 1024) {
         answer_parse(to, &row, kept);
     } else if (is_parse) {
         if (simd_json_open(other, row.limit) != SIMD_JSON_OK) stop("no parser", line);

@@ -1,6 +1,7 @@
 pub mod Statuses
 pub mod Nodes
 pub mod Calls
+pub mod Indexed
 pub mod Names
 pub mod Holding
 pub mod Kept

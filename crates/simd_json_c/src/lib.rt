@@ -4,6 +4,7 @@
 //! nothing for it. No export has a precondition.
 #![tactic(auto)]
 
+mod index;
 mod nodes;
 mod parser;
 mod print;
@@ -11,6 +12,7 @@ mod sink;
 mod status;
 mod tape;
 
+pub use index::simd_json_index;
 pub use nodes::{Node, Room};
 pub use parser::{
     Parser, simd_json_close, simd_json_open, simd_json_parser_check, simd_json_parser_tape,
