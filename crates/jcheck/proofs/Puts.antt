@@ -69,6 +69,15 @@ module _ {T : Type 0} {size : ℕ} {state : T → TargetState} where
   pub nothing-put : {a b : Text T size} (whole : List ℕ) → Adds state a b [] → HasPart state a b whole
   nothing-put whole none = record { part = []; rest = whole; whole = refl; put = none }
 
+  -- after which nothing more was put
+  pub part-put : {a b c : Text T size} {later whole : List ℕ} → IsDone state a b later whole → Adds state b c [] → HasPart state a c whole
+  part-put {a = a} {b = b} {c = c} {later = later} done none = record {
+    part = done.part;
+    rest = later;
+    whole = done.parts;
+    put = adds-is state a c (done.part ++ []) done.part (append-nil done.part) (adds-then state a b c done.part [] done.put none);
+  }
+
   pub none-left : {a b : Text T size} {later whole : List ℕ} → later ≡ [] → IsDone state a b later whole → Adds state a b whole
   none-left {a = a} {b = b} {whole = whole} none done =
       all-put (subst (λ later. IsDone state a b later whole) none done)

@@ -1,10 +1,20 @@
 use Rattle.std.proofs.Common.{◌∙◌, ◌+◌, [], arith, drop, length, refl, sym}
-use Rattle.jcheck.proofs.Puts.{all-put, and-true, clean-more, line-done, others-lost}
+use Rattle.std.proofs.lemmas.Result.{err_from_is_err_and}
+use Rattle.jcheck.proofs.Puts.{all-put, and-true, clean-more, line-done, none-done, others-lost, part-put}
 use Rattle.jcheck.proofs.report.put_lines.Goals as goal
 use Rattle.jtape.proofs.Pieces.{found-cut, not_found-last}
 use Rattle.jcheck.specs.Reports.{is_clean_line, lines_text}
 use Rattle.jtape.specs.Pieces.{pieces}
 use Rattle.std.specs.List.{list_all}
+
+pub loop-end-init : goal.loop-end-init
+loop-end-init g c =
+    record { depth = refl; file = refl; line = omega arith; byte = omega arith; done = none-done _ _ _; clean = refl }
+
+pub returns-in_err-clean-2-clause-stopped : goal.returns-in_err-clean-2-clause-stopped
+returns-in_err-clean-2-clause-stopped g c =
+    let p = err_from_is_err_and c.from_residual-in_err-clean-2.result c.from_residual-in_err-clean-2.ensures.1 in
+    rw p.1 (part-put c.loop-end.invariant.done c.in_err-clean-2.ensures.none)
 
 pub returns-then-has_failed-clause-put : goal.returns-then-has_failed-clause-put
 returns-then-has_failed-clause-put g c =
