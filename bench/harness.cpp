@@ -4,7 +4,8 @@
 // A text whose name ends with .jsonl is lines of one length: each is read by itself, or all by a parser of streams.
 // A contender is simdjson, stage1 (simdjson's), rapidjson, yajl, serde_json=LIBRARY.so, or ours: parse-LEVEL=LIBRARY.so,
 // scan-LEVEL=LIBRARY.so, c-LEVEL=LIBRARY.so (the library for C), for lines many (simdjson's stream) and stream=LIBRARY.so
-// (serde_json's), or refuse-LEVEL=LIBRARY.so, which is timed at texts that it refuses, and at no other.
+// (serde_json's), refuse-LEVEL=LIBRARY.so, which is timed at texts that it refuses, and at no other, or TASK:CONTENDER, where
+// TASK is a number of tasks.hpp and CONTENDER is simdjson, rapidjson or tasks-LEVEL=LIBRARY.so.
 // Writes a line for each text and contender: its path, its bytes, what is timed, the contender, and the nanoseconds of a
 // byte at the fastest round, or `-` where the text was refused. Libraries of one LEVEL that differ in where the code lies are
 // contenders of one name, with a line each. A contender that is not installed is named on standard error. Those who count,
@@ -13,11 +14,13 @@
 #include <malloc.h>
 #include <simd_json.h>
 
+#include "tasks.hpp"
+
 #include <algorithm>
-#include <chrono>
 #include <cstdio>
 #include <cstdlib>
 #include <cstring>
+#include <ctime>
 #include <fstream>
 #include <functional>
 #include <iterator>
@@ -25,12 +28,6 @@
 #include <string>
 #include <vector>
 
-#if __has_include(<simdjson.h>)
-#include <simdjson.h>
-#endif
-#if __has_include(<rapidjson/document.h>)
-#include <rapidjson/document.h>
-#endif
 #if __has_include(<yajl/yajl_parse.h>)
 #include <yajl/yajl_parse.h>
 #include <yajl/yajl_version.h>
@@ -86,8 +83,10 @@ class Copies {
 // Reads the first so many copies. What it counted in them (0: it does not count), negative where one was refused.
 using Read = std::function<int64_t(const Copies &, size_t)>;
 
+static const char *const PARTS[] = {"parse", "scan", "task"};
+
 struct Contender {
-    enum Part { Parse, Scan } part;
+    enum Part { Parse, Scan, Asked } part;
     std::string name;
     Read read;
     // Makes its buffers at the first copy and keeps them, so the time of one copy is taken off that of all.
@@ -278,10 +277,117 @@ static void add_scan(std::vector<Contender> &all, const std::string &level, cons
     all.push_back({Contender::Scan, "simd_json scan, " + level, all_by(path, "simd_json_bench_scan_all"), true});
 }
 
+// What a task's sum is told as: negative where there is none.
+static int64_t told(uint64_t sum) { return sum == NONE ? -1 : int64_t(sum >> 2); }
+
+// Each makes its buffers at the first text. `over` reads the first so many copies.
+static void add_asked(std::vector<Contender> &all, Task task, const std::string &name, std::function<uint64_t(const Copies &, size_t)> over) {
+    all.push_back({Contender::Asked, TASKS[task] + (": " + name), [over](const Copies &c, size_t count) -> int64_t {
+                       try {
+                           return told(over(c, count));
+                       } catch (...) {
+                           return -1;
+                       }
+                   }, true});
+}
+
+template <class One> static void add_asked_of_each(std::vector<Contender> &all, Task task, const std::string &name, One one) {
+    add_asked(all, task, name, [one](const Copies &c, size_t count) {
+        uint64_t sum = 0;
+        for (size_t i = 0; i < count; i++) {
+            uint64_t next = one(c.at(i), c.len());
+            if (next == NONE) return NONE;
+            sum += next;
+        }
+        return sum;
+    });
+}
+
+#ifdef SIMDJSON_VERSION
+// The lines of a stream, without a second thread.
+template <class Documents> static uint64_t over_lines(Documents &documents, size_t count, auto line) {
+    uint64_t sum = 0;
+    size_t read = 0;
+    for (auto document : documents) sum += line(document.value()), read++;
+    return read == count ? sum : NONE;
+}
+
+static void add_simdjson_tasks(std::vector<Contender> &all, Task task) {
+    using namespace simdjson;
+    // That of this program: the library's own is another.
+    get_active_implementation() = get_available_implementations()[SIMDJSON_STRINGIFY(SIMDJSON_BUILTIN_IMPLEMENTATION)];
+    auto parser = std::make_shared<ondemand::parser>();
+    auto room = std::make_shared<std::vector<uint8_t>>();
+    auto dom = std::make_shared<dom::parser>();
+#ifdef SIMDJSON_THREADS_ENABLED
+    parser->threaded = dom->threaded = false;
+#endif
+    if (task == LogLines) {
+        add_asked(all, task, "simdjson On-Demand", [parser](const Copies &c, size_t count) {
+            ondemand::document_stream documents = parser->iterate_many(c.at(0), c.stride * count);
+            return over_lines(documents, count, on_demand::line);
+        });
+        add_asked(all, task, "simdjson DOM", [dom](const Copies &c, size_t count) {
+            dom::document_stream documents = dom->parse_many(c.at(0), c.stride * count);
+            return over_lines(documents, count, [](dom::element root) { return Tree<Dom>::answer(LogLines, root); });
+        });
+        return;
+    }
+    add_asked_of_each(all, task, "simdjson On-Demand", [task, parser, room](uint8_t *text, size_t len) {
+        ondemand::document root = parser->iterate(padded_string_view(text, len, len + SIMDJSON_PADDING));
+        return on_demand::answer(task, root, *parser, *room);
+    });
+    if (task != Literals)
+        add_asked_of_each(all, task, "simdjson DOM", [task, dom](uint8_t *text, size_t len) -> uint64_t {
+            return Tree<Dom>::answer(task, dom->parse(text, len, false));
+        });
+}
+#endif
+
+#ifdef RAPIDJSON_VERSION_STRING
+template <unsigned FLAGS> static void add_rapidjson_task(std::vector<Contender> &all, Task task) {
+    // It reads up to a zero byte, so a line's end is made one.
+    add_asked_of_each(all, task, "rapidjson in place", [task](uint8_t *text, size_t len) {
+        text[len] = 0;
+        rapidjson::Document root;
+        root.ParseInsitu<FLAGS | rapidjson::kParseValidateEncodingFlag>(reinterpret_cast<char *>(text));
+        return root.HasParseError() ? NONE : Tree<Rapid>::answer(task, Rapid::Value(root));
+    });
+}
+#endif
+
+static void add_our_tasks(std::vector<Contender> &all, Task task, const std::string &level, const std::string &path) {
+    for (auto way : {"tape", "find", "check"}) {
+        std::string name = std::string("simd_json_bench_") + way, shown = std::string("simd_json ") + way + ", " + level;
+        if (task == LogLines) {
+            auto *over = symbol<uint64_t(uint8_t *, size_t)>(path, (name + "_lines").c_str());
+            add_asked(all, task, shown, [over](const Copies &c, size_t count) { return over(c.at(0), c.stride * count); });
+        } else {
+            auto *over = symbol<uint64_t(uint8_t *, size_t, size_t, size_t, uint32_t)>(path, name.c_str());
+            add_asked(all, task, shown, [over, task](const Copies &c, size_t count) { return over(c.at(0), c.stride * count, c.stride, c.len(), task); });
+        }
+    }
+}
+
+static void add_task(std::vector<Contender> &all, [[maybe_unused]] Task task, const std::string &name, const std::string &path) {
+    if (name == "simdjson") {
+#ifdef SIMDJSON_VERSION
+        add_simdjson_tasks(all, task);
+#endif
+    } else if (name == "rapidjson") {
+#ifdef RAPIDJSON_VERSION_STRING
+        if (task == Literals) add_rapidjson_task<rapidjson::kParseNumbersAsStringsFlag>(all, task);
+        else add_rapidjson_task<rapidjson::kParseFullPrecisionFlag>(all, task);
+#endif
+    } else if (name.rfind("tasks-", 0) == 0) add_our_tasks(all, task, name.substr(6), path);
+    else stop("no contender " + name);
+}
+
 static void add(std::vector<Contender> &all, const std::string &word) {
     size_t equals = std::min(word.find('='), word.size());
     std::string name = word.substr(0, equals), path = word.substr(std::min(equals + 1, word.size()));
-    if (name == "simdjson") add_simdjson(all, Contender::Parse);
+    if (isdigit(word[0])) add_task(all, Task(word[0] - '0'), name.substr(2), path);
+    else if (name == "simdjson") add_simdjson(all, Contender::Parse);
     else if (name == "stage1") add_simdjson(all, Contender::Scan);
     else if (name == "many") add_many(all);
     else if (name == "stream") add_stream(all, path);
@@ -309,16 +415,22 @@ static std::vector<Contender> contenders(const std::vector<std::string> &words) 
     return all;
 }
 
-// One sample: so many copies, made anew outside the clock.
-static double nanoseconds(Contender &c, Copies &copies, size_t count, int64_t &counted) {
-    using Clock = std::chrono::steady_clock;
-    copies.renew();
-    auto start = Clock::now();
-    counted = c.read(copies, count);
-    return std::chrono::duration<double, std::nano>(Clock::now() - start).count();
+// Processor time of this thread, which counts no time that other programs took.
+static double clock_now() {
+    timespec now;
+    clock_gettime(CLOCK_THREAD_CPUTIME_ID, &now);
+    return double(now.tv_sec) * 1e9 + double(now.tv_nsec);
 }
 
-static void sample(Contender &c, Copies &copies, int64_t (&nodes_or_positions)[2]) {
+// One sample: so many copies, made anew outside the clock.
+static double nanoseconds(Contender &c, Copies &copies, size_t count, int64_t &counted) {
+    copies.renew();
+    double start = clock_now();
+    counted = c.read(copies, count);
+    return clock_now() - start;
+}
+
+static void sample(Contender &c, Copies &copies, int64_t (&nodes_or_positions)[3]) {
     int64_t counted = 0;
     if (c.makes_buffers_once) {
         // Once outside the count, so that the memory that all copies find warm is warm for the one too.
@@ -339,7 +451,7 @@ static void race(const std::string &path, size_t rounds, const std::vector<std::
     bool are_lines = path.ends_with(".jsonl");
     Copies copies = are_lines ? Copies(text, text.find('\n') + 1) : Copies(text);
     auto all = contenders(words);
-    int64_t counts[2] = {0, 0};
+    int64_t counts[3] = {0, 0, 0};
     // Fewer rounds over the largest texts. The first warms up: its times are the slowest, and the fastest counts.
     rounds = std::clamp<size_t>((192 << 20) / (copies.count * copies.len()), std::min<size_t>(rounds, 2), rounds);
     for (size_t round = 0; round <= rounds; round++)
@@ -348,7 +460,7 @@ static void race(const std::string &path, size_t rounds, const std::vector<std::
             if (!next.has_refused) sample(next, copies, counts);
         }
     for (auto &c : all) {
-        printf("%s\t%zu\t%s\t%s\t", path.c_str(), text.size(), c.part == Contender::Parse ? "parse" : "scan", c.name.c_str());
+        printf("%s\t%zu\t%s\t%s\t", path.c_str(), text.size(), PARTS[c.part], c.name.c_str());
         if (c.has_refused) printf("-\n");
         else printf("%.5f\n", c.ns_per_byte(copies));
     }

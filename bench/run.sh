@@ -1,8 +1,9 @@
 #!/bin/sh
 # The benchmark: `make bench` calls it. From the top of the repository: sh bench/run.sh [FILE..]
-# Times the texts that bench/texts.py makes, each FILE, the shapes of bench/shapes.py, which are made to be slow, and a log of
-# 1,000,000 lines, and prints five tables. ROUNDS says how often, PLACEMENTS at how many places our code is timed. With SAVE=1 the
-# tables are put into docs/SPEED.md, between its marks, and docs/speed.svg is drawn; without, build/bench has the chart.
+# Times the texts that bench/texts.py makes, each FILE, the shapes of bench/shapes.py, which are made to be slow, a log of
+# 1,000,000 lines, and tasks, and prints six tables. ROUNDS says how often, PLACEMENTS at how many places our code is timed.
+# With SAVE=1 the tables are put into docs/SPEED.md, between its marks, and docs/speed.svg is drawn; without, build/bench has the
+# chart.
 # It installs nothing: a parser whose package is absent is left out, and named.
 set -eu
 cd "$(dirname "$0")/.."
@@ -15,8 +16,10 @@ mkdir -p "$OUT"
 say() { echo "bench: $*" >&2; }
 
 levels=x86-64-v2
+kernel=westmere
 if grep -qw avx2 /proc/cpuinfo && grep -qw bmi2 /proc/cpuinfo; then
     levels="$levels x86-64-v3"
+    kernel=haswell
 else
     say "left out: level x86-64-v3, which this processor lacks"
 fi
@@ -33,6 +36,7 @@ for level in $levels; do
     (cd crates/simd_json_bench && rt lib --cpu "$level") > "$OUT/$level.log" || { tail -n 20 "$OUT/$level.log" >&2; exit 1; }
     cp crates/simd_json_bench/out/libsimd_json_bench.a "$OUT/$level.a"
     make -s library CPU="$level" into="$OUT/c-$level" > "$OUT/c-$level.log" 2>&1 || { tail -n 20 "$OUT/c-$level.log" >&2; exit 1; }
+    tasks=
     placement=0
     while [ "$placement" -lt "$PLACEMENTS" ]; do
         library=$OUT/$level-$placement.so
@@ -45,17 +49,19 @@ for level in $levels; do
         calls="$calls c-${level#x86-64-}=$OUT/c-$level-$placement.so"
         scans="$scans scan-${level#x86-64-}=$library"
         refusals="$refusals refuse-${level#x86-64-}=$library"
+        tasks="$tasks tasks-${level#x86-64-}=$library"
         placement=$((placement + 1))
     done
 done
 
-# The others, as far as they are installed. The harness finds their headers by itself.
+# The others, as far as they are installed. The harness finds their headers by itself. What is in headers alone, as simdjson's
+# On-Demand, is built for our highest level.
 libraries=
 for library in simdjson yajl; do
     if echo 'int main() {}' | c++ -x c++ - -o "$OUT/probe" -l$library 2> /dev/null; then libraries="$libraries -l$library"; fi
 done
 # shellcheck disable=SC2086
-c++ -std=c++20 -O3 -march=native -DNDEBUG -DRAPIDJSON_SSE42 -Iinclude bench/harness.cpp -o "$OUT/harness" $libraries -ldl
+c++ -std=c++20 -O3 -march=$kernel -DNDEBUG -DRAPIDJSON_SSE42 -Iinclude bench/harness.cpp -o "$OUT/harness" $libraries -ldl
 
 REGISTRY=/usr/share/cargo/registry
 serde=
@@ -71,7 +77,7 @@ else
     say "left out: serde_json, which is not installed"
 fi
 
-python3 bench/texts.py "$OUT/texts"
+python3 bench/texts.py "$OUT/texts" "$@"
 say "timing"
 # shellcheck disable=SC2086
 "$OUT/harness" "$ROUNDS" "$OUT"/texts/kinds/*.json "$@" -- simdjson stage1 rapidjson yajl $serde $parses $calls $scans > "$OUT/kinds.tsv"
@@ -81,11 +87,19 @@ say "timing"
 "$OUT/harness" "$ROUNDS" "$OUT"/texts/sizes/*.json -- simdjson $parses > "$OUT/sizes.tsv"
 # shellcheck disable=SC2086
 "$OUT/harness" "$ROUNDS" "$OUT/texts/lines/log.jsonl" -- simdjson many $stream $parses > "$OUT/lines.tsv"
+: > "$OUT/tasks.tsv"
+for task in 0:twitter.json 1:twitter.json 2:twitter.json 3:twitter.json 4:citm_catalog.json 5:canada.json 6:canada.json 7:log.jsonl; do
+    words=
+    for contender in simdjson rapidjson $tasks; do words="$words ${task%%:*}:$contender"; done
+    # shellcheck disable=SC2086
+    "$OUT/harness" "$ROUNDS" "$OUT/texts/tasks/${task#*:}" -- $words >> "$OUT/tasks.tsv"
+done
+
 # Their samples are 64 times as long.
 # shellcheck disable=SC2086
 sh bench/shapes.sh "$OUT" $(((ROUNDS + 3) / 4)) "$OUT/x86-64-v2-0.so" $parses $refusals
 
-results="$OUT/kinds.tsv $OUT/varied.tsv $OUT/sizes.tsv $OUT/shapes.tsv $OUT/memory.tsv $OUT/lines.tsv"
+results="$OUT/kinds.tsv $OUT/varied.tsv $OUT/sizes.tsv $OUT/shapes.tsv $OUT/memory.tsv $OUT/lines.tsv $OUT/tasks.tsv"
 # shellcheck disable=SC2086
 python3 bench/tables.py $results > "$OUT/tables.md"
 python3 bench/chart.py "$OUT/kinds.tsv" > "$OUT/speed.svg"

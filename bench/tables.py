@@ -1,5 +1,5 @@
-"""tables.py KINDS.tsv VARIED.tsv SIZES.tsv SHAPES.tsv MEMORY.tsv LINES.tsv [DOCUMENT]: what the harness measured, as
-tables in Markdown.
+"""tables.py KINDS.tsv VARIED.tsv SIZES.tsv SHAPES.tsv MEMORY.tsv LINES.tsv TASKS.tsv [DOCUMENT]: what the harness
+measured, as tables in Markdown.
 
 With a document, all but that of shapes are put there between the marks `<!-- results -->` and `<!-- end of results -->`; else
 all are printed."""
@@ -141,8 +141,23 @@ def table_of_lines(lines):
     )
 
 
+def table_of_tasks(tasks):
+    """A line for each task: what simdjson's On-Demand takes (where it is absent, the fastest), and the speeds over that."""
+    ms = {}
+    for (text, contender), ns in tasks.ns.items():
+        task, name = contender.split(": ")
+        name = name.removeprefix("simd_json ").split(", ")[0]
+        ms.setdefault(task, {})[name] = ns and ns * tasks.sizes[text] / 1e6
+    names = list(dict.fromkeys(name for found in ms.values() for name in found))
+    lines = []
+    for task, found in ms.items():
+        base = found.get(names[0]) or min(filter(None, found.values()))
+        lines.append([task, shown(base), *(shown(found.get(name) and base / found[name]) for name in names[1:])])
+    return rows(["task", f"{names[0]}: ms", *names[1:]], lines)
+
+
 def main():
-    kinds, varied, sizes, log = (Results(sys.argv[i]) for i in (1, 2, 3, 6))
+    kinds, varied, sizes, log, tasks = (Results(sys.argv[i]) for i in (1, 2, 3, 6, 7))
     whole, scan = ("simdjson's best DOM parse", "its best stage 1") if kinds.has_simdjson() else ("the fastest", "the fastest")
     text = (
         f"Speed at the fastest round, ours at x86-64-v3 where the processor has it, as a multiple: of a whole parse over {whole}, "
@@ -156,15 +171,17 @@ def main():
         f"{means(kinds, sizes)}.\n\n"
         f"A log of {sum(log.sizes.values()) // 200:,} lines of 200 bytes, each line parsed by itself or all as one stream; the speed is "
         f"over the fastest of {'simdjson' if log.has_simdjson() else 'all'}.\n\n"
-        f"{table_of_lines(log)}\n"
+        f"{table_of_lines(log)}\n\n"
+        f"Tasks, by a kept tape, on demand (`find`) and on demand after a check; speed over the first column.\n\n"
+        f"{table_of_tasks(tasks)}\n"
     )
-    if len(sys.argv) == 7:
+    if len(sys.argv) == 8:
         shapes, memory = Results(sys.argv[4]), sys.argv[5]
         print(text)
         print("Shapes that are made to be slow: nanoseconds of a byte at 1 MB, at 64 MB (and how many times as much that is).\n")
         print(table_of_shapes(shapes, memory))
         return
-    document = Path(sys.argv[7])
+    document = Path(sys.argv[8])
     marked = re.compile(r"(<!-- results -->\n).*(<!-- end of results -->)", re.DOTALL)
     if not marked.search(document.read_text()):
         sys.exit(f"{document} has no marks for the results")

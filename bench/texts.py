@@ -1,7 +1,8 @@
-"""texts.py FOLDER: writes the texts of the benchmark, the same on every machine.
+"""texts.py FOLDER [FILE..]: writes the texts of the benchmark, the same on every machine.
 
 FOLDER/kinds has one text of each kind, FOLDER/varied forty short ones, FOLDER/sizes tweets of about 1 kB, 4 kB and so on to
-64 MB, FOLDER/lines a log of LINES lines (1,000,000) of 200 bytes."""
+64 MB, FOLDER/lines a log of LINES lines (1,000,000) of 200 bytes, FOLDER/tasks the texts of the tasks: a log of 200,000 lines,
+and for three well-known texts the FILE of that name, or else a text of its shape."""
 import itertools
 import json
 import os
@@ -192,20 +193,136 @@ def line_of(s, number):
     return compact(record) + "\n"
 
 
-def write_lines(path):
+def write_lines(path, count):
     """10,000 lines that come again."""
     s = Source(15)
     lines = "".join(line_of(s, n) for n in range(10_000)).encode()
-    whole, left = divmod(int(os.environ.get("LINES", 1_000_000)), 10_000)
+    whole, left = divmod(count, 10_000)
     with path.open("wb") as log:
         for _ in range(whole):
             log.write(lines)
         log.write(lines[: 200 * left])
 
 
+def account(s, others):
+    """A user with the members that a search of Twitter gives, in their order."""
+    user = tweet(s, others)["user"]
+    hex_color = [f"{s.below(2**24):06X}" for _ in range(5)]
+    colors = ["background_color", "link_color", "sidebar_border_color", "sidebar_fill_color", "text_color"]
+    image = f"http://pbs.example.org/profile_images/{s.below(10**18)}/{s.one_of(LATIN)}_normal.jpeg"
+    return {
+        "id": user["id"],
+        "id_str": str(user["id"]),
+        "name": user["name"],
+        "screen_name": user["screen_name"],
+        "location": user["location"],
+        "description": s.words(s.below(25), others),
+        "url": user["url"],
+        "entities": {"description": {"urls": []}},
+        "protected": False,
+        "followers_count": user["followers_count"],
+        "friends_count": user["friends_count"],
+        "listed_count": s.below(20),
+        "created_at": f"Sat Feb {10 + s.below(18)} 13:{10 + s.below(50)}:08 +0000 2013",
+        "favourites_count": s.below(5000),
+        "utc_offset": s.one_of([None, 32400]),
+        "time_zone": s.one_of([None, "Tokyo"]),
+        **{name: s.below(3) == 0 for name in ("geo_enabled", "verified")},
+        "statuses_count": s.below(50000),
+        "lang": "ja",
+        **{name: False for name in ("contributors_enabled", "is_translator", "is_translation_enabled")},
+        **{f"profile_{name}": color for name, color in zip(colors, hex_color)},
+        **{f"profile_{name}": image for name in ("background_image_url", "image_url", "image_url_https", "banner_url")},
+        **{name: s.below(2) == 0 for name in ("default_profile", "default_profile_image")},
+        **{name: False for name in ("following", "follow_request_sent", "notifications")},
+    }
+
+
+def status(s, others, number, repeated=None):
+    """A tweet of such a search; of three fifths another is repeated."""
+    found = tweet(s, others)
+    reply = s.one_of([None, None, None, number - s.below(10**9)])
+    mention = {"screen_name": s.one_of(LATIN), "name": s.words(2, others), "id": s.below(10**9), "indices": [0, 9]}
+    return {
+        "metadata": {"result_type": "recent", "iso_language_code": "ja"},
+        "created_at": found["created_at"],
+        "id": number,
+        "id_str": str(number),
+        "text": ("RT @" + s.one_of(LATIN) + ": " if repeated else "") + s.words(8 + s.below(12), others) + s.one_of(["", "\n"]),
+        "source": found["source"],
+        "truncated": False,
+        "in_reply_to_status_id": reply,
+        "in_reply_to_status_id_str": reply and str(reply),
+        **{f"in_reply_to_{name}": None for name in ("user_id", "user_id_str", "screen_name")},
+        "user": account(s, others),
+        **{name: None for name in ("geo", "coordinates", "place", "contributors")},
+        **({"retweeted_status": repeated} if repeated else {}),
+        "retweet_count": s.below(100),
+        "favorite_count": s.below(10),
+        "entities": found["entities"] | {"symbols": [], "user_mentions": [mention] if repeated else []},
+        "favorited": False,
+        "retweeted": False,
+        "lang": "ja",
+    }
+
+
+def twitter():
+    """A search with 100 tweets; the 14th has the number that is looked for."""
+    s, statuses = Source(16), []
+    for n in range(100):
+        number = 505874901689851900 if n == 13 else 505800000000000000 + s.below(10**13)
+        repeated = status(s, 0.6, number - s.below(10**12)) if s.below(5) > 1 else None
+        statuses.append(status(s, 0.6, number, repeated))
+    return json.dumps({"statuses": statuses, "search_metadata": {"count": 100}}, indent=2, ensure_ascii=False)
+
+
+def performance(s, event):
+    categories = [338937235 + s.below(100) for _ in range(1 + s.below(5))]
+    return {
+        "eventId": event,
+        "id": 339887544 + s.below(10**6),
+        "logo": s.one_of([None, f"/images/UE0AAAAACEKo6QAAAAZDSVR{s.below(10)}"]),
+        "name": None,
+        "prices": [{"amount": 100 * s.below(900), "audienceSubCategoryId": 337100890, "seatCategoryId": c} for c in categories],
+        "seatCategories": [
+            {"areas": [{"areaId": 205705993 + s.below(20), "blockIds": []} for _ in range(3 + s.below(14))], "seatCategoryId": c}
+            for c in categories
+        ],
+        "seatMapImage": None,
+        "start": 1372701600000 + s.below(10**9),
+        "venueCode": "PLEYEL_PLEYEL",
+    }
+
+
+def citm():
+    """184 events and 243 performances."""
+    s, events = Source(17), [138586341 + 4 * n for n in range(184)]
+    described = {
+        str(n): {"description": None, "id": n, "logo": None, "name": s.words(3), "subTopicIds": [337184269 + s.below(30) for _ in range(3)],
+                 "subjectCode": None, "subtitle": None, "topicIds": [324846099, 107888604]}
+        for n in events
+    }
+    performances = [performance(s, s.one_of(events)) for _ in range(243)]
+    return json.dumps({"areaNames": {}, "events": described, "performances": performances}, indent=4)
+
+
+def canada():
+    """The outline of 480 areas, 55,000 points in all."""
+    s, rings = Source(18), []
+    for n in range(480):
+        x, y = s.random() * 80 - 140, s.random() * 40 + 42
+        rings.append([[x := x + s.random() / 50 - 0.01, y := y + s.random() / 50 - 0.01] for _ in range(15 + (n % 2) * 199)])
+    geometry = {"type": "Polygon", "coordinates": rings}
+    feature = {"type": "Feature", "properties": {"name": "Canada"}, "geometry": geometry}
+    return compact({"type": "FeatureCollection", "features": [feature]})
+
+
+TASKS = {"twitter.json": twitter, "citm_catalog.json": citm, "canada.json": canada}
+
+
 def main():
     folder = Path(sys.argv[1])
-    for name in ("kinds", "varied", "sizes", "lines"):
+    for name in ("kinds", "varied", "sizes", "lines", "tasks"):
         (folder / name).mkdir(parents=True, exist_ok=True)
     for name, text in kinds():
         (folder / "kinds" / f"{name}.json").write_bytes(text.encode())
@@ -213,7 +330,11 @@ def main():
         (folder / "varied" / f"{name}.jsonl").write_bytes(lines)
     for i, size in enumerate(SIZES):
         (folder / "sizes" / f"{i}.json").write_bytes(tweets_of(size).encode())
-    write_lines(folder / "lines" / "log.jsonl")
+    write_lines(folder / "lines" / "log.jsonl", int(os.environ.get("LINES", 1_000_000)))
+    write_lines(folder / "tasks" / "log.jsonl", 200_000)
+    given = {Path(path).name: Path(path) for path in sys.argv[2:]}
+    for name, text in TASKS.items():
+        (folder / "tasks" / name).write_bytes(given[name].read_bytes() if name in given else text().encode())
 
 
 main()

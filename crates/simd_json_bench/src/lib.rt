@@ -7,11 +7,20 @@
 //! int64_t simd_json_bench_parse(uint8_t *text, size_t len);
 //! int64_t simd_json_bench_parse_all(uint8_t *texts, size_t size, size_t stride, size_t len);
 //! int64_t simd_json_bench_scan_all(const uint8_t *texts, size_t size, size_t stride, size_t len);
+//! uint64_t simd_json_bench_tape(uint8_t *texts, size_t size, size_t stride, size_t len, uint32_t task);
+//! uint64_t simd_json_bench_find(const uint8_t *texts, size_t size, size_t stride, size_t len, uint32_t task);
+//! uint64_t simd_json_bench_check(const uint8_t *texts, size_t size, size_t stride, size_t len, uint32_t task);
+//! uint64_t simd_json_bench_tape_lines(uint8_t *lines, size_t size);
+//! uint64_t simd_json_bench_find_lines(const uint8_t *lines, size_t size);
+//! uint64_t simd_json_bench_check_lines(const uint8_t *lines, size_t size);
 //! ```
 //!
-//! Each returns a count, -1 if a text was rejected, or -2 if an allocation failed or the count is
-//! too great. The last two take texts of `len` bytes, one at the front of each whole `stride` of
-//! `texts`.
+//! The first three return a count, -1 if a text was rejected, or -2 if an allocation failed or the
+//! count is too great. All but the first take texts of `len` bytes, one at the front of each whole
+//! `stride` of `texts`, or lines that end with a line feed.
+//!
+//! The others do a task by a kept tape, on demand, and on demand after a check; `tasks` lists them.
+//! They return 2^64 - 1 if a text was rejected or has not what the task asks for.
 #![tactic(auto)]
 
 ghost use Rattle.std.specs.Prelude.{◌≡◌, ◌≢◌, ℕ, pos, Ok, Err};
@@ -23,6 +32,7 @@ use simd_json::{Buffers, ErrorType, Result, Tape, fill_tape, to_tape};
 use simd_json_stages::stage1::{BlockStage1Parse, Stage1Parse};
 use std::alloc::Global;
 
+mod tasks;
 #[cfg(test)]
 mod tests;
 
@@ -101,4 +111,58 @@ fn scan_all(alloc: Global, texts: &[u8], stride: usize, len: usize) -> Result<us
         }
     }
     Ok(count)
+}
+
+/// Does a task by one kept tape. Returns what it says of all texts together.
+#[unsafe(no_mangle)]
+pub extern "C" fn simd_json_bench_tape(
+    alloc: Global,
+    texts: &mut [u8],
+    stride: usize,
+    len: usize,
+    task: u32,
+) -> u64 {
+    tasks::tape::of_texts(alloc, texts, stride, len, task).unwrap_or(tasks::NONE)
+}
+
+/// The same on demand.
+#[unsafe(no_mangle)]
+pub extern "C" fn simd_json_bench_find(
+    alloc: Global,
+    texts: &[u8],
+    stride: usize,
+    len: usize,
+    task: u32,
+) -> u64 {
+    tasks::on_demand::of_texts(alloc, texts, stride, len, task, false).unwrap_or(tasks::NONE)
+}
+
+/// The same on demand, after a check of each text.
+#[unsafe(no_mangle)]
+pub extern "C" fn simd_json_bench_check(
+    alloc: Global,
+    texts: &[u8],
+    stride: usize,
+    len: usize,
+    task: u32,
+) -> u64 {
+    tasks::on_demand::of_texts(alloc, texts, stride, len, task, true).unwrap_or(tasks::NONE)
+}
+
+/// Counts lines by their level by one kept tape, and adds the status of errors.
+#[unsafe(no_mangle)]
+pub extern "C" fn simd_json_bench_tape_lines(alloc: Global, lines: &mut [u8]) -> u64 {
+    tasks::tape::of_lines(alloc, lines).unwrap_or(tasks::NONE)
+}
+
+/// The same on demand.
+#[unsafe(no_mangle)]
+pub extern "C" fn simd_json_bench_find_lines(alloc: Global, lines: &[u8]) -> u64 {
+    tasks::on_demand::of_lines(alloc, lines, false).unwrap_or(tasks::NONE)
+}
+
+/// The same on demand, after a check of each line.
+#[unsafe(no_mangle)]
+pub extern "C" fn simd_json_bench_check_lines(alloc: Global, lines: &[u8]) -> u64 {
+    tasks::on_demand::of_lines(alloc, lines, true).unwrap_or(tasks::NONE)
 }

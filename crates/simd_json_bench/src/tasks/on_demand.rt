@@ -1,0 +1,210 @@
+//! The tasks on demand: keys are looked for in the order of the input.
+use super::{ERROR, WANTED, distinct, level_mark, mark};
+use memchr::memchr_iter;
+use simd_json_ondemand::{Array, Document, Index, Object, Result, Value};
+use std::alloc::Global;
+use std::num::f64_to_bits_with_nan;
+
+// Of texts of `len` bytes, one at the front of each whole stride.
+pub(crate) fn of_texts(
+    alloc: Global,
+    texts: &[u8],
+    stride: usize,
+    len: usize,
+    task: u32,
+    checks: bool,
+) -> Option<u64> {
+    let mut index = Index::new(alloc, len).ok()?;
+    let mut buffer = Vec::new(alloc);
+    let mut sum = 0u64;
+    for slot in texts.chunks_exact(stride.max(1)) {
+        let root = read(&mut index, slot.get(..len)?, checks).ok()?.as_value();
+        sum = sum.wrapping_add(answer(alloc, root, task, &mut buffer)?);
+    }
+    Some(sum)
+}
+
+// Of each line its level, and of those at the level `error` the status.
+pub(crate) fn of_lines(alloc: Global, texts: &[u8], checks: bool) -> Option<u64> {
+    let mut index = Index::new(alloc, 0).ok()?;
+    let mut buffer = Vec::new(alloc);
+    let mut sum = 0u64;
+    let mut from = 0usize;
+    for end in memchr_iter(b'\n', texts) {
+        let root = read(&mut index, texts.get(from..end)?, checks)
+            .ok()?
+            .as_value();
+        sum = sum.wrapping_add(line(root, &mut buffer)?);
+        from = end.saturating_add(1);
+    }
+    Some(sum)
+}
+
+#[inline(always)]
+fn read<'d>(index: &'d mut Index, text: &'d [u8], checks: bool) -> Result<Document<'d>> {
+    if checks {
+        index.check(text, 1024)
+    } else {
+        index.find(text)
+    }
+}
+
+fn answer(alloc: Global, root: Value<'_>, task: u32, buffer: &mut Vec<u8>) -> Option<u64> {
+    match task {
+        0 => partial(root, buffer),
+        1 => found(root, buffer),
+        2 => top(root, buffer),
+        3 => users(alloc, root),
+        4 => catalogue(root),
+        5 => literals(root),
+        6 => floats(root),
+        _ => None,
+    }
+}
+
+#[inline(always)]
+fn text_mark(value: Value<'_>, buffer: &mut Vec<u8>) -> Option<u64> {
+    match value.decode(buffer) {
+        Ok(text) => Some(mark(text?)),
+        Err(_) => None,
+    }
+}
+
+fn statuses(root: Value<'_>) -> Option<Array<'_>> {
+    root.get("statuses")?.as_array()
+}
+
+fn partial(root: Value<'_>, buffer: &mut Vec<u8>) -> Option<u64> {
+    let mut sum = 0u64;
+    for status in statuses(root)? {
+        sum = sum.wrapping_add(tweet(status.as_object()?, buffer)?);
+    }
+    Some(sum)
+}
+
+#[inline(always)]
+fn tweet(mut tweet: Object<'_>, buffer: &mut Vec<u8>) -> Option<u64> {
+    let created_at = text_mark(tweet.find("created_at")?, buffer)?;
+    let id = tweet.find("id")?.as_u64()?;
+    let text = text_mark(tweet.find("text")?, buffer)?;
+    let reply = tweet.find("in_reply_to_status_id")?.as_u64().unwrap_or(0);
+    let mut user = tweet.find("user")?.as_object()?;
+    let user_id = user.find("id")?.as_u64()?;
+    let name = text_mark(user.find("screen_name")?, buffer)?;
+    let retweets = tweet.find("retweet_count")?.as_u64()?;
+    let favorites = tweet.find("favorite_count")?.as_u64()?;
+    Some(
+        created_at
+            .wrapping_add(id)
+            .wrapping_add(text)
+            .wrapping_add(reply)
+            .wrapping_add(user_id)
+            .wrapping_add(name)
+            .wrapping_add(retweets)
+            .wrapping_add(favorites),
+    )
+}
+
+fn found(root: Value<'_>, buffer: &mut Vec<u8>) -> Option<u64> {
+    for status in statuses(root)? {
+        let mut tweet = status.as_object()?;
+        if tweet.find("id")?.as_u64()? == WANTED {
+            return text_mark(tweet.find("text")?, buffer);
+        }
+    }
+    None
+}
+
+fn top(root: Value<'_>, buffer: &mut Vec<u8>) -> Option<u64> {
+    let mut most = 0u64;
+    let mut top = None;
+    for status in statuses(root)? {
+        let mut tweet = status.as_object()?;
+        let text = tweet.find("text")?;
+        let name = tweet.find("user")?.get("name")?;
+        let retweets = tweet.find("retweet_count")?.as_u64()?;
+        if top.is_none() || retweets > most {
+            most = retweets;
+            top = Some((text, name));
+        }
+    }
+    let (text, name) = top?;
+    Some(
+        text_mark(text, buffer)?
+            .wrapping_add(text_mark(name, buffer)?)
+            .wrapping_add(most),
+    )
+}
+
+fn users(alloc: Global, root: Value<'_>) -> Option<u64> {
+    let mut ids = Vec::new(alloc);
+    for status in statuses(root)? {
+        let mut tweet = status.as_object()?;
+        ids.push(tweet.find("user")?.get("id")?.as_u64()?).ok()?;
+        if let Some(repeated) = tweet.find("retweeted_status") {
+            ids.push(repeated.get("user")?.get("id")?.as_u64()?).ok()?;
+        }
+    }
+    Some(distinct(&mut ids))
+}
+
+fn catalogue(root: Value<'_>) -> Option<u64> {
+    let mut sum = 0u64;
+    for performance in root.get("performances")?.as_array()? {
+        let mut performance = performance.as_object()?;
+        let event = performance.find("eventId")?.as_u64()?;
+        sum = sum.wrapping_add(1_000_003).wrapping_add(event);
+        for price in performance.find("prices")?.as_array()? {
+            sum = sum.wrapping_add(price.get("amount")?.as_u64()?);
+        }
+    }
+    Some(sum)
+}
+
+fn rings(root: Value<'_>) -> Option<Array<'_>> {
+    let feature = root.get("features")?.get_idx(0)?;
+    feature.get("geometry")?.get("coordinates")?.as_array()
+}
+
+fn literals(root: Value<'_>) -> Option<u64> {
+    let mut sum = 0u64;
+    for ring in rings(root)? {
+        for point in ring.as_array()? {
+            for number in point.as_array()? {
+                sum = sum.wrapping_add(number.raw()?.len() as u64);
+            }
+        }
+    }
+    Some(sum)
+}
+
+fn floats(root: Value<'_>) -> Option<u64> {
+    let mut sum = 0u64;
+    for ring in rings(root)? {
+        for point in ring.as_array()? {
+            for number in point.as_array()? {
+                sum = sum.wrapping_add(f64_to_bits_with_nan(float(number)?));
+            }
+        }
+    }
+    Some(sum)
+}
+
+#[inline(always)]
+fn float(number: Value<'_>) -> Option<f64> {
+    fast_float::parse(number.raw()?).ok()
+}
+
+#[inline(always)]
+fn line(root: Value<'_>, buffer: &mut Vec<u8>) -> Option<u64> {
+    let mut members = root.as_object()?;
+    let level = match members.find("level")?.decode(buffer) {
+        Ok(text) => level_mark(text?)?,
+        Err(_) => return None,
+    };
+    if level == ERROR {
+        let status = members.find("status")?.as_u64()?;
+        return Some(level.wrapping_add(status.wrapping_mul(1_000_039)));
+    }
+    Some(level)
+}
