@@ -314,7 +314,8 @@ template <class Documents> static uint64_t over_lines(Documents &documents, size
 
 static void add_simdjson_tasks(std::vector<Contender> &all, Task task) {
     using namespace simdjson;
-    get_active_implementation() = builtin_implementation();
+    // That of this program: the library's own is another.
+    get_active_implementation() = get_available_implementations()[SIMDJSON_STRINGIFY(SIMDJSON_BUILTIN_IMPLEMENTATION)];
     auto parser = std::make_shared<ondemand::parser>();
     auto room = std::make_shared<std::vector<uint8_t>>();
     auto dom = std::make_shared<dom::parser>();
