@@ -27,6 +27,7 @@ mod examples;
 mod floats;
 mod keys;
 mod memory;
+mod mutants;
 mod objects;
 mod other;
 mod pass;

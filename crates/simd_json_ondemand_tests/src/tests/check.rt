@@ -21,7 +21,7 @@ fn parsed(rt: &(impl AllocGlobal + Abort), input: &[u8], max_depth: usize) -> Op
 }
 
 // The error of a check is that of a parse, and the input stays as it is. Returns the error.
-fn checked(
+pub(super) fn checked(
     rt: &(impl AllocGlobal + Abort),
     index: &mut Index,
     input: &[u8],

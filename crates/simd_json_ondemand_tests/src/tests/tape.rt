@@ -60,7 +60,12 @@ pub(super) const SCALARS: &[&[u8]] = &[
     b"{\"a\":\"b\"}",
 ];
 
-fn assert_integers(rt: &impl Abort, value: Value<'_>, wanted: tape::Value<'_, '_>, case: &[u8]) {
+pub(super) fn assert_integers(
+    rt: &impl Abort,
+    value: Value<'_>,
+    wanted: tape::Value<'_, '_>,
+    case: &[u8],
+) {
     assert_same!(rt; value.as_i8(), wanted.as_i8(), case);
     assert_same!(rt; value.as_i16(), wanted.as_i16(), case);
     assert_same!(rt; value.as_i32(), wanted.as_i32(), case);
@@ -74,7 +79,12 @@ fn assert_integers(rt: &impl Abort, value: Value<'_>, wanted: tape::Value<'_, '_
     assert_same!(rt; value.as_usize(), wanted.as_usize(), case);
 }
 
-fn assert_others(rt: &impl Abort, value: Value<'_>, wanted: tape::Value<'_, '_>, case: &[u8]) {
+pub(super) fn assert_others(
+    rt: &impl Abort,
+    value: Value<'_>,
+    wanted: tape::Value<'_, '_>,
+    case: &[u8],
+) {
     assert_same!(rt; value.value_type(), Some(wanted.value_type()), case);
     assert_same!(rt; value.is_array(), wanted.is_array(), case);
     assert_same!(rt; value.is_object(), wanted.is_object(), case);
@@ -83,7 +93,7 @@ fn assert_others(rt: &impl Abort, value: Value<'_>, wanted: tape::Value<'_, '_>,
     assert_same!(rt; value.as_decimal(), wanted.as_decimal(), case);
 }
 
-fn assert_string(
+pub(super) fn assert_string(
     rt: &impl Abort,
     value: Value<'_>,
     wanted: tape::Value<'_, '_>,
