@@ -17,3 +17,4 @@ pub mod MemberTails
 pub mod ObjectViews
 pub mod Keys
 pub mod Lookup
+pub mod Pointers

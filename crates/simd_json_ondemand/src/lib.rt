@@ -7,6 +7,7 @@
 //!
 //! [`Value::get`] returns the value of the first member with a key. [`Object::find`] goes on where
 //! the search before it ended, so keys that are asked for in the order of the input take one pass.
+//! [`Value::pointer`] follows a JSON Pointer (RFC 6901), and [`Value::at`] one that is split once.
 //!
 //! # What is checked
 //!
@@ -50,6 +51,7 @@ mod index;
 mod key;
 pub mod laws;
 mod object;
+mod pointer;
 mod skip;
 mod strings;
 mod value;
@@ -60,4 +62,5 @@ pub use index::Index;
 pub use object::Object;
 pub use simd_json_parts::error::{Error, ErrorType, Result};
 pub use simd_json_parts::node::ValueType;
+pub use simd_json_parts::pointer::Pointer;
 pub use value::{Document, Value};

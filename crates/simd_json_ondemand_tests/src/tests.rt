@@ -28,6 +28,7 @@ mod keys;
 mod memory;
 mod objects;
 mod other;
+mod pointer;
 mod tape;
 
 // Why a test goes on: the allocations that are not to fail.
