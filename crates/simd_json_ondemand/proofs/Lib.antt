@@ -25,3 +25,4 @@ pub mod Inside
 pub mod Turns
 pub mod Walks
 pub mod WalkViews
+pub mod Pointers

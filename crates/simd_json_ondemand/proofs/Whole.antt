@@ -47,7 +47,7 @@ right-input b none =
     (sym (fault-by_size b) ∙ none) in
     (ltb-false max_length (length b) right.0, IsUtf8-from_is_utf8 b right.1)
 
-few-positions : (b : List ℕ) → length (positions b) ≤ length b
+pub few-positions : (b : List ℕ) → length (positions b) ≤ length b
 unfolding positions
 few-positions b = omega (
   arith,

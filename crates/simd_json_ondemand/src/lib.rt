@@ -9,6 +9,8 @@
 //! the search before it ended, so keys that are asked for in the order of the input take one pass;
 //! [`Object::pass`] goes on at the end of a value that another cursor has read. [`lines()`] returns
 //! the lines of JSON Lines, each a document of its own.
+//! the search before it ended, so keys that are asked for in the order of the input take one pass.
+//! [`Value::pointer`] follows a JSON Pointer (RFC 6901), and [`Value::at`] one that is split once.
 //!
 //! # What is checked
 //!
@@ -57,6 +59,7 @@ pub mod laws;
 mod nested;
 mod object;
 mod raw;
+mod pointer;
 mod skip;
 mod stream;
 mod strings;
@@ -74,4 +77,5 @@ pub use simd_json_parts::error::{Error, ErrorType, Result};
 pub use simd_json_parts::node::ValueType;
 pub use stream::{InputLines, lines};
 pub use unexpected::{Expected, Found, Unexpected};
+pub use simd_json_parts::pointer::Pointer;
 pub use value::{Document, Value};

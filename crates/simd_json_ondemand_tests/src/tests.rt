@@ -32,6 +32,7 @@ mod objects;
 mod other;
 mod pass;
 mod stream;
+mod pointer;
 mod tape;
 mod walks;
 
