@@ -9,7 +9,6 @@
 //! the search before it ended, so keys that are asked for in the order of the input take one pass;
 //! [`Object::pass`] goes on at the end of a value that another cursor has read. [`lines()`] returns
 //! the lines of JSON Lines, each a document of its own.
-//! the search before it ended, so keys that are asked for in the order of the input take one pass.
 //! [`Value::pointer`] follows a JSON Pointer (RFC 6901), and [`Value::at`] one that is split once.
 //!
 //! # What is checked
@@ -58,8 +57,8 @@ mod key;
 pub mod laws;
 mod nested;
 mod object;
-mod raw;
 mod pointer;
+mod raw;
 mod skip;
 mod stream;
 mod strings;
@@ -75,7 +74,7 @@ pub use index::Index;
 pub use object::Object;
 pub use simd_json_parts::error::{Error, ErrorType, Result};
 pub use simd_json_parts::node::ValueType;
+pub use simd_json_parts::pointer::Pointer;
 pub use stream::{InputLines, lines};
 pub use unexpected::{Expected, Found, Unexpected};
-pub use simd_json_parts::pointer::Pointer;
 pub use value::{Document, Value};
