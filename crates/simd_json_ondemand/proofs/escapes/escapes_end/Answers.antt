@@ -48,7 +48,7 @@ overflow_add-at c =
     let found = c.backslash_or_end-at.ensures in
     let slash = found.there (omega (arith, found.within, c.if-at-end.false)) in
     let x = at-escape b (here b at) at c.in_ok-_character.more _ (take_rest b at) (omega (arith, c.if-input-at-lt2.false)) slash
-    c.in_ok-_character.ensures in
+    c.in_ok-_character.ensures.value in
     omega (arith, x.within)
 
 pub overflow_add-at-in-loop-at : goal.overflow_add-at-in-loop-at
@@ -58,7 +58,7 @@ overflow_add-at-in-loop-at c =
     let found = c.backslash_or_end-at.ensures in
     let slash = found.there (omega (arith, found.within, c.if-at-end.false)) in
     let x = at-escape b (here b at) at c.in_ok-_character.more _ (take_rest b at) (omega (arith, c.if-input-at-lt2.false)) slash
-    c.in_ok-_character.ensures in
+    c.in_ok-_character.ensures.value in
     omega (arith, x.within)
 
 pub loop-at-preserved : goal.loop-at-preserved
@@ -68,7 +68,7 @@ loop-at-preserved c =
     let found = c.backslash_or_end-at.ensures in
     let slash = found.there (omega (arith, found.within, c.if-at-end.false)) in
     let x = at-escape b (here b at) at c.in_ok-_character.more _ (take_rest b at) (omega (arith, c.if-input-at-lt2.false)) slash
-    c.in_ok-_character.ensures in (
+    c.in_ok-_character.ensures.value in (
       omega (arith, c.loop-at.invariant.0, found.later),
       λ h. c.loop-at.invariant.1 (plain-passes (at - c.loop-at.at) b c.loop-at.at at (omega (arith, found.later)) found.later
           found.plain (x.passes h)),
