@@ -63,7 +63,8 @@ named-is token key r b is test s read =
     )
 
 -- a prefix that is taken off the token is one of the key
-split-by : (xs rest : List ℕ) (o : Option (List ℕ)) → option_map (λ k. xs ++ k) o ≡ Some rest → (k : List ℕ) × (o ≡ Some k) × (rest ≡ xs ++ k)
+split-by : (xs rest : List ℕ) (o : Option (List ℕ)) → option_map (λ k. xs ++ k) o ≡ Some rest
+    → (k : List ℕ) × (o ≡ Some k) × (rest ≡ xs ++ k)
 split-by xs rest None is = cc
 split-by xs rest (Some k) is = let same : xs ++ k ≡ rest = cc in (k, refl, sym same)
 
@@ -106,7 +107,15 @@ first-of : (ms : Members) (k v : Option Document) (rest : List (Option Document 
     → (k, v) ∷ rest ≡ all_members (members ms) → IsFirst ms k v rest
 first-of no_members k v rest is = cc
 first-of (member name d ms) k v rest is =
-    record { name = name; value = d; others = ms; split = refl; key_is = ap first-key is; value_is = ap first-value is; rest_is = ap (drop 1) is }
+    record {
+      name = name;
+      value = d;
+      others = ms;
+      split = refl;
+      key_is = ap first-key is;
+      value_is = ap first-value is;
+      rest_is = ap (drop 1) is;
+    }
 
 none-of : (ms : Members) → [] ≡ all_members (members ms) → members ms ≡ []
 none-of no_members is = refl
@@ -245,7 +254,8 @@ IsFollowed p v i w = (d : Document) → doc v ≡ Some d → (e : Document) × (
 pub IsFollowed-none : (p : List ℕ) (v : Value) → IsFollowed p v 0 v
 IsFollowed-none p v d h = (d, h, refl)
 
-there : (o : Option Document) (x : Option Document) → Some x ≡ option_map (λ (e : Document). Some e) o → (e : Document) × (o ≡ Some e) × (x ≡ Some e)
+there : (o x : Option Document) → Some x ≡ option_map (λ (e : Document). Some e) o
+    → (e : Document) × (o ≡ Some e) × (x ≡ Some e)
 there None x is = cc
 there (Some e) x is = let same : x ≡ Some e = cc in (e, refl, same)
 
@@ -254,7 +264,8 @@ nowhere None is = refl
 nowhere (Some e) is = cc
 
 pub IsFollowed-further : (p : List ℕ) (v w x : Value) (i e : ℕ) → IsFollowed p v i w → IsTokenAt p i e
-    → ((d : Document) → doc w ≡ Some d → Some (doc x) ≡ option_map (λ (e : Document). Some e) (result_ok (named (slice_range p (i + 1) e) d)))
+    → ((d : Document) → doc w ≡ Some d
+    → Some (doc x) ≡ option_map (λ (e : Document). Some e) (result_ok (named (slice_range p (i + 1) e) d)))
     → IsFollowed p v e x
 IsFollowed-further p v w x i e before at step d h =
     let b = before d h in

@@ -10,7 +10,8 @@ const SECTION_5: &[u8] = b"{\"foo\":[20,21],\"\":0,\"a/b\":1,\"c%d\":2,\"e^f\":3
 // The same keys as others may write them, of which some are equal.
 const ESCAPED: &[u8] = b" { \"a\\/b\" : 1 , \"m\\u007en\" : 8 , \"\\u0061\\u002fb\" : 2 , \
     \"~1\" : 3 , \"\\/\" : 4 , \"~\\u0030\" : 5 , \"example.com\\/a\\/key\" : 6 , \
-    \"\\u00e9\\ud83d\\ude00~\" : [ { \"x\" : 9 } , [ ] , null , 10 ] , \"\\q\" : 11 , \"q\" : 12 } ";
+    \"\\u00e9\\ud83d\\ude00~\" : [ { \"x\" : 9 } , [ ] , null , 10 ] , \"\\q\" : 11 , \
+    \"q\" : 12 } ";
 
 // A document and a pointer, and the integer that it names.
 const POINTERS: &[(&[u8], &str, Option<u64>)] = &[
