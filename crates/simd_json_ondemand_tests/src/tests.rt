@@ -31,8 +31,8 @@ mod mutants;
 mod objects;
 mod other;
 mod pass;
-mod stream;
 mod pointer;
+mod stream;
 mod tape;
 mod walks;
 
