@@ -1,6 +1,6 @@
 //! What each way to parse an input returns.
-use crate::printing::{assert_read_again, text};
-use crate::{listing, on_demand};
+use crate::listing;
+use crate::printing::assert_read_again;
 use anyhow::{Result, bail};
 use simd_json::{
     Buffers, DEFAULT_MAX_DEPTH, Deserializer, Error, INPUT_PADDING, Location, Tape, fill_tape,
@@ -49,8 +49,6 @@ pub fn parse(alloc: Global, used: &mut Buffers, input: &[u8], limit: usize) -> R
         differing: String::new(alloc),
     };
     answer.compare("locate", located)?;
-    let on_demand = on_demand_answer(alloc, input, limit, answer.first.as_str())?;
-    answer.compare("on demand", on_demand)?;
     answer.compare("used buffers", with_buffers(alloc, input, used)?)?;
     answer.compare("fill_tape", filled(alloc, input, used)?)?;
     answer.compare("refill_tape", refilled(alloc, input, used)?)?;
@@ -164,19 +162,6 @@ fn steps(alloc: Global, parsed: std::result::Result<Deserializer<'_>, Error>) ->
         nodes.push(steps.next_())?;
     }
     listing::nodes(alloc, nodes.as_slice())
-}
-
-// The error of a check, or the tape of a document whose values on demand have the tape's text.
-fn on_demand_answer(alloc: Global, input: &[u8], limit: usize, tape: &str) -> Result<String> {
-    let found = on_demand::compact(alloc, input, limit)?;
-    let mut copy = Vec::from_slice(alloc, input)?;
-    let mut buffers = Buffers::with_max_depth(alloc, 0, limit)?;
-    match to_tape_with_buffers(copy.as_mut_slice(), &mut buffers) {
-        Ok(parsed) if text(alloc, &parsed.as_value(), false)? == found => Ok(tape.to_string(
-            alloc,
-        )?),
-        _ => Ok(found),
-    }
 }
 
 // The error that is located, or the tape of a document.

@@ -6,7 +6,6 @@
 mod bytes;
 mod doors;
 mod listing;
-mod on_demand;
 mod pointers;
 mod printing;
 mod rows;

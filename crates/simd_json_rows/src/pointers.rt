@@ -1,10 +1,8 @@
 //! Values that JSON Pointers lead to.
-use crate::on_demand;
 use crate::printing::text;
 use anyhow::{Result, bail};
 use simd_json::tape::Value;
 use simd_json::{Pointer, to_tape};
-use simd_json_ondemand::Index;
 use std::alloc::Global;
 
 /// The compact text of the value that a pointer leads to, by each look-up, or where it stops.
@@ -15,13 +13,6 @@ pub fn pointed(alloc: Global, document: &[u8], pointer: &str) -> Result<String> 
     let found = value.pointer(pointer);
     if found != at_split(value, pointer) {
         bail!("`{pointer}` leads elsewhere when it is split");
-    }
-    let shown = match found {
-        Some(there) => Some(text(alloc, &there, false)?),
-        None => None,
-    };
-    if shown != on_demand_text(alloc, document, pointer)? {
-        bail!("`{pointer}` leads elsewhere on demand");
     }
     match value.try_pointer(pointer) {
         Ok(there) if found == Some(there) => text(alloc, &there, false),
@@ -36,26 +27,4 @@ fn at_split<'tape, 'input>(
 ) -> Option<Value<'tape, 'input>> {
     let split = Pointer::<8>::new(pointer)?;
     value.at(&split)
-}
-
-// The text of the value that the pointer leads to on demand, whole and split.
-fn on_demand_text(alloc: Global, document: &[u8], pointer: &str) -> Result<Option<String>> {
-    let mut index = Index::new(alloc, 0)?;
-    let root = index.find(document)?.as_value();
-    let found = match root.pointer(pointer) {
-        Some(value) => Some(on_demand::text(alloc, value)?),
-        None => None,
-    };
-    let split = match Pointer::<8>::new(pointer) {
-        Some(split) => root.at(&split),
-        None => None,
-    };
-    let split = match split {
-        Some(value) => Some(on_demand::text(alloc, value)?),
-        None => None,
-    };
-    if split != found {
-        bail!("`{pointer}` leads elsewhere on demand when it is split");
-    }
-    Ok(found)
 }
