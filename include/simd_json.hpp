@@ -22,6 +22,7 @@
 #include <stdexcept>
 #include <string>
 #include <string_view>
+#include <type_traits>
 #include <utility>
 
 namespace simd_json {
@@ -47,8 +48,9 @@ private:
     std::string what_;
 };
 
-class array_view;
-class object_view;
+template <bool is_object> class members;
+using array_view = members<false>;
+using object_view = members<true>;
 
 /* A value of a document. It is valid until its parser parses again or is destroyed, and is copied freely. */
 class element {
@@ -112,8 +114,7 @@ public:
     element operator[](int index) const { return found(find(index < 0 ? SIZE_MAX : static_cast<size_t>(index))); }
 
 private:
-    friend class array_view;
-    friend class object_view;
+    template <bool> friend class members;
 
     std::string_view text() const { return {text_ + (holds_text() ? node_->value : 0), holds_text() ? node_->len : 0}; }
     bool holds_text() const { return kind() == SIMD_JSON_STRING || kind() == SIMD_JSON_DECIMAL; }
@@ -136,16 +137,22 @@ private:
     const char *text_;
 };
 
-/* The elements of an array, for a range-for. */
-class array_view {
+/* The members of a container, for a range-for: the elements of an array, or the keys of an object with their values. */
+template <bool is_object> class members {
 public:
+    using item = std::conditional_t<is_object, std::pair<std::string_view, element>, element>;
     class iterator {
     public:
         iterator(element at, size_t left) : at_(at), left_(left) {}
-        element operator*() const { return at_; }
+        item operator*() const {
+            if constexpr (is_object)
+                return {at_.text(), at_.after()};
+            else
+                return at_;
+        }
         iterator &operator++() {
             left_--;
-            at_ = at_.after();
+            at_ = is_object ? at_.after().after() : at_.after();
             return *this;
         }
         bool operator!=(const iterator &other) const { return left_ != other.left_; }
@@ -154,35 +161,8 @@ public:
         element at_;
         size_t left_;
     };
-    explicit array_view(element of) : first_(of.beneath()), len_(of.is_array() ? of.node_->len : 0) {}
-    iterator begin() const { return {first_, len_}; }
-    iterator end() const { return {first_, 0}; }
-    size_t size() const { return len_; }
-
-private:
-    element first_;
-    size_t len_;
-};
-
-/* The members of an object, for a range-for: each a key and a value. */
-class object_view {
-public:
-    class iterator {
-    public:
-        iterator(element at, size_t left) : at_(at), left_(left) {}
-        std::pair<std::string_view, element> operator*() const { return {at_.text(), at_.after()}; }
-        iterator &operator++() {
-            left_--;
-            at_ = at_.after().after();
-            return *this;
-        }
-        bool operator!=(const iterator &other) const { return left_ != other.left_; }
-
-    private:
-        element at_;
-        size_t left_;
-    };
-    explicit object_view(element of) : first_(of.beneath()), len_(of.is_object() ? of.node_->len : 0) {}
+    explicit members(element of)
+        : first_(of.beneath()), len_(of.kind() == (is_object ? SIMD_JSON_OBJECT : SIMD_JSON_ARRAY) ? of.node_->len : 0) {}
     iterator begin() const { return {first_, len_}; }
     iterator end() const { return {first_, 0}; }
     size_t size() const { return len_; }
