@@ -1,9 +1,9 @@
 #!/bin/sh
-# Runs each `sh` block of docs/LINES.md as it is printed there, over logs of 150,000 lines of which two are refused, and compares
-# what it writes, byte for byte, with what one process writes, and the status with what that page says. The hosts of GNU parallel
-# are two SSH servers in network namespaces that are made here; Dask has two worker processes. A command for many machines also
-# runs while a host or a worker dies in the middle of a part. Prints a line for each run and for what was left out, cleans up,
-# and ends within two minutes, with status 1 where something differs.
+# Runs each `sh` block of docs/LINES.md and examples/README.md as it is printed there, over logs of 150,000 lines of which two are
+# refused, and compares what it writes, byte for byte, with what one process writes, and the status with what those pages say. The
+# hosts of GNU parallel are two SSH servers in network namespaces that are made here; Dask has two worker processes. A command for
+# many machines also runs while a host or a worker dies in the middle of a part. Prints a line for each run and for what was left
+# out, cleans up, and ends within two minutes, with status 1 where something differs.
 #
 # usage: sh tests/engines.sh [PROGRAM]       Debian's packages: parallel, openssh-server, iproute2, python3-distributed
 set -u
@@ -159,7 +159,7 @@ else
     say "left out: Dask, as python3-distributed is not installed"
 fi
 
-awk '/^```sh$/ { inside = 1; next } /^```/ { inside = 0 } inside' "$top/docs/LINES.md" > commands
+awk '/^```sh$/ { inside = 1; next } /^```/ { inside = 0 } inside' "$top/docs/LINES.md" "$top/examples/README.md" > commands
 while read -r command <&3; do
     case $command in
     *--sshlogin*)
