@@ -62,7 +62,7 @@ fn report(rt: &HostRuntime, log: &mut impl BufRead, output: &mut impl Write) -> 
     Ok(())
 }
 
-// Keeps no more than `LONGEST` bytes of the next line, and returns how many it has: none at the end.
+// Keeps at most `LONGEST` bytes of the next line, and returns how many it has: none at the end.
 fn next_line(log: &mut impl BufRead, line: &mut Vec<u8>) -> io::Result<usize> {
     line.clear();
     let kept = log.by_ref().take(LONGEST as u64).read_until(b'\n', line)?;

@@ -83,9 +83,9 @@ fn places_in_deep_inputs(rt: HostRuntime) {
     }
 }
 
-// Each heap leaves more memory than the one before it, so that another allocation fails, and then none. Where one
-// fails this is the error, and no place is returned; all memory is given back. Returns whether one fails: an input that is not
-// UTF-8 takes no memory.
+// Each heap leaves more memory than the one before it, so that another allocation fails, and then
+// none. Where one fails this is the error, and no place is returned; all memory is given back.
+// Returns whether one fails: an input that is not UTF-8 takes no memory.
 fn may_fail(
     rt: &(impl AllocGlobal + Abort),
     input: &[u8],
