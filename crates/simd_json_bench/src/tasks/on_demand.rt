@@ -56,8 +56,8 @@ fn answer(alloc: Global, root: Value<'_>, task: u32, buffer: &mut Vec<u8>) -> Op
         2 => top(root, buffer),
         3 => users(alloc, root),
         4 => catalogue(root),
-        5 => literals(root),
-        6 => floats(root),
+        5 => coordinates::<false>(root),
+        6 => coordinates::<true>(root),
         _ => None,
     }
 }
@@ -76,14 +76,20 @@ fn statuses(root: Value<'_>) -> Option<Array<'_>> {
 
 fn partial(root: Value<'_>, buffer: &mut Vec<u8>) -> Option<u64> {
     let mut sum = 0u64;
-    for status in statuses(root)? {
-        sum = sum.wrapping_add(tweet(status.as_object()?, buffer)?);
+    let mut statuses = statuses(root)?;
+    for _ in 0..usize::MAX {
+        let Some(status) = statuses.next_value() else {
+            break;
+        };
+        let mut fields = status.as_object()?;
+        sum = sum.wrapping_add(tweet(&mut fields, buffer)?);
+        statuses.pass(fields.end());
     }
     Some(sum)
 }
 
 #[inline(always)]
-fn tweet(mut tweet: Object<'_>, buffer: &mut Vec<u8>) -> Option<u64> {
+fn tweet(tweet: &mut Object<'_>, buffer: &mut Vec<u8>) -> Option<u64> {
     let created_at = text_mark(tweet.find("created_at")?, buffer)?;
     let id = tweet.find("id")?.as_u64()?;
     let text = text_mark(tweet.find("text")?, buffer)?;
@@ -91,6 +97,7 @@ fn tweet(mut tweet: Object<'_>, buffer: &mut Vec<u8>) -> Option<u64> {
     let mut user = tweet.find("user")?.as_object()?;
     let user_id = user.find("id")?.as_u64()?;
     let name = text_mark(user.find("screen_name")?, buffer)?;
+    tweet.pass(user.end());
     let retweets = tweet.find("retweet_count")?.as_u64()?;
     let favorites = tweet.find("favorite_count")?.as_u64()?;
     Some(
@@ -106,11 +113,13 @@ fn tweet(mut tweet: Object<'_>, buffer: &mut Vec<u8>) -> Option<u64> {
 }
 
 fn found(root: Value<'_>, buffer: &mut Vec<u8>) -> Option<u64> {
-    for status in statuses(root)? {
-        let mut tweet = status.as_object()?;
+    let mut statuses = statuses(root)?;
+    for _ in 0..usize::MAX {
+        let mut tweet = statuses.next_value()?.as_object()?;
         if tweet.find("id")?.as_u64()? == WANTED {
             return text_mark(tweet.find("text")?, buffer);
         }
+        statuses.pass(tweet.end());
     }
     None
 }
@@ -118,15 +127,22 @@ fn found(root: Value<'_>, buffer: &mut Vec<u8>) -> Option<u64> {
 fn top(root: Value<'_>, buffer: &mut Vec<u8>) -> Option<u64> {
     let mut most = 0u64;
     let mut top = None;
-    for status in statuses(root)? {
+    let mut statuses = statuses(root)?;
+    for _ in 0..usize::MAX {
+        let Some(status) = statuses.next_value() else {
+            break;
+        };
         let mut tweet = status.as_object()?;
         let text = tweet.find("text")?;
-        let name = tweet.find("user")?.get("name")?;
+        let mut user = tweet.find("user")?.as_object()?;
+        let name = user.find("name")?;
+        tweet.pass(user.end());
         let retweets = tweet.find("retweet_count")?.as_u64()?;
         if top.is_none() || retweets > most {
             most = retweets;
             top = Some((text, name));
         }
+        statuses.pass(tweet.end());
     }
     let (text, name) = top?;
     Some(
@@ -138,25 +154,54 @@ fn top(root: Value<'_>, buffer: &mut Vec<u8>) -> Option<u64> {
 
 fn users(alloc: Global, root: Value<'_>) -> Option<u64> {
     let mut ids = Vec::new(alloc);
-    for status in statuses(root)? {
+    let mut statuses = statuses(root)?;
+    for _ in 0..usize::MAX {
+        let Some(status) = statuses.next_value() else {
+            break;
+        };
         let mut tweet = status.as_object()?;
-        ids.push(tweet.find("user")?.get("id")?.as_u64()?).ok()?;
+        let mut user = tweet.find("user")?.as_object()?;
+        ids.push(user.find("id")?.as_u64()?).ok()?;
+        tweet.pass(user.end());
         if let Some(repeated) = tweet.find("retweeted_status") {
-            ids.push(repeated.get("user")?.get("id")?.as_u64()?).ok()?;
+            let mut repeated = repeated.as_object()?;
+            ids.push(repeated.find("user")?.get("id")?.as_u64()?).ok()?;
+            tweet.pass(repeated.end());
         }
+        statuses.pass(tweet.end());
     }
     Some(distinct(&mut ids))
 }
 
 fn catalogue(root: Value<'_>) -> Option<u64> {
     let mut sum = 0u64;
-    for performance in root.get("performances")?.as_array()? {
+    let mut performances = root.get("performances")?.as_array()?;
+    for _ in 0..usize::MAX {
+        let Some(performance) = performances.next_value() else {
+            break;
+        };
         let mut performance = performance.as_object()?;
         let event = performance.find("eventId")?.as_u64()?;
-        sum = sum.wrapping_add(1_000_003).wrapping_add(event);
-        for price in performance.find("prices")?.as_array()? {
-            sum = sum.wrapping_add(price.get("amount")?.as_u64()?);
-        }
+        let mut prices = performance.find("prices")?.as_array()?;
+        sum = sum
+            .wrapping_add(1_000_003)
+            .wrapping_add(event)
+            .wrapping_add(amounts(&mut prices)?);
+        performance.pass(prices.end());
+        performances.pass(performance.end());
+    }
+    Some(sum)
+}
+
+fn amounts(prices: &mut Array<'_>) -> Option<u64> {
+    let mut sum = 0u64;
+    for _ in 0..usize::MAX {
+        let Some(price) = prices.next_value() else {
+            break;
+        };
+        let mut price = price.as_object()?;
+        sum = sum.wrapping_add(price.find("amount")?.as_u64()?);
+        prices.pass(price.end());
     }
     Some(sum)
 }
@@ -166,26 +211,46 @@ fn rings(root: Value<'_>) -> Option<Array<'_>> {
     feature.get("geometry")?.get("coordinates")?.as_array()
 }
 
-fn literals(root: Value<'_>) -> Option<u64> {
+fn coordinates<const FLOATS: bool>(root: Value<'_>) -> Option<u64> {
     let mut sum = 0u64;
-    for ring in rings(root)? {
-        for point in ring.as_array()? {
-            for number in point.as_array()? {
-                sum = sum.wrapping_add(number.raw()?.len() as u64);
-            }
-        }
+    let mut rings = rings(root)?;
+    for _ in 0..usize::MAX {
+        let Some(ring) = rings.next_value() else {
+            break;
+        };
+        let mut points = ring.as_array()?;
+        sum = sum.wrapping_add(all_points::<FLOATS>(&mut points)?);
+        rings.pass(points.end());
     }
     Some(sum)
 }
 
-fn floats(root: Value<'_>) -> Option<u64> {
+#[inline(always)]
+fn all_points<const FLOATS: bool>(points: &mut Array<'_>) -> Option<u64> {
     let mut sum = 0u64;
-    for ring in rings(root)? {
-        for point in ring.as_array()? {
-            for number in point.as_array()? {
-                sum = sum.wrapping_add(f64_to_bits_with_nan(float(number)?));
-            }
-        }
+    for _ in 0..usize::MAX {
+        let Some(point) = points.next_value() else {
+            break;
+        };
+        let mut numbers = point.as_array()?;
+        sum = sum.wrapping_add(all_numbers::<FLOATS>(&mut numbers)?);
+        points.pass(numbers.end());
+    }
+    Some(sum)
+}
+
+#[inline(always)]
+fn all_numbers<const FLOATS: bool>(numbers: &mut Array<'_>) -> Option<u64> {
+    let mut sum = 0u64;
+    for _ in 0..usize::MAX {
+        let Some(number) = numbers.next_value() else {
+            break;
+        };
+        sum = sum.wrapping_add(if FLOATS {
+            f64_to_bits_with_nan(float(number)?)
+        } else {
+            number.raw()?.len() as u64
+        });
     }
     Some(sum)
 }
