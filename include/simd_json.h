@@ -46,6 +46,14 @@
 extern "C" {
 #endif
 
+/* The version of this header, as in `#if SIMD_JSON_VERSION >= 200`, and the version of the library that is linked. With the
+ * same major number a program needs no new build (the soname has it). */
+#define SIMD_JSON_VERSION_MAJOR 0
+#define SIMD_JSON_VERSION_MINOR 1
+#define SIMD_JSON_VERSION_PATCH 0
+#define SIMD_JSON_VERSION (SIMD_JSON_VERSION_MAJOR * 10000 + SIMD_JSON_VERSION_MINOR * 100 + SIMD_JSON_VERSION_PATCH)
+uint32_t simd_json_version(void);
+
 /* What a call returns: SIMD_JSON_OK, or why there is no result. The first error of the input is reported: one of the
  * whole input, in the order below, and else the first at a token. */
 enum {
@@ -108,7 +116,7 @@ enum {
 };
 
 /* A node of a tape: a scalar, a key, or the header of a container, whose members' nodes follow it; a member of an object
- * is its key's node, then its value's. The next sibling of a container is at its own index + 1 + value.
+ * is its key's node, then its value's (simd_json_next).
  *
  * An integer of each kind is the number high * 2^64 + value, in two's complement where it is signed, so
  * (__int128)((unsigned __int128)high << 64 | value) is any integer but the greater half of U128. Fields of which nothing is
@@ -119,6 +127,20 @@ typedef struct {
     uint64_t value;
     uint64_t high;
 } simd_json_node;
+
+/* The index of the next sibling of the node at index i: the first node after it and what lies beneath it. The elements of an
+ * array, and the values of an object with their keys:
+ *
+ *     size_t at = array + 1;
+ *     for (size_t n = 0; n < nodes[array].len; n++, at = simd_json_next(nodes, at))
+ *         use(&nodes[at]);
+ *
+ *     at = object + 1;
+ *     for (size_t n = 0; n < nodes[object].len; n++, at = simd_json_next(nodes, at + 1))
+ *         use_pair(&nodes[at], &nodes[at + 1]); */
+static inline size_t simd_json_next(const simd_json_node *nodes, size_t i) {
+    return i + 1 + (nodes[i].kind >= SIMD_JSON_ARRAY ? (size_t)nodes[i].value : 0);
+}
 
 /* How many nodes, and how many bytes of text. */
 typedef struct {
@@ -167,6 +189,26 @@ int32_t simd_json_pretty(void *input, size_t len, size_t max_depth, void *out, s
  * Any other status: *used and indexes are unchanged. */
 int32_t simd_json_index(const void *input, size_t len, uint32_t *indexes, size_t indexes_len, size_t *used,
                         simd_json_place *place);
+
+/* Where an input is rejected, for people: a byte offset, its line by line feeds and its column in characters, both from 1. */
+typedef struct {
+    size_t byte;
+    size_t line;
+    size_t column;
+} simd_json_position;
+
+/* The position and the reason in words of an error, as "expected a value, found `]`": `status` and `place` are what a call has
+ * reported, and `input` is the bytes as they were before it. Writes *position: an error with a character is at its index, and
+ * one of the whole input at the first byte that begins no UTF-8 character, at the control byte in a string or the opening quote
+ * of the string that has no end, at the end, or at the first byte too many. Of a status that is no error of an input it is
+ * zeros, and the reason is empty.
+ *
+ * OK: *needed is the length of the reason, which is at the front of out; there is no terminator.
+ * TOO_LITTLE_ROOM: *needed is the length that is needed, at most SIMD_JSON_REASON_MAX, and out is unchanged.
+ * OUT_OF_MEMORY: *needed and out are unchanged. */
+#define SIMD_JSON_REASON_MAX 64
+int32_t simd_json_location(const void *input, size_t len, int32_t status, const simd_json_place *place,
+                           simd_json_position *position, void *out, size_t out_len, size_t *needed);
 
 /* A parser that keeps its memory from one input to the next, which is faster for many small inputs:
  *

@@ -5,14 +5,17 @@
 #![tactic(auto)]
 
 mod index;
+mod location;
 mod nodes;
 mod parser;
 mod print;
 mod sink;
 mod status;
 mod tape;
+mod version;
 
 pub use index::simd_json_index;
+pub use location::{Position, simd_json_location};
 pub use nodes::{Node, Room};
 pub use parser::{
     Parser, simd_json_close, simd_json_open, simd_json_parser_check, simd_json_parser_tape,
@@ -20,3 +23,4 @@ pub use parser::{
 pub use print::{simd_json_compact, simd_json_pretty};
 pub use status::{ErrorPlace, simd_json_kind_name, simd_json_status_name};
 pub use tape::{simd_json_check, simd_json_tape};
+pub use version::simd_json_version;
