@@ -1,177 +1,197 @@
 // The same types are read by `simd_json_serde` and by `serde_json`.
-use crate::tests::types::{Command, Either, Folder, Message, Outer, Shape, Strict, Timeline, Wide};
-use crate::tests::{bytes_of, read_owned_from};
+use crate::tests::MEMORY;
+use crate::tests::types::{Command, Either, Folder, Message, Placed, Shape, Tweet, Wide};
 use serde::{Deserialize, DeserializeOwned};
+use simd_json::{Buffers, Tape};
+use simd_json_serde::{Texts, read_owned};
 use std::alloc::Global;
 use std::collections::BTreeMap;
 use std::process::Abort;
 
-const TWEETS: &str = r#"{"statuses":[{"meta":{"x":[1,{"y":[]}]},"id":505874924095815681,
-"text":"@a \n\n\u524d\ud83d\ude00 \"q\"","user":{"name":"A","screen_name":"ay","z":null},
-"reply":null,"indices":[[1,2],[3,4]],"urls":[]},
-{"id":1,"text":"","user":{"handle":"h","name":"B"},"reply":5}],"search":{"count":100}}"#;
+const TWEETS: &str = r#"[{"meta":[1,{"y":[]}],"id":505874924095815681,
+"text":"@a \n\u524d\ud83d\ude00 \"q\"","screen_name":"ay","place":{"x":1,"z":null,"y":-2},
+"indices":[[1,2],[3,4]]},{"id":1,"text":"","handle":"h","place":null}]"#;
 
-// Whether both readers return the same value, or both an error.
-fn agree<'a, T: DeserializeOwned + Deserialize<'a> + PartialEq>(
+const WIDE: &str = r#"[[-128,-32768,-2147483648,-9223372036854775808],
+[-170141183460469231731687303715884105728,340282366920938463463374607431768211455,1.1,
+12345678901234567890123],["\u00e9",true,null,18446744073709551615],[1,2,3]]"#;
+
+// How many of the lines are values. Both readers return the same for each, or both an error; but
+// `-0` is an integer here, and a float there.
+fn values_in<'a, T: DeserializeOwned + Deserialize<'a> + PartialEq>(
     rt: &impl Abort,
     alloc: Global,
-    text: &'a str,
-) -> bool {
-    let ours: Result<T, simd_json_serde::Error> = read_owned_from(rt, alloc, text);
-    let theirs: Result<T, serde_json::Error> = serde_json::from_str(alloc, text);
-    match (ours, theirs) {
-        (Ok(ours), Ok(theirs)) => ours == theirs,
-        (Err(_), Err(_)) => true,
-        _ => false,
+    lines: &'a str,
+) -> usize {
+    let mut values = 0usize;
+    let mut input = Vec::new(alloc);
+    let mut buffers = Buffers::new(alloc, 0).expect(rt, MEMORY);
+    let mut texts = Texts::new(alloc);
+    let mut kept = Tape::empty(alloc);
+    for line in lines.lines() {
+        input.clear();
+        input.extend_from_slice(line.as_bytes()).expect(rt, MEMORY);
+        let (ours, tape) = read_owned::<T>(&mut input, &mut buffers, kept, &mut texts);
+        kept = tape;
+        let theirs: Result<T, serde_json::Error> = serde_json::from_str(alloc, line);
+        if ours.is_ok() {
+            values = values.saturating_add(1);
+        }
+        let agrees = match (ours, theirs) {
+            (Ok(ours), Ok(theirs)) => ours == theirs,
+            (Err(_), Err(_)) => true,
+            _ => false,
+        };
+        assert_that!(rt; agrees || line.contains("-0"), line);
     }
-}
-
-// The same, where both have to return a value.
-fn agree_on_a_value<'a, T: DeserializeOwned + Deserialize<'a> + PartialEq>(
-    rt: &impl Abort,
-    alloc: Global,
-    text: &'a str,
-) -> bool {
-    let ours: Result<T, simd_json_serde::Error> = read_owned_from(rt, alloc, text);
-    ours.is_ok() && agree::<T>(rt, alloc, text)
+    values
 }
 
 #[test]
 fn structs_agree(rt: HostRuntime) {
     let alloc = rt.alloc();
-    assert_that!(&rt; agree_on_a_value::<Timeline>(&rt, alloc, TWEETS), TWEETS);
-    for text in [
-        r#"{"a":1}"#,
-        r#"{"a":1,"b":2}"#,
-        r#"{"a":256}"#,
-        r#"{"a":1,"a":1}"#,
-        "[1]",
-        "[1,2]",
-        "[]",
-        "{}",
-    ] {
-        assert_that!(&rt; agree::<Strict>(&rt, alloc, text), text);
-    }
-    for text in [
-        r#"{"id":1,"x":2,"z":[0],"y":-3}"#,
-        r#"{"id":1,"x":2}"#,
-        r#"{"id":1,"x":2,"y":200}"#,
-    ] {
-        assert_that!(&rt; agree::<Outer>(&rt, alloc, text), text);
-    }
-    for text in [
-        r#"{"size":1,"folders":[]}"#,
-        r#"{"size":1,"folders":[{"size":2,"folders":[{"folders":[],"size":3}]}]}"#,
-        r#"{"size":1,"folders":[{"size":2}]}"#,
-    ] {
-        assert_that!(&rt; agree::<Folder>(&rt, alloc, text), text);
-    }
+    let tweets = one_line(&rt, alloc, TWEETS);
+    assert_same!(&rt; values_in::<Vec<Tweet>>(&rt, alloc, &tweets), 1);
+    let folders = r#"{"size":1,"folders":[]}
+{"size":1,"folders":[{"size":2,"folders":[{"folders":[],"size":3}]}]}
+[1,[[2,[]]]]
+{"size":1,"folders":[{"size":2}]}
+{"size":1,"folders":[],"more":2}
+{"size":256,"folders":[]}
+{"size":1,"folders":[],"size":1}
+[1]
+[1,[],2]
+[]
+{}"#;
+    assert_same!(&rt; values_in::<Folder>(&rt, alloc, folders), 3);
+    let placed = r#"{"id":1,"x":2,"z":[0],"y":-3}
+{"id":1,"x":2}
+{"id":1,"x":2,"y":200}"#;
+    assert_same!(&rt; values_in::<Placed>(&rt, alloc, placed), 1);
 }
+
+// Of each enum the values come first.
+const ENUMS: &str = r#""Dot"
+{"Line":[1,2]}
+{"Circle":{"radius":1.5}}
+{"Circle":{"radius":2}}
+{"Named":"n\n"}
+{"Dot":null}
+{"kind":"move_to","x":1,"y":-2}
+{"y":-2,"x":1,"more":[[{}],{"a":{"b":[]}}],"kind":"move_to"}
+{"kind":"stop","more":[]}
+{"t":"Ping"}
+{"t":"Text","c":"a"}
+{"c":{"x":7},"t":"Point"}
+[1,true]
+"t"
+1
+-1
+[1,2]
+[]
+{"Line":[1,2,3]}
+{"Line":[1]}
+{"Circle":{"radius":1e999}}
+{"Circle":{}}
+{"Named":1}
+{"Square":1}
+{"Dot":null,"Dot":null}
+{"kind":"fly"}
+{"x":1}
+{"t":"Text"}
+[1,true,2]
+1.5
+null
+{}"#;
 
 #[test]
 fn enums_agree(rt: HostRuntime) {
     let alloc = rt.alloc();
-    for text in [
-        r#""Dot""#,
-        r#"{"Line":[1,2]}"#,
-        r#"{"Line":[1,2,3]}"#,
-        r#"{"Line":[1]}"#,
-        r#"{"Circle":{"radius":1.5}}"#,
-        r#"{"Circle":{"radius":2}}"#,
-        r#"{"Circle":{"radius":1e999}}"#,
-        r#"{"Circle":{}}"#,
-        r#"{"Named":"n\n"}"#,
-        r#"{"Named":1}"#,
-        r#"{"Square":1}"#,
-        r#"{"Dot":null}"#,
-        r#"{"Dot":null,"Dot":null}"#,
-        r#"{"kind":"move_to","x":1,"y":-2}"#,
-        r#"{"y":-2,"x":1,"more":[[{}],{"a":{"b":[]}}],"kind":"move_to"}"#,
-        r#"{"kind":"stop","more":[]}"#,
-        r#"{"kind":"fly"}"#,
-        r#"{"x":1}"#,
-        r#"{"t":"Ping"}"#,
-        r#"{"t":"Text","c":"a"}"#,
-        r#"{"c":{"x":7},"t":"Point"}"#,
-        r#"{"t":"Text"}"#,
-        "[1,true]",
-        "[1,2]",
-        "[1,true,2]",
-        r#""t""#,
-        "1",
-        "-1",
-        "1.5",
-        "null",
-        "{}",
-        "[]",
-    ] {
-        assert_that!(&rt; agree::<Shape>(&rt, alloc, text), text);
-        assert_that!(&rt; agree::<Option<Shape>>(&rt, alloc, text), text);
-        assert_that!(&rt; agree::<Command>(&rt, alloc, text), text);
-        assert_that!(&rt; agree::<Message>(&rt, alloc, text), text);
-        assert_that!(&rt; agree::<Either>(&rt, alloc, text), text);
-    }
+    assert_same!(&rt; values_in::<Shape>(&rt, alloc, ENUMS), 6);
+    assert_same!(&rt; values_in::<Option<Shape>>(&rt, alloc, ENUMS), 7);
+    assert_same!(&rt; values_in::<Command>(&rt, alloc, ENUMS), 3);
+    assert_same!(&rt; values_in::<Message>(&rt, alloc, ENUMS), 3);
+    assert_same!(&rt; values_in::<Either>(&rt, alloc, ENUMS), 7);
 }
+
+const KEYS: &str = r#"{"1":[2],"-3":[],"0":[4,5]}
+{}
+{"01":[]}
+{"1.0":[]}
+{"a":[]}
+{"+1":[]}"#;
+
+const SCALARS: &str = r#"0.1
+1e23
+9007199254740993
+-5
+127
+128
+255
+256
+18446744073709551615
+18446744073709551616
+1e400
+123456789012345678901234567890
+[1,"x",null]
+"x""#;
 
 #[test]
 fn maps_tuples_and_numbers_agree(rt: HostRuntime) {
     let alloc = rt.alloc();
-    for text in [
-        r#"{"1":[2],"-3":[],"0":[4,5]}"#,
-        r#"{"01":[]}"#,
-        r#"{"1.0":[]}"#,
-        r#"{"a":[]}"#,
-        r#"{"+1":[]}"#,
-        "{}",
-    ] {
-        assert_that!(&rt; agree::<BTreeMap<i32, Vec<u8>>>(&rt, alloc, text), text);
-        assert_that!(&rt; agree::<BTreeMap<String, Vec<u8>>>(&rt, alloc, text), text);
-    }
-    let wide = r#"{"a":-128,"b":-32768,"c":-2147483648,"d":-9223372036854775808,
-        "e":-170141183460469231731687303715884105728,
-        "f":340282366920938463463374607431768211455,"g":1.1,"h":12345678901234567890123,
-        "i":"é","j":true,"k":null,"l":18446744073709551615,"m":[1,2,3]}"#;
-    assert_that!(&rt; agree_on_a_value::<Wide>(&rt, alloc, wide), wide);
-    for text in [
-        "0.1",
-        "1e23",
-        "9007199254740993",
-        "-5",
-        "127",
-        "128",
-        "255",
-        "256",
-        "18446744073709551615",
-        "18446744073709551616",
-        "1e400",
-        "123456789012345678901234567890",
-        r#"[1,"x",null]"#,
-        r#""x""#,
-    ] {
-        assert_that!(&rt; agree::<f64>(&rt, alloc, text), text);
-        assert_that!(&rt; agree::<f32>(&rt, alloc, text), text);
-        assert_that!(&rt; agree::<i8>(&rt, alloc, text), text);
-        assert_that!(&rt; agree::<u8>(&rt, alloc, text), text);
-        assert_that!(&rt; agree::<i64>(&rt, alloc, text), text);
-        assert_that!(&rt; agree::<u128>(&rt, alloc, text), text);
-        assert_that!(&rt; agree::<char>(&rt, alloc, text), text);
-        assert_that!(&rt; agree::<(u8, String, Option<bool>)>(&rt, alloc, text), text);
-    }
+    assert_same!(&rt; values_in::<BTreeMap<i32, Vec<u8>>>(&rt, alloc, KEYS), 2);
+    assert_same!(&rt; values_in::<BTreeMap<String, Vec<u8>>>(&rt, alloc, KEYS), 6);
+    let wide = one_line(&rt, alloc, WIDE);
+    assert_same!(&rt; values_in::<Wide>(&rt, alloc, &wide), 1);
+    assert_same!(&rt; values_in::<f64>(&rt, alloc, SCALARS), 11);
+    assert_same!(&rt; values_in::<f32>(&rt, alloc, SCALARS), 11);
+    assert_same!(&rt; values_in::<i8>(&rt, alloc, SCALARS), 2);
+    assert_same!(&rt; values_in::<u8>(&rt, alloc, SCALARS), 3);
+    assert_same!(&rt; values_in::<i64>(&rt, alloc, SCALARS), 6);
+    assert_same!(&rt; values_in::<u128>(&rt, alloc, SCALARS), 8);
+    assert_same!(&rt; values_in::<char>(&rt, alloc, SCALARS), 1);
+    assert_same!(&rt; values_in::<(u8, String, Option<bool>)>(&rt, alloc, SCALARS), 1);
 }
 
-// Each byte of a text is replaced by others in turn.
+// More than 100,000 texts.
 #[test]
 fn mutants_agree(rt: HostRuntime) {
     let alloc = rt.alloc();
-    for other in [b'"', b',', b'{', b']', b'0', b'x', b'\\', b':'] {
-        for at in 0..TWEETS.len() {
-            let mut mutant = bytes_of(&rt, alloc, TWEETS);
-            if let Some(byte) = mutant.get_mut(at) {
-                *byte = other;
-            }
-            if let Ok(text) = std::str::from_utf8(&mutant) {
-                assert_that!(&rt; agree::<Timeline>(&rt, alloc, text), text);
-            }
+    let tweets = one_line(&rt, alloc, TWEETS);
+    let tweets = mutants_of(&rt, alloc, &tweets);
+    assert_that!(&rt; values_in::<Vec<Tweet>>(&rt, alloc, &tweets) > 10_000, TWEETS);
+    let wide = one_line(&rt, alloc, WIDE);
+    let wide = mutants_of(&rt, alloc, &wide);
+    assert_that!(&rt; values_in::<Wide>(&rt, alloc, &wide) > 1_000, WIDE);
+}
+
+fn one_line(rt: &impl Abort, alloc: Global, lines: &str) -> String {
+    let mut text = String::new(alloc);
+    for line in lines.lines() {
+        text.push_str(line).expect(rt, MEMORY);
+    }
+    text
+}
+
+// A line for each text with a character of ASCII put before one of its own, or in the place of one.
+fn mutants_of(rt: &impl Abort, alloc: Global, text: &str) -> String {
+    let mut lines = String::new(alloc);
+    for at in 0..text.len() {
+        for byte in 0..128u8 {
+            push_mutant(rt, &mut lines, text, at, byte, at);
+            push_mutant(rt, &mut lines, text, at, byte, at.saturating_add(1));
         }
     }
+    lines
+}
+
+fn push_mutant(rt: &impl Abort, lines: &mut String, text: &str, at: usize, byte: u8, rest: usize) {
+    lines
+        .push_str(text.get(..at).unwrap_or(""))
+        .expect(rt, MEMORY);
+    lines.push(char::from(byte)).expect(rt, MEMORY);
+    lines
+        .push_str(text.get(rest..).unwrap_or(""))
+        .expect(rt, MEMORY);
+    lines.push('\n').expect(rt, MEMORY);
 }

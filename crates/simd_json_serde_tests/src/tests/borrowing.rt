@@ -7,11 +7,10 @@ use std::alloc::Global;
 use std::borrow::CowStr;
 use std::process::Abort;
 
-const LINE: &str = r#"{"time":"2024-01-01","level":"in\"fo","ignored":{"a":[1,2,{}]},
+const LINE: &str = r#"{"level":"in\"fo","ignored":{"a":[1,2,{}]},
     "status":200,"path":"\/a\u00e9","took":0.25}"#;
 
 fn assert_line(rt: &impl Abort, line: &Line<'_>) {
-    assert_same!(rt; line.time, "2024-01-01");
     assert_same!(rt; line.level, "in\"fo");
     assert_same!(rt; line.status, 200);
     assert_that!(rt; matches!(line.path, CowStr::Borrowed("/aé")), "a path");
@@ -44,7 +43,7 @@ fn memory_is_kept(rt: HostRuntime) {
         let line = line.ok().expect(&rt, "it is a line");
         assert_line(&rt, &line);
         drop(line);
-        let mut input = bytes_of(&rt, alloc, "{\"time\":");
+        let mut input = bytes_of(&rt, alloc, "{\"level\":");
         let (line, tape) = read::<Line<'_>>(&mut input, &mut buffers, tape, &mut texts);
         assert_that!(&rt; line.is_err(), "no document");
         drop(line);

@@ -1,10 +1,10 @@
-// The example of the crate's page, and a read by the steps of a reader.
+// The examples of the crate's page and of READING, and a read by the steps of a reader.
 use crate::tests::{MEMORY, bytes_of};
 use serde::{DeserializeOwned, Deserializer, Format};
 use simd_json::to_tape;
 use simd_json_serde::NodeReader;
 
-// As it is written there.
+// As they are written there.
 mod page {
     use serde::Deserialize;
     use std::alloc::Global;
@@ -22,10 +22,29 @@ mod page {
     }
 }
 
+mod reading {
+    use simd_json::tape::Value;
+    use simd_json_serde::{Error, from_value};
+    use std::alloc::Global;
+
+    // The ports of the first server, if it lists any.
+    pub(super) fn ports(alloc: Global, config: &Value<'_, '_>) -> Result<Vec<u16>, Error> {
+        match config.pointer("/servers/0/ports") {
+            Some(ports) => from_value(alloc, &ports),
+            None => Ok(Vec::new(alloc)),
+        }
+    }
+}
+
 #[test]
-fn status_of_a_line_is_read(rt: HostRuntime) {
+fn examples_run(rt: HostRuntime) {
+    let alloc = rt.alloc();
     let mut input = *br#"{"level":"info","status":200}"#;
-    assert_same!(&rt; page::status(rt.alloc(), &mut input).ok(), Some(200));
+    assert_same!(&rt; page::status(alloc, &mut input).ok(), Some(200));
+    let mut input = *br#"{"servers":[{"ports":[80,8080]}]}"#;
+    let tape = to_tape(alloc, &mut input).ok().expect(&rt, MEMORY);
+    let ports = reading::ports(alloc, &tape.as_value()).ok();
+    assert_same!(&rt; ports.expect(&rt, MEMORY).as_slice(), &[80, 8080]);
 }
 
 #[test]

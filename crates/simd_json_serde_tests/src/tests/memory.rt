@@ -1,7 +1,7 @@
 // Each read returns its value or an error of memory, also where an allocation fails: by hand,
 // `rt try --test --fail-alloc N` for each N, where the other tests may fail.
-use crate::tests::types::{Line, Strict, Timeline};
-use simd_json::{Buffers, ErrorType, Tape};
+use crate::tests::types::{Folder, Line, Tweet};
+use simd_json::{Buffers, ErrorType, Tape, reserve};
 use simd_json_serde::{Error, MismatchKind, Texts, from_slice, from_slice_owned, read};
 use std::process::Abort;
 
@@ -17,14 +17,14 @@ fn assert_read_or_of_memory<T>(rt: &impl Abort, what: &str, read: &Result<T, Err
 #[test]
 fn failed_allocations_are_errors(rt: HostRuntime) {
     let alloc = rt.alloc();
-    let mut input = *br#"{"statuses":[{"id":1,"text":"a","user":{"name":"","handle":"b"}}]}"#;
-    let owned: Result<Timeline, Error> = from_slice_owned(alloc, &mut input);
+    let mut input = *br#"[{"id":1,"text":"a","handle":"b","place":{"x":0,"y":1}}]"#;
+    let owned: Result<Vec<Tweet>, Error> = from_slice_owned(alloc, &mut input);
     assert_read_or_of_memory(&rt, "owned", &owned);
     let mut input = *br#"[["a",1.5],["\n",2],["",3]]"#;
     let borrowed: Result<Vec<(&str, f64)>, Error> = from_slice(alloc, &mut input);
     assert_read_or_of_memory(&rt, "borrowed", &borrowed);
     let mut input = *br#"{"b":{},"a":"x"}"#;
-    let misfit: Result<Strict, Error> = from_slice_owned(alloc, &mut input);
+    let misfit: Result<Folder, Error> = from_slice_owned(alloc, &mut input);
     assert_that!(&rt; misfit.is_err(), "a misfit");
     let mut texts = Texts::new(alloc);
     let mut kept = Tape::empty(alloc);
@@ -32,9 +32,30 @@ fn failed_allocations_are_errors(rt: HostRuntime) {
         return;
     };
     for _ in 0..2 {
-        let mut input = *br#"{"time":"\u0041","level":"","status":200,"path":"\/a","z":[{}]}"#;
+        let mut input = *br#"{"level":"\u0041","status":200,"path":"\/a","z":[{}]}"#;
         let (line, tape) = read::<Line<'_>>(&mut input, &mut buffers, kept, &mut texts);
         assert_read_or_of_memory(&rt, "kept", &line);
+        kept = tape;
+    }
+}
+
+// A line owns nothing, so after the reservation nothing is allocated.
+#[test]
+fn reserved_reads_need_no_memory(rt: HostRuntime) {
+    let alloc = rt.alloc();
+    let text = br#"{"level":"\u0041","status":200,"path":"\/a","z":[[[[[]]]]]}"#;
+    let mut texts = Texts::new(alloc);
+    let mut kept = Tape::empty(alloc);
+    let Ok(mut buffers) = Buffers::new(alloc, 0) else {
+        return;
+    };
+    if reserve(text.len(), &mut buffers, &mut kept).is_err() || texts.reserve(text.len()).is_err() {
+        return;
+    }
+    for _ in 0..2 {
+        let mut input = *text;
+        let (line, tape) = read::<Line<'_>>(&mut input, &mut buffers, kept, &mut texts);
+        assert_that!(&rt; line.is_ok(), "there is memory");
         kept = tape;
     }
 }

@@ -2,38 +2,47 @@
 use serde::Deserialize;
 use std::borrow::CowStr;
 
-#[derive(Debug, Drop, PartialEq, Deserialize)]
+#[derive(Drop, Deserialize)]
 pub(super) struct Line<'a> {
-    pub(super) time: &'a str,
     pub(super) level: &'a str,
     pub(super) status: u16,
     pub(super) path: CowStr<'a>,
     pub(super) took: Option<f64>,
 }
 
-#[derive(Debug, Drop, PartialEq, Deserialize)]
-pub(super) struct Timeline {
-    pub(super) statuses: Vec<Tweet>,
-}
-
-#[derive(Debug, Drop, PartialEq, Deserialize)]
+#[derive(Drop, PartialEq, Deserialize)]
 pub(super) struct Tweet {
-    pub(super) id: u64,
-    pub(super) text: String,
-    pub(super) user: User,
-    pub(super) reply: Option<u64>,
-    #[serde(default)]
-    pub(super) indices: Vec<(u32, u32)>,
-}
-
-#[derive(Debug, Drop, PartialEq, Deserialize)]
-pub(super) struct User {
-    pub(super) name: String,
+    id: u64,
+    text: String,
     #[serde(rename = "screen_name", alias = "handle")]
-    pub(super) screen: String,
+    name: String,
+    place: Option<Point>,
+    #[serde(default)]
+    indices: Vec<(u32, u32)>,
 }
 
-#[derive(Debug, Drop, PartialEq, Deserialize)]
+#[derive(Drop, PartialEq, Deserialize)]
+pub(super) struct Point {
+    x: i8,
+    y: i8,
+}
+
+#[derive(Drop, PartialEq, Deserialize)]
+pub(super) struct Placed {
+    id: u8,
+    #[serde(flatten)]
+    point: Point,
+}
+
+#[derive(Drop, PartialEq, Deserialize)]
+#[serde(recursive, deny_unknown_fields)]
+pub(super) struct Folder {
+    size: u8,
+    #[serde(recursive)]
+    folders: Vec<Folder>,
+}
+
+#[derive(Drop, PartialEq, Deserialize)]
 pub(super) enum Shape {
     Dot,
     Line(u8, u8),
@@ -41,14 +50,14 @@ pub(super) enum Shape {
     Named(String),
 }
 
-#[derive(Debug, Drop, PartialEq, Deserialize)]
+#[derive(Drop, PartialEq, Deserialize)]
 #[serde(tag = "kind", rename_all = "snake_case")]
 pub(super) enum Command {
     Stop,
     MoveTo { x: i32, y: i32 },
 }
 
-#[derive(Debug, Drop, PartialEq, Deserialize)]
+#[derive(Drop, PartialEq, Deserialize)]
 #[serde(tag = "t", content = "c")]
 pub(super) enum Message {
     Ping,
@@ -56,7 +65,7 @@ pub(super) enum Message {
     Point { x: u8 },
 }
 
-#[derive(Debug, Drop, PartialEq, Deserialize)]
+#[derive(Drop, PartialEq, Deserialize)]
 #[serde(untagged)]
 pub(super) enum Either {
     Number(i64),
@@ -65,46 +74,10 @@ pub(super) enum Either {
     Text(String),
 }
 
-#[derive(Debug, Drop, PartialEq, Deserialize)]
-#[serde(recursive)]
-pub(super) struct Folder {
-    pub(super) size: u64,
-    #[serde(recursive)]
-    pub(super) folders: Vec<Folder>,
-}
-
-#[derive(Debug, Drop, PartialEq, Deserialize)]
-#[serde(deny_unknown_fields)]
-pub(super) struct Strict {
-    pub(super) a: u8,
-}
-
-#[derive(Debug, Drop, PartialEq, Deserialize)]
-pub(super) struct Outer {
-    pub(super) id: u8,
-    #[serde(flatten)]
-    pub(super) inner: Inner,
-}
-
-#[derive(Debug, Drop, PartialEq, Deserialize)]
-pub(super) struct Inner {
-    pub(super) x: i8,
-    pub(super) y: i8,
-}
-
-#[derive(Debug, Drop, PartialEq, Deserialize)]
-pub(super) struct Wide {
-    pub(super) a: i8,
-    pub(super) b: i16,
-    pub(super) c: i32,
-    pub(super) d: i64,
-    pub(super) e: i128,
-    pub(super) f: u128,
-    pub(super) g: f32,
-    pub(super) h: f64,
-    pub(super) i: char,
-    pub(super) j: bool,
-    pub(super) k: (),
-    pub(super) l: usize,
-    pub(super) m: [u8; 3],
-}
+// The types without fields.
+pub(super) type Wide = (
+    (i8, i16, i32, i64),
+    (i128, u128, f32, f64),
+    (char, bool, (), usize),
+    [u8; 3],
+);
