@@ -43,6 +43,10 @@ $(foreach crate,$(crates),$(eval $(call proved,$(crate))))
 # All else waits longest for simd_json_stages, so these leave the processors to it.
 proved-simd_json_theorems proved-simd_json_print: private nice = nice
 
+# The version, which the header has, and its first number.
+version := $(shell awk '/define SIMD_JSON_VERSION_(MAJOR|MINOR|PATCH)/ { v = v s $$3; s = "." } END { print v }' include/simd_json.h)
+major = $(firstword $(subst ., ,$(version)))
+
 # The library for programs in C, static and shared. Each needs nothing beside it but malloc, realloc, free, memcpy and memset:
 # the toolchain's heap is in it, and the exports alone are visible.
 kit = $(dir $(shell readlink -f "$$(command -v rt)"))..
@@ -54,9 +58,14 @@ library: proved-simd_json_c
 	ld -r -o $(parts)/all.o --whole-archive crates/simd_json_c/out/libsimd_json_c.a --no-whole-archive $(parts)/heap.pic.o
 	nm --defined-only -g $(parts)/all.o | sed -n 's/.* T \(simd_json_.*\)/\1/p' > $(parts)/exports
 	objcopy --keep-global-symbols=$(parts)/exports --strip-unneeded $(parts)/all.o $(parts)/simd_json.o
-	rm -f $(into)/libsimd_json.a
+	rm -f $(into)/libsimd_json.a $(into)/libsimd_json.so*
 	ar rcs $(into)/libsimd_json.a $(parts)/simd_json.o
-	cc -shared -o $(into)/libsimd_json.so $(parts)/simd_json.o -Wl,-soname,libsimd_json.so -Wl,-z,relro,-z,now,-s
+	cc -shared -o $(into)/libsimd_json.so.$(version) $(parts)/simd_json.o -Wl,-soname,libsimd_json.so.$(major) \
+		-Wl,--version-script,simd_json.map -Wl,-z,relro,-z,now,-s
+	$(call links,$(into))
+
+# The names in a folder by which a loader and a linker look for the shared library.
+links = ln -sf libsimd_json.so.$(version) $(1)/libsimd_json.so.$(major) && ln -sf libsimd_json.so.$(major) $(1)/libsimd_json.so
 
 # Every proof (from nothing, where no earlier run here passed the same files), the must-fail edits, the tests and the programs.
 # Its last line is 'N passed, M failed'. After it the programs that it built are run on the rows of tests/vectors and on inputs
@@ -107,13 +116,14 @@ install-library:
 	install -d $(under)/include $(under)/lib/pkgconfig $(under)/share/man/man3
 	install -m 644 include/simd_json.h include/simd_json.hpp $(under)/include/
 	install -m 644 build/libsimd_json.a $(under)/lib/libsimd_json.a
-	install -m 755 build/libsimd_json.so $(under)/lib/libsimd_json.so
-	sed 's|@PREFIX@|$(abspath $(PREFIX))|' simd_json.pc.in > $(under)/lib/pkgconfig/simd_json.pc
+	install -m 755 build/libsimd_json.so.$(version) $(under)/lib/
+	$(call links,$(under)/lib)
+	sed 's|@PREFIX@|$(abspath $(PREFIX))|; s|@VERSION@|$(version)|' simd_json.pc.in > $(under)/lib/pkgconfig/simd_json.pc
 	install -m 644 man/simd_json.3 $(under)/share/man/man3/simd_json.3
 
 uninstall:
 	rm -f $(under)/bin/jtape $(under)/bin/jcheck $(under)/share/man/man1/jtape.1 $(under)/share/man/man1/jcheck.1 $(under)/include/simd_json.h $(under)/include/simd_json.hpp $(under)/lib/libsimd_json.a \
-		$(under)/lib/libsimd_json.so $(under)/lib/pkgconfig/simd_json.pc $(under)/share/man/man3/simd_json.3
+		$(under)/lib/libsimd_json.so $(under)/lib/libsimd_json.so.$(major) $(under)/lib/libsimd_json.so.$(version) $(under)/lib/pkgconfig/simd_json.pc $(under)/share/man/man3/simd_json.3
 
 has-rt:
 	@command -v rt >/dev/null || { echo "rt is not on the PATH: put the folder bin of a Rattle kit there, as in PATH=KIT/bin:\$$PATH, and run make again" >&2; exit 1; }

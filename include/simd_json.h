@@ -46,6 +46,14 @@
 extern "C" {
 #endif
 
+/* The version of this header, as in `#if SIMD_JSON_VERSION >= 200`, and the version of the library that is linked. With the
+ * same major number a program needs no new build (the soname has it). */
+#define SIMD_JSON_VERSION_MAJOR 0
+#define SIMD_JSON_VERSION_MINOR 1
+#define SIMD_JSON_VERSION_PATCH 0
+#define SIMD_JSON_VERSION (SIMD_JSON_VERSION_MAJOR * 10000 + SIMD_JSON_VERSION_MINOR * 100 + SIMD_JSON_VERSION_PATCH)
+uint32_t simd_json_version(void);
+
 /* What a call returns: SIMD_JSON_OK, or why there is no result. The first error of the input is reported: one of the
  * whole input, in the order below, and else the first at a token. */
 enum {

@@ -53,13 +53,23 @@ else
     left_out="$left_out valgrind (not installed);"
 fi
 
+# The version is the header's everywhere, and the shared library has it in its names and at each symbol.
+version=$(sed -n 's/^#define SIMD_JSON_VERSION_[A-Z]* //p' include/simd_json.h | paste -sd.)
+for named in "CHANGELOG.md:## $version" "crates/jcheck/src/options.rt:.version(\"$version\")"; do
+    grep -qF "${named#*:}" "${named%%:*}" || { echo "${named%%:*} has another version than $version"; exit 1; }
+done
+readelf -d "build/libsimd_json.so.$version" | grep -q "(SONAME).*\[libsimd_json.so.${version%%.*}\]" || { echo "no soname"; exit 1; }
+wrong=$(nm -D --defined-only build/libsimd_json.so | grep -v -e ' T simd_json_[a-z_]*@@SIMD_JSON_0$' -e ' A SIMD_JSON_0$' || true)
+[ -z "$wrong" ] || { echo "libsimd_json.so has other symbols: $wrong"; exit 1; }
+
 # The header's example, as it stands there, against what `make install` puts into a folder.
 make -s install-library PREFIX="$room/installed"
 sed -n '/^ \*     }$/{s/^ \*     //p;q;};s/^ \*     //p' include/simd_json.h > "$room/example.c"
 grep -v -e '^/\*' -e '^$' examples/c/answer.c | cmp - "$room/example.c" || { echo "examples/c/answer.c is not the header's"; exit 1; }
 example="$room/example.c -o $room/example"
 if command -v pkg-config > /dev/null; then
-    found=$(PKG_CONFIG_PATH="$room/installed/lib/pkgconfig" pkg-config --cflags --libs simd_json)
+    export PKG_CONFIG_PATH="$room/installed/lib/pkgconfig"
+    found=$(pkg-config --cflags --libs "simd_json = $version")
 else
     left_out="$left_out pkg-config (not installed);"
     found="-I$room/installed/include -L$room/installed/lib -lsimd_json"

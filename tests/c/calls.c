@@ -68,7 +68,13 @@ static void kinds_named(void) {
     WANT(simd_json_status_name(21, out, sizeof out) == 0 && simd_json_status_name(-1, out, sizeof out) == 0, "no status");
 }
 
+static void version(void) {
+    WANT(simd_json_version() == SIMD_JSON_VERSION, "version");
+    WANT(SIMD_JSON_VERSION == 100, "0.1.0");
+}
+
 int main(void) {
+    version();
     parser_kept();
     kinds_named();
     return wrong;

@@ -11,6 +11,7 @@ mod print;
 mod sink;
 mod status;
 mod tape;
+mod version;
 
 pub use index::simd_json_index;
 pub use nodes::{Node, Room};
@@ -20,3 +21,4 @@ pub use parser::{
 pub use print::{simd_json_compact, simd_json_pretty};
 pub use status::{ErrorPlace, simd_json_kind_name, simd_json_status_name};
 pub use tape::{simd_json_check, simd_json_tape};
+pub use version::simd_json_version;
