@@ -116,7 +116,7 @@ enum {
 };
 
 /* A node of a tape: a scalar, a key, or the header of a container, whose members' nodes follow it; a member of an object
- * is its key's node, then its value's. The next sibling of a container is at its own index + 1 + value.
+ * is its key's node, then its value's (simd_json_next).
  *
  * An integer of each kind is the number high * 2^64 + value, in two's complement where it is signed, so
  * (__int128)((unsigned __int128)high << 64 | value) is any integer but the greater half of U128. Fields of which nothing is
@@ -127,6 +127,20 @@ typedef struct {
     uint64_t value;
     uint64_t high;
 } simd_json_node;
+
+/* The index of the next sibling of the node at index i: the first node after it and what lies beneath it. The elements of an
+ * array, and the values of an object with their keys:
+ *
+ *     size_t at = array + 1;
+ *     for (size_t n = 0; n < nodes[array].len; n++, at = simd_json_next(nodes, at))
+ *         use(&nodes[at]);
+ *
+ *     at = object + 1;
+ *     for (size_t n = 0; n < nodes[object].len; n++, at = simd_json_next(nodes, at + 1))
+ *         use_pair(&nodes[at], &nodes[at + 1]); */
+static inline size_t simd_json_next(const simd_json_node *nodes, size_t i) {
+    return i + 1 + (nodes[i].kind >= SIMD_JSON_ARRAY ? (size_t)nodes[i].value : 0);
+}
 
 /* How many nodes, and how many bytes of text. */
 typedef struct {

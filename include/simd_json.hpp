@@ -118,7 +118,7 @@ private:
 
     std::string_view text() const { return {text_ + (holds_text() ? node_->value : 0), holds_text() ? node_->len : 0}; }
     bool holds_text() const { return kind() == SIMD_JSON_STRING || kind() == SIMD_JSON_DECIMAL; }
-    element after() const { return {node_ + 1 + (kind() >= SIMD_JSON_ARRAY ? node_->value : 0), text_}; }
+    element after() const { return {node_ + simd_json_next(node_, 0), text_}; }
     element beneath() const { return {node_ + 1, text_}; }
     template <class T> std::optional<T> if_kind(uint32_t kind, T value) const {
         return node_->kind == kind ? std::optional<T>(value) : std::nullopt;

@@ -68,6 +68,24 @@ static void kinds_named(void) {
     WANT(simd_json_status_name(21, out, sizeof out) == 0 && simd_json_status_name(-1, out, sizeof out) == 0, "no status");
 }
 
+// The next sibling of each node of a document, and its members by the loops of the header; by hand.
+static void siblings(void) {
+    static const size_t next[] = {10, 2, 8, 4, 7, 6, 7, 8, 9, 10};
+    char copy[64], text[8];
+    simd_json_node nodes[10];
+    simd_json_room room;
+    simd_json_place place;
+    size_t len = fresh(copy, "{\"a\":[1,[2,[]],{}],\"b\":\"x\"}");
+    WANT(simd_json_tape(copy, len, 4, nodes, 10, text, 8, &room, &place) == SIMD_JSON_OK && room.nodes == 10, "siblings");
+    for (size_t i = 0; i < 10; i++) WANT(simd_json_next(nodes, i) == next[i], "siblings");
+    size_t at = 3, elements[] = {3, 4, 7}, keys[] = {1, 8};
+    for (size_t n = 0; n < nodes[2].len; n++, at = simd_json_next(nodes, at)) WANT(n < 3 && at == elements[n], "elements");
+    WANT(at == 8, "elements");
+    at = 1;
+    for (size_t n = 0; n < nodes[0].len; n++, at = simd_json_next(nodes, at + 1)) WANT(n < 2 && at == keys[n], "keys");
+    WANT(at == 10, "keys");
+}
+
 static void version(void) {
     WANT(simd_json_version() == SIMD_JSON_VERSION, "version");
     WANT(SIMD_JSON_VERSION == 100, "0.1.0");
@@ -75,6 +93,7 @@ static void version(void) {
 
 int main(void) {
     version();
+    siblings();
     parser_kept();
     kinds_named();
     return wrong;
