@@ -190,6 +190,26 @@ int32_t simd_json_pretty(void *input, size_t len, size_t max_depth, void *out, s
 int32_t simd_json_index(const void *input, size_t len, uint32_t *indexes, size_t indexes_len, size_t *used,
                         simd_json_place *place);
 
+/* Where an input is rejected, for people: a byte offset, its line by line feeds and its column in characters, both from 1. */
+typedef struct {
+    size_t byte;
+    size_t line;
+    size_t column;
+} simd_json_position;
+
+/* The position and the reason in words of an error, as "expected a value, found `]`": `status` and `place` are what a call has
+ * reported, and `input` is the bytes as they were before it. Writes *position: an error with a character is at its index, and
+ * one of the whole input at the first byte that begins no UTF-8 character, at the control byte in a string or the opening quote
+ * of the string that has no end, at the end, or at the first byte too many. Of a status that is no error of an input it is
+ * zeros, and the reason is empty.
+ *
+ * OK: *needed is the length of the reason, which is at the front of out; there is no terminator.
+ * TOO_LITTLE_ROOM: *needed is the length that is needed, at most SIMD_JSON_REASON_MAX, and out is unchanged.
+ * OUT_OF_MEMORY: *needed and out are unchanged. */
+#define SIMD_JSON_REASON_MAX 64
+int32_t simd_json_location(const void *input, size_t len, int32_t status, const simd_json_place *place,
+                           simd_json_position *position, void *out, size_t out_len, size_t *needed);
+
 /* A parser that keeps its memory from one input to the next, which is faster for many small inputs:
  *
  *     simd_json_parser parser = {0};

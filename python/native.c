@@ -63,13 +63,45 @@ static int grow(void *array, size_t *cap, size_t needed, size_t size) {
     return 1;
 }
 
-/* Raises what simd_json._error returns: the status in its name, the place, and the input for a line and a column. */
+/* The bytes of an input. `*owned`, if it is not NULL, is a reference to be released after their use. */
+static int bytes_of(PyObject *data, char **bytes, Py_ssize_t *len, PyObject **owned) {
+    *owned = NULL;
+    if (PyBytes_Check(data))
+        return PyBytes_AsStringAndSize(data, bytes, len) == 0;
+    if (PyByteArray_Check(data)) {
+        *bytes = PyByteArray_AsString(data);
+        *len = PyByteArray_Size(data);
+        return 1;
+    }
+    if (PyUnicode_Check(data)) {
+        *bytes = (char *)PyUnicode_AsUTF8AndSize(data, len);
+        return *bytes != NULL;
+    }
+    if (PyMemoryView_Check(data)) {
+        *owned = PyBytes_FromObject(data);
+        return *owned && PyBytes_AsStringAndSize(*owned, bytes, len) == 0;
+    }
+    PyErr_Format(PyExc_TypeError, "the JSON must be str, bytes, bytearray or memoryview, not %R", Py_TYPE(data));
+    return 0;
+}
+
+/* Raises what simd_json._error returns: the status by its name, the reason in words, and the place in the input. */
 static void *reject(int32_t status, const simd_json_place *place, PyObject *data) {
     if (status == SIMD_JSON_OUT_OF_MEMORY)
         return PyErr_NoMemory();
-    char name[SIMD_JSON_NAME_MAX];
-    Py_ssize_t len = (Py_ssize_t)simd_json_status_name(status, name, sizeof name);
-    PyObject *error = PyObject_CallFunction(to_error, "s#nO", name, len, (Py_ssize_t)place->index, data);
+    char name[SIMD_JSON_NAME_MAX], words[SIMD_JSON_REASON_MAX], *bytes;
+    Py_ssize_t len, name_len = (Py_ssize_t)simd_json_status_name(status, name, sizeof name);
+    PyObject *owned, *error = NULL;
+    simd_json_position at;
+    size_t words_len;
+    if (bytes_of(data, &bytes, &len, &owned)) {
+        if (simd_json_location(bytes, (size_t)len, status, place, &at, words, sizeof words, &words_len) == SIMD_JSON_OK)
+            error = PyObject_CallFunction(to_error, "s#s#nnnO", name, name_len, words, (Py_ssize_t)words_len,
+                                          (Py_ssize_t)at.byte, (Py_ssize_t)at.line, (Py_ssize_t)at.column, data);
+        else
+            PyErr_NoMemory();
+    }
+    Py_XDECREF(owned);
     if (error) {
         PyErr_SetObject((PyObject *)Py_TYPE(error), error);
         Py_DECREF(error);
@@ -79,27 +111,10 @@ static void *reject(int32_t status, const simd_json_place *place, PyObject *data
 
 /* Opens the parser for a depth limit, and copies the input, which a parse overwrites. Returns its length, or -1. */
 static Py_ssize_t prepare(memory *m, PyObject *data, size_t max_depth) {
-    PyObject *owned = NULL;
+    PyObject *owned;
     char *bytes;
     Py_ssize_t len;
-    if (PyBytes_Check(data)) {
-        PyBytes_AsStringAndSize(data, &bytes, &len);
-    } else if (PyByteArray_Check(data)) {
-        bytes = PyByteArray_AsString(data);
-        len = PyByteArray_Size(data);
-    } else if (PyUnicode_Check(data)) {
-        bytes = (char *)PyUnicode_AsUTF8AndSize(data, &len);
-        if (!bytes)
-            return -1;
-    } else if (PyMemoryView_Check(data)) {
-        owned = PyBytes_FromObject(data);
-        if (!owned || PyBytes_AsStringAndSize(owned, &bytes, &len) < 0)
-            return -1;
-    } else {
-        PyErr_Format(PyExc_TypeError, "the JSON must be str, bytes, bytearray or memoryview, not %R", Py_TYPE(data));
-        return -1;
-    }
-    if (grow(&m->input, &m->input_cap, (size_t)len + 1, 1))
+    if (bytes_of(data, &bytes, &len, &owned) && grow(&m->input, &m->input_cap, (size_t)len + 1, 1))
         memcpy(m->input, bytes, (size_t)len);
     else
         len = -1;

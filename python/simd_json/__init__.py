@@ -19,7 +19,7 @@ class SimdJsonError(ValueError):
 
     msg: the error in words
     reason: its kind, as "InvalidNumber"
-    pos: its index in the input, in characters of a str, else in bytes; 0 for an error of the whole input
+    pos: its index in the input, in characters of a str, else in bytes
     lineno, colno: the line, and the column in characters, both from 1
     """
 
@@ -31,33 +31,9 @@ class SimdJsonError(ValueError):
         return type(self), (self.msg, self.reason, self.pos, self.lineno, self.colno)
 
 
-_WORDS = {
-    "InputTooLarge": "more than 4294967295 bytes",
-    "InvalidUtf8": "not UTF-8",
-    "Syntax": "a string has no end, or contains a control character; or the input ends early",
-    "Eof": "expected a value, found only whitespace",
-    "InternalError": "expected a value, or more text after the document",
-    "ExpectedArrayContent": "expected `,` or `]` after an element",
-    "ExpectedObjectContent": "expected a key or `}` after `{`, or `,` or `}` after a member",
-    "ExpectedObjectKey": "expected a key after `,`",
-    "ExpectedObjectColon": "expected `:` after a key",
-    "TrailingData": "more text after the document",
-    "DepthLimitExceeded": "one container more than the depth limit",
-    "ExpectedTrue": "expected `true`",
-    "ExpectedFalse": "expected `false`",
-    "ExpectedNull": "expected `null`",
-    "InvalidNumber": "malformed number, or integer out of range",
-    "InvalidEscape": "expected an escape after the backslash",
-    "InvalidUnicodeCodepoint": "malformed `\\u` escape, or half of a surrogate pair",
-}
-
-
-def _error(reason, index, data):
-    before = data.encode()[:index] if isinstance(data, str) else bytes(data)[:index]
-    line = before[before.rfind(b"\n") + 1:]
-    pos = len(before.decode()) if isinstance(data, str) else index
-    column = len(line.decode("utf-8", "replace")) + 1
-    return SimdJsonError(_WORDS.get(reason, reason), reason, pos, before.count(b"\n") + 1, column)
+def _error(reason, msg, index, lineno, colno, data):
+    pos = len(data.encode()[:index].decode()) if isinstance(data, str) else index
+    return SimdJsonError(msg, reason, pos, lineno, colno)
 
 
 _native._set_error(_error)

@@ -112,6 +112,31 @@ static void names(void) {
     }
 }
 
+// Of a status that names no error, and in each room for the reason.
+static void locations(void) {
+    static const char wrong[] = "[1,\n  \"\303\251\": 2]", reason[] = "expected `,` or `]` after an element, found `:`";
+    const simd_json_place place = {10, ':'};
+    for (size_t room = 0; room <= strlen(reason) + 1; room++) {
+        lent input = lend_copy(wrong, sizeof wrong - 1), out = lend(room);
+        simd_json_position at;
+        size_t needed = 0;
+        int status = simd_json_location(input.at, sizeof wrong - 1, SIMD_JSON_EXPECTED_ARRAY_CONTENT, &place, &at, out.at, room, &needed);
+        int fits = room >= strlen(reason);
+        WANT(status == (fits ? SIMD_JSON_OK : SIMD_JSON_TOO_LITTLE_ROOM) && needed == strlen(reason));
+        WANT(at.byte == 10 && at.line == 2 && at.column == 6);
+        WANT(!fits || memcmp(out.at, reason, needed) == 0);
+        give_back(input, sizeof wrong - 1);
+        give_back(out, fits ? needed : 0);
+    }
+    static const int32_t others[] = {SIMD_JSON_OK, SIMD_JSON_TOO_LITTLE_ROOM, SIMD_JSON_PARSER_CLOSED, -1, 21, 99, INT32_MIN};
+    for (size_t i = 0; i < sizeof others / sizeof *others; i++) {
+        simd_json_position at = {7, 7, 7};
+        size_t needed = 7;
+        WANT(simd_json_location(wrong, sizeof wrong - 1, others[i], &place, &at, 0, 0, &needed) == SIMD_JSON_OK);
+        WANT(needed == 0 && at.byte == 0 && at.line == 0 && at.column == 0);
+    }
+}
+
 // No prefix of the document but the whole is one.
 static void prefixes(void) {
     for (size_t cut = 0; cut <= len; cut++) {
@@ -129,5 +154,6 @@ int main(void) {
                              "  \"b\": {\n    \"c\": null,\n    \"d\": true\n  }\n}");
     indexes();
     names();
+    locations();
     prefixes();
 }

@@ -52,6 +52,11 @@ static int check(void) { return simd_json_check(input, sizeof document - 1, 3, &
 static int tape(void) { return simd_json_tape(input, sizeof document - 1, 3, nodes, 16, out, 64, &room, &place); }
 static int compact(void) { return simd_json_compact(input, sizeof document - 1, 3, out, 64, &needed, &place); }
 static int pretty(void) { return simd_json_pretty(input, sizeof document - 1, 3, out, 64, &needed, &place); }
+static int location(void) {
+    const simd_json_place at = {1, '1'};
+    simd_json_position position;
+    return simd_json_location(document, sizeof document - 1, SIMD_JSON_INTERNAL_ERROR, &at, &position, out, 64, &needed);
+}
 static int indexed(void) { return simd_json_index(input, sizeof document - 1, indexes, 32, &needed, &place); }
 
 // A parser that is opened and closed again.
@@ -122,6 +127,7 @@ int main(void) {
     each_fails(compact);
     each_fails(pretty);
     each_fails(indexed);
+    each_fails(location);
     each_fails(kept);
     memory_is_kept();
 }

@@ -1,5 +1,6 @@
 // Prints the rows of tests/vectors with the answers of the library: `parse` rows by each call that reads a document, `compact`
-// and `pretty` rows by the two that print one, `indexes` rows by the one that finds them. Rows that C has no call for and comments are copied. So a file of right rows
+// and `pretty` rows by the two that print one, `indexes` rows by the one that finds them, `locate`
+// rows by the one that finds an error's line and column. Rows that C has no call for and comments are copied. So a file of right rows
 // comes out unchanged.
 #include <simd_json.h>
 #include <stdbool.h>
@@ -401,11 +402,39 @@ static void answer_indexes(struct bytes *to, const struct row *row) {
     free(copy);
 }
 
+// By the status of a check: first into no memory for the reason, and then into just as much as is needed.
+static void answer_locate(struct bytes *to, const struct row *row) {
+    simd_json_place place;
+    simd_json_position position = {NOT_WRITTEN, NOT_WRITTEN, NOT_WRITTEN}, again = position;
+    size_t needed = NOT_WRITTEN, same = NOT_WRITTEN;
+    int status = check(0, row, &place);
+    int found = simd_json_location(row->input.at, row->input.len, status, &place, &position, 0, 0, &needed);
+    if (status == SIMD_JSON_OK) {
+        put_text(to, "none");
+        if (found != SIMD_JSON_OK || position.byte || position.line || position.column || needed)
+            blame(to, "simd_json_location", " finds an error of a document");
+        return;
+    }
+    struct bytes reason = {memory(needed), needed, needed};
+    if (found != SIMD_JSON_TOO_LITTLE_ROOM || needed > SIMD_JSON_REASON_MAX) blame(to, "simd_json_location", " is wrong with no room");
+    found = simd_json_location(row->input.at, row->input.len, status, &place, &again, reason.at, needed, &same);
+    if (found != SIMD_JSON_OK || same != needed || memcmp(&position, &again, sizeof again) != 0)
+        blame(to, "simd_json_location", " is wrong with just enough room");
+    put_number(to, position.byte);
+    put_text(to, " ");
+    put_number(to, position.line);
+    put_text(to, ":");
+    put_number(to, position.column);
+    put_text(to, ": ");
+    for (size_t i = 0; i < needed; i++) put_shown(to, reason.at[i]);
+    free(reason.at);
+}
+
 static bool is_word(const char *line, size_t len, const char *word) { return len == strlen(word) && memcmp(line, word, len) == 0; }
 
 // A row without its answer is followed by the one that is found. `kept` is open for 1,024 containers, `other` for any number.
 static void answer(const char *line, struct bytes *to, simd_json_parser *kept, simd_json_parser *other) {
-    static const char *const copied[] = {"locate", "document", "pointer", "padded"};
+    static const char *const copied[] = {"document", "pointer", "padded"};
     const char *input = strchr(line, ' '), *end = input ? strstr(input, " => ") : 0;
     size_t len = strcspn(line, ": ");
     for (size_t i = 0; i < sizeof copied / sizeof *copied; i++)
@@ -414,13 +443,15 @@ static void answer(const char *line, struct bytes *to, simd_json_parser *kept, s
             return;
         }
     bool is_parse = is_word(line, len, "parse"), is_pretty = is_word(line, len, "pretty");
-    bool is_indexes = is_word(line, len, "indexes");
-    if (!end || !(is_parse || is_pretty || is_indexes || is_word(line, len, "compact"))) stop("no row", line);
+    bool is_indexes = is_word(line, len, "indexes"), is_locate = is_word(line, len, "locate");
+    if (!end || !(is_parse || is_pretty || is_indexes || is_locate || is_word(line, len, "compact"))) stop("no row", line);
     struct row row = {.limit = line[len] == ':' ? strtoull(line + len + 1, 0, 10) : 1024};
     decode(input + 1, end, &row.input);
     put(to, line, (size_t)(end + 4 - line));
     if (is_indexes) {
         answer_indexes(to, &row);
+    } else if (is_locate) {
+        answer_locate(to, &row);
     } else if (is_parse && row.limit == 1024) {
         answer_parse(to, &row, kept);
     } else if (is_parse) {

@@ -3,6 +3,7 @@ pub mod Nodes
 pub mod Calls
 pub mod Indexed
 pub mod Names
+pub mod Located
 pub mod Holding
 pub mod Kept
 pub mod Notes

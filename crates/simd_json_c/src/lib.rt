@@ -5,6 +5,7 @@
 #![tactic(auto)]
 
 mod index;
+mod location;
 mod nodes;
 mod parser;
 mod print;
@@ -14,6 +15,7 @@ mod tape;
 mod version;
 
 pub use index::simd_json_index;
+pub use location::{Position, simd_json_location};
 pub use nodes::{Node, Room};
 pub use parser::{
     Parser, simd_json_close, simd_json_open, simd_json_parser_check, simd_json_parser_tape,

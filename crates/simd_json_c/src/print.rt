@@ -29,7 +29,7 @@ fn pretty_text(alloc: Global, input: &mut [u8], max_depth: usize) -> Result<Stri
 }
 
 // Copies the text if there is room for it, and returns the status; of an error its place, too.
-fn lend_text(
+pub(crate) fn lend_text(
     text: Result<String>,
     out: &mut [u8],
     needed: &mut usize,

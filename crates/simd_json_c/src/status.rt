@@ -18,6 +18,14 @@ pub struct ErrorPlace {
     pub character: u32,
 }
 
+impl ErrorPlace {
+    // Where there is no place.
+    pub(crate) const NONE: ErrorPlace = ErrorPlace {
+        index: 0,
+        character: u32::MAX,
+    };
+}
+
 // An allocation failed.
 pub(crate) const OUT_OF_MEMORY: i32 = 1;
 
@@ -74,10 +82,7 @@ pub(crate) fn reported(outcome: Result<i32>, place: &mut ErrorPlace) -> i32
 {
     match outcome {
         Ok(status) => {
-            *place = ErrorPlace {
-                index: 0,
-                character: u32::MAX,
-            };
+            *place = ErrorPlace::NONE;
             status
         }
         Err(e) => rejected(e, place),
