@@ -1,12 +1,12 @@
 -- Where the values of a document lie among nodes that list it.
 use Rattle.std.proofs.Common.{◌≡◌, ◌≢◌, ◌∙◌, ap, sym, subst, refl, ℕ, zero, suc, ◌+◌, ◌-◌, ◌≤◌, ◌<◌, arith, Bool, true, false}
-use Rattle.std.proofs.Common.{List, [], ◌∷◌, ◌++◌, length, take, drop, get_or, drop-drop, length-drop, append_assoc, Option, Some, None}
+use Rattle.std.proofs.Common.{List, [], ◌∷◌, ◌++◌, length, take, drop, get_or, drop-drop, length-drop, append_assoc, Some, None}
 use Rattle.std.proofs.lemmas.List.{length-append, drop_at, drop_more, get_or-drop}
 use Rattle.std.proofs.lemmas.Option.{slice_get-get_or}
 use Rattle.std.proofs.Math.Seq.{take-append_seam}
 use Rattle.std.proofs.lemmas.Bool.{and_parts, leb-true, ltb-false, ltb-true}
 use Rattle.std.proofs.lemmas.Str.{IsUtf8-from_ascii}
-use Rattle.std.specs.Prelude.{◌==◌, ◌&&◌, ◌||◌, nat_le, nat_lt, not, slice_get}
+use Rattle.std.specs.Prelude.{◌==◌, ◌||◌, nat_le, nat_lt, not, slice_get}
 use Rattle.std.specs.Char.{is_ascii_digit}
 use Rattle.std.specs.List.{list_all}
 use Rattle.std.specs.Str.{IsAscii, IsUtf8}
@@ -241,8 +241,9 @@ pub record NextElement (nodes : List Node) (text : List ℕ) (ds : Elements) (pa
   pub is : slice_get (elements ds) passed ≡ Some value
   pub after : ElementsLeft nodes text ds (passed + 1) (at + length (listing value))
 
-next-by : (nodes : List Node) (text : List ℕ) (ds : Elements) (passed at : ℕ) (left : Elements) → AreAt nodes text at (elements_listing left)
-    → elements left ≡ drop passed (elements ds) → passed < length (elements ds) → NextElement nodes text ds passed at
+next-by : (nodes : List Node) (text : List ℕ) (ds : Elements) (passed at : ℕ) (left : Elements)
+    → AreAt nodes text at (elements_listing left) → elements left ≡ drop passed (elements ds)
+    → passed < length (elements ds) → NextElement nodes text ds passed at
 next-by nodes text ds passed at no_elements a are less =
     absurd (omega (arith, less, length-drop passed (elements ds), ap length are))
 next-by nodes text ds passed at (element d es) a are less =

@@ -1,5 +1,5 @@
 -- What a call leaves that prints a document, by its text or its error.
-use Rattle.std.specs.Prelude.{◌≡◌, ℕ, ℤ, List, Option, Some, None, Result, Ok, Err, IfOk, IfErr}
+use Rattle.std.specs.Prelude.{◌≡◌, ℕ, ℤ, List, Some, None, Result, Ok, Err, IfOk, IfErr}
 use Rattle.std.specs.Result.{result_err}
 use Rattle.simd_json_parts.specs.declared.error.Error.{Error}
 use Rattle.simd_json_c.specs.Calls.{IsPrinted, IsTextPut, IsUnprinted}

@@ -1,6 +1,5 @@
-use Rattle.std.proofs.Common.{◌≡◌, ap, sym, subst, arith, get_or}
+use Rattle.std.proofs.Common.{sym, subst, arith}
 use Rattle.std.specs.Result.{result_ok}
-use Rattle.simd_json_parts.specs.Document.{Document, array, object}
 use Rattle.simd_json_parts.specs.Pointed.{named}
 use Rattle.simd_json_c.specs.Placed.{IsFound, IsValueAt}
 use Rattle.simd_json_c.proofs.Placing.{elements-at, members-at, value-header, value-some, value-within}

@@ -11,7 +11,8 @@ pub returns-then-at-nodes : goal.returns-then-at-nodes
 returns-then-at-nodes c ms a is =
     let l = c.loop-passed in
     let next =
-    next-member c.args.nodes.now c.args.text.now c.args.token.now ms c.args.len l.passed l.at some_node (l.invariant ms a is) (omega arith) in
+    next-member c.args.nodes.now c.args.text.now c.args.token.now ms c.args.len l.passed l.at some_node
+    (l.invariant ms a is) (omega arith) in
     absurd (omega (arith, next.0, c.if-at-nodes.true))
 
 pub returns-then-is_key : goal.returns-then-is_key
@@ -40,7 +41,8 @@ pub returns-in_err-at : goal.returns-in_err-at
 returns-in_err-at c ms a is =
     let l = c.loop-passed in
     let next =
-    next-member c.args.nodes.now c.args.text.now c.args.token.now ms c.args.len l.passed l.at some_node (l.invariant ms a is) (omega arith) in
+    next-member c.args.nodes.now c.args.text.now c.args.token.now ms c.args.len l.passed l.at some_node
+    (l.invariant ms a is) (omega arith) in
     absurd (cc (c.in_err-at.ensures c.args.text.now next.1.value next.1.placed))
 
 pub returns : goal.returns

@@ -1,4 +1,4 @@
-use Rattle.std.proofs.Common.{◌≡◌, ◌∙◌, ap, sym, subst, arith, Some, None, ◌+◌, length}
+use Rattle.std.proofs.Common.{◌≡◌, ◌∙◌, ap, subst, arith, ◌+◌, length}
 use Rattle.std.specs.Prelude.{slice_get}
 use Rattle.simd_json_parts.specs.Document.{elements}
 use Rattle.simd_json_parts.specs.Listing.{listing}

@@ -1,5 +1,4 @@
 use Rattle.std.proofs.Common.{rules}
-use Rattle.simd_json_parts.proofs.Pointers.Pointed.{index-none}
 use Rattle.simd_json_c.proofs.Placing.{index-utf8}
 use Rattle.simd_json_c.proofs.pointer.number_of.Goals as goal
 
