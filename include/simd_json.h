@@ -163,6 +163,16 @@ int32_t simd_json_check(void *input, size_t len, size_t max_depth, simd_json_pla
 int32_t simd_json_tape(void *input, size_t len, size_t max_depth, simd_json_node *nodes, size_t nodes_len, void *text,
                        size_t text_len, simd_json_room *room, simd_json_place *place);
 
+/* The index of the node that a JSON Pointer (RFC 6901) names beneath the value at index `from`, or SIMD_JSON_NO_NODE: the pointer
+ * is malformed, or leads nowhere. The empty pointer names the value itself. Each `/` of another begins a reference token: the key
+ * of a pair of an object, of equal keys the first, with `~1` for `/` and `~0` for `~`; or the index of an element of an array, in
+ * digits without a leading zero.
+ *
+ * Of other nodes than those of a tape the result is not said, but it is below nodes_len or SIMD_JSON_NO_NODE. */
+#define SIMD_JSON_NO_NODE SIZE_MAX
+size_t simd_json_pointer(const simd_json_node *nodes, size_t nodes_len, const void *text, size_t text_len, size_t from,
+                         const void *pointer, size_t pointer_len);
+
 /* The document as text, without whitespace. A decimal is its literal, an integer its digits; in strings a quote, a
  * backslash and bytes below 0x20 are escaped. Writes *place.
  *

@@ -137,6 +137,54 @@ static void locations(void) {
     }
 }
 
+// Nodes, texts and pointers of each length, and from each node; and nodes that are no document's: nothing outside is read, and
+// the result is an index or none.
+static void pointers(void) {
+    static const char pointer[] = "/b/d";
+    char copy[sizeof document];
+    simd_json_node all[16];
+    char texts[16];
+    simd_json_room room;
+    simd_json_place place;
+    memcpy(copy, document, sizeof document);
+    WANT(simd_json_tape(copy, len, 2, all, 16, texts, 16, &room, &place) == SIMD_JSON_OK);
+    for (size_t a = 0; a <= need.nodes; a++)
+        for (size_t b = 0; b <= need.text; b++) {
+            lent nodes = lend_copy((char *)all, a * sizeof *all), text_part = lend_copy(texts, b), path = lend_copy(pointer, 4);
+            size_t found = simd_json_pointer(nodes.at, a, text_part.at, b, 0, path.at, 4);
+            if (a == need.nodes && b == need.text) WANT(found == 13);
+            WANT(found == SIMD_JSON_NO_NODE || found < a);
+            give_back(nodes, a * sizeof *all);
+            give_back(text_part, b);
+            give_back(path, 4);
+        }
+    WANT(simd_json_pointer(all, 14, texts, 10, 0, 0, 0) == 0 && simd_json_pointer(all, 14, texts, 10, 2, "/4", 2) == 7);
+    WANT(simd_json_pointer(all, 14, texts, 10, 9, "/c", 2) == 11 && simd_json_pointer(all, 14, texts, 10, 9, "/a", 2) == SIMD_JSON_NO_NODE);
+    WANT(simd_json_pointer(all, 14, texts, 10, 14, 0, 0) == SIMD_JSON_NO_NODE);
+    WANT(simd_json_pointer(all, 14, texts, 10, SIZE_MAX, 0, 0) == SIMD_JSON_NO_NODE);
+    uint64_t random = 6901;
+    for (int round = 0; round < 20000; round++) {
+        lent nodes = lend(5 * sizeof(simd_json_node)), text_part = lend(3);
+        simd_json_node *node = nodes.at;
+        for (size_t i = 0; i < 5; i++) {
+            static const uint64_t numbers[] = {0, 1, 2, 3, 4, 5, 1u << 31, UINT64_MAX - 1, UINT64_MAX, INT64_MAX};
+            uint64_t drawn[4];
+            for (size_t k = 0; k < 4; k++) {
+                random = random * 6364136223846793005u + 1442695040888963407u;
+                drawn[k] = random >> 33;
+            }
+            node[i] = (simd_json_node){(uint32_t)(drawn[0] % 3 ? 7 + drawn[0] % 4 : drawn[0]), numbers[drawn[1] % 6], numbers[drawn[2] % 10], drawn[3]};
+        }
+        memcpy(text_part.at, "0aa", 3);
+        static const char *const paths[] = {"", "/0", "/a", "/0/0", "/aa/1", "/", "/a/a/a", "/18446744073709551615"};
+        const char *path = paths[(random >> 40) % 8];
+        size_t found = simd_json_pointer(nodes.at, 5, text_part.at, 3, (random >> 50) % 6, path, strlen(path));
+        WANT(found == SIMD_JSON_NO_NODE || found < 5);
+        munmap(nodes.page, 2 * PAGE);
+        munmap(text_part.page, 2 * PAGE);
+    }
+}
+
 // No prefix of the document but the whole is one.
 static void prefixes(void) {
     for (size_t cut = 0; cut <= len; cut++) {
@@ -155,5 +203,6 @@ int main(void) {
     indexes();
     names();
     locations();
+    pointers();
     prefixes();
 }

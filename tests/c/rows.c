@@ -1,6 +1,6 @@
 // Prints the rows of tests/vectors with the answers of the library: `parse` rows by each call that reads a document, `compact`
 // and `pretty` rows by the two that print one, `indexes` rows by the one that finds them, `locate`
-// rows by the one that finds an error's line and column. Rows that C has no call for and comments are copied. So a file of right rows
+// rows by the one that finds an error's line and column, `pointer` rows by the one that follows a pointer. Rows that C has no call for and comments are copied. So a file of right rows
 // comes out unchanged.
 #include <simd_json.h>
 #include <stdbool.h>
@@ -430,11 +430,57 @@ static void answer_locate(struct bytes *to, const struct row *row) {
     free(reason.at);
 }
 
+// A value in compact text; the index after it.
+static size_t put_value(struct bytes *to, const struct tape *tape, size_t i) {
+    const simd_json_node *node = &tape->nodes[i];
+    bool is_object = node->kind == SIMD_JSON_OBJECT;
+    if (node->kind < SIMD_JSON_DECIMAL) {
+        if (node->kind <= SIMD_JSON_BOOL)
+            put_text(to, node->kind == SIMD_JSON_NULL ? "null" : node->value ? "true" : "false");
+        else
+            put_integer(to, node);
+    } else if (node->kind == SIMD_JSON_DECIMAL) {
+        put(to, tape->text + node->value, node->len);
+    } else if (node->kind == SIMD_JSON_STRING) {
+        put_quoted(to, tape->text + node->value, node->len);
+    } else {
+        size_t at = i + 1;
+        put_text(to, is_object ? "{" : "[");
+        for (size_t n = 0; n < node->len; n++) {
+            if (n) put_text(to, ",");
+            if (is_object) at = put_value(to, tape, at), put_text(to, ":");
+            at = put_value(to, tape, at);
+        }
+        put_text(to, is_object ? "}" : "]");
+    }
+    return simd_json_next(tape->nodes, i);
+}
+
+// The document of the last `document` row.
+static struct tape document;
+
+static void read_document(const struct row *row) {
+    struct bytes wrong = {0};
+    free_tape(&document);
+    document = tape_of(0, row, &wrong);
+    if (document.status != SIMD_JSON_OK || wrong.len) stop("no document", "simd_json_tape");
+}
+
+// A row that says why a pointer leads nowhere keeps its answer, where none is found.
+static void answer_pointer(struct bytes *to, const struct bytes *pointer, const char *wanted) {
+    size_t count = document.room.nodes;
+    size_t found = simd_json_pointer(document.nodes, count, document.text, document.room.text, 0, pointer->at, pointer->len);
+    if (found != SIMD_JSON_NO_NODE)
+        put_value(to, &document, found);
+    else
+        put_text(to, wanted[0] == '!' ? wanted : "none");
+}
+
 static bool is_word(const char *line, size_t len, const char *word) { return len == strlen(word) && memcmp(line, word, len) == 0; }
 
 // A row without its answer is followed by the one that is found. `kept` is open for 1,024 containers, `other` for any number.
 static void answer(const char *line, struct bytes *to, simd_json_parser *kept, simd_json_parser *other) {
-    static const char *const copied[] = {"document", "pointer", "padded"};
+    static const char *const copied[] = {"padded"};
     const char *input = strchr(line, ' '), *end = input ? strstr(input, " => ") : 0;
     size_t len = strcspn(line, ": ");
     for (size_t i = 0; i < sizeof copied / sizeof *copied; i++)
@@ -442,14 +488,25 @@ static void answer(const char *line, struct bytes *to, simd_json_parser *kept, s
             put_text(to, line);
             return;
         }
+    if (is_word(line, len, "document")) {
+        struct row row = {.limit = 1024};
+        decode(input + 1, line + strlen(line), &row.input);
+        read_document(&row);
+        free(row.input.at);
+        put_text(to, line);
+        return;
+    }
+    bool is_pointer = is_word(line, len, "pointer");
     bool is_parse = is_word(line, len, "parse"), is_pretty = is_word(line, len, "pretty");
     bool is_indexes = is_word(line, len, "indexes"), is_locate = is_word(line, len, "locate");
-    if (!end || !(is_parse || is_pretty || is_indexes || is_locate || is_word(line, len, "compact"))) stop("no row", line);
+    if (!end || !(is_parse || is_pretty || is_indexes || is_locate || is_pointer || is_word(line, len, "compact"))) stop("no row", line);
     struct row row = {.limit = line[len] == ':' ? strtoull(line + len + 1, 0, 10) : 1024};
     decode(input + 1, end, &row.input);
     put(to, line, (size_t)(end + 4 - line));
     if (is_indexes) {
         answer_indexes(to, &row);
+    } else if (is_pointer) {
+        answer_pointer(to, &row.input, end + 4);
     } else if (is_locate) {
         answer_locate(to, &row);
     } else if (is_parse && row.limit == 1024) {
@@ -481,6 +538,7 @@ int main(void) {
     }
     simd_json_close(&kept);
     simd_json_close(&other);
+    free_tape(&document);
     free(line);
     free(out.at);
     return 0;

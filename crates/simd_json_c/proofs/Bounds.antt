@@ -2,14 +2,12 @@
 use Rattle.std.proofs.Common.{◌≡◌, ◌≤◌, ◌+◌, ◌/◌, ◌%◌, ◌==◌, ℕ, suc, List, [], ◌∷◌, ◌++◌, length, length-append, Bool, true, false}
 use Rattle.std.proofs.Common.{cond, min, ap, None, Result, Ok, Err, IfOk, String, string_bytes, flat_map, codes, arith, subst, sym, ◌∙◌}
 use Rattle.std.specs.Char.{digit_char}
-use Rattle.std.specs.Result.{result_err}
 use Rattle.simd_json_parts.specs.Bytes.{backspace, tab, line_feed, form_feed, carriage_return, quote, comma, backslash}
 use Rattle.simd_json_parts.specs.Bytes.{left_bracket, right_bracket, left_brace, right_brace, is_control}
 use Rattle.simd_json_parts.specs.Document.{Document, null, boolean, integer, decimal, string, array, object, Elements, no_elements}
 use Rattle.simd_json_parts.specs.Document.{element, Members, no_members, member}
 use Rattle.simd_json_parts.specs.Listing.{listing, elements_listing, members_listing}
 use Rattle.simd_json_parts.specs.Nodes.{Item}
-use Rattle.simd_json_parts.specs.declared.error.Error.{Error}
 use Rattle.simd_json_parts.specs.Printed.{escaped_byte, quoted, text, elements_text, members_text, compact}
 use Rattle.simd_json_theorems.proofs.Printing.Shortest.{compact-shortest}
 use Rattle.simd_json.specs.Parsed.{IsParse, IsParsed}

@@ -23,7 +23,7 @@ append-nil (x ∷ xs) = ap (λ r. x ∷ r) (append-nil xs)
 pub length-push : {X : Type 0} (xs : List X) (x : X) → length (xs ++ x ∷ []) ≡ length xs + 1
 length-push xs x = length-append xs (x ∷ [])
 
-length-nodes : (start : ℕ) (ns : List Item) → length (nodes_from start ns) ≡ length ns
+pub length-nodes : (start : ℕ) (ns : List Item) → length (nodes_from start ns) ≡ length ns
 length-nodes start [] = refl
 length-nodes start (n ∷ ns) = ap suc (length-nodes (start + length (text_of n)) ns)
 

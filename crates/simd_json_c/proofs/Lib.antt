@@ -2,4 +2,5 @@ mod Bounds
 mod LooseValues
 mod HeldValues
 mod Laying
+mod Placing
 mod Printed

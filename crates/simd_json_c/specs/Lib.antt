@@ -4,6 +4,7 @@ pub mod Calls
 pub mod Indexed
 pub mod Names
 pub mod Located
+pub mod Placed
 pub mod Holding
 pub mod Kept
 pub mod Notes

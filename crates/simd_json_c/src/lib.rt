@@ -8,6 +8,7 @@ mod index;
 mod location;
 mod nodes;
 mod parser;
+mod pointer;
 mod print;
 mod sink;
 mod status;
@@ -20,6 +21,7 @@ pub use nodes::{Node, Room};
 pub use parser::{
     Parser, simd_json_close, simd_json_open, simd_json_parser_check, simd_json_parser_tape,
 };
+pub use pointer::simd_json_pointer;
 pub use print::{simd_json_compact, simd_json_pretty};
 pub use status::{ErrorPlace, simd_json_kind_name, simd_json_status_name};
 pub use tape::{simd_json_check, simd_json_tape};

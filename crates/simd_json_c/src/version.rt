@@ -3,7 +3,9 @@ ghost use Rattle.std.specs.Prelude.{◌≡◌, ◌+◌, ◌*◌};
 
 // The three numbers of the header's `SIMD_JSON_VERSION_MAJOR`, `_MINOR` and `_PATCH`.
 const MAJOR: u32 = 0;
+
 const MINOR: u32 = 1;
+
 const PATCH: u32 = 0;
 
 /// Returns the version as one number, as the header's `SIMD_JSON_VERSION`.

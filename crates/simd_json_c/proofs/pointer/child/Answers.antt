@@ -1,0 +1,33 @@
+use Rattle.std.proofs.Common.{sym, subst, arith}
+use Rattle.std.specs.Result.{result_ok}
+use Rattle.simd_json_parts.specs.Pointed.{named}
+use Rattle.simd_json_c.specs.Placed.{IsFound, IsValueAt}
+use Rattle.simd_json_c.proofs.Placing.{elements-at, members-at, value-header, value-some, value-within}
+use Rattle.simd_json_c.proofs.pointer.child.Goals as goal
+
+pub returns-then-at-nodes : goal.returns-then-at-nodes
+returns-then-at-nodes c d a =
+    absurd (omega (arith, c.if-at-nodes.true, value-within c.args.nodes.now c.args.text.now c.args.at d a, value-some d))
+
+pub returns-then-node-eq-ARRAY : goal.returns-then-node-eq-ARRAY
+returns-then-node-eq-ARRAY c d a =
+    let nodes = c.args.nodes.now in
+    let text = c.args.text.now in
+    let is = (value-header nodes text c.args.at d _ a).of_array c.if-node-eq-ARRAY.true in
+    let under = elements-at nodes text c.args.at is.0 (subst (IsValueAt nodes text c.args.at) is.1 a) in
+    subst (λ e. IsFound nodes text c.element.result (result_ok (named c.args.token.now e))) (sym is.1)
+    (c.element.ensures text is.0 under is.2)
+
+pub returns-then-node-eq-OBJECT : goal.returns-then-node-eq-OBJECT
+returns-then-node-eq-OBJECT c d a =
+    let nodes = c.args.nodes.now in
+    let text = c.args.text.now in
+    let is = (value-header nodes text c.args.at d _ a).of_object c.if-node-eq-OBJECT.true in
+    let under = members-at nodes text c.args.at is.0 (subst (IsValueAt nodes text c.args.at) is.1 a) in
+    subst (λ e. IsFound nodes text c.member.result (result_ok (named c.args.token.now e))) (sym is.1)
+    (c.member.ensures is.0 under is.2)
+
+pub returns : goal.returns
+returns c d a =
+    (value-header c.args.nodes.now c.args.text.now c.args.at d _ a).of_other c.if-node-eq-ARRAY.false c.if-node-eq-OBJECT.false
+    c.args.token.now

@@ -1,0 +1,171 @@
+//! JSON Pointers (RFC 6901) through the nodes of a tape in the caller's memory.
+//!
+//! The nodes may be anything: an index is tested before a node or a text is read there. What is
+//! proved of the result is proved for nodes that list a document.
+ghost use Rattle.std.specs.Prelude.{◌≡◌, ◌≤◌, ◌<◌, ◌+◌, ◌-◌, ℕ, List, IfSome, Some, length, take, drop};
+ghost use Rattle.std.specs.Prelude.{option_and_then, slice_get};
+ghost use Rattle.std.specs.Result.{result_ok};
+ghost use Rattle.simd_json_parts.specs.Document.{Document, Elements, Members, elements, members};
+ghost use Rattle.simd_json_parts.specs.Followed.{fits_64};
+ghost use Rattle.simd_json_parts.specs.Listing.{elements_listing, listing, members_listing};
+ghost use Rattle.simd_json_parts.specs.Pointed.{array_index, element_at, member_at, named};
+ghost use Rattle.simd_json_parts.specs.Pointed.{pointed, unescaped};
+ghost use Rattle.simd_json_c.specs.Placed.{AreAt, IsFound, IsValueAt, index_of};
+
+use crate::nodes::Node;
+use simd_json_parts::pointer::{is_index, is_key, next_token, read_index};
+
+// The kinds of the two headers.
+const ARRAY: u32 = 8;
+
+const OBJECT: u32 = 9;
+
+// What is returned if a pointer names no node.
+const NO_NODE: usize = usize::MAX;
+
+/// Returns the index of the node that a pointer names beneath the node at index `from`.
+#[unsafe(no_mangle)]
+pub extern "C" fn simd_json_pointer(
+    nodes: &[Node],
+    text: &[u8],
+    from: usize,
+    pointer: &[u8],
+) -> usize
+    ensures named { (d : Document) → IsValueAt nodes.now text.now from d
+        → IsFound nodes.now text.now (index_of result) (result_ok (pointed pointer.now d)) }
+    ensures within { IfSome (index_of result) (λ i. i < length nodes.now) }
+{
+    match walk(nodes, text, from, pointer) {
+        Some(found) if found < nodes.len() => found,
+        _ => NO_NODE,
+    }
+}
+
+// The index that a pointer leads to.
+fn walk(nodes: &[Node], text: &[u8], from: usize, pointer: &[u8]) -> Option<usize>
+    ensures { (d : Document) → IsValueAt nodes.now text.now from d
+        → IsFound nodes.now text.now result (result_ok (pointed pointer.now d)) }
+{
+    let mut reached = from;
+    let mut followed = 0;
+    while let Some(token) = next_token(pointer, followed) {
+        reached = child(nodes, text, reached, &pointer[followed + 1..token.end])?;
+        followed = token.end;
+    }
+    if followed < pointer.len() {
+        return None;
+    }
+    Some(reached)
+}
+
+// The index of the value that a token names in the value at index `at`.
+fn child(nodes: &[Node], text: &[u8], at: usize, token: &[u8]) -> Option<usize>
+    ensures { (d : Document) → IsValueAt nodes.now text.now at d
+        → IsFound nodes.now text.now result (result_ok (named token.now d)) }
+{
+    if at >= nodes.len() {
+        return None;
+    }
+    let node = nodes[at];
+    if node.kind == ARRAY {
+        return element(nodes, at + 1, node.len, token);
+    }
+    if node.kind == OBJECT {
+        return member(nodes, text, at + 1, node.len, token);
+    }
+    None
+}
+
+// The index of the element that a token names among the `len` from index `first` on.
+fn element(nodes: &[Node], first: usize, len: usize, token: &[u8]) -> Option<usize>
+    ensures { (text : List ℕ) (ds : Elements) → AreAt nodes.now text first (elements_listing ds)
+        → len ≡ length (elements ds)
+        → IsFound nodes.now text result (result_ok (element_at ds (array_index token.now))) }
+{
+    let index = number_of(token)?;
+    if index >= len {
+        return None;
+    }
+    nth(nodes, first, index)
+}
+
+// The index that a token is, as `read_index` reads it.
+fn number_of(token: &[u8]) -> Option<usize>
+    ensures { result ≡ option_and_then fits_64 (array_index token.now) }
+{
+    if !is_index(token) {
+        return None;
+    }
+    match str::from_utf8(token) {
+        Ok(digits) => read_index(digits),
+        Err(_) => None,
+    }
+}
+
+// The index of an element, of which there are enough.
+fn nth(nodes: &[Node], first: usize, index: usize) -> Option<usize>
+    ensures { (text : List ℕ) (ds : Elements) → AreAt nodes.now text first (elements_listing ds)
+        → index < length (elements ds)
+        → IsFound nodes.now text result (slice_get (elements ds) index) }
+{
+    let mut at = first;
+    for passed in 0..index {
+        at = after(nodes, at)?;
+    }
+    Some(at)
+}
+
+// The index of the value of the first of `len` pairs, from index `first` on, with the key that a
+// token is.
+fn member(nodes: &[Node], text: &[u8], first: usize, len: usize, token: &[u8]) -> Option<usize>
+    ensures { (ms : Members) → AreAt nodes.now text.now first (members_listing ms)
+        → len ≡ length (members ms)
+        → IsFound nodes.now text.now result (result_ok (member_at ms (unescaped token.now))) }
+{
+    let mut at = first;
+    for passed in 0..len {
+        if at >= nodes.len() {
+            return None;
+        }
+        let key = nodes[at];
+        if is_key(token, text_at(text, key.value, key.len)) {
+            return Some(at + 1);
+        }
+        at = after(nodes, at + 1)?;
+    }
+    None
+}
+
+// The index after the value at index `at`.
+fn after(nodes: &[Node], at: usize) -> Option<usize>
+    ensures { (text : List ℕ) (d : Document) → IsValueAt nodes.now text at d
+        → result ≡ Some (at + length (listing d)) }
+{
+    if at >= nodes.len() {
+        return None;
+    }
+    let beneath = beneath(nodes[at]);
+    if beneath >= (nodes.len() - at) as u64 {
+        return None;
+    }
+    Some(at + 1 + beneath as usize)
+}
+
+// How many nodes lie beneath a node.
+fn beneath(node: Node) -> u64
+    ensures header { 8 ≤ node.kind → result ≡ node.value }
+    ensures other { node.kind < 8 → result ≡ 0 }
+{
+    if node.kind >= ARRAY { node.value } else { 0 }
+}
+
+// The `len` bytes of text from index `start` on, or none if it has not so many.
+fn text_at(text: &[u8], start: u64, len: usize) -> &[u8]
+    ensures { len ≤ length text.now - start → result.now ≡ take len (drop start text.now) }
+{
+    if start > text.len() as u64 || len > text.len() - start as usize {
+        return &[];
+    }
+    let start = start as usize;
+    &text[start..start + len]
+}
