@@ -1,6 +1,7 @@
 #!/bin/sh
 # Runs jcheck, as the gate has built it, on a text of 64 MB with its error at the end, and compares line, column and byte with
-# what head, tail and wc count. Then statuses, and a closed pipe. Silent where all is as it must be, else with status 1.
+# what head, tail and wc count. Then lines as they arrive, statuses, and a closed pipe. Silent where all is as it must be, else
+# with status 1.
 #
 # usage: sh tests/places.sh [PROGRAM]
 set -u
@@ -46,6 +47,33 @@ check ', "é\377"]' 5 5 'byte 255 begins no UTF-8 character [InvalidUtf8'
 "$program" "$room/in" > "$room/out" 2> "$room/err"
 status=$?
 wanted 'a document of 64 MB' 0 ''
+
+# A line is reported before the next one comes, and of 64 MB of lines few are kept: 20 MB of memory are enough.
+mkfifo "$room/lines"
+"$program" --lines "$room/lines" > "$room/out" 2> "$room/err" &
+running=$!
+exec 3> "$room/lines"
+printf '1\n[1,]\n"a' >&3
+for _ in 1 2 3 4 5 6 7 8 9 10; do
+    [ -s "$room/out" ] && break
+    sleep 1
+done
+status=1
+wanted 'a line before the next one' 1 "$room/lines:2:4: expected a value"
+printf '\n' >&3
+exec 3>&-
+wait "$running"
+status=$?
+wanted 'the last line' 1 "$room/lines:2:4: expected a value, found \`]\` [InternalError at byte 5]
+[1,]
+   ^
+$room/lines:3:1: the string that begins here has no end [Syntax at byte 7]
+\"a
+^"
+tail -n +2 "$room/rows" | sed 's/,$//' > "$room/in"
+(ulimit -v 20000 && "$program" --lines "$room/in") > "$room/out" 2> "$room/err"
+status=$?
+wanted 'lines of 64 MB' 0 ''
 
 # A file that can't be read does not keep the others from being checked.
 printf '[1,]' > "$room/refused"

@@ -2,5 +2,6 @@ mod Characters
 mod Checked
 mod Puts
 mod Shown
+mod Streams
 mod Texts
 mod Written

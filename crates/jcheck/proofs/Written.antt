@@ -1,16 +1,14 @@
 -- What a writer holds after a text of it has ended.
-use Rattle.std.proofs.Common.{◌≡◌, ◌∙◌, refl, ap, sym, subst, inl, inr, Bool, true, false, Option, None, Some, ℕ, List, [], ◌++◌, take}
-use Rattle.std.proofs.Common.{drop, length, append-nil, append_assoc}
+use Rattle.std.proofs.Common.{◌≡◌, ◌∙◌, ap, sym, subst, inl, inr, Bool, true, false, Option, Some, ℕ, List, [], ◌++◌, take}
+use Rattle.std.proofs.Common.{length, append-nil}
 use Rattle.std.specs.Io.KnownBytes.{Appends}
 use Rattle.std.specs.IoError.{error_kind}
-use Rattle.std.specs.Prelude.{Result, Ok, Err, OnOk, OnErr, is_ok, is_some}
+use Rattle.std.specs.Prelude.{Result, Ok, Err, OnOk, OnErr, is_ok}
 use Rattle.std.specs.declared.io.Error.{Error}
 use Rattle.std.specs.declared.io.ErrorKind.TheVariants.{OutOfMemory}
 use Rattle.std.proofs.Math.Seq.{take-append_seam}
-use Rattle.std.proofs.lemmas.Bool.{false≢true}
-use Rattle.std.proofs.lemmas.List.{take-append-drop}
 use Rattle.jcheck.specs.Writings.{HasPart, HasStopped}
-use Rattle.simd_json_print.specs.Texts.{TargetState, IsUnsent, failed_or, HasGiven, Adds, HasEnded}
+use Rattle.simd_json_print.specs.Texts.{TargetState, HasGiven, Adds}
 use Rattle.simd_json_print.specs.declared.text.Text.{Text}
 use Rattle.simd_json_print.proofs.Texts.{Ends, ended-sound, ended-failed, take-front}
 
@@ -41,9 +39,9 @@ module _ {T E : Type 0} {size : ℕ} {state : T → TargetState} (r : Result Uni
       let count = take-front begun.1.0 part rest in
       record { reason = inl begun.0; count = count.0; written = subst (Appends held holds) (count.1 ∙ ap (take count.0) parts) begun.1.1 }
 
-  pub failed-written : {F : Type 0} (m : Result Bool F) (whole : List ℕ) (e : Error) → is_ok r ≡ false → HasGiven state (port held old) a []
+  pub failed-written : {A F : Type 0} (m : Result A F) (whole : List ℕ) (e : Error) → is_ok r ≡ false → HasGiven state (port held old) a []
       → OnOk m (Adds state a b whole) → OnErr m (HasPart state a b whole) → Ends state r b (port holds new)
       → HasStopped e new held holds whole
-  failed-written (Ok clean) whole e failed given put stopped ends = begun-written whole [] whole e failed (append-nil whole) given put ends
+  failed-written (Ok done) whole e failed given put stopped ends = begun-written whole [] whole e failed (append-nil whole) given put ends
   failed-written (Err fault) whole e failed given put stopped ends =
       begun-written stopped.part stopped.rest whole e failed stopped.whole given stopped.put ends

@@ -1,11 +1,11 @@
 -- The text of a line around a place, and a caret under it.
-use Rattle.std.specs.Prelude.{ℕ, ◌-◌, ◌/◌, List, [], ◌∷◌, ◌++◌, map, take, drop, count_by, codes, nat_le, nat_lt, encode_utf8_all}
+use Rattle.std.specs.Prelude.{ℕ, ◌-◌, ◌/◌, List, [], ◌∷◌, ◌++◌, map, min, drop, count_by, codes, nat_le, nat_lt, encode_utf8_all}
 use Rattle.std.specs.Prelude.{if◌then◌else◌}
 use Rattle.std.specs.Char.{is_control}
-use Rattle.std.specs.List.{after_last, before_first, repeat}
+use Rattle.std.specs.List.{before_first, repeat}
 use Rattle.std.specs.Str.{chars}
 use Rattle.std.specs.Str.Lossy.{utf8_lossy}
-use Rattle.simd_json.specs.Locations.{begins_character, is_line_feed}
+use Rattle.simd_json.specs.Locations.{begins_character, is_line_feed, line_before}
 use Rattle.simd_json_parts.specs.Bytes.{line_feed, space}
 
 -- ---- characters, by the bytes that begin one
@@ -26,15 +26,7 @@ abbrev pub last_characters : ℕ → List ℕ → List ℕ
 last_characters n [] = []
 last_characters n (x ∷ s) = if nat_le n (characters s) then last_characters n s else x ∷ s
 
--- ---- what is shown around byte i: at most `width` characters of its line
-
--- at most half of them before it
-abbrev pub front : ℕ → List ℕ → ℕ → List ℕ
-front width b i = after_last is_line_feed (last_characters (width / 2) (take i b))
-
--- from it on as many as are left
-abbrev pub back : ℕ → List ℕ → ℕ → List ℕ
-back width b i = before_first is_line_feed (first_characters (width - characters (front width b i)) (drop i b))
+-- ---- how they are shown
 
 -- a control character as a space
 abbrev pub visible : ℕ → ℕ
@@ -47,8 +39,30 @@ visible_text cs = encode_utf8_all (map visible cs)
 abbrev pub lossy_text : List ℕ → List ℕ
 lossy_text s = visible_text (chars (utf8_lossy s))
 
+-- U+2026, in place of what is cut
+abbrev pub ellipsis : List ℕ
+ellipsis = 0xe2 ∷ 0x80 ∷ 0xa6 ∷ []
+
+-- the end of a text, in at most n characters
+abbrev pub end_text : ℕ → List ℕ → List ℕ
+end_text n s = if nat_lt n (characters s) then ellipsis ++ lossy_text (last_characters (n - 1) s) else lossy_text s
+
+-- its beginning
+abbrev pub front_text : ℕ → List ℕ → List ℕ
+front_text n s = if nat_lt n (characters s) then lossy_text (first_characters (n - 1) s) ++ ellipsis else lossy_text s
+
+-- ---- what is shown around byte i: at most `width` characters of its line, half of them before it
+
+-- what stands in its line from byte i on
+abbrev pub line_from : List ℕ → ℕ → List ℕ
+line_from b i = before_first is_line_feed (drop i b)
+
+-- how many characters are shown before it
+abbrev pub indent : ℕ → List ℕ → ℕ → ℕ
+indent width b i = min (characters (line_before b i)) (width / 2)
+
 -- a line of text, and a line with a caret under byte i
 abbrev pub excerpt : ℕ → List ℕ → ℕ → List ℕ
 excerpt width b i =
-    lossy_text (front width b i ++ back width b i) ++ (line_feed ∷ [])
-    ++ repeat (characters (front width b i)) (space ∷ []) ++ codes "^" ++ (line_feed ∷ [])
+    end_text (width / 2) (line_before b i) ++ front_text (width - indent width b i) (line_from b i) ++ (line_feed ∷ [])
+    ++ repeat (indent width b i) (space ∷ []) ++ codes "^" ++ (line_feed ∷ [])

@@ -1,4 +1,6 @@
 pub mod Endings
 pub mod Excerpts
+pub mod Places
 pub mod Reports
+pub mod Streams
 pub mod Writings

@@ -2,11 +2,10 @@
 use Rattle.std.specs.Prelude.{ℕ, ◌+◌, ◌-◌, ◌^◌, min, List, [], ◌∷◌, ◌++◌, length, codes, Bool, ◌||◌, Option, None, Some, is_none}
 use Rattle.std.specs.Prelude.{if◌then◌else◌}
 use Rattle.std.specs.Fmt.{decimal}
-use Rattle.std.specs.List.{list_all}
 use Rattle.jcheck.specs.Excerpts.{excerpt}
-use Rattle.jtape.specs.Pieces.{pieces, is_blank}
+use Rattle.jcheck.specs.Places.{error_in}
+use Rattle.jtape.specs.Pieces.{is_blank}
 use Rattle.simd_json.specs.Messages.{reason_text}
-use Rattle.simd_json.specs.Reasons.{found_in}
 use Rattle.simd_json.specs.declared.location.Location.{Location}
 use Rattle.simd_json_parts.specs.Bytes.{line_feed}
 use Rattle.simd_json_parts.specs.ErrorKinds.{kind_text}
@@ -40,7 +39,7 @@ found_text file width number start line (Some l) = report file width number (pla
 -- of the line with this number, which begins at byte `start`
 abbrev pub line_text : List ℕ → ℕ → ℕ → ℕ → ℕ → List ℕ → List ℕ
 line_text file width limit number start line =
-    if is_blank line then [] else found_text file width number start line (found_in line limit)
+    if is_blank line then [] else found_text file width number start line (error_in line limit)
 
 -- of that line and those after it
 abbrev pub lines_text : List ℕ → ℕ → ℕ → ℕ → ℕ → List (List ℕ) → List ℕ
@@ -51,15 +50,4 @@ lines_text file width limit number start (line ∷ more) =
 
 -- it is blank or a document
 abbrev pub is_clean_line : ℕ → List ℕ → Bool
-is_clean_line limit line = is_blank line || is_none (found_in line limit)
-
--- ---- of an input
-
-abbrev pub output_of : List ℕ → List ℕ → Bool → ℕ → ℕ → List ℕ
-output_of file input has_lines width limit =
-    if has_lines then lines_text file width limit 1 0 (pieces input)
-    else whole_text file width input (found_in input limit)
-
-abbrev pub is_clean : List ℕ → Bool → ℕ → Bool
-is_clean input has_lines limit =
-    if has_lines then list_all (is_clean_line limit) (pieces input) else is_none (found_in input limit)
+is_clean_line limit line = is_blank line || is_none (error_in line limit)

@@ -13,6 +13,13 @@ pub record HasStopped (e : Error) (failed : Bool) (held holds : Option (List ℕ
   pub count : ℕ
   pub written : Appends held holds (take count bytes)
 
+-- Likewise of a writer and a reader that has failed or not: one of them has, or neither, and an allocation failed.
+pub record HasLeftOff (e : Error) (unread failed : Bool) (held holds : Option (List ℕ)) (bytes : List ℕ) : Type 0 where
+  pub reason : ((unread ≡ true) × (failed ≡ false))
+      ⊎ ((unread ≡ false) × ((failed ≡ true) ⊎ ((failed ≡ false) × (error_kind e ≡ OutOfMemory))))
+  pub count : ℕ
+  pub written : Appends held holds (take count bytes)
+
 -- a beginning of the bytes was put, and nothing else
 pub record HasPart {T : Type 0} {size : ℕ} (state : T → TargetState) (old new : Text T size) (bytes : List ℕ) : Type 0 where
   pub part : List ℕ

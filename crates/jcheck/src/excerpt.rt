@@ -1,8 +1,9 @@
 //! The text of a line around a place, and a caret under it.
 ghost use Rattle.std.specs.Prelude.{◌≡◌, ◌≤◌, ◌∷◌, [], chars, drop, length, take};
-ghost use Rattle.std.specs.List.{after_last, before_first, position_or_len, repeat};
-ghost use Rattle.jcheck.specs.Excerpts.{characters, excerpt, first_characters, last_characters};
-ghost use Rattle.jcheck.specs.Excerpts.{lossy_text, visible, visible_text};
+ghost use Rattle.std.specs.List.{after_last, position_or_len, repeat};
+ghost use Rattle.jcheck.specs.Excerpts.{characters, end_text, excerpt, first_characters};
+ghost use Rattle.jcheck.specs.Excerpts.{front_text, last_characters, lossy_text, visible};
+ghost use Rattle.jcheck.specs.Excerpts.{visible_text};
 ghost use Rattle.simd_json.specs.Locations.{begins_character, is_line_feed};
 ghost use Rattle.simd_json_parts.specs.Bytes.{space};
 ghost use Rattle.simd_json_print.specs.Texts.{Adds};
@@ -10,8 +11,9 @@ ghost use Rattle.simd_json_print.specs.Texts.{Adds};
 use simd_json_print::text::{Target, Text};
 
 /// Appends a line with the characters around a byte of the input that are in its line, and a line
-/// with a caret under that byte. At most `width` characters are shown, half of them before the
-/// byte. Control characters are shown as spaces, and what is not UTF-8 as U+FFFD.
+/// with a caret under that byte. At most `width` characters are shown, if that is more than 1, and
+/// half of them before the byte; where the line is cut, `…` is the first or the last of them.
+/// Control characters are shown as spaces, and what is not UTF-8 as U+FFFD.
 pub fn put_excerpt<T: Target, const SIZE: usize>(
     text: &mut Text<'_, T, SIZE>,
     input: &[u8],
@@ -20,35 +22,39 @@ pub fn put_excerpt<T: Target, const SIZE: usize>(
 )
     ensures { Adds T.state text.old text.new (excerpt width input.now byte) }
 {
-    let place = byte.min(input.len());
-    let (before, after) = input.split_at(place);
-    let start = front_start(before, width / 2);
-    let indent = characters(&before[start..]);
-    let end = back_end(after, width.saturating_sub(indent));
-    put_shown(text, &input[start..place + end]);
+    let (before, after) = input.split_at(byte.min(input.len()));
+    let (_, line) = before.split_at(line_start(before));
+    let (rest, _) = after.split_at(line_end(after));
+    let indent = characters(line).min(width / 2);
+    put_end(text, line, width / 2);
+    put_front(text, rest, width.saturating_sub(indent));
     text.put(b"\n");
     put_spaces(text, indent);
     text.put(b"^\n");
 }
 
-// The index in the bytes after which at most `most` characters are left, all in the last line.
-fn front_start(before: &[u8], most: usize) -> usize
-    ensures front { drop result before.now
-        ≡ after_last is_line_feed (last_characters most before.now) }
-    ensures bound { result ≤ length before.now }
+// Puts the end of a text, in at most `most` characters.
+fn put_end<T: Target, const SIZE: usize>(text: &mut Text<'_, T, SIZE>, bytes: &[u8], most: usize)
+    ensures { Adds T.state text.old text.new (end_text most bytes.now) }
 {
-    let start = step_back(before, most);
-    start + line_start(&before[start..])
+    if characters(bytes) <= most {
+        return put_shown(text, bytes);
+    }
+    let (_, end) = bytes.split_at(step_back(bytes, most.saturating_sub(1)));
+    text.put("\u{2026}".as_bytes());
+    put_shown(text, end);
 }
 
-// The index in the bytes before which at most `most` characters are, all in the first line.
-fn back_end(after: &[u8], most: usize) -> usize
-    ensures back { take result after.now
-        ≡ before_first is_line_feed (first_characters most after.now) }
-    ensures bound { result ≤ length after.now }
+// Puts the beginning of a text, in at most `most` characters.
+fn put_front<T: Target, const SIZE: usize>(text: &mut Text<'_, T, SIZE>, bytes: &[u8], most: usize)
+    ensures { Adds T.state text.old text.new (front_text most bytes.now) }
 {
-    let end = step_on(after, most);
-    line_end(&after[..end])
+    if characters(bytes) <= most {
+        return put_shown(text, bytes);
+    }
+    let (front, _) = bytes.split_at(step_on(bytes, most.saturating_sub(1)));
+    put_shown(text, front);
+    text.put("\u{2026}".as_bytes());
 }
 
 // The index after which `most` characters are left, or 0 if there are fewer.

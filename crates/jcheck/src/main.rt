@@ -10,7 +10,7 @@ mod report;
 use checker::Checker;
 use jtape::Channel;
 use options::{Options, asked};
-use report::{Ended, check_each, check_input, is_closed};
+use report::{Ended, check_document, check_each, check_lines, is_closed};
 use std::io::Read;
 use std::process::ExitCode;
 use std::{env, fs, io};
@@ -86,9 +86,22 @@ fn check_file(
     has_lines: bool,
     width: usize,
 ) -> io::Result<bool> {
-    let input = read_input(rt, file)?;
     let mut out = Channel::new(io::writer(rt));
-    check_input(checker, &mut out, file, input.as_slice(), has_lines, width)
+    if !has_lines {
+        let input = read_input(rt, file)?;
+        return check_document(checker, &mut out, file, input.as_slice(), width);
+    }
+    if file == "-" {
+        return check_lines(
+            checker,
+            &mut Channel::new(rt.reader()),
+            &mut out,
+            file,
+            width,
+        );
+    }
+    let reader = fs::File::open(rt, file)?;
+    check_lines(checker, &mut Channel::new(reader), &mut out, file, width)
 }
 
 // The bytes of a file, or of standard input for `-`.

@@ -1,100 +1,319 @@
+ghost use Rattle.std.specs.Prelude.{◌≡◌, false};
+
 use super::*;
 use std::process::Abort;
 use std::test::Fail;
 
-// What is written of an input, and whether it is clean.
-fn written(rt: &impl AllocGlobal, input: &[u8], has_lines: bool) -> Result<(bool, String), Fail> {
-    let mut checker = Checker::new(rt.alloc(), 4)?;
-    let mut out = Channel::new(Vec::new(rt.alloc()));
-    let clean = check_input(&mut checker, &mut out, "f", input, has_lines, 80)?;
-    Ok((clean, String::from_utf8(out.into_inner())?))
+// Gives its bytes a few at a time, and then ends or fails.
+#[derive(Drop)]
+struct Blocks<'a> {
+    rest: &'a [u8],
+    size: usize,
+    fails: bool,
 }
 
-// Of an input, what is written; it is clean where nothing is.
+impl Read for Blocks<'_> {
+    fn read(&mut self, buf: &mut [u8]) -> io::Result<usize> {
+        let count = self.rest.len().min(self.size).min(buf.len());
+        if count == 0 && self.fails {
+            return Err(io::Error::from(ErrorKind::ConnectionReset));
+        }
+        let (block, rest) = self.rest.split_at(count);
+        buf[..count].copy_from_slice(block);
+        self.rest = rest;
+        Ok(count)
+    }
+}
+
+fn in_blocks(rest: &[u8], size: usize, fails: bool) -> Channel<Blocks<'_>>
+    ensures { result.failed ≡ false }
+{
+    Channel::new(Blocks { rest, size, fails })
+}
+
+// Of an error the place, the reason and the kind, the text of its line, and the caret.
+type Report = [&'static str; 5];
+
+fn text_of(rt: &impl AllocGlobal, reports: &[Report]) -> Result<String, Fail> {
+    let mut text = String::new(rt.alloc());
+    for [place, reason, kind, line, caret] in reports {
+        writeln!(text, "{place}: {reason} [{kind}]")?;
+        writeln!(text, "{line}")?;
+        writeln!(text, "{caret}")?;
+    }
+    Ok(text)
+}
+
+// How an input is read: as one document, or as lines in blocks of this size.
+#[derive(Clone, Copy)]
+enum Form {
+    Document,
+    Lines(usize),
+}
+
+fn check<W: Write>(
+    rt: &impl AllocGlobal,
+    out: &mut Channel<W>,
+    input: &[u8],
+    form: Form,
+    width: usize,
+) -> io::Result<bool>
+    requires { out.old.failed ≡ false }
+{
+    let mut checker = Checker::new(rt.alloc(), 4)?;
+    match form {
+        Form::Document => check_document(&mut checker, out, "f", input, width),
+        Form::Lines(size) => {
+            let mut reader = in_blocks(input, size, false);
+            check_lines(&mut checker, &mut reader, out, "f", width)
+        }
+    }
+}
+
+// The reports on an input are written; it is clean where there are none.
 fn assert_written(
     rt: &(impl AllocGlobal + Abort),
     input: &[u8],
-    text: &str,
-    has_lines: bool,
+    reports: &[Report],
+    form: Form,
+    width: usize,
 ) -> Result<(), Fail> {
-    let (clean, out) = written(rt, input, has_lines)?;
-    assert_eq!(rt; out.as_str(), text);
-    assert_eq!(rt; clean, text.is_empty(), "{text}");
+    let mut out = Channel::new(Vec::new(rt.alloc()));
+    let clean = check(rt, &mut out, input, form, width)?;
+    let text = text_of(rt, reports)?;
+    assert_eq!(rt;
+        String::from_utf8(out.into_inner())?.as_str(),
+        text.as_str()
+    );
+    assert_eq!(rt; clean, reports.is_empty(), "{text}");
     Ok(())
 }
 
-const REJECTED: [(&[u8], &str); 10] = [
-    (b"[1,[2]]\n", ""),
+const MORE: &str = "more text after the document";
+
+const VALUE: &str = "expected a value, found `x`";
+
+const REJECTED: [(&[u8], &[Report]); 15] = [
+    (b"[1,[2]]\n", &[]),
     (
         b"[1,\n  2 3]\n",
-        "f:2:5: expected `,` or `]` after an element, found `3` [ExpectedArrayContent at byte 8]\n  2 3]\n    ^\n",
+        &[[
+            "f:2:5",
+            "expected `,` or `]` after an element, found `3`",
+            "ExpectedArrayContent at byte 8",
+            "  2 3]",
+            "    ^",
+        ]],
     ),
     // at the end of the input, and after the last line feed
-    (
-        b"",
-        "f:1:1: expected a value, found only whitespace [Eof at byte 0]\n\n^\n",
-    ),
-    (
-        b" \n ",
-        "f:2:2: expected a value, found only whitespace [Eof at byte 3]\n \n ^\n",
-    ),
+    (b"", &[["f:1:1", BLANK, "Eof at byte 0", "", "^"]]),
+    (b" \n ", &[["f:2:2", BLANK, "Eof at byte 3", " ", " ^"]]),
     // a tab and a carriage return are shown as spaces
     (
         b"{\t\"a\":\tx}\r\n",
-        "f:1:8: expected a value, found `x` [InternalError at byte 7]\n{ \"a\": x} \n       ^\n",
+        &[[
+            "f:1:8",
+            VALUE,
+            "InternalError at byte 7",
+            "{ \"a\": x} ",
+            "       ^",
+        ]],
     ),
     // characters of two to four bytes before the place
     (
         b"[\"\xc3\xa9\xe2\x82\xac\xf0\x9f\x98\x80\", nul]",
-        "f:1:9: expected `null` [ExpectedNull at byte 14]\n[\"\u{e9}\u{20ac}\u{1f600}\", nul]\n        ^\n",
+        &[[
+            "f:1:9",
+            "expected `null`",
+            "ExpectedNull at byte 14",
+            "[\"\u{e9}\u{20ac}\u{1f600}\", nul]",
+            "        ^",
+        ]],
     ),
     (
         b"[\"\xff\"]",
-        "f:1:3: byte 255 begins no UTF-8 character [InvalidUtf8 at byte 2]\n[\"\u{fffd}\"]\n  ^\n",
+        &[[
+            "f:1:3",
+            "byte 255 begins no UTF-8 character",
+            "InvalidUtf8 at byte 2",
+            "[\"\u{fffd}\"]",
+            "  ^",
+        ]],
     ),
     (
         b"[\"a\", \"b]",
-        "f:1:7: the string that begins here has no end [Syntax at byte 6]\n[\"a\", \"b]\n      ^\n",
+        &[["f:1:7", OPEN, "Syntax at byte 6", "[\"a\", \"b]", "      ^"]],
     ),
-    // a line is cut: 40 characters before the place, 80 in all
+    // a line of which all is shown
     (
         b"[000000000000000000000000000000000000000000]",
-        "f:1:3: malformed number [InvalidNumber at byte 2]\n[000000000000000000000000000000000000000000]\n  ^\n",
+        &[[
+            "f:1:3",
+            "malformed number",
+            "InvalidNumber at byte 2",
+            "[000000000000000000000000000000000000000000]",
+            "  ^",
+        ]],
+    ),
+    // more text after a container, a string, a number and a name
+    (
+        b"{\"a\":1} x",
+        &[[
+            "f:1:9",
+            MORE,
+            "TrailingData at byte 8",
+            "{\"a\":1} x",
+            "        ^",
+        ]],
     ),
     (
-        b"[\"0123456789012345678901234567890123456789\",x,\"0123456789012345678901234567890123456789\"]",
-        "f:1:45: expected a value, found `x` [InternalError at byte 44]\n23456789012345678901234567890123456789\",x,\"0123456789012345678901234567890123456\n                                        ^\n",
+        b"[1]\n\n  [2]",
+        &[["f:3:3", MORE, "TrailingData at byte 7", "  [2]", "  ^"]],
+    ),
+    (
+        b"[[]]]",
+        &[["f:1:5", MORE, "TrailingData at byte 4", "[[]]]", "    ^"]],
+    ),
+    (
+        b"\"a\\\"]\" 1",
+        &[[
+            "f:1:8",
+            MORE,
+            "TrailingData at byte 7",
+            "\"a\\\"]\" 1",
+            "       ^",
+        ]],
+    ),
+    (
+        b"12 3",
+        &[["f:1:4", MORE, "TrailingData at byte 3", "12 3", "   ^"]],
+    ),
+    (
+        b"null]",
+        &[["f:1:5", MORE, "TrailingData at byte 4", "null]", "    ^"]],
     ),
 ];
 
+const BLANK: &str = "expected a value, found only whitespace";
+
+const OPEN: &str = "the string that begins here has no end";
+
 #[test]
 fn rejections_are_shown(rt: HostRuntime) -> Result<(), Fail> {
-    for (input, text) in &REJECTED {
-        assert_written(&rt, input, text, false)?;
+    for (input, reports) in &REJECTED {
+        assert_written(&rt, input, reports, Form::Document, 80)?;
     }
     Ok(())
 }
 
-const LINES: [(&[u8], &str); 4] = [
-    (b"1\n\n {} \r\n\"a\"\n", ""),
+// Of 16 characters, 8 of them before the place: one that is cut on both sides, and one that just
+// fits.
+const CUT: [(&[u8], &[Report]); 2] = [
     (
-        b"1\n\n[1,]\n2",
-        "f:3:4: expected a value, found `]` [InternalError at byte 6]\n[1,]\n   ^\n",
+        b"[\"0123456789\",x,\"0123456789\"]",
+        &[[
+            "f:1:15",
+            VALUE,
+            "InternalError at byte 14",
+            "\u{2026}56789\",x,\"0123\u{2026}",
+            "        ^",
+        ]],
     ),
     (
-        b"x\r\n\"a",
-        "f:1:1: expected a value, found `x` [InternalError at byte 0]\nx \n^\nf:2:1: the string that begins here has no end [Syntax at byte 3]\n\"a\n^\n",
-    ),
-    (
-        b"[[[[[1]]]]]",
-        "f:1:5: one container more than the depth limit [DepthLimitExceeded at byte 4]\n[[[[[1]]]]]\n    ^\n",
+        b"[\"0123\",x,\"012\"]",
+        &[[
+            "f:1:9",
+            VALUE,
+            "InternalError at byte 8",
+            "[\"0123\",x,\"012\"]",
+            "        ^",
+        ]],
     ),
 ];
 
 #[test]
+fn long_lines_are_cut(rt: HostRuntime) -> Result<(), Fail> {
+    for (input, reports) in &CUT {
+        assert_written(&rt, input, reports, Form::Document, 16)?;
+        assert_written(&rt, input, reports, Form::Lines(5), 16)?;
+    }
+    Ok(())
+}
+
+const LINES: [(&[u8], &[Report]); 5] = [
+    (b"", &[]),
+    (b"1\n\n {} \r\n\"a\"\n", &[]),
+    (
+        b"1\n\n[1,]\n2",
+        &[[
+            "f:3:4",
+            "expected a value, found `]`",
+            "InternalError at byte 6",
+            "[1,]",
+            "   ^",
+        ]],
+    ),
+    (
+        b"x\r\n\"a",
+        &[
+            ["f:1:1", VALUE, "InternalError at byte 0", "x ", "^"],
+            ["f:2:1", OPEN, "Syntax at byte 3", "\"a", "^"],
+        ],
+    ),
+    (
+        b"[[[[[1]]]]]\n1 2\n",
+        &[
+            [
+                "f:1:5",
+                "one container more than the depth limit",
+                "DepthLimitExceeded at byte 4",
+                "[[[[[1]]]]]",
+                "    ^",
+            ],
+            ["f:2:3", MORE, "TrailingData at byte 14", "1 2", "  ^"],
+        ],
+    ),
+];
+
+// However the input is cut into blocks.
+#[test]
 fn lines_have_their_numbers(rt: HostRuntime) -> Result<(), Fail> {
-    for (input, text) in &LINES {
-        assert_written(&rt, input, text, true)?;
+    for (input, reports) in &LINES {
+        for size in 1..20 {
+            assert_written(&rt, input, reports, Form::Lines(size), 80)?;
+        }
+    }
+    Ok(())
+}
+
+// The reports on the lines that ended before a read fails are written before it.
+#[test]
+fn a_failed_read_ends_the_check(rt: HostRuntime) -> Result<(), Fail> {
+    let input = b"x\n1\nx\nx".as_slice();
+    let first = ["f:1:1", VALUE, "InternalError at byte 0", "x", "^"];
+    let third = ["f:3:1", VALUE, "InternalError at byte 4", "x", "^"];
+    for (len, reports) in [
+        (0, [].as_slice()),
+        (1, &[]),
+        (2, &[first]),
+        (5, &[first]),
+        (6, &[first, third]),
+        (7, &[first, third]),
+    ] {
+        for size in 1..8 {
+            let mut checker = Checker::new(rt.alloc(), 4)?;
+            let mut reader = in_blocks(&input[..len], size, true);
+            let mut out = Channel::new(Vec::new(rt.alloc()));
+            let checked = check_lines(&mut checker, &mut reader, &mut out, "f", 80);
+            let kind = checked.map_err(|e| e.kind());
+            assert_eq!(rt; kind, Err(ErrorKind::ConnectionReset));
+            assert!(rt; reader.failed() && !out.failed());
+            let text = text_of(&rt, reports)?;
+            assert_eq!(rt;
+                String::from_utf8(out.into_inner())?.as_str(),
+                text.as_str()
+            );
+        }
     }
     Ok(())
 }
@@ -126,15 +345,14 @@ impl Write for Short {
 fn assert_stopped(
     rt: &(impl AllocGlobal + Abort),
     input: &[u8],
-    text: &str,
-    has_lines: bool,
+    reports: &[Report],
+    form: Form,
 ) -> Result<(), Fail> {
-    let mut checker = Checker::new(rt.alloc(), 4)?;
+    let text = text_of(rt, reports)?;
     for room in 0..text.len() {
         let taken = Vec::new(rt.alloc());
         let mut out = Channel::new(Short { taken, room });
-        let checked = check_input(&mut checker, &mut out, "f", input, has_lines, 80);
-        let kind = checked.map_err(|e| e.kind());
+        let kind = check(rt, &mut out, input, form, 80).map_err(|e| e.kind());
         assert_eq!(rt; kind, Err(ErrorKind::StorageFull));
         assert_eq!(rt;
             Some(out.into_inner().taken.as_slice()),
@@ -147,11 +365,12 @@ fn assert_stopped(
 // A writer that is full at each of its bytes in turn.
 #[test]
 fn failed_writes_end_the_check(rt: HostRuntime) -> Result<(), Fail> {
-    for (input, text) in &REJECTED {
-        assert_stopped(&rt, input, text, false)?;
+    for (input, reports) in &REJECTED {
+        assert_stopped(&rt, input, reports, Form::Document)?;
     }
-    for (input, text) in &LINES {
-        assert_stopped(&rt, input, text, true)?;
+    for (input, reports) in &LINES {
+        assert_stopped(&rt, input, reports, Form::Lines(3))?;
+        assert_stopped(&rt, input, reports, Form::Lines(100))?;
     }
     Ok(())
 }
