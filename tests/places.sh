@@ -52,7 +52,7 @@ wanted 'a document of 64 MB' 0 ''
 mkfifo "$room/lines"
 "$program" --lines "$room/lines" > "$room/out" 2> "$room/err" &
 running=$!
-exec 3> "$room/lines"
+exec 3<> "$room/lines"
 printf '1\n[1,]\n"a' >&3
 for _ in 1 2 3 4 5 6 7 8 9 10; do
     [ -s "$room/out" ] && break
