@@ -1,6 +1,6 @@
 # `make` proves and builds the programs and shows the first run, `make test` passes the gate, and `make help` lists the rest.
 # All need the toolchain's command `rt` on the PATH, and nothing else.
-.PHONY: all jtape jcheck library wheel test test-c test-bindings bench vendor install install-library uninstall clean has-rt help build/log_report
+.PHONY: all jtape jcheck log_report jpick library wheel dist test test-c test-bindings test-dist bench vendor install install-library uninstall clean has-rt help build/log_report build/jpick
 
 # The level that programs are built for: x86-64-v3 where this processor has what that asks for, else the toolchain's default.
 # A package for other machines is built with CPU=x86-64-v2.
@@ -15,21 +15,36 @@ ifeq ($(filter -j% --jobs%,$(MAKEFLAGS)),)
 MAKEFLAGS += --jobs=$(jobs)
 endif
 
+# Where programs and library are put, and how a program gets there: crate, name. A release links the object.
+into = build
+define put
+	mkdir -p $(into)
+	cp crates/$(1)/out/$(1) $(into)/$(2)
+	$(if $(filter-out build,$(into)),cp crates/$(1)/out/$(1).o $(into)/$(2).o)
+endef
+
 all: jtape jcheck
 	build/jtape tape < examples/nested-list.json
 
 jtape: proved-jtape
 	@sh scripts/prove.sh jtape_main run $(cpu) -- tape < examples/nested-list.json
-	cp crates/jtape_main/out/jtape_main build/jtape
+	$(call put,jtape_main,jtape)
 
 jcheck: proved-jtape
 	@nice sh scripts/prove.sh jcheck run $(cpu) -- $(CURDIR)/examples/nested-list.json
-	cp crates/jcheck/out/jcheck build/jcheck
+	$(call put,jcheck,jcheck)
 
 # It counts a document that is no object.
-build/log_report: proved-jtape
+log_report: proved-jtape
 	@sh scripts/prove.sh log_report run $(cpu) -- level < examples/nested-list.json
-	cp crates/log_report/out/log_report build/log_report
+	$(call put,log_report,log_report)
+build/log_report: log_report
+
+# It prints the second value of the array.
+jpick: proved-jtape
+	@sh scripts/prove.sh jpick run $(cpu) -- /1 < examples/nested-list.json
+	$(call put,jpick,jpick)
+build/jpick: jpick
 
 # proved-CRATE: a library is proved after those that it stands on, which crates.txt names, and beside all others.
 crates := $(shell sed -n 's/^\([a-z][a-z0-9_]*\).*:.*/\1/p' crates.txt)
@@ -50,7 +65,6 @@ major = $(firstword $(subst ., ,$(version)))
 # The library for programs in C, static and shared. Each needs nothing beside it but malloc, realloc, free, memcpy and memset:
 # the toolchain's heap is in it, and the exports alone are visible.
 kit = $(dir $(shell readlink -f "$$(command -v rt)"))..
-into = build
 parts = $(into)/parts
 library: proved-simd_json_c
 	mkdir -p $(parts)
@@ -69,8 +83,8 @@ links = ln -sf libsimd_json.so.$(version) $(1)/libsimd_json.so.$(major) && ln -s
 
 # Every proof (from nothing, where no earlier run here passed the same files), the must-fail edits, the tests and the programs.
 # Its last line is 'N passed, M failed'. After it the programs that it built are run on the rows of tests/vectors and on inputs
-# of which the lines and the status are known, and the counts of lines in DESIGN.md are compared with the files; all are silent
-# where all is well.
+# of which the lines and the status are known, and the counts of lines in DESIGN.md and what documents show are compared with the
+# files; all are silent where all is well.
 # One check more runs at a time than `jobs`, since each also waits for files. Left to itself `rt ci` reserves 7.5 GB for a
 # check of `simd_json`, and lets it wait behind small ones.
 test: has-rt
@@ -80,6 +94,7 @@ test: has-rt
 	sh tests/statuses.sh
 	sh tests/places.sh
 	sh tests/counts.sh
+	sh tests/commands.sh
 
 # The library, called from C and Python. It needs a C compiler besides.
 test-c: has-rt
@@ -89,9 +104,24 @@ test-c: has-rt
 test-bindings: has-rt
 	MAKEFLAGS= sh tests/bindings.sh
 
+# The release, unpacked, without the toolchain.
+test-dist: has-rt
+	MAKEFLAGS= sh tests/dist.sh
+
 # The package for Python, with the library in it, for each Python from 3.10 on.
 wheel: library
-	python3 -B python/backend.py $(into)
+	SIMD_JSON_LIB_DIR=$(into) python3 -B python/backend.py $(into)
+
+# The release, for processors of two levels. What a level is made of is built again where a source is newer; the second takes
+# the proofs of the first.
+released = jtape jcheck jpick log_report
+sources = $(shell find crates/*/src crates/*/specs crates/*/proofs include simd_json.map -type f 2> /dev/null)
+dist: has-rt build/x86-64-v2/built build/x86-64-v3/built
+	MAKEFLAGS= sh scripts/dist.sh $(released)
+build/x86-64-v3/built: | build/x86-64-v2/built
+build/%/built: $(sources)
+	$(MAKE) CPU=$* into=build/$* library $(released)
+	touch $@
 
 # Beside the parsers that are installed, over generated texts and FILES. SAVE=1 puts the results into docs/.
 bench: has-rt
@@ -107,22 +137,25 @@ PREFIX = /usr/local
 under = $(DESTDIR)$(abspath $(PREFIX))
 install: install-library
 	test -x build/jtape -a -x build/jcheck || $(MAKE) all
+	test -x build/jpick -a -x build/log_report || $(MAKE) build/jpick build/log_report
 	install -d $(under)/bin $(under)/share/man/man1
-	install -m 755 build/jtape build/jcheck $(under)/bin/
-	install -m 644 man/jtape.1 man/jcheck.1 $(under)/share/man/man1/
+	install -m 755 build/jtape build/jcheck build/jpick build/log_report $(under)/bin/
+	install -m 644 man/jtape.1 man/jcheck.1 man/jpick.1 man/log_report.1 $(under)/share/man/man1/
 
 install-library:
-	test -e build/libsimd_json.so || $(MAKE) library
+	test -e $(into)/libsimd_json.so || $(MAKE) library
 	install -d $(under)/include $(under)/lib/pkgconfig $(under)/share/man/man3
 	install -m 644 include/simd_json.h include/simd_json.hpp $(under)/include/
-	install -m 644 build/libsimd_json.a $(under)/lib/libsimd_json.a
-	install -m 755 build/libsimd_json.so.$(version) $(under)/lib/
+	install -m 644 $(into)/libsimd_json.a $(under)/lib/libsimd_json.a
+	install -m 755 $(into)/libsimd_json.so.$(version) $(under)/lib/
 	$(call links,$(under)/lib)
 	sed 's|@PREFIX@|$(abspath $(PREFIX))|; s|@VERSION@|$(version)|' simd_json.pc.in > $(under)/lib/pkgconfig/simd_json.pc
 	install -m 644 man/simd_json.3 $(under)/share/man/man3/simd_json.3
 
 uninstall:
-	rm -f $(under)/bin/jtape $(under)/bin/jcheck $(under)/share/man/man1/jtape.1 $(under)/share/man/man1/jcheck.1 $(under)/include/simd_json.h $(under)/include/simd_json.hpp $(under)/lib/libsimd_json.a \
+	rm -f $(under)/bin/jtape $(under)/bin/jcheck $(under)/share/man/man1/jtape.1 $(under)/share/man/man1/jcheck.1
+	rm -f $(under)/bin/jpick $(under)/bin/log_report $(under)/share/man/man1/jpick.1 $(under)/share/man/man1/log_report.1
+	rm -f $(under)/include/simd_json.h $(under)/include/simd_json.hpp $(under)/lib/libsimd_json.a \
 		$(under)/lib/libsimd_json.so $(under)/lib/libsimd_json.so.$(major) $(under)/lib/libsimd_json.so.$(version) $(under)/lib/pkgconfig/simd_json.pc $(under)/share/man/man3/simd_json.3
 
 has-rt:
@@ -134,13 +167,16 @@ clean:
 help:
 	@echo "make                        proves and builds build/jtape and build/jcheck, and shows the first run"
 	@echo "make library                the same of the library for C: build/libsimd_json.a and .so"
-	@echo "make wheel                  the package for Python: build/simd_json-0.2.0-*.whl"
+	@echo "make wheel                  the package for Python: build/simd_json-$(version)-*.whl"
+	@echo "make dist                   the release for machines without the toolchain: build/simd_json-$(version)-x86_64-linux.tar.gz"
+	@echo "make build/jpick            the same of the program that prints fields of JSON Lines"
 	@echo "make build/log_report       the same of the program that counts the lines of a log"
 	@echo "make install PREFIX=DIR     installs programs, library and manual pages; make uninstall PREFIX=DIR removes them"
 	@echo "make vendor DIR=DIR         copies the library's crates into another repository; with CRATES=simd_json_serde that crate too"
 	@echo "make test                   the gate: proofs from nothing, edits that must be rejected, tests, programs"
 	@echo "make test-c                 the library, called from C and Python"
 	@echo "make test-bindings          the wrapper for C++, the package for Python, the crate for Rust"
+	@echo "make test-dist              the release, in an empty folder without the toolchain"
 	@echo "make bench FILES=\"..\"       measures beside the other parsers that are installed"
 	@echo "make clean                  removes what was made"
 	@echo "CPU=x86-64-v2               builds for that level, and not for this machine ($(or $(CPU),x86-64-v2))"

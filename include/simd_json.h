@@ -49,7 +49,7 @@ extern "C" {
 /* The version of this header, as in `#if SIMD_JSON_VERSION >= 200`, and the version of the library that is linked. With the
  * same major number a program needs no new build (the soname has it). */
 #define SIMD_JSON_VERSION_MAJOR 0
-#define SIMD_JSON_VERSION_MINOR 1
+#define SIMD_JSON_VERSION_MINOR 2
 #define SIMD_JSON_VERSION_PATCH 0
 #define SIMD_JSON_VERSION (SIMD_JSON_VERSION_MAJOR * 10000 + SIMD_JSON_VERSION_MINOR * 100 + SIMD_JSON_VERSION_PATCH)
 uint32_t simd_json_version(void);

@@ -1,8 +1,11 @@
-"""Builds the wheel with a C compiler and nothing else: `make wheel`, or `pip install python/` where the library is built."""
+"""Builds the wheel with a C compiler and nothing else: `make wheel`, or `pip install python/` where the library is built.
+
+The library is that of the folder SIMD_JSON_LIB_DIR, or else of `build`; the version is the header's."""
 import base64
 import hashlib
 import os
 import pathlib
+import re
 import shlex
 import subprocess
 import sysconfig
@@ -10,7 +13,10 @@ import zipfile
 
 HERE = pathlib.Path(__file__).resolve().parent
 ROOT = HERE.parent
-NAME, VERSION, TAG = "simd_json", "0.2.0", "cp310-abi3-manylinux_2_31_x86_64"
+LIBRARY = pathlib.Path(os.environ.get("SIMD_JSON_LIB_DIR") or ROOT / "build")
+HEADER = (ROOT / "include" / "simd_json.h").read_text()
+VERSION = ".".join(re.findall(r"^#define SIMD_JSON_VERSION_\w+ (\d+)$", HEADER, re.M))
+NAME, TAG = "simd_json", "cp310-abi3-manylinux_2_31_x86_64"
 METADATA = f"""Metadata-Version: 2.1
 Name: {NAME}
 Version: {VERSION}
@@ -23,11 +29,11 @@ WHEEL = f"Wheel-Version: 1.0\nGenerator: simd_json\nRoot-Is-Purelib: false\nTag:
 
 def compiled():
     """The bytes of the extension module, with the static library in it."""
-    out = ROOT / "build" / "_native.abi3.so"
+    out = LIBRARY / "_native.abi3.so"
     command = shlex.split(os.environ.get("CC", "cc")) + [
         "-O2", "-Wall", "-Wextra", "-Werror", "-fPIC", "-shared", "-fvisibility=hidden", "-s",
         "-I" + sysconfig.get_paths()["include"], f"-I{ROOT}/include", str(HERE / "native.c"),
-        str(ROOT / "build" / "libsimd_json.a"), "-o", str(out)]
+        str(LIBRARY / "libsimd_json.a"), "-o", str(out)]
     subprocess.run(command, check=True)
     return out.read_bytes()
 

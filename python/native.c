@@ -495,10 +495,15 @@ static PyMethodDef functions[] = {
 static struct PyModuleDef definition = {PyModuleDef_HEAD_INIT, "simd_json._native", NULL, -1, functions,
                                         NULL, NULL, NULL, NULL};
 
+#define TEXT(number) #number
+#define VERSION(major, minor, patch) TEXT(major) "." TEXT(minor) "." TEXT(patch)
+
 PyMODINIT_FUNC PyInit__native(void) {
+    const char *version = VERSION(SIMD_JSON_VERSION_MAJOR, SIMD_JSON_VERSION_MINOR, SIMD_JSON_VERSION_PATCH);
     PyObject *module = PyModule_Create(&definition);
     PyObject *type = module ? PyType_FromSpec(&parser_spec) : NULL;
-    if (!type || PyModule_AddObject(module, "Parser", type) < 0) {
+    if (!type || PyModule_AddStringConstant(module, "__version__", version) < 0
+        || PyModule_AddObject(module, "Parser", type) < 0) {
         Py_XDECREF(type);
         Py_XDECREF(module);
         return NULL;

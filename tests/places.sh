@@ -86,6 +86,13 @@ grep -q "^jcheck: $room/none: No such file" "$room/err" && grep -q "^jcheck: $ro
     cat "$room/err"
 }
 
+# Where there is one column, the place itself is shown.
+COLUMNS=1 "$program" "$room/refused" > "$room/out" 2> "$room/err"
+status=$?
+wanted 'one column' 1 "$room/refused:1:4: expected a value, found \`]\` [InternalError at byte 3]
+]
+^"
+
 for words in '--depth' '--depth x' '--depth -1' '--tree'; do
     "$program" $words > "$room/out" 2> "$room/err" < /dev/null
     status=$?

@@ -1,11 +1,14 @@
 #!/bin/sh
-# Runs the program that the gate has built, and compares standard output, standard error and status with what stands here,
+# Runs the programs that the gate has built, and compares standard output, standard error and status with what stands here,
 # which was worked out by hand. Silent where all is as it must be; else it says what differs, and ends with status 1.
 #
-# usage: sh tests/statuses.sh [PROGRAM]
+# usage: sh tests/statuses.sh [JTAPE [LOG_REPORT [JPICK]]]
 set -u
 program=${1:-$(dirname "$0")/../crates/jtape_main/out/jtape_main}
-[ -x "$program" ] || { echo "$program is not there: run make test" >&2; exit 1; }
+log_report=${2:-$(dirname "$0")/../crates/log_report/out/log_report}
+for built in "$program" "$log_report"; do
+    [ -x "$built" ] || { echo "$built is not there: run make test" >&2; exit 1; }
+done
 room=$(mktemp -d) || exit 1
 trap 'rm -rf "$room"' EXIT
 different=0
@@ -20,8 +23,8 @@ given() {
 
 # wanted NAME STATUS OUT ERR: what the last run must have left; OUT and ERR are formats of printf.
 wanted() {
-    printf "$3" > "$room/wanted-out"
-    printf "$4" > "$room/wanted-err"
+    printf -- "$3" > "$room/wanted-out"
+    printf -- "$4" > "$room/wanted-err"
     [ "$status" = "$2" ] && cmp -s "$room/out" "$room/wanted-out" && cmp -s "$room/err" "$room/wanted-err" && return
     different=1
     echo "$1: status $status, wanted $2"
@@ -114,5 +117,130 @@ done
 echo '[1' | "$program" tape > "$room/out" 2>&-
 status=$?
 wanted 'a refused document and closed standard error' 1 '' ''
+
+# log_report counts by a key, or by a JSON Pointer.
+program=$log_report
+given '{"level":"info"}\n{"level":"warn"}\n[1,]\n{"level":"info"}\n7\n' level
+wanted 'a count by key' 1 '2 "info"\n1 -\n1 !\n1 "warn"\n' "line 3: InternalError at character 3 (']')\n"
+given '{"a":{"b/c":1}}\n{"a":[]}\n{"a":{"b/c":1}}' /a/b~1c
+wanted 'a count by pointer' 0 '2 1\n1 -\n' ''
+given '{"-n":1}' -- -n
+wanted 'a key that begins with -' 0 '1 1\n' ''
+given '{}\n123456\n12345678' --longest 7 level
+wanted 'a line that is too long' 1 '2 -\n1 !\n' 'line 3: longer than 7 bytes\n'
+given '' level
+wanted 'no line to count' 0 '' ''
+
+# said NAME STATUS WORDS: the last run must have ended with this status, and printed these words on standard output alone, if
+# the status is 0, or on standard error alone.
+said() {
+    if [ "$2" = 0 ]; then set -- "$@" out err; else set -- "$@" err out; fi
+    [ "$status" = "$2" ] && grep -qF -e "$3" "$room/$4" && [ ! -s "$room/$5" ] && return
+    different=1
+    echo "$1: status $status, wanted $2 and '$3'"
+    sed 's/^/    /' "$room/out" "$room/err"
+}
+
+for word in --help -h; do
+    given '' "$word"
+    said "log_report $word" 0 '--longest <BYTES>'
+done
+for word in --version -V; do
+    given '' "$word"
+    wanted "log_report $word" 0 'log_report 0.2.0\n' ''
+done
+given '{}'
+said 'no key' 2 'KEY|POINTER'
+given '{}' --shortest level
+said 'an option that there is not' 2 '--shortest'
+for longest in x -1 '' 4294967296; do
+    given '{}' "--longest=$longest" level
+    said "log_report --longest=$longest" 2 '--longest <BYTES>'
+done
+
+# Files are one input: a line ends with its file, and lines are numbered through all of them.
+printf '{"k":1}\n{"k":2}' > "$room/a"
+printf '[1,]\n{"k":1}' > "$room/b"
+: > "$room/none"
+given '{"k":1}' k "$room/a" - "$room/none" "$room/b"
+wanted 'files and standard input' 1 '3 1\n1 !\n1 2\n' "line 4: InternalError at character 3 (']')\n"
+given '' k "$room/a" "$room/missing" "$room/b"
+said 'a file that is missing' 3 "log_report: $room/missing: "
+given '' k "$room/a" "$room"
+said 'a folder among files' 3 "log_report: $room: "
+
+# What can't be read or written. Who closes the report has had enough of it.
+"$program" level < / > "$room/out" 2> "$room/err"
+status=$?
+said 'a folder as a log' 3 'log_report: -: '
+if [ -w /dev/full ]; then
+    : > "$room/out"
+    echo '{}' | "$program" level > /dev/full 2> "$room/err"
+    status=$?
+    wanted 'a report on a full disk' 3 '' 'log_report: writing failed\n'
+fi
+: > "$room/out"
+# closed INPUT: counts the lines of the input, a format of printf, for a reader that has closed the report.
+closed() {
+    { sleep 0.2; printf "$1" | "$program" k 2> "$room/err"; echo $? > "$room/status"; } | :
+    status=$(cat "$room/status")
+}
+closed '{"k":1}\n{"k":2}\n'
+wanted 'a closed report' 0 '' ''
+closed '{"k":1}\n[1,]\n'
+wanted 'a closed report, and a rejected line' 1 '' "line 2: InternalError at character 3 (']')\n"
+
+# Fields of lines.
+program=${3:-$(dirname "$0")/../crates/jpick/out/jpick}
+[ -x "$program" ] || { echo "$program is not there: run make test" >&2; exit 1; }
+given '{"a":"x"}\n \n{"a":2}' /a
+wanted 'fields' 0 '"x"\n2\n' ''
+given '{"a":1}\n[1,]\n{"a":3}\n' -r /a ''
+wanted 'fields, where a line is refused' 1 '1\t{"a":1}\n3\t{"a":3}\n' '-:2:4: expected a value, found `]`\n'
+given '[1,]\n' -q /a
+wanted 'a refused line, quietly' 1 '' ''
+given '[12]\n[1]' --longest 3 /0
+wanted 'a line that is too long' 1 '1\n' '-:1: longer than 3 bytes\n'
+filtered='{"k":1}\n{"k":1.0}\n{"k":-0}\n{"k":0}\n{"k":[1]}\n{}\n'
+given "$filtered" --where /k=0 /k
+wanted 'lines where a value is 0' 0 '0\n0\n' ''
+given "$filtered" --where /k=1 --exists /k /k
+wanted 'lines where a value is 1' 0 '1\n' ''
+given "$filtered" --where-not /k=1 --exists /k /k
+wanted 'lines where a value is not 1' 0 '1.0\n0\n0\n[1]\n' ''
+given "$filtered" --where /k/0=1 ''
+wanted 'lines where an element is 1' 0 '{"k":[1]}\n' ''
+for pointer in a '/~' '/a/~2'; do
+    given '1' "$pointer"
+    wanted "the pointer '$pointer'" 2 '' "jpick: \`$pointer\` is not a JSON Pointer\n"
+done
+for condition in /a /a= /a=x '/a=1 2'; do
+    given '1' --where "$condition" /a
+    wanted "the condition '$condition'" 2 '' "jpick: \`$condition\` is not a JSON Pointer, \`=\` and JSON\n"
+done
+"$program" /a < / > "$room/out" 2> "$room/err"
+status=$?
+wanted 'a folder as input, fields' 3 '' 'jpick: -: reading failed\n'
+: > "$room/out"
+echo '[1]' | "$program" /0 >&- 2> "$room/err"
+status=$?
+wanted 'closed output, fields' 3 '' 'jpick: -: writing failed\n'
+if [ -w /dev/full ]; then
+    echo '[1]' | "$program" /0 > /dev/full 2> "$room/err"
+    status=$?
+    wanted 'a full disk, fields' 3 '' 'jpick: -: writing failed\n'
+fi
+echo '[1]' > "$room/one"
+"$program" /0 -- "$room/one" "$room/missing" "$room/one" > "$room/out" 2> "$room/err"
+status=$?
+sed "s|$room/||; s|: No such.*||" "$room/err" > "$room/short"
+mv "$room/short" "$room/err"
+wanted 'a file that is not there' 3 '1\n1\n' 'jpick: missing\n'
+
+# A reader that goes away before all is written: more than a pipe holds.
+awk 'BEGIN { for (i = 0; i < 100000; i++) print "[12345]" }' > "$room/many"
+{ "$program" /0 < "$room/many" 2> "$room/err"; echo $? > "$room/status"; } | head -n 1 > "$room/out"
+status=$(cat "$room/status")
+wanted 'a closed pipe, fields' 0 '12345\n' ''
 
 exit $different

@@ -1,4 +1,4 @@
-//! Links libsimd_json.a from the folder SIMD_JSON_LIB_DIR, or from `build` of this repository, or else from beside this file.
+//! Links libsimd_json.a from the folder SIMD_JSON_LIB_DIR, or from `lib` in this folder or beside it, or from `build` of the repository.
 use std::env;
 use std::path::PathBuf;
 
@@ -8,8 +8,8 @@ fn main() {
     let folders = [
         env::var_os("SIMD_JSON_LIB_DIR").map(PathBuf::from),
         Some(here.join("lib")),
-        Some(here.join("../../build")),
         Some(here.join("../lib")),
+        Some(here.join("../../build")),
     ];
     let found = folders.into_iter().flatten().find(|folder| folder.join("libsimd_json.a").exists());
     let folder = found.expect("no libsimd_json.a: run `make library`, or set SIMD_JSON_LIB_DIR to its folder");

@@ -8,10 +8,9 @@ that is tested alone.
 """
 
 from . import _native
-from ._native import check, loads
+from ._native import __version__, check, loads
 
 __all__ = ["Parser", "SimdJsonError", "check", "loads"]
-__version__ = "0.2.0"
 
 
 class SimdJsonError(ValueError):

@@ -2,6 +2,7 @@ from collections.abc import Callable, Iterable, Iterator
 from typing import Any
 
 Text = str | bytes | bytearray | memoryview
+__version__: str
 
 class SimdJsonError(ValueError):
     msg: str

@@ -88,7 +88,7 @@ static void siblings(void) {
 
 static void version(void) {
     WANT(simd_json_version() == SIMD_JSON_VERSION, "version");
-    WANT(SIMD_JSON_VERSION == 100, "0.1.0");
+    WANT(SIMD_JSON_VERSION == 200, "0.2.0");
 }
 
 int main(void) {

@@ -14,7 +14,7 @@ use Rattle.jcheck.proofs.Checked.{cut-at}
 use Rattle.jcheck.specs.Reports.{is_clean_line, line_text, lines_text}
 use Rattle.jcheck.specs.Streams.{AreDone, EndsLines, Stops, Takes, bytes_of}
 use Rattle.jcheck.specs.Writings.{HasLeftOff, HasStopped}
-use Rattle.jcheck.specs.declared.report.Lines.{Lines}
+use Rattle.jcheck.specs.declared.lines.Lines.{Lines}
 use Rattle.jtape.proofs.Pieces.{is-equal, pieces-some}
 use Rattle.jtape.specs.Pieces.{pieces}
 use Rattle.jtape.specs.Ports.{Watched}

@@ -1,5 +1,5 @@
 -- The text of a line around a place, and a caret under it.
-use Rattle.std.specs.Prelude.{ℕ, ◌-◌, ◌/◌, List, [], ◌∷◌, ◌++◌, map, min, drop, count_by, codes, nat_le, nat_lt, encode_utf8_all}
+use Rattle.std.specs.Prelude.{ℕ, zero, suc, ◌-◌, ◌/◌, List, [], ◌∷◌, ◌++◌, map, min, drop, count_by, codes, nat_le, nat_lt, encode_utf8_all}
 use Rattle.std.specs.Prelude.{if◌then◌else◌}
 use Rattle.std.specs.Char.{is_control}
 use Rattle.std.specs.List.{before_first, repeat}
@@ -45,11 +45,13 @@ ellipsis = 0xe2 ∷ 0x80 ∷ 0xa6 ∷ []
 
 -- the end of a text, in at most n characters
 abbrev pub end_text : ℕ → List ℕ → List ℕ
-end_text n s = if nat_lt n (characters s) then ellipsis ++ lossy_text (last_characters (n - 1) s) else lossy_text s
+end_text zero s = []
+end_text (suc n) s = if nat_le (characters s) (suc n) then lossy_text s else ellipsis ++ lossy_text (last_characters n s)
 
 -- its beginning
 abbrev pub front_text : ℕ → List ℕ → List ℕ
-front_text n s = if nat_lt n (characters s) then lossy_text (first_characters (n - 1) s) ++ ellipsis else lossy_text s
+front_text zero s = []
+front_text (suc n) s = if nat_le (characters s) (suc n) then lossy_text s else lossy_text (first_characters n s) ++ ellipsis
 
 -- ---- what is shown around byte i: at most `width` characters of its line, half of them before it
 

@@ -5,7 +5,7 @@ use Rattle.std.specs.List.{list_all}
 use Rattle.std.specs.declared.io.Error.{Error}
 use Rattle.jcheck.specs.Reports.{is_clean_line, lines_text}
 use Rattle.jcheck.specs.Writings.{HasStopped}
-use Rattle.jcheck.specs.declared.report.Lines.{Lines}
+use Rattle.jcheck.specs.declared.lines.Lines.{Lines}
 use Rattle.jtape.specs.Pieces.{pieces}
 use Rattle.jtape.specs.Ports.{Watched}
 use Rattle.simd_json_parts.specs.Bytes.{line_feed}

@@ -11,8 +11,8 @@ ghost use Rattle.simd_json_print.specs.Texts.{Adds};
 use simd_json_print::text::{Target, Text};
 
 /// Appends a line with the characters around a byte of the input that are in its line, and a line
-/// with a caret under that byte. At most `width` characters are shown, if that is more than 1, and
-/// half of them before the byte; where the line is cut, `…` is the first or the last of them.
+/// with a caret under that byte. At most `width` characters are shown, and half of them before the
+/// byte; where the line is cut, `…` is the first or the last of them, if there is room for it.
 /// Control characters are shown as spaces, and what is not UTF-8 as U+FFFD.
 pub fn put_excerpt<T: Target, const SIZE: usize>(
     text: &mut Text<'_, T, SIZE>,
@@ -37,10 +37,13 @@ pub fn put_excerpt<T: Target, const SIZE: usize>(
 fn put_end<T: Target, const SIZE: usize>(text: &mut Text<'_, T, SIZE>, bytes: &[u8], most: usize)
     ensures { Adds T.state text.old text.new (end_text most bytes.now) }
 {
+    let Some(kept) = most.checked_sub(1) else {
+        return;
+    };
     if characters(bytes) <= most {
         return put_shown(text, bytes);
     }
-    let (_, end) = bytes.split_at(step_back(bytes, most.saturating_sub(1)));
+    let (_, end) = bytes.split_at(step_back(bytes, kept));
     text.put("\u{2026}".as_bytes());
     put_shown(text, end);
 }
@@ -49,10 +52,13 @@ fn put_end<T: Target, const SIZE: usize>(text: &mut Text<'_, T, SIZE>, bytes: &[
 fn put_front<T: Target, const SIZE: usize>(text: &mut Text<'_, T, SIZE>, bytes: &[u8], most: usize)
     ensures { Adds T.state text.old text.new (front_text most bytes.now) }
 {
+    let Some(kept) = most.checked_sub(1) else {
+        return;
+    };
     if characters(bytes) <= most {
         return put_shown(text, bytes);
     }
-    let (front, _) = bytes.split_at(step_on(bytes, most.saturating_sub(1)));
+    let (front, _) = bytes.split_at(step_on(bytes, kept));
     put_shown(text, front);
     text.put("\u{2026}".as_bytes());
 }

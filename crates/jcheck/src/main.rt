@@ -4,13 +4,17 @@
 
 mod checker;
 mod excerpt;
+mod lines;
 mod options;
 mod report;
+#[cfg(test)]
+mod tests;
 
 use checker::Checker;
 use jtape::Channel;
+use lines::check_lines;
 use options::{Options, asked};
-use report::{Ended, check_document, check_each, check_lines, is_closed};
+use report::{Ended, check_document, check_each, is_closed};
 use std::io::Read;
 use std::process::ExitCode;
 use std::{env, fs, io};

@@ -14,7 +14,7 @@ use Rattle.jtape.specs.Ports.{Watched}
 use Rattle.simd_json.specs.Capacities.{Capacities}
 use Rattle.simd_json.specs.Reserved.{IsReserved}
 use Rattle.simd_json.specs.Tapes.{Listed}
-use Rattle.log_report.specs.declared.Lines.{Lines}
+use Rattle.log_report.specs.declared.lines.Lines.{Lines}
 use Rattle.log_report.proofs.Begun.{begins-all, begins-grown, begins-then, grows-line}
 
 abbrev rest_of : List ℕ → ℕ → Report → List ℕ → Bool → Report
@@ -37,7 +37,7 @@ pub shows-next : {A : Type 0} (old : Lines A) (number : ℕ) (held holds : Optio
     → number ≡ one_more old.number → Shows old held holds key longest r
     → Shows (record old { number = number }) held holds key longest (next r)
 shows-next old number held holds key longest r is shown = record {
-  by_key = shown.by_key;
+  by_selector = shown.by_selector;
   most = shown.most;
   limited = shown.limited;
   reserved = shown.reserved;
@@ -52,7 +52,7 @@ pub shows-parsed : {A : Type 0} (lines : Lines A) (buffers : Capacities) (tape :
     (longest : ℕ) (r : Report) → buffers.limit ≡ lines.buffers.limit → IsReserved lines.longest buffers tape
     → Shows lines held holds key longest r → Shows (record lines { buffers = buffers; tape = tape }) held holds key longest r
 shows-parsed lines buffers tape held holds key longest r limited reserved shown = record {
-  by_key = shown.by_key;
+  by_selector = shown.by_selector;
   most = shown.most;
   limited = limited ∙ shown.limited;
   reserved = reserved;
@@ -66,7 +66,7 @@ pub shows-added : {A : Type 0} (old new : Lines A) (held holds : Option (List �
     (more : ℕ) → Shows old held holds key longest r → CountsMore old new text more
     → Shows new held holds key longest (record r { counts = counted more text r.counts })
 shows-added old new held holds key longest r text more shown h = record {
-  by_key = ap (λ l. l.key.now) h.same ∙ shown.by_key;
+  by_selector = ap (λ l. l.selector.now) h.same ∙ shown.by_selector;
   most = ap (λ l. l.longest) h.same ∙ shown.most;
   limited = ap (λ l. l.buffers.limit) h.same ∙ shown.limited;
   reserved = subst (λ l. IsReserved l.longest l.buffers l.tape) (sym h.same) shown.reserved;
@@ -86,7 +86,7 @@ pub shows-rejected : {A E : Type 0} (naming : E → Option (List ℕ)) (old new 
     → Shows old held (naming rejections.inner) key longest r → IsRejection naming old new rejections rejects error
     → Shows new held (naming rejects.inner) key longest (with_rejection longest r error)
 shows-rejected naming old new rejections rejects held key longest r error shown h = record {
-  by_key = ap (λ l. l.key.now) h.same ∙ shown.by_key;
+  by_selector = ap (λ l. l.selector.now) h.same ∙ shown.by_selector;
   most = ap (λ l. l.longest) h.same ∙ shown.most;
   limited = ap (λ l. l.buffers.limit) h.same ∙ shown.limited;
   reserved = subst (λ l. IsReserved l.longest l.buffers l.tape) (sym h.same) shown.reserved;

@@ -3,8 +3,9 @@ use Rattle.std.proofs.Common.{◌≡◌, ◌∙◌, ap, refl, subst, ℕ, List, 
 use Rattle.std.proofs.KnownBytes.{Consumes-kept, Consumes-trans}
 use Rattle.std.specs.Io.KnownBytes.{Consumes, ReadConsumes}
 use Rattle.std.specs.Prelude.{IsErrAnd, MatchResult, is_err, ◌||◌}
-use Rattle.log_report.specs.Runs.{fault_of}
-use Rattle.log_report.specs.declared.Failure.{Failure}
+use Rattle.log_report.specs.Runs.{IsReportFault, fault_of}
+use Rattle.log_report.specs.declared.failure.Failure.{Failure}
+use Rattle.log_report.specs.declared.failure.Failure.TheVariants.{Read, Write, Closed, Resources}
 
 -- what a call on such a port ends in: P or Q
 abbrev pub EndsIn : Result Unit Failure → Bool → Type 0 → Type 0 → Type 0
@@ -20,6 +21,28 @@ pub handed-on : (q : Result Unit Failure) (new : Bool) (post : Failure → Type 
     → ((e : Failure) → post e → e ≡ fault_of new) → Q → EndsIn q new P Q
 handed-on (Ok u) new post P Q is says left = absurd is
 handed-on (Err e) new post P Q is says left = (says e is, left)
+
+-- ---- the call that writes the report
+
+abbrev pub EndsReportIn : Result Unit Failure → Bool → Bool → Type 0 → Type 0 → Type 0
+EndsReportIn q taken new P Q = MatchResult q (λ _. (new ≡ false) × P) (λ failure. IsReportFault taken new failure × Q)
+
+-- a want of memory that `?` hands on
+pub short-of-memory : (q : Result Unit Failure) (taken new : Bool) (P Q : Type 0) → IsErrAnd q (λ e. e ≡ Resources) → new ≡ false → Q
+    → EndsReportIn q taken new P Q
+short-of-memory (Ok u) taken new P Q is none left = absurd is
+short-of-memory (Err e) taken false P Q is none left = (is, left)
+short-of-memory (Err e) taken true P Q is none left = cc
+
+-- its reader has closed it
+pub closed-by : (e : Failure) (taken failed t : Bool) → IsReportFault taken failed e → e ≡ Closed t → (failed ≡ true) × (t ≡ taken)
+closed-by (Closed s) taken true t fault is = (refl, cc)
+closed-by Read taken true t fault is = cc
+closed-by Write taken true t fault is = cc
+closed-by Resources taken true t fault is = cc
+closed-by e taken false t fault is = cc
+
+-- ---- values
 
 value-is : {T F : Type 0} (q : Result T F) (y x : T) → q ≡ Ok y → q ≡ Ok x → y ≡ x
 value-is q y x a b = cc

@@ -1,6 +1,6 @@
 -- What a run leaves.
 use Rattle.std.specs.Prelude.{◌≡◌, ◌↔◌, ◌||◌, ◌+◌, ◌++◌, ℕ, List, [], ◌∷◌, take, map, Bool, true, false, ◌==◌, Option, option_map}
-use Rattle.std.specs.Prelude.{OnOk, OnErr, Result, Ok, Err, MatchResult, Vec, if◌then◌else◌}
+use Rattle.std.specs.Prelude.{OnOk, IfErr, IsErrAnd, Result, Ok, Err, MatchResult, Vec, if◌then◌else◌}
 use Rattle.std.specs.Io.KnownBytes.{Appends, Consumes, IsAtEnd, Keeps}
 use Rattle.jtape.specs.Ports.{Watched}
 use Rattle.simd_json.specs.Capacities.{default_max_depth}
@@ -11,46 +11,55 @@ use Rattle.simd_json.specs.Viewed.{doc}
 use Rattle.simd_json.specs.declared.value.tape.value.Value.{Value}
 use Rattle.log_report.specs.Report.{Report, no_line, rejection_line, report_of, value_label, with_line}
 use Rattle.log_report.specs.Table.{Count, counted, rejected, report_text}
-use Rattle.log_report.specs.declared.Failure.{Failure}
-use Rattle.log_report.specs.declared.Failure.TheVariants.{Read, Write, Resources}
-use Rattle.log_report.specs.declared.Lines.{Lines}
+use Rattle.log_report.specs.declared.failure.Failure.{Failure}
+use Rattle.log_report.specs.declared.failure.Failure.TheVariants.{Read, Write, Closed, Resources}
+use Rattle.log_report.specs.declared.lines.Lines.{Lines}
 
 -- Of a reader with these bytes left before and after, a writer of the report and one that names rejected lines, which held and
 -- hold these: the reader was read to its end, and the report of its lines was written, and its rejected lines were named.
-pub record HasReported (key : List ℕ) (longest : ℕ) (before after held holds named names : Option (List ℕ))
+pub record HasReported (selector : List ℕ) (longest : ℕ) (before after held holds named names : Option (List ℕ))
     (result : Result Bool Failure) : Type 0 where
   pub input : List ℕ
   pub read : Consumes before after input
   pub end : IsAtEnd after
-  pub report : Appends held holds (report_text (report_of key longest input).counts)
-  pub rejections : Appends named names (report_of key longest input).rejections
-  pub returned : result ≡ Ok (report_of key longest input).all_taken
+  pub report : Appends held holds (report_text (report_of selector longest input).counts)
+  pub rejections : Appends named names (report_of selector longest input).rejections
+  pub returned : result ≡ Ok (report_of selector longest input).all_taken
 
 -- of a writer that held and holds these: a beginning of the bytes was written
 abbrev pub Begins : Option (List ℕ) → Option (List ℕ) → List ℕ → Type 0
 Begins held holds bytes = (count : ℕ) × Appends held holds (take count bytes)
 
--- Of such a run that ended in an error, and whether the report's writer failed: of what was read, a beginning of the report was
+-- Of such a run that ended in this error, and whether the report's writer failed: of what was read, a beginning of the report was
 -- written, and a beginning of its rejected lines named. No byte of the report was, unless its writer failed; then all was read.
-pub record HasBegun (key : List ℕ) (longest : ℕ) (before after held holds named names : Option (List ℕ)) (failed : Bool) : Type 0 where
+-- That its reader has closed it is such a failure, and says whether no line was rejected.
+pub record HasBegun (selector : List ℕ) (longest : ℕ) (before after held holds named names : Option (List ℕ)) (failed : Bool)
+    (failure : Failure) : Type 0 where
   pub input : List ℕ
   pub read : Consumes before after input
-  pub report : Begins held holds (report_text (report_of key longest input).counts)
-  pub rejections : Begins named names (report_of key longest input).rejections
+  pub report : Begins held holds (report_text (report_of selector longest input).counts)
+  pub rejections : Begins named names (report_of selector longest input).rejections
   pub unwritten : failed ≡ false → Keeps held holds
   pub end : failed ≡ true → IsAtEnd after
+  pub closed : (taken : Bool) → failure ≡ Closed taken → (failed ≡ true) × (taken ≡ (report_of selector longest input).all_taken)
+
+-- writing failed, or a reader has closed what is written
+abbrev pub is_write : Failure → Bool
+is_write Write = true
+is_write (Closed taken) = true
+is_write _ = false
 
 -- Of a run over ports, of what is known of their bytes: a report is that of what was read, and reading failed exactly where the
 -- reader did, writing exactly where one of the writers did.
 pub record Reports {R W E : Type 0} (remaining : R → Option (List ℕ)) (written : W → Option (List ℕ)) (naming : E → Option (List ℕ))
-    (key : List ℕ) (longest : ℕ)
+    (selector : List ℕ) (longest : ℕ)
     (reader reads : Watched R) (report reports : Watched W) (rejections rejects : Watched E) (result : Result Bool Failure) : Type 0 where
-  pub run : OnOk result (HasReported key longest (remaining reader.inner) (remaining reads.inner) (written report.inner)
+  pub run : OnOk result (HasReported selector longest (remaining reader.inner) (remaining reads.inner) (written report.inner)
       (written reports.inner) (naming rejections.inner) (naming rejects.inner) result)
-  pub begun : OnErr result (HasBegun key longest (remaining reader.inner) (remaining reads.inner) (written report.inner)
+  pub begun : IfErr result (HasBegun selector longest (remaining reader.inner) (remaining reads.inner) (written report.inner)
       (written reports.inner) (naming rejections.inner) (naming rejects.inner) reports.failed)
   pub read : (result ≡ Err Read) ↔ (reads.failed ≡ true)
-  pub write : (result ≡ Err Write) ↔ ((reports.failed || rejects.failed) ≡ true)
+  pub write : IsErrAnd result (λ failure. is_write failure ≡ true) ↔ ((reports.failed || rejects.failed) ≡ true)
 
 -- ---- what private clauses cite
 
@@ -75,9 +84,19 @@ pub record CountsMore {A : Type 0} (old new : Lines A) (text : List ℕ) (more :
   pub counts : counts_of new ≡ counted more text (counts_of old)
   pub same : new ≡ record old { counts = new.counts }
 
--- one more, by the value at the key
+-- one more, by the value at the selector
 abbrev pub AddsValue : {A : Type 0} → Lines A → Lines A → Option Value → Type 0
 AddsValue old new value = CountsMore old new (value_label (option_map doc value)) 1
+
+-- what a call on the report's writer ends in, if its failures come from there or from want of memory
+abbrev pub IsReportFault : Bool → Bool → Failure → Type 0
+IsReportFault taken true (Closed t) = t ≡ taken
+IsReportFault taken failed failure = failure ≡ fault_of failed
+
+-- of such a call: P, and the writer has not failed; or a failure, and Q
+abbrev pub EndsReport : {T : Type 0} → Bool → Watched T → Watched T → Type 0 → Type 0 → Result Unit Failure → Type 0
+EndsReport taken old new P Q result = old.failed ≡ false
+    → MatchResult result (λ _. (new.failed ≡ false) × P) (λ failure. IsReportFault taken new.failed failure × Q)
 
 -- of a writer of what is known: the report is written
 abbrev pub Prints : {A W : Type 0} → (W → Option (List ℕ)) → Lines A → Watched W → Watched W → Type 0
@@ -96,8 +115,8 @@ pub record IsRejection {A E : Type 0} (naming : E → Option (List ℕ)) (old ne
   pub named : Appends (naming rejections.inner) (naming rejects.inner) (rejection_line old.longest old.number error)
 
 -- Since a writer held these bytes: the counts are those of this report, and the writer holds the lines that name rejected ones, too.
-pub record Shows {A : Type 0} (lines : Lines A) (held holds : Option (List ℕ)) (key : List ℕ) (longest : ℕ) (r : Report) : Type 0 where
-  pub by_key : lines.key.now ≡ key
+pub record Shows {A : Type 0} (lines : Lines A) (held holds : Option (List ℕ)) (selector : List ℕ) (longest : ℕ) (r : Report) : Type 0 where
+  pub by_selector : lines.selector.now ≡ selector
   pub most : lines.longest ≡ longest
   pub limited : lines.buffers.limit ≡ default_max_depth
   pub reserved : IsReserved lines.longest lines.buffers lines.tape
@@ -108,20 +127,21 @@ pub record Shows {A : Type 0} (lines : Lines A) (held holds : Option (List ℕ))
 
 -- before any line
 abbrev pub IsStart : {A : Type 0} → List ℕ → ℕ → Lines A → Type 0
-IsStart key longest lines = (held : Option (List ℕ)) → Shows lines held held key longest no_line
+IsStart selector longest lines = (held : Option (List ℕ)) → Shows lines held held selector longest no_line
 
 -- any report that was shown has become that with this line
 abbrev pub TakesLine : {A E : Type 0} → (E → Option (List ℕ)) → Lines A → Lines A → Watched E → Watched E → List ℕ → Type 0
 TakesLine naming old new rejections rejects line =
-    (held : Option (List ℕ)) (key : List ℕ) (longest : ℕ) (r : Report)
-    → Shows old held (naming rejections.inner) key longest r → Shows new held (naming rejects.inner) key longest
-    (with_line key longest r line)
+    (held : Option (List ℕ)) (selector : List ℕ) (longest : ℕ) (r : Report)
+    → Shows old held (naming rejections.inner) selector longest r → Shows new held (naming rejects.inner) selector longest
+    (with_line selector longest r line)
 
 -- of a call that fails: of any report that was shown, with this line, a beginning of the rejections was written
 abbrev pub BeginsLine : {A E : Type 0} → (E → Option (List ℕ)) → Lines A → Watched E → Watched E → List ℕ → Type 0
 BeginsLine naming old rejections rejects line =
-    (held : Option (List ℕ)) (key : List ℕ) (longest : ℕ) (r : Report)
-    → Shows old held (naming rejections.inner) key longest r → Begins held (naming rejects.inner) (with_line key longest r line).rejections
+    (held : Option (List ℕ)) (selector : List ℕ) (longest : ℕ) (r : Report)
+    → Shows old held (naming rejections.inner) selector longest r
+    → Begins held (naming rejects.inner) (with_line selector longest r line).rejections
 
 -- a report, and the line that has begun
 abbrev pub State : Type 0
@@ -129,27 +149,27 @@ State = Report × List ℕ
 
 -- after more bytes
 abbrev pub after : List ℕ → ℕ → State → List ℕ → State
-after key longest s [] = s
-after key longest s (x ∷ bytes) =
-    after key longest (if x == line_feed then (with_line key longest s.0 s.1, []) else (s.0, s.1 ++ x ∷ [])) bytes
+after selector longest s [] = s
+after selector longest s (x ∷ bytes) =
+    after selector longest (if x == line_feed then (with_line selector longest s.0 s.1, []) else (s.0, s.1 ++ x ∷ [])) bytes
 
 -- the counts are those of the report, and the line is kept, up to one byte more than it may have
-pub record IsAt {A : Type 0} (lines : Lines A) (kept : List ℕ) (held holds : Option (List ℕ)) (key : List ℕ) (longest : ℕ)
+pub record IsAt {A : Type 0} (lines : Lines A) (kept : List ℕ) (held holds : Option (List ℕ)) (selector : List ℕ) (longest : ℕ)
     (s : State) : Type 0 where
-  pub shown : Shows lines held holds key longest s.0
+  pub shown : Shows lines held holds selector longest s.0
   pub line : kept ≡ take (longest + 1) s.1
 
 -- any report, and the line that has begun, have become those after this block
 abbrev pub TakesBlock : {A E : Type 0} → (E → Option (List ℕ)) → Lines A → Lines A → Watched E → Watched E → List ℕ → List ℕ → List ℕ
     → Type 0
 TakesBlock naming old new rejections rejects line kept block =
-    (held : Option (List ℕ)) (key : List ℕ) (longest : ℕ) (s : State)
-    → IsAt old line held (naming rejections.inner) key longest s → IsAt new kept held (naming rejects.inner) key longest
-    (after key longest s block)
+    (held : Option (List ℕ)) (selector : List ℕ) (longest : ℕ) (s : State)
+    → IsAt old line held (naming rejections.inner) selector longest s → IsAt new kept held (naming rejects.inner) selector longest
+    (after selector longest s block)
 
 -- of a call that fails: after this block, likewise
 abbrev pub BeginsBlock : {A E : Type 0} → (E → Option (List ℕ)) → Lines A → Watched E → Watched E → List ℕ → List ℕ → Type 0
 BeginsBlock naming old rejections rejects line block =
-    (held : Option (List ℕ)) (key : List ℕ) (longest : ℕ) (s : State)
-    → IsAt old line held (naming rejections.inner) key longest s
-    → Begins held (naming rejects.inner) (after key longest s block).0.rejections
+    (held : Option (List ℕ)) (selector : List ℕ) (longest : ℕ) (s : State)
+    → IsAt old line held (naming rejections.inner) selector longest s
+    → Begins held (naming rejects.inner) (after selector longest s block).0.rejections

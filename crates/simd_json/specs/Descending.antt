@@ -1,6 +1,7 @@
 -- What is left to an iterator over a value and the values beneath it, by the nodes and the open containers that are left.
 use Rattle.std.specs.Prelude.{ℕ, suc, Bool, true, false, List, [], ◌∷◌, ◌++◌, drop, flat_map, map}
-use Rattle.simd_json_parts.specs.Document.{Document, string, array, object, Elements, no_elements, element, elements, Members, no_members, member}
+use Rattle.simd_json_parts.specs.Document.{Document, string, array, object, Elements, no_elements}
+use Rattle.simd_json_parts.specs.Document.{element, elements, Members, no_members, member}
 use Rattle.simd_json_parts.specs.Nodes.{item_of}
 use Rattle.simd_json_parts.specs.Views.{values}
 use Rattle.simd_json.specs.Beneath.{beneath}

@@ -1,5 +1,6 @@
 -- What a parse answers, and what it leaves.
-use Rattle.std.specs.Prelude.{◌≡◌, ◌≤◌, ◌<◌, ◌⊎◌, ℕ, suc, List, [], length, take, Option, Some, None, is_some, IsSome, IsTrue, IfNone, IfSome, OnSome, MatchOption, Result, Ok, Err, if◌then◌else◌}
+use Rattle.std.specs.Prelude.{◌≡◌, ◌≤◌, ◌<◌, ◌⊎◌, ℕ, suc, List, [], length, take, Option, Some}
+use Rattle.std.specs.Prelude.{None, is_some, IsSome, IsTrue, IfNone, IfSome, OnSome, MatchOption, Result, Ok, Err, if◌then◌else◌}
 use Rattle.simd_json_parts.specs.Answer.{answer}
 use Rattle.simd_json_parts.specs.Document.{Document}
 use Rattle.simd_json_parts.specs.ErrorKinds.{is_unexpected_token}

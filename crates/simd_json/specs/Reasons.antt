@@ -10,7 +10,8 @@ use Rattle.simd_json.specs.declared.location.Location.{Location}
 use Rattle.simd_json.specs.declared.location.reason.Reason.{Reason}
 use Rattle.simd_json.specs.declared.location.reason.Reason.TheVariants as reasons
 use Rattle.simd_json_parts.specs.Answer.{answer}
-use Rattle.simd_json_parts.specs.Bytes.{colon, comma, left_bracket, right_bracket, left_brace, right_brace, is_whitespace, is_terminator, byte_at}
+use Rattle.simd_json_parts.specs.Bytes.{colon, comma, left_bracket, right_bracket, left_brace}
+use Rattle.simd_json_parts.specs.Bytes.{right_brace, is_whitespace, is_terminator, byte_at}
 use Rattle.simd_json_parts.specs.declared.error.Error.{Error}
 use Rattle.simd_json_parts.specs.declared.error.ErrorType.{ErrorType}
 use Rattle.simd_json_parts.specs.declared.error.ErrorType.TheVariants as errors

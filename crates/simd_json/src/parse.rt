@@ -1,6 +1,6 @@
 //! The entry points. Each finds the structural indexes of its input into the buffers
 //! (`find_positions`), and then builds nodes from them, into a tape (`build`) or a sink
-//! (`build_tape` of the buffers). `check` keeps no node, and works on a copy.
+//! (`build_tape` of the buffers). `check` builds none.
 ghost use Rattle.std.specs.Prelude.{◌≡◌, ◌≢◌, ◌≤◌, ◌<◌, [], ℕ, List};
 ghost use Rattle.std.specs.Prelude.{length, map, vec_capacity};
 ghost use Rattle.std.specs.Prelude.{IfErr, IfOk, OnOk, OnErr, None, Err, ◌⊎◌};
@@ -273,9 +273,10 @@ pub fn refill_tape<'de, A: Allocator, B: Allocator>(
 /// The errors are those of [`to_tape`], the first that a parse within the same depth limit returns.
 /// If an allocation fails, `OutOfMemory` is returned, and only if size and encoding are right.
 ///
-/// It takes four bytes for each structural index and one for each byte of the input, which are freed
+/// It takes four bytes for each structural index, and for an input that it rejects, or whose
+/// containers are nested more than 64 deep, one for each byte of the input. All of it is freed
 /// before it returns. For many inputs keep a [`simd_json_ondemand::Index`] and call its `check`,
-/// which returns the same and keeps that memory of the structural indexes.
+/// which returns the same and keeps the memory of the structural indexes.
 ///
 /// ```
 /// use simd_json::{DEFAULT_MAX_DEPTH, check};

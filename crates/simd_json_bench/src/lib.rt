@@ -7,9 +7,12 @@
 //! int64_t simd_json_bench_parse(uint8_t *text, size_t len);
 //! int64_t simd_json_bench_parse_all(uint8_t *texts, size_t size, size_t stride, size_t len);
 //! int64_t simd_json_bench_scan_all(const uint8_t *texts, size_t size, size_t stride, size_t len);
-//! uint64_t simd_json_bench_tape(uint8_t *texts, size_t size, size_t stride, size_t len, uint32_t task);
-//! uint64_t simd_json_bench_find(const uint8_t *texts, size_t size, size_t stride, size_t len, uint32_t task);
-//! uint64_t simd_json_bench_check(const uint8_t *texts, size_t size, size_t stride, size_t len, uint32_t task);
+//! uint64_t simd_json_bench_tape(uint8_t *texts, size_t size, size_t stride, size_t len,
+//!                               uint32_t task);
+//! uint64_t simd_json_bench_find(const uint8_t *texts, size_t size, size_t stride, size_t len,
+//!                               uint32_t task);
+//! uint64_t simd_json_bench_check(const uint8_t *texts, size_t size, size_t stride, size_t len,
+//!                                uint32_t task);
 //! uint64_t simd_json_bench_tape_lines(uint8_t *lines, size_t size);
 //! uint64_t simd_json_bench_find_lines(const uint8_t *lines, size_t size);
 //! uint64_t simd_json_bench_check_lines(const uint8_t *lines, size_t size);

@@ -2,8 +2,8 @@
 //!
 //! The nodes may be anything: an index is tested before a node or a text is read there. What is
 //! proved of the result is proved for nodes that list a document.
-ghost use Rattle.std.specs.Prelude.{◌≡◌, ◌≤◌, ◌<◌, ◌+◌, ◌-◌, ℕ, List, IfSome, Some, length, take, drop};
-ghost use Rattle.std.specs.Prelude.{option_and_then, slice_get};
+ghost use Rattle.std.specs.Prelude.{◌≡◌, ◌≤◌, ◌<◌, ◌+◌, ◌-◌, ℕ, List, length, take, drop};
+ghost use Rattle.std.specs.Prelude.{IfSome, Some, option_and_then, slice_get};
 ghost use Rattle.std.specs.Result.{result_ok};
 ghost use Rattle.simd_json_parts.specs.Document.{Document, Elements, Members, elements, members};
 ghost use Rattle.simd_json_parts.specs.Followed.{fits_64};

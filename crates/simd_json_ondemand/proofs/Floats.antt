@@ -3,6 +3,7 @@ use Rattle.std.proofs.Common.{◌≡◌, refl, sym, ◌∙◌, ap, ℕ, ◌+◌,
 use Rattle.std.proofs.Common.{inl, inr, ◌-◌, take, drop, Option, Some, None}
 use Rattle.std.specs.Prelude.{Result, Ok, Err, IfOk, is_some, option_map, option_and_then, slice_range}
 use Rattle.std.specs.Float.{binary64}
+use Rattle.std.specs.Float.Ieee.{Float}
 use Rattle.std.specs.List.{concat, AllByRecursion}
 use Rattle.std.specs.Char.{is_ascii_digit}
 use Rattle.std.specs.Float.Parse.{float_scan_step, completes_number, without_sign, is_infinity_text, is_nan_text, is_float_text}
@@ -23,6 +24,7 @@ use Rattle.simd_json_parts.specs.Tokens.{scalar, form_at}
 use Rattle.simd_json_parts.specs.declared.error.Error.{Error}
 use Rattle.simd_json_stages.proofs.Tokens.ScalarLaws.{form_at-number}
 use Rattle.simd_json_ondemand.specs.Docs.{text, index_of, literal, number}
+use Rattle.simd_json_ondemand.specs.Numerals.{IsDecimalFloat}
 use Rattle.simd_json_ondemand.specs.Standing.{begins_number, literal_end}
 use Rattle.simd_json_ondemand.specs.declared.value.Value.{Value}
 
@@ -96,8 +98,8 @@ signed xs ys (front, bs, is, inr sign, n) =
 exponent : (s : ℕ) → float_scan_step s 101 ≡ 4 → float_scan_step s 69 ≡ 4 → Leads exp s 6
 exponent s small big =
     both e (optional (minus or plus) then at_least_one digit) s 4 6
-    (either (byte 101) (byte 69) s 4 (one 101 101 s 4 (λ c l h. at_byte s 101 c l h ∙ small)) (one 69 69 s 4 (λ c l h. at_byte s 69 c l h ∙ big)))
-    signed
+    (either (byte 101) (byte 69) s 4 (one 101 101 s 4 (λ c l h. at_byte s 101 c l h ∙ small))
+    (one 69 69 s 4 (λ c l h. at_byte s 69 c l h ∙ big))) signed
 
 -- ---- a number
 
@@ -173,11 +175,12 @@ module _ (b : List ℕ) (i : ℕ) where
       ∙ is-float (slice_range b i s.1) (matches-Matches number_literal (slice_range b i s.1) h)
   float-there (Err f) h = refl
 
-number-float : (v : Value) → is_some (option_and_then (parse_float binary64) (number v)) ≡ is_some (number v)
+pub number-float : (v : Value) → is_some (option_and_then (parse_float binary64) (number v)) ≡ is_some (number v)
 number-float v =
     elim (cases_Bool (begins_number (byte_at b i))) [
       | inl begins ↦ ap (λ t. is_some (option_and_then (parse_float binary64) (cond t (literal v) None))) begins
-          ∙ ap (λ form. is_some (option_and_then (parse_float binary64) (option_map (slice_range b i) (literal_end b i form)))) (token begins)
+          ∙ ap (λ form. is_some (option_and_then (parse_float binary64) (option_map (slice_range b i) (literal_end b i form))))
+          (token begins)
           ∙ float-there b i (number_at b i) (read-literal b i)
           ∙ sym (ap (λ t. is_some (cond t (literal v) None)) begins
           ∙ ap (λ form. is_some (option_map (slice_range b i) (literal_end b i form))) (token begins))
@@ -198,3 +201,15 @@ number-float v =
 pub some-float : (v : Value) (xs : List ℕ) → number v ≡ Some xs → is_float_text xs ≡ is_some (number v)
 some-float v xs is =
     sym (is_some-parse_float binary64 xs) ∙ ap (λ o. is_some (option_and_then (parse_float binary64) o)) (sym is) ∙ number-float v
+
+-- a decimal that begins at the value, and the float nearest to it
+pub decimal-float : (v : Value) → begins_number (byte_at (text v.document) (index_of v)) ≡ true → (x : Float)
+    → IsDecimalFloat (text v.document) (index_of v) x → option_and_then (parse_float binary64) (number v) ≡ Some x
+decimal-float v begins x (len, there, float) =
+    let b : List ℕ = text v.document in
+    let i : ℕ = index_of v in
+    let span : (i + len) - i ≡ len = omega arith in
+    ap (λ t. option_and_then (parse_float binary64) (cond t (literal v) None)) begins
+    ∙ ap (λ form. option_and_then (parse_float binary64) (option_map (slice_range b i) (literal_end b i form)))
+    (form_at-number b i (byte_at b i) refl begins ∙ ap scalar there)
+    ∙ ap (λ n. parse_float binary64 (take n (drop i b))) span ∙ float

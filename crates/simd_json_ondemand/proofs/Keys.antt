@@ -1,6 +1,7 @@
 -- Strings compared with a key as they are written.
 use Rattle.std.proofs.Common.{◌≡◌, ◌≢◌, refl, sym, ◌∙◌, ap, subst, ℕ, zero, suc, ◌+◌, ◌-◌, ◌<◌, ◌≤◌, inl, inr, List, [], ◌∷◌, ◌++◌, length}
-use Rattle.std.proofs.Common.{take, drop, get_or, Bool, true, false, cond, not, ◌||◌, ◌&&◌, ◌==◌, nat_eq, bytes_eq, ◌%◌, ◌^◌, map, w8, arith}
+use Rattle.std.proofs.Common.{take, drop, get_or, Bool, true, false, cond, not, ◌||◌, ◌&&◌, ◌==◌, nat_eq, bytes_eq, ◌%◌, ◌^◌}
+use Rattle.std.proofs.Common.{map, w8, arith}
 use Rattle.std.specs.Prelude.{Some, None, Option}
 use Rattle.std.specs.List.{prefix_len}
 use Rattle.std.proofs.lemmas.Bool.{cases_Bool, cases_eq, cases_lt, eqb-true, ne_eqb, eq-eqb, false≢true, false_from_ne_true}

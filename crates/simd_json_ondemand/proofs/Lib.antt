@@ -26,3 +26,4 @@ pub mod Turns
 pub mod Walks
 pub mod WalkViews
 pub mod Pointers
+pub mod Fractions

@@ -19,9 +19,11 @@ use Rattle.simd_json_scalars.proofs.Strings.Standalone.{string_at-further}
 use Rattle.simd_json_stages.proofs.Tokens.TokenForms.{quotes}
 use Rattle.simd_json_ondemand.specs.Docs.{text, places, index_of, doc, form}
 use Rattle.simd_json_ondemand.specs.IteratedMembers.{all_members}
-use Rattle.simd_json_ondemand.specs.Keys.{is_key, from_key}
+use Rattle.simd_json_ondemand.specs.Keys.{is_key, from_key, from_key_round, or_else}
 use Rattle.simd_json_ondemand.specs.Viewed.{first_read, read_along}
 use Rattle.simd_json_ondemand.specs.Wanted.{read_string}
+use Rattle.simd_json_ondemand.specs.Within.{AreInSameObject}
+use Rattle.simd_json_ondemand.specs.declared.object.Object.{Object}
 use Rattle.simd_json_ondemand.specs.declared.value.Value.{Value}
 use Rattle.simd_json_ondemand.proofs.Agreement.{begins-at, standing-is}
 use Rattle.simd_json_ondemand.proofs.Standing.{no-string}
@@ -98,6 +100,22 @@ from-here key k d ms h = from-step key (k, d) ms ∙ cond-true _ _ _ h ∙ ap (�
 pub from-later : (key : List ℕ) (k d : Option Document) (ms : Pairs) → is_key key (option_and_then as_str k) ≡ false
     → from_key key ((k, d) ∷ ms) ≡ from_key key ms
 from-later key k d ms h = from-step key (k, d) ms ∙ cond-false _ _ _ h
+
+-- ---- once round
+
+pub same-object : (o p q : Object) → AreInSameObject o p → AreInSameObject p q → AreInSameObject o q
+same-object o p q a b = record { document = b.document ∙ a.document; first = b.first ∙ a.first }
+
+pub round-left : (w key : List ℕ) (left all rest : Pairs) (d : Option Document) → w ≡ key
+    → from_key w left ≡ (Some (string w), d) ∷ rest → from_key_round key left all ≡ (Some (string key), d) ∷ rest
+round-left w key left all rest d same is =
+    ap (λ k. or_else (from_key k left) (from_key key all)) (sym same) ∙ ap (λ xs. or_else xs (from_key key all)) is
+    ∙ ap (λ k. (Some (string k), d) ∷ rest) same
+
+pub round-all : (w key : List ℕ) (left all : Pairs) → w ≡ key → from_key w left ≡ [] → from_key_round key left all ≡ from_key w all
+round-all w key left all same is =
+    ap (λ k. or_else (from_key k left) (from_key key all)) (sym same) ∙ ap (λ xs. or_else xs (from_key key all)) is
+    ∙ ap (λ k. from_key k all) (sym same)
 
 -- ---- of a document
 

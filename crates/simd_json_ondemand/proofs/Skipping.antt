@@ -1,6 +1,7 @@
 -- Counting brackets ends where the descent does: from the first token of a value to the first after it, and from
 -- the first token inside a container to the first after its closing bracket.
-use Rattle.std.proofs.Common.{◌≡◌, refl, sym, ◌∙◌, ap, subst, ℕ, zero, suc, ◌+◌, ◌-◌, ◌<◌, ◌≤◌, get_or, Bool, true, false, ◌||◌, ◌&&◌, ◌==◌, nat_le, cond}
+use Rattle.std.proofs.Common.{◌≡◌, refl, sym, ◌∙◌, ap, subst, ℕ, zero, suc, ◌+◌, ◌-◌, ◌<◌, ◌≤◌, get_or}
+use Rattle.std.proofs.Common.{Bool, true, false, ◌||◌, ◌&&◌, ◌==◌, nat_le, cond}
 use Rattle.std.proofs.Common.{List, [], ◌∷◌, length, drop, arith}
 use Rattle.std.specs.Prelude.{Result, Ok, Err, IfOk}
 use Rattle.std.proofs.lemmas.Bool.{cond_both, eqb-true, false≢true}

@@ -1,20 +1,23 @@
 -- The turns of a walk: each takes tokens, so the bound on them is never met.
-use Rattle.std.proofs.Common.{◌≡◌, refl, sym, ◌∙◌, ap, subst, ℕ, zero, suc, ◌-◌, ◌<◌, ◌≤◌, Bool, true, false, cond, ◌==◌}
+use Rattle.std.proofs.Common.{◌≡◌, refl, sym, ◌∙◌, ap, subst, ℕ, zero, suc, ◌+◌, ◌-◌, ◌<◌, ◌≤◌, Bool, true, false, cond, ◌==◌}
 use Rattle.std.proofs.Common.{List, [], ◌∷◌, length, drop, arith}
 use Rattle.std.specs.Prelude.{Option, Some, None, Result, Ok, Err, MatchOption}
-use Rattle.std.proofs.lemmas.List.{length-drop}
+use Rattle.std.proofs.lemmas.List.{length-drop, drop-drop}
 use Rattle.simd_json_parts.specs.Bytes.{quote, comma, colon, right_bracket, right_brace, byte_at}
 use Rattle.simd_json_ondemand.specs.Closing.{span}
+use Rattle.simd_json_ondemand.specs.Docs.{text, places}
 use Rattle.simd_json_ondemand.specs.MemberTails.{pair_along}
 use Rattle.simd_json_ondemand.specs.Viewed.{read_along}
 use Rattle.simd_json_ondemand.specs.Walks.{Walk, stopped, ended, came, ok_map, and_ok, and_some, begins_value, value_here, behind_token}
 use Rattle.simd_json_ondemand.specs.Walks.{behind_item, first_item, item_ahead, element_ahead, member_here, member_ahead, walk_by}
 use Rattle.simd_json_ondemand.specs.Walks.{elements_walk, members_walk}
+use Rattle.simd_json_ondemand.specs.Within.{after_last}
 use Rattle.simd_json_ondemand.specs.declared.array.Position.{Position}
 use Rattle.simd_json_ondemand.specs.declared.array.Position.TheVariants.{First, AtValue, AfterValue}
 use Rattle.simd_json_ondemand.specs.declared.unexpected.Expected.{Expected}
 use Rattle.simd_json_ondemand.specs.declared.unexpected.Expected.TheVariants as expected
 use Rattle.simd_json_ondemand.specs.declared.unexpected.Unexpected.{Unexpected}
+use Rattle.simd_json_ondemand.specs.declared.value.Document.{Document}
 
 -- the tokens from an item on, where one comes
 abbrev pub Ahead : Type 0
@@ -197,6 +200,29 @@ module _ (b : List ℕ) where
       → members_walk b position is ≡ stopped e
   members-stop position is e h =
       stop (pair_along b) (λ ks. member_ahead b AtValue (drop 2 ks)) member-fewer (length is) (member_ahead b position is) e h
+
+  -- after a value it is the same as from the token behind it on
+  pub members-behind : (is : List ℕ) → members_walk b AfterValue (drop (span b is) is) ≡ members_walk b AtValue is
+  members-behind is = go (member_ahead b AtValue is) refl
+    where
+      go : (r : Result (Option (List ℕ)) Unexpected) → member_ahead b AtValue is ≡ r
+          → members_walk b AfterValue (drop (span b is) is) ≡ members_walk b AtValue is
+      go (Ok (Some js)) h = member-comes AfterValue (drop (span b is) is) js h ∙ sym (member-comes AtValue is js h)
+      go (Ok None) h = members-end AfterValue (drop (span b is) is) h ∙ sym (members-end AtValue is h)
+      go (Err e) h = members-stop AfterValue (drop (span b is) is) e h ∙ sym (members-stop AtValue is e h)
+
+-- and after the value that a cursor returned last
+pub members-passed : (d : Document) (at end : ℕ) (position : Position) → after_last d at position ≡ Some end
+    → members_walk (text d) AfterValue (drop end (places d)) ≡ members_walk (text d) position (drop at (places d))
+members-passed d at end First e = cc
+members-passed d at end AtValue e =
+    let n : ℕ = span (text d) (drop at (places d)) in
+    let same : at + n ≡ end = cc in
+    ap (λ k. members_walk (text d) AfterValue (drop k (places d))) (sym same)
+    ∙ ap (members_walk (text d) AfterValue) (sym (drop-drop n at (places d))) ∙ members-behind (text d) (drop at (places d))
+members-passed d at end AfterValue e =
+    let same : at ≡ end = cc in
+    ap (λ k. members_walk (text d) AfterValue (drop k (places d))) (sym same)
 
 -- ---- how many items come
 

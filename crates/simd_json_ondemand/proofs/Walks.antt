@@ -28,6 +28,7 @@ use Rattle.simd_json_ondemand.specs.Unexpected.{unexpected}
 use Rattle.simd_json_ondemand.specs.Viewed.{read_along}
 use Rattle.simd_json_ondemand.specs.Walked as walks
 use Rattle.simd_json_ondemand.specs.Walks.{Walk, stopped, ended, came, whole, first, walk_past, walk_from, ok_map, and_ok, and_some}
+use Rattle.simd_json_ondemand.specs.Walks.{or_walk, walk_round}
 use Rattle.simd_json_ondemand.specs.Walks.{begins_value, value_here, behind_token, behind_item, member_here}
 use Rattle.simd_json_ondemand.specs.Walks.{elements_walk, members_walk}
 use Rattle.simd_json_ondemand.specs.declared.array.Position.TheVariants.{First, AtValue}
@@ -260,6 +261,22 @@ from-here key k d w h = from-step key (k, d) w ∙ cond-true _ _ _ h ∙ ap (λ 
 pub from-later : (key : List ℕ) (k d : Option Document) (w : Pairs) → is_key key (option_and_then as_str k) ≡ false
     → walk_from key (came (k, d) w) ≡ walk_from key w
 from-later key k d w h = from-step key (k, d) w ∙ cond-false _ _ _ h
+
+pub round-left : (w key : List ℕ) (left all rest : Pairs) (d : Option Document) → w ≡ key
+    → walk_from w left ≡ came (Some (string w), d) rest → walk_round key left all ≡ came (Some (string key), d) rest
+round-left w key left all rest d same is =
+    ap (λ k. or_walk (walk_from k left) (walk_from key all)) (sym same) ∙ ap (λ xs. or_walk xs (walk_from key all)) is
+    ∙ ap (λ k. came (Some (string k), d) rest) same
+
+pub round-stops : (w key : List ℕ) (left all : Pairs) (e : Unexpected) → w ≡ key → walk_from w left ≡ stopped e
+    → walk_round key left all ≡ stopped e
+round-stops w key left all e same is =
+    ap (λ k. or_walk (walk_from k left) (walk_from key all)) (sym same) ∙ ap (λ xs. or_walk xs (walk_from key all)) is
+
+pub round-all : (w key : List ℕ) (left all : Pairs) → w ≡ key → walk_from w left ≡ ended → walk_round key left all ≡ walk_from w all
+round-all w key left all same is =
+    ap (λ k. or_walk (walk_from k left) (walk_from key all)) (sym same) ∙ ap (λ xs. or_walk xs (walk_from key all)) is
+    ∙ ap (λ k. walk_from k all) (sym same)
 
 pub whole-with : (key : List ℕ) (ms : Members)
     → walks.first_with key (whole (all_members (members ms))) ≡ Ok (option_map (λ e. Some e) (first_with key ms))

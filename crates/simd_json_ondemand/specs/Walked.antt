@@ -22,6 +22,10 @@ elements_ahead a = elements_walk (text a.document) a.position (drop a.at (places
 abbrev pub members_ahead : Object → Walk (Option parts.Document × Option parts.Document)
 members_ahead o = members_walk (text o.document) o.position (drop o.at (places o.document))
 
+-- the same of all members of the object
+abbrev pub members_from_first : Object → Walk (Option parts.Document × Option parts.Document)
+members_from_first o = members_walk (text o.document) First (drop o.first (places o.document))
+
 -- the error that something else was expected of the value
 abbrev pub refused : Expected → Value → Unexpected
 refused expected v = unexpected (text v.document) expected (drop v.at (places v.document))

@@ -126,3 +126,14 @@ unfoldable pub walk_from : List ℕ → Walk (Option parts.Document × Option pa
     → Walk (Option parts.Document × Option parts.Document)
 walk_from key (came m w) = if is_key key (option_and_then as_str m.0) then came m w else walk_from key w
 walk_from key w = w
+
+-- the one walk, or, if it comes to the end, the other
+abbrev pub or_walk : {A : Type 0} → Walk A → Walk A → Walk A
+or_walk (stopped e) other = stopped e
+or_walk ended other = other
+or_walk (came x w) other = came x w
+
+-- once round: along the members that are left, or, if they end and none has the key, along all
+abbrev pub walk_round : List ℕ → Walk (Option parts.Document × Option parts.Document)
+    → Walk (Option parts.Document × Option parts.Document) → Walk (Option parts.Document × Option parts.Document)
+walk_round key left all = or_walk (walk_from key left) (walk_from key all)

@@ -51,11 +51,19 @@ pub record IsInArray (v : Value) (a : Array) : Type 0 where
   pub here : elements_at a.document a.at a.position ≡ Some left
   pub ends : after_at a.document a.at a.position ≡ after v
 
--- inside the object
+-- inside the object, whose first member is where it begins
 pub record IsInObject (v : Value) (o : Object) : Type 0 where
   pub left : List (List ℕ × parts.Document)
   pub here : members_at o.document o.at o.position ≡ Some left
   pub ends : after_at o.document o.at o.position ≡ after v
+  pub all : List (List ℕ × parts.Document)
+  pub begins : members_at o.document o.first First ≡ Some all
+  pub closes : after_at o.document o.first First ≡ after v
+
+-- the cursors are in the same object
+pub record AreInSameObject (o p : Object) : Type 0 where
+  pub document : p.document ≡ o.document
+  pub first : p.first ≡ o.first
 
 -- A cursor that comes to a value at `next` is in the same container as before. They serve proofs: only the crate's private clauses
 -- cite them.

@@ -2,11 +2,12 @@
 //!
 //! Each contract is of what is at the value's structural index, so it holds for any input; a law
 //! says that where a document begins there, it is what the same accessor of a tape returns.
-ghost use Rattle.std.specs.Prelude.{◌≡◌, ◌==◌, ◌&&◌, ◌||◌, ℕ, List, length, drop, nat_eq};
+ghost use Rattle.std.specs.Prelude.{◌≡◌, ◌<◌, ◌==◌, ◌&&◌, ◌||◌, ℕ, List, length, drop, nat_eq};
+ghost use Rattle.std.specs.Prelude.{IfSome};
 ghost use Rattle.std.specs.List.{starts_with};
 ghost use Rattle.simd_json_parts.specs.Bytes.{byte_at, is_terminator, minus_sign};
 ghost use Rattle.std.specs.Char.{is_ascii_digit};
-ghost use Rattle.simd_json_ondemand.specs.Numerals.{IsNumberLen};
+ghost use Rattle.simd_json_ondemand.specs.Numerals.{IsNumberLen, IsDecimalFloat};
 ghost use Rattle.simd_json_scalars.specs.NumeralRead.{IsNumeralAt};
 
 use crate::strings::closing;
@@ -231,9 +232,9 @@ impl<'d> Value<'d> {
         }
     }
 
-    /// Returns the `f64` nearest to the number, an integer or one with a fraction or an exponent, or
-    /// `None` if the value is no number. Of two that are equally near it is the one with the even
-    /// significand.
+    /// Returns the `f64` nearest to the number, an integer or one with a fraction or an exponent,
+    /// or `None` if the value is no number. Of two that are equally near it is the one with the
+    /// even significand.
     ///
     /// A number beyond the range of `f64` gives an infinity of its sign, as `1e400` does, and one
     /// that is too near zero gives a zero of its sign.
@@ -242,7 +243,23 @@ impl<'d> Value<'d> {
         ensures nearest { result ≡ option_and_then (parse_float binary64) (number self.entry) }
         ensures some { is_some result ≡ is_some (number self.entry) }
     {
-        fast_float::parse(self.number()?).ok()
+        match self.fraction() {
+            Some(number) => Some(number),
+            None => fast_float::parse(self.number()?).ok(),
+        }
+    }
+
+    // The float nearest to the number here, if it has a fraction and no exponent.
+    #[inline(always)]
+    fn fraction(self) -> Option<f64>
+        ensures { IfSome result (λ x.
+            option_and_then (parse_float binary64) (number self.entry) ≡ Some x) }
+    {
+        if begins_number(self.first()) {
+            fraction(self.bytes())
+        } else {
+            None
+        }
     }
 
     // The literal of the number here, if one begins here.
@@ -364,6 +381,31 @@ fn number_len(bytes: &[u8]) -> Option<usize>
         Number::Decimal(len) => Some(len),
         Number::Invalid(_) => None,
     }
+}
+
+// The float nearest to the number at the front, if it has a fraction, no exponent, and a byte after
+// it: then its digits are read once.
+#[inline]
+fn fraction(bytes: &[u8]) -> Option<f64>
+    requires { 0 < length bytes.now }
+    ensures { (b : List ℕ) (i : ℕ) → drop i b ≡ bytes.now → IfSome result (IsDecimalFloat b i) }
+{
+    let minus = bytes[0] == b'-';
+    let start = minus as usize;
+    let numeral = fast_float::Numeral::scan(&bytes[start..]);
+    let whole = numeral.whole();
+    let places = numeral.fraction().len();
+    if places == 0 || whole.is_empty() || numeral.len() != whole.len() + 1 + places {
+        return None;
+    }
+    if whole[0] == b'0' && whole.len() > 1 {
+        return None;
+    }
+    let end = start + numeral.len();
+    if end == bytes.len() || !is_structural_or_whitespace(bytes[end]) {
+        return None;
+    }
+    Some(numeral.to_float(minus))
 }
 
 // Whether the letters are at the front, and what may follow a scalar after them.

@@ -3,7 +3,7 @@ ghost use Rattle.std.specs.Prelude.{◌≡◌, ◌<◌, length};
 
 use crate::array::Position;
 use crate::skip::{close, skip};
-use crate::value::Document;
+use crate::value::{Document, Value};
 
 /// The end of an array or an object, which [`Array::end`](crate::Array::end) and
 /// [`Object::end`](crate::Object::end) return.
@@ -30,6 +30,22 @@ impl<'d> Document<'d> {
         };
         End {
             after: close(self.input, self.indexes, from),
+        }
+    }
+}
+
+impl<'d> Value<'d> {
+    ghost use Rattle.simd_json_ondemand.specs.Within.{after};
+
+    // Where the value ends.
+    #[inline(always)]
+    #[tactic(auto, using(crate::proofs::Scans::within))]
+    pub(crate) fn end(self) -> End
+        ensures { result.after ≡ after self.entry }
+    {
+        let document = self.document;
+        End {
+            after: skip(document.input, document.indexes, self.at),
         }
     }
 }

@@ -6,9 +6,10 @@
 //! words.
 //!
 //! [`Value::get`] returns the value of the first member with a key. [`Object::find`] goes on where
-//! the search before it ended, so keys that are asked for in the order of the input take one pass;
-//! [`Object::pass`] goes on at the end of a value that another cursor has read. [`lines()`] returns
-//! the lines of JSON Lines, each a document of its own.
+//! the search before it ended, and then once round: keys that are asked for in the order of the
+//! input take one pass, and others are found too. [`Object::pass`] goes on at the end of a value
+//! that another cursor has read. [`lines()`] returns the lines of JSON Lines, each a document of
+//! its own.
 //! [`Value::pointer`] follows a JSON Pointer (RFC 6901), and [`Value::at`] one that is split once.
 //!
 //! # What is checked

@@ -17,14 +17,17 @@ use std::iter::FusedIterator;
 #[derive(Clone, Copy, Debug)]
 pub struct Object<'d> {
     pub(crate) document: Document<'d>,
+    // the number of the first token inside the object
+    pub(crate) first: usize,
     pub(crate) at: usize,
     pub(crate) position: Position,
+    ghost begins: { first < length document.indexes.now },
     ghost inside: { at < length document.indexes.now },
 }
 
 impl<'d> Document<'d> {
-    ghost use Rattle.std.specs.Prelude.{◌≡◌, ◌<◌, ◌≤◌, ◌+◌, ◌-◌, [], ◌∷◌, length, drop, MatchOption};
-    ghost use Rattle.std.specs.Prelude.{slice_index, IfSome};
+    ghost use Rattle.std.specs.Prelude.{◌≡◌, ◌<◌, ◌≤◌, ◌+◌, ◌-◌, [], ◌∷◌, length, drop};
+    ghost use Rattle.std.specs.Prelude.{slice_index, IfSome, MatchOption};
     ghost use Rattle.simd_json_parts.specs.Bytes.{byte_at, quote};
     ghost use Rattle.simd_json_ondemand.specs.Docs.{places, text};
     ghost use Rattle.simd_json_ondemand.specs.Within.{StaysInObject};
@@ -105,11 +108,13 @@ impl<'d> FusedIterator for Object<'d> {}
 impl<'d> Object<'d> {
     ghost use Rattle.std.specs.Prelude.{◌≡◌, [], ◌∷◌, Some, MatchOption, IfSome};
     ghost use Rattle.simd_json_ondemand.specs.Docs.{doc};
-    ghost use Rattle.simd_json_ondemand.specs.IteratedMembers.{members_left, pair_doc};
+    ghost use Rattle.simd_json_ondemand.specs.IteratedMembers.{members_left, members_of, pair_doc};
     ghost use Rattle.std.specs.Iterator.{YieldsFirstBy};
-    ghost use Rattle.simd_json_ondemand.specs.Within.{IsInObject, after, after_at, after_last};
+    ghost use Rattle.simd_json_ondemand.specs.Walked.{members_ahead};
+    ghost use Rattle.simd_json_ondemand.specs.Within.{IsInObject, AreInSameObject};
+    ghost use Rattle.simd_json_ondemand.specs.Within.{after, after_at, after_last};
     ghost use Rattle.simd_json_ondemand.specs.declared.value.Value.{Value};
-    ghost use Rattle.simd_json_ondemand.specs.Keys.{from_key};
+    ghost use Rattle.simd_json_ondemand.specs.Keys.{from_key, from_key_round};
     ghost use Rattle.simd_json_parts.specs.Document.{string};
 
     /// Returns the next pair of a key and a value, as `next` does. The contract of this function
@@ -120,12 +125,15 @@ impl<'d> Object<'d> {
         ensures steps { YieldsFirstBy pair_doc members_left self.old result self.new }
         ensures last { IfSome result (λ pair.
             after_last self.new.document self.new.at self.new.position ≡ Some (after pair.1)) }
+        ensures object { AreInSameObject self.old self.new }
         ensures inside { (v : Value) → IsInObject v self.old → IsInObject v self.new }
     {
         let document = self.document;
+        let first = self.first;
         let at = document.next_member(self.at, self.position)?;
         *self = Object {
             document,
+            first,
             at,
             position: Position::AtValue,
         };
@@ -138,28 +146,89 @@ impl<'d> Object<'d> {
         ))
     }
 
-    /// Returns the value of the first of the members left that has this key, and leaves those after
-    /// it; or returns `None`, and leaves them all. The values before it are skipped. `None` does
-    /// not tell a missing key from bytes that are no object; [`try_find`](Object::try_find) does.
+    /// Returns the value of the first of the members left that has this key or, if none has it, of
+    /// the first of all members of the object that has it, and goes on behind that member. If the
+    /// object has no such member, it returns `None`, and the cursor stays where it is.
+    ///
+    /// Keys that are asked for in the order of the input take one pass along the object. One that
+    /// is missing, or is before the cursor, is looked for as far as the object ends, and then from
+    /// its beginning up to where the search began. `None` does not tell a missing key from bytes
+    /// that are no object; [`try_find`](Object::try_find) does.
     ///
     /// A key in the input may have escapes: `{"\u0061":1}` has the key `a`. One with an invalid
     /// escape is equal to none.
     #[inline(always)]
     pub fn find(&mut self, key: &str) -> Option<Value<'d>>
         ensures found { MatchOption result
-            ((from_key key.now (members_left self.old) ≡ []) × (self.new ≡ self.old))
-            (λ value. from_key key.now (members_left self.old)
+            ((from_key_round key.now (members_left self.old) (members_of self.old) ≡ [])
+            × (self.new ≡ self.old))
+            (λ value. from_key_round key.now (members_left self.old) (members_of self.old)
             ≡ (Some (string key.now), doc value) ∷ members_left self.new) }
         ensures last { IfSome result (λ value.
             after_last self.new.document self.new.at self.new.position ≡ Some (after value)) }
+        ensures object { AreInSameObject self.old self.new }
         ensures inside { (v : Value) → IsInObject v self.old → IsInObject v self.new }
     {
         let wanted = Wanted::new(key);
+        if let Some(value) = self.find_left(wanted) {
+            return Some(value);
+        }
+        let (all, value) = self.find_before(wanted)?;
+        *self = all;
+        Some(value)
+    }
+
+    // The same among the members left alone.
+    #[inline(always)]
+    pub(crate) fn find_left(&mut self, wanted: Wanted<'_>) -> Option<Value<'d>>
+        ensures found { MatchOption result
+            ((from_key wanted.entry.key.now (members_left self.old) ≡ []) × (self.new ≡ self.old))
+            (λ value. from_key wanted.entry.key.now (members_left self.old)
+            ≡ (Some (string wanted.entry.key.now), doc value) ∷ members_left self.new) }
+        ensures last { IfSome result (λ value.
+            after_last self.new.document self.new.at self.new.position ≡ Some (after value)) }
+        ensures object { AreInSameObject self.old self.new }
+        ensures inside { (v : Value) → IsInObject v self.old → IsInObject v self.new }
+    {
         let mut left = *self;
         while let Some((name, value)) = left.next_member() {
             if name.is_key(wanted) {
                 *self = left;
                 return Some(value);
+            }
+        }
+        None
+    }
+
+    // The same among all members, where none of those left has the key: a cursor behind the member,
+    // and its value. The walk from the beginning ends where it comes to this cursor.
+    #[cold]
+    #[inline(never)]
+    fn find_before(self, wanted: Wanted<'_>) -> Option<(Object<'d>, Value<'d>)>
+        requires { from_key wanted.key.now (members_left self) ≡ [] }
+        ensures found { MatchOption result
+            (from_key wanted.entry.key.now (members_of self.entry) ≡ [])
+            (λ r. from_key wanted.entry.key.now (members_of self.entry)
+            ≡ (Some (string wanted.entry.key.now), doc r.1) ∷ members_left r.0) }
+        ensures last { IfSome result (λ r.
+            after_last r.0.document r.0.at r.0.position ≡ Some (after r.1)) }
+        ensures object { IfSome result (λ r. AreInSameObject self.entry r.0) }
+        ensures inside { IfSome result (λ r.
+            (v : Value) → IsInObject v self.entry → IsInObject v r.0) }
+    {
+        let mut all = Object {
+            document: self.document,
+            first: self.first,
+            at: self.first,
+            position: Position::First,
+        };
+        while all.at != self.at || all.position != self.position {
+            let (name, value) = all.next_member()?;
+            if name.is_key(wanted) {
+                return Some((all, value));
+            }
+            if self.position == Position::AfterValue {
+                all.pass(value.end());
             }
         }
         None
@@ -196,13 +265,18 @@ impl<'d> Object<'d> {
     pub fn pass(&mut self, end: End)
         ensures left { after_last self.old.document self.old.at self.old.position ≡ Some end.after
             → members_left self.new ≡ members_left self.old }
+        ensures ahead { after_last self.old.document self.old.at self.old.position
+            ≡ Some end.after → members_ahead self.new ≡ members_ahead self.old }
+        ensures object { AreInSameObject self.old self.new }
         ensures inside { after_last self.old.document self.old.at self.old.position
             ≡ Some end.after → (v : Value) → IsInObject v self.old → IsInObject v self.new }
     {
         let document = self.document;
+        let first = self.first;
         if self.at < end.after && end.after < document.indexes.len() {
             *self = Object {
                 document,
+                first,
                 at: end.after,
                 position: Position::AfterValue,
             };
@@ -213,7 +287,8 @@ impl<'d> Object<'d> {
 impl<'d> Value<'d> {
     ghost use Rattle.std.specs.Prelude.{◌≡◌, true, Some, IfSome, option_map, option_and_then};
     ghost use Rattle.simd_json_ondemand.specs.Docs.{doc, form};
-    ghost use Rattle.simd_json_ondemand.specs.IteratedMembers.{members_left, all_members};
+    ghost use Rattle.simd_json_ondemand.specs.IteratedMembers.{members_left, members_of};
+    ghost use Rattle.simd_json_ondemand.specs.IteratedMembers.{all_members};
     ghost use Rattle.simd_json_ondemand.specs.Standing.{opens_object};
     ghost use Rattle.simd_json_parts.specs.Document as parts;
     ghost use Rattle.simd_json_parts.specs.Views.{as_object, as_str, get};
@@ -225,6 +300,7 @@ impl<'d> Value<'d> {
     pub fn as_object(self) -> Option<Object<'d>>
         ensures document { (d : parts.Document) → doc self.entry ≡ Some d
             → option_map members_left result ≡ option_map all_members (as_object d) }
+        ensures first { IfSome result (λ object. members_left object ≡ members_of object) }
         ensures inside { (d : parts.Document) → doc self.entry ≡ Some d
             → IfSome result (IsInObject self.entry) }
         ensures any { IfSome result (λ object. opens_object (form self.entry) ≡ true) }
@@ -236,6 +312,7 @@ impl<'d> Value<'d> {
         }
         Some(Object {
             document,
+            first: at,
             at,
             position: Position::First,
         })
@@ -252,7 +329,7 @@ impl<'d> Value<'d> {
         ensures any { IfSome result (λ value. opens_object (form self.entry) ≡ true) }
     {
         let mut members = self.as_object()?;
-        members.find(key)
+        members.find_left(Wanted::new(key))
     }
 
     // Whether the value is a string, and the key.

@@ -1,12 +1,14 @@
 //! Accessors and look-up with errors: each names the place where it stopped, and what it expected.
 use crate::array::{Array, Position};
+use crate::key::Wanted;
 use crate::object::Object;
 use crate::unexpected::{Expected, Unexpected};
 use crate::value::Value;
 use simd_json_parts::node::ValueType;
 
 impl<'d> Value<'d> {
-    ghost use Rattle.std.specs.Prelude.{◌≡◌, ◌⊎◌, Some, None, MatchResult, ok_or, option_map};
+    ghost use Rattle.std.specs.Prelude.{◌≡◌, ◌⊎◌, Some, None, IfOk, MatchResult};
+    ghost use Rattle.std.specs.Prelude.{ok_or, option_map};
     ghost use Rattle.std.specs.Result.{result_ok};
     ghost use Rattle.simd_json_ondemand.specs.Docs.{doc, form, as_standing, HasEscape};
     ghost use Rattle.simd_json_ondemand.specs.Iterated.{elements_left, all_some};
@@ -14,6 +16,7 @@ impl<'d> Value<'d> {
     ghost use Rattle.simd_json_ondemand.specs.Walked.{refused, tried, string_wanted, first_with};
     ghost use Rattle.simd_json_ondemand.specs.Walked.{array_walk, object_walk};
     ghost use Rattle.simd_json_ondemand.specs.Walked.{elements_ahead, members_ahead};
+    ghost use Rattle.simd_json_ondemand.specs.Walked.{members_from_first};
     ghost use Rattle.simd_json_ondemand.specs.Walks.{ok_map, stopped, whole, first, walk_past};
     ghost use Rattle.simd_json_ondemand.specs.declared.unexpected.Expected.TheVariants.{Kind};
     ghost use Rattle.simd_json_parts.specs.Accessors as accessors;
@@ -121,6 +124,8 @@ impl<'d> Value<'d> {
             (λ e. object_walk self.entry ≡ stopped e) }
         ensures document { (d : parts.Document) → doc self.entry ≡ Some d
             → option_map members_left (result_ok result) ≡ option_map all_members (as_object d) }
+        ensures first { IfOk result (λ object.
+            members_ahead object ≡ members_from_first object) }
         ensures all { (d : parts.Document) → doc self.entry ≡ Some d
             → option_map members_ahead (result_ok result)
             ≡ option_map (λ ms. whole (all_members ms)) (as_object d) }
@@ -135,6 +140,7 @@ impl<'d> Value<'d> {
         }
         Ok(Object {
             document,
+            first: at,
             at,
             position: Position::First,
         })
@@ -165,7 +171,7 @@ impl<'d> Value<'d> {
             ≡ option_map (option_map (λ e. Some e)) (result_ok (try_get key.now d)) }
     {
         match self.try_as_object() {
-            Ok(mut members) => members.try_find(key),
+            Ok(mut members) => members.try_find_left(Wanted::new(key)),
             Err(e) => Err(e),
         }
     }

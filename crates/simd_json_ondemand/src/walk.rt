@@ -212,11 +212,12 @@ impl<'d> Array<'d> {
 }
 
 impl<'d> Object<'d> {
-    ghost use Rattle.std.specs.Prelude.{◌≡◌, Some, MatchOption, MatchResult};
+    ghost use Rattle.std.specs.Prelude.{◌≡◌, Some, IfOk, IfSome, MatchOption, MatchResult};
     ghost use Rattle.simd_json_ondemand.specs.Docs.{doc};
     ghost use Rattle.simd_json_ondemand.specs.IteratedMembers.{pair_doc};
-    ghost use Rattle.simd_json_ondemand.specs.Walked.{members_ahead};
-    ghost use Rattle.simd_json_ondemand.specs.Walks.{stopped, ended, came, walk_from};
+    ghost use Rattle.simd_json_ondemand.specs.Walked.{members_ahead, members_from_first};
+    ghost use Rattle.simd_json_ondemand.specs.Walks.{stopped, ended, came, walk_from, walk_round};
+    ghost use Rattle.simd_json_ondemand.specs.Within.{AreInSameObject, after, after_last};
     ghost use Rattle.simd_json_parts.specs.Document.{string};
 
     /// Returns the key and the value of the next member, or `None` at the end of the object, which
@@ -227,16 +228,22 @@ impl<'d> Object<'d> {
     /// behind it. The cursor stays where it is. What is inside a value is not tested, but passed
     /// over by its brackets.
     pub fn try_next(&mut self) -> Result<Option<(Value<'d>, Value<'d>)>, Unexpected>
-        ensures { MatchResult result
+        ensures steps { MatchResult result
             (λ next. MatchOption next ((members_ahead self.old ≡ ended) × (self.new ≡ self.old))
             (λ member. members_ahead self.old ≡ came (pair_doc member) (members_ahead self.new)))
             (λ e. (members_ahead self.old ≡ stopped e) × (self.new ≡ self.old)) }
+        ensures last { IfOk result (λ next. IfSome next (λ member.
+            after_last self.new.document self.new.at self.new.position
+            ≡ Some (after member.1))) }
+        ensures object { AreInSameObject self.old self.new }
     {
         let document = self.document;
+        let first = self.first;
         match document.member_ahead(self.at, self.position) {
             Ok(Some(at)) => {
                 *self = Object {
                     document,
+                    first,
                     at,
                     position: Position::AtValue,
                 };
@@ -251,22 +258,55 @@ impl<'d> Object<'d> {
         }
     }
 
-    /// Returns the value of the first of the members left that has this key, and leaves those after
-    /// it; or returns `None` at the end of the object, and leaves them all. The values before it
-    /// are skipped.
+    /// Returns the value of the first of the members left that has this key or, if these come to
+    /// the closing brace and none has it, of the first of all members that has it, and goes on
+    /// behind that member, as [`find`](Object::find) does. If the object has no such member, it
+    /// returns `None`, and the cursor stays where it is.
     ///
-    /// Returns an error where the walk stops before, as [`try_next`](Object::try_next), and leaves
-    /// all members.
+    /// Returns an error where the walk stops before, as [`try_next`](Object::try_next): the cursor
+    /// stays where it is.
     pub fn try_find(&mut self, key: &str) -> Result<Option<Value<'d>>, Unexpected>
-        ensures { MatchResult result
+        ensures found { MatchResult result
             (λ found. MatchOption found
-            ((walk_from key.now (members_ahead self.old) ≡ ended) × (self.new ≡ self.old))
-            (λ value. walk_from key.now (members_ahead self.old)
+            ((walk_round key.now (members_ahead self.old) (members_from_first self.old) ≡ ended)
+            × (self.new ≡ self.old))
+            (λ value. walk_round key.now (members_ahead self.old) (members_from_first self.old)
             ≡ came (Some (string key.now), doc value) (members_ahead self.new)))
-            (λ e. (walk_from key.now (members_ahead self.old) ≡ stopped e)
-            × (self.new ≡ self.old)) }
+            (λ e. (walk_round key.now (members_ahead self.old) (members_from_first self.old)
+            ≡ stopped e) × (self.new ≡ self.old)) }
+        ensures object { AreInSameObject self.old self.new }
     {
         let wanted = Wanted::new(key);
+        match self.try_find_left(wanted) {
+            Ok(None) => {}
+            Ok(Some(value)) => return Ok(Some(value)),
+            Err(e) => return Err(e),
+        }
+        match self.try_find_before(wanted) {
+            Ok(Some((all, value))) => {
+                *self = all;
+                Ok(Some(value))
+            }
+            Ok(None) => Ok(None),
+            Err(e) => Err(e),
+        }
+    }
+
+    // The same along the members left alone.
+    pub(crate) fn try_find_left(
+        &mut self,
+        wanted: Wanted<'_>,
+    ) -> Result<Option<Value<'d>>, Unexpected>
+        ensures found { MatchResult result
+            (λ found. MatchOption found
+            ((walk_from wanted.entry.key.now (members_ahead self.old) ≡ ended)
+            × (self.new ≡ self.old))
+            (λ value. walk_from wanted.entry.key.now (members_ahead self.old)
+            ≡ came (Some (string wanted.entry.key.now), doc value) (members_ahead self.new)))
+            (λ e. (walk_from wanted.entry.key.now (members_ahead self.old) ≡ stopped e)
+            × (self.new ≡ self.old)) }
+        ensures object { AreInSameObject self.old self.new }
+    {
         let mut left = *self;
         loop {
             match left.try_next() {
@@ -280,6 +320,46 @@ impl<'d> Object<'d> {
                 Err(e) => return Err(e),
             }
         }
+    }
+
+    // The same along all members, where none of those left has the key, and they end: a cursor
+    // behind the member, and its value.
+    #[cold]
+    fn try_find_before(
+        self,
+        wanted: Wanted<'_>,
+    ) -> Result<Option<(Object<'d>, Value<'d>)>, Unexpected>
+        requires { walk_from wanted.key.now (members_ahead self) ≡ ended }
+        ensures found { MatchResult result
+            (λ found. MatchOption found
+            (walk_from wanted.entry.key.now (members_from_first self.entry) ≡ ended)
+            (λ r. walk_from wanted.entry.key.now (members_from_first self.entry)
+            ≡ came (Some (string wanted.entry.key.now), doc r.1) (members_ahead r.0)))
+            (λ e. walk_from wanted.entry.key.now (members_from_first self.entry) ≡ stopped e) }
+        ensures object { IfOk result (λ found. IfSome found (λ r.
+            AreInSameObject self.entry r.0)) }
+    {
+        let mut all = Object {
+            document: self.document,
+            first: self.first,
+            at: self.first,
+            position: Position::First,
+        };
+        while all.at != self.at || all.position != self.position {
+            match all.try_next() {
+                Ok(Some((name, value))) => {
+                    if name.is_key(wanted) {
+                        return Ok(Some((all, value)));
+                    }
+                    if self.position == Position::AfterValue {
+                        all.pass(value.end());
+                    }
+                }
+                Ok(None) => return Ok(None),
+                Err(e) => return Err(e),
+            }
+        }
+        Ok(None)
     }
 }
 

@@ -2,3 +2,5 @@ pub mod Steps
 pub mod Places
 pub mod Outcomes
 pub mod Kept
+pub mod Written
+pub mod WrittenOut

@@ -1,5 +1,6 @@
-//! Typed reading: a type that derives `serde::Deserialize` is read from the tape of
-//! [`simd_json`]. Name `simd_json_serde serde` in your crate's line of `crates.txt`.
+//! Typed reading and writing: a type that derives `serde::Deserialize` is read from the tape of
+//! [`simd_json`], and one that derives `serde::Serialize` is written. Name `simd_json_serde serde`
+//! in your crate's line of `crates.txt`.
 //!
 //! ```
 //! use serde::Deserialize;
@@ -29,6 +30,10 @@
 //! | a whole tape | [`from_tape`] |
 //! | a scalar, with a contract | [`bool_of`], [`u64_of`], [`f64_of`], [`string_of`], .. |
 //! | nodes, by a `Deserialize` of your own | [`NodeReader`] |
+//!
+//! To write a type, call [`to_string`], [`to_vec`] or [`to_writer`], or a `_pretty` form. A float
+//! is written as the shortest literal that reads as it; one that is not finite is an error. A key
+//! may be a string, a number or a truth value.
 //!
 //! All that the derives read is read: structs, `Option`, `Vec`, tuples, maps, enums with or without
 //! a tag, `flatten`, `default`, `rename`, `deny_unknown_fields`, recursive types. Integers of all
@@ -64,8 +69,11 @@
 //! the node that it takes says, and `skip` passes one value (`Reads`, `Picks`). Not proved, but
 //! tested beside `serde_json`: that a derived type is read as the document says, since derives have
 //! no contract; when a mismatch is returned, its words and its path.
+//!
+//! Whatever a type sends, a text that is written is that of a document (`IsPrinted`).
 #![tactic(auto)]
 
+mod draft;
 mod error;
 mod format;
 mod node_reader;
@@ -73,9 +81,19 @@ mod numbers;
 mod path;
 mod reading;
 mod scalars;
+mod text_writer;
 mod texts;
+mod write_error;
+mod writing;
 
 pub use error::{Error, Fault, Mismatch, MismatchKind};
 pub use node_reader::{Mark, NodeReader};
 pub use reading::{Texts, from_slice, from_slice_owned, from_tape, from_value, read, read_owned};
-pub use scalars::{bool_of, char_of, f32_of, f64_of, i64_of, i128_of, string_of, u64_of, u128_of};
+pub use scalars::{
+    bool_of, char_of, f32_of, f64_of, i8_of, i16_of, i32_of, i64_of, i128_of, string_of, u8_of,
+    u16_of, u32_of, u64_of, u128_of,
+};
+pub use write_error::WriteError;
+pub use writing::{
+    to_string, to_string_pretty, to_vec, to_vec_pretty, to_writer, to_writer_pretty,
+};

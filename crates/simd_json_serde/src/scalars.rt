@@ -29,12 +29,66 @@ pub fn char_of(alloc: Global, value: &Value<'_, '_>) -> Result<char, Error>
     located(alloc, read, reader.nodes)
 }
 
+/// Returns an integer that fits `i8`, as [`from_value`](crate::from_value) does.
+pub fn i8_of(alloc: Global, value: &Value<'_, '_>) -> Result<i8, Error>
+    ensures { IfOk result (λ n. Says (doc value.now) (IsSigned n)) }
+{
+    let mut reader = NodeReader::new(value.nodes(), Vec::new(alloc));
+    let read = i8::deserialize_owned(alloc, &mut Deserializer::new(&[], &mut reader));
+    located(alloc, read, reader.nodes)
+}
+
+/// Returns an integer that fits `i16`, as [`from_value`](crate::from_value) does.
+pub fn i16_of(alloc: Global, value: &Value<'_, '_>) -> Result<i16, Error>
+    ensures { IfOk result (λ n. Says (doc value.now) (IsSigned n)) }
+{
+    let mut reader = NodeReader::new(value.nodes(), Vec::new(alloc));
+    let read = i16::deserialize_owned(alloc, &mut Deserializer::new(&[], &mut reader));
+    located(alloc, read, reader.nodes)
+}
+
+/// Returns an integer that fits `i32`, as [`from_value`](crate::from_value) does.
+pub fn i32_of(alloc: Global, value: &Value<'_, '_>) -> Result<i32, Error>
+    ensures { IfOk result (λ n. Says (doc value.now) (IsSigned n)) }
+{
+    let mut reader = NodeReader::new(value.nodes(), Vec::new(alloc));
+    let read = i32::deserialize_owned(alloc, &mut Deserializer::new(&[], &mut reader));
+    located(alloc, read, reader.nodes)
+}
+
 /// Returns an integer that fits `i64`, as [`from_value`](crate::from_value) does.
 pub fn i64_of(alloc: Global, value: &Value<'_, '_>) -> Result<i64, Error>
     ensures { IfOk result (λ n. Says (doc value.now) (IsSigned n)) }
 {
     let mut reader = NodeReader::new(value.nodes(), Vec::new(alloc));
     let read = i64::deserialize_owned(alloc, &mut Deserializer::new(&[], &mut reader));
+    located(alloc, read, reader.nodes)
+}
+
+/// Returns an integer that fits `u8`, as [`from_value`](crate::from_value) does.
+pub fn u8_of(alloc: Global, value: &Value<'_, '_>) -> Result<u8, Error>
+    ensures { IfOk result (λ n. Says (doc value.now) (IsUnsigned n)) }
+{
+    let mut reader = NodeReader::new(value.nodes(), Vec::new(alloc));
+    let read = u8::deserialize_owned(alloc, &mut Deserializer::new(&[], &mut reader));
+    located(alloc, read, reader.nodes)
+}
+
+/// Returns an integer that fits `u16`, as [`from_value`](crate::from_value) does.
+pub fn u16_of(alloc: Global, value: &Value<'_, '_>) -> Result<u16, Error>
+    ensures { IfOk result (λ n. Says (doc value.now) (IsUnsigned n)) }
+{
+    let mut reader = NodeReader::new(value.nodes(), Vec::new(alloc));
+    let read = u16::deserialize_owned(alloc, &mut Deserializer::new(&[], &mut reader));
+    located(alloc, read, reader.nodes)
+}
+
+/// Returns an integer that fits `u32`, as [`from_value`](crate::from_value) does.
+pub fn u32_of(alloc: Global, value: &Value<'_, '_>) -> Result<u32, Error>
+    ensures { IfOk result (λ n. Says (doc value.now) (IsUnsigned n)) }
+{
+    let mut reader = NodeReader::new(value.nodes(), Vec::new(alloc));
+    let read = u32::deserialize_owned(alloc, &mut Deserializer::new(&[], &mut reader));
     located(alloc, read, reader.nodes)
 }
 
@@ -65,7 +119,8 @@ pub fn u128_of(alloc: Global, value: &Value<'_, '_>) -> Result<u128, Error>
     located(alloc, read, reader.nodes)
 }
 
-/// Returns the `f32` nearest to a number, if it is finite, as [`from_value`](crate::from_value) does.
+/// Returns the `f32` nearest to a number, if it is finite, as [`from_value`](crate::from_value)
+/// does.
 pub fn f32_of(alloc: Global, value: &Value<'_, '_>) -> Result<f32, Error>
     ensures { IfOk result (λ x. Says (doc value.now) (IsFloat binary32 x)) }
 {
@@ -74,7 +129,8 @@ pub fn f32_of(alloc: Global, value: &Value<'_, '_>) -> Result<f32, Error>
     located(alloc, read, reader.nodes)
 }
 
-/// Returns the `f64` nearest to a number, if it is finite, as [`from_value`](crate::from_value) does.
+/// Returns the `f64` nearest to a number, if it is finite, as [`from_value`](crate::from_value)
+/// does.
 pub fn f64_of(alloc: Global, value: &Value<'_, '_>) -> Result<f64, Error>
     ensures { IfOk result (λ x. Says (doc value.now) (IsFloat binary64 x)) }
 {

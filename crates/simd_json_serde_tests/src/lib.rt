@@ -1,5 +1,5 @@
-//! Tests of `simd_json_serde` through public calls alone: the same types are read by it and by
-//! `serde_json` from the same bytes. Other crates need nothing of it.
+//! Tests of `simd_json_serde` through public calls alone: the same types are read and written by it
+//! and by `serde_json`. Other crates need nothing of it.
 #![tactic(auto)]
 
 #[cfg(test)]

@@ -26,7 +26,9 @@ mod borrowing;
 mod errors;
 mod examples;
 mod memory;
+mod scalars;
 mod types;
+mod writing;
 
 const MEMORY: &str = "there is memory";
 

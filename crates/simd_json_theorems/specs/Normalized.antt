@@ -1,6 +1,7 @@
 -- A document with no sign on a zero, which its printed text denotes. The contracts of laws cite it.
 use Rattle.std.specs.Prelude.{not, ◌&&◌, ◌==◌}
-use Rattle.simd_json_parts.specs.Document.{Document, null, boolean, integer, decimal, string, array, object, Elements, no_elements, element, Members, no_members, member}
+use Rattle.simd_json_parts.specs.Document.{Document, null, boolean, integer, decimal, string, array}
+use Rattle.simd_json_parts.specs.Document.{object, Elements, no_elements, element, Members, no_members, member}
 
 -- equal documents are those that are then the same
 abbrev mutual

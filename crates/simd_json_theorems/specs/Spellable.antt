@@ -2,7 +2,8 @@
 -- spellable, and it is asked of a tape, since only such a document can be printed and read again (RFC 8259,
 -- sections 6 and 7). The contracts of laws cite it.
 use Rattle.std.specs.Prelude.{⊤, IsUtf8}
-use Rattle.simd_json_parts.specs.Document.{Document, null, boolean, integer, decimal, string, array, object, Elements, no_elements, element, Members, no_members, member}
+use Rattle.simd_json_parts.specs.Document.{Document, null, boolean, integer, decimal, string, array}
+use Rattle.simd_json_parts.specs.Document.{object, Elements, no_elements, element, Members, no_members, member}
 use Rattle.simd_json_parts.specs.Numbers.{decimal_literal}
 use Rattle.simd_json_parts.specs.Patterns.{Matches}
 

@@ -1,97 +1,6 @@
-ghost use Rattle.std.specs.Prelude.{◌≡◌, false};
-
 use super::*;
-use std::process::Abort;
+use crate::tests::{BLANK, Form, MORE, OPEN, Report, VALUE, assert_stopped, assert_written};
 use std::test::Fail;
-
-// Gives its bytes a few at a time, and then ends or fails.
-#[derive(Drop)]
-struct Blocks<'a> {
-    rest: &'a [u8],
-    size: usize,
-    fails: bool,
-}
-
-impl Read for Blocks<'_> {
-    fn read(&mut self, buf: &mut [u8]) -> io::Result<usize> {
-        let count = self.rest.len().min(self.size).min(buf.len());
-        if count == 0 && self.fails {
-            return Err(io::Error::from(ErrorKind::ConnectionReset));
-        }
-        let (block, rest) = self.rest.split_at(count);
-        buf[..count].copy_from_slice(block);
-        self.rest = rest;
-        Ok(count)
-    }
-}
-
-fn in_blocks(rest: &[u8], size: usize, fails: bool) -> Channel<Blocks<'_>>
-    ensures { result.failed ≡ false }
-{
-    Channel::new(Blocks { rest, size, fails })
-}
-
-// Of an error the place, the reason and the kind, the text of its line, and the caret.
-type Report = [&'static str; 5];
-
-fn text_of(rt: &impl AllocGlobal, reports: &[Report]) -> Result<String, Fail> {
-    let mut text = String::new(rt.alloc());
-    for [place, reason, kind, line, caret] in reports {
-        writeln!(text, "{place}: {reason} [{kind}]")?;
-        writeln!(text, "{line}")?;
-        writeln!(text, "{caret}")?;
-    }
-    Ok(text)
-}
-
-// How an input is read: as one document, or as lines in blocks of this size.
-#[derive(Clone, Copy)]
-enum Form {
-    Document,
-    Lines(usize),
-}
-
-fn check<W: Write>(
-    rt: &impl AllocGlobal,
-    out: &mut Channel<W>,
-    input: &[u8],
-    form: Form,
-    width: usize,
-) -> io::Result<bool>
-    requires { out.old.failed ≡ false }
-{
-    let mut checker = Checker::new(rt.alloc(), 4)?;
-    match form {
-        Form::Document => check_document(&mut checker, out, "f", input, width),
-        Form::Lines(size) => {
-            let mut reader = in_blocks(input, size, false);
-            check_lines(&mut checker, &mut reader, out, "f", width)
-        }
-    }
-}
-
-// The reports on an input are written; it is clean where there are none.
-fn assert_written(
-    rt: &(impl AllocGlobal + Abort),
-    input: &[u8],
-    reports: &[Report],
-    form: Form,
-    width: usize,
-) -> Result<(), Fail> {
-    let mut out = Channel::new(Vec::new(rt.alloc()));
-    let clean = check(rt, &mut out, input, form, width)?;
-    let text = text_of(rt, reports)?;
-    assert_eq!(rt;
-        String::from_utf8(out.into_inner())?.as_str(),
-        text.as_str()
-    );
-    assert_eq!(rt; clean, reports.is_empty(), "{text}");
-    Ok(())
-}
-
-const MORE: &str = "more text after the document";
-
-const VALUE: &str = "expected a value, found `x`";
 
 const REJECTED: [(&[u8], &[Report]); 15] = [
     (b"[1,[2]]\n", &[]),
@@ -194,10 +103,6 @@ const REJECTED: [(&[u8], &[Report]); 15] = [
     ),
 ];
 
-const BLANK: &str = "expected a value, found only whitespace";
-
-const OPEN: &str = "the string that begins here has no end";
-
 #[test]
 fn rejections_are_shown(rt: HostRuntime) -> Result<(), Fail> {
     for (input, reports) in &REJECTED {
@@ -240,137 +145,30 @@ fn long_lines_are_cut(rt: HostRuntime) -> Result<(), Fail> {
     Ok(())
 }
 
-const LINES: [(&[u8], &[Report]); 5] = [
-    (b"", &[]),
-    (b"1\n\n {} \r\n\"a\"\n", &[]),
-    (
-        b"1\n\n[1,]\n2",
-        &[[
-            "f:3:4",
-            "expected a value, found `]`",
-            "InternalError at byte 6",
-            "[1,]",
-            "   ^",
-        ]],
-    ),
-    (
-        b"x\r\n\"a",
-        &[
-            ["f:1:1", VALUE, "InternalError at byte 0", "x ", "^"],
-            ["f:2:1", OPEN, "Syntax at byte 3", "\"a", "^"],
-        ],
-    ),
-    (
-        b"[[[[[1]]]]]\n1 2\n",
-        &[
-            [
-                "f:1:5",
-                "one container more than the depth limit",
-                "DepthLimitExceeded at byte 4",
-                "[[[[[1]]]]]",
-                "    ^",
-            ],
-            ["f:2:3", MORE, "TrailingData at byte 14", "1 2", "  ^"],
-        ],
-    ),
+// Of `[1,x]` as many characters as there is room for, and the caret.
+const NARROW: [(usize, &str, &str); 7] = [
+    (0, "", "^"),
+    (1, "\u{2026}", "^"),
+    (2, "\u{2026}\u{2026}", " ^"),
+    (3, "\u{2026}x]", " ^"),
+    (4, "\u{2026},x]", "  ^"),
+    (5, "\u{2026},x]", "  ^"),
+    (6, "[1,x]", "   ^"),
 ];
 
-// However the input is cut into blocks.
 #[test]
-fn lines_have_their_numbers(rt: HostRuntime) -> Result<(), Fail> {
-    for (input, reports) in &LINES {
-        for size in 1..20 {
-            assert_written(&rt, input, reports, Form::Lines(size), 80)?;
-        }
+fn narrow_lines_are_cut(rt: HostRuntime) -> Result<(), Fail> {
+    for (width, line, caret) in &NARROW {
+        let report = ["f:1:4", VALUE, "InternalError at byte 3", *line, *caret];
+        assert_written(&rt, b"[1,x]", &[report], Form::Document, *width)?;
     }
     Ok(())
 }
 
-// The reports on the lines that ended before a read fails are written before it.
-#[test]
-fn a_failed_read_ends_the_check(rt: HostRuntime) -> Result<(), Fail> {
-    let input = b"x\n1\nx\nx".as_slice();
-    let first = ["f:1:1", VALUE, "InternalError at byte 0", "x", "^"];
-    let third = ["f:3:1", VALUE, "InternalError at byte 4", "x", "^"];
-    for (len, reports) in [
-        (0, [].as_slice()),
-        (1, &[]),
-        (2, &[first]),
-        (5, &[first]),
-        (6, &[first, third]),
-        (7, &[first, third]),
-    ] {
-        for size in 1..8 {
-            let mut checker = Checker::new(rt.alloc(), 4)?;
-            let mut reader = in_blocks(&input[..len], size, true);
-            let mut out = Channel::new(Vec::new(rt.alloc()));
-            let checked = check_lines(&mut checker, &mut reader, &mut out, "f", 80);
-            let kind = checked.map_err(|e| e.kind());
-            assert_eq!(rt; kind, Err(ErrorKind::ConnectionReset));
-            assert!(rt; reader.failed() && !out.failed());
-            let text = text_of(&rt, reports)?;
-            assert_eq!(rt;
-                String::from_utf8(out.into_inner())?.as_str(),
-                text.as_str()
-            );
-        }
-    }
-    Ok(())
-}
-
-// Takes some bytes, and then fails.
-#[derive(Drop)]
-struct Short {
-    taken: Vec<u8>,
-    room: usize,
-}
-
-impl Write for Short {
-    fn write(&mut self, buf: &[u8]) -> io::Result<usize> {
-        if self.room == 0 {
-            return Err(io::Error::from(ErrorKind::StorageFull));
-        }
-        let piece = &buf[..buf.len().min(self.room)];
-        self.taken.extend_from_slice(piece)?;
-        self.room -= piece.len();
-        Ok(piece.len())
-    }
-
-    fn flush(&mut self) -> io::Result<()> {
-        Ok(())
-    }
-}
-
-// The writer's error is returned, and it has taken all that it had room for.
-fn assert_stopped(
-    rt: &(impl AllocGlobal + Abort),
-    input: &[u8],
-    reports: &[Report],
-    form: Form,
-) -> Result<(), Fail> {
-    let text = text_of(rt, reports)?;
-    for room in 0..text.len() {
-        let taken = Vec::new(rt.alloc());
-        let mut out = Channel::new(Short { taken, room });
-        let kind = check(rt, &mut out, input, form, 80).map_err(|e| e.kind());
-        assert_eq!(rt; kind, Err(ErrorKind::StorageFull));
-        assert_eq!(rt;
-            Some(out.into_inner().taken.as_slice()),
-            text.as_bytes().get(..room)
-        );
-    }
-    Ok(())
-}
-
-// A writer that is full at each of its bytes in turn.
 #[test]
 fn failed_writes_end_the_check(rt: HostRuntime) -> Result<(), Fail> {
     for (input, reports) in &REJECTED {
         assert_stopped(&rt, input, reports, Form::Document)?;
-    }
-    for (input, reports) in &LINES {
-        assert_stopped(&rt, input, reports, Form::Lines(3))?;
-        assert_stopped(&rt, input, reports, Form::Lines(100))?;
     }
     Ok(())
 }

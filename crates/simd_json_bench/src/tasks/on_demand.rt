@@ -247,17 +247,12 @@ fn all_numbers<const FLOATS: bool>(numbers: &mut Array<'_>) -> Option<u64> {
             break;
         };
         sum = sum.wrapping_add(if FLOATS {
-            f64_to_bits_with_nan(float(number)?)
+            f64_to_bits_with_nan(number.as_f64()?)
         } else {
             number.raw()?.len() as u64
         });
     }
     Some(sum)
-}
-
-#[inline(always)]
-fn float(number: Value<'_>) -> Option<f64> {
-    fast_float::parse(number.raw()?).ok()
 }
 
 #[inline(always)]

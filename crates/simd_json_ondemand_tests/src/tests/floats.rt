@@ -3,7 +3,8 @@ use super::MEMORY;
 use simd_json_ondemand::Index;
 use std::num::f64_to_bits_with_nan;
 
-// Literals, and the bits of the float nearest to each, as Python's `struct.pack('>d', ..)` has them.
+// Literals, and the bits of the float nearest to each, as Python's `struct.pack('>d', ..)` has
+// them.
 const FLOATS: &[(&[u8], u64)] = &[
     (b"0", 0x0000_0000_0000_0000),
     (b"-0", 0x8000_0000_0000_0000),
@@ -11,6 +12,10 @@ const FLOATS: &[(&[u8], u64)] = &[
     (b"-1", 0xbff0_0000_0000_0000),
     (b"0.1", 0x3fb9_9999_9999_999a),
     (b" 0.5 ", 0x3fe0_0000_0000_0000),
+    (b"-0.25", 0xbfd0_0000_0000_0000),
+    (b"-0.0", 0x8000_0000_0000_0000),
+    (b"65.613616999999977", 0x4050_6745_803c_d140),
+    (b"-141.00299999999999", 0xc061_a018_9374_bc6a),
     (b"-1e3", 0xc08f_4000_0000_0000),
     (b"1.7976931348623157e308", 0x7fef_ffff_ffff_ffff),
     (b"1e400", 0x7ff0_0000_0000_0000),
@@ -57,6 +62,12 @@ fn numbers_are_read_as_the_nearest_float(rt: HostRuntime) {
         b"inf",
         b"+1",
         b".5",
+        b"-.5",
+        b"01.5",
+        b"-00.5",
+        b"1.",
+        b"1.5x",
+        b"1.5.",
     ] {
         let value = index.find(input).expect(&rt, "it is scanned").as_value();
         assert_same!(&rt; value.as_f64(), None, input);

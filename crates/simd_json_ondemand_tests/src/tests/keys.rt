@@ -124,12 +124,59 @@ fn a_search_goes_on_behind_what_it_found(rt: HostRuntime) {
     assert_that!(&rt; members.find("z").is_none());
     assert_same!(&rt; members.find("a").and_then(|v| v.as_u64()), Some(1));
     assert_same!(&rt; members.find("a").and_then(|v| v.as_u64()), Some(3));
-    assert_that!(&rt; members.find("a").is_none());
-    assert_that!(&rt; members.find("b").is_none());
+    assert_that!(&rt; members.find("z").is_none());
     let last = members.next().expect(&rt, "a member is left");
     assert_same!(&rt; last.0.as_str(), Some("c"));
-    assert_that!(&rt; members.find("c").is_none());
     assert_that!(&rt; members.next().is_none());
+    assert_same!(&rt; members.find("c").and_then(|v| v.as_u64()), Some(4));
+    assert_that!(&rt; members.next().is_none());
+}
+
+// Four members, of which two have the same key.
+const MEMBERS: &[u8] = b"{\"a\":1,\"b\":{\"a\":2},\"a\":3,\"c\":4}";
+
+// After so many members: the key that is looked for, the integer that is found, and the key after
+// it.
+const ROUND: &[(usize, &str, Option<u64>, Option<&str>)] = &[
+    (0, "a", Some(1), Some("b")),
+    (1, "a", Some(3), Some("c")),
+    (2, "a", Some(3), Some("c")),
+    (3, "a", Some(1), Some("b")),
+    (4, "a", Some(1), Some("b")),
+    (4, "c", Some(4), None),
+    (2, "b", None, Some("a")),
+    (0, "z", None, Some("a")),
+    (2, "z", None, Some("a")),
+    (4, "z", None, None),
+];
+
+#[test]
+fn a_search_goes_once_round(rt: HostRuntime) {
+    let mut index = Index::new(rt.alloc(), 0).expect(&rt, MEMORY);
+    let root = index
+        .find(MEMBERS)
+        .expect(&rt, "it is a document")
+        .as_value();
+    for (steps, key, wanted, next) in ROUND {
+        for passes in [false, true] {
+            let mut members = root.as_object().expect(&rt, "it is an object");
+            for _ in 0..*steps {
+                let (_, value) = members.next().expect(&rt, "a member is left");
+                if let Some(inner) = value.as_object() {
+                    if passes {
+                        members.pass(inner.end());
+                    }
+                }
+            }
+            let mut tried = members;
+            let found = members.find(key).and_then(|v| v.as_u64());
+            assert_same!(&rt; found, *wanted, (*steps, *key));
+            assert_same!(&rt; members.next().and_then(|m| m.0.as_str()), *next, (*steps, *key));
+            let found = tried.try_find(key).expect(&rt, "no walk stops");
+            assert_same!(&rt; found.and_then(|v| v.as_u64()), *wanted, (*steps, *key));
+            assert_same!(&rt; tried.next().and_then(|m| m.0.as_str()), *next, (*steps, *key));
+        }
+    }
 }
 
 // A key with a bad escape is none, and the members end where no comma follows.

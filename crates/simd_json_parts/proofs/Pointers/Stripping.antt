@@ -19,11 +19,13 @@ put-none : (o : Option (List ℕ)) → option_map (λ k. [] ++ k) o ≡ o
 put-none None = refl
 put-none (Some k) = refl
 
-put-both : (xs ys : List ℕ) (o : Option (List ℕ)) → option_map (λ k. xs ++ k) (option_map (λ k. ys ++ k) o) ≡ option_map (λ k. xs ++ ys ++ k) o
+put-both : (xs ys : List ℕ) (o : Option (List ℕ))
+    → option_map (λ k. xs ++ k) (option_map (λ k. ys ++ k) o) ≡ option_map (λ k. xs ++ ys ++ k) o
 put-both xs ys None = refl
 put-both xs ys (Some k) = ap Some (sym (append_assoc xs ys k))
 
-put-one : (c : ℕ) (xs : List ℕ) (o : Option (List ℕ)) → option_map (λ k. c ∷ k) (option_map (λ k. xs ++ k) o) ≡ option_map (λ k. (c ∷ xs) ++ k) o
+put-one : (c : ℕ) (xs : List ℕ) (o : Option (List ℕ))
+    → option_map (λ k. c ∷ k) (option_map (λ k. xs ++ k) o) ≡ option_map (λ k. (c ∷ xs) ++ k) o
 put-one c xs None = refl
 put-one c xs (Some k) = refl
 
@@ -163,7 +165,8 @@ whole-key t key rest b test split =
       λ is. end.1 (taken-off key [] (unescaped rest) (sym split ∙ is ∙ ap Some (sym (append-nil key)))),
     )
 
-pub no-key : (t key : List ℕ) (b : Bool) → b ≡ false → ((k : List ℕ) → unescaped t ≡ Some (key ++ k) → ⊥) → IsTrue b ↔ (unescaped t ≡ Some key)
+pub no-key : (t key : List ℕ) (b : Bool) → b ≡ false
+    → ((k : List ℕ) → unescaped t ≡ Some (key ++ k) → ⊥) → IsTrue b ↔ (unescaped t ≡ Some key)
 no-key t key b test never = (
   λ yes. absurd (false≢true (sym test ∙ yes)),
   λ is. absurd (never [] (is ∙ ap Some (sym (append-nil key)))),

@@ -1,5 +1,5 @@
 // Types of each form that the derives read.
-use serde::Deserialize;
+use serde::{Deserialize, Serialize};
 use std::borrow::CowStr;
 
 #[derive(Drop, Deserialize)]
@@ -21,13 +21,13 @@ pub(super) struct Tweet {
     indices: Vec<(u32, u32)>,
 }
 
-#[derive(Drop, PartialEq, Deserialize)]
+#[derive(Drop, PartialEq, Serialize, Deserialize)]
 pub(super) struct Point {
     x: i8,
     y: i8,
 }
 
-#[derive(Drop, PartialEq, Deserialize)]
+#[derive(Drop, PartialEq, Serialize, Deserialize)]
 pub(super) struct Placed {
     id: u8,
     #[serde(flatten)]
@@ -42,7 +42,7 @@ pub(super) struct Folder {
     folders: Vec<Folder>,
 }
 
-#[derive(Drop, PartialEq, Deserialize)]
+#[derive(Drop, PartialEq, Serialize, Deserialize)]
 pub(super) enum Shape {
     Dot,
     Line(u8, u8),
@@ -50,14 +50,14 @@ pub(super) enum Shape {
     Named(String),
 }
 
-#[derive(Drop, PartialEq, Deserialize)]
+#[derive(Drop, PartialEq, Serialize, Deserialize)]
 #[serde(tag = "kind", rename_all = "snake_case")]
 pub(super) enum Command {
     Stop,
     MoveTo { x: i32, y: i32 },
 }
 
-#[derive(Drop, PartialEq, Deserialize)]
+#[derive(Drop, PartialEq, Serialize, Deserialize)]
 #[serde(tag = "t", content = "c")]
 pub(super) enum Message {
     Ping,

@@ -539,7 +539,8 @@ fn kinds_are_named(rt: HostRuntime) -> Tested {
         (StaticNode::U128(0), ValueType::U128, "U128"),
     ];
     for (scalar, kind, name) in &rows {
-        assert_same!(&rt; (scalar.value_type(), Node::Static(*scalar).value_type()), (*kind, *kind));
+        assert_same!(&rt; scalar.value_type(), *kind);
+        assert_same!(&rt; Node::Static(*scalar).value_type(), *kind);
         assert_same!(&rt; kind.to_string(rt.alloc())?.as_str(), *name);
     }
     Ok(())
@@ -560,7 +561,8 @@ fn the_first_value_with_a_key_is_asked(rt: HostRuntime) -> Tested {
         assert_that!(&rt; first.eq_u64(1));
         assert_same!(&rt; value.get_u8("a"), Some(1));
         assert_that!(&rt; value.get_array("a").is_none());
-        assert_same!(&rt; keyed_array_len(value.try_get_array("a")), own(ValueType::Array, ValueType::U64, None));
+        let other = own(ValueType::Array, ValueType::U64, None);
+        assert_same!(&rt; keyed_array_len(value.try_get_array("a")), other);
     }
     Ok(())
 }
@@ -574,11 +576,13 @@ fn missing_members_are_told_from_other_kinds(rt: HostRuntime) -> Tested {
     assert_same!(&rt; (object.get_str("c"), object.try_get_str("c")), (None, Ok(None)));
     assert_same!(&rt; is_there(object.try_get("c")), Ok(false));
     assert_same!(&rt; is_there(object.try_get("a")), Ok(true));
-    assert_same!(&rt; is_there(object.try_get_idx(0)), own(ValueType::Array, ValueType::Object, false));
+    let no_array = own(ValueType::Array, ValueType::Object, false);
+    assert_same!(&rt; is_there(object.try_get_idx(0)), no_array);
     let array = object.get("b").expect(&rt, "it is there");
     assert_same!(&rt; is_there(array.try_get_idx(1)), Ok(false));
     assert_same!(&rt; is_there(array.try_get_idx(0)), Ok(true));
-    assert_same!(&rt; is_there(array.try_get("a")), own(ValueType::Object, ValueType::Array, false));
+    let no_object = own(ValueType::Object, ValueType::Array, false);
+    assert_same!(&rt; is_there(array.try_get("a")), no_object);
     assert_same!(&rt; array.try_get_bool("a"), own(ValueType::Object, ValueType::Array, None));
     Ok(())
 }

@@ -18,8 +18,8 @@ mod service {
     use simd_json::{Buffers, Tape, refill_tape, reserve};
     use std::io::BufRead;
 
-    // Reads a log of one document a line, each of at most 4,096 bytes with its line feed, and returns how
-    // many nodes they have in all.
+    // Reads a log of one document a line, each of at most 4,096 bytes with its line feed, and
+    // returns how many nodes they have in all.
     pub(super) fn read_log(rt: &HostRuntime, log: &mut impl BufRead) -> Result<usize> {
         let mut line = Vec::with_capacity(rt.alloc(), 4096)?;
         let mut buffers = Buffers::new(rt.alloc(), 0)?;

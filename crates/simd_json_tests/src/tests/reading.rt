@@ -38,9 +38,21 @@ mod members {
     }
 }
 
+mod errors {
+    use simd_json::{Location, to_tape};
+
+    pub(super) fn line_of_error(rt: &impl AllocGlobal) -> Option<usize> {
+        let input = *b"[1,\n2,]";
+        let mut parsed = input;
+        let error = to_tape(rt.alloc(), &mut parsed).err()?;
+        Some(Location::new(&input, error).line())
+    }
+}
+
 #[test]
 fn documents_are_read_as_shown(rt: HostRuntime) {
     assert_same!(&rt; root::sizes(&rt), Ok(3));
+    assert_same!(&rt; errors::line_of_error(&rt), Some(2));
     let mut input = *b"[1,[],[[]],{\"a\":[]}]";
     let tape = tape_of(&rt, &mut input);
     assert_same!(&rt; members::arrays_in(tape.as_value()), 2);

@@ -1,38 +1,6 @@
-use Rattle.std.proofs.Common.{sym, ◌∙◌, ap, subst}
-use Rattle.std.specs.Prelude.{option_and_then}
-use Rattle.simd_json_parts.specs.Views.{as_str}
-use Rattle.simd_json_ondemand.specs.Docs.{doc}
-use Rattle.simd_json_ondemand.specs.IteratedMembers.{members_left}
-use Rattle.simd_json_ondemand.specs.Keys.{from_key, is_key}
-use Rattle.simd_json_ondemand.specs.Within.{IsInObject}
-use Rattle.simd_json_ondemand.proofs.Lookup.{from-none, from-here, from-later}
+use Rattle.simd_json_ondemand.proofs.Lookup.{round-left}
 use Rattle.simd_json_ondemand.proofs.object.Object.find.Goals as goal
 
-pub returns-then-is_key-clause-found : goal.returns-then-is_key-clause-found
-returns-then-is_key-clause-found c =
-    let key = c.args.key.now in
-    c.loop-name.invariant.1 ∙ ap (from_key key) c.in-Some.ensures.steps
-    ∙ from-here key (doc c.in-Some.name) (doc c.in-Some.value) (members_left c.next_member.new.self)
-    (ap (λ k. is_key k (option_and_then as_str (doc c.in-Some.name))) (sym c.new-wanted.ensures) ∙ sym c.is_key.ensures ∙ c.if-is_key.true)
-
-pub loop-name-preserved : goal.loop-name-preserved
-loop-name-preserved c =
-    let key = c.args.key.now in (
-      c.loop-name.invariant.0,
-      c.loop-name.invariant.1 ∙ ap (from_key key) c.in-Some.ensures.steps
-          ∙ from-later key (doc c.in-Some.name) (doc c.in-Some.value) (members_left c.next_member.new.self)
-          (ap (λ k. is_key k (option_and_then as_str (doc c.in-Some.name))) (sym c.new-wanted.ensures)
-          ∙ sym c.is_key.ensures ∙ c.if-is_key.false),
-      λ v h. c.in-Some.ensures.inside v (c.loop-name.invariant.2 v h),
-    )
-
-pub returns-clause-found : goal.returns-clause-found
-returns-clause-found c =
-    let key = c.args.key.now in
-    (c.loop-name.invariant.1 ∙ ap (from_key key) c.in_default.ensures.steps.0 ∙ from-none key, c.loop-name.invariant.0)
-
-pub returns-then-is_key-clause-inside : goal.returns-then-is_key-clause-inside
-returns-then-is_key-clause-inside c = λ v h. c.in-Some.ensures.inside v (c.loop-name.invariant.2 v h)
-
-pub returns-clause-inside : goal.returns-clause-inside
-returns-clause-inside c = λ v h. subst (IsInObject v) (sym c.loop-name.invariant.0) h
+pub returns-in-Some-clause-found : goal.returns-in-Some-clause-found
+returns-in-Some-clause-found c =
+    round-left c.new-wanted.result.key.now c.args.key.now _ _ _ _ c.new-wanted.ensures c.in-Some.ensures.found

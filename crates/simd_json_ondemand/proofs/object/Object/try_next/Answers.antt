@@ -7,8 +7,8 @@ use Rattle.simd_json_ondemand.specs.declared.array.Position.TheVariants.{AtValue
 use Rattle.simd_json_ondemand.proofs.Turns.{member-comes, members-end, members-stop}
 use Rattle.simd_json_ondemand.proofs.object.Object.try_next.Goals as goal
 
-pub returns-in-Ok-Some : goal.returns-in-Ok-Some
-returns-in-Ok-Some c =
+pub returns-in-Ok-Some-clause-steps : goal.returns-in-Ok-Some-clause-steps
+returns-in-Ok-Some-clause-steps c =
     let o = c.args.self.now in
     let b = o.document.input.now in
     let is = o.document.indexes.now in
@@ -21,8 +21,8 @@ returns-in-Ok-Some c =
     ∙ ap (λ js. came (read_along b (drop (at - 2) is), read_along b js) (members_walk b AtValue js))
     (drop-drop 2 (at - 2) is ∙ ap (λ k. drop k is) there)
 
-pub returns-in-Ok-None : goal.returns-in-Ok-None
-returns-in-Ok-None c =
+pub returns-in-Ok-None-clause-steps : goal.returns-in-Ok-None-clause-steps
+returns-in-Ok-None-clause-steps c =
     let o = c.args.self.now in
     let is = o.document.indexes.now in (
       members-end o.document.input.now o.position (drop o.at is)
@@ -30,7 +30,7 @@ returns-in-Ok-None c =
       refl,
     )
 
-pub returns-in-Err : goal.returns-in-Err
-returns-in-Err c =
+pub returns-in-Err-clause-steps : goal.returns-in-Err-clause-steps
+returns-in-Err-clause-steps c =
     let o = c.args.self.now in
     (members-stop o.document.input.now o.position (drop o.at o.document.indexes.now) c.in-Err.e (sym c.in-Err.ensures.member), refl)

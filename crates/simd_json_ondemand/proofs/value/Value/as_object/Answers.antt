@@ -39,4 +39,6 @@ returns-clause-inside c = λ d h.
     let is = v.document.indexes.now in
     let e = sym c.first.ensures ∙ c.if-first-ne123.false in
     let object = within b is v.at v.inside d h e in
-    record { left = members object.held; here = object.inside; ends = open-ends b is v.at 123 v.inside e refl }
+    let ends = open-ends b is v.at 123 v.inside e refl in
+    let held = members object.held in
+    record { left = held; here = object.inside; ends = ends; all = held; begins = object.inside; closes = ends }

@@ -1,13 +1,14 @@
 use Rattle.std.proofs.Common.{sym, ◌∙◌, ap}
 use Rattle.std.specs.Result.{result_ok}
-use Rattle.simd_json_ondemand.specs.Walked.{first_with}
+use Rattle.simd_json_ondemand.specs.Walked.{first_with, members_ahead}
 use Rattle.simd_json_ondemand.proofs.WalkViews.{found-with, stopped-with, get-found}
 use Rattle.simd_json_ondemand.proofs.value.Value.try_get.Goals as goal
 
 pub returns-in-Ok-clause-document : goal.returns-in-Ok-clause-document
 returns-in-Ok-clause-document c = λ d h.
     let key = c.args.key.now in
-    ap result_ok (found-with key c.try_find.result _ _ _ c.try_find.ensures ∙ ap (first_with key) (sym c.in-Ok.ensures.walk))
+    ap result_ok (found-with c.new.result.key.now c.try_find_left.result _ _ _ c.try_find_left.ensures.found
+    ∙ ap (λ k. first_with k (members_ahead c.in-Ok.members)) c.new.ensures ∙ ap (first_with key) (sym c.in-Ok.ensures.walk))
     ∙ get-found key c.args.self d h
 
 pub returns-in-Err-clause-walk : goal.returns-in-Err-clause-walk

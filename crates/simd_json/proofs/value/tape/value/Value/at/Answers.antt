@@ -11,7 +11,8 @@ use Rattle.simd_json.proofs.value.tape.value.Value.at.Goals as goal
 pub range-token-requires-clause-start_le_end : goal.range-token-requires-clause-start_le_end
 range-token-requires-clause-start_le_end g c =
     let l = c.loop-end in
-    let next = kept-next c.as_str-text.result.now l.at l.end-index c.ends-ends.result.now l.invariant.begins (omega arith) l.invariant.split in
+    let p = c.as_str-text.result.now in
+    let next = kept-next p l.at l.end-index c.ends-ends.result.now l.invariant.begins (omega arith) l.invariant.split in
     omega (arith, next.at.within)
 
 pub range-token-requires-clause-start_boundary : goal.range-token-requires-clause-start_boundary

@@ -1,0 +1,140 @@
+use Rattle.std.proofs.Common.{◌≡◌, ◌∙◌, ◌++◌, ◌||◌, ap, arith, inl, inr, rules, subst, sym, take, true, List, ℕ}
+use Rattle.std.proofs.KnownBytes.{Consumes-kept, Consumes-trans}
+use Rattle.std.proofs.lemmas.Result.{err_from_is_err_and}
+use Rattle.std.specs.Io.KnownBytes.{Appends}
+use Rattle.std.specs.List.{list_all}
+use Rattle.jcheck.proofs.Streams.{all-clean, all-written, left-off, line-bound, none-read, stopped-last, unread-sound}
+use Rattle.jcheck.proofs.lines.check_lines.Goals as goal
+use Rattle.jcheck.specs.Reports.{is_clean_line, lines_text}
+use Rattle.jcheck.specs.Streams.{AreDone}
+use Rattle.jcheck.specs.Writings.{HasLeftOff, HasStopped}
+use Rattle.jtape.specs.Pieces.{pieces}
+
+pub returns-in_err-count-clause-stopped : goal.returns-in_err-count-clause-stopped
+returns-in_err-count-clause-stopped g c =
+    let p = err_from_is_err_and c.from_residual.result c.from_residual.ensures.1 in
+    let had = c.loop-lines.invariant.read in
+    let unread : c.read.new.self.failed ≡ true =
+    c.in_err-count.ensures.failed ∙ ap (λ t. t || true) c.loop-lines.invariant.reader in
+    rw p.1 (
+      had.0,
+      Consumes-kept _ _ _ had.0 had.1 c.in_err-count.ensures.bytes,
+      subst (λ f. HasLeftOff p.0 c.read.new.self.failed c.loop-lines.out.failed (g.W.Write.contents c.args.out.now.inner)
+          (g.W.Write.contents c.loop-lines.out.inner) (lines_text f c.args.width c.args.checker.now.depth 1 0 (pieces had.0)))
+          c.loop-lines.invariant.file
+          (left-off had.2 p.0 c.read.new.self.failed c.loop-lines.out.failed (inl (unread, c.loop-lines.invariant.out))),
+    )
+
+pub check_pieces-requires-clause-line : goal.check_pieces-requires-clause-line
+check_pieces-requires-clause-line g c =
+    omega (arith, line-bound c.loop-lines.invariant.read.2, c.loop-lines-test.true, c.as_slice.ensures.len)
+
+pub returns-in_err-last-clause-stopped : goal.returns-in_err-last-clause-stopped
+returns-in_err-last-clause-stopped g c =
+    let p = err_from_is_err_and c.from_residual-in_err-last.result c.from_residual-in_err-last.ensures.1 in
+    let had = c.loop-lines.invariant.read in
+    let lines = c.loop-lines.lines in
+    let port = c.check_pieces.new.out in
+    let start = g.W.Write.contents c.args.out.now.inner in
+    let held = g.W.Write.contents c.loop-lines.out.inner in
+    let holds = g.W.Write.contents port.inner in
+    let width = c.args.width in
+    let limit = c.args.checker.now.depth in
+    let text_of : ℕ → List ℕ → List ℕ =
+    λ n b. lines_text lines.place.file.now width n lines.place.line lines.place.byte (pieces b) in
+    let same = ap (text_of c.loop-lines.checker.depth) c.as_slice.ensures.value
+    ∙ ap (λ n. text_of n lines.begun.items) c.loop-lines.invariant.depth in
+    let stopped =
+    subst (λ e. HasStopped e port.failed held holds (text_of limit lines.begun.items)) (sym p.2)
+    (subst (HasStopped _ port.failed held holds) same c.in_err-last.ensures.stopped) in
+    rw p.1 (
+      had.0,
+      none-read _ _ _ c.in_ok-count.count had.0 c.read.new.buf had.1 c.in_ok-count.ensures.bytes.0 c.if-count-eq0.true,
+      unread-sound (search rules) (subst (λ f. HasStopped p.0 port.failed start holds (lines_text f width limit 1 0 (pieces had.0)))
+          c.loop-lines.invariant.file (stopped-last had.2 p.0 port.failed stopped)),
+    )
+
+pub returns-then-count-eq0-clause-checked : goal.returns-then-count-eq0-clause-checked
+returns-then-count-eq0-clause-checked g c =
+    let had = c.loop-lines.invariant.read in
+    let lines = c.loop-lines.lines in
+    let port = c.check_pieces.new.out in
+    let start = g.W.Write.contents c.args.out.now.inner in
+    let held = g.W.Write.contents c.loop-lines.out.inner in
+    let holds = g.W.Write.contents port.inner in
+    let width = c.args.width in
+    let limit = c.args.checker.now.depth in
+    let text_of : ℕ → List ℕ → List ℕ =
+    λ n b. lines_text lines.place.file.now width n lines.place.line lines.place.byte (pieces b) in
+    let same = ap (text_of c.loop-lines.checker.depth) c.as_slice.ensures.value
+    ∙ ap (λ n. text_of n lines.begun.items) c.loop-lines.invariant.depth in
+    let clean = ap (λ b. list_all (is_clean_line c.loop-lines.checker.depth) (pieces b)) c.as_slice.ensures.value
+    ∙ ap (λ n. list_all (is_clean_line n) (pieces lines.begun.items)) c.loop-lines.invariant.depth in
+    let found = c.in_ok-last.ensures in (
+      had.0,
+      record {
+        given = none-read _ _ _ c.in_ok-count.count had.0 c.read.new.buf had.1 c.in_ok-count.ensures.bytes.0 c.if-count-eq0.true;
+        end = search rules;
+      },
+      subst (λ f. Appends start holds (lines_text f width limit 1 0 (pieces had.0))) c.loop-lines.invariant.file
+          (all-written had.2 holds (subst (Appends held holds) same found.written.1)),
+      all-clean had.2 (found.clean.0 ∙ clean),
+    )
+
+pub take-requires-clause-line : goal.take-requires-clause-line
+take-requires-clause-line g c = line-bound c.loop-lines.invariant.read.2
+
+pub loop-lines-preserved : goal.loop-lines-preserved
+loop-lines-preserved g c =
+    let had = c.loop-lines.invariant.read in
+    let more = take c.in_ok-count.count c.read.new.buf in
+    let taken = c.in_ok-take.ensures.taken in
+    let width = c.args.width in
+    let start = g.W.Write.contents c.args.out.now.inner in
+    record {
+      file = taken.1.0 ∙ c.loop-lines.invariant.file;
+      depth = c.in_ok-take.ensures.depth ∙ c.loop-lines.invariant.depth;
+      reader = search rules;
+      out = taken.0;
+      read = (
+        had.0 ++ more,
+        Consumes-trans _ _ _ had.0 more had.1 c.in_ok-count.ensures.bytes.0,
+        subst (λ n. AreDone width n c.take.new.self (had.0 ++ more) start (g.W.Write.contents c.take.new.out.inner))
+            c.loop-lines.invariant.depth
+            (taken.1.1 had.0 start (subst (λ n. AreDone width n c.loop-lines.lines had.0 start (g.W.Write.contents c.loop-lines.out.inner))
+            (sym c.loop-lines.invariant.depth) had.2)),
+      );
+    }
+
+pub returns-in_err-take-clause-stopped : goal.returns-in_err-take-clause-stopped
+returns-in_err-take-clause-stopped g c =
+    let p = err_from_is_err_and c.from_residual-in_err-take.result c.from_residual-in_err-take.ensures.1 in
+    let had = c.loop-lines.invariant.read in
+    let more = take c.in_ok-count.count c.read.new.buf in
+    let lines = c.loop-lines.lines in
+    let port = c.take.new.out in
+    let width = c.args.width in
+    let limit = c.args.checker.now.depth in
+    let start = g.W.Write.contents c.args.out.now.inner in
+    let held = g.W.Write.contents c.loop-lines.out.inner in
+    let holds = g.W.Write.contents port.inner in
+    let before = subst (λ n. AreDone width n lines had.0 start held) (sym c.loop-lines.invariant.depth) had.2 in
+    let text = lines_text c.args.file.now width limit 1 0 (pieces (had.0 ++ more)) in
+    let same = ap (λ f. lines_text f width c.loop-lines.checker.depth 1 0 (pieces (had.0 ++ more))) c.loop-lines.invariant.file
+    ∙ ap (λ n. lines_text c.args.file.now width n 1 0 (pieces (had.0 ++ more))) c.loop-lines.invariant.depth in
+    let stopped : HasStopped p.0 port.failed start holds text =
+    subst (λ e. HasStopped e port.failed start holds text) (sym p.2)
+    (subst (HasStopped _ port.failed start holds) same (c.in_err-take.ensures.stopped had.0 start before)) in
+    rw p.1 (had.0 ++ more, Consumes-trans _ _ _ had.0 more had.1 c.in_ok-count.ensures.bytes.0, unread-sound (search rules) stopped)
+
+pub returns-clause-stopped : goal.returns-clause-stopped
+returns-clause-stopped g c =
+    let had = c.loop-lines.invariant.read in (
+      had.0,
+      had.1,
+      subst (λ f. HasLeftOff c.from.result c.loop-lines.reader.failed c.loop-lines.out.failed (g.W.Write.contents c.args.out.now.inner)
+          (g.W.Write.contents c.loop-lines.out.inner) (lines_text f c.args.width c.args.checker.now.depth 1 0 (pieces had.0)))
+          c.loop-lines.invariant.file
+          (left-off had.2 c.from.result c.loop-lines.reader.failed c.loop-lines.out.failed
+          (inr (c.loop-lines.invariant.reader, inr (c.loop-lines.invariant.out, c.from.ensures)))),
+    )

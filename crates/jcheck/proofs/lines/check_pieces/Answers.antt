@@ -1,0 +1,47 @@
+use Rattle.std.proofs.Common.{ap, refl, rules}
+use Rattle.std.specs.Prelude.{Some}
+use Rattle.std.proofs.lemmas.Result.{err_from_is_err_and}
+use Rattle.jcheck.proofs.Written.{all-written, failed-written, part-written, port}
+use Rattle.simd_json_print.proofs.Texts.{sound-text}
+use Rattle.jcheck.proofs.lines.check_pieces.Goals as goal
+use Rattle.jcheck.specs.Reports.{lines_text}
+use Rattle.jtape.specs.Pieces.{pieces}
+
+pub returns-in_err-finish-clause-stopped : goal.returns-in_err-finish-clause-stopped
+returns-in_err-finish-clause-stopped g c =
+    let p = err_from_is_err_and c.from_residual.result c.from_residual.ensures.1 in
+    let whole =
+    lines_text c.args.start.file.now c.args.width c.args.checker.now.depth c.args.start.line c.args.start.byte (pieces c.args.input.now) in
+    let put = c.put_lines-put.ensures in
+    let stopped =
+    failed-written c.finish.result {old = c.args.out.now.failed} _ _ c.put_lines-put.result whole p.0 (search rules)
+    c.new-text.ensures.empty put.put put.stopped c.finish.ensures in
+    rw p.1 (search rules)
+
+pub returns-in_err-put-clause-stopped : goal.returns-in_err-put-clause-stopped
+returns-in_err-put-clause-stopped g c =
+    let p = err_from_is_err_and c.from_residual-in_err-put.result c.from_residual-in_err-put.ensures.1 in
+    let whole =
+    lines_text c.args.start.file.now c.args.width c.args.checker.now.depth c.args.start.line c.args.start.byte (pieces c.args.input.now) in
+    let stopped =
+    part-written c.finish.result {old = c.args.out.now.failed} _ _ whole p.0 p.2 (search rules) c.requires.sound
+    c.new-text.ensures.empty c.in_err-put.ensures.stopped c.finish.ensures in
+    rw p.1 (search rules)
+
+pub returns-clause-clean : goal.returns-clause-clean
+returns-clause-clean g c =
+    let start = port (g.W.Write.contents c.args.out.now.inner) c.args.out.now.failed in
+    let whole =
+    lines_text c.args.start.file.now c.args.width c.args.checker.now.depth c.args.start.line c.args.start.byte (pieces c.args.input.now) in
+    let put = c.in_ok-put.ensures in
+    put.clean (sound-text _ c.finish.result start _ _ whole _ refl (search rules) (ap Some c.requires.sound)
+    (put.put.given start _ c.new-text.ensures.empty) c.finish.ensures)
+
+pub returns-clause-written : goal.returns-clause-written
+returns-clause-written g c =
+    let whole =
+    lines_text c.args.start.file.now c.args.width c.args.checker.now.depth c.args.start.line c.args.start.byte (pieces c.args.input.now) in
+    let written =
+    all-written c.finish.result {old = c.args.out.now.failed} _ _ whole (search rules) c.requires.sound c.new-text.ensures.empty
+    c.in_ok-put.ensures.put c.finish.ensures in
+    search rules

@@ -1,0 +1,148 @@
+// What the tests of documents and of lines share: how an input is read, and what is written.
+ghost use Rattle.std.specs.Prelude.{◌≡◌, false};
+
+use crate::checker::Checker;
+use crate::lines::check_lines;
+use crate::report::check_document;
+use jtape::Channel;
+use std::io::{self, ErrorKind, Read, Write};
+use std::process::Abort;
+use std::test::Fail;
+
+// Gives its bytes a few at a time, and then ends or fails.
+#[derive(Drop)]
+pub(crate) struct Blocks<'a> {
+    rest: &'a [u8],
+    size: usize,
+    fails: bool,
+}
+
+impl Read for Blocks<'_> {
+    fn read(&mut self, buf: &mut [u8]) -> io::Result<usize> {
+        let count = self.rest.len().min(self.size).min(buf.len());
+        if count == 0 && self.fails {
+            return Err(io::Error::from(ErrorKind::ConnectionReset));
+        }
+        let (block, rest) = self.rest.split_at(count);
+        buf[..count].copy_from_slice(block);
+        self.rest = rest;
+        Ok(count)
+    }
+}
+
+pub(crate) fn in_blocks(rest: &[u8], size: usize, fails: bool) -> Channel<Blocks<'_>>
+    ensures { result.failed ≡ false }
+{
+    Channel::new(Blocks { rest, size, fails })
+}
+
+// Of an error the place, the reason and the kind, the text of its line, and the caret.
+pub(crate) type Report = [&'static str; 5];
+
+pub(crate) const BLANK: &str = "expected a value, found only whitespace";
+
+pub(crate) const MORE: &str = "more text after the document";
+
+pub(crate) const OPEN: &str = "the string that begins here has no end";
+
+pub(crate) const VALUE: &str = "expected a value, found `x`";
+
+pub(crate) fn text_of(rt: &impl AllocGlobal, reports: &[Report]) -> Result<String, Fail> {
+    let mut text = String::new(rt.alloc());
+    for [place, reason, kind, line, caret] in reports {
+        writeln!(text, "{place}: {reason} [{kind}]")?;
+        writeln!(text, "{line}")?;
+        writeln!(text, "{caret}")?;
+    }
+    Ok(text)
+}
+
+// How an input is read: as one document, or as lines in blocks of this size.
+#[derive(Clone, Copy)]
+pub(crate) enum Form {
+    Document,
+    Lines(usize),
+}
+
+fn check<W: Write>(
+    rt: &impl AllocGlobal,
+    out: &mut Channel<W>,
+    input: &[u8],
+    form: Form,
+    width: usize,
+) -> io::Result<bool>
+    requires { out.old.failed ≡ false }
+{
+    let mut checker = Checker::new(rt.alloc(), 4)?;
+    match form {
+        Form::Document => check_document(&mut checker, out, "f", input, width),
+        Form::Lines(size) => {
+            let mut reader = in_blocks(input, size, false);
+            check_lines(&mut checker, &mut reader, out, "f", width)
+        }
+    }
+}
+
+// The reports on an input are written; it is clean where there are none.
+pub(crate) fn assert_written(
+    rt: &(impl AllocGlobal + Abort),
+    input: &[u8],
+    reports: &[Report],
+    form: Form,
+    width: usize,
+) -> Result<(), Fail> {
+    let mut out = Channel::new(Vec::new(rt.alloc()));
+    let clean = check(rt, &mut out, input, form, width)?;
+    let text = text_of(rt, reports)?;
+    assert_eq!(rt;
+        String::from_utf8(out.into_inner())?.as_str(),
+        text.as_str()
+    );
+    assert_eq!(rt; clean, reports.is_empty(), "{text}");
+    Ok(())
+}
+
+// Takes some bytes, and then fails.
+#[derive(Drop)]
+struct Short {
+    taken: Vec<u8>,
+    room: usize,
+}
+
+impl Write for Short {
+    fn write(&mut self, buf: &[u8]) -> io::Result<usize> {
+        if self.room == 0 {
+            return Err(io::Error::from(ErrorKind::StorageFull));
+        }
+        let piece = &buf[..buf.len().min(self.room)];
+        self.taken.extend_from_slice(piece)?;
+        self.room -= piece.len();
+        Ok(piece.len())
+    }
+
+    fn flush(&mut self) -> io::Result<()> {
+        Ok(())
+    }
+}
+
+// A writer that is full at each byte of the reports in turn: its error is returned, and it has taken
+// all that it had room for.
+pub(crate) fn assert_stopped(
+    rt: &(impl AllocGlobal + Abort),
+    input: &[u8],
+    reports: &[Report],
+    form: Form,
+) -> Result<(), Fail> {
+    let text = text_of(rt, reports)?;
+    for room in 0..text.len() {
+        let taken = Vec::new(rt.alloc());
+        let mut out = Channel::new(Short { taken, room });
+        let kind = check(rt, &mut out, input, form, 80).map_err(|e| e.kind());
+        assert_eq!(rt; kind, Err(ErrorKind::StorageFull));
+        assert_eq!(rt;
+            Some(out.into_inner().taken.as_slice()),
+            text.as_bytes().get(..room)
+        );
+    }
+    Ok(())
+}

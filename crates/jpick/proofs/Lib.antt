@@ -1,0 +1,7 @@
+mod Answered
+mod Appended
+mod Begun
+mod Ended
+mod Feeds
+mod Shown
+mod Written

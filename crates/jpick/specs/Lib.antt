@@ -1,0 +1,4 @@
+pub mod Failures
+pub mod Picked
+pub mod Rows
+pub mod Runs

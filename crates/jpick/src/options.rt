@@ -1,0 +1,254 @@
+//! What the program's arguments ask for.
+ghost use Rattle.std.specs.Prelude.{◌≢◌, []};
+
+use crate::fields::{Filter, Layout, Wanted};
+use bumpalo::Bump;
+use clap::{Arg, ArgAction, ArgMatches, Command, Error, value_parser};
+use simd_json::tape::Value;
+use simd_json::{DEFAULT_MAX_DEPTH, ErrorType, Pointer, Tape, to_tape};
+use std::alloc::{AllocError, AllocFailed, Global};
+
+const STANDARD_INPUT: &str = "-";
+
+// How many bytes a line may have, if no option says so.
+const LONGEST: u32 = 65_536;
+
+const POINTER_HELP: &str = "JSON Pointers (RFC 6901) to the values, such as /user/name";
+
+const FILE_HELP: &str = "Files to read; standard input where there is none, or for -";
+
+const RAW_HELP: &str = "Print a string as its text, without quotes and escapes";
+
+const TSV_HELP: &str = "Print rows of tab separated text, with escapes as jq's @tsv";
+
+const CSV_HELP: &str = "Print rows of comma separated text, quoted as jq's @csv";
+
+const JSON_HELP: &str = "Print each row as a JSON array";
+
+const ALL_HELP: &str = "Leave out a line where a POINTER has no value";
+
+const WHERE_HELP: &str = "Only lines where the value at POINTER is JSON";
+
+const WHERE_NOT_HELP: &str = "Only lines where the value at POINTER is not JSON";
+
+const EXISTS_HELP: &str = "Only lines with a value at POINTER";
+
+const QUIET_HELP: &str = "Do not name rejected lines";
+
+const LIMIT_HELP: &str = "How many bytes a line may have [default: 65536]";
+
+/// What the arguments ask for.
+#[derive(Drop)]
+pub struct Options<'a> {
+    pointers: Vec<&'a str>,
+    filters: Vec<Filter<'a>>,
+    layout: Layout,
+    is_raw: bool,
+    needs_all: bool,
+    is_quiet: bool,
+    longest: u32,
+    files: Vec<&'a str>,
+}
+
+impl<'a> Options<'a> {
+    /// What is picked of each line.
+    pub fn wanted(&self) -> Wanted<'_> {
+        Wanted {
+            pointers: self.pointers.as_slice(),
+            filters: self.filters.as_slice(),
+            layout: self.layout,
+            is_raw: self.is_raw,
+            needs_all: self.needs_all,
+            is_quiet: self.is_quiet,
+            longest: self.longest as usize,
+        }
+    }
+
+    /// The names of the files, of which there is at least one.
+    pub fn files(&self) -> &[&'a str] {
+        self.files.as_slice()
+    }
+}
+
+/// Why there are no options.
+#[derive(Drop)]
+pub enum Unasked<'a> {
+    /// The text of `--help` or `--version`, or what is not understood.
+    Text(Error),
+    /// A text that is not a JSON Pointer.
+    NoPointer(&'a str),
+    /// A condition that is not a JSON Pointer, `=` and a JSON text.
+    NoCondition(&'a str),
+    /// An allocation failed.
+    Memory,
+}
+
+impl From<AllocError> for Unasked<'_> {
+    fn from(_: AllocError) -> Self {
+        Unasked::Memory
+    }
+}
+
+impl<T: Drop> From<AllocFailed<T>> for Unasked<'_> {
+    fn from(_: AllocFailed<T>) -> Self {
+        Unasked::Memory
+    }
+}
+
+impl From<Error> for Unasked<'_> {
+    fn from(error: Error) -> Self {
+        Unasked::Text(error)
+    }
+}
+
+/// Returns what the arguments ask for; the first word is the program's name. The values of
+/// conditions lie in the arena.
+pub fn asked<'a>(
+    alloc: Global,
+    arena: &'a Bump,
+    words: &'a [String],
+) -> Result<Options<'a>, Unasked<'a>> {
+    let matches = command(alloc)?.try_get_matches_from(words)?;
+    let mut pointers = Vec::new(alloc);
+    for pointer in matches.get_strs("pointer").unwrap_or_default() {
+        pointers.push(pointer_named(*pointer)?)?;
+    }
+    let mut files = Vec::new(alloc);
+    match matches.get_strs("file") {
+        Some(names) => files.extend_from_slice(names)?,
+        None => files.push(STANDARD_INPUT)?,
+    }
+    Ok(Options {
+        pointers,
+        filters: filters(alloc, arena, &matches)?,
+        layout: layout(&matches),
+        is_raw: matches.get_flag("raw"),
+        needs_all: matches.get_flag("all"),
+        is_quiet: matches.get_flag("quiet"),
+        longest: matches.get_one::<u32>("limit").unwrap_or(LONGEST),
+        files,
+    })
+}
+
+fn layout(matches: &ArgMatches<'_>) -> Layout {
+    if matches.get_flag("tsv") {
+        Layout::Tsv
+    } else if matches.get_flag("csv") {
+        Layout::Csv
+    } else if matches.get_flag("json") {
+        Layout::Json
+    } else {
+        Layout::Tabs
+    }
+}
+
+fn filters<'a>(
+    alloc: Global,
+    arena: &'a Bump,
+    matches: &ArgMatches<'a>,
+) -> Result<Vec<Filter<'a>>, Unasked<'a>> {
+    let mut filters = Vec::new(alloc);
+    for condition in matches.get_strs("where").unwrap_or_default() {
+        let (pointer, value) = condition_named(alloc, arena, *condition)?;
+        filters.push(Filter::Is(pointer, value))?;
+    }
+    for condition in matches.get_strs("where-not").unwrap_or_default() {
+        let (pointer, value) = condition_named(alloc, arena, *condition)?;
+        filters.push(Filter::IsNot(pointer, value))?;
+    }
+    for pointer in matches.get_strs("exists").unwrap_or_default() {
+        filters.push(Filter::Exists(pointer_named(*pointer)?))?;
+    }
+    Ok(filters)
+}
+
+// The word, if it is a JSON Pointer. One of more tokens than containers may be open leads nowhere.
+fn pointer_named(word: &str) -> Result<&str, Unasked<'_>> {
+    match Pointer::<DEFAULT_MAX_DEPTH>::new(word) {
+        Some(_) => Ok(word),
+        None => Err(Unasked::NoPointer(word)),
+    }
+}
+
+// The pointer before the first `=`, and the value of the JSON text after it.
+fn condition_named<'a>(
+    alloc: Global,
+    arena: &'a Bump,
+    condition: &'a str,
+) -> Result<(&'a str, Value<'a, 'a>), Unasked<'a>> {
+    let Some((pointer, json)) = condition.split_once('=') else {
+        return Err(Unasked::NoCondition(condition));
+    };
+    let pointer = pointer_named(pointer)?;
+    let tape = match to_tape(alloc, arena.try_alloc_slice_copy(json.as_bytes())?) {
+        Ok(tape) => tape,
+        Err(e) if *e.error() == ErrorType::OutOfMemory => return Err(Unasked::Memory),
+        Err(_) => return Err(Unasked::NoCondition(condition)),
+    };
+    Ok((pointer, value_in(arena, tape)?))
+}
+
+// The value of a tape that lives as long as the arena.
+fn value_in<'a>(arena: &'a Bump, tape: Tape<'a>) -> Result<Value<'a, 'a>, AllocError>
+    requires { tape.nodes ≢ [] }
+{
+    let tape: &'a Tape<'a> = arena.try_alloc(tape)?;
+    Ok(tape.as_value())
+}
+
+fn flag<'a>(alloc: Global, name: &'a str, help: &'a str) -> Arg<'a> {
+    Arg::new(alloc, name)
+        .long(name)
+        .action(ArgAction::SetTrue)
+        .help(help)
+}
+
+fn condition<'a>(alloc: Global, name: &'a str, value: &'a str, help: &'a str) -> Arg<'a> {
+    Arg::new(alloc, name)
+        .long(name)
+        .value_name(value)
+        .action(ArgAction::Append)
+        .allow_hyphen_values(true)
+        .help(help)
+}
+
+fn command<'a>(alloc: Global) -> Result<Command<'a>, Error> {
+    let pointers = Arg::new(alloc, "pointer")
+        .value_name("POINTER")
+        .action(ArgAction::Append)
+        .num_args(1..)
+        .required(true)
+        .help(POINTER_HELP);
+    let files = Arg::new(alloc, "file")
+        .value_name("FILE")
+        .action(ArgAction::Append)
+        .num_args(0..)
+        .last(true)
+        .help(FILE_HELP);
+    let limit = Arg::new(alloc, "limit")
+        .long("longest")
+        .value_name("BYTES")
+        .value_parser(value_parser!(u32))
+        .help(LIMIT_HELP);
+    Ok(
+        Command::new(alloc, "jpick")
+            .version("0.2.0")
+            .about("Prints the values at JSON Pointers in each line of JSON Lines")
+            .arg(flag(alloc, "raw", RAW_HELP).short('r'))?
+            .arg(
+                flag(alloc, "tsv", TSV_HELP)
+                    .conflicts_with("csv")?
+                    .conflicts_with("json")?,
+            )?
+            .arg(flag(alloc, "csv", CSV_HELP).conflicts_with("json")?)?
+            .arg(flag(alloc, "json", JSON_HELP))?
+            .arg(flag(alloc, "all", ALL_HELP))?
+            .arg(condition(alloc, "where", "POINTER=JSON", WHERE_HELP))?
+            .arg(condition(alloc, "where-not", "POINTER=JSON", WHERE_NOT_HELP))?
+            .arg(condition(alloc, "exists", "POINTER", EXISTS_HELP))?
+            .arg(flag(alloc, "quiet", QUIET_HELP).short('q'))?
+            .arg(limit)?
+            .arg(pointers)?
+            .arg(files)?,
+    )
+}

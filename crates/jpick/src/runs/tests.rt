@@ -1,0 +1,425 @@
+//! Runs over lines, blocks and failures.
+ghost use Rattle.std.specs.Prelude.{◌≡◌, false};
+
+use super::*;
+use crate::fields::{Filter, Layout};
+use linked_list_allocator::LocalHeap;
+use std::alloc::Global;
+use std::io;
+use std::test::Fail;
+
+type Tested = std::result::Result<(), Fail>;
+
+// Gives its bytes a few at a time, and then ends or fails.
+#[derive(Drop)]
+struct Blocks<'a> {
+    rest: &'a [u8],
+    size: usize,
+    fails: bool,
+}
+
+impl Read for Blocks<'_> {
+    fn read(&mut self, buf: &mut [u8]) -> io::Result<usize> {
+        let count = self.rest.len().min(self.size).min(buf.len());
+        if count == 0 && self.fails && !buf.is_empty() {
+            return Err(io::Error::from(io::ErrorKind::Interrupted));
+        }
+        let (block, rest) = self.rest.split_at(count);
+        buf[..count].copy_from_slice(block);
+        self.rest = rest;
+        Ok(count)
+    }
+}
+
+// The values at `pointers` in lines of at most ten bytes.
+fn wanted<'a>(pointers: &'a [&'a str], layout: Layout) -> Wanted<'a> {
+    Wanted {
+        pointers,
+        filters: &[],
+        layout,
+        is_raw: false,
+        needs_all: false,
+        is_quiet: false,
+        longest: 10,
+    }
+}
+
+// What a run leaves.
+#[derive(Drop)]
+struct Ran {
+    result: Result<bool, Failure>,
+    rows: Vec<u8>,
+    rejections: Vec<u8>,
+}
+
+fn run_by(alloc: Global, wanted: &Wanted<'_>, size: usize, input: &[u8]) -> Ran {
+    let mut reader = Channel::new(Blocks {
+        rest: input,
+        size,
+        fails: false,
+    });
+    let mut out = Channel::new(Vec::new(alloc));
+    let mut rejections = Channel::new(Vec::new(alloc));
+    let result = run(alloc, wanted, "f", &mut reader, &mut out, &mut rejections);
+    Ran {
+        result,
+        rows: out.into_inner(),
+        rejections: rejections.into_inner(),
+    }
+}
+
+// An input, its rows, the lines that name rejected ones, and whether all lines were taken.
+type Row = (&'static [u8], &'static [u8], &'static [u8], bool);
+
+// In blocks of each size: where the blocks are cut does not matter.
+#[test]
+fn lines_are_picked_however_they_are_cut(rt: HostRuntime) {
+    let rows: [Row; 9] = [
+        (b"", b"", b"", true),
+        (b" \t\r\n\r\n", b"", b"", true),
+        (b"{\"k\":1}", b"1\n", b"", true),
+        (b"{\"k\":1}\r\n{\"k\":2}\r\n", b"1\n2\n", b"", true),
+        (b"[]\n{\"k\":\"a\"}", b"\n\"a\"\n", b"", true),
+        (
+            b"\n[1,]\n{\"k\":1}",
+            b"1\n",
+            b"f:2:4: expected a value, found `]`\n",
+            false,
+        ),
+        (
+            b"{\"k\":1234}\n{\"k\":12345}\n{\"k\":1}",
+            b"1234\n1\n",
+            b"f:2: longer than 10 bytes\n",
+            false,
+        ),
+        (
+            b"{\"k\":1}\n           \n{\"k\":123456789}",
+            b"1\n",
+            b"f:2: longer than 10 bytes\nf:3: longer than 10 bytes\n",
+            false,
+        ),
+        (
+            b"[\"\\n\x01\"]\n[\xff",
+            b"",
+            b"f:1:5: control character 1 in a string\nf:2:2: byte 255 begins no UTF-8 character\n",
+            false,
+        ),
+    ];
+    let wanted = wanted(&["/k"], Layout::Tabs);
+    for (input, picked, rejections, all_taken) in rows {
+        for size in 1..24 {
+            let ran = run_by(rt.alloc(), &wanted, size, input);
+            assert_eq!(rt; ran.result, Ok(all_taken));
+            assert_eq!(rt; ran.rows.as_slice(), picked);
+            assert_eq!(rt; ran.rejections.as_slice(), rejections);
+        }
+    }
+}
+
+// Rejected lines are not named, but the run still returns that there are any.
+#[test]
+fn quiet_runs_name_nothing(rt: HostRuntime) {
+    let mut wanted = wanted(&["/k"], Layout::Tabs);
+    wanted.is_quiet = true;
+    let ran = run_by(rt.alloc(), &wanted, 64, b"[1,]\n{\"k\":1}\n12345678901");
+    assert_eq!(rt; ran.result, Ok(false));
+    assert_eq!(rt; ran.rows.as_slice(), b"1\n".as_slice());
+    assert_eq!(rt; ran.rejections.len(), 0);
+}
+
+// The row of a document whose values are null, a truth value, numbers, strings and containers. The
+// rows of `@tsv` and `@csv` for scalars are those of jq's manual and of its program.
+#[test]
+fn rows_have_layouts(rt: HostRuntime) {
+    let input =
+        b"{\"a\":\"x\\ty\\\\\\\"\\n\\r\",\"b\":null,\"c\":true,\"d\":-1.50,\"e\":[1, \"\\\"\\n\"]}\n".as_slice();
+    let pointers = ["/a", "/b", "/c", "/d", "/e", "/f"].as_slice();
+    let rows: [(Layout, bool, &[u8]); 5] = [
+        (
+            Layout::Tabs,
+            false,
+            b"\"x\\ty\\\\\\\"\\n\\r\"\tnull\ttrue\t-1.50\t[1,\"\\\"\\n\"]\t\n",
+        ),
+        (
+            Layout::Tabs,
+            true,
+            b"x\ty\\\"\n\r\tnull\ttrue\t-1.50\t[1,\"\\\"\\n\"]\t\n",
+        ),
+        (
+            Layout::Tsv,
+            false,
+            b"x\\ty\\\\\"\\n\\r\t\ttrue\t-1.50\t[1,\"\\\\\"\\\\n\"]\t\n",
+        ),
+        (
+            Layout::Csv,
+            false,
+            b"\"x\ty\\\"\"\n\r\",,true,-1.50,\"[1,\"\"\\\"\"\\n\"\"]\",\n",
+        ),
+        (
+            Layout::Json,
+            true,
+            b"[\"x\\ty\\\\\\\"\\n\\r\",null,true,-1.50,[1,\"\\\"\\n\"],null]\n",
+        ),
+    ];
+    for (layout, is_raw, row) in rows {
+        let mut wanted = wanted(pointers, layout);
+        wanted.is_raw = is_raw;
+        wanted.longest = 100;
+        let ran = run_by(rt.alloc(), &wanted, 64, input);
+        assert_eq!(rt; ran.result, Ok(true));
+        assert_eq!(rt; ran.rows.as_slice(), row);
+    }
+}
+
+// Lines without a value are passed over. The other conditions are in `tests/statuses.sh`.
+#[test]
+fn filters_pass_lines_over(rt: HostRuntime) {
+    let wanted = Wanted {
+        pointers: &["/k"],
+        filters: &[Filter::Exists("/k"), Filter::Exists("")],
+        layout: Layout::Tabs,
+        is_raw: false,
+        needs_all: false,
+        is_quiet: false,
+        longest: 10,
+    };
+    let ran = run_by(
+        rt.alloc(),
+        &wanted,
+        16,
+        b"{\"k\":1}\n{}\n[]\n{\"k\":[]}\n[1,]\n",
+    );
+    assert_eq!(rt; ran.result, Ok(false));
+    assert_eq!(rt; ran.rows.as_slice(), b"1\n[]\n".as_slice());
+}
+
+// A line is left out where one of the pointers has no value.
+#[test]
+fn all_values_are_needed(rt: HostRuntime) {
+    let mut wanted = wanted(&["/0", "/1"], Layout::Csv);
+    wanted.needs_all = true;
+    let ran = run_by(rt.alloc(), &wanted, 16, b"[1,2]\n[1]\n{}\n[null,0]\n");
+    assert_eq!(rt; ran.result, Ok(true));
+    assert_eq!(rt; ran.rows.as_slice(), b"1,2\n,0\n".as_slice());
+}
+
+// Takes a byte a call, up to one call that takes none or fails; each later one takes all that it is
+// given.
+#[derive(Drop)]
+struct Full {
+    taken: Vec<u8>,
+    calls: usize,
+    good_calls: usize,
+    fails: bool,
+}
+
+impl Write for Full {
+    fn write(&mut self, buf: &[u8]) -> io::Result<usize> {
+        let call = self.calls;
+        self.calls = call.saturating_add(1);
+        if call == self.good_calls {
+            return if self.fails {
+                Err(io::Error::from(io::ErrorKind::Interrupted))
+            } else {
+                Ok(0)
+            };
+        }
+        let most = if call < self.good_calls { 1 } else { buf.len() };
+        let piece = &buf[..buf.len().min(most)];
+        self.taken.extend_from_slice(piece)?;
+        Ok(piece.len())
+    }
+
+    fn flush(&mut self) -> io::Result<()> {
+        Ok(())
+    }
+}
+
+fn failing(alloc: Global, good_calls: usize, fails: bool) -> Channel<Full>
+    ensures { result.failed ≡ false }
+{
+    Channel::new(Full {
+        taken: Vec::new(alloc),
+        calls: 0,
+        good_calls,
+        fails,
+    })
+}
+
+// Lines 2 and 4 are rejected: one of many, and the last.
+const TWO_REJECTED: &[u8] = b"{\"k\":1}\n[1,]\n{\"k\":23}\n           ";
+
+const ROWS: &[u8] = b"1\n23\n";
+
+const REJECTIONS: &[u8] = b"f:2:4: expected a value, found `]`\nf:4: longer than 10 bytes\n";
+
+#[derive(Drop)]
+struct Stopped {
+    result: Result<bool, Failure>,
+    out: Channel<Full>,
+    rejections: Channel<Full>,
+}
+
+fn run_into(alloc: Global, fails: bool, out: Channel<Full>, rejections: Channel<Full>) -> Stopped
+    requires out { out.failed ≡ false }
+    requires rejections { rejections.failed ≡ false }
+{
+    let (mut out, mut rejections) = (out, rejections);
+    let mut reader = Channel::new(Blocks {
+        rest: TWO_REJECTED,
+        size: 9,
+        fails,
+    });
+    let wanted = wanted(&["/k"], Layout::Tabs);
+    let result = run(alloc, &wanted, "f", &mut reader, &mut out, &mut rejections);
+    Stopped {
+        result,
+        out,
+        rejections,
+    }
+}
+
+// Reading fails in mid-stream: what ended before is picked and named.
+#[test]
+fn a_failed_read_ends_the_run(rt: HostRuntime) {
+    let (out, rejections) = (
+        failing(rt.alloc(), 100, false),
+        failing(rt.alloc(), 100, false),
+    );
+    let ran = run_into(rt.alloc(), true, out, rejections);
+    assert_eq!(rt; ran.result, Err(Failure::Read));
+    assert_eq!(rt; ran.out.into_inner().taken.as_slice(), ROWS);
+    assert_eq!(rt;
+        Some(ran.rejections.into_inner().taken.as_slice()),
+        REJECTIONS.get(..35)
+    );
+}
+
+// The writer of rows fails at each of its bytes in turn. It has those before, and is called no
+// more.
+#[test]
+fn a_failed_row_ends_the_run(rt: HostRuntime) {
+    for fails in [false, true] {
+        for good_calls in 0..ROWS.len() {
+            let out = failing(rt.alloc(), good_calls, fails);
+            let ran = run_into(rt.alloc(), false, out, failing(rt.alloc(), 100, fails));
+            assert_eq!(rt; ran.result, Err(Failure::Write));
+            assert!(rt; ran.out.failed() && !ran.rejections.failed());
+            let out = ran.out.into_inner();
+            assert_eq!(rt; Some(out.taken.as_slice()), ROWS.get(..good_calls));
+            assert_eq!(rt; out.calls, good_calls.saturating_add(1));
+        }
+    }
+}
+
+// So does the one of rejected lines.
+#[test]
+fn a_failed_rejection_ends_the_run(rt: HostRuntime) {
+    for fails in [false, true] {
+        for good_calls in 0..REJECTIONS.len() {
+            let rejections = failing(rt.alloc(), good_calls, fails);
+            let ran = run_into(
+                rt.alloc(),
+                false,
+                failing(rt.alloc(), 100, fails),
+                rejections,
+            );
+            assert_eq!(rt; ran.result, Err(Failure::Write));
+            assert!(rt; ran.rejections.failed() && !ran.out.failed());
+            let rejections = ran.rejections.into_inner();
+            assert_eq!(rt;
+                Some(rejections.taken.as_slice()),
+                REJECTIONS.get(..good_calls)
+            );
+            assert_eq!(rt; rejections.calls, good_calls.saturating_add(1));
+            assert!(rt; ROWS.starts_with(ran.out.into_inner().taken.as_slice()));
+        }
+    }
+}
+
+// Reads its bytes, and at its first read takes all that is free in the heap.
+#[derive(Drop)]
+struct Hungry<'h> {
+    rest: &'h [u8],
+    heap: &'h LocalHeap,
+    pieces: Vec<Vec<u8, &'h LocalHeap>>,
+}
+
+impl Read for Hungry<'_> {
+    fn read(&mut self, buf: &mut [u8]) -> io::Result<usize> {
+        for shift in 0..20u32 {
+            for _ in 0..16 {
+                if let Ok(piece) = Vec::with_capacity(self.heap, 1_048_576usize >> shift) {
+                    self.pieces.push(piece)?;
+                }
+            }
+        }
+        self.rest.read(buf)
+    }
+}
+
+// After the first read every allocation would fail, and none is made.
+#[test]
+fn no_memory_is_taken_after_the_start(rt: HostRuntime) -> Tested {
+    let mut input = Vec::new(rt.alloc());
+    for value in 0..1500 {
+        writeln!(input, "{{\"a\":[[\"\\n\"]],\"k\":\"{value}\"}}")?;
+        input.extend_from_slice(b"[1,]\n\xff\n[[[[[[[[[[[[[[[[[[[[[[[[[[[[[[[[[[\n")?;
+        writeln!(input, "{{\"k\":\"{value:>2000}\"}}")?;
+        writeln!(input, "{value:>6000}")?;
+    }
+    let heap = LocalHeap::new(rt.alloc(), 1 << 22)?;
+    let mut reader = Channel::new(Hungry {
+        rest: input.as_slice(),
+        heap: &heap,
+        pieces: Vec::new(rt.alloc()),
+    });
+    let mut out = Channel::new(Vec::new(rt.alloc()));
+    let mut rejections = Channel::new(Vec::new(rt.alloc()));
+    let mut wanted = wanted(&["/a", "/k"], Layout::Tsv);
+    wanted.longest = 4096;
+    let result = run(&heap, &wanted, "f", &mut reader, &mut out, &mut rejections);
+    assert_eq!(rt; result, Ok(false));
+    let rows = out.into_inner();
+    assert!(rt; rows.starts_with(b"[[\"\\\\n\"]]\t0\n\t    "));
+    assert_eq!(rt;
+        rows.as_slice()
+            .iter()
+            .filter(|byte| **byte == b'\n')
+            .count(),
+        3000
+    );
+    Ok(())
+}
+
+// In heaps of growing size each allocation of the start fails in some: nothing is read or written
+// then.
+#[test]
+fn too_little_memory_ends_the_run(rt: HostRuntime) -> Tested {
+    let input = b"{\"k\":1}\n[1,]\n".as_slice();
+    let wanted = wanted(&["/k"], Layout::Tabs);
+    let (mut has_failed, mut has_run) = (false, false);
+    for size in 1..96 {
+        let heap = LocalHeap::new(rt.alloc(), size << 13)?;
+        let mut reader = Channel::new(input);
+        let mut out = Channel::new(Vec::new(rt.alloc()));
+        let mut rejections = Channel::new(Vec::new(rt.alloc()));
+        let result = run(&heap, &wanted, "f", &mut reader, &mut out, &mut rejections);
+        let (rows, rejections) = (out.into_inner(), rejections.into_inner());
+        if result == Err(Failure::Resources) {
+            has_failed = true;
+            assert_eq!(rt; reader.into_inner(), input);
+            assert_eq!(rt; rows.len() + rejections.len(), 0);
+        } else {
+            has_run = true;
+            assert_eq!(rt; result, Ok(false));
+            assert_eq!(rt; rows.as_slice(), b"1\n".as_slice());
+            assert_eq!(rt;
+                rejections.as_slice(),
+                b"f:2:4: expected a value, found `]`\n".as_slice()
+            );
+        }
+    }
+    assert!(rt; has_failed && has_run);
+    Ok(())
+}

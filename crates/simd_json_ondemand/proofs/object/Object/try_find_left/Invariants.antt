@@ -1,0 +1,14 @@
+use Rattle.std.proofs.Common.{◌≡◌}
+use Rattle.simd_json_ondemand.specs.Walked.{members_ahead}
+use Rattle.simd_json_ondemand.specs.Walks.{walk_from}
+use Rattle.simd_json_ondemand.specs.Within.{AreInSameObject}
+use Rattle.simd_json_ondemand.proofs.Turns.{count}
+use Rattle.simd_json_ondemand.proofs.object.Object.try_find_left.Given as goal
+
+abbrev pub invariant-loop-name : goal.invariant-loop-name
+invariant-loop-name l =
+    (l.self ≡ l.fn.self) × (walk_from l.wanted.key.now (members_ahead l.fn.self) ≡ walk_from l.wanted.key.now (members_ahead l.left))
+    × AreInSameObject l.fn.self l.left
+
+abbrev pub decreases-loop-name : goal.decreases-loop-name
+decreases-loop-name l = count (members_ahead l.left)

@@ -1,0 +1,103 @@
+//! Writing: the text of a value.
+ghost use Rattle.std.specs.Prelude.{ℕ, false, true, take, string_bytes, IfOk, OnOk, OnErr};
+ghost use Rattle.std.specs.Io.KnownBytes.{Appends};
+ghost use Rattle.simd_json_serde.specs.Written.{IsPrinted};
+ghost use Rattle.simd_json_serde.specs.WrittenOut.{WritesText};
+
+use crate::text_writer::TextWriter;
+use crate::write_error::WriteError;
+use serde::Serialize;
+use simd_json_print::text::Text;
+use std::alloc::Global;
+use std::io;
+use std::io::Write;
+
+/// The compact text of a value, as UTF-8 bytes (RFC 8259).
+///
+/// Returns an error if a float is not finite, a key is no string, number or truth value, a
+/// flattened value is no object, or an allocation fails; or the type's own error.
+pub fn to_vec<T: Serialize>(alloc: Global, value: &T) -> Result<Vec<u8>, WriteError>
+    ensures { IfOk result (λ text. ∥ IsPrinted false text.items ∥₁) }
+{
+    let mut writer = TextWriter::<0>::new(alloc);
+    value.serialize(&mut writer)?;
+    writer.finish()
+}
+
+/// The pretty text of a value, as UTF-8 bytes. Returns the errors of [`to_vec`].
+pub fn to_vec_pretty<T: Serialize>(alloc: Global, value: &T) -> Result<Vec<u8>, WriteError>
+    ensures { IfOk result (λ text. ∥ IsPrinted true text.items ∥₁) }
+{
+    let mut writer = TextWriter::<1>::new(alloc);
+    value.serialize(&mut writer)?;
+    writer.finish()
+}
+
+/// The compact text of a value. Returns the errors of [`to_vec`].
+///
+/// ```
+/// use serde::Serialize;
+/// use simd_json_serde::{WriteError, to_string};
+/// use std::alloc::Global;
+///
+/// #[derive(Drop, Serialize)]
+/// struct Line {
+///     status: u16,
+/// }
+///
+/// // {"status":200}
+/// fn line(alloc: Global) -> Result<String, WriteError> {
+///     to_string(alloc, &Line { status: 200 })
+/// }
+/// ```
+pub fn to_string<T: Serialize>(alloc: Global, value: &T) -> Result<String, WriteError>
+    ensures { IfOk result (λ text. ∥ IsPrinted false (string_bytes text) ∥₁) }
+{
+    Ok(unsafe { String::from_utf8_unchecked(to_vec(alloc, value)?) })
+}
+
+/// The pretty text of a value. Returns the errors of [`to_vec`].
+pub fn to_string_pretty<T: Serialize>(alloc: Global, value: &T) -> Result<String, WriteError>
+    ensures { IfOk result (λ text. ∥ IsPrinted true (string_bytes text) ∥₁) }
+{
+    Ok(unsafe { String::from_utf8_unchecked(to_vec_pretty(alloc, value)?) })
+}
+
+/// Writes the compact text of a value. It is made as a whole first, so nothing is written of a
+/// value that has none.
+///
+/// Returns the errors of [`to_vec`], and the writer's as [`WriteError::Io`].
+pub fn to_writer<W: Write, T: Serialize>(
+    alloc: Global,
+    writer: &mut W,
+    value: &T,
+) -> Result<(), WriteError>
+    ensures { ∥ WritesText false result (W.contents writer.old) (W.contents writer.new) ∥₁ }
+{
+    let text = to_vec(alloc, value)?;
+    write_all(writer, &text).map_err(WriteError::Io)
+}
+
+/// Writes the pretty text of a value, as [`to_writer`] does.
+pub fn to_writer_pretty<W: Write, T: Serialize>(
+    alloc: Global,
+    writer: &mut W,
+    value: &T,
+) -> Result<(), WriteError>
+    ensures { ∥ WritesText true result (W.contents writer.old) (W.contents writer.new) ∥₁ }
+{
+    let text = to_vec_pretty(alloc, value)?;
+    write_all(writer, &text).map_err(WriteError::Io)
+}
+
+// Stops at the writer's error, and where it takes 0 bytes.
+fn write_all<W: Write>(writer: &mut W, bytes: &[u8]) -> io::Result<()>
+    ensures written { OnOk result
+        (Appends (W.contents writer.old) (W.contents writer.new) bytes.now) }
+    ensures begun { OnErr result ((count : ℕ)
+        × Appends (W.contents writer.old) (W.contents writer.new) (take count bytes.now)) }
+{
+    let mut out = Text::<W, 1>::new(writer);
+    out.put(bytes);
+    out.finish()
+}

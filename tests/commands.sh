@@ -1,0 +1,39 @@
+#!/bin/sh
+# Runs what README.md and docs/LINES.md show after `$ ` with the programs that the gate has built, and compares what is printed with
+# what those pages say; runs the rows of CONTRIBUTING.md; and looks for the code of README.md and docs/READING.md in tests and
+# programs. Silent where all is well, else status 1. The other commands are those of `make test`, install.sh, jq.sh and engines.sh.
+set -u
+top=$(cd "$(dirname "$0")/.." && pwd)
+room=$(mktemp -d) || exit 1
+trap 'rm -rf "$room"' EXIT
+mkdir "$room/build"
+ln -s "$top/examples" "$room/examples"
+for program in jtape_main:jtape jcheck:jcheck jpick:jpick log_report:log_report; do
+    built=$top/crates/${program%:*}/out/${program%:*}
+    [ -x "$built" ] || { echo "$built is not there: run make test" >&2; exit 1; }
+    ln -s "$built" "$room/build/${program#*:}"
+done
+different=0
+
+# Each command prints itself, then what it writes to standard output and standard error. Its status is that of the next `$?`.
+for page in README.md docs/LINES.md; do
+    awk '/^```/ { inside = !inside; shown = 0; next } inside && /^\$ / { shown = 1 } shown' "$top/$page" > "$room/wanted"
+    awk '/^\$ / { print "s=$?; cat <<\\END\n" $0 "\nEND\n{ (exit $s); " substr($0, 3) "; } 2> errors; s=$?; cat errors; (exit $s)" }' \
+        "$room/wanted" > "$room/script"
+    (cd "$room" && PATH=$room/build:$PATH sh script) > "$room/found" 2>&1
+    diff -U 1 "$room/wanted" "$room/found" || different=1
+done
+
+grep -E '^(parse|indexes)[:0-9]* .* => ' "$top/CONTRIBUTING.md" > "$room/rows"
+"$top/crates/simd_json_rows/out/simd_json_rows" < "$room/rows" | diff -U 0 "$room/rows" - || different=1
+
+# A paragraph of code is one line, without comments and imports. The program of the README's installation is run by install.sh.
+lines() { sed 's/^ *//; /^\/\//d; /^use /d; s/pub(super) //g' | awk -v RS= '{ gsub(/\n/, " "); print }'; }
+(cd "$top" && find crates -path '*/src/*tests/*.rt' -o -path '*/src/main.rt' | xargs cat) | lines > "$room/code"
+for page in README.md docs/READING.md; do
+    awk '/^```rust/ { inside = 1; next } /^```/ { inside = 0; print "" } inside' "$top/$page" |
+        sed '/^\/\/! Prints/,/^}/d' | lines > "$room/blocks"
+    awk 'NR == FNR { all = all $0 " "; next } !index(all, $0) { print "in no test or program: " $0; wrong = 1 } END { exit wrong }' \
+        "$room/code" "$room/blocks" || different=1
+done
+exit "$different"
