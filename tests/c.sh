@@ -55,8 +55,9 @@ fi
 
 # The version is the header's everywhere, and the shared library has it in its names and at each symbol.
 version=$(sed -n 's/^#define SIMD_JSON_VERSION_[A-Z]* //p' include/simd_json.h | paste -sd.)
-for named in "CHANGELOG.md:## $version" "README.md:simd_json-$version-x86_64" "crates/jcheck/src/options.rt:.version(\"$version\")" \
-    "bindings/rust/Cargo.toml:version = \"$version\""; do
+for named in "CHANGELOG.md:## $version" "README.md:simd_json-$version-x86_64" "bindings/rust/Cargo.toml:version = \"$version\"" \
+    crates/jcheck/src/options.rt:".version(\"$version\")" crates/jpick/src/options.rt:".version(\"$version\")" \
+    crates/log_report/src/options.rt:".version(\"$version\")"; do
     grep -qF "${named#*:}" "${named%%:*}" || { echo "${named%%:*} has another version than $version"; exit 1; }
 done
 readelf -d "build/libsimd_json.so.$version" | grep -q "(SONAME).*\[libsimd_json.so.${version%%.*}\]" || { echo "no soname"; exit 1; }
