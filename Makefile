@@ -51,7 +51,7 @@ crates := $(shell sed -n 's/^\([a-z][a-z0-9_]*\).*:.*/\1/p' crates.txt)
 define proved
 .PHONY: proved-$(1)
 proved-$(1): has-rt $(patsubst %,proved-%,$(filter $(crates),$(shell sed -n 's/^$(1)\( [^:]*\)*: *//p' crates.txt)))
-	@$$(nice) sh scripts/prove.sh $(1) lib $(if $(filter simd_json_c simd_json_bench,$(1)),$(cpu))
+	@$$(nice) sh scripts/prove.sh $(1) lib $(if $(filter simd_json_c simd_json_bench simd_json_typed_bench,$(1)),$(cpu))
 endef
 $(foreach crate,$(crates),$(eval $(call proved,$(crate))))
 

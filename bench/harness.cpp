@@ -4,8 +4,9 @@
 // A text whose name ends with .jsonl is lines of one length: each is read by itself, or all by a parser of streams.
 // A contender is simdjson, stage1 (simdjson's), rapidjson, yajl, serde_json=LIBRARY.so, or ours: parse-LEVEL=LIBRARY.so,
 // scan-LEVEL=LIBRARY.so, c-LEVEL=LIBRARY.so (the library for C), for lines many (simdjson's stream) and stream=LIBRARY.so
-// (serde_json's), refuse-LEVEL=LIBRARY.so, which is timed at texts that it refuses, and at no other, or TASK:CONTENDER, where
-// TASK is a number of tasks.hpp and CONTENDER is simdjson, rapidjson or tasks-LEVEL=LIBRARY.so.
+// (serde_json's), refuse-LEVEL=LIBRARY.so, which is timed at texts that it refuses, and at no other, TASK:CONTENDER, where
+// TASK is a number of tasks.hpp and CONTENDER is simdjson, rapidjson or tasks-LEVEL=LIBRARY.so, or FORM:CONTENDER, where FORM
+// is lines, tweets or map and CONTENDER serde_json=LIBRARY.so or typed-LEVEL=LIBRARY.so (ours and the toolchain's serde_json).
 // Writes a line for each text and contender: its path, its bytes, what is timed, the contender, and the nanoseconds of a
 // byte at the fastest round, or `-` where the text was refused. Libraries of one LEVEL that differ in where the code lies are
 // contenders of one name, with a line each. A contender that is not installed is named on standard error. Those who count,
@@ -277,116 +278,14 @@ static void add_scan(std::vector<Contender> &all, const std::string &level, cons
     all.push_back({Contender::Scan, "simd_json scan, " + level, all_by(path, "simd_json_bench_scan_all"), true});
 }
 
-// What a task's sum is told as: negative where there is none.
-static int64_t told(uint64_t sum) { return sum == NONE ? -1 : int64_t(sum >> 2); }
-
-// Each makes its buffers at the first text. `over` reads the first so many copies.
-static void add_asked(std::vector<Contender> &all, Task task, const std::string &name, std::function<uint64_t(const Copies &, size_t)> over) {
-    all.push_back({Contender::Asked, TASKS[task] + (": " + name), [over](const Copies &c, size_t count) -> int64_t {
-                       try {
-                           return told(over(c, count));
-                       } catch (...) {
-                           return -1;
-                       }
-                   }, true});
-}
-
-template <class One> static void add_asked_of_each(std::vector<Contender> &all, Task task, const std::string &name, One one) {
-    add_asked(all, task, name, [one](const Copies &c, size_t count) {
-        uint64_t sum = 0;
-        for (size_t i = 0; i < count; i++) {
-            uint64_t next = one(c.at(i), c.len());
-            if (next == NONE) return NONE;
-            sum += next;
-        }
-        return sum;
-    });
-}
-
-#ifdef SIMDJSON_VERSION
-// The lines of a stream, without a second thread.
-template <class Documents> static uint64_t over_lines(Documents &documents, size_t count, auto line) {
-    uint64_t sum = 0;
-    size_t read = 0;
-    for (auto document : documents) sum += line(document.value()), read++;
-    return read == count ? sum : NONE;
-}
-
-static void add_simdjson_tasks(std::vector<Contender> &all, Task task) {
-    using namespace simdjson;
-    // That of this program: the library's own is another.
-    get_active_implementation() = get_available_implementations()[SIMDJSON_STRINGIFY(SIMDJSON_BUILTIN_IMPLEMENTATION)];
-    auto parser = std::make_shared<ondemand::parser>();
-    auto room = std::make_shared<std::vector<uint8_t>>();
-    auto dom = std::make_shared<dom::parser>();
-#ifdef SIMDJSON_THREADS_ENABLED
-    parser->threaded = dom->threaded = false;
-#endif
-    if (task == LogLines) {
-        add_asked(all, task, "simdjson On-Demand", [parser](const Copies &c, size_t count) {
-            ondemand::document_stream documents = parser->iterate_many(c.at(0), c.stride * count);
-            return over_lines(documents, count, on_demand::line);
-        });
-        add_asked(all, task, "simdjson DOM", [dom](const Copies &c, size_t count) {
-            dom::document_stream documents = dom->parse_many(c.at(0), c.stride * count);
-            return over_lines(documents, count, [](dom::element root) { return Tree<Dom>::answer(LogLines, root); });
-        });
-        return;
-    }
-    add_asked_of_each(all, task, "simdjson On-Demand", [task, parser, room](uint8_t *text, size_t len) {
-        ondemand::document root = parser->iterate(padded_string_view(text, len, len + SIMDJSON_PADDING));
-        return on_demand::answer(task, root, *parser, *room);
-    });
-    if (task != Literals)
-        add_asked_of_each(all, task, "simdjson DOM", [task, dom](uint8_t *text, size_t len) -> uint64_t {
-            return Tree<Dom>::answer(task, dom->parse(text, len, false));
-        });
-}
-#endif
-
-#ifdef RAPIDJSON_VERSION_STRING
-template <unsigned FLAGS> static void add_rapidjson_task(std::vector<Contender> &all, Task task) {
-    // It reads up to a zero byte, so a line's end is made one.
-    add_asked_of_each(all, task, "rapidjson in place", [task](uint8_t *text, size_t len) {
-        text[len] = 0;
-        rapidjson::Document root;
-        root.ParseInsitu<FLAGS | rapidjson::kParseValidateEncodingFlag>(reinterpret_cast<char *>(text));
-        return root.HasParseError() ? NONE : Tree<Rapid>::answer(task, Rapid::Value(root));
-    });
-}
-#endif
-
-static void add_our_tasks(std::vector<Contender> &all, Task task, const std::string &level, const std::string &path) {
-    for (auto way : {"tape", "find", "check"}) {
-        std::string name = std::string("simd_json_bench_") + way, shown = std::string("simd_json ") + way + ", " + level;
-        if (task == LogLines) {
-            auto *over = symbol<uint64_t(uint8_t *, size_t)>(path, (name + "_lines").c_str());
-            add_asked(all, task, shown, [over](const Copies &c, size_t count) { return over(c.at(0), c.stride * count); });
-        } else {
-            auto *over = symbol<uint64_t(uint8_t *, size_t, size_t, size_t, uint32_t)>(path, name.c_str());
-            add_asked(all, task, shown, [over, task](const Copies &c, size_t count) { return over(c.at(0), c.stride * count, c.stride, c.len(), task); });
-        }
-    }
-}
-
-static void add_task(std::vector<Contender> &all, [[maybe_unused]] Task task, const std::string &name, const std::string &path) {
-    if (name == "simdjson") {
-#ifdef SIMDJSON_VERSION
-        add_simdjson_tasks(all, task);
-#endif
-    } else if (name == "rapidjson") {
-#ifdef RAPIDJSON_VERSION_STRING
-        if (task == Literals) add_rapidjson_task<rapidjson::kParseNumbersAsStringsFlag>(all, task);
-        else add_rapidjson_task<rapidjson::kParseFullPrecisionFlag>(all, task);
-#endif
-    } else if (name.rfind("tasks-", 0) == 0) add_our_tasks(all, task, name.substr(6), path);
-    else stop("no contender " + name);
-}
+#include "asked.hpp"
 
 static void add(std::vector<Contender> &all, const std::string &word) {
     size_t equals = std::min(word.find('='), word.size());
     std::string name = word.substr(0, equals), path = word.substr(std::min(equals + 1, word.size()));
+    size_t colon = name.find(':');
     if (isdigit(word[0])) add_task(all, Task(word[0] - '0'), name.substr(2), path);
+    else if (colon < name.size()) add_typed(all, name.substr(0, colon), name.substr(colon + 1), path);
     else if (name == "simdjson") add_simdjson(all, Contender::Parse);
     else if (name == "stage1") add_simdjson(all, Contender::Scan);
     else if (name == "many") add_many(all);

@@ -1,7 +1,8 @@
 #!/bin/sh
 # The benchmark: `make bench` calls it. From the top of the repository: sh bench/run.sh [FILE..]
 # Times the texts that bench/texts.py makes, each FILE, the shapes of bench/shapes.py, which are made to be slow, a log of
-# 1,000,000 lines, and tasks, and prints six tables. ROUNDS says how often, PLACEMENTS at how many places our code is timed.
+# 1,000,000 lines, tasks, and typed reading, and prints seven tables. ROUNDS says how often, PLACEMENTS at how many places our
+# code is timed.
 # With SAVE=1 the tables are put into docs/SPEED.md, between its marks, and docs/speed.svg is drawn; without, build/bench has the
 # chart.
 # It installs nothing: a parser whose package is absent is left out, and named.
@@ -27,29 +28,40 @@ fi
 # Ours, at each level: a static library, and that as shared ones, so that all fit into one process. Where the linker puts the
 # code, 16 bytes up or down, can change what a text costs by half, and is chance. So the code is linked behind 0, 16, 32 bytes
 # of padding and so on, each of these is timed, and the tables have the median. The others are timed where they lie.
+# static CRATE: the crate at $level as a static library. shared CRATE: that as a shared one, behind the padding.
+static() {
+    (cd "crates/$1" && rt lib --cpu "$level") > "$OUT/$level.log" || { tail -n 20 "$OUT/$level.log" >&2; exit 1; }
+    cp "crates/$1/out/lib$1.a" "$OUT/$1-$level.a"
+}
+shared() {
+    cc -shared -o "$OUT/$1-$level-$placement.so" "$OUT/padding.o" -Wl,--whole-archive "$OUT/$1-$level.a" -Wl,--no-whole-archive \
+        "$KIT/c/liblibc_c.a" "$KIT/c/libos_c.a" -Wl,-Bsymbolic
+}
 parses=
 calls=
 scans=
 refusals=
 for level in $levels; do
     say "proving and building the library at $level"
-    (cd crates/simd_json_bench && rt lib --cpu "$level") > "$OUT/$level.log" || { tail -n 20 "$OUT/$level.log" >&2; exit 1; }
-    cp crates/simd_json_bench/out/libsimd_json_bench.a "$OUT/$level.a"
+    static simd_json_bench
+    static simd_json_typed_bench
     make -s library CPU="$level" into="$OUT/c-$level" > "$OUT/c-$level.log" 2>&1 || { tail -n 20 "$OUT/c-$level.log" >&2; exit 1; }
     tasks=
+    typed=
     placement=0
     while [ "$placement" -lt "$PLACEMENTS" ]; do
-        library=$OUT/$level-$placement.so
         echo "__asm__(\".text; .fill 16 * $placement, 1, 0x90\");" | cc -c -x c - -o "$OUT/padding.o"
-        cc -shared -o "$library" "$OUT/padding.o" -Wl,--whole-archive "$OUT/$level.a" -Wl,--no-whole-archive \
-            "$KIT/c/liblibc_c.a" "$KIT/c/libos_c.a" -Wl,-Bsymbolic
+        shared simd_json_bench
+        shared simd_json_typed_bench
         cc -shared -o "$OUT/c-$level-$placement.so" "$OUT/padding.o" \
             -Wl,--whole-archive "$OUT/c-$level/libsimd_json.a" -Wl,--no-whole-archive -Wl,-Bsymbolic
+        library=$OUT/simd_json_bench-$level-$placement.so
         parses="$parses parse-${level#x86-64-}=$library"
         calls="$calls c-${level#x86-64-}=$OUT/c-$level-$placement.so"
         scans="$scans scan-${level#x86-64-}=$library"
         refusals="$refusals refuse-${level#x86-64-}=$library"
         tasks="$tasks tasks-${level#x86-64-}=$library"
+        typed="$typed typed-${level#x86-64-}=$OUT/simd_json_typed_bench-$level-$placement.so"
         placement=$((placement + 1))
     done
 done
@@ -66,15 +78,15 @@ c++ -std=c++20 -O3 -march=$kernel -DNDEBUG -DRAPIDJSON_SSE42 -Iinclude bench/har
 REGISTRY=/usr/share/cargo/registry
 serde=
 stream=
-if command -v cargo > /dev/null && ls -d $REGISTRY/serde_json-* > /dev/null 2>&1; then
+if command -v cargo > /dev/null && ls -d $REGISTRY/serde_json-* $REGISTRY/serde_derive-* > /dev/null 2>&1; then
     mkdir -p "$OUT/serde_json"
-    cp bench/serde_json/Cargo.toml bench/serde_json/lib.rs "$OUT/serde_json/"
+    cp bench/serde_json/Cargo.toml bench/serde_json/*.rs "$OUT/serde_json/"
     (cd "$OUT/serde_json" && RUSTFLAGS='-C target-cpu=native' cargo build --release --offline -q \
         --config 'source.crates-io.replace-with="system"' --config "source.system.directory=\"$REGISTRY\"")
     serde=serde_json=$OUT/serde_json/target/release/libserde_json_entry.so
     stream=stream=${serde#serde_json=}
 else
-    say "left out: serde_json, which is not installed"
+    say "left out: serde_json, which is not installed, or its derives are not"
 fi
 
 python3 bench/texts.py "$OUT/texts" "$@"
@@ -95,14 +107,23 @@ for task in 0:twitter.json 1:twitter.json 2:twitter.json 3:twitter.json 4:citm_c
     "$OUT/harness" "$ROUNDS" "$OUT/texts/tasks/${task#*:}" -- $words >> "$OUT/tasks.tsv"
 done
 
+: > "$OUT/typed.tsv"
+for form in lines:log.jsonl tweets:twitter.json tweets:twitterescaped.json map:canada.json; do
+    words=
+    for contender in $serde $typed; do words="$words ${form%%:*}:$contender"; done
+    # shellcheck disable=SC2086
+    "$OUT/harness" "$ROUNDS" "$OUT/texts/tasks/${form#*:}" -- $words >> "$OUT/typed.tsv"
+done
+
 # Their samples are 64 times as long.
 # shellcheck disable=SC2086
-sh bench/shapes.sh "$OUT" $(((ROUNDS + 3) / 4)) "$OUT/x86-64-v2-0.so" $parses $refusals
+sh bench/shapes.sh "$OUT" $(((ROUNDS + 3) / 4)) "$OUT/simd_json_bench-x86-64-v2-0.so" $parses $refusals
 
-results="$OUT/kinds.tsv $OUT/varied.tsv $OUT/sizes.tsv $OUT/shapes.tsv $OUT/memory.tsv $OUT/lines.tsv $OUT/tasks.tsv"
+results="$OUT/kinds.tsv $OUT/varied.tsv $OUT/sizes.tsv $OUT/shapes.tsv $OUT/memory.tsv $OUT/lines.tsv $OUT/tasks.tsv $OUT/typed.tsv"
 # shellcheck disable=SC2086
 python3 bench/tables.py $results > "$OUT/tables.md"
-python3 bench/chart.py "$OUT/kinds.tsv" > "$OUT/speed.svg"
+processor=$(sed -n 's/([RTM]*)//g; s/^model name[^:]*: //p' /proc/cpuinfo | head -n 1)
+python3 bench/chart.py "$OUT/kinds.tsv" "$OUT/tasks.tsv" "$processor" > "$OUT/speed.svg"
 cat "$OUT/tables.md"
 if [ "${SAVE:-}" = 1 ]; then
     # shellcheck disable=SC2086
@@ -112,4 +133,4 @@ if [ "${SAVE:-}" = 1 ]; then
 else
     say "the chart is $OUT/speed.svg; SAVE=1 puts both into docs/"
 fi
-say "what is left out comes with libsimdjson-dev, rapidjson-dev, libyajl-dev, librust-serde-json-dev and cargo (Debian)"
+say "what is left out comes with libsimdjson-dev, rapidjson-dev, libyajl-dev, librust-serde-json-dev, librust-serde-derive-dev and cargo (Debian)"

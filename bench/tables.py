@@ -1,8 +1,8 @@
-"""tables.py KINDS.tsv VARIED.tsv SIZES.tsv SHAPES.tsv MEMORY.tsv LINES.tsv TASKS.tsv [DOCUMENT]: what the harness
+"""tables.py KINDS.tsv VARIED.tsv SIZES.tsv SHAPES.tsv MEMORY.tsv LINES.tsv TASKS.tsv TYPED.tsv [DOCUMENT]: what the harness
 measured, as tables in Markdown.
 
-With a document, all but that of shapes are put there between the marks `<!-- results -->` and `<!-- end of results -->`; else
-all are printed."""
+With a document, what matters most is put there between the marks `<!-- results -->` and `<!-- end of results -->`; else all
+is printed."""
 import math
 import re
 import statistics
@@ -12,8 +12,12 @@ from pathlib import Path
 # The generated texts come first, in this order.
 KINDS = """tweets tweets_ascii catalogue numbers escapes long_strings deep chains literals settings rows integers
 200_bytes""".split()
+# The texts that are read into types, by their files.
+FORMS = {"log": "log lines", "twitter": "tweets", "twitterescaped": "escaped tweets", "canada": "coordinates"}
 # The sizes of the shapes that are made to be slow.
 SHAPE_BYTES = [10**6, 64 * 10**6]
+# Columns of the first table that a document leaves out; the chart has the last two.
+LEFT_OUT = ["fresh", "C check", "C tape", "C kept tape", "yajl, events alone", "rapidjson in place", "serde_json Value"]
 
 
 class Results:
@@ -68,15 +72,19 @@ def mean(ratios):
     return math.exp(sum(map(math.log, ratios)) / len(ratios)) if None not in ratios else None
 
 
-def table_of_kinds(results):
+def column(contender, level):
+    return contender.removeprefix("simd_json ").removesuffix(f", {level}")
+
+
+def table_of_kinds(results, left_out=()):
     """A line for each text: ours at the highest level that was timed, then the others. Another level has its mean alone."""
     kinds = {t: Path(t).stem for t in results.sizes if "/texts/" in t}
     texts = sorted(results.sizes, key=lambda t: KINDS.index(kinds[t]) if t in kinds else len(KINDS))
     level = "v3" if any(c.endswith(", v3") for c in results.parts) else "v2"
     ours = [c for part in ("parse", "scan") for c in results.contenders(part, ours=True)]
     shown_ones = [c for c in ours if c.endswith(f", {level}")] + results.contenders("parse", ours=False)
-    shown_ones = [c for c in shown_ones if not c.startswith("simdjson ")]
-    head = ["text", *(c.removeprefix("simd_json ").removesuffix(f", {level}") for c in shown_ones)]
+    shown_ones = [c for c in shown_ones if not c.startswith("simdjson ") and column(c, level) not in left_out]
+    head = ["text", *(column(c, level) for c in shown_ones)]
     lines = [[kinds[t].replace("_", " ") if t in kinds else Path(t).name, *(shown(results.ratio(t, c)) for c in shown_ones)] for t in texts]
     means = {c: shown(mean([results.ratio(t, c) for t in texts])) for c in ours + shown_ones}
     lines.append(["**geometric mean**", *(means[c] for c in shown_ones)])
@@ -86,23 +94,23 @@ def table_of_kinds(results):
     return rows(head, lines)
 
 
-def table_of_sizes(results):
+def table_of_sizes(results, step=1):
     ours = results.contenders("parse", ours=True)
     base = "simdjson DOM" if results.has_simdjson() else "the fastest"
-    head = ["size", f"{base}: ns per byte", *(f"{c.removeprefix('simd_json ')}: ns per byte (speed)" for c in ours)]
+    head = ["size", f"{base}: ns per byte", *(c.removeprefix("simd_json ") for c in ours)]
     lines = [
-        [shown_size(size), shown(results.base(t, "parse")), *(f"{shown(results.ns[t, c])} ({shown(results.ratio(t, c))})" for c in ours)]
+        [shown_size(size), shown(results.base(t, "parse")), *(shown(results.ratio(t, c)) for c in ours)]
         for t, size in results.sizes.items()
     ]
-    return rows(head, lines)
+    return rows(head, lines[::step])
 
 
-def means(*parts):
-    """Of ours, at each level, with buffers kept and made anew: the mean over all texts."""
+def means(*parts, ours=True):
+    """Of ours, at each level, with buffers kept and made anew, or of the others: the mean over all texts."""
     return "; ".join(
         f"{contender.removeprefix('simd_json ')} {shown(mean([of.ratio(t, contender) for of in parts for t in of.sizes]))}"
-        for contender in parts[0].contenders("parse", ours=True)
-        if all(contender in of.parts for of in parts)
+        for contender in parts[0].contenders("parse", ours)
+        if all(contender in of.parts for of in parts) and not contender.startswith("simdjson ")
     )
 
 
@@ -130,14 +138,16 @@ def table_of_shapes(shapes, memory):
     return rows(head, lines)
 
 
-def table_of_lines(lines):
-    """How many lines a second, and how much faster than the fastest of simdjson's."""
+def table_of_lines(lines, is_brief=False):
+    """What a line takes, and how much faster than the fastest of simdjson's."""
     ((text, size),) = lines.sizes.items()
     found = lines.contenders("parse", ours=False) + lines.contenders("parse", ours=True)
+    if is_brief and any(c.endswith(", v3") for c in found):
+        found = [c for c in found if not c.endswith(", v2")]
     per_line = {c: lines.ns[text, c] and 199 * lines.ns[text, c] for c in found}
     return rows(
-        ["", "ns a line", "million lines a second", "speed"],
-        [[c, shown(ns), shown(ns and 1000 / ns), shown(lines.ratio(text, c))] for c, ns in per_line.items()],
+        ["", "ns a line", "speed"],
+        [[c, shown(ns), shown(lines.ratio(text, c))] for c, ns in per_line.items()],
     )
 
 
@@ -156,32 +166,47 @@ def table_of_tasks(tasks):
     return rows(["task", f"{names[0]}: ms", *names[1:]], lines)
 
 
+def table_of_typed(typed):
+    """A line for each text: what the toolchain's serde_json takes with strings that the type owns, and the speeds over that."""
+    ways = [f"{reader} {form}" for reader in ("toolchain", "serde_json", "simd_json") for form in ("owned", "borrowed")]
+    lines = []
+    for text, size in typed.sizes.items():
+        found = {name.split(", ")[0]: ns for (of, name), ns in typed.ns.items() if of == text}
+        base = found[ways[0]]
+        lines.append([FORMS[Path(text).stem], shown(base * size / 1e6), *(shown(found.get(w) and base / found[w]) for w in ways[1:])])
+    return rows(["text", f"{ways[0]}: ms", *ways[1:]], lines)
+
+
 def main():
-    kinds, varied, sizes, log, tasks = (Results(sys.argv[i]) for i in (1, 2, 3, 6, 7))
+    kinds, varied, sizes, log, tasks, typed = (Results(sys.argv[i]) for i in (1, 2, 3, 6, 7, 8))
     whole, scan = ("simdjson's best DOM parse", "its best stage 1") if kinds.has_simdjson() else ("the fastest", "the fastest")
+    is_page = sys.argv[-1].endswith(".md")
     text = (
         f"Speed at the fastest round, ours at x86-64-v3 where the processor has it, as a multiple: of a whole parse over {whole}, "
         f"of a scan over {scan}.\n\n"
-        f"{table_of_kinds(kinds)}\n\n"
-        f"The same over forty different texts of 24 kB, one after the other.\n\n"
-        f"{table_of_kinds(varied)}\n\n"
-        f"Cost against size, over tweets; in brackets the speed over {whole}.\n\n"
-        f"{table_of_sizes(sizes)}\n\n"
-        f"Geometric mean of our speed over {whole}, over all {len(kinds.sizes) + len(sizes.sizes)} texts of the first table and of this: "
-        f"{means(kinds, sizes)}.\n\n"
+        f"{table_of_kinds(kinds, LEFT_OUT if is_page else ())}\n\n"
+        f"Geometric mean of the others: {means(kinds, ours=False) or 'none is installed'}.\n\n"
+        f"Geometric mean over forty different texts of 24 kB of each kind, one after the other: {means(varied)}.\n\n"
+        f"Cost against size, over tweets: what a byte of {whole} takes, and our speed over it.\n\n"
+        f"{table_of_sizes(sizes, 2 if is_page else 1)}\n\n"
+        f"Geometric mean over these {len(kinds.sizes)} texts and {len(sizes.sizes)} sizes: {means(kinds, sizes)}.\n\n"
         f"A log of {sum(log.sizes.values()) // 200:,} lines of 200 bytes, each line parsed by itself or all as one stream; the speed is "
         f"over the fastest of {'simdjson' if log.has_simdjson() else 'all'}.\n\n"
-        f"{table_of_lines(log)}\n\n"
+        f"{table_of_lines(log, is_page)}\n\n"
         f"Tasks, by a kept tape, on demand (`find`) and on demand after a check; speed over the first column.\n\n"
-        f"{table_of_tasks(tasks)}\n"
+        f"{table_of_tasks(tasks)}\n\n"
+        f"The same for types that own or borrow their strings, by the toolchain's `serde_json`, Rust's and `simd_json_serde`.\n\n"
+        f"{table_of_typed(typed)}\n"
     )
-    if len(sys.argv) == 8:
+    if not is_page:
         shapes, memory = Results(sys.argv[4]), sys.argv[5]
         print(text)
+        print("Forty different texts of 24 kB of each kind, one after the other.\n")
+        print(table_of_kinds(varied), end="\n\n")
         print("Shapes that are made to be slow: nanoseconds of a byte at 1 MB, at 64 MB (and how many times as much that is).\n")
         print(table_of_shapes(shapes, memory))
         return
-    document = Path(sys.argv[8])
+    document = Path(sys.argv[-1])
     marked = re.compile(r"(<!-- results -->\n).*(<!-- end of results -->)", re.DOTALL)
     if not marked.search(document.read_text()):
         sys.exit(f"{document} has no marks for the results")

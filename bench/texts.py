@@ -2,7 +2,7 @@
 
 FOLDER/kinds has one text of each kind, FOLDER/varied forty short ones, FOLDER/sizes tweets of about 1 kB, 4 kB and so on to
 64 MB, FOLDER/lines a log of LINES lines (1,000,000) of 200 bytes, FOLDER/tasks the texts of the tasks: a log of 200,000 lines,
-and for three well-known texts the FILE of that name, or else a text of its shape."""
+and for four well-known texts the FILE of that name, or else a text of its shape."""
 import itertools
 import json
 import os
@@ -266,14 +266,15 @@ def status(s, others, number, repeated=None):
     }
 
 
-def twitter():
+def twitter(escaped=False):
     """A search with 100 tweets; the 14th has the number that is looked for."""
     s, statuses = Source(16), []
     for n in range(100):
         number = 505874901689851900 if n == 13 else 505800000000000000 + s.below(10**13)
         repeated = status(s, 0.6, number - s.below(10**12)) if s.below(5) > 1 else None
         statuses.append(status(s, 0.6, number, repeated))
-    return json.dumps({"statuses": statuses, "search_metadata": {"count": 100}}, indent=2, ensure_ascii=False)
+    search = {"statuses": statuses, "search_metadata": {"count": 100}}
+    return compact(search, ascii_only=True) if escaped else json.dumps(search, indent=2, ensure_ascii=False)
 
 
 def performance(s, event):
@@ -317,7 +318,12 @@ def canada():
     return compact({"type": "FeatureCollection", "features": [feature]})
 
 
-TASKS = {"twitter.json": twitter, "citm_catalog.json": citm, "canada.json": canada}
+TASKS = {
+    "twitter.json": twitter,
+    "twitterescaped.json": lambda: twitter(escaped=True),
+    "citm_catalog.json": citm,
+    "canada.json": canada,
+}
 
 
 def main():

@@ -28,11 +28,11 @@
  * returns, but for what a parser keeps; in a signal handler, or in the forked child of a process with threads, these can't
  * be called, and so neither can this library.
  *
- * Pointers are to memory of the caller, which a call uses until it returns. Regions may not overlap. A pointer may be
- * null where its length is 0. Nothing past a length is read or written.
+ * Pointers are to memory of the caller, which a call uses until it returns, but for those that simd_json_parser_parse writes.
+ * Regions may not overlap. A pointer may be null where its length is 0. Nothing past a length is read or written.
  *
- * INPUT IS OVERWRITTEN, but by simd_json_index: escapes are decoded in place, and afterwards its contents are unspecified.
- * Pass a copy of what is needed again. It needs no terminator and no padding.
+ * INPUT IS OVERWRITTEN, but by simd_json_index and simd_json_parser_index: escapes are decoded in place, and afterwards its
+ * contents are unspecified. Pass a copy of what is needed again. It needs no terminator and no padding.
  *
  * `max_depth` is how many arrays and objects may be open at a time: 1024 is usual, 0 allows scalars only.
  */
@@ -89,7 +89,11 @@ enum {
     SIMD_JSON_TOO_LITTLE_ROOM = 19,
 
     /* The parser is not open. The input is not read. */
-    SIMD_JSON_PARSER_CLOSED = 20
+    SIMD_JSON_PARSER_CLOSED = 20,
+
+    /* The JSON Pointer names no value in the input, which is a document for all calls but simd_json_parser_find; or the pointer
+     * is not UTF-8, and the input is not read. */
+    SIMD_JSON_NO_VALUE = 21
 };
 
 /* Where an input is rejected: a byte offset into it, and the byte there. Index 0 and SIMD_JSON_NO_CHARACTER where the
@@ -244,6 +248,65 @@ int32_t simd_json_open(simd_json_parser *parser, size_t max_depth);
 int32_t simd_json_parser_check(simd_json_parser *parser, void *input, size_t len, simd_json_place *place);
 int32_t simd_json_parser_tape(simd_json_parser *parser, void *input, size_t len, simd_json_node *nodes, size_t nodes_len,
                               void *text, size_t text_len, simd_json_room *room, simd_json_place *place);
+
+/* As simd_json_compact and simd_json_pretty, with what the parser keeps: an input that is no larger than those before allocates
+ * nothing. PARSER_CLOSED: nothing but *place is written. */
+int32_t simd_json_parser_compact(simd_json_parser *parser, void *input, size_t len, void *out, size_t out_len, size_t *needed,
+                                 simd_json_place *place);
+int32_t simd_json_parser_pretty(simd_json_parser *parser, void *input, size_t len, void *out, size_t out_len, size_t *needed,
+                                simd_json_place *place);
+
+/* The same of the value that a JSON Pointer names in the document (simd_json_pointer), without the rest. The whole input is
+ * parsed, and any error in it is reported. NO_VALUE: *needed and out are unchanged. */
+int32_t simd_json_parser_compact_at(simd_json_parser *parser, void *input, size_t len, const void *pointer, size_t pointer_len,
+                                    void *out, size_t out_len, size_t *needed, simd_json_place *place);
+int32_t simd_json_parser_pretty_at(simd_json_parser *parser, void *input, size_t len, const void *pointer, size_t pointer_len,
+                                   void *out, size_t out_len, size_t *needed, simd_json_place *place);
+
+/* What a parser lends: as many nodes and bytes of text as simd_json_parser_tape writes. They are the library's, must not be
+ * written, and are valid until the next call with the parser, simd_json_close included. */
+typedef struct {
+    const simd_json_node *nodes;
+    size_t nodes_len;
+    const char *text;
+    size_t text_len;
+} simd_json_document;
+
+/* As simd_json_parser_tape, into memory that the parser keeps: no room has to be guessed, and the input is read once.
+ *
+ *     simd_json_document d;
+ *     if (simd_json_parser_parse(&parser, input, len, &d, &place) == SIMD_JSON_OK)
+ *         at = simd_json_pointer(d.nodes, d.nodes_len, d.text, d.text_len, 0, "/the_answer", 11);
+ *
+ * After each status but OK *document is unchanged, and what was lent before is no longer valid. */
+int32_t simd_json_parser_parse(simd_json_parser *parser, void *input, size_t len, simd_json_document *document,
+                               simd_json_place *place);
+
+/* Values on demand: an input is kept, and values in it are found by JSON Pointers (simd_json_pointer), without nodes.
+ *
+ *     simd_json_found found;
+ *     if (simd_json_parser_index(&parser, line, len, &place) == SIMD_JSON_OK
+ *         && simd_json_parser_find(&parser, "/user/id", 8, &found, out, sizeof out) == SIMD_JSON_OK)
+ *         printf("%.*s\n", (int)found.len, out);
+ *
+ * Only what lies on the way to a value is read: where the input is no document, a value may be found all the same. */
+typedef struct {
+    uint32_t kind; /* as of a node */
+    size_t len;    /* of the value as it is written */
+} simd_json_found;
+
+/* Keeps a copy of the input with its structural indexes, in place of the input that was kept before. Writes *place. The errors
+ * are those of simd_json_index; after one, no input is kept. Other calls but simd_json_close leave it kept. */
+int32_t simd_json_parser_index(simd_json_parser *parser, const void *input, size_t len, simd_json_place *place);
+
+/* The value that a pointer names in the input that is kept, as it is written: of a string with quotes and escapes, of an array or
+ * an object with all that is in it. So it is an input of its own, as for simd_json_parser_parse.
+ *
+ * OK: *found is its kind and its length, and it is at the front of out; nothing behind it is written.
+ * TOO_LITTLE_ROOM: *found is the same, and out is unchanged.
+ * NO_VALUE: there is none, the pointer is not UTF-8, or no input is kept; *found and out are unchanged, as by PARSER_CLOSED. */
+int32_t simd_json_parser_find(simd_json_parser *parser, const void *pointer, size_t pointer_len, simd_json_found *found, void *out,
+                              size_t out_len);
 
 /* Frees what the parser keeps. It is closed then, and may be opened again; closing a closed one does nothing. */
 void simd_json_close(simd_json_parser *parser);

@@ -213,35 +213,23 @@ public:
 
     /* The same without exceptions but std::bad_alloc: after SIMD_JSON_OK root() is the document. */
     int32_t try_parse(std::string_view text, simd_json_place &place) {
-        /* A node that is not the first follows a bracket, a comma or a colon. */
-        size_t nodes = 1;
-        for (const char byte : text)
-            nodes += byte == '[' || byte == '{' || byte == ',' || byte == ':';
-        grow(nodes_, nodes_cap_, nodes);
-        grow(text_, text_cap_, text.size() + 1);
-        grow(input_, input_cap_, text.size() + 1);
+        if (capacity_ < text.size()) {
+            input_.reset(new char[text.size()]);
+            capacity_ = text.size();
+        }
         if (!text.empty())
             std::memcpy(input_.get(), text.data(), text.size());
-        simd_json_room room;
-        return simd_json_parser_tape(&parser_, input_.get(), text.size(), nodes_.get(), nodes_cap_, text_.get(), text_cap_,
-                                     &room, &place);
+        return simd_json_parser_parse(&parser_, input_.get(), text.size(), &document_, &place);
     }
 
     /* The document that was parsed last; after an error it must not be used. */
-    element root() const { return {nodes_.get(), text_.get()}; }
+    element root() const { return {document_.nodes, document_.text}; }
 
 private:
-    template <class T> static void grow(std::unique_ptr<T[]> &list, size_t &cap, size_t needed) {
-        if (needed <= cap)
-            return;
-        list.reset(new T[needed]);
-        cap = needed;
-    }
-
     simd_json_parser parser_{};
-    std::unique_ptr<simd_json_node[]> nodes_;
-    std::unique_ptr<char[]> text_, input_;
-    size_t nodes_cap_ = 0, text_cap_ = 0, input_cap_ = 0;
+    simd_json_document document_{};
+    std::unique_ptr<char[]> input_;
+    size_t capacity_ = 0;
 };
 
 } // namespace simd_json

@@ -14,10 +14,10 @@
 typedef struct {
     simd_json_parser parser;
     size_t max_depth;
-    char *input, *text;
-    simd_json_node *nodes;
+    simd_json_document document; /* of the last parse */
+    char *input;
     struct open *open;
-    size_t input_cap, text_cap, nodes_cap, open_cap;
+    size_t input_cap, open_cap;
     int in_use;
 } memory;
 
@@ -42,8 +42,6 @@ static PyObject *to_error; /* simd_json._error */
 static void release(memory *m) {
     simd_json_close(&m->parser);
     free(m->input);
-    free(m->text);
-    free(m->nodes);
     free(m->open);
     memset(m, 0, sizeof *m);
 }
@@ -129,28 +127,16 @@ static Py_ssize_t prepare(memory *m, PyObject *data, size_t max_depth) {
     return len;
 }
 
-static int32_t tape(memory *m, size_t len, simd_json_room *room, simd_json_place *place) {
-    int32_t status;
-    PyThreadState *others = len > 65536 ? PyEval_SaveThread() : NULL;
-    status = simd_json_parser_tape(&m->parser, m->input, len, m->nodes, m->nodes_cap, m->text, m->text_cap, room, place);
-    if (others)
-        PyEval_RestoreThread(others);
-    return status;
-}
-
-/* Parses the input into nodes and text. A first guess of their number is mostly enough; else the parse says what is. */
-static int parse(memory *m, PyObject *data, size_t max_depth, simd_json_room *room) {
+/* Parses the input into the document, which the parser lends until its next call. */
+static int parse(memory *m, PyObject *data, size_t max_depth) {
     simd_json_place place;
     Py_ssize_t len = prepare(m, data, max_depth);
-    if (len < 0 || !grow(&m->nodes, &m->nodes_cap, (size_t)len / 8 + 64, sizeof *m->nodes) ||
-        !grow(&m->text, &m->text_cap, (size_t)len + 1, 1))
+    if (len < 0)
         return 0;
-    int32_t status = tape(m, (size_t)len, room, &place);
-    if (status == SIMD_JSON_TOO_LITTLE_ROOM) {
-        if (!grow(&m->nodes, &m->nodes_cap, room->nodes, sizeof *m->nodes) || prepare(m, data, max_depth) != len)
-            return 0;
-        status = tape(m, (size_t)len, room, &place);
-    }
+    PyThreadState *others = len > 65536 ? PyEval_SaveThread() : NULL;
+    int32_t status = simd_json_parser_parse(&m->parser, m->input, (size_t)len, &m->document, &place);
+    if (others)
+        PyEval_RestoreThread(others);
     if (status != SIMD_JSON_OK) {
         reject(status, &place, data);
         return 0;
@@ -159,11 +145,11 @@ static int parse(memory *m, PyObject *data, size_t max_depth, simd_json_room *ro
 }
 
 static PyObject *to_string(const memory *m, const simd_json_node *node) {
-    return PyUnicode_DecodeUTF8(m->text + node->value, (Py_ssize_t)node->len, NULL);
+    return PyUnicode_DecodeUTF8(m->document.text + node->value, (Py_ssize_t)node->len, NULL);
 }
 
 static PyObject *to_key(const memory *m, const simd_json_node *node) {
-    const char *bytes = m->text + node->value;
+    const char *bytes = m->document.text + node->value;
     if (node->len > CACHED_LEN)
         return to_string(m, node);
     uint64_t hash = node->len;
@@ -231,15 +217,15 @@ static int read_short(const char *literal, size_t len, double *number) {
 /* A number with a fraction or an exponent: the nearest float, or what `parse_float` makes of its literal. */
 static PyObject *to_float(const memory *m, const simd_json_node *node, PyObject *parse_float) {
     if (parse_float)
-        return PyObject_CallFunction(parse_float, "s#", m->text + node->value, (Py_ssize_t)node->len);
+        return PyObject_CallFunction(parse_float, "s#", m->document.text + node->value, (Py_ssize_t)node->len);
     double number;
-    if (read_short(m->text + node->value, node->len, &number))
+    if (read_short(m->document.text + node->value, node->len, &number))
         return PyFloat_FromDouble(number);
     char few[64];
     char *literal = node->len < sizeof few ? few : malloc(node->len + 1);
     if (!literal)
         return PyErr_NoMemory();
-    memcpy(literal, m->text + node->value, node->len);
+    memcpy(literal, m->document.text + node->value, node->len);
     literal[node->len] = 0;
     number = PyOS_string_to_double(literal, NULL, NULL);
     if (literal != few)
@@ -287,11 +273,11 @@ static int put(struct open *in, PyObject *value) {
 }
 
 /* The value of all nodes. A container is put into the one around it as soon as it is made, so an error frees the root alone. */
-static PyObject *build(memory *m, size_t count, PyObject *parse_float) {
+static PyObject *build(memory *m, PyObject *parse_float) {
     PyObject *root = NULL;
     size_t depth = 0;
-    for (size_t i = 0; i < count; i++) {
-        const simd_json_node *node = &m->nodes[i];
+    for (size_t i = 0; i < m->document.nodes_len; i++) {
+        const simd_json_node *node = &m->document.nodes[i];
         struct open *in = depth ? &m->open[depth - 1] : NULL;
         if (in && in->is_object && !in->key) {
             if (!(in->key = to_key(m, node)))
@@ -347,9 +333,8 @@ static int are_right(arguments *given) {
 static PyObject *loads_in(memory *kept, arguments *given) {
     memory own = {0};
     memory *m = kept->in_use ? &own : kept;
-    simd_json_room room;
     m->in_use = 1;
-    PyObject *value = parse(m, given->data, (size_t)given->max_depth, &room) ? build(m, room.nodes, given->parse_float) : NULL;
+    PyObject *value = parse(m, given->data, (size_t)given->max_depth) ? build(m, given->parse_float) : NULL;
     m->in_use = 0;
     if (m == &own)
         release(m);

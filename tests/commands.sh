@@ -1,7 +1,8 @@
 #!/bin/sh
 # Runs what README.md and docs/LINES.md show after `$ ` with the programs that the gate has built, and compares what is printed with
-# what those pages say; runs the rows of CONTRIBUTING.md; and looks for the code of README.md and docs/READING.md in tests and
-# programs. Silent where all is well, else status 1. The other commands are those of `make test`, install.sh, jq.sh and engines.sh.
+# what those pages say; runs the rows of CONTRIBUTING.md, whose other commands prove, and must be there; and looks for the code of
+# README.md and docs/READING.md in tests and programs. Silent where all is well, else status 1. The other commands are those of
+# `make test`, install.sh, jq.sh and engines.sh.
 set -u
 top=$(cd "$(dirname "$0")/.." && pwd)
 room=$(mktemp -d) || exit 1
@@ -26,6 +27,21 @@ done
 
 grep -E '^(parse|indexes)[:0-9]* .* => ' "$top/CONTRIBUTING.md" > "$room/rows"
 "$top/crates/simd_json_rows/out/simd_json_rows" < "$room/rows" | diff -U 0 "$room/rows" - || different=1
+
+# Commands of rt and make, scripts and files that these pages name.
+rt help > "$room/help" 2>&1
+(cd "$top" && cat README.md CONTRIBUTING.md docs/*.md) > "$room/pages"
+# shellcheck disable=SC2016
+grep -oE '(^|`)(rt|make|sh) [a-z][a-z/_.-]*|`crates/simd_json[a-z_/]*[.]rt' "$room/pages" | tr -d '`' | sort -u |
+    while read -r program name; do
+        case $program in
+            rt) grep -qE "rt ([a-z]+[|])*$name( |[|]|\$)" "$room/help" ;;
+            make) grep -qE "^$name:" "$top/Makefile" ;;
+            sh) [ -f "$top/$name" ] ;;
+            *) [ -f "$top/$program" ] ;;
+        esac || echo "is not there: $program $name"
+    done > "$room/absent"
+[ ! -s "$room/absent" ] || { cat "$room/absent"; different=1; }
 
 # A paragraph of code is one line, without comments and imports. The program of the README's installation is run by install.sh.
 lines() { sed 's/^ *//; /^\/\//d; /^use /d; s/pub(super) //g' | awk -v RS= '{ gsub(/\n/, " "); print }'; }

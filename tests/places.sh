@@ -113,4 +113,13 @@ status=$(cat "$room/status")
 wanted 'a closed pipe' 1 "$room/in:1:4: expected a value"
 [ -s "$room/err" ] && { different=1; echo 'a closed pipe is not quiet'; cat "$room/err"; }
 
+# The caret is red where that is asked for; a file is no terminal.
+for when in always auto never; do
+    printf '[1,]' | "$program" --color "$when" > "$room/out" 2> "$room/err"
+    status=$?
+    caret='^'
+    [ "$when" = always ] && caret=$(printf '\033[1;31m^\033[m')
+    wanted "a caret, $when" 1 "$(printf -- '-:1:4: expected a value, found `]` [InternalError at byte 3]\n[1,]\n   %s\n' "$caret")"
+done
+
 exit $different

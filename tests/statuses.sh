@@ -118,7 +118,7 @@ echo '[1' | "$program" tape > "$room/out" 2>&-
 status=$?
 wanted 'a refused document and closed standard error' 1 '' ''
 
-# log_report counts by a key, or by a JSON Pointer.
+# log_report counts by keys, and by JSON Pointers.
 program=$log_report
 given '{"level":"info"}\n{"level":"warn"}\n[1,]\n{"level":"info"}\n7\n' level
 wanted 'a count by key' 1 '2 "info"\n1 -\n1 !\n1 "warn"\n' "line 3: InternalError at character 3 (']')\n"
@@ -126,6 +126,10 @@ given '{"a":{"b/c":1}}\n{"a":[]}\n{"a":{"b/c":1}}' /a/b~1c
 wanted 'a count by pointer' 0 '2 1\n1 -\n' ''
 given '{"-n":1}' -- -n
 wanted 'a key that begins with -' 0 '1 1\n' ''
+given '{"a":"x","b":1}\n{"a":"x","b":1}\n{"a":"-"}\n[1,]' a --and /b
+wanted 'a count by two values' 1 '2 "x"\t1\n1 !\n1 "-"\t-\n' "line 4: InternalError at character 3 (']')\n"
+given '{"a":"-"}\n{"a":"x\\ty"}\n{"a":null,"-b":[1]}\n[1,]' --tsv --and -b a
+wanted 'a count as TSV' 1 '1\t\\!\n1\t-\t\\-\n1\tx\\ty\t\\-\n1\t\t[1]\n' "line 4: InternalError at character 3 (']')\n"
 given '{}\n123456\n12345678' --longest 7 level
 wanted 'a line that is too long' 1 '2 -\n1 !\n' 'line 3: longer than 7 bytes\n'
 given '' level
@@ -158,12 +162,14 @@ for longest in x -1 '' 4294967296; do
     said "log_report --longest=$longest" 2 '--longest <BYTES>'
 done
 
-# Files are one input: a line ends with its file, and lines are numbered through all of them.
+# A line ends with its file, and is named by the number that it has there.
 printf '{"k":1}\n{"k":2}' > "$room/a"
 printf '[1,]\n{"k":1}' > "$room/b"
 : > "$room/none"
 given '{"k":1}' k "$room/a" - "$room/none" "$room/b"
-wanted 'files and standard input' 1 '3 1\n1 !\n1 2\n' "line 4: InternalError at character 3 (']')\n"
+wanted 'files and standard input' 1 '3 1\n1 !\n1 2\n' "$room/b: line 1: InternalError at character 3 (']')\n"
+given '[1,]' k -
+wanted 'standard input by its name' 1 '1 !\n' "-: line 1: InternalError at character 3 (']')\n"
 given '' k "$room/a" "$room/missing" "$room/b"
 said 'a file that is missing' 3 "log_report: $room/missing: "
 given '' k "$room/a" "$room"
@@ -239,8 +245,15 @@ wanted 'a file that is not there' 3 '1\n1\n' 'jpick: missing\n'
 
 # A reader that goes away before all is written: more than a pipe holds.
 awk 'BEGIN { for (i = 0; i < 100000; i++) print "[12345]" }' > "$room/many"
-{ "$program" /0 < "$room/many" 2> "$room/err"; echo $? > "$room/status"; } | head -n 1 > "$room/out"
-status=$(cat "$room/status")
+# picked FILE: the fields of the lines of the file, for a reader that takes the first alone.
+picked() {
+    { "$program" /0 < "$1" 2> "$room/err"; echo $? > "$room/status"; } | head -n 1 > "$room/out"
+    status=$(cat "$room/status")
+}
+picked "$room/many"
 wanted 'a closed pipe, fields' 0 '12345\n' ''
+{ echo '[1,]'; cat "$room/many"; } > "$room/rejected"
+picked "$room/rejected"
+wanted 'a closed pipe, fields, and a rejected line' 1 '12345\n' '-:1:4: expected a value, found `]`\n'
 
 exit $different

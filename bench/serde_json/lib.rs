@@ -1,4 +1,5 @@
 //! The entries through which the benchmark times serde_json.
+mod typed;
 
 /// Reads a text as a `Value`, which is let go again. Negative where it was refused.
 ///

@@ -33,6 +33,14 @@ static void parser_kept(void) {
             WANT(simd_json_parser_tape(&parser, copy, 3, nodes, 8, out, 8, &room, &place) == SIMD_JSON_PARSER_CLOSED, "closed");
             WANT(place.index == 0 && place.character == SIMD_JSON_NO_CHARACTER, "closed");
             WANT(room.nodes == 7 && room.text == 7 && nodes[0].kind == 99 && strcmp(copy, "[1]") == 0, "closed");
+            size_t needed = 7;
+            simd_json_document lent = {nodes, 7, out, 7};
+            WANT(simd_json_parser_compact(&parser, copy, 3, out, 8, &needed, &place) == SIMD_JSON_PARSER_CLOSED, "closed");
+            WANT(simd_json_parser_pretty(&parser, copy, 3, out, 8, &needed, &place) == SIMD_JSON_PARSER_CLOSED, "closed");
+            WANT(simd_json_parser_compact_at(&parser, copy, 3, "/0", 2, out, 8, &needed, &place) == SIMD_JSON_PARSER_CLOSED, "closed");
+            WANT(simd_json_parser_pretty_at(&parser, copy, 3, "/0", 2, out, 8, &needed, &place) == SIMD_JSON_PARSER_CLOSED, "closed");
+            WANT(simd_json_parser_parse(&parser, copy, 3, &lent, &place) == SIMD_JSON_PARSER_CLOSED, "closed");
+            WANT(needed == 7 && lent.nodes == nodes && lent.nodes_len == 7 && lent.text == out && lent.text_len == 7, "closed");
             simd_json_close(&parser);
         }
         WANT(simd_json_open(&parser, 2) == SIMD_JSON_OK, "opened");
@@ -65,7 +73,8 @@ static void kinds_named(void) {
     WANT(simd_json_status_name(2, out, sizeof out) == 13 && memcmp(out, "InputTooLarge", 13) == 0, "status 2");
     WANT(simd_json_status_name(19, out, sizeof out) == 13 && memcmp(out, "TooLittleRoom", 13) == 0, "status 19");
     WANT(simd_json_status_name(20, out, sizeof out) == 12 && memcmp(out, "ParserClosed", 12) == 0, "status 20");
-    WANT(simd_json_status_name(21, out, sizeof out) == 0 && simd_json_status_name(-1, out, sizeof out) == 0, "no status");
+    WANT(simd_json_status_name(21, out, sizeof out) == 7 && memcmp(out, "NoValue", 7) == 0, "status 21");
+    WANT(simd_json_status_name(22, out, sizeof out) == 0 && simd_json_status_name(-1, out, sizeof out) == 0, "no status");
 }
 
 // The next sibling of each node of a document, and its members by the loops of the header; by hand.
@@ -86,6 +95,144 @@ static void siblings(void) {
     WANT(at == 10, "keys");
 }
 
+typedef int32_t print_at(simd_json_parser *, void *, size_t, const void *, size_t, void *, size_t, size_t *, simd_json_place *);
+
+// A value within a document, by pointers that lead to one and that do not. An error before or behind it is reported.
+static void values_printed(void) {
+    static const struct {
+        const char *input, *pointer, *compact, *pretty;
+        int status;
+    } rows[] = {
+        {"{\"a\": [1, {\"b\": [ ]}], \"c\": 2.50}", "/a/1", "{\"b\":[]}", "{\n  \"b\": []\n}", SIMD_JSON_OK},
+        {"{\"a\": [1, {\"b\": [ ]}], \"c\": 2.50}", "/c", "2.50", "2.50", SIMD_JSON_OK},
+        {" [ 7 ] ", "", "[7]", "[\n  7\n]", SIMD_JSON_OK},
+        {"{\"\\u00e9/~\": \"\\n\"}", "/\303\251~1~0", "\"\\n\"", "\"\\n\"", SIMD_JSON_OK},
+        {"[7]", "/1", 0, 0, SIMD_JSON_NO_VALUE},
+        {"[7]", "0", 0, 0, SIMD_JSON_NO_VALUE},
+        {"{\"a\":7}", "/\377", 0, 0, SIMD_JSON_NO_VALUE},
+        {"[7,]", "/0", 0, 0, SIMD_JSON_INTERNAL_ERROR},
+        {"[7,]", "/9", 0, 0, SIMD_JSON_INTERNAL_ERROR},
+        {"[7,]", "/\377", 0, 0, SIMD_JSON_NO_VALUE},
+    };
+    print_at *const calls[] = {simd_json_parser_compact_at, simd_json_parser_pretty_at};
+    char copy[64], out[64];
+    simd_json_parser parser = {0};
+    WANT(simd_json_open(&parser, 8) == SIMD_JSON_OK, "opened");
+    for (size_t i = 0; i < 2 * sizeof rows / sizeof *rows; i++) {
+        const char *pointer = rows[i / 2].pointer, *wanted = i % 2 ? rows[i / 2].pretty : rows[i / 2].compact;
+        size_t needed = 77, len = fresh(copy, rows[i / 2].input);
+        simd_json_place place = {5, 5};
+        int status = calls[i % 2](&parser, copy, len, pointer, strlen(pointer), out, sizeof out, &needed, &place);
+        WANT(status == rows[i / 2].status, pointer);
+        WANT(wanted ? needed == strlen(wanted) && memcmp(out, wanted, needed) == 0 : needed == 77, pointer);
+        WANT(place.index == (status == SIMD_JSON_INTERNAL_ERROR ? 3 : 0), pointer);
+        WANT((place.character == SIMD_JSON_NO_CHARACTER) == (status != SIMD_JSON_INTERNAL_ERROR), pointer);
+    }
+    simd_json_close(&parser);
+}
+
+// What is lent stays until the next call; after an error the last loan is not given again.
+static void tapes_lent(void) {
+    char copy[64];
+    simd_json_document lent = {0};
+    simd_json_place place;
+    simd_json_parser parser = {0};
+    WANT(simd_json_open(&parser, 8) == SIMD_JSON_OK, "opened");
+    for (int round = 0; round < 3; round++) {
+        size_t len = fresh(copy, "{\"the_answer\": [\"x\", 42]}");
+        WANT(simd_json_parser_parse(&parser, copy, len, &lent, &place) == SIMD_JSON_OK, "lent");
+        memset(copy, 0, sizeof copy);
+        size_t at = simd_json_pointer(lent.nodes, lent.nodes_len, lent.text, lent.text_len, 0, "/the_answer/1", 13);
+        WANT(lent.nodes_len == 5 && at == 4 && lent.nodes[at].kind == SIMD_JSON_U64 && lent.nodes[at].value == 42, "lent");
+        WANT(lent.text_len == 11 && memcmp(lent.text, "the_answerx", 11) == 0, "lent");
+        simd_json_document before = lent;
+        len = fresh(copy, "[[1,2],3");
+        WANT(simd_json_parser_parse(&parser, copy, len, &lent, &place) == SIMD_JSON_SYNTAX && place.index == 7, "lent");
+        WANT(memcmp(&before, &lent, sizeof lent) == 0, "lent");
+        WANT(simd_json_parser_parse(&parser, copy, fresh(copy, "7"), &lent, &place) == SIMD_JSON_OK, "lent");
+        WANT(lent.nodes_len == 1 && lent.text_len == 0 && lent.nodes[0].kind == SIMD_JSON_U64 && lent.nodes[0].value == 7, "lent");
+    }
+    simd_json_close(&parser);
+}
+
+// Values as they are written, of documents and of inputs that are none, by pointers that lead to one and that do not.
+static void values_found(void) {
+    static const struct {
+        const char *input, *pointer, *written;
+        uint32_t kind;
+    } rows[] = {
+        {"{\"a\": [1, {\"b\": [ ]}], \"c\": 2.50}", "/a/1", "{\"b\": [ ]}", SIMD_JSON_OBJECT},
+        {"{\"a\": [1, {\"b\": [ ]}], \"c\": 2.50}", "/a", "[1, {\"b\": [ ]}]", SIMD_JSON_ARRAY},
+        {"{\"a\": [1, {\"b\": [ ]}], \"c\": 2.50}", "/c", "2.50", SIMD_JSON_DECIMAL},
+        {"{\"\\u00e9/~\": \"\\n\"}", "/\303\251~1~0", "\"\\n\"", SIMD_JSON_STRING},
+        {" true ", "", "true", SIMD_JSON_BOOL},
+        {"[null]", "/0", "null", SIMD_JSON_NULL},
+        {"[-7, 7, -9223372036854775809, 18446744073709551616]", "/0", "-7", SIMD_JSON_I64},
+        {"[-7, 7, -9223372036854775809, 18446744073709551616]", "/1", "7", SIMD_JSON_U64},
+        {"[-7, 7, -9223372036854775809, 18446744073709551616]", "/2", "-9223372036854775809", SIMD_JSON_I128},
+        {"[-7, 7, -9223372036854775809, 18446744073709551616]", "/3", "18446744073709551616", SIMD_JSON_U128},
+        {"[7]", "/1", 0, 0},
+        {"[7]", "0", 0, 0},
+        {"{\"a\":7}", "/\377", 0, 0},
+        {"[7,]", "/0", "7", SIMD_JSON_U64},
+        {"[7,]", "/1", 0, 0},
+        {"[[1", "/0", 0, 0},
+        {"[[1}", "/0", "[1}", SIMD_JSON_ARRAY}, // brackets are counted
+        {"[1x]", "/0", 0, 0},
+    };
+    char copy[64], out[64];
+    simd_json_parser parser = {0};
+    WANT(simd_json_open(&parser, 0) == SIMD_JSON_OK, "opened");
+    for (size_t i = 0; i < sizeof rows / sizeof *rows; i++) {
+        const char *pointer = rows[i].pointer, *wanted = rows[i].written;
+        simd_json_found found = {77, 77};
+        simd_json_place place = {5, 5};
+        size_t len = fresh(copy, rows[i].input);
+        WANT(simd_json_parser_index(&parser, copy, len, &place) == SIMD_JSON_OK, rows[i].input);
+        WANT(place.index == 0 && place.character == SIMD_JSON_NO_CHARACTER && strcmp(copy, rows[i].input) == 0, rows[i].input);
+        memset(copy, 0, sizeof copy);
+        int status = simd_json_parser_find(&parser, pointer, strlen(pointer), &found, out, sizeof out);
+        WANT(status == (wanted ? SIMD_JSON_OK : SIMD_JSON_NO_VALUE), rows[i].input);
+        WANT(wanted ? found.kind == rows[i].kind && found.len == strlen(wanted) && memcmp(out, wanted, found.len) == 0
+                    : found.kind == 77 && found.len == 77,
+             rows[i].input);
+    }
+    simd_json_close(&parser);
+}
+
+// An input is kept by other calls, and by an error no more.
+static void input_kept(void) {
+    char copy[64], out[64];
+    simd_json_found found = {77, 77};
+    simd_json_place place;
+    simd_json_document lent;
+    simd_json_parser parser = {0};
+    WANT(simd_json_parser_index(&parser, "[1]", 3, &place) == SIMD_JSON_PARSER_CLOSED && place.index == 0, "closed");
+    WANT(simd_json_parser_find(&parser, "/0", 2, &found, out, sizeof out) == SIMD_JSON_PARSER_CLOSED, "closed");
+    WANT(simd_json_open(&parser, 8) == SIMD_JSON_OK, "opened");
+    WANT(simd_json_parser_find(&parser, "", 0, &found, out, sizeof out) == SIMD_JSON_NO_VALUE, "nothing kept");
+    WANT(found.kind == 77 && found.len == 77, "nothing kept");
+    WANT(simd_json_parser_index(&parser, "[\"\\u0041\", 2]", 13, &place) == SIMD_JSON_OK, "kept");
+    WANT(simd_json_parser_find(&parser, "/0", 2, &found, out, sizeof out) == SIMD_JSON_OK && found.len == 8, "kept");
+    WANT(simd_json_parser_parse(&parser, out, found.len, &lent, &place) == SIMD_JSON_OK, "kept");
+    WANT(lent.nodes_len == 1 && lent.nodes[0].kind == SIMD_JSON_STRING && lent.text_len == 1 && lent.text[0] == 'A', "kept");
+    WANT(simd_json_parser_check(&parser, copy, fresh(copy, "[3"), &place) == SIMD_JSON_SYNTAX, "kept");
+    out[0] = 'x';
+    WANT(simd_json_parser_find(&parser, "/1", 2, &found, out, 0) == SIMD_JSON_TOO_LITTLE_ROOM, "kept");
+    WANT(found.kind == SIMD_JSON_U64 && found.len == 1 && out[0] == 'x', "kept");
+    static const struct {
+        const char *input;
+        int status;
+    } bad[] = {{"\"", SIMD_JSON_SYNTAX}, {" ", SIMD_JSON_EOF}, {"\377", SIMD_JSON_INVALID_UTF8}};
+    for (size_t i = 0; i < sizeof bad / sizeof *bad; i++) {
+        WANT(simd_json_parser_index(&parser, "7", 1, &place) == SIMD_JSON_OK, "kept");
+        WANT(simd_json_parser_index(&parser, bad[i].input, 1, &place) == bad[i].status, bad[i].input);
+        WANT(place.index == 0 && place.character == SIMD_JSON_NO_CHARACTER, bad[i].input);
+        WANT(simd_json_parser_find(&parser, "", 0, &found, out, sizeof out) == SIMD_JSON_NO_VALUE, bad[i].input);
+    }
+    simd_json_close(&parser);
+}
+
 static void version(void) {
     WANT(simd_json_version() == SIMD_JSON_VERSION, "version");
     WANT(SIMD_JSON_VERSION == 200, "0.2.0");
@@ -95,6 +242,10 @@ int main(void) {
     version();
     siblings();
     parser_kept();
+    values_printed();
+    tapes_lent();
+    values_found();
+    input_kept();
     kinds_named();
     return wrong;
 }

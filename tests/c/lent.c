@@ -67,6 +67,24 @@ static void tapes(void) {
 
 typedef int32_t print(void *, size_t, size_t, void *, size_t, size_t *, simd_json_place *);
 
+// The same by a parser, with a limit for the document.
+static simd_json_parser parser;
+
+static int32_t parser_compact(void *input, size_t len, size_t max_depth, void *out, size_t out_len, size_t *needed,
+                              simd_json_place *place) {
+    WANT(max_depth == 2);
+    return simd_json_parser_compact(&parser, input, len, out, out_len, needed, place);
+}
+
+static int32_t parser_pretty_at(void *input, size_t len, size_t max_depth, void *out, size_t out_len, size_t *needed,
+                                simd_json_place *place) {
+    WANT(max_depth == 2);
+    lent pointer = lend_copy("/b", 2);
+    int32_t status = simd_json_parser_pretty_at(&parser, input, len, pointer.at, 2, out, out_len, needed, place);
+    give_back(pointer, 2);
+    return status;
+}
+
 static void prints(print *call, const char *wanted) {
     for (size_t room = 0; room <= strlen(wanted) + 1; room++) {
         lent input = lend_copy(document, len), out = lend(room);
@@ -78,6 +96,43 @@ static void prints(print *call, const char *wanted) {
         WANT(!fits || memcmp(out.at, wanted, needed) == 0);
         give_back(input, len);
         give_back(out, fits ? needed : 0);
+    }
+}
+
+// What is lent is the caller's tape, and the input before a page that may not be touched is enough.
+static void lends(void) {
+    simd_json_node nodes[16];
+    char texts[16];
+    simd_json_document kept;
+    simd_json_room room;
+    simd_json_place place;
+    lent input = lend_copy(document, len), again = lend_copy(document, len);
+    WANT(simd_json_parser_tape(&parser, input.at, len, nodes, 16, texts, 16, &room, &place) == SIMD_JSON_OK);
+    WANT(simd_json_parser_parse(&parser, again.at, len, &kept, &place) == SIMD_JSON_OK);
+    give_back(input, len);
+    give_back(again, len);
+    WANT(kept.nodes_len == need.nodes && kept.text_len == need.text && memcmp(kept.text, text, need.text) == 0);
+    for (size_t i = 0; i < need.nodes; i++) {
+        const simd_json_node *a = &nodes[i], *b = &kept.nodes[i];
+        WANT(a->kind == b->kind && a->len == b->len && a->value == b->value && a->high == b->high);
+    }
+}
+
+// A value by a pointer, from an input, with room for its bytes of each size.
+static void finds(const char *pointer, uint32_t kind, const char *wanted) {
+    size_t pointer_len = strlen(pointer), wanted_len = strlen(wanted);
+    for (size_t room = 0; room <= wanted_len + 1; room++) {
+        lent input = lend_copy(document, len), name = lend_copy(pointer, pointer_len), out = lend(room);
+        simd_json_found found = {77, 77};
+        simd_json_place place;
+        WANT(simd_json_parser_index(&parser, input.at, len, &place) == SIMD_JSON_OK);
+        give_back(input, len);
+        int status = simd_json_parser_find(&parser, name.at, pointer_len, &found, out.at, room);
+        int fits = room >= wanted_len;
+        WANT(status == (fits ? SIMD_JSON_OK : SIMD_JSON_TOO_LITTLE_ROOM) && found.kind == kind && found.len == wanted_len);
+        WANT(!fits || memcmp(out.at, wanted, wanted_len) == 0);
+        give_back(name, pointer_len);
+        give_back(out, fits ? wanted_len : 0);
     }
 }
 
@@ -200,6 +255,14 @@ int main(void) {
     prints(simd_json_compact, "{\"a\":[1,-2,2.5,\"\\n\303\251\",18446744073709551616],\"b\":{\"c\":null,\"d\":true}}");
     prints(simd_json_pretty, "{\n  \"a\": [\n    1,\n    -2,\n    2.5,\n    \"\\n\303\251\",\n    18446744073709551616\n  ],\n"
                              "  \"b\": {\n    \"c\": null,\n    \"d\": true\n  }\n}");
+    WANT(simd_json_open(&parser, 2) == SIMD_JSON_OK);
+    prints(parser_compact, "{\"a\":[1,-2,2.5,\"\\n\303\251\",18446744073709551616],\"b\":{\"c\":null,\"d\":true}}");
+    prints(parser_pretty_at, "{\n  \"c\": null,\n  \"d\": true\n}");
+    lends();
+    finds("", SIMD_JSON_OBJECT, document);
+    finds("/a/3", SIMD_JSON_STRING, "\"\\n\\u00e9\"");
+    finds("/b/d", SIMD_JSON_BOOL, "true");
+    simd_json_close(&parser);
     indexes();
     names();
     locations();

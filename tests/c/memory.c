@@ -59,39 +59,66 @@ static int location(void) {
 }
 static int indexed(void) { return simd_json_index(input, sizeof document - 1, indexes, 32, &needed, &place); }
 
-// A parser that is opened and closed again.
+static simd_json_parser parser;
+static simd_json_document lent;
+
+static int kept_check(void) { return simd_json_parser_check(&parser, input, sizeof document - 1, &place); }
+static int kept_tape(void) { return simd_json_parser_tape(&parser, input, sizeof document - 1, nodes, 16, out, 64, &room, &place); }
+static int kept_compact(void) { return simd_json_parser_compact(&parser, input, sizeof document - 1, out, 64, &needed, &place); }
+static int kept_pretty_at(void) {
+    return simd_json_parser_pretty_at(&parser, input, sizeof document - 1, "/1/1", 4, out, 64, &needed, &place);
+}
+static int kept_parse(void) { return simd_json_parser_parse(&parser, input, sizeof document - 1, &lent, &place); }
+static int kept_index(void) {
+    static simd_json_found found;
+    int status = simd_json_parser_index(&parser, input, sizeof document - 1, &place);
+    int looked = simd_json_parser_find(&parser, "/1/1", 4, &found, out, 64);
+    WANT(looked == (status == SIMD_JSON_OK ? SIMD_JSON_OK : SIMD_JSON_NO_VALUE));
+    WANT(status != SIMD_JSON_OK || (found.kind == SIMD_JSON_OBJECT && found.len == 10 && memcmp(out, "{\"a\":\"\\n\"}", 10) == 0));
+    return status;
+}
+
+static int (*const kept_calls[])(void) = {kept_check, kept_tape, kept_compact, kept_pretty_at, kept_parse, kept_index};
+enum { KEPT_CALLS = sizeof kept_calls / sizeof *kept_calls };
+
+// A parser that is opened and closed again, with each call between.
 static int kept(void) {
-    simd_json_parser parser = {0};
     int status = simd_json_open(&parser, 3);
     WANT(status == SIMD_JSON_OK ? parser.is_open == 1 : parser.is_open == 0);
-    if (status == SIMD_JSON_OK) {
-        status = simd_json_parser_check(&parser, input, sizeof document - 1, &place);
+    for (int i = 0; status == SIMD_JSON_OK && i < KEPT_CALLS; i++) {
+        strcpy(input, document);
+        memset(out, 0, sizeof out);
+        memset(nodes, 0, sizeof nodes);
+        room.nodes = needed = 77;
+        status = kept_calls[i]();
         WANT(parser.is_open == 1);
     }
     simd_json_close(&parser);
     return status;
 }
 
-// A parse that lacks memory leaves the parser as good as it was; once it has read an input, it allocates no more for such.
+// A call that lacks memory leaves the parser as good as it was; once each has read an input, none allocates more for such.
 static void memory_is_kept(void) {
-    simd_json_parser parser = {0};
     int before = held;
     WANT(simd_json_open(&parser, 3) == SIMD_JSON_OK);
     WANT(held == before + 1);
-    for (int status = SIMD_JSON_OUT_OF_MEMORY, failures = 0; status != SIMD_JSON_OK;) {
-        strcpy(input, document);
-        allowed = failures++;
-        status = simd_json_parser_check(&parser, input, sizeof document - 1, &place);
-        allowed = -1;
-        WANT(status == SIMD_JSON_OUT_OF_MEMORY || status == SIMD_JSON_OK);
-    }
+    for (int i = 0; i < KEPT_CALLS; i++)
+        for (int status = SIMD_JSON_OUT_OF_MEMORY, failures = 0; status != SIMD_JSON_OK;) {
+            strcpy(input, document);
+            allowed = failures++;
+            status = kept_calls[i]();
+            allowed = -1;
+            WANT(status == SIMD_JSON_OUT_OF_MEMORY || status == SIMD_JSON_OK);
+        }
     allowed = 0;
-    for (int round = 0; round < 3; round++) {
+    for (int round = 0; round < 3 * KEPT_CALLS; round++) {
         strcpy(input, document);
-        WANT(simd_json_parser_check(&parser, input, sizeof document - 1, &place) == SIMD_JSON_OK);
-        strcpy(input, document);
-        WANT(simd_json_parser_tape(&parser, input, sizeof document - 1, nodes, 16, out, 64, &room, &place) == SIMD_JSON_OK);
-        WANT(room.nodes == 8 && nodes[0].kind == SIMD_JSON_ARRAY && nodes[0].len == 3 && memcmp(out, "a\n", 2) == 0);
+        WANT(kept_calls[round % KEPT_CALLS]() == SIMD_JSON_OK);
+        if (round % KEPT_CALLS == 1)
+            WANT(room.nodes == 8 && nodes[0].kind == SIMD_JSON_ARRAY && nodes[0].len == 3 && memcmp(out, "a\n", 2) == 0);
+        if (round % KEPT_CALLS == 2) WANT(needed == sizeof document - 1 && memcmp(out, document, needed) == 0);
+        if (round % KEPT_CALLS == 3) WANT(needed == 15 && memcmp(out, "{\n  \"a\": \"\\n\"\n}", 15) == 0);
+        if (round % KEPT_CALLS == 4) WANT(lent.nodes_len == 8 && lent.text_len == 2 && memcmp(lent.text, "a\n", 2) == 0);
     }
     WANT(simd_json_open(&parser, 3) == SIMD_JSON_OUT_OF_MEMORY);
     allowed = -1;

@@ -1,7 +1,7 @@
 // Prints the rows of tests/vectors with the answers of the library: `parse` rows by each call that reads a document, `compact`
-// and `pretty` rows by the two that print one, `indexes` rows by the one that finds them, `locate`
-// rows by the one that finds an error's line and column, `pointer` rows by the one that follows a pointer. Rows that C has no call for and comments are copied. So a file of right rows
-// comes out unchanged.
+// and `pretty` rows by those that print one, `indexes` rows by the one that finds them, `locate` rows by the one that finds an
+// error's line and column, `pointer` rows by the one that follows a pointer and the one that prints what it names. Rows that C
+// has no call for and comments are copied. So a file of right rows comes out unchanged.
 #include <simd_json.h>
 #include <stdbool.h>
 #include <stdio.h>
@@ -171,14 +171,21 @@ static struct tape tape_of(simd_json_parser *parser, const struct row *row, stru
     return tape;
 }
 
-static int print(bool is_pretty, const struct row *row, struct print *text, size_t *needed) {
-    void *copy = copy_of(&row->input);
+static int print(simd_json_parser *parser, bool is_pretty, const struct row *row, struct print *text, size_t *needed) {
+    void *copy = copy_of(&row->input), *out = text->text.at;
+    size_t len = row->input.len, out_len = text->text.len;
     *needed = NOT_WRITTEN;
     text->place = (simd_json_place){NOT_WRITTEN, NOT_WRITTEN};
-    int status = (is_pretty ? simd_json_pretty : simd_json_compact)(copy, row->input.len, row->limit, text->text.at,
-                                                                    text->text.len, needed, &text->place);
+    int status = parser ? (is_pretty ? simd_json_parser_pretty : simd_json_parser_compact)(parser, copy, len, out, out_len, needed,
+                                                                                           &text->place)
+                        : (is_pretty ? simd_json_pretty : simd_json_compact)(copy, len, row->limit, out, out_len, needed, &text->place);
     free(copy);
     return status;
+}
+
+static const char *print_name(simd_json_parser *parser, bool is_pretty) {
+    if (parser) return is_pretty ? "simd_json_parser_pretty" : "simd_json_parser_compact";
+    return is_pretty ? "simd_json_pretty" : "simd_json_compact";
 }
 
 // Whether nothing is written from an index on.
@@ -189,12 +196,12 @@ static bool is_blank(const struct bytes *text, size_t from) {
 }
 
 // Into a few bytes, and then, where the text is longer, into one more than it has.
-static struct print print_of(bool is_pretty, const struct row *row, struct bytes *wrong) {
-    const char *call = is_pretty ? "simd_json_pretty" : "simd_json_compact";
+static struct print print_of(simd_json_parser *parser, bool is_pretty, const struct row *row, struct bytes *wrong) {
+    const char *call = print_name(parser, is_pretty);
     struct print text = {.text = {memory(FEW), FEW, FEW}};
     size_t needed, again;
     memset(text.text.at, NOT_WRITTEN, FEW);
-    text.status = print(is_pretty, row, &text, &needed);
+    text.status = print(parser, is_pretty, row, &text, &needed);
     bool is_printed = text.status == SIMD_JSON_OK, is_long = text.status == SIMD_JSON_TOO_LITTLE_ROOM;
     if (!is_blank(&text.text, is_printed ? needed : 0)) blame(wrong, call, " changed out");
     if (!is_printed && !is_long && needed != NOT_WRITTEN) blame(wrong, call, " changed *needed");
@@ -204,7 +211,7 @@ static struct print print_of(bool is_pretty, const struct row *row, struct bytes
         free(text.text.at);
         text.text = (struct bytes){memory(needed + 1), needed + 1, needed + 1};
         memset(text.text.at, NOT_WRITTEN, needed + 1);
-        text.status = print(is_pretty, row, &text, &again);
+        text.status = print(parser, is_pretty, row, &text, &again);
         if (again != needed || !is_blank(&text.text, needed)) blame(wrong, call, " is wrong with enough room");
     }
     if (needed < text.text.len) text.text.len = needed;
@@ -313,6 +320,13 @@ static bool is_equal(const struct tape *a, const struct tape *b) {
     return true;
 }
 
+static bool is_same_tape(const struct tape *a, const struct tape *b) {
+    if (a->room.nodes != b->room.nodes || !is_equal(a, b)) return false;
+    for (size_t i = 0; i < a->room.nodes; i++)
+        if (a->nodes[i].kind != b->nodes[i].kind) return false;
+    return true;
+}
+
 // The same status and place by another call.
 static void compare(struct bytes *wrong, const struct tape *tape, const char *call, int status, simd_json_place place) {
     if (status == tape->status && place.index == tape->place.index && place.character == tape->place.character) return;
@@ -322,9 +336,9 @@ static void compare(struct bytes *wrong, const struct tape *tape, const char *ca
 }
 
 // A document is printed, and read again as an equal value.
-static void compare_print(struct bytes *wrong, const struct tape *tape, const struct row *row, bool is_pretty) {
-    const char *call = is_pretty ? "simd_json_pretty" : "simd_json_compact";
-    struct print text = print_of(is_pretty, row, wrong);
+static void compare_print(struct bytes *wrong, const struct tape *tape, const struct row *row, simd_json_parser *parser, bool is_pretty) {
+    const char *call = print_name(parser, is_pretty);
+    struct print text = print_of(parser, is_pretty, row, wrong);
     compare(wrong, tape, call, text.status, text.place);
     if (text.status == SIMD_JSON_OK && tape->status == SIMD_JSON_OK) {
         struct row printed = {text.text, row->limit};
@@ -339,6 +353,21 @@ static void compare_print(struct bytes *wrong, const struct tape *tape, const st
     free(text.text.at);
 }
 
+// What the parser lends, which is its own.
+static struct tape lent_of(simd_json_parser *parser, const struct row *row, struct bytes *wrong) {
+    void *copy = copy_of(&row->input);
+    simd_json_document lent = {0, NOT_WRITTEN, 0, NOT_WRITTEN};
+    struct tape tape = {.place = {NOT_WRITTEN, NOT_WRITTEN}};
+    tape.status = simd_json_parser_parse(parser, copy, row->input.len, &lent, &tape.place);
+    free(copy);
+    bool is_same = lent.nodes_len == NOT_WRITTEN && lent.text_len == NOT_WRITTEN && !lent.nodes && !lent.text;
+    if (tape.status != SIMD_JSON_OK && !is_same) blame(wrong, "simd_json_parser_parse", " changed *document");
+    tape.room = (simd_json_room){lent.nodes_len, lent.text_len};
+    tape.nodes = (simd_json_node *)lent.nodes;
+    tape.text = (unsigned char *)lent.text;
+    return tape;
+}
+
 static void answer_parse(struct bytes *to, const struct row *row, simd_json_parser *parser) {
     struct bytes wrong = {0}, by_parser = {0};
     struct tape tape = tape_of(0, row, &wrong), kept = tape_of(parser, row, &wrong);
@@ -351,14 +380,20 @@ static void answer_parse(struct bytes *to, const struct row *row, simd_json_pars
     }
     if (tape.status == SIMD_JSON_OK && !is_tidy(&tape)) blame(&wrong, "simd_json_tape", " has wrong fields");
     if (kept.status == SIMD_JSON_OK && !is_tidy(&kept)) blame(&wrong, "simd_json_parser_tape", " has wrong fields");
+    struct tape lent = lent_of(parser, row, &wrong);
+    compare(&wrong, &tape, "simd_json_parser_parse", lent.status, lent.place);
+    if (lent.status == SIMD_JSON_OK && (!is_tidy(&lent) || !is_same_tape(&tape, &lent)))
+        blame(&wrong, "simd_json_parser_parse", " lends another tape");
     simd_json_place place = {NOT_WRITTEN, NOT_WRITTEN};
     int status = check(0, row, &place);
     compare(&wrong, &tape, "simd_json_check", status, place);
     place = (simd_json_place){NOT_WRITTEN, NOT_WRITTEN};
     status = check(parser, row, &place);
     compare(&wrong, &tape, "simd_json_parser_check", status, place);
-    compare_print(&wrong, &tape, row, false);
-    compare_print(&wrong, &tape, row, true);
+    for (int is_pretty = 0; is_pretty < 2; is_pretty++) {
+        compare_print(&wrong, &tape, row, 0, is_pretty);
+        compare_print(&wrong, &tape, row, parser, is_pretty);
+    }
     put(to, wrong.at, wrong.len);
     free_tape(&tape);
     free_tape(&kept);
@@ -366,9 +401,11 @@ static void answer_parse(struct bytes *to, const struct row *row, simd_json_pars
     free(by_parser.at);
 }
 
-static void answer_print(struct bytes *to, const struct row *row, bool is_pretty) {
+static void answer_print(struct bytes *to, const struct row *row, simd_json_parser *parser, bool is_pretty) {
     struct bytes wrong = {0};
-    struct print text = print_of(is_pretty, row, &wrong);
+    struct print text = print_of(0, is_pretty, row, &wrong), kept = print_of(parser, is_pretty, row, &wrong);
+    if (kept.status != text.status || !is_same(&kept.text, &text.text)) blame(&wrong, print_name(parser, is_pretty), " differs");
+    free(kept.text.at);
     if (text.status != SIMD_JSON_OK || !is_nowhere(text.place))
         put_status(to, text.status, text.place);
     else
@@ -456,24 +493,78 @@ static size_t put_value(struct bytes *to, const struct tape *tape, size_t i) {
     return simd_json_next(tape->nodes, i);
 }
 
-// The document of the last `document` row.
+// The document of the last `document` row, and its bytes.
 static struct tape document;
+static struct row document_row;
 
-static void read_document(const struct row *row) {
+static void read_document(struct row row) {
     struct bytes wrong = {0};
     free_tape(&document);
-    document = tape_of(0, row, &wrong);
+    free(document_row.input.at);
+    document_row = row;
+    document = tape_of(0, &row, &wrong);
     if (document.status != SIMD_JSON_OK || wrong.len) stop("no document", "simd_json_tape");
 }
 
+// The same value, or none, is printed by the parser from the bytes.
+static void compare_at(struct bytes *wrong, simd_json_parser *parser, const struct bytes *pointer, const struct bytes *wanted) {
+    void *copy = copy_of(&document_row.input), *out = memory(document_row.input.len);
+    size_t needed = NOT_WRITTEN;
+    simd_json_place place;
+    int status = simd_json_parser_compact_at(parser, copy, document_row.input.len, pointer->at, pointer->len, out,
+                                             document_row.input.len, &needed, &place);
+    bool is_right = wanted ? status == SIMD_JSON_OK && needed == wanted->len && memcmp(out, wanted->at, needed) == 0
+                           : status == SIMD_JSON_NO_VALUE && needed == NOT_WRITTEN;
+    if (!is_right || !is_nowhere(place)) blame(wrong, "simd_json_parser_compact_at", " differs");
+    free(copy);
+    free(out);
+}
+
+// The same value, or none, is found by the parser, as an input of its own with the same nodes.
+static void compare_found(struct bytes *wrong, simd_json_parser *parser, const struct bytes *pointer, size_t at) {
+    struct bytes out = {memory(document_row.input.len), document_row.input.len, document_row.input.len};
+    simd_json_found found = {NOT_WRITTEN, NOT_WRITTEN};
+    simd_json_place place;
+    memset(out.at, NOT_WRITTEN, out.len);
+    if (simd_json_parser_index(parser, document_row.input.at, document_row.input.len, &place) != SIMD_JSON_OK || !is_nowhere(place))
+        blame(wrong, "simd_json_parser_index", " rejects a document");
+    int status = simd_json_parser_find(parser, pointer->at, pointer->len, &found, out.at, out.len);
+    if (at == SIMD_JSON_NO_NODE) {
+        if (status != SIMD_JSON_NO_VALUE || found.kind != NOT_WRITTEN || found.len != NOT_WRITTEN || !is_blank(&out, 0))
+            blame(wrong, "simd_json_parser_find", " finds a value");
+    } else if (status != SIMD_JSON_OK || found.kind != document.nodes[at].kind || !is_blank(&out, found.len)) {
+        blame(wrong, "simd_json_parser_find", " finds no such value");
+    } else {
+        struct row row = {{out.at, found.len, found.len}, 1024};
+        struct bytes shown = {0}, own = {0};
+        struct tape tape = tape_of(0, &row, wrong);
+        put_value(&shown, &document, at);
+        if (tape.status == SIMD_JSON_OK) put_value(&own, &tape, 0);
+        if (!is_same(&shown, &own)) blame(wrong, "simd_json_parser_find", " differs");
+        free_tape(&tape);
+        free(shown.at);
+        free(own.at);
+    }
+    free(out.at);
+}
+
 // A row that says why a pointer leads nowhere keeps its answer, where none is found.
-static void answer_pointer(struct bytes *to, const struct bytes *pointer, const char *wanted) {
+static void answer_pointer(struct bytes *to, const struct bytes *pointer, simd_json_parser *parser, const char *wanted) {
     size_t count = document.room.nodes;
     size_t found = simd_json_pointer(document.nodes, count, document.text, document.room.text, 0, pointer->at, pointer->len);
-    if (found != SIMD_JSON_NO_NODE)
-        put_value(to, &document, found);
-    else
+    if (found != SIMD_JSON_NO_NODE) {
+        struct bytes shown = {0}, text = {0};
+        put_value(&shown, &document, found);
+        put(to, shown.at, shown.len);
+        decode((char *)shown.at, (char *)shown.at + shown.len, &text);
+        compare_at(to, parser, pointer, &text);
+        free(shown.at);
+        free(text.at);
+    } else {
         put_text(to, wanted[0] == '!' ? wanted : "none");
+        compare_at(to, parser, pointer, 0);
+    }
+    compare_found(to, parser, pointer, found);
 }
 
 static bool is_word(const char *line, size_t len, const char *word) { return len == strlen(word) && memcmp(line, word, len) == 0; }
@@ -491,8 +582,7 @@ static void answer(const char *line, struct bytes *to, simd_json_parser *kept, s
     if (is_word(line, len, "document")) {
         struct row row = {.limit = 1024};
         decode(input + 1, line + strlen(line), &row.input);
-        read_document(&row);
-        free(row.input.at);
+        read_document(row);
         put_text(to, line);
         return;
     }
@@ -506,7 +596,7 @@ static void answer(const char *line, struct bytes *to, simd_json_parser *kept, s
     if (is_indexes) {
         answer_indexes(to, &row);
     } else if (is_pointer) {
-        answer_pointer(to, &row.input, end + 4);
+        answer_pointer(to, &row.input, kept, end + 4);
     } else if (is_locate) {
         answer_locate(to, &row);
     } else if (is_parse && row.limit == 1024) {
@@ -515,7 +605,7 @@ static void answer(const char *line, struct bytes *to, simd_json_parser *kept, s
         if (simd_json_open(other, row.limit) != SIMD_JSON_OK) stop("no parser", line);
         answer_parse(to, &row, other);
     } else {
-        answer_print(to, &row, is_pretty);
+        answer_print(to, &row, kept, is_pretty);
     }
     free(row.input.at);
 }
@@ -539,6 +629,7 @@ int main(void) {
     simd_json_close(&kept);
     simd_json_close(&other);
     free_tape(&document);
+    free(document_row.input.at);
     free(line);
     free(out.at);
     return 0;

@@ -5,6 +5,7 @@ use Rattle.std.specs.Prelude.{is_some}
 use Rattle.std.specs.List.{list_all}
 use Rattle.jcheck.specs.Reports.{is_clean_line, line_text, lines_text}
 use Rattle.jcheck.specs.Writings.{HasPart}
+use Rattle.jcheck.specs.declared.excerpt.Style.{Style}
 use Rattle.simd_json_print.specs.Texts.{TargetState, Adds}
 use Rattle.simd_json_print.specs.declared.text.Text.{Text}
 use Rattle.simd_json_print.proofs.Texts.{adds-none, adds-is, adds-then, adds-lost}
@@ -20,13 +21,13 @@ none-done state text whole = record { part = []; parts = refl; put = adds-none s
 
 -- ---- lines
 
-pub line-more : (file : List ℕ) (width limit number start next after : ℕ) (line : List ℕ) (more all : List (List ℕ)) → all ≡ line ∷ more
-    → next ≡ number + 1 → after ≡ start + length line + 1 → lines_text file width limit number start all
-    ≡ line_text file width limit number start line ++ lines_text file width limit next after more
-line-more file width limit number start next after line more all cut is at =
-    ap (lines_text file width limit number start) cut
-    ∙ ap (λ n. line_text file width limit number start line ++ lines_text file width limit n (start + length line + 1) more) (sym is)
-    ∙ ap (λ s. line_text file width limit number start line ++ lines_text file width limit next s more) (sym at)
+pub line-more : (file : List ℕ) (style : Style) (limit number start next after : ℕ) (line : List ℕ) (more all : List (List ℕ))
+    → all ≡ line ∷ more → next ≡ number + 1 → after ≡ start + length line + 1 → lines_text file style limit number start all
+    ≡ line_text file style limit number start line ++ lines_text file style limit next after more
+line-more file style limit number start next after line more all cut is at =
+    ap (lines_text file style limit number start) cut
+    ∙ ap (λ n. line_text file style limit number start line ++ lines_text file style limit n (start + length line + 1) more) (sym is)
+    ∙ ap (λ s. line_text file style limit number start line ++ lines_text file style limit next s more) (sym at)
 
 -- and whether it is clean
 clean-first : (p : List ℕ → Bool) (clean is : Bool) (line : List ℕ) (more : List (List ℕ)) → is ≡ p line
@@ -83,13 +84,13 @@ module _ {T : Type 0} {size : ℕ} {state : T → TargetState} where
       all-put (subst (λ later. IsDone state a b later whole) none done)
 
   -- one line more, whose text was put
-  pub line-done : {a b c : Text T size} (file own : List ℕ) (width limit own_limit : ℕ) (number start next after : ℕ) (line : List ℕ)
+  pub line-done : {a b c : Text T size} (file own : List ℕ) (style : Style) (limit own_limit number start next after : ℕ) (line : List ℕ)
       (more all : List (List ℕ)) {whole : List ℕ} → own ≡ file → own_limit ≡ limit → all ≡ line ∷ more → next ≡ number + 1
-      → after ≡ start + length line + 1 → IsDone state a b (lines_text file width limit number start all) whole
-      → Adds state b c (line_text own width own_limit number start line)
-      → IsDone state a c (lines_text file width limit next after more) whole
-  line-done {b = b} {c = c} file own width limit own_limit number start next after line more all same same_limit cut is at
+      → after ≡ start + length line + 1 → IsDone state a b (lines_text file style limit number start all) whole
+      → Adds state b c (line_text own style own_limit number start line)
+      → IsDone state a c (lines_text file style limit next after more) whole
+  line-done {b = b} {c = c} file own style limit own_limit number start next after line more all same same_limit cut is at
       done put =
-      one-more (line-more file width limit number start next after line more all cut is at) done
-      (adds-is state b c (line_text own width own_limit number start line) (line_text file width limit number start line)
-      (ap (λ f. line_text f width own_limit number start line) same ∙ ap (λ l. line_text file width l number start line) same_limit) put)
+      one-more (line-more file style limit number start next after line more all cut is at) done
+      (adds-is state b c (line_text own style own_limit number start line) (line_text file style limit number start line)
+      (ap (λ f. line_text f style own_limit number start line) same ∙ ap (λ l. line_text file style l number start line) same_limit) put)

@@ -14,6 +14,7 @@ use Rattle.jcheck.proofs.Checked.{cut-at}
 use Rattle.jcheck.specs.Reports.{is_clean_line, line_text, lines_text}
 use Rattle.jcheck.specs.Streams.{AreDone, EndsLines, Stops, Takes, bytes_of}
 use Rattle.jcheck.specs.Writings.{HasLeftOff, HasStopped}
+use Rattle.jcheck.specs.declared.excerpt.Style.{Style}
 use Rattle.jcheck.specs.declared.lines.Lines.{Lines}
 use Rattle.jtape.proofs.Pieces.{is-equal, pieces-some}
 use Rattle.jtape.specs.Pieces.{pieces}
@@ -55,23 +56,23 @@ pieces-append (x ∷ a) b =
     ap (λ ps. cond (x == line_feed) ([] ∷ ps) (with_first x ps)) (pieces-append a b)
     ∙ front-append (x == line_feed) x (pieces a) (pieces b) (pieces-some a)
 
-pub lines-append : (file : List ℕ) (width limit number start : ℕ) (ps qs : List (List ℕ))
-    → lines_text file width limit number start (ps ++ qs)
-    ≡ lines_text file width limit number start ps ++ lines_text file width limit (number + length ps) (start + bytes_of ps) qs
-lines-append file width limit number start [] qs =
-    ap (λ n. lines_text file width limit n start qs) (sym (add-zero number))
-    ∙ ap (λ s. lines_text file width limit (number + 0) s qs) (sym (add-zero start))
-lines-append file width limit number start (p ∷ ps) qs =
-    let here = line_text file width limit number start p in
-    let rest = lines_text file width limit (number + 1) (start + length p + 1) ps in
+pub lines-append : (file : List ℕ) (style : Style) (limit number start : ℕ) (ps qs : List (List ℕ))
+    → lines_text file style limit number start (ps ++ qs)
+    ≡ lines_text file style limit number start ps ++ lines_text file style limit (number + length ps) (start + bytes_of ps) qs
+lines-append file style limit number start [] qs =
+    ap (λ n. lines_text file style limit n start qs) (sym (add-zero number))
+    ∙ ap (λ s. lines_text file style limit (number + 0) s qs) (sym (add-zero start))
+lines-append file style limit number start (p ∷ ps) qs =
+    let here = line_text file style limit number start p in
+    let rest = lines_text file style limit (number + 1) (start + length p + 1) ps in
     let next : number + 1 + length ps ≡ number + length (p ∷ ps) = omega arith in
     let after : start + length p + 1 + bytes_of ps ≡ start + bytes_of (p ∷ ps) = omega arith in
     ap (λ us. here ++ us) (
-    lines-append file width limit (number + 1) (start + length p + 1) ps qs
-    ∙ ap (λ n. rest ++ lines_text file width limit n (start + length p + 1 + bytes_of ps) qs) next
-    ∙ ap (λ s. rest ++ lines_text file width limit (number + length (p ∷ ps)) s qs) after
+    lines-append file style limit (number + 1) (start + length p + 1) ps qs
+    ∙ ap (λ n. rest ++ lines_text file style limit n (start + length p + 1 + bytes_of ps) qs) next
+    ∙ ap (λ s. rest ++ lines_text file style limit (number + length (p ∷ ps)) s qs) after
     )
-    ∙ sym (append_assoc here rest (lines_text file width limit (number + length (p ∷ ps)) (start + bytes_of (p ∷ ps)) qs))
+    ∙ sym (append_assoc here rest (lines_text file style limit (number + length (p ∷ ps)) (start + bytes_of (p ∷ ps)) qs))
 
 all-append : (p : List ℕ → Bool) (xs ys : List (List ℕ)) → list_all p (xs ++ ys) ≡ (list_all p xs && list_all p ys)
 all-append p [] ys = refl
@@ -97,10 +98,10 @@ last-cut block ended rest more k found front back next =
 
 -- ---- what has been read
 
-pub more-begun : {width limit : ℕ} (old new : Lines) {input : List ℕ} {held holds : Option (List ℕ)} (block : List ℕ)
+pub more-begun : {style : Style} {limit : ℕ} (old new : Lines) {input : List ℕ} {held holds : Option (List ℕ)} (block : List ℕ)
     → new.place ≡ old.place → new.clean ≡ old.clean → new.begun.items ≡ old.begun.items ++ block
-    → AreDone width limit old input held holds → AreDone width limit new (input ++ block) held holds
-more-begun {width} {limit} old new {input} {held} {holds} block place clean begun d = record {
+    → AreDone style limit old input held holds → AreDone style limit new (input ++ block) held holds
+more-begun {style} {limit} old new {input} {held} {holds} block place clean begun d = record {
   done = d.done;
   cut = λ more.
       ap pieces (append_assoc input block more) ∙ d.cut (block ++ more)
@@ -108,35 +109,35 @@ more-begun {width} {limit} old new {input} {held} {holds} block place clean begu
   line_is = ap (λ p. p.line) place ∙ d.line_is;
   byte_is = ap (λ p. p.byte) place ∙ d.byte_is;
   clean_is = clean ∙ d.clean_is;
-  written = subst (λ p. Appends held holds (lines_text p.file.now width limit 1 0 d.done)) (sym place) d.written;
+  written = subst (λ p. Appends held holds (lines_text p.file.now style limit 1 0 d.done)) (sym place) d.written;
 }
 
-module _ {width limit : ℕ} {lines : Lines} {input : List ℕ} {held holds : Option (List ℕ)}
-    (d : AreDone width limit lines input held holds) where
+module _ {style : Style} {limit : ℕ} {lines : Lines} {input : List ℕ} {held holds : Option (List ℕ)}
+    (d : AreDone style limit lines input held holds) where
   abbrev file : List ℕ
   file = lines.place.file.now
 
   -- the report on the bytes that are kept, and on more
   abbrev text : List ℕ → List ℕ
-  text more = lines_text file width limit lines.place.line lines.place.byte (pieces (lines.begun.items ++ more))
+  text more = lines_text file style limit lines.place.line lines.place.byte (pieces (lines.begun.items ++ more))
 
-  after-done : (ps : List (List ℕ)) → lines_text file width limit 1 0 (d.done ++ ps)
-      ≡ lines_text file width limit 1 0 d.done ++ lines_text file width limit lines.place.line lines.place.byte ps
+  after-done : (ps : List (List ℕ)) → lines_text file style limit 1 0 (d.done ++ ps)
+      ≡ lines_text file style limit 1 0 d.done ++ lines_text file style limit lines.place.line lines.place.byte ps
   after-done ps =
       let at : 0 + bytes_of d.done ≡ lines.place.byte = omega (arith, d.byte_is) in
-      lines-append file width limit 1 0 d.done ps
-      ∙ ap (λ n. lines_text file width limit 1 0 d.done ++ lines_text file width limit n (0 + bytes_of d.done) ps) (sym d.line_is)
-      ∙ ap (λ s. lines_text file width limit 1 0 d.done ++ lines_text file width limit lines.place.line s ps) at
+      lines-append file style limit 1 0 d.done ps
+      ∙ ap (λ n. lines_text file style limit 1 0 d.done ++ lines_text file style limit n (0 + bytes_of d.done) ps) (sym d.line_is)
+      ∙ ap (λ s. lines_text file style limit 1 0 d.done ++ lines_text file style limit lines.place.line s ps) at
 
-  pub whole-is : (more : List ℕ) → lines_text file width limit 1 0 (pieces (input ++ more))
-      ≡ lines_text file width limit 1 0 d.done ++ text more
-  whole-is more = ap (lines_text file width limit 1 0) (d.cut more) ∙ after-done (pieces (lines.begun.items ++ more))
+  pub whole-is : (more : List ℕ) → lines_text file style limit 1 0 (pieces (input ++ more))
+      ≡ lines_text file style limit 1 0 d.done ++ text more
+  whole-is more = ap (lines_text file style limit 1 0) (d.cut more) ∙ after-done (pieces (lines.begun.items ++ more))
 
   -- a beginning of it was written
   pub stopped : {now : Option (List ℕ)} (more : List ℕ) (e : Error) (failed : Bool) → HasStopped e failed holds now (text more)
-      → HasStopped e failed held now (lines_text file width limit 1 0 (pieces (input ++ more)))
+      → HasStopped e failed held now (lines_text file style limit 1 0 (pieces (input ++ more)))
   stopped {now} more e failed h =
-      let front = lines_text file width limit 1 0 d.done in
+      let front = lines_text file style limit 1 0 d.done in
       record {
         reason = h.reason;
         count = length front + h.count;
@@ -147,18 +148,18 @@ module _ {width limit : ℕ} {lines : Lines} {input : List ℕ} {held holds : Op
 
   -- nothing of it was
   pub stopped-here : (more : List ℕ) (e : Error) (failed : Bool) → failed ≡ false → error_kind e ≡ OutOfMemory
-      → HasStopped e failed held holds (lines_text file width limit 1 0 (pieces (input ++ more)))
+      → HasStopped e failed held holds (lines_text file style limit 1 0 (pieces (input ++ more)))
   stopped-here more e failed sound kind =
       stopped more e failed (record { reason = inr (sound, kind); count = 0; written = Appends-nil holds })
 
   -- no more of that on the bytes read so far than on the lines that have ended
   pub left-off : (e : Error) (unread failed : Bool)
       → ((unread ≡ true) × (failed ≡ false)) ⊎ ((unread ≡ false) × ((failed ≡ true) ⊎ ((failed ≡ false) × (error_kind e ≡ OutOfMemory))))
-      → HasLeftOff e unread failed held holds (lines_text file width limit 1 0 (pieces input))
+      → HasLeftOff e unread failed held holds (lines_text file style limit 1 0 (pieces input))
   left-off e unread failed reason =
-      let front = lines_text file width limit 1 0 d.done in
-      let is : lines_text file width limit 1 0 (pieces input) ≡ front ++ text [] =
-      ap (λ b. lines_text file width limit 1 0 (pieces b)) (sym (append-nil input)) ∙ whole-is [] in
+      let front = lines_text file style limit 1 0 d.done in
+      let is : lines_text file style limit 1 0 (pieces input) ≡ front ++ text [] =
+      ap (λ b. lines_text file style limit 1 0 (pieces b)) (sym (append-nil input)) ∙ whole-is [] in
       record {
         reason = reason;
         count = length front;
@@ -167,25 +168,25 @@ module _ {width limit : ℕ} {lines : Lines} {input : List ℕ} {held holds : Op
 
   -- a beginning of that on the last line was
   pub stopped-last : {now : Option (List ℕ)} (e : Error) (failed : Bool)
-      → HasStopped e failed holds now (lines_text file width limit lines.place.line lines.place.byte (pieces lines.begun.items))
-      → HasStopped e failed held now (lines_text file width limit 1 0 (pieces input))
+      → HasStopped e failed holds now (lines_text file style limit lines.place.line lines.place.byte (pieces lines.begun.items))
+      → HasStopped e failed held now (lines_text file style limit 1 0 (pieces input))
   stopped-last {now} e failed h =
-      subst (λ b. HasStopped e failed held now (lines_text file width limit 1 0 (pieces b))) (append-nil input)
+      subst (λ b. HasStopped e failed held now (lines_text file style limit 1 0 (pieces b))) (append-nil input)
       (stopped [] e failed
-      (subst (λ b. HasStopped e failed holds now (lines_text file width limit lines.place.line lines.place.byte (pieces b)))
+      (subst (λ b. HasStopped e failed holds now (lines_text file style limit lines.place.line lines.place.byte (pieces b)))
       (sym (append-nil lines.begun.items)) h))
 
   -- a beginning of that on lines which a line feed ends
   pub stopped-within : {now : Option (List ℕ)} (more : List ℕ) (e : Error) (failed : Bool)
-      → HasStopped e failed holds now (lines_text file width limit lines.place.line lines.place.byte (pieces lines.begun.items))
-      → HasStopped e failed held now (lines_text file width limit 1 0 (pieces (input ++ line_feed ∷ more)))
+      → HasStopped e failed holds now (lines_text file style limit lines.place.line lines.place.byte (pieces lines.begun.items))
+      → HasStopped e failed held now (lines_text file style limit 1 0 (pieces (input ++ line_feed ∷ more)))
   stopped-within {now} more e failed h =
-      let front = lines_text file width limit lines.place.line lines.place.byte (pieces lines.begun.items) in
-      let rest = lines_text file width limit (lines.place.line + length (pieces lines.begun.items))
+      let front = lines_text file style limit lines.place.line lines.place.byte (pieces lines.begun.items) in
+      let rest = lines_text file style limit (lines.place.line + length (pieces lines.begun.items))
       (lines.place.byte + bytes_of (pieces lines.begun.items)) (pieces more) in
       let all : text (line_feed ∷ more) ≡ front ++ rest =
-      ap (lines_text file width limit lines.place.line lines.place.byte) (pieces-append lines.begun.items more)
-      ∙ lines-append file width limit lines.place.line lines.place.byte (pieces lines.begun.items) (pieces more) in
+      ap (lines_text file style limit lines.place.line lines.place.byte) (pieces-append lines.begun.items more)
+      ∙ lines-append file style limit lines.place.line lines.place.byte (pieces lines.begun.items) (pieces more) in
       let count = take-front h.count front rest in
       stopped (line_feed ∷ more) e failed (record {
         reason = h.reason;
@@ -195,16 +196,16 @@ module _ {width limit : ℕ} {lines : Lines} {input : List ℕ} {held holds : Op
 
   -- all of it was
   pub all-written : (now : Option (List ℕ))
-      → Appends holds now (lines_text file width limit lines.place.line lines.place.byte (pieces lines.begun.items))
-      → Appends held now (lines_text file width limit 1 0 (pieces input))
+      → Appends holds now (lines_text file style limit lines.place.line lines.place.byte (pieces lines.begun.items))
+      → Appends held now (lines_text file style limit 1 0 (pieces input))
   all-written now more =
-      let front = lines_text file width limit 1 0 d.done in
-      let is : lines_text file width limit 1 0 (pieces input)
-      ≡ front ++ lines_text file width limit lines.place.line lines.place.byte (pieces lines.begun.items) =
-      ap (λ b. lines_text file width limit 1 0 (pieces b)) (sym (append-nil input)) ∙ whole-is []
-      ∙ ap (λ b. front ++ lines_text file width limit lines.place.line lines.place.byte (pieces b)) (append-nil lines.begun.items) in
+      let front = lines_text file style limit 1 0 d.done in
+      let is : lines_text file style limit 1 0 (pieces input)
+      ≡ front ++ lines_text file style limit lines.place.line lines.place.byte (pieces lines.begun.items) =
+      ap (λ b. lines_text file style limit 1 0 (pieces b)) (sym (append-nil input)) ∙ whole-is []
+      ∙ ap (λ b. front ++ lines_text file style limit lines.place.line lines.place.byte (pieces b)) (append-nil lines.begun.items) in
       subst (Appends held now) (sym is)
-      (Appends-trans held holds now front (lines_text file width limit lines.place.line lines.place.byte (pieces lines.begun.items))
+      (Appends-trans held holds now front (lines_text file style limit lines.place.line lines.place.byte (pieces lines.begun.items))
       d.written more)
 
   pub all-clean : {is : Bool} → is ≡ list_all (is_clean_line limit) (pieces lines.begun.items)
@@ -219,15 +220,15 @@ module _ {width limit : ℕ} {lines : Lines} {input : List ℕ} {held holds : Op
   line-bound = omega (arith, d.line_is, d.byte_is, length-bytes d.done)
 
 -- the bytes that have begun are lines, up to a line feed
-pub lines-ended : {width limit : ℕ} (old new : Lines) {input : List ℕ} {held holds now : Option (List ℕ)} {is : Bool}
+pub lines-ended : {style : Style} {limit : ℕ} (old new : Lines) {input : List ℕ} {held holds now : Option (List ℕ)} {is : Bool}
     → new.place.file.now ≡ old.place.file.now → new.place.line ≡ old.place.line + length (pieces old.begun.items)
     → new.place.byte ≡ old.place.byte + length old.begun.items + 1 → new.clean ≡ (old.clean && is) → new.begun.items ≡ []
     → is ≡ list_all (is_clean_line limit) (pieces old.begun.items)
-    → Appends holds now (lines_text old.place.file.now width limit old.place.line old.place.byte (pieces old.begun.items))
-    → AreDone width limit old input held holds → AreDone width limit new (input ++ line_feed ∷ []) held now
-lines-ended {width} {limit} old new {input} {held} {holds} {now} {is} file line byte clean begun same more d =
+    → Appends holds now (lines_text old.place.file.now style limit old.place.line old.place.byte (pieces old.begun.items))
+    → AreDone style limit old input held holds → AreDone style limit new (input ++ line_feed ∷ []) held now
+lines-ended {style} {limit} old new {input} {held} {holds} {now} {is} file line byte clean begun same more d =
     let ended = pieces old.begun.items in
-    let front = lines_text old.place.file.now width limit 1 0 d.done in
+    let front = lines_text old.place.file.now style limit 1 0 d.done in
     record {
       done = d.done ++ ended;
       cut = λ rest.
@@ -241,8 +242,8 @@ lines-ended {width} {limit} old new {input} {held} {holds} {now} {is} file line 
           ∙ sym (all-append (is_clean_line limit) d.done ended);
       written =
           subst (Appends held now)
-          (sym (after-done d ended) ∙ ap (λ f. lines_text f width limit 1 0 (d.done ++ ended)) (sym file))
-          (Appends-trans held holds now front (lines_text old.place.file.now width limit old.place.line old.place.byte ended)
+          (sym (after-done d ended) ∙ ap (λ f. lines_text f style limit 1 0 (d.done ++ ended)) (sym file))
+          (Appends-trans held holds now front (lines_text old.place.file.now style limit old.place.line old.place.byte ended)
           d.written more);
     }
 
@@ -261,39 +262,39 @@ unread-sound sound h = record { reason = inr (sound, h.reason); count = h.count;
 
 -- ---- of any input
 
-module _ {W : Type 0} (contents : W → Option (List ℕ)) (width limit : ℕ) where
+module _ {W : Type 0} (contents : W → Option (List ℕ)) (style : Style) (limit : ℕ) where
   pub takes-more : (old new : Lines) (out : Watched W) (block : List ℕ) → new.place ≡ old.place → new.clean ≡ old.clean
-      → new.begun.items ≡ old.begun.items ++ block → Takes contents width limit old new out out block
+      → new.begun.items ≡ old.begun.items ++ block → Takes contents style limit old new out out block
   takes-more old new out block place clean begun =
       (ap (λ p. p.file.now) place, λ input held d. more-begun old new block place clean begun d)
 
   pub takes-then : (old mid new : Lines) (out port outs : Watched W) (front rest block : List ℕ) → block ≡ front ++ rest
-      → Takes contents width limit old mid out port front → Takes contents width limit mid new port outs rest
-      → Takes contents width limit old new out outs block
+      → Takes contents style limit old mid out port front → Takes contents style limit mid new port outs rest
+      → Takes contents style limit old new out outs block
   takes-then old mid new out port outs front rest block parts first then = (
     then.0 ∙ first.0,
     λ input held d.
-        subst (λ b. AreDone width limit new b held (contents outs.inner))
+        subst (λ b. AreDone style limit new b held (contents outs.inner))
         (append_assoc input front rest ∙ ap (λ b. input ++ b) (sym parts)) (then.1 (input ++ front) held (first.1 input held d)),
   )
 
   pub stops-here : (e : Error) (lines : Lines) (out : Watched W) (block : List ℕ) → out.failed ≡ false → error_kind e ≡ OutOfMemory
-      → Stops contents width limit e lines out out block
+      → Stops contents style limit e lines out out block
   stops-here e lines out block sound kind = λ input held d. stopped-here d block e out.failed sound kind
 
   pub stops-after : (e : Error) (old mid : Lines) (out port outs : Watched W) (front rest block : List ℕ) → block ≡ front ++ rest
-      → Takes contents width limit old mid out port front → Stops contents width limit e mid port outs rest
-      → Stops contents width limit e old out outs block
+      → Takes contents style limit old mid out port front → Stops contents style limit e mid port outs rest
+      → Stops contents style limit e old out outs block
   stops-after e old mid out port outs front rest block parts first stops = λ input held d.
       let h = stops (input ++ front) held (first.1 input held d) in
-      subst (λ f. HasStopped e outs.failed held (contents outs.inner) (lines_text f width limit 1 0 (pieces (input ++ block)))) first.0
-      (subst (λ b. HasStopped e outs.failed held (contents outs.inner) (lines_text mid.place.file.now width limit 1 0 (pieces b)))
+      subst (λ f. HasStopped e outs.failed held (contents outs.inner) (lines_text f style limit 1 0 (pieces (input ++ block)))) first.0
+      (subst (λ b. HasStopped e outs.failed held (contents outs.inner) (lines_text mid.place.file.now style limit 1 0 (pieces b)))
       (append_assoc input front rest ∙ ap (λ b. input ++ b) (sym parts)) h)
 
   pub stops-within : (e : Error) (lines : Lines) (out outs : Watched W) (more : List ℕ)
       → HasStopped e outs.failed (contents out.inner) (contents outs.inner)
-      (lines_text lines.place.file.now width limit lines.place.line lines.place.byte (pieces lines.begun.items))
-      → Stops contents width limit e lines out outs (line_feed ∷ more)
+      (lines_text lines.place.file.now style limit lines.place.line lines.place.byte (pieces lines.begun.items))
+      → Stops contents style limit e lines out outs (line_feed ∷ more)
   stops-within e lines out outs more h = λ input held d. stopped-within d more e outs.failed h
 
   pub ends-lines : (old new : Lines) (out outs : Watched W) {is : Bool} → new.place.file.now ≡ old.place.file.now
@@ -301,7 +302,7 @@ module _ {W : Type 0} (contents : W → Option (List ℕ)) (width limit : ℕ) w
       → new.place.byte ≡ old.place.byte + length old.begun.items + 1 → new.clean ≡ (old.clean && is) → new.begun.items ≡ []
       → is ≡ list_all (is_clean_line limit) (pieces old.begun.items)
       → Appends (contents out.inner) (contents outs.inner)
-      (lines_text old.place.file.now width limit old.place.line old.place.byte (pieces old.begun.items))
-      → EndsLines contents width limit old new out outs
+      (lines_text old.place.file.now style limit old.place.line old.place.byte (pieces old.begun.items))
+      → EndsLines contents style limit old new out outs
   ends-lines old new out outs file line byte clean begun same more =
       (file, λ input held d. lines-ended old new file line byte clean begun same more d)

@@ -1,10 +1,11 @@
 -- The text of a line around a place, and a caret under it.
 use Rattle.std.specs.Prelude.{ℕ, zero, suc, ◌-◌, ◌/◌, List, [], ◌∷◌, ◌++◌, map, min, drop, count_by, codes, nat_le, nat_lt, encode_utf8_all}
-use Rattle.std.specs.Prelude.{if◌then◌else◌}
+use Rattle.std.specs.Prelude.{Bool, true, false, if◌then◌else◌}
 use Rattle.std.specs.Char.{is_control}
 use Rattle.std.specs.List.{before_first, repeat}
 use Rattle.std.specs.Str.{chars}
 use Rattle.std.specs.Str.Lossy.{utf8_lossy}
+use Rattle.jcheck.specs.declared.excerpt.Style.{Style}
 use Rattle.simd_json.specs.Locations.{begins_character, is_line_feed, line_before}
 use Rattle.simd_json_parts.specs.Bytes.{line_feed, space}
 
@@ -63,8 +64,14 @@ line_from b i = before_first is_line_feed (drop i b)
 abbrev pub indent : ℕ → List ℕ → ℕ → ℕ
 indent width b i = min (characters (line_before b i)) (width / 2)
 
+-- bold and red, if it is colored
+abbrev pub caret : Bool → List ℕ
+caret false = codes "^"
+caret true = (0x1b ∷ codes "[1;31m^") ++ (0x1b ∷ codes "[m")
+
 -- a line of text, and a line with a caret under byte i
-abbrev pub excerpt : ℕ → List ℕ → ℕ → List ℕ
-excerpt width b i =
-    end_text (width / 2) (line_before b i) ++ front_text (width - indent width b i) (line_from b i) ++ (line_feed ∷ [])
-    ++ repeat (indent width b i) (space ∷ []) ++ codes "^" ++ (line_feed ∷ [])
+abbrev pub excerpt : Style → List ℕ → ℕ → List ℕ
+excerpt style b i =
+    let shift = indent style.width b i in
+    end_text (style.width / 2) (line_before b i) ++ front_text (style.width - shift) (line_from b i) ++ (line_feed ∷ [])
+    ++ repeat shift (space ∷ []) ++ caret style.is_colored ++ (line_feed ∷ [])

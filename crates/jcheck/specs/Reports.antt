@@ -1,9 +1,10 @@
--- What is written of an input, and whether it is clean: functions of the input, its file's name, the width and the depth limit.
+-- What is written of an input, and whether it is clean: functions of the input, its file's name, the style of excerpts and the depth limit.
 use Rattle.std.specs.Prelude.{ℕ, ◌+◌, ◌-◌, ◌^◌, min, List, [], ◌∷◌, ◌++◌, length, codes, Bool, ◌||◌, Option, None, Some, is_none}
 use Rattle.std.specs.Prelude.{if◌then◌else◌}
 use Rattle.std.specs.Fmt.{decimal}
 use Rattle.jcheck.specs.Excerpts.{excerpt}
 use Rattle.jcheck.specs.Places.{error_in}
+use Rattle.jcheck.specs.declared.excerpt.Style.{Style}
 use Rattle.jtape.specs.Pieces.{is_blank}
 use Rattle.simd_json.specs.Messages.{reason_text}
 use Rattle.simd_json.specs.declared.location.Location.{Location}
@@ -17,14 +18,14 @@ words file line byte l =
     ++ codes " [" ++ kind_text l.error.error ++ codes " at byte " ++ decimal byte ++ codes "]"
 
 -- of an error at this line and byte of its file: the words, and the text around it in the bytes that were checked
-abbrev pub report : List ℕ → ℕ → ℕ → ℕ → List ℕ → Location → List ℕ
-report file width line byte checked l = words file line byte l ++ (line_feed ∷ []) ++ excerpt width checked l.byte
+abbrev pub report : List ℕ → Style → ℕ → ℕ → List ℕ → Location → List ℕ
+report file style line byte checked l = words file line byte l ++ (line_feed ∷ []) ++ excerpt style checked l.byte
 
 -- ---- of an input that is one document
 
-abbrev pub whole_text : List ℕ → ℕ → List ℕ → Option Location → List ℕ
-whole_text file width input None = []
-whole_text file width input (Some l) = report file width l.line l.byte input l
+abbrev pub whole_text : List ℕ → Style → List ℕ → Option Location → List ℕ
+whole_text file style input None = []
+whole_text file style input (Some l) = report file style l.line l.byte input l
 
 -- ---- of lines, each a document of its own
 
@@ -32,21 +33,21 @@ whole_text file width input (Some l) = report file width l.line l.byte input l
 abbrev pub place_after : ℕ → ℕ → ℕ
 place_after start byte = min (start + byte) (2 ^ 64 - 1)
 
-abbrev pub found_text : List ℕ → ℕ → ℕ → ℕ → List ℕ → Option Location → List ℕ
-found_text file width number start line None = []
-found_text file width number start line (Some l) = report file width number (place_after start l.byte) line l
+abbrev pub found_text : List ℕ → Style → ℕ → ℕ → List ℕ → Option Location → List ℕ
+found_text file style number start line None = []
+found_text file style number start line (Some l) = report file style number (place_after start l.byte) line l
 
 -- of the line with this number, which begins at byte `start`
-abbrev pub line_text : List ℕ → ℕ → ℕ → ℕ → ℕ → List ℕ → List ℕ
-line_text file width limit number start line =
-    if is_blank line then [] else found_text file width number start line (error_in line limit)
+abbrev pub line_text : List ℕ → Style → ℕ → ℕ → ℕ → List ℕ → List ℕ
+line_text file style limit number start line =
+    if is_blank line then [] else found_text file style number start line (error_in line limit)
 
 -- of that line and those after it
-abbrev pub lines_text : List ℕ → ℕ → ℕ → ℕ → ℕ → List (List ℕ) → List ℕ
-lines_text file width limit number start [] = []
-lines_text file width limit number start (line ∷ more) =
-    line_text file width limit number start line
-    ++ lines_text file width limit (number + 1) (start + length line + 1) more
+abbrev pub lines_text : List ℕ → Style → ℕ → ℕ → ℕ → List (List ℕ) → List ℕ
+lines_text file style limit number start [] = []
+lines_text file style limit number start (line ∷ more) =
+    line_text file style limit number start line
+    ++ lines_text file style limit (number + 1) (start + length line + 1) more
 
 -- it is blank or a document
 abbrev pub is_clean_line : ℕ → List ℕ → Bool

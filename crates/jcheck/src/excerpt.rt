@@ -1,27 +1,37 @@
 //! The text of a line around a place, and a caret under it.
-ghost use Rattle.std.specs.Prelude.{◌≡◌, ◌≤◌, ◌∷◌, [], chars, drop, length, take};
+ghost use Rattle.std.specs.Prelude.{◌≡◌, ◌≤◌, ◌∷◌, ◌++◌, [], chars, drop, length, take};
 ghost use Rattle.std.specs.List.{after_last, position_or_len, repeat};
-ghost use Rattle.jcheck.specs.Excerpts.{characters, end_text, excerpt, first_characters};
-ghost use Rattle.jcheck.specs.Excerpts.{front_text, last_characters, lossy_text, visible};
-ghost use Rattle.jcheck.specs.Excerpts.{visible_text};
+ghost use Rattle.jcheck.specs.Excerpts.{caret, characters, end_text, excerpt};
+ghost use Rattle.jcheck.specs.Excerpts.{first_characters, front_text, last_characters, lossy_text};
+ghost use Rattle.jcheck.specs.Excerpts.{visible, visible_text};
 ghost use Rattle.simd_json.specs.Locations.{begins_character, is_line_feed};
-ghost use Rattle.simd_json_parts.specs.Bytes.{space};
+ghost use Rattle.simd_json_parts.specs.Bytes.{line_feed, space};
 ghost use Rattle.simd_json_print.specs.Texts.{Adds};
 
 use simd_json_print::text::{Target, Text};
 
+/// How the text around a place is shown.
+#[derive(Clone, Copy)]
+pub struct Style {
+    /// How many characters of a line are shown at most.
+    pub width: usize,
+    /// Whether the caret is bold and red.
+    pub is_colored: bool,
+}
+
 /// Appends a line with the characters around a byte of the input that are in its line, and a line
-/// with a caret under that byte. At most `width` characters are shown, and half of them before the
-/// byte; where the line is cut, `…` is the first or the last of them, if there is room for it.
-/// Control characters are shown as spaces, and what is not UTF-8 as U+FFFD.
+/// with a caret under that byte. At most `style.width` characters are shown, and half of them
+/// before the byte; where the line is cut, `…` is the first or the last of them, if there is room
+/// for it. Control characters are shown as spaces, and what is not UTF-8 as U+FFFD.
 pub fn put_excerpt<T: Target, const SIZE: usize>(
     text: &mut Text<'_, T, SIZE>,
     input: &[u8],
     byte: usize,
-    width: usize,
+    style: Style,
 )
-    ensures { Adds T.state text.old text.new (excerpt width input.now byte) }
+    ensures { Adds T.state text.old text.new (excerpt style input.now byte) }
 {
+    let Style { width, is_colored } = style;
     let (before, after) = input.split_at(byte.min(input.len()));
     let (_, line) = before.split_at(line_start(before));
     let (rest, _) = after.split_at(line_end(after));
@@ -30,7 +40,18 @@ pub fn put_excerpt<T: Target, const SIZE: usize>(
     put_front(text, rest, width.saturating_sub(indent));
     text.put(b"\n");
     put_spaces(text, indent);
-    text.put(b"^\n");
+    put_caret(text, is_colored);
+}
+
+// Puts a caret, and a line feed.
+fn put_caret<T: Target, const SIZE: usize>(text: &mut Text<'_, T, SIZE>, is_colored: bool)
+    ensures { Adds T.state text.old text.new (caret is_colored ++ (line_feed ∷ [])) }
+{
+    if is_colored {
+        text.put(b"\x1b[1;31m^\x1b[m\n");
+    } else {
+        text.put(b"^\n");
+    }
 }
 
 // Puts the end of a text, in at most `most` characters.

@@ -11,6 +11,7 @@ ghost use Rattle.jtape.specs.Runs.{HasRead};
 ghost use Rattle.simd_json_print.specs.Texts.{Adds};
 
 use crate::checker::Checker;
+use crate::excerpt::Style;
 use crate::report::{FilePlace, PIECE};
 use jtape::Channel;
 use memchr::{memchr, memrchr};
@@ -26,8 +27,8 @@ const BLOCK: usize = 65_536;
 const MOST: usize = 1 << 62;
 
 /// Checks each line of what a reader gives as a document, and writes the place and the reason of
-/// each error, with at most `width` characters of its line, as soon as the line has been read. Only
-/// the line that has begun and the block that was read last are kept. Returns whether there is no
+/// each error, with the text around it in this style, as soon as the line has been read. Only the
+/// line that has begun and the block that was read last are kept. Returns whether there is no
 /// error.
 ///
 /// Returns an error exactly if the reader, the writer or an allocation fails, or after 2^62 bytes
@@ -37,31 +38,31 @@ pub fn check_lines<R: Read, W: Write>(
     reader: &mut Channel<R>,
     out: &mut Channel<W>,
     file: &str,
-    width: usize,
+    style: Style,
 ) -> io::Result<bool>
     requires reader { reader.old.failed ≡ false }
     requires out { out.old.failed ≡ false }
     ensures checked { IfOk result (λ clean. (input : List ℕ)
         × HasRead (R.remaining reader.old.inner) (R.remaining reader.new.inner) input
         × Appends (W.contents out.old.inner) (W.contents out.new.inner)
-        (lines_text file.now width checker.old.depth 1 0 (pieces input))
+        (lines_text file.now style checker.old.depth 1 0 (pieces input))
         × (clean ≡ list_all (is_clean_line checker.old.depth) (pieces input))) }
     ensures sound { OnOk result ((reader.new.failed ≡ false) × (out.new.failed ≡ false)) }
     ensures stopped { IfErr result (λ e. (input : List ℕ)
         × Consumes (R.remaining reader.old.inner) (R.remaining reader.new.inner) input
         × HasLeftOff e reader.new.failed out.new.failed
         (W.contents out.old.inner) (W.contents out.new.inner)
-        (lines_text file.now width checker.old.depth 1 0 (pieces input))) }
+        (lines_text file.now style checker.old.depth 1 0 (pieces input))) }
 {
     let mut lines = Lines::new(checker.alloc(), file);
     let mut block = [0; BLOCK];
     while lines.place.byte < MOST {
         let count = reader.read(&mut block)?;
         if count == 0 {
-            let last = check_pieces(checker, out, lines.place, lines.begun.as_slice(), width)?;
+            let last = check_pieces(checker, out, lines.place, lines.begun.as_slice(), style)?;
             return Ok(lines.clean & last.clean);
         }
-        lines.take(checker, out, &block[..count], width)?;
+        lines.take(checker, out, &block[..count], style)?;
     }
     Err(io::Error::from(ErrorKind::OutOfMemory))
 }
@@ -100,19 +101,19 @@ impl<'a> Lines<'a> {
         checker: &mut Checker,
         out: &mut Channel<W>,
         block: &[u8],
-        width: usize,
+        style: Style,
     ) -> io::Result<()>
         requires sound { out.old.failed ≡ false }
         requires line { self.old.place.line ≤ self.old.place.byte + 1 }
         requires byte { self.old.place.byte < 2 ^ 62 }
         requires block { length block.now ≤ 65_536 }
         ensures taken { OnOk result ((out.new.failed ≡ false)
-            × Takes W.contents width checker.old.depth self.old self.new
+            × Takes W.contents style checker.old.depth self.old self.new
             out.old out.new block.now) }
         ensures more { OnOk result (self.new.place.byte + length self.new.begun.items
             ≡ self.old.place.byte + length self.old.begun.items + length block.now) }
         ensures stopped { IfErr result (λ e.
-            Stops W.contents width checker.old.depth e self.old out.old out.new block.now) }
+            Stops W.contents style checker.old.depth e self.old out.old out.new block.now) }
         ensures depth { checker.new.depth ≡ checker.old.depth }
     {
         let Some(end) = memrchr(b'\n', block) else {
@@ -121,7 +122,7 @@ impl<'a> Lines<'a> {
         };
         let (ended, rest) = block.split_at(end);
         self.begun.extend_from_slice(ended)?;
-        self.end(checker, out, width)?;
+        self.end(checker, out, style)?;
         self.begun.extend_from_slice(rest.split_at(1).1)?;
         Ok(())
     }
@@ -131,22 +132,22 @@ impl<'a> Lines<'a> {
         &mut self,
         checker: &mut Checker,
         out: &mut Channel<W>,
-        width: usize,
+        style: Style,
     ) -> io::Result<()>
         requires sound { out.old.failed ≡ false }
         requires line { self.old.place.line ≤ self.old.place.byte + 1 }
         requires byte { self.old.place.byte < 2 ^ 62 }
         ensures taken { OnOk result ((out.new.failed ≡ false) × (self.new.begun.items ≡ [])
-            × EndsLines W.contents width checker.old.depth self.old self.new out.old out.new) }
+            × EndsLines W.contents style checker.old.depth self.old self.new out.old out.new) }
         ensures more { OnOk result (self.new.place.byte
             ≡ self.old.place.byte + length self.old.begun.items + 1) }
         ensures stopped { IfErr result (λ e. HasStopped e out.new.failed
             (W.contents out.old.inner) (W.contents out.new.inner)
-            (lines_text self.old.place.file.now width checker.old.depth self.old.place.line
+            (lines_text self.old.place.file.now style checker.old.depth self.old.place.line
             self.old.place.byte (pieces self.old.begun.items))) }
         ensures depth { checker.new.depth ≡ checker.old.depth }
     {
-        let checked = check_pieces(checker, out, self.place, self.begun.as_slice(), width)?;
+        let checked = check_pieces(checker, out, self.place, self.begun.as_slice(), style)?;
         self.clean &= checked.clean;
         self.place.line = checked.next;
         self.place.byte += self.begun.len() + 1;
@@ -170,7 +171,7 @@ fn check_pieces<W: Write>(
     out: &mut Channel<W>,
     start: FilePlace<'_>,
     input: &[u8],
-    width: usize,
+    style: Style,
 ) -> io::Result<Checked>
     requires sound { out.old.failed ≡ false }
     requires line { start.line + length input.now + 1 < 2 ^ 64 }
@@ -180,16 +181,16 @@ fn check_pieces<W: Write>(
         × (checked.next ≡ start.entry.line + length (pieces input.now))) }
     ensures written { OnOk result ((out.new.failed ≡ false)
         × Appends (W.contents out.old.inner) (W.contents out.new.inner)
-        (lines_text start.entry.file.now width checker.old.depth start.entry.line
+        (lines_text start.entry.file.now style checker.old.depth start.entry.line
         start.entry.byte (pieces input.now))) }
     ensures stopped { IfErr result (λ e. HasStopped e out.new.failed
         (W.contents out.old.inner) (W.contents out.new.inner)
-        (lines_text start.entry.file.now width checker.old.depth start.entry.line
+        (lines_text start.entry.file.now style checker.old.depth start.entry.line
         start.entry.byte (pieces input.now))) }
     ensures depth { checker.new.depth ≡ checker.old.depth }
 {
     let mut text = Text::<Channel<W>, PIECE>::new(out);
-    let put = put_lines(checker, &mut text, start, input, width);
+    let put = put_lines(checker, &mut text, start, input, style);
     text.finish()?;
     Ok(put?)
 }
@@ -201,7 +202,7 @@ fn put_lines<T: Target, const SIZE: usize>(
     text: &mut Text<'_, T, SIZE>,
     start: FilePlace<'_>,
     input: &[u8],
-    width: usize,
+    style: Style,
 ) -> Result<Checked, AllocError>
     requires line { start.line + length input.now + 1 < 2 ^ 64 }
     requires byte { start.byte + length input.now + 1 < 2 ^ 64 }
@@ -209,10 +210,10 @@ fn put_lines<T: Target, const SIZE: usize>(
         → (checked.clean ≡ list_all (is_clean_line checker.old.depth) (pieces input.now))
         × (checked.next ≡ start.entry.line + length (pieces input.now))) }
     ensures put { OnOk result (Adds T.state text.old text.new
-        (lines_text start.entry.file.now width checker.old.depth start.entry.line
+        (lines_text start.entry.file.now style checker.old.depth start.entry.line
         start.entry.byte (pieces input.now))) }
     ensures stopped { OnErr result (HasPart T.state text.old text.new
-        (lines_text start.entry.file.now width checker.old.depth start.entry.line
+        (lines_text start.entry.file.now style checker.old.depth start.entry.line
         start.entry.byte (pieces input.now))) }
     ensures depth { checker.new.depth ≡ checker.old.depth }
 {
@@ -221,7 +222,7 @@ fn put_lines<T: Target, const SIZE: usize>(
     let mut rest = input;
     while let Some(end) = memchr(b'\n', rest) {
         let (line, after) = rest.split_at(end);
-        clean &= put_line(checker, text, place, line, width)?;
+        clean &= put_line(checker, text, place, line, style)?;
         place.line += 1;
         if text.has_failed() {
             return Ok(Checked {
@@ -232,7 +233,7 @@ fn put_lines<T: Target, const SIZE: usize>(
         place.byte += end + 1;
         rest = after.split_at(1).1;
     }
-    clean &= put_line(checker, text, place, rest, width)?;
+    clean &= put_line(checker, text, place, rest, style)?;
     Ok(Checked {
         clean,
         next: place.line + 1,
@@ -245,12 +246,12 @@ fn put_line<T: Target, const SIZE: usize>(
     text: &mut Text<'_, T, SIZE>,
     start: FilePlace<'_>,
     line: &[u8],
-    width: usize,
+    style: Style,
 ) -> Result<bool, AllocError>
     ensures clean { IfOk result (λ clean. clean
         ≡ is_clean_line checker.old.depth line.now) }
     ensures put { OnOk result (Adds T.state text.old text.new
-        (line_text start.entry.file.now width checker.old.depth
+        (line_text start.entry.file.now style checker.old.depth
         start.entry.line start.entry.byte line.now)) }
     ensures none { OnErr result (Adds T.state text.old text.new []) }
     ensures depth { checker.new.depth ≡ checker.old.depth }
@@ -265,7 +266,7 @@ fn put_line<T: Target, const SIZE: usize>(
         byte: start.byte.saturating_add(location.byte()),
         ..start
     };
-    place.put(checker.alloc(), text, line, &location, width)?;
+    place.put(checker.alloc(), text, line, &location, style)?;
     Ok(false)
 }
 

@@ -1,5 +1,5 @@
-//! `jcheck [--depth N] [--lines] [FILE..]` checks whether each file is a JSON document, and prints
-//! where and why one is not.
+//! `jcheck [--depth N] [--lines] [--color WHEN] [FILE..]` checks whether each file is a JSON
+//! document, and prints where and why one is not.
 #![tactic(auto)]
 
 mod checker;
@@ -11,11 +11,13 @@ mod report;
 mod tests;
 
 use checker::Checker;
+use excerpt::Style;
 use jtape::Channel;
 use lines::check_lines;
 use options::{Options, asked};
 use report::{Ended, check_document, check_each, is_closed};
-use std::io::Read;
+use std::env::VarError;
+use std::io::{IsTerminal, Read};
 use std::process::ExitCode;
 use std::{env, fs, io};
 
@@ -55,6 +57,15 @@ fn terminal_width(rt: &HostRuntime) -> usize {
     }
 }
 
+// Whether standard output is a terminal, and `NO_COLOR` is empty or not set.
+fn has_colors(rt: &HostRuntime) -> bool {
+    let is_refused = match env::var(rt, "NO_COLOR") {
+        Ok(value) => !value.is_empty(),
+        Err(e) => e != VarError::NotPresent,
+    };
+    rt.stdout().is_terminal() && !is_refused
+}
+
 fn check_files(rt: &HostRuntime, options: &Options<'_>) -> Ended {
     let mut checker = match Checker::new(rt.alloc(), options.depth()) {
         Ok(checker) => checker,
@@ -63,10 +74,14 @@ fn check_files(rt: &HostRuntime, options: &Options<'_>) -> Ended {
             return Ended::Failed;
         }
     };
-    let (has_lines, width) = (options.has_lines(), terminal_width(rt));
+    let has_lines = options.has_lines();
+    let style = Style {
+        width: terminal_width(rt),
+        is_colored: options.color().unwrap_or(has_colors(rt)),
+    };
     check_each(
         |file| {
-            let checked = check_file(rt, &mut checker, file, has_lines, width);
+            let checked = check_file(rt, &mut checker, file, has_lines, style);
             print_failure(rt, file, &checked);
             checked
         },
@@ -88,12 +103,12 @@ fn check_file(
     checker: &mut Checker,
     file: &str,
     has_lines: bool,
-    width: usize,
+    style: Style,
 ) -> io::Result<bool> {
     let mut out = Channel::new(io::writer(rt));
     if !has_lines {
         let input = read_input(rt, file)?;
-        return check_document(checker, &mut out, file, input.as_slice(), width);
+        return check_document(checker, &mut out, file, input.as_slice(), style);
     }
     if file == "-" {
         return check_lines(
@@ -101,11 +116,11 @@ fn check_file(
             &mut Channel::new(rt.reader()),
             &mut out,
             file,
-            width,
+            style,
         );
     }
     let reader = fs::File::open(rt, file)?;
-    check_lines(checker, &mut Channel::new(reader), &mut out, file, width)
+    check_lines(checker, &mut Channel::new(reader), &mut out, file, style)
 }
 
 // The bytes of a file, or of standard input for `-`.

@@ -1,4 +1,5 @@
 //! What the program's arguments ask for.
+use clap::builder::ValueParser;
 use clap::{Arg, ArgAction, Command, Error, value_parser};
 use simd_json::DEFAULT_MAX_DEPTH;
 use std::alloc::Global;
@@ -11,11 +12,14 @@ const DEPTH_HELP: &str = "How many containers may be open at a time [default: 10
 
 const LINES_HELP: &str = "Check each line that is not blank as a document of its own";
 
+const COLOR_HELP: &str = "When the caret is red; auto is on a terminal, unless NO_COLOR is set";
+
 /// What the arguments ask for.
 #[derive(Drop)]
 pub struct Options<'a> {
     depth: usize,
     has_lines: bool,
+    color: Option<bool>,
     files: Vec<&'a str>,
 }
 
@@ -28,6 +32,11 @@ impl<'a> Options<'a> {
     /// Whether each line is a document of its own.
     pub fn has_lines(&self) -> bool {
         self.has_lines
+    }
+
+    /// Whether the caret is red, or `None` where that depends on the output.
+    pub fn color(&self) -> Option<bool> {
+        self.color
     }
 
     /// The names of the files, of which there is at least one.
@@ -50,6 +59,11 @@ pub fn asked<'a>(alloc: Global, words: &'a [String]) -> Result<Options<'a>, Erro
             .get_one::<usize>("depth")
             .unwrap_or(DEFAULT_MAX_DEPTH),
         has_lines: matches.get_flag("lines"),
+        color: match matches.get_str("color") {
+            Some("always") => Some(true),
+            Some("never") => Some(false),
+            _ => None,
+        },
         files,
     })
 }
@@ -64,6 +78,12 @@ fn command<'a>(alloc: Global) -> Result<Command<'a>, Error> {
         .long("lines")
         .action(ArgAction::SetTrue)
         .help(LINES_HELP);
+    let color = Arg::new(alloc, "color")
+        .long("color")
+        .value_name("WHEN")
+        .value_parser(ValueParser::Names(&["auto", "always", "never"]))
+        .default_value("auto")
+        .help(COLOR_HELP);
     let files = Arg::new(alloc, "file")
         .value_name("FILE")
         .action(ArgAction::Append)
@@ -75,6 +95,7 @@ fn command<'a>(alloc: Global) -> Result<Command<'a>, Error> {
             .about("Checks that files are JSON (RFC 8259), and says where and why they are not")
             .arg(depth)?
             .arg(lines)?
+            .arg(color)?
             .arg(files)?,
     )
 }

@@ -10,7 +10,7 @@ ghost use Rattle.simd_json_parts.specs.Bytes.{line_feed};
 ghost use Rattle.simd_json_print.specs.Texts.{Adds};
 
 use crate::checker::Checker;
-use crate::excerpt::put_excerpt;
+use crate::excerpt::{Style, put_excerpt};
 use jtape::Channel;
 use simd_json::Location;
 use simd_json_print::text::{Target, Text};
@@ -99,8 +99,8 @@ pub fn check_each<'a, F: FnMut(&'a str) -> io::Result<bool>>(
     ended
 }
 
-/// Checks an input as one document, and writes the place and the reason of its error, with at most
-/// `width` characters of its line. Returns whether there is none.
+/// Checks an input as one document, and writes the place and the reason of its error, with the text
+/// around it in this style. Returns whether there is none.
 ///
 /// Returns an error if the writer or an allocation fails. A beginning of the output is written
 /// then.
@@ -109,21 +109,21 @@ pub fn check_document<W: Write>(
     out: &mut Channel<W>,
     file: &str,
     input: &[u8],
-    width: usize,
+    style: Style,
 ) -> io::Result<bool>
     requires { out.old.failed ≡ false }
     ensures clean { IfOk result (λ clean. clean
         ≡ is_none (error_in input.now checker.old.depth)) }
     ensures written { OnOk result ((out.new.failed ≡ false)
         × Appends (W.contents out.old.inner) (W.contents out.new.inner)
-        (whole_text file.now width input.now (error_in input.now checker.old.depth))) }
+        (whole_text file.now style input.now (error_in input.now checker.old.depth))) }
     ensures stopped { IfErr result (λ e. HasStopped e out.new.failed
         (W.contents out.old.inner) (W.contents out.new.inner)
-        (whole_text file.now width input.now (error_in input.now checker.old.depth))) }
+        (whole_text file.now style input.now (error_in input.now checker.old.depth))) }
     ensures depth { checker.new.depth ≡ checker.old.depth }
 {
     let mut text = Text::<Channel<W>, PIECE>::new(out);
-    let put = put_whole(checker, &mut text, file, input, width);
+    let put = put_whole(checker, &mut text, file, input, style);
     text.finish()?;
     Ok(put?)
 }
@@ -135,14 +135,14 @@ fn put_whole<T: Target, const SIZE: usize>(
     text: &mut Text<'_, T, SIZE>,
     file: &str,
     input: &[u8],
-    width: usize,
+    style: Style,
 ) -> Result<bool, AllocError>
     ensures clean { IfOk result (λ clean. clean
         ≡ is_none (error_in input.now checker.old.depth)) }
     ensures put { OnOk result (Adds T.state text.old text.new
-        (whole_text file.now width input.now (error_in input.now checker.old.depth))) }
+        (whole_text file.now style input.now (error_in input.now checker.old.depth))) }
     ensures stopped { OnErr result (HasPart T.state text.old text.new
-        (whole_text file.now width input.now (error_in input.now checker.old.depth))) }
+        (whole_text file.now style input.now (error_in input.now checker.old.depth))) }
     ensures depth { checker.new.depth ≡ checker.old.depth }
 {
     let Some(location) = checker.check(input)? else {
@@ -153,7 +153,7 @@ fn put_whole<T: Target, const SIZE: usize>(
         line: location.line(),
         byte: location.byte(),
     };
-    place.put(checker.alloc(), text, input, &location, width)?;
+    place.put(checker.alloc(), text, input, &location, style)?;
     Ok(false)
 }
 
@@ -177,16 +177,16 @@ impl FilePlace<'_> {
         text: &mut Text<'_, T, SIZE>,
         checked: &[u8],
         location: &Location,
-        width: usize,
+        style: Style,
     ) -> Result<(), AllocError>
         ensures put { OnOk result (Adds T.state text.old text.new
-            (report self.entry.file.now width self.entry.line self.entry.byte
+            (report self.entry.file.now style self.entry.line self.entry.byte
             checked.now location.now)) }
         ensures none { OnErr result (Adds T.state text.old text.new []) }
     {
         let words = self.words(alloc, location)?;
         text.put(words.as_bytes());
-        put_excerpt(text, checked, location.byte(), width);
+        put_excerpt(text, checked, location.byte(), style);
         Ok(())
     }
 

@@ -2,6 +2,7 @@
 ghost use Rattle.std.specs.Prelude.{◌≡◌, false};
 
 use crate::checker::Checker;
+use crate::excerpt::Style;
 use crate::lines::check_lines;
 use crate::report::check_document;
 use jtape::Channel;
@@ -57,6 +58,13 @@ pub(crate) fn text_of(rt: &impl AllocGlobal, reports: &[Report]) -> Result<Strin
     Ok(text)
 }
 
+pub(crate) fn plain(width: usize) -> Style {
+    Style {
+        width,
+        is_colored: false,
+    }
+}
+
 // How an input is read: as one document, or as lines in blocks of this size.
 #[derive(Clone, Copy)]
 pub(crate) enum Form {
@@ -69,16 +77,16 @@ fn check<W: Write>(
     out: &mut Channel<W>,
     input: &[u8],
     form: Form,
-    width: usize,
+    style: Style,
 ) -> io::Result<bool>
     requires { out.old.failed ≡ false }
 {
     let mut checker = Checker::new(rt.alloc(), 4)?;
     match form {
-        Form::Document => check_document(&mut checker, out, "f", input, width),
+        Form::Document => check_document(&mut checker, out, "f", input, style),
         Form::Lines(size) => {
             let mut reader = in_blocks(input, size, false);
-            check_lines(&mut checker, &mut reader, out, "f", width)
+            check_lines(&mut checker, &mut reader, out, "f", style)
         }
     }
 }
@@ -89,10 +97,10 @@ pub(crate) fn assert_written(
     input: &[u8],
     reports: &[Report],
     form: Form,
-    width: usize,
+    style: Style,
 ) -> Result<(), Fail> {
     let mut out = Channel::new(Vec::new(rt.alloc()));
-    let clean = check(rt, &mut out, input, form, width)?;
+    let clean = check(rt, &mut out, input, form, style)?;
     let text = text_of(rt, reports)?;
     assert_eq!(rt;
         String::from_utf8(out.into_inner())?.as_str(),
@@ -137,7 +145,7 @@ pub(crate) fn assert_stopped(
     for room in 0..text.len() {
         let taken = Vec::new(rt.alloc());
         let mut out = Channel::new(Short { taken, room });
-        let kind = check(rt, &mut out, input, form, 80).map_err(|e| e.kind());
+        let kind = check(rt, &mut out, input, form, plain(80)).map_err(|e| e.kind());
         assert_eq!(rt; kind, Err(ErrorKind::StorageFull));
         assert_eq!(rt;
             Some(out.into_inner().taken.as_slice()),

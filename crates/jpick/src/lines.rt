@@ -2,8 +2,8 @@
 ghost use Rattle.std.specs.Prelude.{◌≡◌, IfOk, OnOk};
 ghost use Rattle.simd_json.specs.Viewed.{doc};
 ghost use Rattle.jpick.specs.Picked.{place_text, rejection_line};
-ghost use Rattle.jpick.specs.Runs.{Begins, BeginsBlock, BeginsLine, Ends, IsRejection, IsStart};
-ghost use Rattle.jpick.specs.Runs.{PicksValue, TakesBlock, TakesLine, Writes};
+ghost use Rattle.jpick.specs.Runs.{Begins, BeginsBlock, BeginsLine, Ends, EndsRows, IsRejection};
+ghost use Rattle.jpick.specs.Runs.{IsRowsFault, IsStart, PicksValue, TakesBlock, TakesLine, Writes};
 
 use crate::fields::{Wanted, append_row, is_picked};
 use crate::runs::Failure;
@@ -14,7 +14,7 @@ use simd_json::{Buffers, Error, Location, Tape, refill_tape, reserve};
 use simd_json_parts::charutils::is_blank;
 use simd_json_print::text::Text;
 use std::alloc::{AllocError, Allocator};
-use std::io::{self, Write};
+use std::io::{self, ErrorKind, Write};
 
 type Ended = Result<(), Failure>;
 
@@ -173,16 +173,27 @@ impl<'p, A: Allocator + Copy> Picker<'p, A> {
 
     /// Writes the rows that are not written yet.
     pub fn write<W: Write>(&mut self, out: &mut Channel<W>) -> Ended
-        ensures { Ends out.old out.new (Writes W.contents self.old self.new out.old out.new)
+        ensures { EndsRows self.old.all_taken out.old out.new
+            (Writes W.contents self.old self.new out.old out.new)
             (Begins (W.contents out.old.inner) (W.contents out.new.inner) self.old.rows.items)
             result }
     {
         let mut text = Text::<Channel<W>, 64>::new(out);
         text.put(self.rows.as_slice());
-        if text.finish().is_err() {
-            return Err(Failure::Write);
+        if let Err(e) = text.finish() {
+            return Err(rows_failure(&e, self.all_taken));
         }
         self.rows.clear();
         Ok(())
+    }
+}
+
+// Why rows were not written. Who has closed them has had enough of them.
+fn rows_failure(e: &io::Error, all_taken: bool) -> Failure
+    ensures { IsRowsFault all_taken result }
+{
+    match e.kind() {
+        ErrorKind::BrokenPipe => Failure::Closed(all_taken),
+        _ => Failure::Write,
     }
 }

@@ -11,8 +11,8 @@ use bumpalo::Bump;
 use fields::Wanted;
 use jtape::Channel;
 use options::{Options, Unasked, asked};
-use runs::{run, status};
-use std::io::{ErrorKind, Read, Write};
+use runs::{Failure, ending, run};
+use std::io::Read;
 use std::process::ExitCode;
 use std::{env, fs, io};
 
@@ -61,10 +61,10 @@ fn pick_files(rt: &HostRuntime, options: &Options<'_>) -> u8 {
     let mut greatest = 0;
     for file in options.files() {
         let picked = pick_file(rt, &wanted, *file);
+        greatest = greatest.max(picked.status);
         if picked.is_closed {
             return greatest;
         }
-        greatest = greatest.max(picked.status);
     }
     greatest
 }
@@ -99,10 +99,7 @@ fn pick_reader<R: Read + Drop>(
     file: &str,
     reader: R,
 ) -> Outcome {
-    let mut out = Channel::new(Pipe {
-        writer: io::writer(rt),
-        is_closed: false,
-    });
+    let mut out = Channel::new(io::writer(rt));
     let mut rejections = Channel::new(rt.stderr());
     let mut reader = Channel::new(reader);
     let ended = run(
@@ -113,38 +110,12 @@ fn pick_reader<R: Read + Drop>(
         &mut out,
         &mut rejections,
     );
-    let is_closed = out.into_inner().is_closed;
-    if let Err(failure) = ended
-        && !is_closed
-    {
-        let text = failure.text();
-        let _ = eprintln!(rt; "jpick: {file}: {text}");
+    let (status, line) = ending(&ended);
+    if let Some(line) = line {
+        let _ = eprintln!(rt; "jpick: {file}: {line}");
     }
     Outcome {
-        status: status(&ended),
-        is_closed,
-    }
-}
-
-// A writer that records whether nobody reads any more what is written.
-#[derive(Drop)]
-struct Pipe<W> {
-    writer: W,
-    is_closed: bool,
-}
-
-impl<W: Write> Write for Pipe<W> {
-    fn write(&mut self, buf: &[u8]) -> io::Result<usize> {
-        let written = self.writer.write(buf);
-        if let Err(e) = &written
-            && e.kind() == ErrorKind::BrokenPipe
-        {
-            self.is_closed = true;
-        }
-        written
-    }
-
-    fn flush(&mut self) -> io::Result<()> {
-        self.writer.flush()
+        status,
+        is_closed: matches!(ended, Err(Failure::Closed(_))),
     }
 }

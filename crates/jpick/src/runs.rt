@@ -1,6 +1,6 @@
 //! What is picked of a reader, and how that ended.
-ghost use Rattle.std.specs.Prelude.{◌≡◌, false};
-ghost use Rattle.jpick.specs.Failures.{failure_text, run_status};
+ghost use Rattle.std.specs.Prelude.{◌≡◌, false, option_map};
+ghost use Rattle.jpick.specs.Failures.{line_of, run_status};
 ghost use Rattle.jpick.specs.Runs.{Picks};
 ghost use Rattle.jpick.specs.declared.runs.Failure.TheVariants.{Resources};
 
@@ -20,21 +20,10 @@ pub enum Failure {
     Read,
     /// Writing rows or naming a rejected line failed.
     Write,
+    /// Who reads the rows has closed them. Holds whether no line was rejected so far.
+    Closed(bool),
     /// An allocation failed, or the input did not end.
     Resources,
-}
-
-impl Failure {
-    /// Returns the failure in words.
-    pub fn text(self) -> &'static str
-        ensures { result.now ≡ failure_text self }
-    {
-        match self {
-            Failure::Read => "reading failed",
-            Failure::Write => "writing failed",
-            Failure::Resources => "out of memory",
-        }
-    }
 }
 
 impl From<AllocError> for Failure {
@@ -45,23 +34,26 @@ impl From<AllocError> for Failure {
     }
 }
 
-/// Returns the exit status of a program of one run.
-pub fn status(ended: &Result<bool, Failure>) -> u8
-    ensures { result ≡ run_status ended.now }
+/// Returns the exit status of a program of one run, and the line for standard error.
+pub fn ending(ended: &Result<bool, Failure>) -> (u8, Option<&'static str>)
+    ensures { (result.0 ≡ run_status ended.now)
+        × (option_map (λ line. line.now) result.1 ≡ line_of ended.now) }
 {
     match ended {
-        Ok(true) => 0,
-        Ok(false) => 1,
-        Err(_) => 3,
+        Ok(true) | Err(Failure::Closed(true)) => (0, None),
+        Ok(false) | Err(Failure::Closed(false)) => (1, None),
+        Err(Failure::Read) => (3, Some("reading failed")),
+        Err(Failure::Write) => (3, Some("writing failed")),
+        Err(Failure::Resources) => (3, Some("out of memory")),
     }
 }
 
 /// Writes the rows of the lines of a reader, and names each rejected line on `rejections`. Returns
 /// whether no line was rejected.
 ///
-/// Fails with `Read` if reading fails, with `Write` if writing does, and with `Resources` if an
-/// allocation fails, or if the input does not end within 2^64 - 1 blocks. After an error a prefix
-/// of the rows and of the names of rejected lines was written.
+/// Fails with `Read` if reading fails, with `Write` if writing does, or with `Closed` in its place,
+/// and with `Resources` if an allocation fails, or if the input does not end within 2^64 - 1
+/// blocks. After an error a prefix of the rows and of the names of rejected lines was written.
 pub fn run<A: Allocator + Copy, R: Read, W: Write, E: Write>(
     a: A,
     wanted: &Wanted<'_>,

@@ -12,6 +12,7 @@ use Rattle.simd_json_parts.specs.Listing.{listing}
 use Rattle.simd_json_parts.specs.Nodes.{Item}
 use Rattle.simd_json_parts.specs.declared.error.Error.{Error}
 use Rattle.log_report.specs.Report.{Report, next, with_answer, with_line, with_rejection}
+use Rattle.log_report.specs.declared.rows.Wanted.{Wanted}
 use Rattle.log_report.proofs.Shown.{short-line}
 
 pub answered : (b : List ℕ) (limit : ℕ) (nodes : List Item) (d : Document) → IsParsed b limit nodes → limit ≡ default_max_depth
@@ -25,12 +26,12 @@ answered-error b limit capacity e nodes listed p has is =
     ap (answer b) (sym is) ∙ elim p.refused [ inl rejected ↦ rejected.answered | inr lacks ↦ absurd (has (ap Some lacks.0.0)) ]
 
 -- of a line that is rejected
-pub rejected-line : (key : List ℕ) (longest : ℕ) (r : Report) (line : List ℕ) (limit capacity : ℕ) (answer : Result Unit Error) (e : Error)
+pub rejected-line : (w : Wanted) (label : List ℕ) (r : Report) (line : List ℕ) (limit capacity : ℕ) (answer : Result Unit Error) (e : Error)
     (nodes : List Item) (listed : List ℕ) → answer ≡ Err e → IsParse line limit capacity (result_err answer) nodes listed
-    → HasMemory (result_err answer) → limit ≡ default_max_depth → length line ≤ longest → is_blank line ≡ false
-    → with_rejection longest (next r) (Some e) ≡ with_line key longest r line
-rejected-line key longest r line limit capacity answer e nodes listed is parse has limited fits some =
-    ap (with_answer key longest (next r)) (sym (answered-error line limit capacity e nodes listed
+    → HasMemory (result_err answer) → limit ≡ default_max_depth → length line ≤ w.longest → is_blank line ≡ false
+    → with_rejection w label (next r) (Some e) ≡ with_line w label r line
+rejected-line w label r line limit capacity answer e nodes listed is parse has limited fits some =
+    ap (with_answer w label (next r)) (sym (answered-error line limit capacity e nodes listed
     (subst (λ a. IsParse line limit capacity (result_err a) nodes listed) is parse)
     (subst (λ a. HasMemory (result_err a)) is has) limited))
-    ∙ short-line key longest r line false fits some
+    ∙ short-line w label r line false fits some

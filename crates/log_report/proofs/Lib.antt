@@ -1,6 +1,8 @@
 mod Answered
 mod Begun
+mod Cuts
 mod Feeds
+mod Inputs
 mod Orders
 mod Places
 mod Reported

@@ -7,7 +7,7 @@ use Rattle.std.specs.Map.{keys_of, values_of}
 use Rattle.std.proofs.lemmas.Iterator.Adapters.{position_from-zero}
 use Rattle.std.proofs.lemmas.Bool.{lt-ltb, le-ltb}
 use Rattle.indexmap.specs.IndexMap.{insert_entry, set_value_at}
-use Rattle.log_report.specs.Table.{Count, added, counted, has_text, most_texts, others, plus}
+use Rattle.log_report.specs.Table.{Count, added, counted, has_text, most_texts, no_value, none_counted, others, plus, rejected}
 use Rattle.log_report.specs.Runs.{as_count}
 
 abbrev Entry : Type 0 → Type 0
@@ -110,19 +110,34 @@ inserted k n (e ∷ es) lacks =
 
 -- ---- what more lines come to
 
-if-has : (n : ℕ) (t : List ℕ) (cs : List Count) (b : Bool) → has_text t cs ≡ b
-    → counted n t cs ≡ cond b (added n t cs) (cond (nat_lt (length cs) most_texts) (cs ++ (t, n) ∷ []) (added n others cs))
-if-has n t cs b is = ap (λ x. cond x (added n t cs) (cond (nat_lt (length cs) most_texts) (cs ++ (t, n) ∷ []) (added n others cs))) is
+if-has : (tsv : Bool) (n : ℕ) (t : List ℕ) (cs : List Count) (b : Bool) → has_text t cs ≡ b
+    → counted tsv n t cs ≡ cond b (added n t cs) (cond (nat_lt (length cs) most_texts) (cs ++ (t, n) ∷ []) (added n (others tsv) cs))
+if-has tsv n t cs b is =
+    ap (λ x. cond x (added n t cs) (cond (nat_lt (length cs) most_texts) (cs ++ (t, n) ∷ []) (added n (others tsv) cs))) is
 
-pub counted-known : (n : ℕ) (t : List ℕ) (cs : List Count) → has_text t cs ≡ true → added n t cs ≡ counted n t cs
-counted-known n t cs is = sym (if-has n t cs true is)
+pub counted-known : (tsv : Bool) (n : ℕ) (t : List ℕ) (cs : List Count) → has_text t cs ≡ true → added n t cs ≡ counted tsv n t cs
+counted-known tsv n t cs is = sym (if-has tsv n t cs true is)
 
-pub counted-new : (n : ℕ) (t : List ℕ) (cs : List Count) → has_text t cs ≡ false → length cs < most_texts
-    → cs ++ (t, n) ∷ [] ≡ counted n t cs
-counted-new n t cs lacks few =
-    sym (if-has n t cs false lacks ∙ ap (λ x. cond x (cs ++ (t, n) ∷ []) (added n others cs)) (lt-ltb (length cs) most_texts few))
+pub counted-new : (tsv : Bool) (n : ℕ) (t : List ℕ) (cs : List Count) → has_text t cs ≡ false → length cs < most_texts
+    → cs ++ (t, n) ∷ [] ≡ counted tsv n t cs
+counted-new tsv n t cs lacks few =
+    sym (if-has tsv n t cs false lacks
+    ∙ ap (λ x. cond x (cs ++ (t, n) ∷ []) (added n (others tsv) cs)) (lt-ltb (length cs) most_texts few))
 
-pub counted-other : (n : ℕ) (t : List ℕ) (cs : List Count) → has_text t cs ≡ false → most_texts ≤ length cs
-    → added n others cs ≡ counted n t cs
-counted-other n t cs lacks many =
-    sym (if-has n t cs false lacks ∙ ap (λ x. cond x (cs ++ (t, n) ∷ []) (added n others cs)) (le-ltb (length cs) most_texts many))
+pub counted-other : (tsv : Bool) (n : ℕ) (t : List ℕ) (cs : List Count) → has_text t cs ≡ false → most_texts ≤ length cs
+    → added n (others tsv) cs ≡ counted tsv n t cs
+counted-other tsv n t cs lacks many =
+    sym (if-has tsv n t cs false lacks
+    ∙ ap (λ x. cond x (cs ++ (t, n) ∷ []) (added n (others tsv) cs)) (le-ltb (length cs) most_texts many))
+
+-- the marks, before any line
+pub starts : (tsv : Bool) (a b c : List ℕ) → a ≡ no_value tsv → b ≡ others tsv → c ≡ rejected tsv
+    → counted tsv 0 c (counted tsv 0 b (counted tsv 0 a [])) ≡ none_counted tsv
+starts true a b c first second third =
+    ap (λ a. counted true 0 c (counted true 0 b (counted true 0 a []))) first
+    ∙ ap (λ b. counted true 0 c (counted true 0 b (counted true 0 (no_value true) []))) second
+    ∙ ap (λ c. counted true 0 c (counted true 0 (others true) (counted true 0 (no_value true) []))) third
+starts false a b c first second third =
+    ap (λ a. counted false 0 c (counted false 0 b (counted false 0 a []))) first
+    ∙ ap (λ b. counted false 0 c (counted false 0 b (counted false 0 (no_value false) []))) second
+    ∙ ap (λ c. counted false 0 c (counted false 0 (others false) (counted false 0 (no_value false) []))) third

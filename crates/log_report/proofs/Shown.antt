@@ -15,30 +15,31 @@ use Rattle.simd_json.specs.Capacities.{Capacities}
 use Rattle.simd_json.specs.Reserved.{IsReserved}
 use Rattle.simd_json.specs.Tapes.{Listed}
 use Rattle.log_report.specs.declared.lines.Lines.{Lines}
+use Rattle.log_report.specs.declared.rows.Wanted.{Wanted}
 use Rattle.log_report.proofs.Begun.{begins-all, begins-grown, begins-then, grows-line}
 
-abbrev rest_of : List ℕ → ℕ → Report → List ℕ → Bool → Report
-rest_of key longest r line blank = cond blank (next r) (with_answer key longest (next r) (answer line default_max_depth))
+abbrev rest_of : Wanted → List ℕ → Report → List ℕ → Bool → Report
+rest_of w label r line blank = cond blank (next r) (with_answer w label (next r) (answer line default_max_depth))
 
-pub long-line : (key : List ℕ) (longest : ℕ) (r : Report) (line : List ℕ) → longest < length line
-    → with_rejection longest (next r) None ≡ with_line key longest r line
-long-line key longest r line more =
-    sym (ap (λ t. cond t (with_rejection longest (next r) None) (rest_of key longest r line (is_blank line)))
-    (lt-ltb longest (length line) more))
+pub long-line : (w : Wanted) (label : List ℕ) (r : Report) (line : List ℕ) → w.longest < length line
+    → with_rejection w label (next r) None ≡ with_line w label r line
+long-line w label r line more =
+    sym (ap (λ t. cond t (with_rejection w label (next r) None) (rest_of w label r line (is_blank line)))
+    (lt-ltb w.longest (length line) more))
 
-pub short-line : (key : List ℕ) (longest : ℕ) (r : Report) (line : List ℕ) (blank : Bool) → length line ≤ longest → is_blank line ≡ blank
-    → rest_of key longest r line blank ≡ with_line key longest r line
-short-line key longest r line blank fits is =
-    sym (ap (λ t. cond t (with_rejection longest (next r) None) (rest_of key longest r line (is_blank line)))
-    (le-ltb longest (length line) fits)
-    ∙ ap (rest_of key longest r line) is)
+pub short-line : (w : Wanted) (label : List ℕ) (r : Report) (line : List ℕ) (blank : Bool) → length line ≤ w.longest → is_blank line ≡ blank
+    → rest_of w label r line blank ≡ with_line w label r line
+short-line w label r line blank fits is =
+    sym (ap (λ t. cond t (with_rejection w label (next r) None) (rest_of w label r line (is_blank line)))
+    (le-ltb w.longest (length line) fits)
+    ∙ ap (rest_of w label r line) is)
 
-pub shows-next : {A : Type 0} (old : Lines A) (number : ℕ) (held holds : Option (List ℕ)) (key : List ℕ) (longest : ℕ) (r : Report)
-    → number ≡ one_more old.number → Shows old held holds key longest r
-    → Shows (record old { number = number }) held holds key longest (next r)
-shows-next old number held holds key longest r is shown = record {
-  by_selector = shown.by_selector;
-  most = shown.most;
+pub shows-next : {A : Type 0} (old : Lines A) (number : ℕ) (held holds : Option (List ℕ)) (w : Wanted) (label : List ℕ) (r : Report)
+    → number ≡ one_more old.number → Shows old held holds w label r
+    → Shows (record old { number = number }) held holds w label (next r)
+shows-next old number held holds w label r is shown = record {
+  by = shown.by;
+  of = shown.of;
   limited = shown.limited;
   reserved = shown.reserved;
   number = is ∙ ap one_more shown.number;
@@ -48,12 +49,12 @@ shows-next old number held holds key longest r is shown = record {
 }
 
 -- after a parse
-pub shows-parsed : {A : Type 0} (lines : Lines A) (buffers : Capacities) (tape : Listed) (held holds : Option (List ℕ)) (key : List ℕ)
-    (longest : ℕ) (r : Report) → buffers.limit ≡ lines.buffers.limit → IsReserved lines.longest buffers tape
-    → Shows lines held holds key longest r → Shows (record lines { buffers = buffers; tape = tape }) held holds key longest r
-shows-parsed lines buffers tape held holds key longest r limited reserved shown = record {
-  by_selector = shown.by_selector;
-  most = shown.most;
+pub shows-parsed : {A : Type 0} (lines : Lines A) (buffers : Capacities) (tape : Listed) (held holds : Option (List ℕ)) (w : Wanted)
+    (label : List ℕ) (r : Report) → buffers.limit ≡ lines.buffers.limit → IsReserved lines.wanted.now.longest buffers tape
+    → Shows lines held holds w label r → Shows (record lines { buffers = buffers; tape = tape }) held holds w label r
+shows-parsed lines buffers tape held holds w label r limited reserved shown = record {
+  by = shown.by;
+  of = shown.of;
   limited = limited ∙ shown.limited;
   reserved = reserved;
   number = shown.number;
@@ -62,17 +63,18 @@ shows-parsed lines buffers tape held holds key longest r limited reserved shown 
   rejections = shown.rejections;
 }
 
-pub shows-added : {A : Type 0} (old new : Lines A) (held holds : Option (List ℕ)) (key : List ℕ) (longest : ℕ) (r : Report) (text : List ℕ)
-    (more : ℕ) → Shows old held holds key longest r → CountsMore old new text more
-    → Shows new held holds key longest (record r { counts = counted more text r.counts })
-shows-added old new held holds key longest r text more shown h = record {
-  by_selector = ap (λ l. l.selector.now) h.same ∙ shown.by_selector;
-  most = ap (λ l. l.longest) h.same ∙ shown.most;
+pub shows-added : {A : Type 0} (old new : Lines A) (held holds : Option (List ℕ)) (w : Wanted) (label : List ℕ) (r : Report) (text : List ℕ)
+    (more : ℕ) → Shows old held holds w label r → CountsMore old new text more
+    → Shows new held holds w label (record r { counts = counted w.is_tsv more text r.counts })
+shows-added old new held holds w label r text more shown h = record {
+  by = ap (λ l. l.wanted.now) h.same ∙ shown.by;
+  of = ap (λ l. l.label.now) h.same ∙ shown.of;
   limited = ap (λ l. l.buffers.limit) h.same ∙ shown.limited;
-  reserved = subst (λ l. IsReserved l.longest l.buffers l.tape) (sym h.same) shown.reserved;
+  reserved = subst (λ l. IsReserved l.wanted.now.longest l.buffers l.tape) (sym h.same) shown.reserved;
   number = ap (λ l. l.number) h.same ∙ shown.number;
   all_taken = ap (λ l. l.all_taken) h.same ∙ shown.all_taken;
-  counts = h.counts ∙ ap (counted more text) shown.counts;
+  counts = h.counts ∙ ap (counted old.wanted.now.is_tsv more text) shown.counts
+      ∙ ap (λ v. counted v.is_tsv more text r.counts) shown.by;
   rejections = shown.rejections;
 }
 
@@ -81,22 +83,29 @@ pub added-over : {A : Type 0} (old new : Lines A) (tape : Listed) (text : List �
 added-over {A} old new tape text more h = record
     { counts = h.counts; same = ap {A = Lines A} (λ (l : Lines A). record l { tape = tape }) h.same }
 
+named-as : {A : Type 0} (old : Lines A) (held holds : Option (List ℕ)) (w : Wanted) (label : List ℕ) (r : Report) (error : Option Error)
+    → Shows old held holds w label r
+    → rejection_line old.wanted.now old.label.now old.number error ≡ rejection_line w label r.number error
+named-as old held holds w label r error shown =
+    ap (λ v. rejection_line v old.label.now old.number error) shown.by ∙ ap (λ l. rejection_line w l old.number error) shown.of
+    ∙ ap (λ n. rejection_line w label n error) shown.number
+
 pub shows-rejected : {A E : Type 0} (naming : E → Option (List ℕ)) (old new : Lines A) (rejections rejects : Watched E)
-    (held : Option (List ℕ)) (key : List ℕ) (longest : ℕ) (r : Report) (error : Option Error)
-    → Shows old held (naming rejections.inner) key longest r → IsRejection naming old new rejections rejects error
-    → Shows new held (naming rejects.inner) key longest (with_rejection longest r error)
-shows-rejected naming old new rejections rejects held key longest r error shown h = record {
-  by_selector = ap (λ l. l.selector.now) h.same ∙ shown.by_selector;
-  most = ap (λ l. l.longest) h.same ∙ shown.most;
+    (held : Option (List ℕ)) (w : Wanted) (label : List ℕ) (r : Report) (error : Option Error)
+    → Shows old held (naming rejections.inner) w label r → IsRejection naming old new rejections rejects error
+    → Shows new held (naming rejects.inner) w label (with_rejection w label r error)
+shows-rejected naming old new rejections rejects held w label r error shown h = record {
+  by = ap (λ l. l.wanted.now) h.same ∙ shown.by;
+  of = ap (λ l. l.label.now) h.same ∙ shown.of;
   limited = ap (λ l. l.buffers.limit) h.same ∙ shown.limited;
-  reserved = subst (λ l. IsReserved l.longest l.buffers l.tape) (sym h.same) shown.reserved;
+  reserved = subst (λ l. IsReserved l.wanted.now.longest l.buffers l.tape) (sym h.same) shown.reserved;
   number = ap (λ l. l.number) h.same ∙ shown.number;
   all_taken = ap (λ l. l.all_taken) h.same;
-  counts = h.counts ∙ ap (counted 1 rejected) shown.counts;
+  counts = h.counts ∙ ap (counted old.wanted.now.is_tsv 1 (rejected old.wanted.now.is_tsv)) shown.counts
+      ∙ ap (λ v. counted v.is_tsv 1 (rejected v.is_tsv) r.counts) shown.by;
   rejections =
       appends-then held (naming rejections.inner) (naming rejects.inner) r.rejections _ shown.rejections
-      (subst (λ n. Appends (naming rejections.inner) (naming rejects.inner) (rejection_line n r.number error)) shown.most
-      (subst (λ n. Appends (naming rejections.inner) (naming rejects.inner) (rejection_line old.longest n error)) shown.number h.named));
+      (subst (Appends (naming rejections.inner) (naming rejects.inner)) (named-as old held _ w label r error shown) h.named);
 }
 
 pub rejected-over : {A E : Type 0} (naming : E → Option (List ℕ)) (old new : Lines A) (tape : Listed) (rejections rejects : Watched E)
@@ -113,17 +122,16 @@ reserved-as len b c t u is same reserved = subst (λ x. IsReserved len x u) (sym
 
 -- of a rejected line, whose name was begun
 pub begins-rejected : {A E : Type 0} (naming : E → Option (List ℕ)) (old : Lines A) (rejections rejects : Watched E)
-    (held : Option (List ℕ)) (key : List ℕ) (longest : ℕ) (r : Report) (error : Option Error)
-    → Shows old held (naming rejections.inner) key longest r
-    → Begins (naming rejections.inner) (naming rejects.inner) (rejection_line old.longest old.number error)
-    → Begins held (naming rejects.inner) (with_rejection longest r error).rejections
-begins-rejected naming old rejections rejects held key longest r error shown begun =
+    (held : Option (List ℕ)) (w : Wanted) (label : List ℕ) (r : Report) (error : Option Error)
+    → Shows old held (naming rejections.inner) w label r
+    → Begins (naming rejections.inner) (naming rejects.inner) (rejection_line old.wanted.now old.label.now old.number error)
+    → Begins held (naming rejects.inner) (with_rejection w label r error).rejections
+begins-rejected naming old rejections rejects held w label r error shown begun =
     begins-then held (naming rejections.inner) (naming rejects.inner) r.rejections _ shown.rejections
-    (subst (λ n. Begins (naming rejections.inner) (naming rejects.inner) (rejection_line n r.number error)) shown.most
-    (subst (λ n. Begins (naming rejections.inner) (naming rejects.inner) (rejection_line old.longest n error)) shown.number begun))
+    (subst (Begins (naming rejections.inner) (naming rejects.inner)) (named-as old held _ w label r error shown) begun)
 
 -- of any line, before its name
-pub begins-line : {A : Type 0} (lines : Lines A) (held holds : Option (List ℕ)) (key : List ℕ) (longest : ℕ) (r : Report) (line : List ℕ)
-    → Shows lines held holds key longest r → Begins held holds (with_line key longest r line).rejections
-begins-line lines held holds key longest r line shown =
-    begins-grown held holds r _ (grows-line key longest r line) (begins-all held holds r.rejections shown.rejections)
+pub begins-line : {A : Type 0} (lines : Lines A) (held holds : Option (List ℕ)) (w : Wanted) (label : List ℕ) (r : Report) (line : List ℕ)
+    → Shows lines held holds w label r → Begins held holds (with_line w label r line).rejections
+begins-line lines held holds w label r line shown =
+    begins-grown held holds r _ (grows-line w label r line) (begins-all held holds r.rejections shown.rejections)

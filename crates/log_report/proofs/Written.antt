@@ -1,9 +1,9 @@
 -- What a call returns, and what a read gave.
-use Rattle.std.proofs.Common.{◌≡◌, ◌∙◌, ap, refl, subst, ℕ, List, ◌++◌, append-nil, take, Bool, false, true, Option, Result, Ok, Err}
+use Rattle.std.proofs.Common.{◌≡◌, ◌∙◌, ap, refl, subst, sym, ℕ, List, ◌++◌, append-nil, take, Bool, false, true, Option, Result, Ok, Err}
 use Rattle.std.proofs.KnownBytes.{Consumes-kept, Consumes-trans}
 use Rattle.std.specs.Io.KnownBytes.{Consumes, ReadConsumes}
 use Rattle.std.specs.Prelude.{IsErrAnd, MatchResult, is_err, ◌||◌}
-use Rattle.log_report.specs.Runs.{IsReportFault, fault_of}
+use Rattle.log_report.specs.Runs.{IsReportFault, fault_of, input_fault}
 use Rattle.log_report.specs.declared.failure.Failure.{Failure}
 use Rattle.log_report.specs.declared.failure.Failure.TheVariants.{Read, Write, Closed, Resources}
 
@@ -21,6 +21,25 @@ pub handed-on : (q : Result Unit Failure) (new : Bool) (post : Failure → Type 
     → ((e : Failure) → post e → e ≡ fault_of new) → Q → EndsIn q new P Q
 handed-on (Ok u) new post P Q is says left = absurd is
 handed-on (Err e) new post P Q is says left = (says e is, left)
+
+-- ---- the call that reads an input
+
+abbrev pub EndsInputIn : Result Unit Failure → Bool → Bool → Type 0 → Type 0 → Type 0
+EndsInputIn q reads rejects P Q = MatchResult q (λ _. (reads ≡ false) × (rejects ≡ false) × P)
+    (λ failure. (failure ≡ input_fault reads rejects) × (reads ≡ true → rejects ≡ false) × Q)
+
+-- of one that ends in what naming rejected lines ends in, when no read has failed
+pub input-named : (q : Result Unit Failure) (reads rejects : Bool) (P Q S T : Type 0) → reads ≡ false → (P → S) → (Q → T)
+    → EndsIn q rejects P Q → EndsInputIn q reads rejects S T
+input-named (Ok u) reads rejects P Q S T none then left h = (none, h.0, then h.1)
+input-named (Err e) reads rejects P Q S T none then left h =
+    (h.0 ∙ ap (λ b. input_fault b rejects) (sym none), λ is. cc, left h.1)
+
+-- an error that `?` hands on
+pub input-handed-on : (q : Result Unit Failure) (reads rejects : Bool) (post : Failure → Type 0) (P Q : Type 0) → IsErrAnd q post
+    → ((e : Failure) → post e → e ≡ input_fault reads rejects) → (reads ≡ true → rejects ≡ false) → Q → EndsInputIn q reads rejects P Q
+input-handed-on (Ok u) reads rejects post P Q is says one left = absurd is
+input-handed-on (Err e) reads rejects post P Q is says one left = (says e is, one, left)
 
 -- ---- the call that writes the report
 

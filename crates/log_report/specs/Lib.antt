@@ -1,4 +1,5 @@
 pub mod Failures
 pub mod Report
+pub mod Rows
 pub mod Runs
 pub mod Table

@@ -1,30 +1,52 @@
 -- What a run leaves.
-use Rattle.std.specs.Prelude.{◌≡◌, ◌↔◌, ◌||◌, ◌+◌, ◌++◌, ℕ, List, [], ◌∷◌, take, map, Bool, true, false, ◌==◌, Option, option_map}
+use Rattle.std.specs.Prelude.{◌≡◌, ◌↔◌, ◌||◌, ◌+◌, ◌++◌, ℕ, List, [], ◌∷◌, length, take, map, Bool, true, false, ◌==◌, Option}
 use Rattle.std.specs.Prelude.{OnOk, IfErr, IsErrAnd, Result, Ok, Err, MatchResult, Vec, if◌then◌else◌}
 use Rattle.std.specs.Io.KnownBytes.{Appends, Consumes, IsAtEnd, Keeps}
 use Rattle.jtape.specs.Ports.{Watched}
 use Rattle.simd_json.specs.Capacities.{default_max_depth}
 use Rattle.simd_json.specs.Reserved.{IsReserved}
+use Rattle.simd_json_parts.specs.Document.{Document}
 use Rattle.simd_json_parts.specs.declared.error.Error.{Error}
 use Rattle.simd_json_parts.specs.Bytes.{line_feed}
-use Rattle.simd_json.specs.Viewed.{doc}
-use Rattle.simd_json.specs.declared.value.tape.value.Value.{Value}
-use Rattle.log_report.specs.Report.{Report, no_line, rejection_line, report_of, value_label, with_line}
+use Rattle.log_report.specs.Report.{Part, Report, no_line, rejection_line, report_of, with_line, with_part}
+use Rattle.log_report.specs.Rows.{row_label}
 use Rattle.log_report.specs.Table.{Count, counted, rejected, report_text}
 use Rattle.log_report.specs.declared.failure.Failure.{Failure}
 use Rattle.log_report.specs.declared.failure.Failure.TheVariants.{Read, Write, Closed, Resources}
 use Rattle.log_report.specs.declared.lines.Lines.{Lines}
+use Rattle.log_report.specs.declared.rows.Wanted.{Wanted}
+use Rattle.log_report.specs.declared.run.Input.{Input}
 
--- Of a reader with these bytes left before and after, a writer of the report and one that names rejected lines, which held and
--- hold these: the reader was read to its end, and the report of its lines was written, and its rejected lines were named.
-pub record HasReported (selector : List ℕ) (longest : ℕ) (before after held holds named names : Option (List ℕ))
-    (result : Result Bool Failure) : Type 0 where
-  pub input : List ℕ
-  pub read : Consumes before after input
-  pub end : IsAtEnd after
-  pub report : Appends held holds (report_text (report_of selector longest input).counts)
-  pub rejections : Appends named names (report_of selector longest input).rejections
-  pub returned : result ≡ Ok (report_of selector longest input).all_taken
+-- Of an input before and after a run, of whose reader this is known: it has this label, and these bytes were read, to the end if all were.
+pub record IsRead {R : Type 0} (remaining : R → Option (List ℕ)) (all : Bool) (i j : Input R) (part : Part) : Type 0 where
+  pub label : part.0 ≡ i.label.now
+  pub bytes : Consumes (remaining i.reader.inner) (remaining j.reader.inner) part.1
+  pub end : all ≡ true → IsAtEnd (remaining j.reader.inner)
+
+-- these parts were read of the first inputs, and the others were not touched
+abbrev pub AreRead : {R : Type 0} → (R → Option (List ℕ)) → Bool → List (Input R) → List (Input R) → List Part → Type 0
+AreRead remaining all is js [] = is ≡ js
+AreRead remaining all (i ∷ is) (j ∷ js) (part ∷ parts) = IsRead remaining all i j part × AreRead remaining all is js parts
+AreRead remaining all is js parts = ⊥
+
+-- each of the inputs was read to its end
+pub record AreDone {R : Type 0} (remaining : R → Option (List ℕ)) (inputs reads : List (Input R)) (parts : List Part) : Type 0 where
+  pub read : AreRead remaining true inputs reads parts
+  pub each : length parts ≡ length inputs
+
+abbrev pub has_failed : {R : Type 0} → List (Input R) → Bool
+has_failed [] = false
+has_failed (i ∷ is) = i.reader.failed || has_failed is
+
+-- Of inputs, a writer of the report and one that names rejected lines, which held and hold these: each input was read to its end,
+-- and the report of their lines was written, and their rejected lines were named.
+pub record HasReported {R : Type 0} (remaining : R → Option (List ℕ)) (w : Wanted) (inputs reads : List (Input R))
+    (held holds named names : Option (List ℕ)) (result : Result Bool Failure) : Type 0 where
+  pub parts : List Part
+  pub read : AreDone remaining inputs reads parts
+  pub report : Appends held holds (report_text w.is_tsv (report_of w parts).counts)
+  pub rejections : Appends named names (report_of w parts).rejections
+  pub returned : result ≡ Ok (report_of w parts).all_taken
 
 -- of a writer that held and holds these: a beginning of the bytes was written
 abbrev pub Begins : Option (List ℕ) → Option (List ℕ) → List ℕ → Type 0
@@ -33,15 +55,15 @@ Begins held holds bytes = (count : ℕ) × Appends held holds (take count bytes)
 -- Of such a run that ended in this error, and whether the report's writer failed: of what was read, a beginning of the report was
 -- written, and a beginning of its rejected lines named. No byte of the report was, unless its writer failed; then all was read.
 -- That its reader has closed it is such a failure, and says whether no line was rejected.
-pub record HasBegun (selector : List ℕ) (longest : ℕ) (before after held holds named names : Option (List ℕ)) (failed : Bool)
-    (failure : Failure) : Type 0 where
-  pub input : List ℕ
-  pub read : Consumes before after input
-  pub report : Begins held holds (report_text (report_of selector longest input).counts)
-  pub rejections : Begins named names (report_of selector longest input).rejections
+pub record HasBegun {R : Type 0} (remaining : R → Option (List ℕ)) (w : Wanted) (inputs reads : List (Input R))
+    (held holds named names : Option (List ℕ)) (failed : Bool) (failure : Failure) : Type 0 where
+  pub parts : List Part
+  pub read : AreRead remaining false inputs reads parts
+  pub report : Begins held holds (report_text w.is_tsv (report_of w parts).counts)
+  pub rejections : Begins named names (report_of w parts).rejections
   pub unwritten : failed ≡ false → Keeps held holds
-  pub end : failed ≡ true → IsAtEnd after
-  pub closed : (taken : Bool) → failure ≡ Closed taken → (failed ≡ true) × (taken ≡ (report_of selector longest input).all_taken)
+  pub end : failed ≡ true → AreDone remaining inputs reads parts
+  pub closed : (taken : Bool) → failure ≡ Closed taken → (failed ≡ true) × (taken ≡ (report_of w parts).all_taken)
 
 -- writing failed, or a reader has closed what is written
 abbrev pub is_write : Failure → Bool
@@ -49,16 +71,16 @@ is_write Write = true
 is_write (Closed taken) = true
 is_write _ = false
 
--- Of a run over ports, of what is known of their bytes: a report is that of what was read, and reading failed exactly where the
--- reader did, writing exactly where one of the writers did.
+-- Of a run over ports, of what is known of their bytes: a report is that of what was read, and reading failed exactly where one of
+-- the readers did, writing exactly where one of the writers did.
 pub record Reports {R W E : Type 0} (remaining : R → Option (List ℕ)) (written : W → Option (List ℕ)) (naming : E → Option (List ℕ))
-    (selector : List ℕ) (longest : ℕ)
-    (reader reads : Watched R) (report reports : Watched W) (rejections rejects : Watched E) (result : Result Bool Failure) : Type 0 where
-  pub run : OnOk result (HasReported selector longest (remaining reader.inner) (remaining reads.inner) (written report.inner)
-      (written reports.inner) (naming rejections.inner) (naming rejects.inner) result)
-  pub begun : IfErr result (HasBegun selector longest (remaining reader.inner) (remaining reads.inner) (written report.inner)
-      (written reports.inner) (naming rejections.inner) (naming rejects.inner) reports.failed)
-  pub read : (result ≡ Err Read) ↔ (reads.failed ≡ true)
+    (w : Wanted) (inputs reads : List (Input R)) (report reports : Watched W) (rejections rejects : Watched E)
+    (result : Result Bool Failure) : Type 0 where
+  pub run : OnOk result (HasReported remaining w inputs reads (written report.inner) (written reports.inner)
+      (naming rejections.inner) (naming rejects.inner) result)
+  pub begun : IfErr result (HasBegun remaining w inputs reads (written report.inner) (written reports.inner)
+      (naming rejections.inner) (naming rejects.inner) reports.failed)
+  pub read : (result ≡ Err Read) ↔ (has_failed reads ≡ true)
   pub write : IsErrAnd result (λ failure. is_write failure ≡ true) ↔ ((reports.failed || rejects.failed) ≡ true)
 
 -- ---- what private clauses cite
@@ -81,12 +103,12 @@ counts_of lines = map as_count lines.counts.entries
 
 -- so many lines more count under the text
 pub record CountsMore {A : Type 0} (old new : Lines A) (text : List ℕ) (more : ℕ) : Type 0 where
-  pub counts : counts_of new ≡ counted more text (counts_of old)
+  pub counts : counts_of new ≡ counted old.wanted.now.is_tsv more text (counts_of old)
   pub same : new ≡ record old { counts = new.counts }
 
--- one more, by the value at the selector
-abbrev pub AddsValue : {A : Type 0} → Lines A → Lines A → Option Value → Type 0
-AddsValue old new value = CountsMore old new (value_label (option_map doc value)) 1
+-- one more, by the row of a document
+abbrev pub AddsValue : {A : Type 0} → Lines A → Lines A → Document → Type 0
+AddsValue old new d = CountsMore old new (row_label old.wanted.now d) 1
 
 -- what a call on the report's writer ends in, if its failures come from there or from want of memory
 abbrev pub IsReportFault : Bool → Bool → Failure → Type 0
@@ -100,76 +122,106 @@ EndsReport taken old new P Q result = old.failed ≡ false
 
 -- of a writer of what is known: the report is written
 abbrev pub Prints : {A W : Type 0} → (W → Option (List ℕ)) → Lines A → Watched W → Watched W → Type 0
-Prints written lines out outs = Appends (written out.inner) (written outs.inner) (report_text (counts_of lines))
+Prints written lines out outs =
+    Appends (written out.inner) (written outs.inner) (report_text lines.wanted.now.is_tsv (counts_of lines))
 
 -- of a call that fails: a beginning of it is, and nothing unless the writer failed
 pub record BeginsReport {A W : Type 0} (written : W → Option (List ℕ)) (lines : Lines A) (out outs : Watched W) : Type 0 where
-  pub begun : Begins (written out.inner) (written outs.inner) (report_text (counts_of lines))
+  pub begun : Begins (written out.inner) (written outs.inner) (report_text lines.wanted.now.is_tsv (counts_of lines))
   pub unwritten : outs.failed ≡ false → Keeps (written out.inner) (written outs.inner)
 
 -- of a writer of what is known: the last line counts as rejected, and is named
 pub record IsRejection {A E : Type 0} (naming : E → Option (List ℕ)) (old new : Lines A) (rejections rejects : Watched E)
     (error : Option Error) : Type 0 where
-  pub counts : counts_of new ≡ counted 1 rejected (counts_of old)
+  pub counts : counts_of new ≡ counted old.wanted.now.is_tsv 1 (rejected old.wanted.now.is_tsv) (counts_of old)
   pub same : new ≡ record old { all_taken = false; counts = new.counts }
-  pub named : Appends (naming rejections.inner) (naming rejects.inner) (rejection_line old.longest old.number error)
+  pub named : Appends (naming rejections.inner) (naming rejects.inner)
+      (rejection_line old.wanted.now old.label.now old.number error)
 
 -- Since a writer held these bytes: the counts are those of this report, and the writer holds the lines that name rejected ones, too.
-pub record Shows {A : Type 0} (lines : Lines A) (held holds : Option (List ℕ)) (selector : List ℕ) (longest : ℕ) (r : Report) : Type 0 where
-  pub by_selector : lines.selector.now ≡ selector
-  pub most : lines.longest ≡ longest
+pub record Shows {A : Type 0} (lines : Lines A) (held holds : Option (List ℕ)) (w : Wanted) (label : List ℕ) (r : Report) : Type 0 where
+  pub by : lines.wanted.now ≡ w
+  pub of : lines.label.now ≡ label
   pub limited : lines.buffers.limit ≡ default_max_depth
-  pub reserved : IsReserved lines.longest lines.buffers lines.tape
+  pub reserved : IsReserved lines.wanted.now.longest lines.buffers lines.tape
   pub number : lines.number ≡ r.number
   pub all_taken : lines.all_taken ≡ r.all_taken
   pub counts : counts_of lines ≡ r.counts
   pub rejections : Appends held holds r.rejections
 
 -- before any line
-abbrev pub IsStart : {A : Type 0} → List ℕ → ℕ → Lines A → Type 0
-IsStart selector longest lines = (held : Option (List ℕ)) → Shows lines held held selector longest no_line
+abbrev pub IsStart : {A : Type 0} → Wanted → Lines A → Type 0
+IsStart w lines = (held : Option (List ℕ)) → Shows lines held held w [] (no_line w)
 
 -- any report that was shown has become that with this line
 abbrev pub TakesLine : {A E : Type 0} → (E → Option (List ℕ)) → Lines A → Lines A → Watched E → Watched E → List ℕ → Type 0
 TakesLine naming old new rejections rejects line =
-    (held : Option (List ℕ)) (selector : List ℕ) (longest : ℕ) (r : Report)
-    → Shows old held (naming rejections.inner) selector longest r → Shows new held (naming rejects.inner) selector longest
-    (with_line selector longest r line)
+    (held : Option (List ℕ)) (w : Wanted) (label : List ℕ) (r : Report)
+    → Shows old held (naming rejections.inner) w label r → Shows new held (naming rejects.inner) w label (with_line w label r line)
 
 -- of a call that fails: of any report that was shown, with this line, a beginning of the rejections was written
 abbrev pub BeginsLine : {A E : Type 0} → (E → Option (List ℕ)) → Lines A → Watched E → Watched E → List ℕ → Type 0
 BeginsLine naming old rejections rejects line =
-    (held : Option (List ℕ)) (selector : List ℕ) (longest : ℕ) (r : Report)
-    → Shows old held (naming rejections.inner) selector longest r
-    → Begins held (naming rejects.inner) (with_line selector longest r line).rejections
+    (held : Option (List ℕ)) (w : Wanted) (label : List ℕ) (r : Report)
+    → Shows old held (naming rejections.inner) w label r → Begins held (naming rejects.inner) (with_line w label r line).rejections
 
 -- a report, and the line that has begun
 abbrev pub State : Type 0
 State = Report × List ℕ
 
 -- after more bytes
-abbrev pub after : List ℕ → ℕ → State → List ℕ → State
-after selector longest s [] = s
-after selector longest s (x ∷ bytes) =
-    after selector longest (if x == line_feed then (with_line selector longest s.0 s.1, []) else (s.0, s.1 ++ x ∷ [])) bytes
+abbrev pub after : Wanted → List ℕ → State → List ℕ → State
+after w label s [] = s
+after w label s (x ∷ bytes) =
+    after w label (if x == line_feed then (with_line w label s.0 s.1, []) else (s.0, s.1 ++ x ∷ [])) bytes
 
 -- the counts are those of the report, and the line is kept, up to one byte more than it may have
-pub record IsAt {A : Type 0} (lines : Lines A) (kept : List ℕ) (held holds : Option (List ℕ)) (selector : List ℕ) (longest : ℕ)
+pub record IsAt {A : Type 0} (lines : Lines A) (kept : List ℕ) (held holds : Option (List ℕ)) (w : Wanted) (label : List ℕ)
     (s : State) : Type 0 where
-  pub shown : Shows lines held holds selector longest s.0
-  pub line : kept ≡ take (longest + 1) s.1
+  pub shown : Shows lines held holds w label s.0
+  pub line : kept ≡ take (w.longest + 1) s.1
 
 -- any report, and the line that has begun, have become those after this block
 abbrev pub TakesBlock : {A E : Type 0} → (E → Option (List ℕ)) → Lines A → Lines A → Watched E → Watched E → List ℕ → List ℕ → List ℕ
     → Type 0
 TakesBlock naming old new rejections rejects line kept block =
-    (held : Option (List ℕ)) (selector : List ℕ) (longest : ℕ) (s : State)
-    → IsAt old line held (naming rejections.inner) selector longest s → IsAt new kept held (naming rejects.inner) selector longest
-    (after selector longest s block)
+    (held : Option (List ℕ)) (w : Wanted) (label : List ℕ) (s : State)
+    → IsAt old line held (naming rejections.inner) w label s
+    → IsAt new kept held (naming rejects.inner) w label (after w label s block)
 
 -- of a call that fails: after this block, likewise
 abbrev pub BeginsBlock : {A E : Type 0} → (E → Option (List ℕ)) → Lines A → Watched E → Watched E → List ℕ → List ℕ → Type 0
 BeginsBlock naming old rejections rejects line block =
-    (held : Option (List ℕ)) (selector : List ℕ) (longest : ℕ) (s : State)
-    → IsAt old line held (naming rejections.inner) selector longest s
-    → Begins held (naming rejects.inner) (after selector longest s block).0.rejections
+    (held : Option (List ℕ)) (w : Wanted) (label : List ℕ) (s : State)
+    → IsAt old line held (naming rejections.inner) w label s
+    → Begins held (naming rejects.inner) (after w label s block).0.rejections
+
+-- what a call on a reader and a writer that had not failed ends in, by whether one of them has
+abbrev pub input_fault : Bool → Bool → Failure
+input_fault true failed = Read
+input_fault false failed = fault_of failed
+
+-- of such a call: P, and neither has failed; or a failure, at most one of them has, and Q
+abbrev pub EndsInput : {R E : Type 0} → Watched R → Watched R → Watched E → Watched E → Type 0 → Type 0 → Result Unit Failure → Type 0
+EndsInput reader reads rejections rejects P Q result = reader.failed ≡ false → rejections.failed ≡ false
+    → MatchResult result (λ _. (reads.failed ≡ false) × (rejects.failed ≡ false) × P)
+    (λ failure. (failure ≡ input_fault reads.failed rejects.failed) × (reads.failed ≡ true → rejects.failed ≡ false) × Q)
+
+-- the bytes of a reader were read to their end, and any report that was shown has become that with their lines
+pub record TakesInput {A R E : Type 0} (remaining : R → Option (List ℕ)) (naming : E → Option (List ℕ)) (old new : Lines A)
+    (reader reads : Watched R) (rejections rejects : Watched E) (label : List ℕ) : Type 0 where
+  pub input : List ℕ
+  pub read : Consumes (remaining reader.inner) (remaining reads.inner) input
+  pub end : IsAtEnd (remaining reads.inner)
+  pub shown : (held : Option (List ℕ)) (w : Wanted) (last : List ℕ) (r : Report)
+      → Shows old held (naming rejections.inner) w last r
+      → Shows new held (naming rejects.inner) w label (with_part w r (label, input))
+
+-- of a call that fails: of any report that was shown, with the lines of what was read, a beginning of the rejections was written
+pub record BeginsInput {A R E : Type 0} (remaining : R → Option (List ℕ)) (naming : E → Option (List ℕ)) (old : Lines A)
+    (reader reads : Watched R) (rejections rejects : Watched E) (label : List ℕ) : Type 0 where
+  pub input : List ℕ
+  pub read : Consumes (remaining reader.inner) (remaining reads.inner) input
+  pub begun : (held : Option (List ℕ)) (w : Wanted) (last : List ℕ) (r : Report)
+      → Shows old held (naming rejections.inner) w last r
+      → Begins held (naming rejects.inner) (with_part w r (label, input)).rejections

@@ -1,12 +1,14 @@
 //! The lines so far, counted in memory that is reserved at the start.
-ghost use Rattle.std.specs.Prelude.{◌≡◌, IfOk, OnOk, option_map, true};
-ghost use Rattle.log_report.specs.Report.{rejection_line, selected};
-ghost use Rattle.log_report.specs.Runs.{AddsValue, Begins, BeginsBlock, BeginsLine};
-ghost use Rattle.log_report.specs.Runs.{BeginsReport, CountsMore, Ends, EndsReport};
-ghost use Rattle.log_report.specs.Runs.{IsRejection, IsReportFault, IsStart, Prints, TakesBlock, TakesLine};
+ghost use Rattle.std.specs.Prelude.{◌≡◌, IfOk, OnOk, true};
+ghost use Rattle.log_report.specs.Report.{rejection_line, rejection_words};
+ghost use Rattle.log_report.specs.Runs.{AddsValue, Begins, BeginsBlock, BeginsInput, BeginsLine};
+ghost use Rattle.log_report.specs.Runs.{BeginsReport, CountsMore, Ends, EndsInput, EndsReport};
+ghost use Rattle.log_report.specs.Runs.{IsRejection, IsReportFault, IsStart, Prints, TakesBlock};
+ghost use Rattle.log_report.specs.Runs.{TakesInput, TakesLine};
 ghost use Rattle.simd_json.specs.Viewed.{doc};
 
 use crate::failure::Failure;
+use crate::rows::{Row, Wanted, append_row};
 use arrayvec::ArrayVec;
 use indexmap::IndexMap;
 use jtape::Channel;
@@ -16,18 +18,21 @@ use simd_json_parts::charutils::is_blank;
 use simd_json_print::text::Text;
 use std::alloc::{AllocError, Allocator};
 use std::hash::{BuildHasherDefault, FoldHasher};
-use std::io::{self, ErrorKind, Write};
+use std::io::{self, ErrorKind, Read, Write};
 
-// 1,024 values, and three marks.
+// 1,024 rows, and three marks.
 const MOST_TEXTS: usize = 1027;
+
+// How many bytes are read at a time.
+const BLOCK: usize = 65_536;
 
 type Ended = Result<(), Failure>;
 
 /// The lines so far, and the memory for all that follow.
 #[derive(Drop)]
 pub struct Lines<'k, A: Allocator> {
-    selector: &'k str,
-    longest: usize,
+    wanted: &'k Wanted<'k>,
+    label: &'k str,
     buffers: Buffers<A>,
     tape: Tape<'static, A>,
     number: u64,
@@ -36,26 +41,25 @@ pub struct Lines<'k, A: Allocator> {
 }
 
 impl<'k, A: Allocator + Copy> Lines<'k, A> {
-    /// Returns the memory for lines of at most `longest` bytes, which count by their value at the
-    /// selector.
-    pub fn new(a: A, selector: &'k str, longest: usize) -> simd_json::Result<Lines<'k, A>>
-        ensures { IfOk result (IsStart selector.now longest) }
+    /// Returns the memory for the lines that are wanted.
+    pub fn new(a: A, wanted: &'k Wanted<'k>) -> simd_json::Result<Lines<'k, A>>
+        ensures { IfOk result (IsStart wanted.now) }
     {
         let mut buffers = Buffers::new(a, 0)?;
         let mut tape = Tape::null(a)?;
-        reserve(longest, &mut buffers, &mut tape)?;
+        reserve(wanted.longest, &mut buffers, &mut tape)?;
         let mut lines = Lines {
-            selector,
-            longest,
+            wanted,
+            label: "",
             buffers,
             tape,
             number: 0,
             all_taken: true,
             counts: IndexMap::with_capacity(a, MOST_TEXTS)?,
         };
-        lines.add(b"-", 0)?;
-        lines.add(b"*", 0)?;
-        lines.add(b"!", 0)?;
+        lines.add(wanted.no_value(), 0)?;
+        lines.add(wanted.others(), 0)?;
+        lines.add(wanted.rejected(), 0)?;
         Ok(lines)
     }
 
@@ -64,6 +68,35 @@ impl<'k, A: Allocator + Copy> Lines<'k, A> {
         ensures { result ≡ self.now.all_taken }
     {
         self.all_taken
+    }
+
+    /// Counts the lines of a reader, with numbers from 1 on and with this label if they are
+    /// rejected. `line` may be overwritten.
+    pub fn read<R: Read, E: Write>(
+        &mut self,
+        label: &'k str,
+        reader: &mut Channel<R>,
+        line: &mut Vec<u8, A>,
+        err: &mut Channel<E>,
+    ) -> Ended
+        ensures { EndsInput reader.old reader.new err.old err.new
+            (TakesInput R.remaining E.contents self.old self.new reader.old reader.new
+            err.old err.new label.now)
+            (BeginsInput R.remaining E.contents self.old reader.old reader.new err.old err.new
+            label.now) result }
+    {
+        self.label = label;
+        self.number = 0;
+        line.clear();
+        let mut block = [0; BLOCK];
+        for _ in 0..u64::MAX {
+            let read = reader.read(&mut block).map_err(|_| Failure::Read)?;
+            if read == 0 {
+                return self.count(line.as_mut_slice(), err);
+            }
+            self.take(&block[..read], line, err)?;
+        }
+        Err(Failure::Resources)
     }
 
     /// Counts the lines that end in the block, and keeps the one that begins, up to one byte more
@@ -82,7 +115,11 @@ impl<'k, A: Allocator + Copy> Lines<'k, A> {
         let mut rest = block;
         loop {
             let (end, more) = rest.split_at(memchr::memchr(b'\n', rest).unwrap_or(rest.len()));
-            let room = self.longest.saturating_add(1).saturating_sub(line.len());
+            let room = self
+                .wanted
+                .longest
+                .saturating_add(1)
+                .saturating_sub(line.len());
             line.extend_from_slice(&end[..end.len().min(room)])?;
             let Some((_, next)) = more.split_first() else {
                 return Ok(());
@@ -101,7 +138,7 @@ impl<'k, A: Allocator + Copy> Lines<'k, A> {
             (BeginsLine E.contents self.old err.old err.new line.old) result }
     {
         self.number = self.number.saturating_add(1);
-        if line.len() > self.longest {
+        if line.len() > self.wanted.longest {
             return self.reject(None, err);
         } else if is_blank(line) {
             return Ok(());
@@ -109,7 +146,7 @@ impl<'k, A: Allocator + Copy> Lines<'k, A> {
         let kept = std::mem::replace(&mut self.tape, Tape::empty(*self.counts.allocator()));
         let (answer, tape) = refill_tape(line, &mut self.buffers, kept);
         match answer {
-            Ok(()) => self.add_value(select(tape.as_value(), self.selector))?,
+            Ok(()) => self.add_value(tape.as_value())?,
             Err(e) => self.reject(Some(e), err)?,
         }
         drop(std::mem::replace(&mut self.tape, tape.reset()));
@@ -121,46 +158,44 @@ impl<'k, A: Allocator + Copy> Lines<'k, A> {
         ensures { Ends err.old err.new
             (IsRejection E.contents self.old self.new err.old err.new error)
             (Begins (E.contents err.old.inner) (E.contents err.new.inner)
-            (rejection_line self.old.longest self.old.number error)) result }
+            (rejection_line self.old.wanted.now self.old.label.now self.old.number error)) result }
     {
-        let line = self.rejection(error).map_err(|_| Failure::Resources)?;
+        let words = self.rejection(error).map_err(|_| Failure::Resources)?;
         let mut name = Text::<Channel<E>, 256>::new(err);
-        name.put(line.as_slice());
+        name.put(self.label.as_bytes());
+        name.put(words.as_slice());
         if name.finish().is_err() {
             return Err(Failure::Write);
         }
         self.all_taken = false;
-        self.add(b"!", 1)?;
+        self.add(self.wanted.rejected(), 1)?;
         Ok(())
     }
 
-    // The line that names the last line as rejected.
+    // What follows the label in the name of the last line, if that is rejected.
     fn rejection(&self, error: Option<Error>) -> io::Result<ArrayVec<u8, 256>>
-        ensures { IfOk result (λ line.
-            line.items ≡ rejection_line self.now.longest self.now.number error) }
+        ensures { IfOk result (λ words.
+            words.items ≡ rejection_words self.now.wanted.now.longest self.now.number error) }
     {
-        let mut line = ArrayVec::<u8, 256>::new();
-        let (number, longest) = (self.number, self.longest);
+        let mut words = ArrayVec::<u8, 256>::new();
+        let (number, longest) = (self.number, self.wanted.longest);
         match error {
-            Some(e) => writeln!(line, "line {number}: {e}")?,
-            None => writeln!(line, "line {number}: longer than {longest} bytes")?,
+            Some(e) => writeln!(words, "line {number}: {e}")?,
+            None => writeln!(words, "line {number}: longer than {longest} bytes")?,
         }
-        Ok(line)
+        Ok(words)
     }
 
-    // Counts a line with this value at the key, under `*` if its text has more than 1,024 bytes.
-    fn add_value(&mut self, value: Option<Value<'_, '_>>) -> Result<(), AllocError>
-        ensures { OnOk result (AddsValue self.old self.new value.entry) }
+    // Counts a line by the row of its value, or under `*` if that has more than 1,024 bytes.
+    fn add_value(&mut self, value: Value<'_, '_>) -> Result<(), AllocError>
+        ensures { OnOk result (AddsValue self.old self.new (doc value.entry)) }
     {
-        let Some(value) = value else {
-            return self.add(b"-", 1);
-        };
-        let mut text = ArrayVec::<u8, 1025>::new();
-        match value.write(&mut text) {
-            _ if text.is_full() => self.add(b"*", 1),
-            Ok(()) => self.add(text.as_slice(), 1),
-            Err(_) => Err(AllocError),
+        let mut row = Row::new();
+        append_row(&mut row, self.wanted, value)?;
+        if row.is_full() {
+            return self.add(self.wanted.others(), 1);
         }
+        self.add(row.as_slice(), 1)
     }
 
     // Counts `more` lines under this text, or under `*` if all places for texts are taken.
@@ -172,7 +207,7 @@ impl<'k, A: Allocator + Copy> Lines<'k, A> {
         } else if self.counts.len() < MOST_TEXTS {
             let text = Vec::from_slice(*self.counts.allocator(), text)?;
             self.counts.insert(text, more)?;
-        } else if let Some(place) = self.counts.get_index_of(b"*".as_slice()) {
+        } else if let Some(place) = self.counts.get_index_of(self.wanted.others()) {
             self.counts[place] = self.counts[place].saturating_add(more);
         }
         Ok(())
@@ -189,7 +224,7 @@ impl<'k, A: Allocator + Copy> Lines<'k, A> {
         let mut text = Text::<Channel<W>, 4096>::new(out);
         for (label, count) in self.counts.iter() {
             if *count > 0 {
-                text.put_static(b"", StaticNode::U64(*count), b" ");
+                text.put_static(b"", StaticNode::U64(*count), self.wanted.separator());
                 text.put_between(b"", label.as_slice(), b"\n");
             }
         }
@@ -207,15 +242,5 @@ fn report_failure(e: &io::Error, all_taken: bool) -> Failure
     match e.kind() {
         ErrorKind::BrokenPipe => Failure::Closed(all_taken),
         _ => Failure::Write,
-    }
-}
-
-// The value that a JSON Pointer names, or else the first with this key.
-fn select<'t, 'i>(value: Value<'t, 'i>, selector: &str) -> Option<Value<'t, 'i>>
-    ensures { option_map doc result ≡ selected selector.now (doc value.entry) }
-{
-    match selector.as_bytes() {
-        [b'/', ..] => value.pointer(selector),
-        _ => value.get(selector),
     }
 }

@@ -1,5 +1,5 @@
-//! `log_report [OPTION].. KEY|POINTER [FILE..]` counts the lines of JSON Lines by their value at a
-//! key or a JSON Pointer, in memory that does not depend on how many there are. docs/LINES.md says
+//! `log_report [OPTION].. KEY|POINTER [FILE..]` counts the lines of JSON Lines by their values at
+//! keys or JSON Pointers, in memory that does not depend on how many there are. docs/LINES.md says
 //! what it prints.
 #![tactic(auto)]
 
@@ -7,13 +7,15 @@ mod failure;
 mod files;
 mod lines;
 mod options;
+mod rows;
 mod run;
 
 use failure::ending;
-use files::Files;
+use files::Source;
 use jtape::Channel;
 use options::{Options, asked};
-use run::run;
+use run::{Input, run};
+use std::alloc::AllocError;
 use std::process::ExitCode;
 use std::{env, io};
 
@@ -34,7 +36,13 @@ fn arguments(rt: &HostRuntime) -> io::Result<Vec<String>> {
 
 fn program(rt: &HostRuntime, words: &[String]) -> u8 {
     match asked(rt.alloc(), words) {
-        Ok(options) => report(rt, &options),
+        Ok(options) => match report(rt, &options) {
+            Ok(status) => status,
+            Err(_) => {
+                let _ = eprintln!(rt; "log_report: out of memory");
+                3
+            }
+        },
         Err(e) => {
             let _ = e.print(rt);
             if e.use_stderr() { 2 } else { 0 }
@@ -42,24 +50,32 @@ fn program(rt: &HostRuntime, words: &[String]) -> u8 {
     }
 }
 
-// Writes the report, and on standard error why there is none.
-fn report(rt: &HostRuntime, options: &Options<'_>) -> u8 {
+// Writes the report, and on standard error why there is none. Returns an error if an allocation
+// fails before.
+fn report(rt: &HostRuntime, options: &Options<'_>) -> Result<u8, AllocError> {
+    let labels = options.labels(rt.alloc())?;
+    let mut inputs = Vec::new(rt.alloc());
+    for (file, label) in options.files().iter().zip(labels.iter()) {
+        let reader = Channel::new(Source::new(rt, rt.reader(), *file));
+        let label = label.as_str();
+        inputs.push(Input { label, reader })?;
+    }
     let (mut out, mut err) = (Channel::new(io::writer(rt)), Channel::new(rt.stderr()));
-    let mut input = Channel::new(Files::new(rt, rt.reader(), options.files()));
     let counted = run(
         rt.alloc(),
-        options.selector(),
-        options.longest(),
-        &mut input,
+        &options.wanted(),
+        inputs.as_mut_slice(),
         &mut out,
         &mut err,
     );
-    if let Some((file, e)) = input.into_inner().fault() {
-        let _ = eprintln!(rt; "log_report: {file}: {e}");
+    for input in inputs {
+        if let Some((file, e)) = input.reader.into_inner().fault() {
+            let _ = eprintln!(rt; "log_report: {file}: {e}");
+        }
     }
     let (status, line) = ending(&counted);
     if let Some(line) = line {
         let _ = eprintln!(rt; "log_report: {line}");
     }
-    status
+    Ok(status)
 }

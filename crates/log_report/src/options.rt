@@ -1,11 +1,16 @@
 //! What the program's arguments ask for.
+use crate::rows::Wanted;
 use clap::{Arg, ArgAction, Command, Error, value_parser};
-use std::alloc::Global;
+use std::alloc::{AllocError, Global};
 
 const STANDARD_INPUT: &str = "-";
 
 const SELECTOR_HELP: &str =
     "Which value lines count by: a key, or a JSON Pointer, as /request/method";
+
+const AND_HELP: &str = "A further value that they count by, in a column of its own";
+
+const TSV_HELP: &str = "Print tab separated text, with escapes as jq's @tsv";
 
 const FILES_HELP: &str = "Files to read; standard input where there is none, or for -";
 
@@ -14,25 +19,40 @@ const LONGEST_HELP: &str = "How many bytes a line may have [default: 65536]";
 /// What the arguments ask for.
 #[derive(Drop)]
 pub struct Options<'a> {
-    selector: &'a str,
+    selectors: Vec<&'a str>,
+    is_tsv: bool,
     longest: usize,
     files: Vec<&'a str>,
+    are_named: bool,
 }
 
 impl<'a> Options<'a> {
-    /// The key, or the JSON Pointer, of the value that lines count by.
-    pub fn selector(&self) -> &'a str {
-        self.selector
-    }
-
-    /// How many bytes a line may have.
-    pub fn longest(&self) -> usize {
-        self.longest
+    /// What lines count by, and how the report is written.
+    pub fn wanted(&self) -> Wanted<'_> {
+        Wanted {
+            selectors: self.selectors.as_slice(),
+            is_tsv: self.is_tsv,
+            longest: self.longest,
+        }
     }
 
     /// The names of the files, of which there is at least one.
     pub fn files(&self) -> &[&'a str] {
         self.files.as_slice()
+    }
+
+    /// What the names of each file's rejected lines begin with: its own, if the arguments have it.
+    pub fn labels(&self, alloc: Global) -> Result<Vec<String>, AllocError> {
+        let mut labels = Vec::new(alloc);
+        for file in &self.files {
+            let mut label = String::new(alloc);
+            if self.are_named {
+                label.push_str(*file)?;
+                label.push_str(": ")?;
+            }
+            labels.push(label)?;
+        }
+        Ok(labels)
     }
 }
 
@@ -40,16 +60,22 @@ impl<'a> Options<'a> {
 /// of `--help` or `--version`, or says what is not understood.
 pub fn asked<'a>(alloc: Global, words: &'a [String]) -> Result<Options<'a>, Error> {
     let matches = command(alloc)?.try_get_matches_from(words)?;
+    let mut selectors = Vec::new(alloc);
+    selectors.push(matches.get_str("selector").unwrap_or(""))?;
+    selectors.extend_from_slice(matches.get_strs("and").unwrap_or_default())?;
     let mut files = Vec::new(alloc);
-    match matches.get_strs("file") {
+    let named = matches.get_strs("file");
+    match named {
         Some(names) => files.extend_from_slice(names)?,
         None => files.push(STANDARD_INPUT)?,
     }
     let longest = matches.get_one::<u32>("longest").unwrap_or(65_536);
     Ok(Options {
-        selector: matches.get_str("selector").unwrap_or(""),
+        selectors,
+        is_tsv: matches.get_flag("tsv"),
         longest: longest as usize,
         files,
+        are_named: named.is_some(),
     })
 }
 
@@ -59,6 +85,16 @@ fn command<'a>(alloc: Global) -> Result<Command<'a>, Error> {
         .value_name("BYTES")
         .value_parser(value_parser!(u32))
         .help(LONGEST_HELP);
+    let and = Arg::new(alloc, "and")
+        .long("and")
+        .value_name("KEY|POINTER")
+        .action(ArgAction::Append)
+        .allow_hyphen_values(true)
+        .help(AND_HELP);
+    let tsv = Arg::new(alloc, "tsv")
+        .long("tsv")
+        .action(ArgAction::SetTrue)
+        .help(TSV_HELP);
     let selector = Arg::new(alloc, "selector")
         .value_name("KEY|POINTER")
         .required(true)
@@ -71,7 +107,9 @@ fn command<'a>(alloc: Global) -> Result<Command<'a>, Error> {
     Ok(
         Command::new(alloc, "log_report")
             .version("0.2.0")
-            .about("Counts the lines of JSON Lines by their value at a key or a JSON Pointer")
+            .about("Counts the lines of JSON Lines by their values at keys or JSON Pointers")
+            .arg(and)?
+            .arg(tsv)?
             .arg(longest)?
             .arg(selector)?
             .arg(files)?,

@@ -16,7 +16,7 @@ use Rattle.simd_json_c.specs.declared.nodes.Node.{Node}
 
 -- ---- one more item
 
-append-nil : {X : Type 0} (xs : List X) → xs ++ [] ≡ xs
+pub append-nil : {X : Type 0} (xs : List X) → xs ++ [] ≡ xs
 append-nil [] = refl
 append-nil (x ∷ xs) = ap (λ r. x ∷ r) (append-nil xs)
 
@@ -34,7 +34,7 @@ texts-push (n ∷ ns) x = ap (λ t. text_of n ++ t) (texts-push ns x) ∙ sym (a
 pub length-texts-push : (ns : List Item) (x : Item) → length (texts (ns ++ x ∷ [])) ≡ length (texts ns) + length (text_of x)
 length-texts-push ns x = ap length (texts-push ns x) ∙ length-append (texts ns) (text_of x)
 
-nodes-push : (start : ℕ) (ns : List Item) (x : Item)
+pub nodes-push : (start : ℕ) (ns : List Item) (x : Item)
     → nodes_from start (ns ++ x ∷ []) ≡ nodes_from start ns ++ node_of (start + length (texts ns)) x ∷ []
 nodes-push start [] x = ap (λ s. node_of s x ∷ []) (omega arith)
 nodes-push start (n ∷ ns) x =
@@ -110,7 +110,7 @@ texts-set [] i y d is header = refl
 texts-set (n ∷ ns) zero y d is header = ap (λ t. t ++ texts ns) (header-text y header ∙ sym (header-text n is))
 texts-set (n ∷ ns) (suc i) y d is header = ap (λ t. text_of n ++ t) (texts-set ns i y d is header)
 
-nodes-set : (start : ℕ) (ns : List Item) (i : ℕ) (y d : Item) (node : Node) → is_header (get_or ns i d) ≡ true → is_header y ≡ true
+pub nodes-set : (start : ℕ) (ns : List Item) (i : ℕ) (y d : Item) (node : Node) → is_header (get_or ns i d) ≡ true → is_header y ≡ true
     → ((s : ℕ) → node ≡ node_of s y) → nodes_from start (set ns i y) ≡ set (nodes_from start ns) i node
 nodes-set start [] i y d node is header same = refl
 nodes-set start (n ∷ ns) zero y d node is header same =

@@ -2,5 +2,8 @@ mod Bounds
 mod LooseValues
 mod HeldValues
 mod Laying
+mod Keeping
 mod Placing
 mod Printed
+mod Calling
+mod Naming

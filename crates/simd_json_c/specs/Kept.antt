@@ -1,5 +1,5 @@
 -- What a parser keeps from one call to the next. A closed one keeps no lists.
-use Rattle.std.specs.Prelude.{◌≡◌, ◌⊎◌, ℕ, ℤ, pos, List, Option, Some, None, MatchOption, ⊤}
+use Rattle.std.specs.Prelude.{◌≡◌, ◌≤◌, ◌⊎◌, ℕ, ℤ, pos, List, false, Option, Some, None, MatchOption, ⊤}
 use Rattle.simd_json.specs.Capacities.{KeepsCapacities, capacity, new_buffers}
 use Rattle.simd_json.specs.Parsed.{IsParse}
 use Rattle.simd_json_parts.specs.Nodes.{Item}
@@ -12,21 +12,25 @@ use Rattle.simd_json_c.specs.declared.tape.Lists.{Lists}
 use Rattle.simd_json_c.specs.declared.status.ErrorPlace.{ErrorPlace}
 
 -- within the same limit, and no capacity is given up
+abbrev pub KeepsRoom : Lists → Lists → Type 0
+KeepsRoom old new =
+    (new.buffers.limit ≡ old.buffers.limit) × KeepsCapacities old.buffers new.buffers × (old.tape.capacity ≤ new.tape.capacity)
+
+-- and the input that is kept, if one is
 abbrev pub KeepsLists : Lists → Lists → Type 0
-KeepsLists old new =
-    (new.buffers.limit ≡ old.buffers.limit) × KeepsCapacities old.buffers new.buffers
+KeepsLists old new = KeepsRoom old new × (new.source ≡ old.source)
 
 -- a parse of b with the lists, and the lists afterwards
 abbrev pub IsReadWith : Lists → List ℕ → Option Error → List Item → Lists → Type 0
 IsReadWith old b fault ns new = IsParse b old.buffers.limit (capacity old.buffers) fault ns new.buffers.positions
 
--- lists with no capacity yet
-abbrev pub new_lists : ℕ → Lists
-new_lists limit = record { buffers = new_buffers 0 limit }
+-- lists with no capacity yet, and no input
+abbrev pub AreNew : ℕ → Lists → Type 0
+AreNew limit lists = (lists.buffers ≡ new_buffers 0 limit) × (lists.source.is_scanned ≡ false)
 
 abbrev pub IsOpened : ℕ → ℤ → Option Lists → Type 0
 IsOpened limit status parser =
-    ((status ≡ pos 0) × (parser ≡ Some (new_lists limit))) ⊎ ((status ≡ out_of_memory) × (parser ≡ None))
+    ((status ≡ pos 0) × ((lists : Lists) × (parser ≡ Some lists) × AreNew limit lists)) ⊎ ((status ≡ out_of_memory) × (parser ≡ None))
 
 -- a closed parser stays closed, and an open one open
 abbrev pub IsCallWith : Option Lists → Option Lists → ℤ → ErrorPlace → Type 0 → (Lists → Lists → Type 0) → Type 0

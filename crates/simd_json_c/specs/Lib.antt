@@ -7,5 +7,8 @@ pub mod Located
 pub mod Placed
 pub mod Holding
 pub mod Kept
+pub mod Chosen
+pub mod Lent
+pub mod Found
 pub mod Notes
 pub mod Loans

@@ -15,7 +15,7 @@ error_kinds =
     ∷ errors.InvalidNumber ∷ errors.InvalidEscape ∷ errors.InvalidUnicodeCodepoint ∷ []
 
 abbrev pub status_names : List (List ℕ)
-status_names = codes "Ok" ∷ (map kind_text error_kinds ++ codes "TooLittleRoom" ∷ codes "ParserClosed" ∷ [])
+status_names = codes "Ok" ∷ (map kind_text error_kinds ++ codes "TooLittleRoom" ∷ codes "ParserClosed" ∷ codes "NoValue" ∷ [])
 
 -- those of the nodes' kinds from 0 on
 abbrev pub node_kinds : List ValueType

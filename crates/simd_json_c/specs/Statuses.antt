@@ -52,3 +52,7 @@ out_of_memory = pos 1
 -- no parser is open
 abbrev pub parser_closed : ℤ
 parser_closed = pos 20
+
+-- a pointer names no value
+abbrev pub no_value : ℤ
+no_value = pos 21

@@ -4,7 +4,7 @@
 //! never tested, and `open` returns no pointer. Small functions turn the pointer into the box and
 //! back, each proved by hand; the rest is safe code.
 ghost use Rattle.std.specs.Prelude.{◌≡◌, ◌≢◌, Option, Some, None, is_some, MatchOption, IfSome};
-ghost use Rattle.simd_json_c.specs.Kept.{IsCheckedWith, IsOpened, IsTapeWith, new_lists};
+ghost use Rattle.simd_json_c.specs.Kept.{AreNew, IsCheckedWith, IsOpened, IsTapeWith};
 ghost use Rattle.simd_json_c.specs.Holding.{held};
 ghost use Rattle.simd_json_c.specs.declared.tape.Lists.{Lists};
 ghost use Rattle.std.specs.Box.Ownership.{box_owns};
@@ -35,7 +35,7 @@ impl Parser {
         }
     }
 
-    fn open(lists: Box<Lists>) -> Parser
+    pub(crate) fn open(lists: Box<Lists>) -> Parser
         ensures { result.held.value ≡ Some lists.value }
     {
         Parser {
@@ -44,7 +44,7 @@ impl Parser {
         }
     }
 
-    fn into_lists(self) -> Option<Box<Lists>>
+    pub(crate) fn into_lists(self) -> Option<Box<Lists>>
         ensures { MatchOption result (self.held.value ≡ None)
             (λ lists. self.held.value ≡ Some lists.value) }
     {
@@ -57,7 +57,8 @@ impl Parser {
 }
 
 fn opened(alloc: Global, max_depth: usize) -> Option<Parser>
-    ensures { IfSome result (λ parser. parser.held.value ≡ Some (new_lists max_depth)) }
+    ensures { IfSome result
+        (λ parser. (lists : Lists) × (parser.held.value ≡ Some lists) × AreNew max_depth lists) }
 {
     let lists = Lists::new(alloc, max_depth).ok()?;
     Some(Parser::open(Box::new(alloc, lists).ok()?))

@@ -1,14 +1,26 @@
 //! The printed text of a document. If the room is too small, only the needed size is written, so a
 //! text is made first and then copied.
-ghost use Rattle.std.specs.Prelude.{◌≡◌, IfOk, IfErr, Some, string_bytes};
+ghost use Rattle.std.specs.Prelude.{◌≡◌, ◌++◌, IfOk, IfErr, OnOk, Some, [], map, false};
+ghost use Rattle.std.specs.Prelude.{string_bytes, true};
 ghost use Rattle.std.specs.Result.{result_err};
 ghost use Rattle.simd_json_c.specs.Calls.{IsCompact, IsPretty, IsPrinted, IsTextPut, IsUnprinted};
 ghost use Rattle.simd_json_c.specs.Statuses.{error_place, error_status};
+ghost use Rattle.simd_json_c.specs.Chosen.{IsChosenPut, IsPrintedFrom, IsPrintedWith, printed};
+ghost use Rattle.simd_json.specs.Viewed.{doc};
+ghost use Rattle.simd_json_parts.specs.Document.{Document};
+ghost use Rattle.simd_json_parts.specs.Listing.{listing};
+ghost use Rattle.simd_json_parts.specs.Nodes.{item_of};
 
-use crate::status::{ErrorPlace, TOO_LITTLE_ROOM, reported};
-use simd_json::{Buffers, Result, to_tape_with_buffers};
+use crate::parser::Parser;
+use crate::status::{
+    ErrorPlace, NO_VALUE, OUT_OF_MEMORY, PARSER_CLOSED, TOO_LITTLE_ROOM, reported,
+};
+use simd_json::tape::Value;
+use simd_json::{Buffers, Node, Result, to_tape_with_buffers};
+use simd_json_print::document::{append_compact, append_pretty};
 use simd_json_print::text::store_bytes;
-use std::alloc::Global;
+use std::alloc::{AllocError, Global};
+use std::mem::replace;
 
 fn compact_text(alloc: Global, input: &mut [u8], max_depth: usize) -> Result<String>
     ensures text { IfOk result (λ text. IsCompact input.old max_depth (string_bytes text)) }
@@ -42,15 +54,60 @@ pub(crate) fn lend_text(
         × (needed.new ≡ needed.old) × (out.new ≡ out.old)) }
 {
     match text {
-        Ok(text) => {
-            *needed = text.len();
-            if text.len() > out.len() {
-                return reported(Ok(TOO_LITTLE_ROOM), place);
-            }
-            store_bytes(out, 0, text.as_bytes());
-            reported(Ok(0), place)
-        }
+        Ok(text) => reported(Ok(put_text(text.as_bytes(), out, needed)), place),
         Err(e) => reported(Err(e), place),
+    }
+}
+
+// Copies the text if there is room for it, and returns the status.
+pub(crate) fn put_text(text: &[u8], out: &mut [u8], needed: &mut usize) -> i32
+    ensures { IsTextPut text.now result needed.new out.old out.new }
+{
+    *needed = text.len();
+    if text.len() > out.len() {
+        return TOO_LITTLE_ROOM;
+    }
+    store_bytes(out, 0, text);
+    0
+}
+
+// Copies the text of the value that a pointer names, which is made in `text`, if there is room for
+// it, and returns the status.
+#[tactic(auto, unfolding(crate::specs::Chosen::IsChosenPut))]
+pub(crate) fn print_at(
+    value: Value<'_, '_>,
+    pointer: &str,
+    is_pretty: bool,
+    text: &mut Vec<u8>,
+    out: &mut [u8],
+    needed: &mut usize,
+) -> i32
+    ensures { IsChosenPut is_pretty pointer.now (doc value.entry) result needed.old needed.new
+        out.old out.new }
+{
+    text.clear();
+    let Some(named) = value.pointer(pointer) else {
+        return NO_VALUE;
+    };
+    match append(text, named.nodes(), is_pretty) {
+        Ok(()) => put_text(text, out, needed),
+        Err(_) => OUT_OF_MEMORY,
+    }
+}
+
+// Appends the text of the document that the nodes list.
+fn append(
+    text: &mut Vec<u8>,
+    nodes: &[Node<'_>],
+    is_pretty: bool,
+) -> std::result::Result<(), AllocError>
+    ensures { (d : Document) → map item_of nodes.now ≡ listing d
+        → OnOk result (text.new.items ≡ text.old.items ++ printed is_pretty d) }
+{
+    if is_pretty {
+        append_pretty(text, nodes)
+    } else {
+        append_compact(text, nodes)
     }
 }
 
@@ -84,4 +141,114 @@ pub extern "C" fn simd_json_pretty(
         needed.old needed.new out.old out.new }
 {
     lend_text(pretty_text(alloc, input, max_depth), out, needed, place)
+}
+
+// Prints with what a parser keeps.
+fn print(
+    alloc: Global,
+    parser: &mut Parser,
+    input: &mut [u8],
+    pointer: &str,
+    is_pretty: bool,
+    out: &mut [u8],
+    needed: &mut usize,
+    place: &mut ErrorPlace,
+) -> i32
+    ensures { IsPrintedWith parser.old.held.value parser.new.held.value input.old is_pretty
+        pointer.now result place.new needed.old needed.new out.old out.new }
+{
+    match replace(parser, Parser::closed(alloc)).into_lists() {
+        Some(mut lists) => {
+            let outcome = lists.print(alloc, input, pointer, is_pretty, out, needed);
+            *parser = Parser::open(lists);
+            reported(outcome, place)
+        }
+        None => reported(Ok(PARSER_CLOSED), place),
+    }
+}
+
+// The same for a pointer that may not be UTF-8, and then names no value.
+fn print_from(
+    alloc: Global,
+    parser: &mut Parser,
+    input: &mut [u8],
+    pointer: &[u8],
+    is_pretty: bool,
+    out: &mut [u8],
+    needed: &mut usize,
+    place: &mut ErrorPlace,
+) -> i32
+    ensures { IsPrintedFrom parser.old.held.value parser.new.held.value input.old is_pretty
+        pointer.now result place.new needed.old needed.new out.old out.new }
+{
+    match str::from_utf8(pointer) {
+        Ok(pointer) => print(alloc, parser, input, pointer, is_pretty, out, needed, place),
+        Err(_) => reported(Ok(NO_VALUE), place),
+    }
+}
+
+/// Writes the compact text of a document to the caller's memory.
+#[unsafe(no_mangle)]
+pub extern "C" fn simd_json_parser_compact(
+    alloc: Global,
+    parser: &mut Parser,
+    input: &mut [u8],
+    out: &mut [u8],
+    needed: &mut usize,
+    place: &mut ErrorPlace,
+) -> i32
+    ensures { IsPrintedWith parser.old.held.value parser.new.held.value input.old false []
+        result place.new needed.old needed.new out.old out.new }
+{
+    print(alloc, parser, input, "", false, out, needed, place)
+}
+
+/// Writes the pretty text of a document to the caller's memory.
+#[unsafe(no_mangle)]
+pub extern "C" fn simd_json_parser_pretty(
+    alloc: Global,
+    parser: &mut Parser,
+    input: &mut [u8],
+    out: &mut [u8],
+    needed: &mut usize,
+    place: &mut ErrorPlace,
+) -> i32
+    ensures { IsPrintedWith parser.old.held.value parser.new.held.value input.old true []
+        result place.new needed.old needed.new out.old out.new }
+{
+    print(alloc, parser, input, "", true, out, needed, place)
+}
+
+/// Writes the compact text of the value that a pointer names in a document to the caller's memory.
+#[unsafe(no_mangle)]
+pub extern "C" fn simd_json_parser_compact_at(
+    alloc: Global,
+    parser: &mut Parser,
+    input: &mut [u8],
+    pointer: &[u8],
+    out: &mut [u8],
+    needed: &mut usize,
+    place: &mut ErrorPlace,
+) -> i32
+    ensures { IsPrintedFrom parser.old.held.value parser.new.held.value input.old false pointer.now
+        result place.new needed.old needed.new out.old out.new }
+{
+    print_from(alloc, parser, input, pointer, false, out, needed, place)
+}
+
+/// Writes the pretty text of the value that a pointer names in a document to the caller's memory.
+#[unsafe(no_mangle)]
+pub extern "C" fn simd_json_parser_pretty_at(
+    alloc: Global,
+    parser: &mut Parser,
+    input: &mut [u8],
+    pointer: &[u8],
+    out: &mut [u8],
+    needed: &mut usize,
+    place: &mut ErrorPlace,
+) -> i32
+    ensures { IsPrintedFrom parser.old.held.value parser.new.held.value input.old true pointer.now
+        result place.new needed.old needed.new out.old out.new }
+{
+    print_from(alloc, parser, input, pointer, true, out, needed, place)
 }

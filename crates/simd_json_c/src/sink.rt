@@ -119,7 +119,7 @@ impl<'de, 't> NodeSink<'de> for CallerSink<'t> {
 
 // The node of a string or a decimal whose `len` bytes begin at index `start` of the texts.
 #[inline(always)]
-fn text_node(is_decimal: bool, len: usize, start: usize) -> Node
+pub(crate) fn text_node(is_decimal: bool, len: usize, start: usize) -> Node
     ensures { (t : List ℕ) → length t ≡ len → result ≡ node_of start (text_item is_decimal t) }
 {
     if is_decimal {
@@ -131,7 +131,7 @@ fn text_node(is_decimal: bool, len: usize, start: usize) -> Node
 
 // The header of a container with `len` members and `count` nodes beneath it.
 #[inline(always)]
-fn header_node(container: Container, len: usize, count: usize) -> Node
+pub(crate) fn header_node(container: Container, len: usize, count: usize) -> Node
     ensures { (start : ℕ) → result ≡ node_of start (header_of container len count) }
 {
     match container {

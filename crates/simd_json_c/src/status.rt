@@ -35,6 +35,9 @@ pub(crate) const TOO_LITTLE_ROOM: i32 = 19;
 // The parser is closed.
 pub(crate) const PARSER_CLOSED: i32 = 20;
 
+// A pointer names no value.
+pub(crate) const NO_VALUE: i32 = 21;
+
 // Each kind of error that a parse returns has its own number.
 fn number(kind: &ErrorType) -> i32
     ensures { result ≡ pos (kind_status kind.now) }
@@ -114,6 +117,7 @@ fn name_of_status(status: i32) -> &'static [u8]
         18 => b"InvalidUnicodeCodepoint",
         19 => b"TooLittleRoom",
         20 => b"ParserClosed",
+        21 => b"NoValue",
         _ => b"",
     }
 }

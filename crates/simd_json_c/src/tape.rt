@@ -7,15 +7,23 @@ ghost use Rattle.simd_json_parts.specs.Nodes.{Item};
 ghost use Rattle.std.specs.Result.{result_err};
 ghost use Rattle.simd_json.specs.Capacities.{KeepsCapacities, capacity};
 ghost use Rattle.simd_json.specs.Parsed.{IsParse, written};
-ghost use Rattle.simd_json_c.specs.Kept.{IsReadWith, KeepsLists, new_lists};
+ghost use Rattle.simd_json_c.specs.Kept.{AreNew, IsReadWith, KeepsLists};
+ghost use Rattle.simd_json_c.specs.Chosen.{IsChosenPut, IsTapedWith};
+ghost use Rattle.simd_json_c.specs.Lent.{AreLent};
+ghost use Rattle.simd_json_parts.specs.Document.{Document};
+ghost use Rattle.simd_json_parts.specs.Listing.{listing};
 ghost use Rattle.simd_json_c.specs.Loans.{AreLaid, AreTextsLaid};
 
+use crate::lent::{Lent, keep};
 use crate::nodes::{Node, Room};
+use crate::print::print_at;
 use crate::sink::{CallerSink, Counted, Noted};
-use crate::status::{ErrorPlace, TOO_LITTLE_ROOM, reported};
-use simd_json::{Buffers, Original, Result, fill_sink};
+use crate::source::Source;
+use crate::status::{ErrorPlace, OUT_OF_MEMORY, TOO_LITTLE_ROOM, reported};
+use simd_json::{Buffers, Original, Result, Tape, fill_sink, refill_tape};
 use std::alloc::Global;
 use std::marker::Brand;
+use std::mem::replace;
 
 fn tape(
     alloc: Global,
@@ -79,15 +87,30 @@ pub extern "C" fn simd_json_check(
 pub struct Lists {
     // the lists of the first stage, the stack of the second, and the depth limit
     pub(crate) buffers: Buffers,
+    // the tape of a document that is printed, empty between calls, and its text
+    pub(crate) tape: Tape<'static>,
+    pub(crate) printed: Vec<u8>,
+    // the nodes and the texts that are lent
+    pub(crate) nodes: Vec<Node>,
+    pub(crate) text: Vec<u8>,
+    // the input in which values are found
+    pub(crate) source: Source,
 }
 
 impl Lists {
     // Lists with this depth limit, which hold no memory yet.
     pub(crate) fn new(alloc: Global, max_depth: usize) -> Result<Lists>
-        ensures { MatchResult result (λ lists. lists ≡ new_lists max_depth) (λ _. ⊥) }
+        ensures { MatchResult result (AreNew max_depth) (λ _. ⊥) }
     {
         let buffers = Buffers::with_max_depth(alloc, 0, max_depth)?;
-        Ok(Lists { buffers })
+        Ok(Lists {
+            buffers,
+            tape: Tape::empty(alloc),
+            printed: Vec::new(alloc),
+            nodes: Vec::new(alloc),
+            text: Vec::new(alloc),
+            source: Source::new(alloc)?,
+        })
     }
 
     // Returns 0 if the input is a document, or its error.
@@ -127,6 +150,64 @@ impl Lists {
         } else {
             Ok(TOO_LITTLE_ROOM)
         }
+    }
+
+    // Prints the value that a pointer names in a document to the caller's memory. Returns 0,
+    // `TOO_LITTLE_ROOM`, `NO_VALUE` or `OUT_OF_MEMORY`.
+    pub(crate) fn print(
+        &mut self,
+        alloc: Global,
+        input: &mut [u8],
+        pointer: &str,
+        is_pretty: bool,
+        out: &mut [u8],
+        needed: &mut usize,
+    ) -> Result<i32>
+        ensures printed { IfOk result (λ status. (ns : List Item) × (d : Document)
+            × IsTapedWith self.old input.old None ns self.new × (listing d ≡ ns)
+            × IsChosenPut is_pretty pointer.now d status needed.old needed.new out.old out.new) }
+        ensures rejected { IfErr result (λ e. (ns : List Item)
+            × IsTapedWith self.old input.old (Some e) ns self.new
+            × (needed.new ≡ needed.old) × (out.new ≡ out.old)) }
+        ensures kept { KeepsLists self.old self.new }
+    {
+        let kept = replace(&mut self.tape, Tape::empty(alloc));
+        let (parsed, tape) = refill_tape(input, &mut self.buffers, kept);
+        match parsed {
+            Ok(()) => {
+                let value = tape.as_value();
+                let status = print_at(value, pointer, is_pretty, &mut self.printed, out, needed);
+                drop(replace(&mut self.tape, tape.reset()));
+                Ok(status)
+            }
+            Err(e) => {
+                drop(replace(&mut self.tape, tape.reset()));
+                Err(e)
+            }
+        }
+    }
+
+    // Keeps the nodes of a document and their texts, and lends them. Returns 0 or `OUT_OF_MEMORY`.
+    pub(crate) fn parse(&mut self, input: &mut [u8], lent: &mut Lent) -> Result<i32>
+        ensures lent { IfOk result (λ status. (ns : List Item)
+            × IsReadWith self.old input.old None ns self.new
+            × AreLent ns self.new status lent.old lent.new) }
+        ensures rejected { IfErr result (λ e. (ns : List Item)
+            × IsReadWith self.old input.old (Some e) ns self.new × (lent.new ≡ lent.old)) }
+        ensures kept { KeepsLists self.old self.new }
+    {
+        self.nodes.clear();
+        self.text.clear();
+        if !keep::<Brand>(&mut self.buffers, input, &mut self.nodes, &mut self.text)? {
+            return Ok(OUT_OF_MEMORY);
+        }
+        *lent = Lent {
+            nodes: self.nodes.as_ptr(),
+            nodes_len: self.nodes.len(),
+            text: self.text.as_ptr(),
+            text_len: self.text.len(),
+        };
+        Ok(0)
     }
 }
 

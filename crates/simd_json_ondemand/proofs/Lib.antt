@@ -26,4 +26,5 @@ pub mod Turns
 pub mod Walks
 pub mod WalkViews
 pub mod Pointers
+pub mod Sites
 pub mod Fractions

@@ -41,7 +41,7 @@ pub record IsTokenCompared (bs token : List ℕ) (from : ℕ) (left : List ℕ) 
   pub left_is : unescaped left ≡ Some rest
   pub compared : IsCompared bs key from rest
 
-some-of : (o : Option (List ℕ)) → is_some o ≡ true → (k : List ℕ) × (o ≡ Some k)
+pub some-of : (o : Option (List ℕ)) → is_some o ≡ true → (k : List ℕ) × (o ≡ Some k)
 some-of None is = absurd (false≢true is)
 some-of (Some k) is = (k, refl)
 
@@ -50,6 +50,11 @@ pub token-from-quote : (bs token : List ℕ) → byte_at bs 0 ≡ quote → clos
 token-from-quote bs token e l formed =
     let k = some-of (unescaped token) formed in
     record { key = k.0; is = k.1; rest = k.0; left_is = k.1; compared = from-quote bs k.0 e l }
+
+-- whichever key the token is said to be
+pub written-is : (token key : List ℕ) (r : Option (List ℕ)) (b : Bool) → unescaped token ≡ Some key → b ≡ is_key key r
+    → (k : List ℕ) → unescaped token ≡ Some k → b ≡ is_key k r
+written-is token key r b is test k named = let same : key ≡ k = cc in test ∙ ap (λ x. is_key x r) same
 
 -- the strings are the same where the comparison says so
 pub named-is : (token key : List ℕ) (r : Option (List ℕ)) (b : Bool) → unescaped token ≡ Some key → b ≡ is_key key r

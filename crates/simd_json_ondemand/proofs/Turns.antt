@@ -10,7 +10,7 @@ use Rattle.simd_json_ondemand.specs.MemberTails.{pair_along}
 use Rattle.simd_json_ondemand.specs.Viewed.{read_along}
 use Rattle.simd_json_ondemand.specs.Walks.{Walk, stopped, ended, came, ok_map, and_ok, and_some, begins_value, value_here, behind_token}
 use Rattle.simd_json_ondemand.specs.Walks.{behind_item, first_item, item_ahead, element_ahead, member_here, member_ahead, walk_by}
-use Rattle.simd_json_ondemand.specs.Walks.{elements_walk, members_walk}
+use Rattle.simd_json_ondemand.specs.Walks.{elements_seen, members_seen, elements_walk, members_walk}
 use Rattle.simd_json_ondemand.specs.Within.{after_last}
 use Rattle.simd_json_ondemand.specs.declared.array.Position.{Position}
 use Rattle.simd_json_ondemand.specs.declared.array.Position.TheVariants.{First, AtValue, AfterValue}
@@ -159,18 +159,28 @@ module _ (b : List ℕ) where
       let l = past-is right_bracket expected.CommaOrBracket is t.0 t.1 in
       (v.1, subst (λ us. length us < length is) v.0 l)
 
+  module _ {A : Type 0} (view : List ℕ → A) (position : Position) (is : List ℕ) where
+    pub element-seen : (js : List ℕ) → element_ahead b position is ≡ Ok (Some js)
+        → elements_seen view b position is ≡ came (view js) (elements_seen view b AtValue js)
+    element-seen js h = turn view (element_ahead b AtValue) element-fewer (length is) (length js) (element_ahead b position is) js h
+        (element-left position is) (element-left AtValue js)
+
+    pub elements-seen-end : element_ahead b position is ≡ Ok None → elements_seen view b position is ≡ ended
+    elements-seen-end h = end view (element_ahead b AtValue) element-fewer (length is) (element_ahead b position is) h
+
+    pub elements-seen-stop : (e : Unexpected) → element_ahead b position is ≡ Err e → elements_seen view b position is ≡ stopped e
+    elements-seen-stop e h = stop view (element_ahead b AtValue) element-fewer (length is) (element_ahead b position is) e h
+
   pub element-comes : (position : Position) (is js : List ℕ) → element_ahead b position is ≡ Ok (Some js)
       → elements_walk b position is ≡ came (read_along b js) (elements_walk b AtValue js)
-  element-comes position is js h = turn (read_along b) (element_ahead b AtValue) element-fewer (length is) (length js)
-      (element_ahead b position is) js h (element-left position is) (element-left AtValue js)
+  element-comes = element-seen (read_along b)
 
   pub elements-end : (position : Position) (is : List ℕ) → element_ahead b position is ≡ Ok None → elements_walk b position is ≡ ended
-  elements-end position is h = end (read_along b) (element_ahead b AtValue) element-fewer (length is) (element_ahead b position is) h
+  elements-end = elements-seen-end (read_along b)
 
   pub elements-stop : (position : Position) (is : List ℕ) (e : Unexpected) → element_ahead b position is ≡ Err e
       → elements_walk b position is ≡ stopped e
-  elements-stop position is e h =
-      stop (read_along b) (element_ahead b AtValue) element-fewer (length is) (element_ahead b position is) e h
+  elements-stop = elements-seen-stop (read_along b)
 
   member-left : (position : Position) (is : List ℕ) → IsLeft (length is) (member_ahead b position is)
   member-left position is js h =
@@ -187,19 +197,31 @@ module _ (b : List ℕ) where
       let short : length (drop 2 is) ≡ length is - 2 = length-drop 2 is in
       (omega (arith, v.1), subst (λ us. length us < length is) v.0 (omega arith))
 
+  module _ {A : Type 0} (view : List ℕ → A) (position : Position) (is : List ℕ) where
+    abbrev next : List ℕ → Ahead
+    next ks = member_ahead b AtValue (drop 2 ks)
+
+    pub member-seen : (js : List ℕ) → member_ahead b position is ≡ Ok (Some js)
+        → members_seen view b position is ≡ came (view js) (members_seen view b AtValue (drop 2 js))
+    member-seen js h = turn view next member-fewer (length is) (length (drop 2 js)) (member_ahead b position is) js h
+        (member-left position is) (member-left AtValue (drop 2 js))
+
+    pub members-seen-end : member_ahead b position is ≡ Ok None → members_seen view b position is ≡ ended
+    members-seen-end h = end view next member-fewer (length is) (member_ahead b position is) h
+
+    pub members-seen-stop : (e : Unexpected) → member_ahead b position is ≡ Err e → members_seen view b position is ≡ stopped e
+    members-seen-stop e h = stop view next member-fewer (length is) (member_ahead b position is) e h
+
   pub member-comes : (position : Position) (is js : List ℕ) → member_ahead b position is ≡ Ok (Some js)
       → members_walk b position is ≡ came (pair_along b js) (members_walk b AtValue (drop 2 js))
-  member-comes position is js h = turn (pair_along b) (λ ks. member_ahead b AtValue (drop 2 ks)) member-fewer (length is)
-      (length (drop 2 js)) (member_ahead b position is) js h (member-left position is) (member-left AtValue (drop 2 js))
+  member-comes = member-seen (pair_along b)
 
   pub members-end : (position : Position) (is : List ℕ) → member_ahead b position is ≡ Ok None → members_walk b position is ≡ ended
-  members-end position is h =
-      end (pair_along b) (λ ks. member_ahead b AtValue (drop 2 ks)) member-fewer (length is) (member_ahead b position is) h
+  members-end = members-seen-end (pair_along b)
 
   pub members-stop : (position : Position) (is : List ℕ) (e : Unexpected) → member_ahead b position is ≡ Err e
       → members_walk b position is ≡ stopped e
-  members-stop position is e h =
-      stop (pair_along b) (λ ks. member_ahead b AtValue (drop 2 ks)) member-fewer (length is) (member_ahead b position is) e h
+  members-stop = members-seen-stop (pair_along b)
 
   -- after a value it is the same as from the token behind it on
   pub members-behind : (is : List ℕ) → members_walk b AfterValue (drop (span b is) is) ≡ members_walk b AtValue is

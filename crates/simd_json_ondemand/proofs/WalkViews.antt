@@ -15,9 +15,10 @@ use Rattle.simd_json_stages.proofs.Tokens.TokenForms as forms
 use Rattle.simd_json_ondemand.specs.Docs.{text, places, index_of, form, doc}
 use Rattle.simd_json_ondemand.specs.Standing.{opens_array, opens_object}
 use Rattle.simd_json_ondemand.specs.Viewed.{read_along}
-use Rattle.simd_json_ondemand.specs.Walked.{array_walk, object_walk, refused, first_with, string_wanted}
+use Rattle.simd_json_ondemand.specs.Walked.{array_seen, object_seen, array_walk, object_walk, refused, first_with, string_wanted}
 use Rattle.simd_json_ondemand.specs.Unexpected.{unexpected}
 use Rattle.simd_json_ondemand.specs.Walks.{stopped, ended, came, whole, first, walk_past, walk_from, ok_map, elements_walk, members_walk}
+use Rattle.simd_json_ondemand.specs.Walks.{elements_seen, members_seen}
 use Rattle.simd_json_ondemand.specs.declared.array.Position.TheVariants.{First}
 use Rattle.simd_json_ondemand.specs.declared.unexpected.Expected.TheVariants.{Kind}
 use Rattle.simd_json_ondemand.specs.declared.unexpected.Expected.TheVariants as expected
@@ -31,7 +32,7 @@ use Rattle.simd_json_ondemand.proofs.Sequence.Arrays.{InArray}
 use Rattle.simd_json_ondemand.proofs.Sequence.Objects.{InObject}
 use Rattle.simd_json_ondemand.proofs.Standing.{opens_array_byte, opens_object_byte}
 use Rattle.simd_json_ondemand.proofs.Tails.{all_some}
-use Rattle.simd_json_ondemand.proofs.Turns.{elements-stop, members-stop}
+use Rattle.simd_json_ondemand.proofs.Turns.{elements-seen-stop, members-seen-stop}
 use Rattle.simd_json_ondemand.proofs.Walks.{Pairs, inside-walk, inside-members, from-stopped}
 use Rattle.simd_json_ondemand.proofs.Walks.{whole-with, past-whole, past-stopped}
 
@@ -55,13 +56,13 @@ module _ (b is : List ℕ) (k : ℕ) (l : k < length is) (d : Document) (h : rea
 -- ---- the walk from a value
 
 module _ (v : Value) (d : Document) (h : doc v ≡ Some d) where
-  opens-array : opens_array (form v) ≡ is_array d
+  pub opens-array : opens_array (form v) ≡ is_array d
   opens-array = array-is (text v.document) (index_of v) d (begins-at (text v.document) (places v.document) v.at v.inside d h)
 
-  opens-object : opens_object (form v) ≡ is_object d
+  pub opens-object : opens_object (form v) ≡ is_object d
   opens-object = object-is (text v.document) (index_of v) d (begins-at (text v.document) (places v.document) v.at v.inside d h)
 
-  array-whole : is_array d ≡ true → Some (array_walk v) ≡ option_map (λ ds. whole (all_some ds)) (as_array d)
+  pub array-whole : is_array d ≡ true → Some (array_walk v) ≡ option_map (λ ds. whole (all_some ds)) (as_array d)
   array-whole is = let opens = opens-array ∙ is in
       ap (λ w. Some w) (cond-true _ _ _ opens)
       ∙ elements-found (text v.document) (places v.document) v.at v.inside d h
@@ -70,7 +71,7 @@ module _ (v : Value) (d : Document) (h : doc v ≡ Some d) where
   array-none : is_array d ≡ false → array_walk v ≡ stopped (refused (Kind kinds.Array) v)
   array-none is = cond-false _ _ _ (opens-array ∙ is)
 
-  object-whole : is_object d ≡ true → Some (object_walk v) ≡ option_map (λ ms. whole (all_members ms)) (as_object d)
+  pub object-whole : is_object d ≡ true → Some (object_walk v) ≡ option_map (λ ms. whole (all_members ms)) (as_object d)
   object-whole is = let opens = opens-object ∙ is in
       ap (λ w. Some w) (cond-true _ _ _ opens)
       ∙ members-found (text v.document) (places v.document) v.at v.inside d h
@@ -120,31 +121,34 @@ module _ (v : Value) where
   abbrev is : List ℕ
   is = places v.document
 
-  pub array-other : (e : Unexpected) → (byte_at b (index_of v) ≡ 91 → ⊥) → e ≡ refused (Kind kinds.Array) v → array_walk v ≡ stopped e
-  array-other e ne h =
-      cond-false _ _ _ (sym (opens_array_byte b (index_of v)) ∙ ne_eqb (byte_at b (index_of v)) 91 ne) ∙ ap (λ x. stopped x) (sym h)
+  module _ {A : Type 0} (view : List ℕ → A) where
+    pub array-other : (e : Unexpected) → (byte_at b (index_of v) ≡ 91 → ⊥) → e ≡ refused (Kind kinds.Array) v
+        → array_seen view v ≡ stopped e
+    array-other e ne h =
+        cond-false _ _ _ (sym (opens_array_byte b (index_of v)) ∙ ne_eqb (byte_at b (index_of v)) 91 ne) ∙ ap (λ x. stopped x) (sym h)
 
-  pub array-inside : byte_at b (index_of v) ≡ 91 → array_walk v ≡ elements_walk b First (drop (v.at + 1) is)
-  array-inside h = cond-true _ _ _ (sym (opens_array_byte b (index_of v)) ∙ ap (λ x. x == 91) h)
+    pub array-inside : byte_at b (index_of v) ≡ 91 → array_seen view v ≡ elements_seen view b First (drop (v.at + 1) is)
+    array-inside h = cond-true _ _ _ (sym (opens_array_byte b (index_of v)) ∙ ap (λ x. x == 91) h)
 
-  pub array-unended : (e : Unexpected) → byte_at b (index_of v) ≡ 91 → length is ≤ v.at + 1
-      → e ≡ unexpected b expected.Value (drop (v.at + 1) is) → array_walk v ≡ stopped e
-  array-unended e h l is-e = array-inside h ∙ ap (elements_walk b First) (drop_all (v.at + 1) is l)
-      ∙ elements-stop b First [] (unexpected b expected.Value []) refl
-      ∙ ap (λ ks. stopped (unexpected b expected.Value ks)) (sym (drop_all (v.at + 1) is l)) ∙ ap (λ x. stopped x) (sym is-e)
+    pub array-unended : (e : Unexpected) → byte_at b (index_of v) ≡ 91 → length is ≤ v.at + 1
+        → e ≡ unexpected b expected.Value (drop (v.at + 1) is) → array_seen view v ≡ stopped e
+    array-unended e h l is-e = array-inside h ∙ ap (elements_seen view b First) (drop_all (v.at + 1) is l)
+        ∙ elements-seen-stop b view First [] (unexpected b expected.Value []) refl
+        ∙ ap (λ ks. stopped (unexpected b expected.Value ks)) (sym (drop_all (v.at + 1) is l)) ∙ ap (λ x. stopped x) (sym is-e)
 
-  pub object-other : (e : Unexpected) → (byte_at b (index_of v) ≡ 123 → ⊥) → e ≡ refused (Kind kinds.Object) v → object_walk v ≡ stopped e
-  object-other e ne h =
-      cond-false _ _ _ (sym (opens_object_byte b (index_of v)) ∙ ne_eqb (byte_at b (index_of v)) 123 ne) ∙ ap (λ x. stopped x) (sym h)
+    pub object-other : (e : Unexpected) → (byte_at b (index_of v) ≡ 123 → ⊥) → e ≡ refused (Kind kinds.Object) v
+        → object_seen view v ≡ stopped e
+    object-other e ne h =
+        cond-false _ _ _ (sym (opens_object_byte b (index_of v)) ∙ ne_eqb (byte_at b (index_of v)) 123 ne) ∙ ap (λ x. stopped x) (sym h)
 
-  pub object-inside : byte_at b (index_of v) ≡ 123 → object_walk v ≡ members_walk b First (drop (v.at + 1) is)
-  object-inside h = cond-true _ _ _ (sym (opens_object_byte b (index_of v)) ∙ ap (λ x. x == 123) h)
+    pub object-inside : byte_at b (index_of v) ≡ 123 → object_seen view v ≡ members_seen view b First (drop (v.at + 1) is)
+    object-inside h = cond-true _ _ _ (sym (opens_object_byte b (index_of v)) ∙ ap (λ x. x == 123) h)
 
-  pub object-unended : (e : Unexpected) → byte_at b (index_of v) ≡ 123 → length is ≤ v.at + 1
-      → e ≡ unexpected b expected.Key (drop (v.at + 1) is) → object_walk v ≡ stopped e
-  object-unended e h l is-e = object-inside h ∙ ap (members_walk b First) (drop_all (v.at + 1) is l)
-      ∙ members-stop b First [] (unexpected b expected.Key []) refl
-      ∙ ap (λ ks. stopped (unexpected b expected.Key ks)) (sym (drop_all (v.at + 1) is l)) ∙ ap (λ x. stopped x) (sym is-e)
+    pub object-unended : (e : Unexpected) → byte_at b (index_of v) ≡ 123 → length is ≤ v.at + 1
+        → e ≡ unexpected b expected.Key (drop (v.at + 1) is) → object_seen view v ≡ stopped e
+    object-unended e h l is-e = object-inside h ∙ ap (members_seen view b First) (drop_all (v.at + 1) is l)
+        ∙ members-seen-stop b view First [] (unexpected b expected.Key []) refl
+        ∙ ap (λ ks. stopped (unexpected b expected.Key ks)) (sym (drop_all (v.at + 1) is l)) ∙ ap (λ x. stopped x) (sym is-e)
 
 pub no-string-wanted : (b : List ℕ) (i : ℕ) → (byte_at b i ≡ 34 → ⊥) → string_wanted (form_at b i) ≡ Kind kinds.String
 no-string-wanted b i ne = go (form_at b i) (forms.no_string b i ne)

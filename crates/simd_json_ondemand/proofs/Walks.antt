@@ -1,5 +1,5 @@
 -- Walks along a document: its elements or members come, and then the end.
-use Rattle.std.proofs.Common.{◌≡◌, ◌≢◌, refl, sym, ◌∙◌, ap, ap₂, ℕ, zero, suc, ◌<◌, Bool, true, false, cond, ◌==◌, ◌||◌, inl, inr}
+use Rattle.std.proofs.Common.{◌≡◌, ◌≢◌, refl, sym, ◌∙◌, ap, ap₂, ℕ, zero, suc, ◌<◌, ◌-◌, Bool, true, false, cond, ◌==◌, ◌||◌, inl, inr}
 use Rattle.std.proofs.Common.{List, [], ◌∷◌, length, drop, arith, bytes_eq}
 use Rattle.std.specs.Prelude.{Option, Some, None, Result, Ok, Err, option_map, option_and_then, slice_get}
 use Rattle.std.specs.Char.{is_ascii_digit}
@@ -317,3 +317,19 @@ pub past-stopped : {A : Type 0} (n : ℕ) (e : Unexpected) → ◌≡◌ {A = Wa
 unfolding walk_past
 past-stopped zero e = refl
 past-stopped (suc n) e = refl
+
+-- so it goes, where the next turn is known
+module _ {A : Type 0} (n : ℕ) (w : Walk A) where
+  pub past-here : (x : A) (more : Walk A) → n ≡ 0 → w ≡ came x more → first (walk_past n w) ≡ Ok (Some x)
+  past-here x more e h = ap (λ k. first (walk_past k w)) e ∙ ap first (past-none w ∙ h)
+
+  pub past-later : (x : A) (more : Walk A) → n ≢ 0 → w ≡ came x more → first (walk_past n w) ≡ first (walk_past (n - 1) more)
+  past-later x more other h =
+      let next : n ≡ suc (n - 1) = omega (arith, other) in
+      ap (λ k. first (walk_past k w)) next ∙ ap (λ u. first (walk_past (suc (n - 1)) u)) h ∙ ap first (past-came (n - 1) x more)
+
+  pub past-end : w ≡ ended → first (walk_past n w) ≡ Ok None
+  past-end h = ap (λ u. first (walk_past n u)) h ∙ ap first (past-ended n)
+
+  pub past-stop : (e : Unexpected) → w ≡ stopped e → first (walk_past n w) ≡ Err e
+  past-stop e h = ap (λ u. first (walk_past n u)) h ∙ ap first (past-stopped n e)

@@ -22,6 +22,8 @@ pub mod Lines
 pub mod Unexpected
 pub mod Walks
 pub mod Walked
+pub mod Sites
+pub mod Reached
 -- What contracts see of an index: what it lists, and for how many bytes it has capacity.
 pub mod Capacities
 -- What the test of a whole input finds.

@@ -33,6 +33,7 @@ unexpected b expected is = record { index = place b is; expected = expected; got
 abbrev pub expected_text : Expected → List ℕ
 expected_text (expected.Kind kind) = expected_words kind
 expected_text expected.PlainString = codes "a string without an escape"
+expected_text expected.Container = codes "an array or an object"
 expected_text expected.Value = codes "a value"
 expected_text expected.Key = codes "a key"
 expected_text expected.Colon = codes "a colon"

@@ -4,9 +4,12 @@ use Rattle.simd_json_parts.specs.Accessors.{Accessor}
 use Rattle.simd_json_parts.specs.Document as parts
 use Rattle.simd_json_parts.specs.Tokens.{Form, string_token}
 use Rattle.simd_json_ondemand.specs.Docs.{text, places, form, as_standing}
+use Rattle.simd_json_ondemand.specs.MemberTails.{pair_along}
 use Rattle.simd_json_ondemand.specs.Standing.{opens_array, opens_object}
 use Rattle.simd_json_ondemand.specs.Unexpected.{unexpected}
-use Rattle.simd_json_ondemand.specs.Walks.{Walk, stopped, first, ok_map, elements_walk, members_walk, walk_from}
+use Rattle.simd_json_ondemand.specs.Viewed.{read_along}
+use Rattle.simd_json_ondemand.specs.Walks.{Walk, stopped, first, ok_map, elements_seen, members_seen, elements_walk, members_walk}
+use Rattle.simd_json_ondemand.specs.Walks.{walk_from}
 use Rattle.simd_json_ondemand.specs.declared.array.Array.{Array}
 use Rattle.simd_json_ondemand.specs.declared.array.Position.TheVariants.{First}
 use Rattle.simd_json_ondemand.specs.declared.object.Object.{Object}
@@ -39,17 +42,24 @@ abbrev pub string_wanted : Form → Expected
 string_wanted (string_token read) = PlainString
 string_wanted _ = Kind kinds.String
 
--- the elements of the value, if an array begins there
-abbrev pub array_walk : Value → Walk (Option parts.Document)
-array_walk v =
-    if opens_array (form v) then elements_walk (text v.document) First (drop (v.at + 1) (places v.document))
+-- what is seen of the elements of the value, if an array begins there
+abbrev pub array_seen : {A : Type 0} → (List ℕ → A) → Value → Walk A
+array_seen view v =
+    if opens_array (form v) then elements_seen view (text v.document) First (drop (v.at + 1) (places v.document))
     else stopped (refused (Kind kinds.Array) v)
 
--- the members of the value, if an object begins there
-abbrev pub object_walk : Value → Walk (Option parts.Document × Option parts.Document)
-object_walk v =
-    if opens_object (form v) then members_walk (text v.document) First (drop (v.at + 1) (places v.document))
+-- of its members, if an object begins there
+abbrev pub object_seen : {A : Type 0} → (List ℕ → A) → Value → Walk A
+object_seen view v =
+    if opens_object (form v) then members_seen view (text v.document) First (drop (v.at + 1) (places v.document))
     else stopped (refused (Kind kinds.Object) v)
+
+-- the documents that begin at them
+abbrev pub array_walk : Value → Walk (Option parts.Document)
+array_walk v = array_seen (read_along (text v.document)) v
+
+abbrev pub object_walk : Value → Walk (Option parts.Document × Option parts.Document)
+object_walk v = object_seen (pair_along (text v.document)) v
 
 -- the value of the first member with the key
 abbrev pub first_with : List ℕ → Walk (Option parts.Document × Option parts.Document) → Result (Option (Option parts.Document)) Unexpected

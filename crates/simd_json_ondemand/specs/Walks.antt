@@ -112,14 +112,20 @@ walk_by view next turns (Ok None) = ended
 walk_by view next zero (Ok (Some is)) = ended
 walk_by view next (suc turns) (Ok (Some is)) = came (view is) (walk_by view next turns (next is))
 
--- the documents that begin at the elements after a position
-abbrev pub elements_walk : List ℕ → Position → List ℕ → Walk (Option parts.Document)
-elements_walk b position is = walk_by (read_along b) (element_ahead b AtValue) (length is) (element_ahead b position is)
+-- what is seen of the elements after a position, and of members, each from its first index on
+abbrev pub elements_seen : {A : Type 0} → (List ℕ → A) → List ℕ → Position → List ℕ → Walk A
+elements_seen view b position is = walk_by view (element_ahead b AtValue) (length is) (element_ahead b position is)
 
--- and at the keys and the values of members
+abbrev pub members_seen : {A : Type 0} → (List ℕ → A) → List ℕ → Position → List ℕ → Walk A
+members_seen view b position is =
+    walk_by view (λ ks. member_ahead b AtValue (drop 2 ks)) (length is) (member_ahead b position is)
+
+-- the documents that begin at the elements, and at the keys and the values of members
+abbrev pub elements_walk : List ℕ → Position → List ℕ → Walk (Option parts.Document)
+elements_walk b = elements_seen (read_along b) b
+
 abbrev pub members_walk : List ℕ → Position → List ℕ → Walk (Option parts.Document × Option parts.Document)
-members_walk b position is =
-    walk_by (pair_along b) (λ ks. member_ahead b AtValue (drop 2 ks)) (length is) (member_ahead b position is)
+members_walk b = members_seen (pair_along b) b
 
 -- from the first member with the key on
 unfoldable pub walk_from : List ℕ → Walk (Option parts.Document × Option parts.Document)

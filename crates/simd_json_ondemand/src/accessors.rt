@@ -2,25 +2,20 @@
 //!
 //! Each contract is of what is at the value's structural index, so it holds for any input; a law
 //! says that where a document begins there, it is what the same accessor of a tape returns.
-ghost use Rattle.std.specs.Prelude.{◌≡◌, ◌<◌, ◌==◌, ◌&&◌, ◌||◌, ℕ, List, length, drop, nat_eq};
-ghost use Rattle.std.specs.Prelude.{IfSome};
+ghost use Rattle.std.specs.Prelude.{◌≡◌, ◌&&◌, length, nat_eq};
 ghost use Rattle.std.specs.List.{starts_with};
-ghost use Rattle.simd_json_parts.specs.Bytes.{byte_at, is_terminator, minus_sign};
-ghost use Rattle.std.specs.Char.{is_ascii_digit};
-ghost use Rattle.simd_json_ondemand.specs.Numerals.{IsNumberLen, IsDecimalFloat};
-ghost use Rattle.simd_json_scalars.specs.NumeralRead.{IsNumeralAt};
+ghost use Rattle.simd_json_parts.specs.Bytes.{byte_at, is_terminator};
 
+use crate::numbers::{begins_number, fraction, number_len, numeral};
 use crate::strings::closing;
 use crate::value::Value;
 use simd_json_parts::charutils::{byte_or_space, is_structural_or_whitespace};
 use simd_json_parts::node::{StaticNode, ValueType};
-use simd_json_scalars::numberparse::{
-    Number, Numeral, integer_node, is_integer, parse_long, parse_number, parse_numeral, parse_short,
-};
+use simd_json_scalars::numberparse::{Numeral, integer_node, parse_long};
 
 impl<'d> Value<'d> {
     ghost use Rattle.std.specs.Prelude.{◌≡◌, ◌==◌, Some, None, false, IsTrue};
-    ghost use Rattle.std.specs.Prelude.{option_and_then, option_map, is_some, MatchOption};
+    ghost use Rattle.std.specs.Prelude.{option_and_then, option_map, is_some, IfSome, MatchOption};
     ghost use Rattle.std.specs.Float.{binary64};
     ghost use Rattle.fast_float.specs.Parse.{parse_float};
     ghost use Rattle.simd_json_ondemand.specs.Docs.{text, index_of, form, kind};
@@ -286,6 +281,7 @@ impl<'d> Value<'d> {
     }
 
     // How many bytes that is.
+    #[inline(always)]
     fn literal_len(self) -> Option<usize>
         ensures { IsLiteralLen (text self.entry.document) (index_of self.entry) result }
     {
@@ -347,65 +343,6 @@ impl<'d> Value<'d> {
             None => None,
         }
     }
-}
-
-// Whether a number may begin with the byte.
-#[inline(always)]
-fn begins_number(c: u8) -> bool
-    ensures { result ≡ ((c == minus_sign) || is_ascii_digit c) }
-{
-    c == b'-' || is_integer(c)
-}
-
-// Reads the number at the front.
-#[inline(always)]
-fn numeral(bytes: &[u8]) -> Numeral
-    ensures { (b : List ℕ) (i : ℕ) → drop i b ≡ bytes.now → IsNumeralAt b i result }
-{
-    match parse_short(bytes) {
-        Some(numeral) => numeral,
-        None => parse_numeral(bytes),
-    }
-}
-
-// The length of the number at the front, if one is there.
-#[inline(always)]
-fn number_len(bytes: &[u8]) -> Option<usize>
-    ensures { (b : List ℕ) (i : ℕ) → drop i b ≡ bytes.now → IsNumberLen b i result }
-{
-    if let Some(Numeral::Decimal(len)) = parse_short(bytes) {
-        return Some(len);
-    }
-    match parse_number(bytes) {
-        Number::Integer(_, len) => Some(len),
-        Number::Decimal(len) => Some(len),
-        Number::Invalid(_) => None,
-    }
-}
-
-// The float nearest to the number at the front, if it has a fraction, no exponent, and a byte after
-// it: then its digits are read once.
-#[inline]
-fn fraction(bytes: &[u8]) -> Option<f64>
-    requires { 0 < length bytes.now }
-    ensures { (b : List ℕ) (i : ℕ) → drop i b ≡ bytes.now → IfSome result (IsDecimalFloat b i) }
-{
-    let minus = bytes[0] == b'-';
-    let start = minus as usize;
-    let numeral = fast_float::Numeral::scan(&bytes[start..]);
-    let whole = numeral.whole();
-    let places = numeral.fraction().len();
-    if places == 0 || whole.is_empty() || numeral.len() != whole.len() + 1 + places {
-        return None;
-    }
-    if whole[0] == b'0' && whole.len() > 1 {
-        return None;
-    }
-    let end = start + numeral.len();
-    if end == bytes.len() || !is_structural_or_whitespace(bytes[end]) {
-        return None;
-    }
-    Some(numeral.to_float(minus))
 }
 
 // Whether the letters are at the front, and what may follow a scalar after them.

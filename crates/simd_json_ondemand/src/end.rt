@@ -2,7 +2,7 @@
 ghost use Rattle.std.specs.Prelude.{◌≡◌, ◌<◌, length};
 
 use crate::array::Position;
-use crate::skip::{close, skip};
+use crate::skip::{close_here, skip};
 use crate::value::{Document, Value};
 
 /// The end of an array or an object, which [`Array::end`](crate::Array::end) and
@@ -29,7 +29,7 @@ impl<'d> Document<'d> {
             Position::First | Position::AfterValue => at,
         };
         End {
-            after: close(self.input, self.indexes, from),
+            after: close_here(self.input, self.indexes, from),
         }
     }
 }

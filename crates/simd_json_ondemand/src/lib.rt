@@ -10,7 +10,8 @@
 //! input take one pass, and others are found too. [`Object::pass`] goes on at the end of a value
 //! that another cursor has read. [`lines()`] returns the lines of JSON Lines, each a document of
 //! its own.
-//! [`Value::pointer`] follows a JSON Pointer (RFC 6901), and [`Value::at`] one that is split once.
+//! [`Value::pointer`] follows a JSON Pointer (RFC 6901), and [`Value::at`] one that is split once;
+//! [`Value::try_pointer`] says where the walk to the value stopped.
 //!
 //! # What is checked
 //!
@@ -57,6 +58,7 @@ mod index;
 mod key;
 pub mod laws;
 mod nested;
+mod numbers;
 mod object;
 mod pointer;
 mod raw;

@@ -9,6 +9,7 @@ ghost use Rattle.simd_json_parts.specs.Followed.{IsPlain, first_step};
 ghost use Rattle.simd_json_parts.specs.Pointed.{member_at, named, pointed, pointed_from, unescaped};
 
 mod token;
+mod tried;
 
 use crate::object::Object;
 use crate::value::Value;
@@ -16,15 +17,19 @@ use simd_json_parts::pointer::{Pointer, is_plain, is_well_formed, next_token, re
 use token::is_written;
 
 impl<'d> Value<'d> {
-    ghost use Rattle.std.specs.Prelude.{◌≡◌, ◌↔◌, IsTrue, List, Some, option_map, ℕ};
+    ghost use Rattle.std.specs.Prelude.{◌≡◌, ◌↔◌, IsTrue, List, Some, ℕ};
+    ghost use Rattle.std.specs.Prelude.{option_and_then, option_map};
     ghost use Rattle.std.specs.Result.{result_ok};
     ghost use Rattle.simd_json_ondemand.specs.Docs.{doc};
+    ghost use Rattle.simd_json_ondemand.specs.Keys.{is_key};
     ghost use Rattle.simd_json_parts.specs.Document as parts;
     ghost use Rattle.simd_json_parts.specs.Pointed.{pointed, unescaped};
     ghost use Rattle.simd_json_parts.specs.PointedText.{text};
+    ghost use Rattle.simd_json_parts.specs.Views.{as_str};
 
     /// Returns the value that a JSON Pointer names (RFC 6901), or `None` where it is malformed or
-    /// leads nowhere.
+    /// leads nowhere. `None` does not tell the end of an array or an object from bytes that are
+    /// none; [`try_pointer`](Value::try_pointer) does.
     ///
     /// The empty pointer names the value itself. Each `/` of another begins a reference token: the
     /// key of a member of an object, of equal keys the first, with `~1` for `/` and `~0` for `~`;
@@ -73,8 +78,10 @@ impl<'d> Value<'d> {
     #[inline(always)]
     fn is_named(self, token: &[u8]) -> bool
         requires { is_some (unescaped token.now) ≡ true }
-        ensures { (key : List ℕ) → doc self.entry ≡ Some (parts.string key)
+        ensures document { (key : List ℕ) → doc self.entry ≡ Some (parts.string key)
             → IsTrue result ↔ (unescaped token.now ≡ Some key) }
+        ensures any { (key : List ℕ) → unescaped token.now ≡ Some key
+            → result ≡ is_key key (option_and_then as_str (doc self.entry)) }
     {
         self.first() == b'"' && is_written(self.bytes(), token)
     }

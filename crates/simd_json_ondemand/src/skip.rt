@@ -77,6 +77,20 @@ pub(crate) fn close(input: &[u8], indexes: &[u32], at: usize) -> usize
     close_slowly(input, indexes, end, depth)
 }
 
+// The same, for a cursor that is mostly at the bracket already.
+#[inline(always)]
+pub(crate) fn close_here(input: &[u8], indexes: &[u32], at: usize) -> usize
+    requires within { AreWithin input.now indexes.now }
+    requires at { at ≤ length indexes.now }
+    ensures closed { result ≡ at + closed_at 1 (first_bytes input.now (drop at indexes.now)) }
+    ensures forward { (at ≤ result) × (result ≤ length indexes.now) }
+{
+    if at < indexes.len() && input[indexes[at] as usize] | 0x20 == b'}' {
+        return at + 1;
+    }
+    close(input, indexes, at)
+}
+
 // The number of the bit of the bracket with which so many open containers are closed, if there is
 // one.
 #[inline(always)]

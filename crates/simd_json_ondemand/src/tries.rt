@@ -13,6 +13,9 @@ impl<'d> Value<'d> {
     ghost use Rattle.simd_json_ondemand.specs.Docs.{doc, form, as_standing, HasEscape};
     ghost use Rattle.simd_json_ondemand.specs.Iterated.{elements_left, all_some};
     ghost use Rattle.simd_json_ondemand.specs.IteratedMembers.{members_left, all_members};
+    ghost use Rattle.simd_json_ondemand.specs.Reached.{key_reached};
+    ghost use Rattle.simd_json_ondemand.specs.Sites.{array_sites, element_sites, site};
+    ghost use Rattle.simd_json_ondemand.specs.Sites.{member_sites, object_sites};
     ghost use Rattle.simd_json_ondemand.specs.Walked.{refused, tried, string_wanted, first_with};
     ghost use Rattle.simd_json_ondemand.specs.Walked.{array_walk, object_walk};
     ghost use Rattle.simd_json_ondemand.specs.Walked.{elements_ahead, members_ahead};
@@ -96,6 +99,8 @@ impl<'d> Value<'d> {
     pub fn try_as_array(self) -> Result<Array<'d>, Unexpected>
         ensures walk { MatchResult result (λ array. array_walk self.entry ≡ elements_ahead array)
             (λ e. array_walk self.entry ≡ stopped e) }
+        ensures sites { MatchResult result (λ array. array_sites self.entry ≡ element_sites array)
+            (λ e. array_sites self.entry ≡ stopped e) }
         ensures document { (d : parts.Document) → doc self.entry ≡ Some d
             → option_map elements_left (result_ok result) ≡ option_map all_some (as_array d) }
         ensures all { (d : parts.Document) → doc self.entry ≡ Some d
@@ -122,6 +127,8 @@ impl<'d> Value<'d> {
     pub fn try_as_object(self) -> Result<Object<'d>, Unexpected>
         ensures walk { MatchResult result (λ object. object_walk self.entry ≡ members_ahead object)
             (λ e. object_walk self.entry ≡ stopped e) }
+        ensures sites { MatchResult result (λ object. object_sites self.entry ≡ member_sites object)
+            (λ e. object_sites self.entry ≡ stopped e) }
         ensures document { (d : parts.Document) → doc self.entry ≡ Some d
             → option_map members_left (result_ok result) ≡ option_map all_members (as_object d) }
         ensures first { IfOk result (λ object.
@@ -166,6 +173,8 @@ impl<'d> Value<'d> {
     pub fn try_get(self, key: &str) -> Result<Option<Value<'d>>, Unexpected>
         ensures walk { ok_map (option_map doc) result
             ≡ first_with key.now (object_walk self.entry) }
+        ensures site { ok_map (option_map site) result
+            ≡ key_reached key.now (object_sites self.entry) }
         ensures document { (d : parts.Document) → doc self.entry ≡ Some d
             → result_ok (ok_map (option_map doc) result)
             ≡ option_map (option_map (λ e. Some e)) (result_ok (try_get key.now d)) }
@@ -185,6 +194,8 @@ impl<'d> Value<'d> {
     pub fn try_get_idx(self, index: usize) -> Result<Option<Value<'d>>, Unexpected>
         ensures walk { ok_map (option_map doc) result
             ≡ first (walk_past index (array_walk self.entry)) }
+        ensures site { ok_map (option_map site) result
+            ≡ first (walk_past index (array_sites self.entry)) }
         ensures document { (d : parts.Document) → doc self.entry ≡ Some d
             → result_ok (ok_map (option_map doc) result)
             ≡ option_map (option_map (λ e. Some e)) (result_ok (try_get_idx index d)) }

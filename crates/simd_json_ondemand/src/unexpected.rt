@@ -9,6 +9,8 @@ pub enum Expected {
     Kind(ValueType),
     /// A string without an escape, which can be borrowed.
     PlainString,
+    /// An array or an object.
+    Container,
     /// A value: an element of an array, or what a key has.
     Value,
     /// The key of a member.
@@ -59,6 +61,7 @@ impl fmt::Display for Expected {
             Expected::Kind(ValueType::U128) => "an unsigned integer",
             Expected::Kind(kind) => kind.words(),
             Expected::PlainString => "a string without an escape",
+            Expected::Container => "an array or an object",
             Expected::Value => "a value",
             Expected::Key => "a key",
             Expected::Colon => "a colon",

@@ -159,6 +159,7 @@ impl<'d> Document<'d> {
 impl<'d> Array<'d> {
     ghost use Rattle.std.specs.Prelude.{◌≡◌, option_map, MatchOption, MatchResult};
     ghost use Rattle.simd_json_ondemand.specs.Docs.{doc};
+    ghost use Rattle.simd_json_ondemand.specs.Sites.{element_sites, site};
     ghost use Rattle.simd_json_ondemand.specs.Walked.{elements_ahead};
     ghost use Rattle.simd_json_ondemand.specs.Walks.{stopped, ended, came, first, walk_past};
     ghost use Rattle.simd_json_ondemand.specs.Walks.{ok_map};
@@ -169,10 +170,14 @@ impl<'d> Array<'d> {
     /// a value, or no value begins where one is expected. The cursor stays where it is. What is
     /// inside a value is not tested, but passed over by its brackets.
     pub fn try_next(&mut self) -> Result<Option<Value<'d>>, Unexpected>
-        ensures { MatchResult result
+        ensures steps { MatchResult result
             (λ next. MatchOption next ((elements_ahead self.old ≡ ended) × (self.new ≡ self.old))
             (λ value. elements_ahead self.old ≡ came (doc value) (elements_ahead self.new)))
             (λ e. (elements_ahead self.old ≡ stopped e) × (self.new ≡ self.old)) }
+        ensures sites { MatchResult result
+            (λ next. MatchOption next (element_sites self.old ≡ ended)
+            (λ value. element_sites self.old ≡ came (site value) (element_sites self.new)))
+            (λ e. element_sites self.old ≡ stopped e) }
     {
         let document = self.document;
         match document.element_ahead(self.at, self.position) {
@@ -191,8 +196,10 @@ impl<'d> Array<'d> {
 
     // The value after so many.
     pub(crate) fn behind(self, index: usize) -> Result<Option<Value<'d>>, Unexpected>
-        ensures { ok_map (option_map doc) result
+        ensures documents { ok_map (option_map doc) result
             ≡ first (walk_past index (elements_ahead self.entry)) }
+        ensures sites { ok_map (option_map site) result
+            ≡ first (walk_past index (element_sites self.entry)) }
     {
         let mut elements = self;
         let mut left = index;
@@ -213,10 +220,14 @@ impl<'d> Array<'d> {
 
 impl<'d> Object<'d> {
     ghost use Rattle.std.specs.Prelude.{◌≡◌, Some, IfOk, IfSome, MatchOption, MatchResult};
+    ghost use Rattle.std.specs.Prelude.{option_map};
     ghost use Rattle.simd_json_ondemand.specs.Docs.{doc};
     ghost use Rattle.simd_json_ondemand.specs.IteratedMembers.{pair_doc};
+    ghost use Rattle.simd_json_ondemand.specs.Reached.{key_reached};
+    ghost use Rattle.simd_json_ondemand.specs.Sites.{member_sites, pair_site, site};
     ghost use Rattle.simd_json_ondemand.specs.Walked.{members_ahead, members_from_first};
     ghost use Rattle.simd_json_ondemand.specs.Walks.{stopped, ended, came, walk_from, walk_round};
+    ghost use Rattle.simd_json_ondemand.specs.Walks.{ok_map};
     ghost use Rattle.simd_json_ondemand.specs.Within.{AreInSameObject, after, after_last};
     ghost use Rattle.simd_json_parts.specs.Document.{string};
 
@@ -232,6 +243,10 @@ impl<'d> Object<'d> {
             (λ next. MatchOption next ((members_ahead self.old ≡ ended) × (self.new ≡ self.old))
             (λ member. members_ahead self.old ≡ came (pair_doc member) (members_ahead self.new)))
             (λ e. (members_ahead self.old ≡ stopped e) × (self.new ≡ self.old)) }
+        ensures sites { MatchResult result
+            (λ next. MatchOption next (member_sites self.old ≡ ended)
+            (λ member. member_sites self.old ≡ came (pair_site member) (member_sites self.new)))
+            (λ e. member_sites self.old ≡ stopped e) }
         ensures last { IfOk result (λ next. IfSome next (λ member.
             after_last self.new.document self.new.at self.new.position
             ≡ Some (after member.1))) }
@@ -305,6 +320,8 @@ impl<'d> Object<'d> {
             ≡ came (Some (string wanted.entry.key.now), doc value) (members_ahead self.new)))
             (λ e. (walk_from wanted.entry.key.now (members_ahead self.old) ≡ stopped e)
             × (self.new ≡ self.old)) }
+        ensures site { ok_map (option_map site) result
+            ≡ key_reached wanted.entry.key.now (member_sites self.old) }
         ensures object { AreInSameObject self.old self.new }
     {
         let mut left = *self;

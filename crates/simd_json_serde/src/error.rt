@@ -40,7 +40,21 @@ pub enum MismatchKind {
     OutOfMemory,
 }
 
+impl MismatchKind {
+    // Whether it tells of a field's name, or is a message.
+    fn has_name(self) -> bool {
+        matches!(
+            self,
+            MismatchKind::MissingField | MismatchKind::DuplicateField | MismatchKind::Custom
+        )
+    }
+}
+
+// The front of a field's name or of a message.
+pub(crate) type FaultName = InlineText<NAME_LEN>;
+
 /// Why a step of a [`NodeReader`](crate::NodeReader) failed.
+// The reader keeps the name: each step that returned it would make room for it.
 #[derive(Clone, Copy, Drop)]
 pub struct Fault {
     pub(crate) kind: MismatchKind,
@@ -48,23 +62,9 @@ pub struct Fault {
     pub(crate) node: usize,
     // How many containers are open around the value.
     pub(crate) depth: usize,
-    // The front of a field's name or of a message.
-    pub(crate) name: InlineText<NAME_LEN>,
 }
 
 impl Fault {
-    // Of the value around a node, with a name.
-    pub(crate) fn new(kind: MismatchKind, node: usize, depth: usize, name: &str) -> Fault
-        ensures { result.kind ≡ kind }
-    {
-        Fault {
-            kind,
-            node,
-            depth,
-            name: InlineText::of(name),
-        }
-    }
-
     /// How the value and the type disagree.
     pub fn kind(&self) -> MismatchKind
         ensures { result ≡ self.now.kind }
@@ -86,13 +86,15 @@ impl Fault {
 #[derive(Drop)]
 pub struct Mismatch {
     fault: Fault,
+    name: FaultName,
     path: String,
 }
 
 impl Mismatch {
+    // Of the value around a node, with the name that the reader kept last, if the fault has one.
     // The path is built only now: nothing is kept for it during a read.
     #[cold]
-    pub(crate) fn new(alloc: Global, fault: Fault, nodes: &[Node<'_>]) -> Mismatch
+    pub(crate) fn new(alloc: Global, fault: Fault, name: FaultName, nodes: &[Node<'_>]) -> Mismatch
         ensures { (result.fault.kind ≡ fault.kind)
             ⊎ (result.fault.kind ≡ MismatchKind.OutOfMemory) }
     {
@@ -100,7 +102,12 @@ impl Mismatch {
         if fault.is_memory() || append_path(nodes, &fault, &mut path).is_err() {
             return Mismatch::no_memory(alloc);
         }
-        Mismatch { fault, path }
+        let name = if fault.kind.has_name() {
+            name
+        } else {
+            InlineText::new()
+        };
+        Mismatch { fault, name, path }
     }
 
     #[cold]
@@ -108,7 +115,12 @@ impl Mismatch {
         ensures { result.fault.kind ≡ MismatchKind.OutOfMemory }
     {
         Mismatch {
-            fault: Fault::new(MismatchKind::OutOfMemory, 0, 0, ""),
+            fault: Fault {
+                kind: MismatchKind::OutOfMemory,
+                node: 0,
+                depth: 0,
+            },
+            name: InlineText::new(),
             path: String::new(alloc),
         }
     }
@@ -130,7 +142,7 @@ impl Mismatch {
     /// The name of a field that is missing or there twice, or the message of
     /// [`MismatchKind::Custom`]: of both the first 32 bytes. Else it is empty.
     pub fn name(&self) -> &str {
-        self.fault.name.as_str()
+        self.name.as_str()
     }
 }
 

@@ -5,8 +5,9 @@ ghost use Rattle.simd_json_parts.specs.Nodes.{item_of, string_item};
 ghost use Rattle.simd_json_serde.specs.Steps.{IsTaken, Takes, nodes_beneath};
 ghost use Rattle.simd_json_serde.specs.Places.{place};
 
-use crate::error::{Fault, MismatchKind};
+use crate::error::{Fault, FaultName, MismatchKind};
 use simd_json::{Node, ValueType};
+use std::cell::Cell;
 
 /// Reads the nodes of a tape as a [`serde::Format`]: for a `Deserialize` of your own.
 ///
@@ -24,6 +25,8 @@ pub struct NodeReader<'n, 'i> {
     pub(crate) at_key: bool,
     // Whether the next node was only looked at since the last one was taken: an error is about it.
     pub(crate) looked: bool,
+    // The name of the last fault that had one.
+    name: Cell<FaultName>,
 }
 
 /// A place to go back to.
@@ -74,6 +77,7 @@ impl<'n, 'i> NodeReader<'n, 'i> {
             outer,
             at_key: false,
             looked: false,
+            name: Cell::new(FaultName::new()),
         }
     }
 
@@ -83,23 +87,34 @@ impl<'n, 'i> NodeReader<'n, 'i> {
         outer
     }
 
-    // That the value does not fit, with a name: the value that was looked at, or else the one
-    // around the last node, on the level that the reader is on.
+    // That the value does not fit, with a name.
     #[cold]
     #[inline(never)]
     pub(crate) fn named_fault(&self, kind: MismatchKind, name: &str) -> Fault {
+        self.name.set(FaultName::of(name));
+        self.fault(kind)
+    }
+
+    // What `named_fault` kept last.
+    pub(crate) fn last_name(&self) -> FaultName {
+        self.name.get()
+    }
+
+    // That the value does not fit: the value that was looked at, or else the one around the last
+    // node, on the level that the reader is on.
+    #[cold]
+    #[inline(never)]
+    pub(crate) fn fault(&self, kind: MismatchKind) -> Fault {
         let node = if self.looked {
             self.at
         } else {
             self.at.saturating_sub(1)
         };
-        Fault::new(kind, node, self.outer.len(), name)
-    }
-
-    #[cold]
-    #[inline(never)]
-    pub(crate) fn fault(&self, kind: MismatchKind) -> Fault {
-        self.named_fault(kind, "")
+        Fault {
+            kind,
+            node,
+            depth: self.outer.len(),
+        }
     }
 
     #[cold]

@@ -6,7 +6,7 @@ ghost use Rattle.simd_json_serde.specs.Outcomes.{IsRead, IsLate, HasParseMemory}
 
 use crate::error::{Error, Fault, Mismatch};
 use crate::node_reader::NodeReader;
-use crate::texts::{attach, copy_strings, detach};
+use crate::texts::{attach, copy_strings, detach, lengthen};
 use serde::{Deserialize, DeserializeOwned, Deserializer};
 use simd_json::tape::Value;
 use simd_json::{Buffers, Node, Tape, refill_tape, to_tape};
@@ -99,7 +99,8 @@ pub fn from_value<T: DeserializeOwned>(alloc: Global, value: &Value<'_, '_>) -> 
 #[derive(Drop)]
 pub struct Texts {
     alloc: Global,
-    text: String,
+    // The strings, one after another, where that of each node starts, and entries not in use.
+    text: Vec<u8>,
     starts: Vec<u32>,
     outer: Vec<usize>,
 }
@@ -109,7 +110,7 @@ impl Texts {
     pub fn new(alloc: Global) -> Texts {
         Texts {
             alloc,
-            text: String::new(alloc),
+            text: Vec::new(alloc),
             starts: Vec::new(alloc),
             outer: Vec::new(alloc),
         }
@@ -127,11 +128,9 @@ impl Texts {
         ensures kept { capacity self.old ≤ capacity self.new }
         ensures fault { OnErr result (capacity self.old < input_len) }
     {
-        self.text.clear();
-        self.starts.clear();
+        lengthen(&mut self.text, input_len, 0)?;
+        lengthen(&mut self.starts, input_len, 0)?;
         self.outer.clear();
-        self.text.reserve(input_len)?;
-        self.starts.reserve(input_len)?;
         self.outer.reserve(input_len.div_ceil(2))
     }
 }
@@ -201,7 +200,7 @@ fn read_nodes<'de, T: Deserialize<'de>>(
     }
     let kept = std::mem::replace(outer, Vec::new(alloc));
     let mut reader = NodeReader::with_starts(nodes, starts, kept);
-    let read = read_one(alloc, text.as_bytes(), &mut reader);
+    let read = read_one(alloc, text, &mut reader);
     *outer = reader.into_outer();
     read
 }
@@ -224,7 +223,7 @@ fn read_one<'de, T: Deserialize<'de>>(
     ensures { IsLate result }
 {
     let read = T::deserialize(alloc, &mut Deserializer::new(input, reader));
-    located(alloc, read, reader.nodes)
+    located(alloc, read, reader)
 }
 
 fn read_one_owned<T: DeserializeOwned>(
@@ -234,7 +233,7 @@ fn read_one_owned<T: DeserializeOwned>(
     ensures { IsLate result }
 {
     let read = T::deserialize_owned(alloc, &mut Deserializer::new(&[], reader));
-    located(alloc, read, reader.nodes)
+    located(alloc, read, reader)
 }
 
 // The read, with the path of a value that does not fit.
@@ -242,13 +241,16 @@ fn read_one_owned<T: DeserializeOwned>(
 pub(crate) fn located<T>(
     alloc: Global,
     read: Result<T, Fault>,
-    nodes: &[Node<'_>],
+    reader: &NodeReader<'_, '_>,
 ) -> Result<T, Error>
     ensures late { IsLate result }
     ensures same { IfOk result (λ value. read ≡ Ok value) }
 {
     match read {
         Ok(value) => Ok(value),
-        Err(fault) => Err(Error::Mismatch(Mismatch::new(alloc, fault, nodes))),
+        Err(fault) => {
+            let name = reader.last_name();
+            Err(Error::Mismatch(Mismatch::new(alloc, fault, name, reader.nodes)))
+        }
     }
 }

@@ -17,7 +17,7 @@ pub fn bool_of(alloc: Global, value: &Value<'_, '_>) -> Result<bool, Error>
 {
     let mut reader = NodeReader::new(value.nodes(), Vec::new(alloc));
     let read = bool::deserialize_owned(alloc, &mut Deserializer::new(&[], &mut reader));
-    located(alloc, read, reader.nodes)
+    located(alloc, read, &reader)
 }
 
 /// Returns a string of one character, as [`from_value`](crate::from_value) does.
@@ -26,7 +26,7 @@ pub fn char_of(alloc: Global, value: &Value<'_, '_>) -> Result<char, Error>
 {
     let mut reader = NodeReader::new(value.nodes(), Vec::new(alloc));
     let read = char::deserialize_owned(alloc, &mut Deserializer::new(&[], &mut reader));
-    located(alloc, read, reader.nodes)
+    located(alloc, read, &reader)
 }
 
 /// Returns an integer that fits `i8`, as [`from_value`](crate::from_value) does.
@@ -35,7 +35,7 @@ pub fn i8_of(alloc: Global, value: &Value<'_, '_>) -> Result<i8, Error>
 {
     let mut reader = NodeReader::new(value.nodes(), Vec::new(alloc));
     let read = i8::deserialize_owned(alloc, &mut Deserializer::new(&[], &mut reader));
-    located(alloc, read, reader.nodes)
+    located(alloc, read, &reader)
 }
 
 /// Returns an integer that fits `i16`, as [`from_value`](crate::from_value) does.
@@ -44,7 +44,7 @@ pub fn i16_of(alloc: Global, value: &Value<'_, '_>) -> Result<i16, Error>
 {
     let mut reader = NodeReader::new(value.nodes(), Vec::new(alloc));
     let read = i16::deserialize_owned(alloc, &mut Deserializer::new(&[], &mut reader));
-    located(alloc, read, reader.nodes)
+    located(alloc, read, &reader)
 }
 
 /// Returns an integer that fits `i32`, as [`from_value`](crate::from_value) does.
@@ -53,7 +53,7 @@ pub fn i32_of(alloc: Global, value: &Value<'_, '_>) -> Result<i32, Error>
 {
     let mut reader = NodeReader::new(value.nodes(), Vec::new(alloc));
     let read = i32::deserialize_owned(alloc, &mut Deserializer::new(&[], &mut reader));
-    located(alloc, read, reader.nodes)
+    located(alloc, read, &reader)
 }
 
 /// Returns an integer that fits `i64`, as [`from_value`](crate::from_value) does.
@@ -62,7 +62,7 @@ pub fn i64_of(alloc: Global, value: &Value<'_, '_>) -> Result<i64, Error>
 {
     let mut reader = NodeReader::new(value.nodes(), Vec::new(alloc));
     let read = i64::deserialize_owned(alloc, &mut Deserializer::new(&[], &mut reader));
-    located(alloc, read, reader.nodes)
+    located(alloc, read, &reader)
 }
 
 /// Returns an integer that fits `u8`, as [`from_value`](crate::from_value) does.
@@ -71,7 +71,7 @@ pub fn u8_of(alloc: Global, value: &Value<'_, '_>) -> Result<u8, Error>
 {
     let mut reader = NodeReader::new(value.nodes(), Vec::new(alloc));
     let read = u8::deserialize_owned(alloc, &mut Deserializer::new(&[], &mut reader));
-    located(alloc, read, reader.nodes)
+    located(alloc, read, &reader)
 }
 
 /// Returns an integer that fits `u16`, as [`from_value`](crate::from_value) does.
@@ -80,7 +80,7 @@ pub fn u16_of(alloc: Global, value: &Value<'_, '_>) -> Result<u16, Error>
 {
     let mut reader = NodeReader::new(value.nodes(), Vec::new(alloc));
     let read = u16::deserialize_owned(alloc, &mut Deserializer::new(&[], &mut reader));
-    located(alloc, read, reader.nodes)
+    located(alloc, read, &reader)
 }
 
 /// Returns an integer that fits `u32`, as [`from_value`](crate::from_value) does.
@@ -89,7 +89,7 @@ pub fn u32_of(alloc: Global, value: &Value<'_, '_>) -> Result<u32, Error>
 {
     let mut reader = NodeReader::new(value.nodes(), Vec::new(alloc));
     let read = u32::deserialize_owned(alloc, &mut Deserializer::new(&[], &mut reader));
-    located(alloc, read, reader.nodes)
+    located(alloc, read, &reader)
 }
 
 /// Returns an integer that fits `u64`, as [`from_value`](crate::from_value) does.
@@ -98,7 +98,7 @@ pub fn u64_of(alloc: Global, value: &Value<'_, '_>) -> Result<u64, Error>
 {
     let mut reader = NodeReader::new(value.nodes(), Vec::new(alloc));
     let read = u64::deserialize_owned(alloc, &mut Deserializer::new(&[], &mut reader));
-    located(alloc, read, reader.nodes)
+    located(alloc, read, &reader)
 }
 
 /// Returns an integer that fits `i128`, as [`from_value`](crate::from_value) does.
@@ -107,7 +107,7 @@ pub fn i128_of(alloc: Global, value: &Value<'_, '_>) -> Result<i128, Error>
 {
     let mut reader = NodeReader::new(value.nodes(), Vec::new(alloc));
     let read = i128::deserialize_owned(alloc, &mut Deserializer::new(&[], &mut reader));
-    located(alloc, read, reader.nodes)
+    located(alloc, read, &reader)
 }
 
 /// Returns an integer that fits `u128`, as [`from_value`](crate::from_value) does.
@@ -116,7 +116,7 @@ pub fn u128_of(alloc: Global, value: &Value<'_, '_>) -> Result<u128, Error>
 {
     let mut reader = NodeReader::new(value.nodes(), Vec::new(alloc));
     let read = u128::deserialize_owned(alloc, &mut Deserializer::new(&[], &mut reader));
-    located(alloc, read, reader.nodes)
+    located(alloc, read, &reader)
 }
 
 /// Returns the `f32` nearest to a number, if it is finite, as [`from_value`](crate::from_value)
@@ -126,7 +126,7 @@ pub fn f32_of(alloc: Global, value: &Value<'_, '_>) -> Result<f32, Error>
 {
     let mut reader = NodeReader::new(value.nodes(), Vec::new(alloc));
     let read = f32::deserialize_owned(alloc, &mut Deserializer::new(&[], &mut reader));
-    located(alloc, read, reader.nodes)
+    located(alloc, read, &reader)
 }
 
 /// Returns the `f64` nearest to a number, if it is finite, as [`from_value`](crate::from_value)
@@ -136,7 +136,7 @@ pub fn f64_of(alloc: Global, value: &Value<'_, '_>) -> Result<f64, Error>
 {
     let mut reader = NodeReader::new(value.nodes(), Vec::new(alloc));
     let read = f64::deserialize_owned(alloc, &mut Deserializer::new(&[], &mut reader));
-    located(alloc, read, reader.nodes)
+    located(alloc, read, &reader)
 }
 
 /// Returns a copy of a string, as [`from_value`](crate::from_value) does.
@@ -145,5 +145,5 @@ pub fn string_of(alloc: Global, value: &Value<'_, '_>) -> Result<String, Error>
 {
     let mut reader = NodeReader::new(value.nodes(), Vec::new(alloc));
     let read = String::deserialize_owned(alloc, &mut Deserializer::new(&[], &mut reader));
-    located(alloc, read, reader.nodes)
+    located(alloc, read, &reader)
 }

@@ -2,22 +2,53 @@
 //!
 //! `serde::Format` names no lifetime: a type borrows from the input of its `Deserializer`, and not
 //! from the nodes. So the strings are copied, one after another, to where they can be borrowed.
+ghost use Rattle.std.specs.Prelude.{◌≡◌, ◌<◌, length, max, take, OnOk, OnErr};
+
 use simd_json::Node;
+use simd_json_print::text::store_bytes;
 use std::alloc::AllocError;
 
-// Copies the strings of the nodes, and where that of each node starts.
+// Copies the strings of the nodes, and where that of each node starts. Both lists are kept filled,
+// so that a store needs no memory; what is behind does not matter.
 pub(crate) fn copy_strings(
     nodes: &[Node<'_>],
-    text: &mut String,
+    text: &mut Vec<u8>,
     starts: &mut Vec<u32>,
 ) -> Result<(), AllocError> {
-    text.clear();
-    starts.clear();
-    for node in nodes {
-        starts.push(u32::try_from(text.len()).unwrap_or(u32::MAX))?;
+    lengthen(starts, nodes.len(), 0)?;
+    let mut used = 0usize;
+    for (node, start) in nodes.iter().zip(starts.iter_mut()) {
+        *start = u32::try_from(used).unwrap_or(u32::MAX);
         if let Node::String(string) = node {
-            text.push_str(string)?;
+            used = copy_string(text, used, string)?;
         }
+    }
+    Ok(())
+}
+
+// Copies a string to where those before it end. Returns where it ends.
+#[inline(always)]
+fn copy_string(text: &mut Vec<u8>, used: usize, string: &str) -> Result<usize, AllocError> {
+    let end = used.saturating_add(string.len());
+    if end > text.len() {
+        lengthen(text, end.saturating_mul(2), 0)?;
+    }
+    if end > text.len() {
+        return Err(AllocError);
+    }
+    store_bytes(text, used, string.as_bytes());
+    Ok(end)
+}
+
+// Makes the list at least `len` long. If an allocation fails it is unchanged.
+pub(crate) fn lengthen<T: Copy>(list: &mut Vec<T>, len: usize, filler: T) -> Result<(), AllocError>
+    ensures kept { take (length list.old.items) list.new.items ≡ list.old.items }
+    ensures longer { OnOk result (length list.new.items ≡ max (length list.old.items) len) }
+    ensures refused { OnErr result ((list.new.items ≡ list.old.items)
+        × (length list.old.items < len)) }
+{
+    if list.len() < len {
+        list.resize(len, filler)?;
     }
     Ok(())
 }

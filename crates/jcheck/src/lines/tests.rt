@@ -1,6 +1,6 @@
 use super::*;
 use crate::tests::{
-    Form, MORE, OPEN, Report, VALUE, assert_stopped, assert_written, in_blocks, text_of,
+    Form, MORE, OPEN, Report, VALUE, assert_stopped, assert_written, in_blocks, plain, text_of,
 };
 use std::test::Fail;
 
@@ -44,7 +44,7 @@ const LINES: [(&[u8], &[Report]); 5] = [
 fn lines_have_their_numbers(rt: HostRuntime) -> Result<(), Fail> {
     for (input, reports) in &LINES {
         for size in 1..20 {
-            assert_written(&rt, input, reports, Form::Lines(size), 80)?;
+            assert_written(&rt, input, reports, Form::Lines(size), plain(80))?;
         }
     }
     Ok(())
@@ -68,7 +68,7 @@ fn a_failed_read_ends_the_check(rt: HostRuntime) -> Result<(), Fail> {
             let mut checker = Checker::new(rt.alloc(), 4)?;
             let mut reader = in_blocks(&input[..len], size, true);
             let mut out = Channel::new(Vec::new(rt.alloc()));
-            let checked = check_lines(&mut checker, &mut reader, &mut out, "f", 80);
+            let checked = check_lines(&mut checker, &mut reader, &mut out, "f", plain(80));
             let kind = checked.map_err(|e| e.kind());
             assert_eq!(rt; kind, Err(ErrorKind::ConnectionReset));
             assert!(rt; reader.failed() && !out.failed());

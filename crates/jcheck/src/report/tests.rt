@@ -1,5 +1,5 @@
 use super::*;
-use crate::tests::{BLANK, Form, MORE, OPEN, Report, VALUE, assert_stopped, assert_written};
+use crate::tests::{BLANK, Form, MORE, OPEN, Report, VALUE, assert_stopped, assert_written, plain};
 use std::test::Fail;
 
 const REJECTED: [(&[u8], &[Report]); 15] = [
@@ -106,7 +106,7 @@ const REJECTED: [(&[u8], &[Report]); 15] = [
 #[test]
 fn rejections_are_shown(rt: HostRuntime) -> Result<(), Fail> {
     for (input, reports) in &REJECTED {
-        assert_written(&rt, input, reports, Form::Document, 80)?;
+        assert_written(&rt, input, reports, Form::Document, plain(80))?;
     }
     Ok(())
 }
@@ -139,8 +139,8 @@ const CUT: [(&[u8], &[Report]); 2] = [
 #[test]
 fn long_lines_are_cut(rt: HostRuntime) -> Result<(), Fail> {
     for (input, reports) in &CUT {
-        assert_written(&rt, input, reports, Form::Document, 16)?;
-        assert_written(&rt, input, reports, Form::Lines(5), 16)?;
+        assert_written(&rt, input, reports, Form::Document, plain(16))?;
+        assert_written(&rt, input, reports, Form::Lines(5), plain(16))?;
     }
     Ok(())
 }
@@ -160,9 +160,21 @@ const NARROW: [(usize, &str, &str); 7] = [
 fn narrow_lines_are_cut(rt: HostRuntime) -> Result<(), Fail> {
     for (width, line, caret) in &NARROW {
         let report = ["f:1:4", VALUE, "InternalError at byte 3", *line, *caret];
-        assert_written(&rt, b"[1,x]", &[report], Form::Document, *width)?;
+        assert_written(&rt, b"[1,x]", &[report], Form::Document, plain(*width))?;
     }
     Ok(())
+}
+
+#[test]
+fn carets_are_bold_and_red(rt: HostRuntime) -> Result<(), Fail> {
+    let caret = "   \u{1b}[1;31m^\u{1b}[m";
+    let report = ["f:1:4", VALUE, "InternalError at byte 3", "[1,x]", caret];
+    let style = Style {
+        width: 80,
+        is_colored: true,
+    };
+    assert_written(&rt, b"[1,x]", &[report], Form::Document, style)?;
+    assert_written(&rt, b"[1,x]", &[report], Form::Lines(2), style)
 }
 
 #[test]

@@ -5,7 +5,7 @@ use super::*;
 use crate::fields::{Filter, Layout};
 use linked_list_allocator::LocalHeap;
 use std::alloc::Global;
-use std::io;
+use std::io::{self, ErrorKind};
 use std::test::Fail;
 
 type Tested = std::result::Result<(), Fail>;
@@ -22,7 +22,7 @@ impl Read for Blocks<'_> {
     fn read(&mut self, buf: &mut [u8]) -> io::Result<usize> {
         let count = self.rest.len().min(self.size).min(buf.len());
         if count == 0 && self.fails && !buf.is_empty() {
-            return Err(io::Error::from(io::ErrorKind::Interrupted));
+            return Err(io::Error::from(ErrorKind::Interrupted));
         }
         let (block, rest) = self.rest.split_at(count);
         buf[..count].copy_from_slice(block);
@@ -210,7 +210,7 @@ struct Full {
     taken: Vec<u8>,
     calls: usize,
     good_calls: usize,
-    fails: bool,
+    fault: Option<ErrorKind>,
 }
 
 impl Write for Full {
@@ -218,10 +218,9 @@ impl Write for Full {
         let call = self.calls;
         self.calls = call.saturating_add(1);
         if call == self.good_calls {
-            return if self.fails {
-                Err(io::Error::from(io::ErrorKind::Interrupted))
-            } else {
-                Ok(0)
+            return match self.fault {
+                Some(kind) => Err(io::Error::from(kind)),
+                None => Ok(0),
             };
         }
         let most = if call < self.good_calls { 1 } else { buf.len() };
@@ -235,14 +234,14 @@ impl Write for Full {
     }
 }
 
-fn failing(alloc: Global, good_calls: usize, fails: bool) -> Channel<Full>
+fn failing(alloc: Global, good_calls: usize, fault: Option<ErrorKind>) -> Channel<Full>
     ensures { result.failed ≡ false }
 {
     Channel::new(Full {
         taken: Vec::new(alloc),
         calls: 0,
         good_calls,
-        fails,
+        fault,
     })
 }
 
@@ -283,8 +282,8 @@ fn run_into(alloc: Global, fails: bool, out: Channel<Full>, rejections: Channel<
 #[test]
 fn a_failed_read_ends_the_run(rt: HostRuntime) {
     let (out, rejections) = (
-        failing(rt.alloc(), 100, false),
-        failing(rt.alloc(), 100, false),
+        failing(rt.alloc(), 100, None),
+        failing(rt.alloc(), 100, None),
     );
     let ran = run_into(rt.alloc(), true, out, rejections);
     assert_eq!(rt; ran.result, Err(Failure::Read));
@@ -295,15 +294,27 @@ fn a_failed_read_ends_the_run(rt: HostRuntime) {
     );
 }
 
+// How a writer fails.
+const FAULTS: [Option<ErrorKind>; 3] = [
+    None,
+    Some(ErrorKind::Interrupted),
+    Some(ErrorKind::BrokenPipe),
+];
+
 // The writer of rows fails at each of its bytes in turn. It has those before, and is called no
-// more.
+// more. Who closes it has had enough: the result says whether a line was rejected before. In blocks
+// of 9 bytes the first row is written before the second line is read to its end.
 #[test]
 fn a_failed_row_ends_the_run(rt: HostRuntime) {
-    for fails in [false, true] {
+    for fault in FAULTS {
         for good_calls in 0..ROWS.len() {
-            let out = failing(rt.alloc(), good_calls, fails);
-            let ran = run_into(rt.alloc(), false, out, failing(rt.alloc(), 100, fails));
-            assert_eq!(rt; ran.result, Err(Failure::Write));
+            let failure = match fault {
+                Some(ErrorKind::BrokenPipe) => Failure::Closed(good_calls < 2),
+                _ => Failure::Write,
+            };
+            let out = failing(rt.alloc(), good_calls, fault);
+            let ran = run_into(rt.alloc(), false, out, failing(rt.alloc(), 100, fault));
+            assert_eq!(rt; ran.result, Err(failure));
             assert!(rt; ran.out.failed() && !ran.rejections.failed());
             let out = ran.out.into_inner();
             assert_eq!(rt; Some(out.taken.as_slice()), ROWS.get(..good_calls));
@@ -315,13 +326,13 @@ fn a_failed_row_ends_the_run(rt: HostRuntime) {
 // So does the one of rejected lines.
 #[test]
 fn a_failed_rejection_ends_the_run(rt: HostRuntime) {
-    for fails in [false, true] {
+    for fault in FAULTS {
         for good_calls in 0..REJECTIONS.len() {
-            let rejections = failing(rt.alloc(), good_calls, fails);
+            let rejections = failing(rt.alloc(), good_calls, fault);
             let ran = run_into(
                 rt.alloc(),
                 false,
-                failing(rt.alloc(), 100, fails),
+                failing(rt.alloc(), 100, fault),
                 rejections,
             );
             assert_eq!(rt; ran.result, Err(Failure::Write));

@@ -1,7 +1,8 @@
 //! Compares strings of the input with a reference token of a JSON Pointer, both as they are
 //! written: nothing is decoded into memory.
-ghost use Rattle.std.specs.Prelude.{◌≡◌, ◌<◌, ◌≤◌, ◌++◌, ◌↔◌, IsTrue, List, MatchOption, Some, ℕ};
+ghost use Rattle.std.specs.Prelude.{◌≡◌, ◌<◌, ◌≤◌, ◌++◌, List, MatchOption, Some, ℕ};
 ghost use Rattle.std.specs.Prelude.{is_some, length, option_map, true};
+ghost use Rattle.simd_json_ondemand.specs.Keys.{is_key};
 ghost use Rattle.simd_json_ondemand.specs.Wanted.{read_string};
 ghost use Rattle.simd_json_parts.specs.Bytes.{byte_at, quote};
 ghost use Rattle.simd_json_parts.specs.Pointed.{unescaped};
@@ -19,8 +20,8 @@ pub(super) fn is_written(bytes: &[u8], token: &[u8]) -> bool
     requires opening { byte_at bytes.now 0 ≡ quote }
     requires closing { closing_quote bytes.now 0 < length bytes.now }
     requires formed { is_some (unescaped token.now) ≡ true }
-    ensures { (key : List ℕ) → read_string (string_at bytes.now 0) ≡ Some key
-        → IsTrue result ↔ (unescaped token.now ≡ Some key) }
+    ensures { (key : List ℕ) → unescaped token.now ≡ Some key
+        → result ≡ is_key key (read_string (string_at bytes.now 0)) }
 {
     let mut from = 1;
     let mut left = token;

@@ -1,7 +1,7 @@
 // JSON Pointers (RFC 6901), beside those of a tape.
 use super::MEMORY;
 use simd_json::{Tape, to_tape};
-use simd_json_ondemand::{Index, Pointer};
+use simd_json_ondemand::{Expected, Found, Index, Pointer, ValueType};
 
 // The document of RFC 6901, section 5, but for the array, which has integers.
 const SECTION_5: &[u8] = b"{\"foo\":[20,21],\"\":0,\"a/b\":1,\"c%d\":2,\"e^f\":3,\"g|h\":4,\
@@ -83,6 +83,8 @@ fn pointers_name_what_they_do_in_a_tape(rt: HostRuntime) {
         assert_that!(&rt; !tape.is_empty());
         let other = tape.as_value().pointer(pointer).and_then(|v| v.as_u64());
         assert_same!(&rt; other, *wanted, *pointer);
+        let tried = root.try_pointer(pointer).unwrap_or(None);
+        assert_same!(&rt; tried.and_then(|v| v.as_u64()), *wanted, *pointer);
     }
 }
 
@@ -94,5 +96,83 @@ fn keys_with_escapes_are_named(rt: HostRuntime) {
         assert_same!(&rt; root.pointer(pointer).and_then(|v| v.as_u64()), *wanted, *pointer);
         let split = Pointer::<4>::new(pointer).and_then(|p| root.at(&p));
         assert_same!(&rt; split.and_then(|v| v.as_u64()), *wanted, *pointer);
+    }
+}
+
+type Tried = Result<Option<u64>, (usize, Expected, Found)>;
+
+const UNSIGNED: Found = Found::Value(ValueType::U64);
+
+// An input, a pointer, and the integer that it names, or where the walk to it stops.
+const TRIED: &[(&[u8], &str, Tried)] = &[
+    (b"{\"a\":[1,{\"b/c\":2}]}", "/a/1/b~1c", Ok(Some(2))),
+    (b"{\"a\":[1,{\"b/c\":2}]}", "/a/0", Ok(Some(1))),
+    (b"3", "", Ok(Some(3))),
+    // nothing is there
+    (b"{\"a\":[1,{\"b/c\":2}]}", "/a/1/b", Ok(None)),
+    (b"{\"a\":[1,{\"b/c\":2}]}", "/a/1/b~0c", Ok(None)),
+    (b"{\"a\":[1,{\"b/c\":2}]}", "/a/2", Ok(None)),
+    (b"{\"a\":[1]}", "/b", Ok(None)),
+    // malformed, and no index
+    (b"{\"a\":[1]}", "a", Ok(None)),
+    (b"{\"a\":[1]}", "/~2", Ok(None)),
+    (b"{\"a\":[1]}", "/a/-", Ok(None)),
+    (b"{\"a\":[1", "/a/01", Ok(None)),
+    (b"{\"a\":[1", "/a/18446744073709551616", Ok(None)),
+    (b"{\"a\" 1", "/~2", Ok(None)),
+    // a walk stops
+    (b"{\"a\":[1 2]}", "/a/0", Ok(Some(1))),
+    (
+        b"{\"a\":[1 2]}",
+        "/a/1",
+        Err((8, Expected::CommaOrBracket, UNSIGNED)),
+    ),
+    (
+        b"{\"a\":[1 2]}",
+        "/a/9/x",
+        Err((8, Expected::CommaOrBracket, UNSIGNED)),
+    ),
+    (b"{\"a\":[", "/a/0", Err((6, Expected::Value, Found::End))),
+    (
+        b"{\"a\":{\"b\" 1}}",
+        "/a/b",
+        Err((10, Expected::Colon, UNSIGNED)),
+    ),
+    (
+        b"{\"a\":{\"b\" 1}}",
+        "/a/~1",
+        Err((10, Expected::Colon, UNSIGNED)),
+    ),
+    (b"[{\"\\q\":1,\"/\":2,x}]", "/0/~1", Ok(Some(2))),
+    (
+        b"[{\"\\q\":1,\"/\":2,x}]",
+        "/0/q",
+        Err((15, Expected::Key, Found::Other)),
+    ),
+    (b"{", "/a", Err((1, Expected::Key, Found::End))),
+    // a value that is no container is on the way
+    (
+        b"{\"a\":1}",
+        "/a/b",
+        Err((5, Expected::Container, UNSIGNED)),
+    ),
+    (b"[x]", "/0", Err((1, Expected::Value, Found::Other))),
+    (
+        b"[tru]",
+        "/0/0",
+        Err((1, Expected::Container, Found::Other)),
+    ),
+];
+
+#[test]
+fn a_missing_value_is_no_fault(rt: HostRuntime) {
+    let mut index = Index::new(rt.alloc(), 100).expect(&rt, MEMORY);
+    for (input, pointer, wanted) in TRIED {
+        let root = index.find(input).expect(&rt, "it is scanned").as_value();
+        let integer = match root.try_pointer(pointer) {
+            Ok(found) => Ok(found.and_then(|v| v.as_u64())),
+            Err(e) => Err((e.index, e.expected, e.got)),
+        };
+        assert_same!(&rt; integer, *wanted, *pointer);
     }
 }

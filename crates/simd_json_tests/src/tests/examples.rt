@@ -13,37 +13,6 @@ mod first_call {
     }
 }
 
-mod service {
-    use anyhow::Result;
-    use simd_json::{Buffers, Tape, refill_tape, reserve};
-    use std::io::BufRead;
-
-    // Reads a log of one document a line, each of at most 4,096 bytes with its line feed, and
-    // returns how many nodes they have in all.
-    pub(super) fn read_log(rt: &HostRuntime, log: &mut impl BufRead) -> Result<usize> {
-        let mut line = Vec::with_capacity(rt.alloc(), 4096)?;
-        let mut buffers = Buffers::new(rt.alloc(), 0)?;
-        let mut kept = Tape::null(rt.alloc())?;
-        reserve(4096, &mut buffers, &mut kept)?;
-        let mut nodes = 0usize;
-        for _ in 0..u64::MAX {
-            line.clear();
-            if log.read_until(b'\n', &mut line)? == 0 {
-                break;
-            }
-            let (result, tape) = refill_tape(&mut line, &mut buffers, kept);
-            match result {
-                Ok(()) => nodes = nodes.saturating_add(tape.nodes().len()),
-                Err(fault) => {
-                    let _ = eprintln!(rt; "rejected: {fault}");
-                }
-            }
-            kept = tape.reset();
-        }
-        Ok(nodes)
-    }
-}
-
 mod entry_points {
     use simd_json::{
         Buffers, INPUT_PADDING, Result, Tape, fill_tape, fill_tape_padded, refill_tape, reserve,
@@ -197,12 +166,6 @@ fn views_are_used_as_shown(rt: HostRuntime) {
 #[test]
 fn a_value_is_read(rt: HostRuntime) {
     assert_same!(&rt; first_call::the_answer(&rt), Ok(Some(42)));
-}
-
-#[test]
-fn a_service_goes_on(rt: HostRuntime) {
-    let mut log = b"{\"a\":1}\n[1,]\n[true,\"\\u0041\"]".as_slice();
-    assert_same!(&rt; service::read_log(&rt, &mut log).ok(), Some(6));
 }
 
 #[test]

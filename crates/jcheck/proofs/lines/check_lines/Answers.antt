@@ -20,7 +20,7 @@ returns-in_err-count-clause-stopped g c =
       had.0,
       Consumes-kept _ _ _ had.0 had.1 c.in_err-count.ensures.bytes,
       subst (λ f. HasLeftOff p.0 c.read.new.self.failed c.loop-lines.out.failed (g.W.Write.contents c.args.out.now.inner)
-          (g.W.Write.contents c.loop-lines.out.inner) (lines_text f c.args.width c.args.checker.now.depth 1 0 (pieces had.0)))
+          (g.W.Write.contents c.loop-lines.out.inner) (lines_text f c.args.style c.args.checker.now.depth 1 0 (pieces had.0)))
           c.loop-lines.invariant.file
           (left-off had.2 p.0 c.read.new.self.failed c.loop-lines.out.failed (inl (unread, c.loop-lines.invariant.out))),
     )
@@ -38,10 +38,10 @@ returns-in_err-last-clause-stopped g c =
     let start = g.W.Write.contents c.args.out.now.inner in
     let held = g.W.Write.contents c.loop-lines.out.inner in
     let holds = g.W.Write.contents port.inner in
-    let width = c.args.width in
+    let style = c.args.style in
     let limit = c.args.checker.now.depth in
     let text_of : ℕ → List ℕ → List ℕ =
-    λ n b. lines_text lines.place.file.now width n lines.place.line lines.place.byte (pieces b) in
+    λ n b. lines_text lines.place.file.now style n lines.place.line lines.place.byte (pieces b) in
     let same = ap (text_of c.loop-lines.checker.depth) c.as_slice.ensures.value
     ∙ ap (λ n. text_of n lines.begun.items) c.loop-lines.invariant.depth in
     let stopped =
@@ -50,7 +50,7 @@ returns-in_err-last-clause-stopped g c =
     rw p.1 (
       had.0,
       none-read _ _ _ c.in_ok-count.count had.0 c.read.new.buf had.1 c.in_ok-count.ensures.bytes.0 c.if-count-eq0.true,
-      unread-sound (search rules) (subst (λ f. HasStopped p.0 port.failed start holds (lines_text f width limit 1 0 (pieces had.0)))
+      unread-sound (search rules) (subst (λ f. HasStopped p.0 port.failed start holds (lines_text f style limit 1 0 (pieces had.0)))
           c.loop-lines.invariant.file (stopped-last had.2 p.0 port.failed stopped)),
     )
 
@@ -62,10 +62,10 @@ returns-then-count-eq0-clause-checked g c =
     let start = g.W.Write.contents c.args.out.now.inner in
     let held = g.W.Write.contents c.loop-lines.out.inner in
     let holds = g.W.Write.contents port.inner in
-    let width = c.args.width in
+    let style = c.args.style in
     let limit = c.args.checker.now.depth in
     let text_of : ℕ → List ℕ → List ℕ =
-    λ n b. lines_text lines.place.file.now width n lines.place.line lines.place.byte (pieces b) in
+    λ n b. lines_text lines.place.file.now style n lines.place.line lines.place.byte (pieces b) in
     let same = ap (text_of c.loop-lines.checker.depth) c.as_slice.ensures.value
     ∙ ap (λ n. text_of n lines.begun.items) c.loop-lines.invariant.depth in
     let clean = ap (λ b. list_all (is_clean_line c.loop-lines.checker.depth) (pieces b)) c.as_slice.ensures.value
@@ -76,7 +76,7 @@ returns-then-count-eq0-clause-checked g c =
         given = none-read _ _ _ c.in_ok-count.count had.0 c.read.new.buf had.1 c.in_ok-count.ensures.bytes.0 c.if-count-eq0.true;
         end = search rules;
       },
-      subst (λ f. Appends start holds (lines_text f width limit 1 0 (pieces had.0))) c.loop-lines.invariant.file
+      subst (λ f. Appends start holds (lines_text f style limit 1 0 (pieces had.0))) c.loop-lines.invariant.file
           (all-written had.2 holds (subst (Appends held holds) same found.written.1)),
       all-clean had.2 (found.clean.0 ∙ clean),
     )
@@ -89,7 +89,7 @@ loop-lines-preserved g c =
     let had = c.loop-lines.invariant.read in
     let more = take c.in_ok-count.count c.read.new.buf in
     let taken = c.in_ok-take.ensures.taken in
-    let width = c.args.width in
+    let style = c.args.style in
     let start = g.W.Write.contents c.args.out.now.inner in
     record {
       file = taken.1.0 ∙ c.loop-lines.invariant.file;
@@ -99,9 +99,9 @@ loop-lines-preserved g c =
       read = (
         had.0 ++ more,
         Consumes-trans _ _ _ had.0 more had.1 c.in_ok-count.ensures.bytes.0,
-        subst (λ n. AreDone width n c.take.new.self (had.0 ++ more) start (g.W.Write.contents c.take.new.out.inner))
+        subst (λ n. AreDone style n c.take.new.self (had.0 ++ more) start (g.W.Write.contents c.take.new.out.inner))
             c.loop-lines.invariant.depth
-            (taken.1.1 had.0 start (subst (λ n. AreDone width n c.loop-lines.lines had.0 start (g.W.Write.contents c.loop-lines.out.inner))
+            (taken.1.1 had.0 start (subst (λ n. AreDone style n c.loop-lines.lines had.0 start (g.W.Write.contents c.loop-lines.out.inner))
             (sym c.loop-lines.invariant.depth) had.2)),
       );
     }
@@ -113,15 +113,15 @@ returns-in_err-take-clause-stopped g c =
     let more = take c.in_ok-count.count c.read.new.buf in
     let lines = c.loop-lines.lines in
     let port = c.take.new.out in
-    let width = c.args.width in
+    let style = c.args.style in
     let limit = c.args.checker.now.depth in
     let start = g.W.Write.contents c.args.out.now.inner in
     let held = g.W.Write.contents c.loop-lines.out.inner in
     let holds = g.W.Write.contents port.inner in
-    let before = subst (λ n. AreDone width n lines had.0 start held) (sym c.loop-lines.invariant.depth) had.2 in
-    let text = lines_text c.args.file.now width limit 1 0 (pieces (had.0 ++ more)) in
-    let same = ap (λ f. lines_text f width c.loop-lines.checker.depth 1 0 (pieces (had.0 ++ more))) c.loop-lines.invariant.file
-    ∙ ap (λ n. lines_text c.args.file.now width n 1 0 (pieces (had.0 ++ more))) c.loop-lines.invariant.depth in
+    let before = subst (λ n. AreDone style n lines had.0 start held) (sym c.loop-lines.invariant.depth) had.2 in
+    let text = lines_text c.args.file.now style limit 1 0 (pieces (had.0 ++ more)) in
+    let same = ap (λ f. lines_text f style c.loop-lines.checker.depth 1 0 (pieces (had.0 ++ more))) c.loop-lines.invariant.file
+    ∙ ap (λ n. lines_text c.args.file.now style n 1 0 (pieces (had.0 ++ more))) c.loop-lines.invariant.depth in
     let stopped : HasStopped p.0 port.failed start holds text =
     subst (λ e. HasStopped e port.failed start holds text) (sym p.2)
     (subst (HasStopped _ port.failed start holds) same (c.in_err-take.ensures.stopped had.0 start before)) in
@@ -133,7 +133,7 @@ returns-clause-stopped g c =
       had.0,
       had.1,
       subst (λ f. HasLeftOff c.from.result c.loop-lines.reader.failed c.loop-lines.out.failed (g.W.Write.contents c.args.out.now.inner)
-          (g.W.Write.contents c.loop-lines.out.inner) (lines_text f c.args.width c.args.checker.now.depth 1 0 (pieces had.0)))
+          (g.W.Write.contents c.loop-lines.out.inner) (lines_text f c.args.style c.args.checker.now.depth 1 0 (pieces had.0)))
           c.loop-lines.invariant.file
           (left-off had.2 c.from.result c.loop-lines.reader.failed c.loop-lines.out.failed
           (inr (c.loop-lines.invariant.reader, inr (c.loop-lines.invariant.out, c.from.ensures)))),

@@ -10,7 +10,7 @@ invariant-loop-lines g l = record {
   reader : l.reader.failed ≡ false;
   out : l.out.failed ≡ false;
   read : (input : List ℕ) × Consumes (g.R.Read.remaining l.fn.reader.inner) (g.R.Read.remaining l.reader.inner) input
-      × AreDone l.width l.fn.checker.depth l.lines input (g.W.Write.contents l.fn.out.inner) (g.W.Write.contents l.out.inner);
+      × AreDone l.style l.fn.checker.depth l.lines input (g.W.Write.contents l.fn.out.inner) (g.W.Write.contents l.out.inner);
 }
 
 abbrev pub decreases-loop-lines : goal.decreases-loop-lines

@@ -11,7 +11,7 @@ pub returns-in_err-finish-clause-stopped : goal.returns-in_err-finish-clause-sto
 returns-in_err-finish-clause-stopped g c =
     let p = err_from_is_err_and c.from_residual.result c.from_residual.ensures.1 in
     let whole =
-    lines_text c.args.start.file.now c.args.width c.args.checker.now.depth c.args.start.line c.args.start.byte (pieces c.args.input.now) in
+    lines_text c.args.start.file.now c.args.style c.args.checker.now.depth c.args.start.line c.args.start.byte (pieces c.args.input.now) in
     let put = c.put_lines-put.ensures in
     let stopped =
     failed-written c.finish.result {old = c.args.out.now.failed} _ _ c.put_lines-put.result whole p.0 (search rules)
@@ -22,7 +22,7 @@ pub returns-in_err-put-clause-stopped : goal.returns-in_err-put-clause-stopped
 returns-in_err-put-clause-stopped g c =
     let p = err_from_is_err_and c.from_residual-in_err-put.result c.from_residual-in_err-put.ensures.1 in
     let whole =
-    lines_text c.args.start.file.now c.args.width c.args.checker.now.depth c.args.start.line c.args.start.byte (pieces c.args.input.now) in
+    lines_text c.args.start.file.now c.args.style c.args.checker.now.depth c.args.start.line c.args.start.byte (pieces c.args.input.now) in
     let stopped =
     part-written c.finish.result {old = c.args.out.now.failed} _ _ whole p.0 p.2 (search rules) c.requires.sound
     c.new-text.ensures.empty c.in_err-put.ensures.stopped c.finish.ensures in
@@ -32,7 +32,7 @@ pub returns-clause-clean : goal.returns-clause-clean
 returns-clause-clean g c =
     let start = port (g.W.Write.contents c.args.out.now.inner) c.args.out.now.failed in
     let whole =
-    lines_text c.args.start.file.now c.args.width c.args.checker.now.depth c.args.start.line c.args.start.byte (pieces c.args.input.now) in
+    lines_text c.args.start.file.now c.args.style c.args.checker.now.depth c.args.start.line c.args.start.byte (pieces c.args.input.now) in
     let put = c.in_ok-put.ensures in
     put.clean (sound-text _ c.finish.result start _ _ whole _ refl (search rules) (ap Some c.requires.sound)
     (put.put.given start _ c.new-text.ensures.empty) c.finish.ensures)
@@ -40,7 +40,7 @@ returns-clause-clean g c =
 pub returns-clause-written : goal.returns-clause-written
 returns-clause-written g c =
     let whole =
-    lines_text c.args.start.file.now c.args.width c.args.checker.now.depth c.args.start.line c.args.start.byte (pieces c.args.input.now) in
+    lines_text c.args.start.file.now c.args.style c.args.checker.now.depth c.args.start.line c.args.start.byte (pieces c.args.input.now) in
     let written =
     all-written c.finish.result {old = c.args.out.now.failed} _ _ whole (search rules) c.requires.sound c.new-text.ensures.empty
     c.in_ok-put.ensures.put c.finish.ensures in

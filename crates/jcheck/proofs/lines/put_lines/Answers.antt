@@ -23,10 +23,10 @@ returns-then-has_failed-clause-put g c =
     let after = split.result.1.now in
     let rest = c.loop-end.rest.now in
     let whole =
-    lines_text c.args.start.file.now c.args.width c.args.checker.now.depth c.args.start.line c.args.start.byte (pieces c.args.input.now) in
+    lines_text c.args.start.file.now c.args.style c.args.checker.now.depth c.args.start.line c.args.start.byte (pieces c.args.input.now) in
     let cut = found-cut rest line after (drop 1 after) c.in-Some.end c.in-Some.ensures split.ensures.front split.ensures.back refl in
     let done =
-    line-done c.args.start.file.now c.loop-end.place.file.now c.args.width c.args.checker.now.depth c.loop-end.checker.depth
+    line-done c.args.start.file.now c.loop-end.place.file.now c.args.style c.args.checker.now.depth c.loop-end.checker.depth
     c.loop-end.place.line c.loop-end.place.byte (c.loop-end.place.line + 1) (c.loop-end.place.byte + length line + 1) line
     (pieces (drop 1 after)) (pieces rest) {whole = whole}
     c.loop-end.invariant.file c.loop-end.invariant.depth cut refl refl c.loop-end.invariant.done
@@ -44,7 +44,7 @@ loop-end-preserved g c =
     found-cut rest line split.result.1.now more c.in-Some.end c.in-Some.ensures split.ensures.front split.ensures.back
     c.split_at-in-Some.ensures.back in
     let put = c.in_ok-clean.ensures in
-    let whole = lines_text c.args.start.file.now c.args.width limit c.args.start.line c.args.start.byte (pieces c.args.input.now) in
+    let whole = lines_text c.args.start.file.now c.args.style limit c.args.start.line c.args.start.byte (pieces c.args.input.now) in
     let clean = list_all (is_clean_line limit) (pieces c.args.input.now) in
     record {
       depth = put.depth ∙ c.loop-end.invariant.depth;
@@ -53,7 +53,7 @@ loop-end-preserved g c =
       line = omega (arith, c.loop-end.invariant.line, split.ensures.back_len, c.split_at-in-Some.ensures.back_len);
       byte = omega (arith, c.loop-end.invariant.byte, split.ensures.back_len, c.split_at-in-Some.ensures.back_len);
       done =
-          line-done c.args.start.file.now c.loop-end.place.file.now c.args.width limit c.loop-end.checker.depth
+          line-done c.args.start.file.now c.loop-end.place.file.now c.args.style limit c.loop-end.checker.depth
           c.loop-end.place.line c.loop-end.place.byte _ _ line (pieces more) (pieces rest) {whole = whole} c.loop-end.invariant.file
           c.loop-end.invariant.depth cut refl (omega (arith, split.ensures.front_len)) c.loop-end.invariant.done put.put;
       clean =
@@ -77,9 +77,9 @@ pub returns-clause-put : goal.returns-clause-put
 returns-clause-put g c =
     let rest = c.loop-end.rest.now in
     let whole =
-    lines_text c.args.start.file.now c.args.width c.args.checker.now.depth c.args.start.line c.args.start.byte (pieces c.args.input.now) in
+    lines_text c.args.start.file.now c.args.style c.args.checker.now.depth c.args.start.line c.args.start.byte (pieces c.args.input.now) in
     all-put {whole = whole}
-    (line-done c.args.start.file.now c.loop-end.place.file.now c.args.width c.args.checker.now.depth c.loop-end.checker.depth
+    (line-done c.args.start.file.now c.loop-end.place.file.now c.args.style c.args.checker.now.depth c.loop-end.checker.depth
     c.loop-end.place.line c.loop-end.place.byte (c.loop-end.place.line + 1) (c.loop-end.place.byte + length rest + 1) rest [] (pieces rest)
     {whole = whole} c.loop-end.invariant.file c.loop-end.invariant.depth
     (not_found-last rest c.in_default.ensures) refl refl c.loop-end.invariant.done

@@ -14,8 +14,8 @@ invariant-loop-end g l = record {
   byte : l.place.byte + length l.rest ≡ l.start.byte + length l.input;
   count : l.place.line + length (pieces l.rest) ≡ l.start.line + length (pieces l.input);
   done : IsDone g.T.Target.state l.fn.text l.text
-      (lines_text l.start.file.now l.width l.fn.checker.depth l.place.line l.place.byte (pieces l.rest))
-      (lines_text l.start.file.now l.width l.fn.checker.depth l.start.line l.start.byte (pieces l.input));
+      (lines_text l.start.file.now l.style l.fn.checker.depth l.place.line l.place.byte (pieces l.rest))
+      (lines_text l.start.file.now l.style l.fn.checker.depth l.start.line l.start.byte (pieces l.input));
   clean : (l.clean && list_all (is_clean_line l.fn.checker.depth) (pieces l.rest))
       ≡ list_all (is_clean_line l.fn.checker.depth) (pieces l.input);
 }

@@ -1,4 +1,4 @@
-use Rattle.std.proofs.Common.{◌∙◌, ◌++◌, [], ap, refl, rules, subst, sym, take, Ok}
+use Rattle.std.proofs.Common.{◌∙◌, ◌++◌, [], ap, inl, inr, refl, rules, subst, sym, take, Ok}
 use Rattle.std.proofs.KnownBytes.{Appends-nil, Appends-trans, Consumes-nil, Consumes-trans}
 use Rattle.std.specs.Io.KnownBytes.{Appends, IsAtEnd}
 use Rattle.std.specs.Prelude.{IfOk, is_err}
@@ -113,14 +113,14 @@ returns-in_err-write-2 g c =
     let failed = c.in_err-write-2.ensures c.loop.invariant.out in
     let start = g.W.Write.contents c.args.out.now.inner in
     let end = g.W.Write.contents c.write-in-loop.new.out.inner in
-    writing-stopped _ _ _ _ _ _ _ _ _ _ _ c.from_residual-in_err-write-2.result _ c.from_residual-in_err-write-2.ensures.1 failed.0
-    (search rules) taken.0 (record {
+    writing-stopped _ _ _ _ _ _ _ _ _ _ _ c.from_residual-in_err-write-2.result _ _ c.from_residual-in_err-write-2.ensures.1 failed.0
+    failed.1 (search rules) taken.0 (record {
       input = input ++ more;
       read = Consumes-trans _ _ _ input more had.1 bytes.0;
       rows = rows-report start end w file (input ++ more)
-          (subst (Begins start end) at.shown.rows (begins-then _ _ _ _ _ had.3 failed.1));
+          (subst (Begins start end) at.shown.rows (begins-then _ _ _ _ _ had.3 failed.2));
       rejections = begins-report _ _ w file (input ++ more) (begins-all _ _ _ at.shown.rejections);
-    })
+    }) (inl at.shown.all_taken)
 
 pub returns-in_err-take_line : goal.returns-in_err-take_line
 returns-in_err-take_line g c =
@@ -153,14 +153,15 @@ returns-in_err-write g c =
     (g.E.Write.contents c.take_line.new.err.inner) w file)
     (report-last w file had.0 _ (c.as_mut_slice.ensures.value ∙ had.2.line)) (taken.1 _ _ w file _ had.2.shown) in
     let failed = c.in_err-write.ensures c.loop.invariant.out in
-    writing-stopped _ _ _ _ _ _ _ _ _ _ _ c.from_residual-in_err-write.result _ c.from_residual-in_err-write.ensures.1 failed.0
-    (search rules) taken.0 (record {
+    let end : IsAtEnd (g.R.Read.remaining c.read.new.self.inner) = search rules in
+    writing-stopped _ _ _ _ _ _ _ _ _ _ _ c.from_residual-in_err-write.result _ _ c.from_residual-in_err-write.ensures.1 failed.0
+    failed.1 (search rules) taken.0 (record {
       input = had.0;
       read = given-none _ _ _ c.in_ok-read.read had.0 c.read.new.buf had.1 bytes.0 c.if-read-eq0.true;
       rows = subst (Begins (g.W.Write.contents c.args.out.now.inner) (g.W.Write.contents c.write.new.out.inner)) all.rows
-          (begins-then _ _ _ _ _ had.3 failed.1);
+          (begins-then _ _ _ _ _ had.3 failed.2);
       rejections = begins-all _ _ _ all.rejections;
-    })
+    }) (inr (end, all.all_taken))
 
 pub returns-in_err-read : goal.returns-in_err-read
 returns-in_err-read g c =

@@ -8,13 +8,13 @@ loop-key-init c = IsLeftOf-all c.args.token.now (members_left c.args.object)
 pub returns-then-is_named : goal.returns-then-is_named
 returns-then-is_named c =
     named-here c.args.token.now (members_left c.args.object) (members_left c.loop-key.left) c.loop-key.invariant
-    c.in-Some.key c.in-Some.value (members_left c.next.new.self) c.in-Some.ensures.steps c.is_named.result c.is_named.ensures
+    c.in-Some.key c.in-Some.value (members_left c.next.new.self) c.in-Some.ensures.steps c.is_named.result c.is_named.ensures.document
     c.if-is_named.true
 
 pub loop-key-preserved : goal.loop-key-preserved
 loop-key-preserved c =
     named-later c.args.token.now (members_left c.args.object) (members_left c.loop-key.left) c.loop-key.invariant
-    c.in-Some.key c.in-Some.value (members_left c.next.new.self) c.in-Some.ensures.steps c.is_named.result c.is_named.ensures
+    c.in-Some.key c.in-Some.value (members_left c.next.new.self) c.in-Some.ensures.steps c.is_named.result c.is_named.ensures.document
     c.if-is_named.false
 
 pub returns : goal.returns

@@ -16,9 +16,9 @@ returns-clause-taken g c =
     let is = c.as_slice.ensures.value in (
       found.written.0,
       c.clear.ensures.items,
-      ends-lines g.W.Write.contents c.args.width limit old _ c.args.out.now c.check_pieces.new.out {is = c.in_ok-checked.checked.clean}
+      ends-lines g.W.Write.contents c.args.style limit old _ c.args.out.now c.check_pieces.new.out {is = c.in_ok-checked.checked.clean}
           refl (found.clean.1 ∙ ap (λ b. old.place.line + length (pieces b)) is) (omega (arith, c.len.ensures)) refl c.clear.ensures.items
           (found.clean.0 ∙ ap (λ b. list_all (is_clean_line limit) (pieces b)) is)
-          (subst (λ b. Appends start end (lines_text old.place.file.now c.args.width limit old.place.line old.place.byte (pieces b))) is
+          (subst (λ b. Appends start end (lines_text old.place.file.now c.args.style limit old.place.line old.place.byte (pieces b))) is
           found.written.1),
     )

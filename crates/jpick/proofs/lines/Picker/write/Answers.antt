@@ -1,20 +1,22 @@
-use Rattle.std.proofs.Common.{◌≡◌, [], ap, refl, rules, subst, sym, false}
+use Rattle.std.proofs.Common.{◌≡◌, [], refl, rules, subst, false, true}
 use Rattle.std.specs.Io.KnownBytes.{Appends}
 use Rattle.std.specs.Prelude.{Some}
 use Rattle.simd_json_print.specs.Texts.{TargetState}
 use Rattle.simd_json_print.proofs.Texts.{ended-failed, ended-sound}
-use Rattle.jpick.specs.Runs.{Begins, Writes, fault_of}
-use Rattle.jpick.specs.declared.runs.Failure.TheVariants.{Write}
+use Rattle.jpick.specs.Runs.{Begins, IsRowsFault, Writes}
 use Rattle.jpick.proofs.lines.Picker.write.Goals as goal
 
-pub returns-then-is_err : goal.returns-then-is_err
-returns-then-is_err g c = λ sound.
+pub returns-in-Err : goal.returns-in-Err
+returns-in-Err g c = λ sound.
     let start : TargetState = record { held = g.W.Write.contents c.args.out.now.inner; failed = Some c.args.out.now.failed } in
     let ends = c.finish.ensures start _ (c.put.ensures.given start [] c.new-text.ensures.empty) in
     let failed = ended-failed c.finish.result _ _ _ _ _ ends (search rules) in
-    let fact : (Write ≡ fault_of c.finish.new.self.0.failed) × Begins start.held (g.W.Write.contents c.finish.new.self.0.inner)
-    c.args.self.now.rows.items =
-    (ap fault_of (sym failed.0), subst (Begins start.held (g.W.Write.contents c.finish.new.self.0.inner)) c.as_slice.ensures.value failed.1) in
+    let fact : (c.finish.new.self.0.failed ≡ true) × IsRowsFault c.args.self.now.all_taken c.rows_failure.result
+    × Begins start.held (g.W.Write.contents c.finish.new.self.0.inner) c.args.self.now.rows.items = (
+      failed.0,
+      c.rows_failure.ensures,
+      subst (Begins start.held (g.W.Write.contents c.finish.new.self.0.inner)) c.as_slice.ensures.value failed.1,
+    ) in
     search rules
 
 pub returns : goal.returns

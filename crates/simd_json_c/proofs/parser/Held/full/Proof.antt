@@ -11,7 +11,7 @@ use types.ByLocal.{alloc_all, pass_all, free_all, look_at, get, get_in, sets}
 use types.Part.{agg, sub, whole}
 use contract.Monad.{fact, fact_i}
 use contract.Running.{tables}
-use denote.Exit.{yes}
+use denote.Exit.{no}
 use denote.RattleType.{RattleType, owns}
 use denote.Signature.{types_at, plain}
 use denote.RawPtr.{block_ptr}
@@ -31,8 +31,8 @@ pub full_spec : {M : Type 1} → statement M
 full_spec 𝓤 𝓛 𝓜 𝓡 wired =
     let H = 𝓛.H in let 𝓣 = tables 𝓤 H 𝓜 𝓡 𝓡.env in let R : RattleType = lists.the_row in let fn = code.function in
     let c = f.clauses 𝓛 𝓜.mem 𝓡.returns in let En = f.ended in
-    let hs : Stays En.signature.params En.kept = (stay_dropped (plain (λ _. Loose R Z LZ ghosts)) yes, tt) in
-    proved_at 𝓛 En hs c 𝓜 𝓡 (Goes-blank 𝓛 0 (plain (λ _. Loose R Z LZ ghosts)) yes (λ κs x f. tt), tt) f.Key.name fn
+    let hs : Stays En.signature.params En.kept = (stay_dropped (plain (λ _. Loose R Z LZ ghosts)) no, tt) in
+    proved_at 𝓛 En hs c 𝓜 𝓡 (Goes-blank 𝓛 0 (plain (λ _. Loose R Z LZ ghosts)) no (λ κs x f. tt), tt) f.Key.name fn
     (code.unfolded 𝓤 H 𝓜 𝓡 wired)
     (λ z are.
     let v = z.0.3.0 in let Post : Val → SProp 𝓤 = (walk_of 𝓛 En hs c).post z in

@@ -1,37 +1,50 @@
-use Rattle.std.proofs.Common.{◌≡◌, refl, sym, ◌∙◌, ap, suc, ◌-◌, arith}
+use Rattle.std.proofs.Common.{refl, sym, ◌∙◌, arith}
 use Rattle.simd_json_ondemand.specs.Docs.{doc}
+use Rattle.simd_json_ondemand.specs.Sites.{element_sites, site}
 use Rattle.simd_json_ondemand.specs.Walked.{elements_ahead}
-use Rattle.simd_json_ondemand.specs.Walks.{first, walk_past}
 use Rattle.simd_json_ondemand.proofs.Turns.{when-some, when-none}
-use Rattle.simd_json_ondemand.proofs.Walks.{past-none, past-came, past-ended, past-stopped}
+use Rattle.simd_json_ondemand.proofs.Walks.{past-here, past-later, past-end, past-stop}
 use Rattle.simd_json_ondemand.proofs.array.Array.behind.Goals as goal
 
 pub loop-value-init : goal.loop-value-init
-loop-value-init c = refl
+loop-value-init c = (refl, refl)
 
-pub returns-then-left-eq0 : goal.returns-then-left-eq0
-returns-then-left-eq0 c =
-    sym (c.loop-value.invariant
-    ∙ ap (λ n. first (walk_past n (elements_ahead c.loop-value.elements))) c.if-left-eq0.true
-    ∙ ap first (past-none (elements_ahead c.loop-value.elements) ∙ (when-some _ _ c.in-Ok-Some.field-0-is c.in-Ok-Some.ensures)))
+pub returns-then-left-eq0-clause-documents : goal.returns-then-left-eq0-clause-documents
+returns-then-left-eq0-clause-documents c =
+    sym (c.loop-value.invariant.0 ∙ past-here c.loop-value.left (elements_ahead c.loop-value.elements) (doc c.in-Ok-Some.value) _
+    c.if-left-eq0.true (when-some _ _ c.in-Ok-Some.field-0-is c.in-Ok-Some.ensures.steps))
+
+pub returns-then-left-eq0-clause-sites : goal.returns-then-left-eq0-clause-sites
+returns-then-left-eq0-clause-sites c =
+    sym (c.loop-value.invariant.1 ∙ past-here c.loop-value.left (element_sites c.loop-value.elements) (site c.in-Ok-Some.value) _
+    c.if-left-eq0.true (when-some _ _ c.in-Ok-Some.field-0-is c.in-Ok-Some.ensures.sites))
 
 pub loop-value-smaller : goal.loop-value-smaller
 loop-value-smaller c = omega (arith, c.if-left-eq0.false)
 
 pub loop-value-preserved : goal.loop-value-preserved
 loop-value-preserved c =
-    let more : c.loop-value.left ≡ suc (c.loop-value.left - 1) = omega (arith, c.if-left-eq0.false) in
-    c.loop-value.invariant
-    ∙ ap (λ n. first (walk_past n (elements_ahead c.loop-value.elements))) more
-    ∙ ap (λ w. first (walk_past (suc (c.loop-value.left - 1)) w)) (when-some _ _ c.in-Ok-Some.field-0-is c.in-Ok-Some.ensures)
-    ∙ ap first (past-came (c.loop-value.left - 1) (doc c.in-Ok-Some.value) (elements_ahead c.try_next.new.self))
+    let l = c.loop-value in (
+      l.invariant.0 ∙ past-later l.left (elements_ahead l.elements) (doc c.in-Ok-Some.value) (elements_ahead c.try_next.new.self)
+          c.if-left-eq0.false (when-some _ _ c.in-Ok-Some.field-0-is c.in-Ok-Some.ensures.steps),
+      l.invariant.1 ∙ past-later l.left (element_sites l.elements) (site c.in-Ok-Some.value) (element_sites c.try_next.new.self)
+          c.if-left-eq0.false (when-some _ _ c.in-Ok-Some.field-0-is c.in-Ok-Some.ensures.sites),
+    )
 
-pub returns-in-Ok-None : goal.returns-in-Ok-None
-returns-in-Ok-None c =
-    let none = when-none _ _ c.in-Ok-None.field-0-is c.in-Ok-None.ensures in
-    sym (c.loop-value.invariant ∙ ap (λ w. first (walk_past c.loop-value.left w)) none.0 ∙ ap first (past-ended c.loop-value.left))
+pub returns-in-Ok-None-clause-documents : goal.returns-in-Ok-None-clause-documents
+returns-in-Ok-None-clause-documents c =
+    let none = when-none _ _ c.in-Ok-None.field-0-is c.in-Ok-None.ensures.steps in
+    sym (c.loop-value.invariant.0 ∙ past-end c.loop-value.left (elements_ahead c.loop-value.elements) none.0)
 
-pub returns-in-Err : goal.returns-in-Err
-returns-in-Err c =
-    sym (c.loop-value.invariant ∙ ap (λ w. first (walk_past c.loop-value.left w)) c.in-Err.ensures.0
-    ∙ ap first (past-stopped c.loop-value.left c.in-Err.e))
+pub returns-in-Ok-None-clause-sites : goal.returns-in-Ok-None-clause-sites
+returns-in-Ok-None-clause-sites c =
+    sym (c.loop-value.invariant.1 ∙ past-end c.loop-value.left (element_sites c.loop-value.elements)
+    (when-none _ _ c.in-Ok-None.field-0-is c.in-Ok-None.ensures.sites))
+
+pub returns-in-Err-clause-documents : goal.returns-in-Err-clause-documents
+returns-in-Err-clause-documents c =
+    sym (c.loop-value.invariant.0 ∙ past-stop c.loop-value.left (elements_ahead c.loop-value.elements) c.in-Err.e c.in-Err.ensures.steps.0)
+
+pub returns-in-Err-clause-sites : goal.returns-in-Err-clause-sites
+returns-in-Err-clause-sites c =
+    sym (c.loop-value.invariant.1 ∙ past-stop c.loop-value.left (element_sites c.loop-value.elements) c.in-Err.e c.in-Err.ensures.sites)

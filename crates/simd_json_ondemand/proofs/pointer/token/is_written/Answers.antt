@@ -1,7 +1,7 @@
 use Rattle.std.proofs.Common.{sym, ◌∙◌, ℕ, List, arith}
 use Rattle.std.proofs.lemmas.List.{get_or_default, take_rest}
 use Rattle.simd_json_ondemand.proofs.Keys.{other-run, stop-closed, at-quote, escape-fits, other-escape, after-escape}
-use Rattle.simd_json_ondemand.proofs.Pointers.{both-empty, key-other, key-split, named-is, token-from-quote}
+use Rattle.simd_json_ondemand.proofs.Pointers.{both-empty, key-other, key-split, written-is, token-from-quote}
 use Rattle.simd_json_ondemand.proofs.pointer.token.is_written.Goals as goal
 
 pub loop-rest-init : goal.loop-rest-init
@@ -12,7 +12,7 @@ returns-in_default c =
     let bs : List ℕ = c.args.bytes.now in
     let l = c.loop-rest in
     let i = l.invariant in
-    named-is c.args.token.now i.key _ _ i.is
+    written-is c.args.token.now i.key _ _ i.is
     (other-run bs i.key l.from i.rest i.compared c.plain_end-end.result c.plain_end-end.ensures.value
     (key-other l.left.now i.rest _ i.left_is c.in_default.ensures))
 
@@ -32,7 +32,7 @@ returns-then-bytes-end-eq34 c =
     let i = l.invariant in
     let inside = stop-closed bs i.key l.from i.rest i.compared end c.plain_end-end.ensures.value in
     let k = key-split l.left.now i.rest _ c.in-Some.rest.now i.left_is c.in-Some.ensures in
-    named-is c.args.token.now i.key _ _ i.is
+    written-is c.args.token.now i.key _ _ i.is
     (c.is_empty.ensures ∙ both-empty c.in-Some.rest.now k.0 k.1
     ∙ sym (at-quote bs i.key l.from i.rest i.compared end c.plain_end-end.ensures.value k.0 k.2
     (get_or_default bs end 32 0 (omega (arith, inside)) ∙ c.if-bytes-end-eq34.true)))
@@ -57,7 +57,7 @@ returns-in_default-after_escape c =
     let inside = stop-closed bs i.key l.from i.rest i.compared end c.plain_end-end.ensures.value in
     let k = key-split l.left.now i.rest _ c.in-Some.rest.now i.left_is c.in-Some.ensures in
     let never = rw take_rest at c.in_default-after_escape.ensures in
-    named-is c.args.token.now i.key _ _ i.is
+    written-is c.args.token.now i.key _ _ i.is
     (other-escape bs i.key l.from i.rest i.compared end c.plain_end-end.ensures.value k.0 k.2
     (λ q. c.if-bytes-end-eq34.false (sym (get_or_default bs end 32 0 (omega (arith, inside))) ∙ q))
     (λ p more e. key-other c.in-Some.rest.now k.0 p.0 k.1 (λ m. never p m e) more))

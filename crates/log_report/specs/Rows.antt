@@ -1,0 +1,65 @@
+-- The row of a line: a column for each selector.
+use Rattle.std.specs.Prelude.{◌≡◌, ℕ, List, [], ◌∷◌, ◌++◌, codes, flat_map, length, take, nat_lt, ◌==◌, if◌then◌else◌}
+use Rattle.std.specs.Prelude.{Option, None, Some, is_some, unwrap_or}
+use Rattle.std.specs.Borrow.{Bor}
+use Rattle.std.specs.Result.{result_ok}
+use Rattle.simd_json_parts.specs.Bytes.{backslash, carriage_return, line_feed, slash, tab}
+use Rattle.simd_json_parts.specs.Document.{Document, string}
+use Rattle.simd_json_parts.specs.Pointed.{pointed}
+use Rattle.simd_json_parts.specs.Printed.{compact}
+use Rattle.simd_json_parts.specs.Views.{as_null, get}
+use Rattle.log_report.specs.Table.{no_value, others}
+use Rattle.log_report.specs.declared.rows.Wanted.{Wanted}
+
+-- the value that a selector names: by a JSON Pointer, if it begins with `/`, or else the first with this key
+abbrev pub selected : List ℕ → Document → Option Document
+selected [] d = get [] d
+selected (c ∷ s) d = if c == slash then result_ok (pointed (c ∷ s) d) else get (c ∷ s) d
+
+-- what stands for a byte in tab separated text, if not the byte itself
+abbrev pub tsv_escape : ℕ → Option (List ℕ)
+tsv_escape x =
+    if x == tab then Some (codes "\\t")
+    else if x == line_feed then Some (codes "\\n")
+    else if x == carriage_return then Some (codes "\\r")
+    else if x == backslash then Some (codes "\\\\")
+    else None
+
+abbrev pub tsv_byte : ℕ → List ℕ
+tsv_byte x = unwrap_or (tsv_escape x) (x ∷ [])
+
+-- a string as its text, every other value as compact JSON
+abbrev pub raw_text : Document → List ℕ
+raw_text (string t) = t
+raw_text d = compact d
+
+-- in tab separated text; null is empty
+abbrev pub tsv_text : Document → List ℕ
+tsv_text d = if is_some (as_null d) then [] else flat_map tsv_byte (raw_text d)
+
+abbrev pub cell : Wanted → Option Document → List ℕ
+cell w None = no_value w.is_tsv
+cell w (Some d) = if w.is_tsv then tsv_text d else compact d
+
+-- after a tab
+abbrev pub other_cell : Wanted → Document → Bor (List ℕ) → List ℕ
+other_cell w d selector = tab ∷ cell w (selected selector.now d)
+
+abbrev pub cells : Wanted → Document → List (Bor (List ℕ)) → List ℕ
+cells w d [] = []
+cells w d (first ∷ others) = cell w (selected first.now d) ++ flat_map (other_cell w d) others
+
+abbrev pub row_text : Wanted → Document → List ℕ
+row_text w d = cells w d w.selectors.now
+
+-- how much of it is kept: one byte more than a row has that counts by itself
+abbrev pub most_bytes : ℕ
+most_bytes = 1025
+
+-- it has become that with this text
+abbrev pub Extends : List ℕ → List ℕ → List ℕ → Type 0
+Extends old new text = take most_bytes new ≡ take most_bytes (old ++ text)
+
+-- what a line with this document counts under
+abbrev pub row_label : Wanted → Document → List ℕ
+row_label w d = if nat_lt 1024 (length (row_text w d)) then others w.is_tsv else row_text w d

@@ -1,0 +1,177 @@
+//! The row of a line: a column for each value that lines count by.
+ghost use Rattle.std.specs.Prelude.{◌≡◌, OnOk, flat_map, option_map};
+ghost use Rattle.simd_json.specs.Viewed.{doc};
+ghost use Rattle.simd_json_parts.specs.Printed.{compact};
+ghost use Rattle.log_report.specs.Rows.{Extends, cell, other_cell, row_text, selected, tsv_byte};
+ghost use Rattle.log_report.specs.Rows.{tsv_escape, tsv_text};
+ghost use Rattle.log_report.specs.Table.{no_value, others, rejected, separator};
+
+use arrayvec::ArrayVec;
+use simd_json::tape::Value;
+use std::alloc::AllocError;
+use std::io::Write;
+
+/// A row of up to 1,024 bytes; one that is full is longer, and cut.
+pub type Row = ArrayVec<u8, 1025>;
+
+/// What lines count by, and how the report is written.
+#[derive(Clone, Copy)]
+pub struct Wanted<'a> {
+    /// The key, or the JSON Pointer, of each column's value.
+    pub selectors: &'a [&'a str],
+    /// Whether rows are tab separated text, and not compact JSON between tabs.
+    pub is_tsv: bool,
+    /// How many bytes a line may have.
+    pub longest: usize,
+}
+
+// In tab separated text a mark has a backslash in front, since no value begins with `\-`, `\*` or
+// `\!` there: each of its own backslashes is doubled.
+impl Wanted<'_> {
+    /// What stands for a value that there is not.
+    pub fn no_value(&self) -> &'static [u8]
+        ensures { result.now ≡ no_value self.now.is_tsv }
+    {
+        if self.is_tsv { b"\\-" } else { b"-" }
+    }
+
+    /// The row of the lines that have no count of their own.
+    pub fn others(&self) -> &'static [u8]
+        ensures { result.now ≡ others self.now.is_tsv }
+    {
+        if self.is_tsv { b"\\*" } else { b"*" }
+    }
+
+    /// The row of rejected lines.
+    pub fn rejected(&self) -> &'static [u8]
+        ensures { result.now ≡ rejected self.now.is_tsv }
+    {
+        if self.is_tsv { b"\\!" } else { b"!" }
+    }
+
+    /// What is between a count and its row.
+    pub fn separator(&self) -> &'static [u8]
+        ensures { result.now ≡ separator self.now.is_tsv }
+    {
+        if self.is_tsv { b"\t" } else { b" " }
+    }
+}
+
+/// Appends the row of a value to an empty row, as far as there is room.
+///
+/// Returns an error if the value's text can't be written, which does not happen.
+pub fn append_row(
+    row: &mut Row,
+    wanted: &Wanted<'_>,
+    value: Value<'_, '_>,
+) -> Result<(), AllocError>
+    ensures { OnOk result (Extends row.old.items row.new.items
+        (row_text wanted.now (doc value.entry))) }
+{
+    let Some((first, rest)) = wanted.selectors.split_first() else {
+        return Ok(());
+    };
+    append_cell(row, wanted, select(value, *first))?;
+    append_others(row, wanted, value, rest)
+}
+
+// Appends the values at more selectors, each after a tab.
+fn append_others(
+    row: &mut Row,
+    wanted: &Wanted<'_>,
+    value: Value<'_, '_>,
+    selectors: &[&str],
+) -> Result<(), AllocError>
+    ensures { OnOk result (Extends row.old.items row.new.items
+        (flat_map (other_cell wanted.now (doc value.entry)) selectors.now)) }
+{
+    for selector in selectors {
+        append(row, b"\t");
+        append_cell(row, wanted, select(value, *selector))?;
+    }
+    Ok(())
+}
+
+// The value that a JSON Pointer names, or else the first with this key.
+fn select<'t, 'i>(value: Value<'t, 'i>, selector: &str) -> Option<Value<'t, 'i>>
+    ensures { option_map doc result ≡ selected selector.now (doc value.entry) }
+{
+    match selector.as_bytes() {
+        [b'/', ..] => value.pointer(selector),
+        _ => value.get(selector),
+    }
+}
+
+fn append_cell(
+    row: &mut Row,
+    wanted: &Wanted<'_>,
+    value: Option<Value<'_, '_>>,
+) -> Result<(), AllocError>
+    ensures { OnOk result (Extends row.old.items row.new.items
+        (cell wanted.now (option_map doc value.entry))) }
+{
+    match value {
+        Some(value) if wanted.is_tsv => append_field(row, value),
+        Some(value) => append_compact(row, value),
+        None => {
+            append(row, wanted.no_value());
+            Ok(())
+        }
+    }
+}
+
+fn append_compact(row: &mut Row, value: Value<'_, '_>) -> Result<(), AllocError>
+    ensures { OnOk result (Extends row.old.items row.new.items (compact (doc value.entry))) }
+{
+    match value.write(row) {
+        Ok(()) => Ok(()),
+        Err(_) if row.is_full() => Ok(()),
+        Err(_) => Err(AllocError),
+    }
+}
+
+// Appends a value as tab separated text has it: null as nothing, a string as its text, and any
+// other as compact JSON.
+fn append_field(row: &mut Row, value: Value<'_, '_>) -> Result<(), AllocError>
+    ensures { OnOk result (Extends row.old.items row.new.items (tsv_text (doc value.entry))) }
+{
+    if value.eq_null() {
+        return Ok(());
+    }
+    if let Some(string) = value.as_str() {
+        append_escaped(row, string.as_bytes());
+        return Ok(());
+    }
+    let mut text = Row::new();
+    append_compact(&mut text, value)?;
+    append_escaped(row, text.as_slice());
+    Ok(())
+}
+
+fn append_escaped(row: &mut Row, text: &[u8])
+    ensures { Extends row.old.items row.new.items (flat_map tsv_byte text.now) }
+{
+    for byte in text {
+        append(row, tsv_escape(*byte).unwrap_or(&[*byte]));
+    }
+}
+
+// What stands for a byte in tab separated text, if not the byte itself.
+fn tsv_escape(byte: u8) -> Option<&'static [u8]>
+    ensures { option_map (λ escape. escape.now) result ≡ tsv_escape byte }
+{
+    match byte {
+        b'\t' => Some(b"\\t"),
+        b'\n' => Some(b"\\n"),
+        b'\r' => Some(b"\\r"),
+        b'\\' => Some(b"\\\\"),
+        _ => None,
+    }
+}
+
+// Appends bytes, as far as there is room.
+fn append(row: &mut Row, bytes: &[u8])
+    ensures { Extends row.old.items row.new.items bytes.now }
+{
+    let _fits = row.write(bytes);
+}

@@ -1,0 +1,71 @@
+-- What a call leaves that is made with the lists of an open parser, by what it returns for them.
+use Rattle.std.specs.Prelude.{◌≡◌, ◌≤◌, ℕ, ℤ, pos, List, length, Bool, Option, Some, None, Result, Ok, Err, IfOk, IfErr, MatchResult}
+use Rattle.std.specs.Result.{result_err}
+use Rattle.std.proofs.Common.{◌∙◌}
+use Rattle.simd_json_parts.specs.Document.{Document}
+use Rattle.simd_json_parts.specs.Listing.{listing}
+use Rattle.simd_json_parts.specs.Nodes.{Item}
+use Rattle.simd_json_parts.specs.declared.error.Error.{Error}
+use Rattle.simd_json_c.specs.Calls.{ArePut}
+use Rattle.simd_json_c.specs.Chosen.{IsChosenPut, IsPrintedWith, IsTapedWith}
+use Rattle.simd_json_c.specs.Kept.{IsCheckedWith, IsReadWith, IsTapeWith, KeepsLists}
+use Rattle.simd_json_c.specs.Lent.{AreLent, IsParsedWith}
+use Rattle.simd_json_c.specs.Nodes.{room_for}
+use Rattle.simd_json_c.specs.Statuses.{error_place, error_status}
+use Rattle.simd_json_c.specs.declared.lent.Lent.{Lent}
+use Rattle.simd_json_c.specs.declared.nodes.Node.{Node}
+use Rattle.simd_json_c.specs.declared.nodes.Room.{Room}
+use Rattle.simd_json_c.specs.declared.status.ErrorPlace.{ErrorPlace}
+use Rattle.simd_json_c.specs.declared.tape.Lists.{Lists}
+
+-- the status and the place of an outcome
+abbrev pub IsReported : Result ℤ Error → ℤ → ErrorPlace → Type 0
+IsReported outcome status place =
+    (place ≡ error_place (result_err outcome))
+    × MatchResult outcome (λ s. status ≡ s) (λ e. status ≡ error_status (Some e))
+
+-- the lists before and after, which are kept
+abbrev pub AreKeptOpen : Option Lists → Option Lists → Lists → Lists → Type 0
+AreKeptOpen old new was lists = (old ≡ Some was) × (new ≡ Some lists) × KeepsLists was lists
+
+pub checked-with : (old new : Option Lists) (was lists : Lists) (b : List ℕ) (r : Result ℤ Error) (status : ℤ) (place : ErrorPlace)
+    → AreKeptOpen old new was lists → IsReported r status place
+    → ((ns : List Item) × IsReadWith was b (result_err r) ns lists) → IfOk r (λ s. s ≡ pos 0) → IsCheckedWith old new b status place
+checked-with old new was lists b (Ok s) status place kept told read zero =
+    rw kept.0 (lists, kept.1, kept.2, (None, read.0, read.1, told.1 ∙ zero, told.0))
+checked-with old new was lists b (Err e) status place kept told read zero =
+    rw kept.0 (lists, kept.1, kept.2, (Some e, read.0, read.1, told.1, told.0))
+
+pub tape-with : (old new : Option Lists) (was lists : Lists) (b : List ℕ) (r : Result ℤ Error) (status : ℤ) (place : ErrorPlace)
+    (old_room room : Room) (old_nodes nodes : List Node) (old_text text : List ℕ) → AreKeptOpen old new was lists
+    → IsReported r status place
+    → IfOk r (λ s. (ns : List Item) × IsReadWith was b None ns lists × (room ≡ room_for ns) × ArePut ns s old_nodes nodes old_text text)
+    → IfOk r (λ s. (room.nodes ≤ length b) × (room.text ≤ length b))
+    → IfErr r (λ e. (ns : List Item) × IsReadWith was b (Some e) ns lists × (room ≡ old_room))
+    → IsTapeWith old new b status place old_room room old_nodes nodes old_text text
+tape-with old new was lists b (Ok s) status place old_room room old_nodes nodes old_text text kept told put few none =
+    rw kept.0 (lists, kept.1, kept.2, (None, put.0, put.1, told.0, (put.2, few.0, few.1, rw told.1 put.3)))
+tape-with old new was lists b (Err e) status place old_room room old_nodes nodes old_text text kept told put few none =
+    rw kept.0 (lists, kept.1, kept.2, (Some e, none.0, none.1, told.0, (told.1, none.2)))
+
+pub parsed-with : (old new : Option Lists) (was lists : Lists) (b : List ℕ) (r : Result ℤ Error) (status : ℤ) (place : ErrorPlace)
+    (old_lent lent : Lent) → AreKeptOpen old new was lists → IsReported r status place
+    → IfOk r (λ s. (ns : List Item) × IsReadWith was b None ns lists × AreLent ns lists s old_lent lent)
+    → IfErr r (λ e. (ns : List Item) × IsReadWith was b (Some e) ns lists × (lent ≡ old_lent))
+    → IsParsedWith old new b status place old_lent lent
+parsed-with old new was lists b (Ok s) status place old_lent lent kept told are none =
+    rw kept.0 (lists, kept.1, kept.2, (None, are.0, are.1, told.0, rw told.1 are.2))
+parsed-with old new was lists b (Err e) status place old_lent lent kept told are none =
+    rw kept.0 (lists, kept.1, kept.2, (Some e, none.0, none.1, told.0, (told.1, none.2)))
+
+pub printed-with : (old new : Option Lists) (was lists : Lists) (b : List ℕ) (is_pretty : Bool) (pointer : List ℕ) (r : Result ℤ Error)
+    (status : ℤ) (place : ErrorPlace) (old_needed needed : ℕ) (old_out out : List ℕ) → AreKeptOpen old new was lists
+    → IsReported r status place
+    → IfOk r (λ s. (ns : List Item) × (d : Document) × IsTapedWith was b None ns lists × (listing d ≡ ns)
+    × IsChosenPut is_pretty pointer d s old_needed needed old_out out)
+    → IfErr r (λ e. (ns : List Item) × IsTapedWith was b (Some e) ns lists × (needed ≡ old_needed) × (out ≡ old_out))
+    → IsPrintedWith old new b is_pretty pointer status place old_needed needed old_out out
+printed-with old new was lists b is_pretty pointer (Ok s) status place old_needed needed old_out out kept told is none =
+    rw kept.0 (lists, kept.1, kept.2, (None, is.0, is.2, told.0, (is.1, is.3, rw told.1 is.4)))
+printed-with old new was lists b is_pretty pointer (Err e) status place old_needed needed old_out out kept told is none =
+    rw kept.0 (lists, kept.1, kept.2, (Some e, none.0, none.1, told.0, (told.1, none.2, none.3)))

@@ -1,0 +1,15 @@
+use Rattle.std.proofs.Common.{◌∙◌, ap, sym, Some, rules, w32}
+use Rattle.std.proofs.lemmas.Int.{to_z-of_z}
+use mir.Val.{SFits}
+use Rattle.simd_json_c.proofs.Calling.{tape-with}
+use Rattle.simd_json_c.proofs.parser.simd_json_parser_tape.Goals as goal
+
+pub returns-in-Some : goal.returns-in-Some
+returns-in-Some c =
+    let fits : SFits w32 c.reported.result = search rules in
+    let was = sym (ap (λ p. p.held.value) c.replace.ensures.value) ∙ c.in-Some.ensures ∙ ap Some (sym c.deref_mut.ensures.value) in
+    let s = c.tape-outcome.ensures in
+    let told = c.reported.ensures in
+    rw to_z-of_z
+    (tape-with _ _ _ _ _ c.tape-outcome.result _ _ _ _ _ _ _ _ (was, c.open.ensures, s.kept) (told.place, told.status)
+    s.lent s.few s.rejected)

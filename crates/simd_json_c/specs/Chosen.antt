@@ -1,0 +1,52 @@
+-- The text of a value that a pointer names in a document.
+use Rattle.std.specs.Prelude.{◌≡◌, ◌⊎◌, ℕ, ℤ, List, Bool, true, false, Option, None, MatchOption, option_map, IsUtf8}
+use Rattle.std.specs.Result.{result_ok}
+use Rattle.simd_json.specs.Parsed.{IsParse}
+use Rattle.simd_json.specs.Reserved.{parse_capacity}
+use Rattle.simd_json_parts.specs.Document.{Document}
+use Rattle.simd_json_parts.specs.Listing.{listing}
+use Rattle.simd_json_parts.specs.Nodes.{Item}
+use Rattle.simd_json_parts.specs.Pointed.{pointed}
+use Rattle.simd_json_parts.specs.Printed.{compact, pretty}
+use Rattle.simd_json_parts.specs.declared.error.Error.{Error}
+use Rattle.simd_json_c.specs.Calls.{IsTextPut}
+use Rattle.simd_json_c.specs.Kept.{IsCallWith}
+use Rattle.simd_json_c.specs.Statuses.{error_place, error_status, no_value, out_of_memory}
+use Rattle.simd_json_c.specs.declared.status.ErrorPlace.{ErrorPlace}
+use Rattle.simd_json_c.specs.declared.tape.Lists.{Lists}
+
+-- compact, or with a line for each member
+abbrev pub printed : Bool → Document → List ℕ
+printed false d = compact d
+printed true d = pretty d
+
+-- of the value that the pointer names, where it names one
+abbrev pub text_at : Bool → List ℕ → Document → Option (List ℕ)
+text_at is_pretty pointer d = option_map (printed is_pretty) (result_ok (pointed pointer d))
+
+-- it is put or has too little room, or memory lacks for it; or there is no such value
+unfoldable pub IsChosenPut : Bool → List ℕ → Document → ℤ → ℕ → ℕ → List ℕ → List ℕ → Type 0
+IsChosenPut is_pretty pointer d status old_needed needed old new =
+    MatchOption (text_at is_pretty pointer d)
+    ((status ≡ no_value) × (needed ≡ old_needed) × (new ≡ old))
+    (λ text. IsTextPut text status needed old new ⊎ ((status ≡ out_of_memory) × (needed ≡ old_needed) × (new ≡ old)))
+
+-- a parse of b with the lists and their tape, and the lists afterwards
+abbrev pub IsTapedWith : Lists → List ℕ → Option Error → List Item → Lists → Type 0
+IsTapedWith old b fault ns new =
+    IsParse b old.buffers.limit (parse_capacity old.buffers old.tape) fault ns new.buffers.positions
+
+-- a call that prints the value that the pointer names in the document that b is
+abbrev pub IsPrintedWith : Option Lists → Option Lists → List ℕ → Bool → List ℕ → ℤ → ErrorPlace → ℕ → ℕ → List ℕ → List ℕ → Type 0
+IsPrintedWith old new b is_pretty pointer status place old_needed needed old_out out =
+    IsCallWith old new status place ((needed ≡ old_needed) × (out ≡ old_out))
+    (λ was lists. (fault : Option Error) × (ns : List Item) × IsTapedWith was b fault ns lists × (place ≡ error_place fault)
+    × MatchOption fault
+    ((d : Document) × (listing d ≡ ns) × IsChosenPut is_pretty pointer d status old_needed needed old_out out)
+    (λ e. (status ≡ error_status fault) × (needed ≡ old_needed) × (out ≡ old_out)))
+
+-- the same, where the pointer may be no text: then it names no value
+abbrev pub IsPrintedFrom : Option Lists → Option Lists → List ℕ → Bool → List ℕ → ℤ → ErrorPlace → ℕ → ℕ → List ℕ → List ℕ → Type 0
+IsPrintedFrom old new b is_pretty pointer status place old_needed needed old_out out =
+    (IsUtf8 pointer × IsPrintedWith old new b is_pretty pointer status place old_needed needed old_out out)
+    ⊎ ((IsUtf8 pointer → ⊥) × (status ≡ no_value) × (place ≡ error_place None) × (new ≡ old) × (needed ≡ old_needed) × (out ≡ old_out))

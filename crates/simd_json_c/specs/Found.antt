@@ -1,0 +1,85 @@
+-- Values that are found by pointers in an input that a parser keeps, with its structural indexes.
+use Rattle.std.specs.Prelude.{◌≡◌, ◌⊎◌, ℕ, ℤ, List, true, false, Option, Some, None, MatchOption, Ok, IsUtf8}
+use Rattle.std.specs.Result.{result_ok}
+use Rattle.simd_json_parts.specs.Answer.{answer}
+use Rattle.simd_json_parts.specs.Document.{Document}
+use Rattle.simd_json_parts.specs.InputFaults.{input_fault}
+use Rattle.simd_json_parts.specs.Pointed.{pointed}
+use Rattle.simd_json_parts.specs.Views.{value_type}
+use Rattle.simd_json_parts.specs.declared.error.Error.{Error}
+use Rattle.simd_json_parts.specs.declared.node.ValueType.{ValueType}
+use Rattle.simd_json_parts.specs.declared.node.ValueType.TheVariants as kinds
+use Rattle.simd_json_ondemand.specs.Docs.{doc, kind}
+use Rattle.simd_json_ondemand.specs.Written.{written}
+use Rattle.simd_json_ondemand.specs.declared.value.Value.{Value}
+use Rattle.simd_json_c.specs.Calls.{IsTextPut}
+use Rattle.simd_json_c.specs.Indexed.{IsUnscanned}
+use Rattle.simd_json_c.specs.Kept.{KeepsRoom}
+use Rattle.simd_json_c.specs.Statuses.{error_place, error_status, no_value, parser_closed}
+use Rattle.simd_json_c.specs.declared.find.Found.{Found}
+use Rattle.simd_json_c.specs.declared.status.ErrorPlace.{ErrorPlace}
+use Rattle.simd_json_c.specs.declared.source.Source.{Source}
+use Rattle.simd_json_c.specs.declared.tape.Lists.{Lists}
+
+-- the header's numbers
+abbrev pub kind_number : ValueType → ℕ
+kind_number kinds.Null = 0
+kind_number kinds.Bool = 1
+kind_number kinds.I64 = 2
+kind_number kinds.U64 = 3
+kind_number kinds.I128 = 4
+kind_number kinds.U128 = 5
+kind_number kinds.Decimal = 6
+kind_number kinds.String = 7
+kind_number kinds.Array = 8
+kind_number kinds.Object = 9
+
+-- there is no such value
+abbrev pub IsNotFound : ℤ → Found → Found → List ℕ → List ℕ → Type 0
+IsNotFound status old_found found old new = (status ≡ no_value) × (found ≡ old_found) × (new ≡ old)
+
+-- the value's kind, and its bytes as they are written, which are put or have too little room
+abbrev pub IsValuePut : Value → ValueType → ℤ → Found → List ℕ → List ℕ → Type 0
+IsValuePut v k status found old new =
+    (bytes : List ℕ) × (written v ≡ Some bytes) × (found.kind ≡ kind_number k) × IsTextPut bytes status found.len old new
+
+-- whatever the bytes are: of a value, or of none
+abbrev pub IsSomePut : ℤ → Found → Found → List ℕ → List ℕ → Type 0
+IsSomePut status old_found found old new =
+    IsNotFound status old_found found old new
+    ⊎ ((v : Value) × (k : ValueType) × (kind v ≡ Some k) × IsValuePut v k status found old new)
+
+-- where b is a document, of the value that the pointer names in it
+abbrev pub IsNamedPut : List ℕ → List ℕ → ℤ → Found → Found → List ℕ → List ℕ → Type 0
+IsNamedPut b pointer status old_found found old new = (d : Document) (limit : ℕ) → answer b limit ≡ Ok d
+    → MatchOption (result_ok (pointed pointer d)) (IsNotFound status old_found found old new)
+    (λ e. (v : Value) × (doc v ≡ Some e) × IsValuePut v (value_type e) status found old new)
+
+-- in the input that is kept, or in none
+abbrev pub IsFoundIn : Source → List ℕ → ℤ → Found → Found → List ℕ → List ℕ → Type 0
+IsFoundIn source pointer status old_found found old new =
+    (source.is_scanned ≡ false → IsNotFound status old_found found old new)
+    × (source.is_scanned ≡ true → IsUtf8 pointer → IsNamedPut source.bytes.items pointer status old_found found old new)
+    × ((IsUtf8 pointer → ⊥) → IsNotFound status old_found found old new)
+    × IsSomePut status old_found found old new
+
+-- a call that finds a value with a parser, which stays as it is
+abbrev pub IsFoundWith : Option Lists → Option Lists → List ℕ → ℤ → Found → Found → List ℕ → List ℕ → Type 0
+IsFoundWith old new pointer status old_found found old_out out =
+    (new ≡ old)
+    × MatchOption old
+    ((status ≡ parser_closed) × (found ≡ old_found) × (out ≡ old_out))
+    (λ lists. IsFoundIn lists.source pointer status old_found found old_out out)
+
+-- b is kept, and has no error of the whole input
+abbrev pub KeepsInput : List ℕ → Lists → Type 0
+KeepsInput b lists = (input_fault b ≡ None) × (lists.source.bytes.items ≡ b) × (lists.source.is_scanned ≡ true)
+
+-- a call that keeps b, or nothing
+abbrev pub IsInputWith : Option Lists → Option Lists → List ℕ → ℤ → ErrorPlace → Type 0
+IsInputWith old new b status place =
+    MatchOption old
+    ((new ≡ None) × (status ≡ parser_closed) × (place ≡ error_place None))
+    (λ was. (lists : Lists) × (new ≡ Some lists) × KeepsRoom was lists
+    × ((fault : Option Error) × (status ≡ error_status fault) × (place ≡ error_place fault)
+    × MatchOption fault (KeepsInput b lists) (λ e. IsUnscanned b e × (lists.source.is_scanned ≡ false))))

@@ -1,0 +1,74 @@
+//! An input that a parser keeps, with its structural indexes.
+ghost use Rattle.std.specs.Prelude.{◌≡◌, ℕ, pos, false, true, None, Ok, IfOk, IfErr, IsUtf8};
+ghost use Rattle.std.specs.Prelude.{MatchResult, option_map, Some};
+ghost use Rattle.std.specs.Result.{result_ok};
+ghost use Rattle.simd_json_ondemand.specs.Docs.{doc};
+ghost use Rattle.simd_json_parts.specs.Answer.{answer};
+ghost use Rattle.simd_json_parts.specs.Document.{Document};
+ghost use Rattle.simd_json_parts.specs.InputFaults.{input_fault};
+ghost use Rattle.simd_json_parts.specs.Pointed.{pointed};
+ghost use Rattle.simd_json_parts.specs.Positions.{positions};
+ghost use Rattle.simd_json_c.specs.Indexed.{IsUnscanned};
+
+use simd_json::Result;
+use simd_json_ondemand::{Index, Value};
+use std::alloc::Global;
+
+/// An input in which values are found, or none.
+#[derive(Drop)]
+pub struct Source {
+    // a copy of it
+    pub(crate) bytes: Vec<u8>,
+    // its structural indexes
+    pub(crate) index: Index,
+    // whether there is one
+    pub(crate) is_scanned: bool,
+    ghost scanned: { is_scanned ≡ true → (input_fault bytes.items ≡ None)
+        × (index.listed ≡ positions bytes.items) },
+}
+
+impl Source {
+    // None, which holds no memory.
+    pub(crate) fn new(alloc: Global) -> Result<Source>
+        ensures { MatchResult result (λ source. source.is_scanned ≡ false) (λ _. ⊥) }
+    {
+        Ok(Source {
+            bytes: Vec::new(alloc),
+            index: Index::new(alloc, 0)?,
+            is_scanned: false,
+        })
+    }
+
+    // Keeps an input, in place of the one before, or none. Returns 0.
+    pub(crate) fn keep(&mut self, input: &[u8]) -> Result<i32>
+        ensures zero { IfOk result (λ status. status ≡ pos 0) }
+        ensures kept { IfOk result (λ status. (input_fault input.now ≡ None)
+            × (self.new.bytes.items ≡ input.now) × (self.new.is_scanned ≡ true)) }
+        ensures fault { IfErr result (λ e. IsUnscanned input.now e
+            × (self.new.is_scanned ≡ false)) }
+    {
+        self.is_scanned = false;
+        self.bytes.clear();
+        self.index.fill(input)?;
+        self.bytes.extend_from_slice(input)?;
+        self.is_scanned = true;
+        Ok(0)
+    }
+
+    // The value that a pointer names in the input, if there is one and it is UTF-8.
+    pub(crate) fn named(&self, pointer: &[u8]) -> Option<Value<'_>>
+        ensures none { self.now.is_scanned ≡ false → result ≡ None }
+        ensures unnamed { (IsUtf8 pointer.now → ⊥) → result ≡ None }
+        ensures named { self.now.is_scanned ≡ true → IsUtf8 pointer.now
+            → (d : Document) (limit : ℕ) → answer self.now.bytes.items limit ≡ Ok d
+            → option_map doc result
+            ≡ option_map (λ e. Some e) (result_ok (pointed pointer.now d)) }
+    {
+        if !self.is_scanned {
+            return None;
+        }
+        let pointer = str::from_utf8(pointer).ok()?;
+        let document = self.index.document(&self.bytes);
+        document.as_value().pointer(pointer)
+    }
+}

@@ -1,0 +1,164 @@
+//! What a program in C calls to time typed reading, beside the toolchain's `serde_json`: of the
+//! same texts into the same types.
+//!
+//! ```c
+//! uint64_t simd_json_typed_owned(uint8_t *texts, size_t size, size_t stride, size_t len,
+//!                                uint32_t form);
+//! ```
+//!
+//! `simd_json_typed_borrowed`, `simd_json_typed_serde_json` and
+//! `simd_json_typed_serde_json_borrowed` take the same. Texts of `len` bytes lie at the front of
+//! each whole `stride` of `texts`; `form` is 0 for lines of a log, 1 for tweets and 2 for a map.
+//! Each returns a sum over what was read, on which all agree, or 2^64 - 1 if a text was rejected or
+//! does not fit the type.
+//!
+//! Ours keep their memory from text to text.
+#![tactic(auto)]
+
+mod forms;
+#[cfg(test)]
+mod tests;
+
+use forms::{Line, Map, Sum, Timeline};
+use serde::{Deserialize, DeserializeOwned};
+use simd_json::{Buffers, Tape};
+use simd_json_serde::{Error, Texts};
+use std::alloc::Global;
+
+// Returned where a text is not read.
+const NONE: u64 = u64::MAX;
+
+/// By `read_owned`, into types that own their strings.
+#[unsafe(no_mangle)]
+pub extern "C" fn simd_json_typed_owned(
+    alloc: Global,
+    texts: &mut [u8],
+    stride: usize,
+    len: usize,
+    form: u32,
+) -> u64 {
+    let sum = match form {
+        0 => owned::<Line<String>>(alloc, texts, stride, len),
+        1 => owned::<Timeline<String>>(alloc, texts, stride, len),
+        _ => owned::<Map>(alloc, texts, stride, len),
+    };
+    sum.unwrap_or(NONE)
+}
+
+/// By `read`, into types that borrow them.
+#[unsafe(no_mangle)]
+pub extern "C" fn simd_json_typed_borrowed(
+    alloc: Global,
+    texts: &mut [u8],
+    stride: usize,
+    len: usize,
+    form: u32,
+) -> u64 {
+    borrowed(alloc, texts, stride, len, form).unwrap_or(NONE)
+}
+
+/// By `serde_json::from_slice`, into types that own their strings.
+#[unsafe(no_mangle)]
+pub extern "C" fn simd_json_typed_serde_json(
+    alloc: Global,
+    texts: &[u8],
+    stride: usize,
+    len: usize,
+    form: u32,
+) -> u64 {
+    let sum = match form {
+        0 => by_serde_json::<Line<String>>(alloc, texts, stride, len),
+        1 => by_serde_json::<Timeline<String>>(alloc, texts, stride, len),
+        _ => by_serde_json::<Map>(alloc, texts, stride, len),
+    };
+    sum.unwrap_or(NONE)
+}
+
+/// By `serde_json::from_slice`, into types that borrow them. It refuses a string with an escape.
+#[unsafe(no_mangle)]
+pub extern "C" fn simd_json_typed_serde_json_borrowed(
+    alloc: Global,
+    texts: &[u8],
+    stride: usize,
+    len: usize,
+    form: u32,
+) -> u64 {
+    let sum = match form {
+        0 => by_serde_json::<Line<&str>>(alloc, texts, stride, len),
+        1 => by_serde_json::<Timeline<&str>>(alloc, texts, stride, len),
+        _ => by_serde_json::<Map>(alloc, texts, stride, len),
+    };
+    sum.unwrap_or(NONE)
+}
+
+fn owned<T: DeserializeOwned + Sum>(
+    alloc: Global,
+    texts: &mut [u8],
+    stride: usize,
+    len: usize,
+) -> Option<u64> {
+    let mut buffers = Buffers::new(alloc, len).ok()?;
+    let mut strings = Texts::new(alloc);
+    let mut kept = Tape::empty(alloc);
+    let mut sum = 0u64;
+    for slot in texts.chunks_exact_mut(stride.max(1)) {
+        let text = slot.get_mut(..len)?;
+        let (read, tape) = simd_json_serde::read_owned::<T>(text, &mut buffers, kept, &mut strings);
+        kept = tape;
+        sum = sum.wrapping_add(read.ok()?.sum());
+    }
+    Some(sum)
+}
+
+fn borrowed(alloc: Global, texts: &mut [u8], stride: usize, len: usize, form: u32) -> Option<u64> {
+    let mut buffers = Buffers::new(alloc, len).ok()?;
+    let mut strings = Texts::new(alloc);
+    let mut kept = Tape::empty(alloc);
+    let mut sum = 0u64;
+    for slot in texts.chunks_exact_mut(stride.max(1)) {
+        let text = slot.get_mut(..len)?;
+        let (read, tape) = borrowed_one(form, text, &mut buffers, kept, &mut strings);
+        kept = tape;
+        sum = sum.wrapping_add(read?);
+    }
+    Some(sum)
+}
+
+// What is borrowed lives until the next text.
+fn borrowed_one<'k>(
+    form: u32,
+    text: &mut [u8],
+    buffers: &mut Buffers<Global>,
+    kept: Tape<'k, Global>,
+    strings: &mut Texts,
+) -> (Option<u64>, Tape<'k, Global>) {
+    match form {
+        0 => summed(simd_json_serde::read::<Line<&str>>(text, buffers, kept, strings)),
+        1 => summed(simd_json_serde::read::<Timeline<&str>>(text, buffers, kept, strings)),
+        _ => summed(simd_json_serde::read::<Map>(text, buffers, kept, strings)),
+    }
+}
+
+fn summed<'k, T: Sum>(
+    read: (Result<T, Error>, Tape<'k, Global>),
+) -> (Option<u64>, Tape<'k, Global>) {
+    let (read, tape) = read;
+    match read {
+        Ok(value) => (Some(value.sum()), tape),
+        Err(_) => (None, tape),
+    }
+}
+
+fn by_serde_json<'de, T: Deserialize<'de> + Sum>(
+    alloc: Global,
+    texts: &'de [u8],
+    stride: usize,
+    len: usize,
+) -> Option<u64> {
+    let mut sum = 0u64;
+    for slot in texts.chunks_exact(stride.max(1)) {
+        let read = serde_json::from_slice::<T>(alloc, slot.get(..len)?);
+        sum = sum.wrapping_add(read.ok()?.sum());
+    }
+    Some(sum)
+}
