@@ -132,15 +132,18 @@ CRATES = simd_json
 vendor:
 	@sh scripts/vendor.sh "$(DIR)" $(CRATES)
 
-# The programs, the library for programs in C, and their manual pages, under PREFIX.
+# The programs, the library for programs in C, their manual pages, and completion in bash, under PREFIX.
 PREFIX = /usr/local
 under = $(DESTDIR)$(abspath $(PREFIX))
+completions = $(under)/share/bash-completion/completions
 install: install-library
 	test -x build/jtape -a -x build/jcheck || $(MAKE) all
 	test -x build/jpick -a -x build/log_report || $(MAKE) build/jpick build/log_report
 	install -d $(under)/bin $(under)/share/man/man1
 	install -m 755 build/jtape build/jcheck build/jpick build/log_report $(under)/bin/
 	install -m 644 man/jtape.1 man/jcheck.1 man/jpick.1 man/log_report.1 $(under)/share/man/man1/
+	install -d $(completions)
+	for program in $(released); do install -m 644 completions/simd_json.bash $(completions)/$$program || exit; done
 
 install-library:
 	test -e $(into)/libsimd_json.so || $(MAKE) library
@@ -155,6 +158,7 @@ install-library:
 uninstall:
 	rm -f $(under)/bin/jtape $(under)/bin/jcheck $(under)/share/man/man1/jtape.1 $(under)/share/man/man1/jcheck.1
 	rm -f $(under)/bin/jpick $(under)/bin/log_report $(under)/share/man/man1/jpick.1 $(under)/share/man/man1/log_report.1
+	rm -f $(addprefix $(completions)/,$(released))
 	rm -f $(under)/include/simd_json.h $(under)/include/simd_json.hpp $(under)/lib/libsimd_json.a \
 		$(under)/lib/libsimd_json.so $(under)/lib/libsimd_json.so.$(major) $(under)/lib/libsimd_json.so.$(version) $(under)/lib/pkgconfig/simd_json.pc $(under)/share/man/man3/simd_json.3
 

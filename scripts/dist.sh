@@ -10,7 +10,7 @@ v2=build/x86-64-v2 v3=build/x86-64-v3 parts=build/parts to=build/$name
 kit=$(dirname "$(readlink -f "$(command -v rt)")")/..
 
 rm -rf "$to" "$to.tar.gz"
-mkdir -p "$parts" "$to/bin" "$to/share/man/man1" "$to/python" "$to/rust" "$to/lib/glibc-hwcaps/x86-64-v3"
+mkdir -p "$parts" "$to/bin" "$to/share/man/man1" "$to/share/bash-completion/completions" "$to/python" "$to/rust" "$to/lib/glibc-hwcaps/x86-64-v3"
 
 # The library. The loader of glibc 2.33 and later finds the faster one by itself, and pkg-config the folder that it is in.
 make -s install-library into="$v2" PREFIX="$to"
@@ -25,6 +25,7 @@ for program in "$@"; do
     cc -O2 -Wall -Wextra -Werror -fPIE -pie -nostartfiles -s -Wl,-z,relro,-z,now -o "$to/bin/$program" scripts/start.c \
         "$parts/v2.o" "$parts/v3.o" "$kit/c/libos_c.a" "$kit/c/liblibc_c.a"
     cp "man/$program.1" "$to/share/man/man1/"
+    cp completions/simd_json.bash "$to/share/bash-completion/completions/$program"
 done
 
 SIMD_JSON_LIB_DIR=$v2 python3 -B python/backend.py "$to/python" > /dev/null

@@ -1,8 +1,8 @@
 #!/bin/sh
 # Runs what README.md and docs/LINES.md show after `$ ` with the programs that the gate has built, and compares what is printed with
-# what those pages say; runs the rows of CONTRIBUTING.md, whose other commands prove, and must be there; and looks for the code of
-# README.md and docs/READING.md in tests and programs. Silent where all is well, else status 1. The other commands are those of
-# `make test`, install.sh, jq.sh and engines.sh.
+# what those pages say; runs the rows of CONTRIBUTING.md, whose other commands prove, and must be there; looks for the code of
+# README.md and docs/READING.md in tests and programs; and asks what bash completes. Silent where all is well, else status 1. The
+# other commands are those of `make test`, install.sh, jq.sh and engines.sh.
 set -u
 top=$(cd "$(dirname "$0")/.." && pwd)
 room=$(mktemp -d) || exit 1
@@ -27,6 +27,18 @@ done
 
 grep -E '^(parse|indexes)[:0-9]* .* => ' "$top/CONTRIBUTING.md" > "$room/rows"
 "$top/crates/simd_json_rows/out/simd_json_rows" < "$room/rows" | diff -U 0 "$room/rows" - || different=1
+
+# Completion in bash knows the modes of jtape, and each option that a program's help prints.
+for program in jcheck jpick log_report; do
+    "$room/build/$program" --help | grep -oE -- '(^| )--[a-z-]+' | tr -d ' ' | sort -u | sed "s/^/$program /"
+done > "$room/options"
+bash -c '. "$1"
+    for program in jcheck jpick log_report; do
+        _simd_json $program -- $program
+        printf "$program %s\n" "${COMPREPLY[@]}"
+    done
+    COMP_CWORD=1 && _simd_json jtape co jtape && echo "jtape ${COMPREPLY[*]}"' - "$top/completions/simd_json.bash" > "$room/completed"
+{ cat "$room/options"; echo 'jtape compact'; } | diff -U 0 - "$room/completed" || different=1
 
 # Commands of rt and make, scripts and files that these pages name.
 rt help > "$room/help" 2>&1

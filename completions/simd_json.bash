@@ -1,0 +1,17 @@
+# Completes the words of jtape, jcheck, jpick and log_report in bash: modes, options and their values, and else files.
+_simd_json() {
+    local words=
+    COMPREPLY=()
+    case $3 in
+        --color) words='auto always never' ;;
+        --depth | --longest | --and | --where | --where-not | --exists) return ;;
+    esac
+    case ${1##*/}:$2 in
+        jtape:*) [ "$COMP_CWORD" -gt 1 ] || words='tape positions compact pretty lines' ;;
+        jcheck:-*) words='--color --depth --help --lines --version' ;;
+        jpick:-*) words='--all --csv --exists --help --json --longest --quiet --raw --tsv --version --where --where-not' ;;
+        log_report:-*) words='--and --help --longest --tsv --version' ;;
+    esac
+    [ -z "$words" ] || mapfile -t COMPREPLY < <(compgen -W "$words" -- "$2")
+}
+complete -o default -F _simd_json jtape jcheck jpick log_report
