@@ -130,7 +130,7 @@ bench: has-rt
 # CRATES, and those that they stand on, into the repository in the folder DIR.
 CRATES = simd_json
 vendor:
-	@sh scripts/vendor.sh "$(DIR)" $(CRATES)
+	@REPLACE="$(REPLACE)" sh scripts/vendor.sh "$(DIR)" $(CRATES)
 
 # The programs, the library for programs in C, their manual pages, and completion in bash, under PREFIX.
 PREFIX = /usr/local
