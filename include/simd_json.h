@@ -111,25 +111,20 @@ enum {
     SIMD_JSON_BOOL = 1,    /* value is 0 or 1 */
     SIMD_JSON_I64 = 2,     /* written with `-`, at least -2^63: (int64_t)value */
     SIMD_JSON_U64 = 3,     /* written without `-`, at most 2^64 - 1: value */
-    SIMD_JSON_I128 = 4,    /* written with `-`, at least -2^127 */
-    SIMD_JSON_U128 = 5,    /* written without `-`, at most 2^128 - 1 */
-    SIMD_JSON_DECIMAL = 6, /* a number with a fraction or an exponent: its literal, len bytes of text from value on */
-    SIMD_JSON_STRING = 7,  /* a string or a key: its UTF-8 without escapes, len bytes of text from value on */
+    SIMD_JSON_I128 = 4,    /* a smaller one, at least -2^127: its literal, len bytes of text from value on */
+    SIMD_JSON_U128 = 5,    /* a greater one, at most 2^128 - 1: its literal, in the same way */
+    SIMD_JSON_DECIMAL = 6, /* a number with a fraction or an exponent: its literal, in the same way */
+    SIMD_JSON_STRING = 7,  /* a string or a key: its UTF-8 without escapes, in the same way */
     SIMD_JSON_ARRAY = 8,   /* len elements, and value nodes beneath */
     SIMD_JSON_OBJECT = 9   /* len pairs, and value nodes beneath */
 };
 
 /* A node of a tape: a scalar, a key, or the header of a container, whose members' nodes follow it; a member of an object
- * is its key's node, then its value's (simd_json_next).
- *
- * An integer of each kind is the number high * 2^64 + value, in two's complement where it is signed, so
- * (__int128)((unsigned __int128)high << 64 | value) is any integer but the greater half of U128. Fields of which nothing is
- * said are 0. */
+ * is its key's node, then its value's (simd_json_next). Fields of which nothing is said are 0. */
 typedef struct {
     uint32_t kind;
-    size_t len;
+    uint32_t len;
     uint64_t value;
-    uint64_t high;
 } simd_json_node;
 
 /* The index of the next sibling of the node at index i: the first node after it and what lies beneath it. The elements of an
@@ -155,7 +150,7 @@ typedef struct {
 /* Whether the input is a document. Writes *place. */
 int32_t simd_json_check(void *input, size_t len, size_t max_depth, simd_json_place *place);
 
-/* The nodes of a document, in preorder, and the texts of its strings and decimals, one after another. Writes *place.
+/* The nodes of a document, in preorder, and the texts of its strings and literals, one after another. Writes *place.
  *
  * OK: *room is how many of each there are; nothing behind them is written.
  * TOO_LITTLE_ROOM: *room is what is needed; pass a fresh copy of the input with it.

@@ -87,12 +87,7 @@ public:
         case SIMD_JSON_U64:
             return static_cast<double>(node_->value);
         case SIMD_JSON_I128:
-        case SIMD_JSON_U128: {
-            __extension__ using u128 = unsigned __int128;
-            __extension__ using i128 = __int128;
-            const u128 bits = static_cast<u128>(node_->high) << 64 | node_->value;
-            return kind() == SIMD_JSON_I128 ? static_cast<double>(static_cast<i128>(bits)) : static_cast<double>(bits);
-        }
+        case SIMD_JSON_U128:
         case SIMD_JSON_DECIMAL:
             return nearest(text());
         default:
@@ -117,7 +112,7 @@ private:
     template <bool> friend class members;
 
     std::string_view text() const { return {text_ + (holds_text() ? node_->value : 0), holds_text() ? node_->len : 0}; }
-    bool holds_text() const { return kind() == SIMD_JSON_STRING || kind() == SIMD_JSON_DECIMAL; }
+    bool holds_text() const { return kind() >= SIMD_JSON_I128 && kind() <= SIMD_JSON_STRING; }
     element after() const { return {node_ + simd_json_next(node_, 0), text_}; }
     element beneath() const { return {node_ + 1, text_}; }
     template <class T> std::optional<T> if_kind(uint32_t kind, T value) const {

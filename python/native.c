@@ -21,20 +21,23 @@ typedef struct {
     int in_use;
 } memory;
 
-/* A container whose members are read: those left, and in an object the key of the next value, if it has been read. */
+/* A container, and how many of its members are read. */
 struct open {
-    PyObject *container, *key;
-    size_t left, len;
+    PyObject *container;
+    size_t read, len;
     int is_object;
 };
 
-/* Keys that were read before, by a hash of their bytes: most keys of a document come many times. */
-enum { CACHED_KEYS = 1024, CACHED_LEN = 64 };
-static struct {
+/* Keys that were read before, by a hash of their ends: most keys of a document come many times, and mostly in the same order. */
+enum { CACHED_BITS = 10, CACHED_LEN = 64 };
+struct cached {
     PyObject *key;
     const char *bytes;
     size_t len;
-} cached[CACHED_KEYS];
+    uint64_t first, last; /* its ends: the first 8 bytes, and where there are more the last 8 */
+    struct cached *next;  /* the key that came after it the last time */
+};
+static struct cached cache[1 << CACHED_BITS], *latest = cache;
 
 static memory shared;
 static PyObject *to_error; /* simd_json._error */
@@ -144,73 +147,164 @@ static int parse(memory *m, PyObject *data, size_t max_depth) {
     return 1;
 }
 
-static PyObject *to_string(const memory *m, const simd_json_node *node) {
-    return PyUnicode_DecodeUTF8(m->document.text + node->value, (Py_ssize_t)node->len, NULL);
+/* The first 8 bytes of a text, or all of a shorter one and zeros: a mask leaves them in little-endian order. Nothing at `end` or
+ * behind it is read. */
+static uint64_t first_of(const char *bytes, size_t len, const char *end) {
+    uint64_t word = 0;
+    if (end - bytes < 8) {
+        memcpy(&word, bytes, len < 8 ? len : 8);
+        return word;
+    }
+    memcpy(&word, bytes, 8);
+    return len < 8 ? word & ((UINT64_C(1) << 8 * len) - 1) : word;
 }
 
+/* Copies a text to whole words, unless it has a byte that is not ASCII. */
+static int copy_ascii(uint64_t *words, const char *bytes, size_t len, const char *end) {
+    for (;; bytes += 8, len -= 8) {
+        uint64_t word = first_of(bytes, len, end);
+        if (word & UINT64_C(0x8080808080808080))
+            return 0;
+        *words++ = word;
+        if (len <= 8)
+            return 1;
+    }
+}
+
+/* The characters of a text, which is known to be UTF-8; returns how many there are. */
+static size_t decode(wchar_t *characters, const unsigned char *at, size_t len) {
+    const unsigned char *end = at + len;
+    size_t count = 0;
+    while (at < end) {
+        uint32_t c = *at;
+        if (c < 0x80) {
+            at++;
+        } else if (c < 0xe0) {
+            c = (c & 0x1f) << 6 | (at[1] & 0x3f);
+            at += 2;
+        } else if (c < 0xf0) {
+            c = (c & 0x0f) << 12 | (at[1] & 0x3f) << 6 | (at[2] & 0x3f);
+            at += 3;
+        } else {
+            c = (c & 0x07) << 18 | (at[1] & 0x3f) << 12 | (at[2] & 0x3f) << 6 | (at[3] & 0x3f);
+            at += 4;
+        }
+        characters[count++] = (wchar_t)c;
+    }
+    return count;
+}
+
+/* Of short texts Python's decoder of UTF-8 takes bytes that are not aligned one by one, and those that are not ASCII it judges
+ * again and writes to memory that it may have to grow. For long texts it is the faster way. */
+static PyObject *to_string(const memory *m, const simd_json_node *node) {
+    enum { SHORT = 512 };
+    const char *bytes = m->document.text + node->value, *end = m->document.text + m->document.text_len;
+    if (node->len > SHORT || sizeof(wchar_t) < 4)
+        return PyUnicode_DecodeUTF8(bytes, (Py_ssize_t)node->len, NULL);
+    uint64_t words[SHORT / 8];
+    if (copy_ascii(words, bytes, node->len, end))
+        return PyUnicode_DecodeASCII((const char *)words, (Py_ssize_t)node->len, NULL);
+    wchar_t characters[SHORT];
+    return PyUnicode_FromWideChar(characters, (Py_ssize_t)decode(characters, (const unsigned char *)bytes, node->len));
+}
+
+/* Texts of the same length and ends may differ only between the ends. */
+static inline int is_cached(const struct cached *at, const char *bytes, size_t len, uint64_t first, uint64_t last) {
+    return at && at->first == first && at->last == last && at->len == len && at->key &&
+           (len <= 16 || memcmp(at->bytes + 8, bytes + 8, len - 16) == 0);
+}
+
+static int fill(struct cached *at, const memory *m, const simd_json_node *node, uint64_t first, uint64_t last) {
+    PyObject *key = to_string(m, node), *old = at->key;
+    Py_ssize_t len;
+    const char *bytes = key ? PyUnicode_AsUTF8AndSize(key, &len) : NULL;
+    if (!bytes) {
+        Py_XDECREF(key);
+        return 0;
+    }
+    *at = (struct cached){key, bytes, (size_t)len, first, last, at->next};
+    Py_XDECREF(old);
+    return 1;
+}
+
+/* Where it is not what came after the latest key before, a key has two places. The hash is multiplicative (D. E. Knuth, The Art of
+ * Computer Programming, section 6.4). */
 static PyObject *to_key(const memory *m, const simd_json_node *node) {
     const char *bytes = m->document.text + node->value;
-    if (node->len > CACHED_LEN)
+    size_t len = node->len;
+    if (len > CACHED_LEN)
         return to_string(m, node);
-    uint64_t hash = node->len;
-    for (size_t i = 0; i < node->len; i++)
-        hash = (hash ^ (unsigned char)bytes[i]) * 0x100000001b3u;
-    hash = (hash ^ hash >> 20) % CACHED_KEYS;
-    if (cached[hash].key && cached[hash].len == node->len && memcmp(cached[hash].bytes, bytes, node->len) == 0) {
-        Py_INCREF(cached[hash].key);
-        return cached[hash].key;
+    const char *end = m->document.text + m->document.text_len;
+    uint64_t first = first_of(bytes, len, end), last = len > 8 ? first_of(bytes + len - 8, 8, end) : 0;
+    struct cached *at = latest->next;
+    if (!is_cached(at, bytes, len, first, last)) {
+        const uint64_t golden = UINT64_C(0x9e3779b97f4a7c15);
+        size_t hash = ((first * golden ^ last) + len) * golden >> (64 - CACHED_BITS);
+        at = &cache[hash];
+        if (at->key && !is_cached(at, bytes, len, first, last))
+            at = &cache[hash ^ 1];
+        if (!is_cached(at, bytes, len, first, last) && !fill(at, m, node, first, last))
+            return NULL;
+        latest->next = at;
     }
-    PyObject *key = to_string(m, node);
-    Py_ssize_t len;
-    const char *utf8 = key ? PyUnicode_AsUTF8AndSize(key, &len) : NULL;
-    if (!utf8) {
-        Py_XDECREF(key);
-        return NULL;
-    }
-    PyObject *old = cached[hash].key;
-    Py_INCREF(key);
-    cached[hash].key = key;
-    cached[hash].bytes = utf8;
-    cached[hash].len = (size_t)len;
-    Py_XDECREF(old);
-    return key;
+    latest = at;
+    Py_INCREF(at->key);
+    return at->key;
 }
 
-/* An integer of more than 64 bits: its upper half, shifted, and its lower half. */
-static PyObject *to_wide(const simd_json_node *node) {
-    PyObject *upper = node->kind == SIMD_JSON_I128 ? PyLong_FromLongLong((int64_t)node->high)
-                                                   : PyLong_FromUnsignedLongLong(node->high);
-    PyObject *lower = PyLong_FromUnsignedLongLong(node->value);
-    PyObject *bits = PyLong_FromLong(64);
-    PyObject *shifted = upper && bits ? PyNumber_Lshift(upper, bits) : NULL;
-    PyObject *number = shifted && lower ? PyNumber_Or(shifted, lower) : NULL;
-    Py_XDECREF(upper);
-    Py_XDECREF(lower);
-    Py_XDECREF(bits);
-    Py_XDECREF(shifted);
+/* A literal with a terminator, in `few` or in memory to be freed. */
+enum { FEW = 64 };
+static char *terminated(const memory *m, const simd_json_node *node, char *few) {
+    char *literal = node->len < FEW ? few : malloc((size_t)node->len + 1);
+    if (!literal)
+        return (char *)PyErr_NoMemory();
+    memcpy(literal, m->document.text + node->value, node->len);
+    literal[node->len] = 0;
+    return literal;
+}
+
+/* An integer of more than 64 bits. */
+static PyObject *to_wide(const memory *m, const simd_json_node *node) {
+    char few[FEW], *literal = terminated(m, node, few);
+    PyObject *number = literal ? PyLong_FromString(literal, NULL, 10) : NULL;
+    if (literal != few)
+        free(literal);
     return number;
 }
 
-/* The nearest float of a short literal: its digits are an integer below 2^53 and the power of ten is at most 10^22, so both are
- * floats and one rounding is left (W. D. Clinger, "How to Read Floating Point Numbers Accurately", PLDI 1990). */
+/* The nearest float of a literal without an exponent whose digits are an integer below 2^64, at most 27 of them behind the point:
+ * that integer over a power of five, scaled by one of two, which rounds nothing. If both are floats, one rounding is left, that
+ * of their quotient (W. D. Clinger, "How to Read Floating Point Numbers Accurately", PLDI 1990). Else the quotient of the integers
+ * has 62 bits or more, and is odd where there is a remainder, so it is rounded as if it had all its bits. */
 static int read_short(const char *literal, size_t len, double *number) {
-    static const double powers[] = {1e0,  1e1,  1e2,  1e3,  1e4,  1e5,  1e6,  1e7,  1e8,  1e9,  1e10, 1e11,
-                                    1e12, 1e13, 1e14, 1e15, 1e16, 1e17, 1e18, 1e19, 1e20, 1e21, 1e22};
     size_t i = literal[0] == '-', point = len;
-    uint64_t digits = 0;
-    for (; i < len && digits < UINT64_C(1) << 53; i++) {
-        if (literal[i] >= '0' && literal[i] <= '9')
+    uint64_t digits = 0, fives = 1;
+    for (; i < len && digits < UINT64_C(1000000000000000000); i++) {
+        if (literal[i] >= '0' && literal[i] <= '9') {
             digits = 10 * digits + (uint64_t)(literal[i] - '0');
-        else if (literal[i] == '.')
+            fives *= i > point ? 5 : 1;
+        } else if (literal[i] == '.') {
             point = i;
-        else
+        } else {
             return 0;
+        }
     }
-    if (i < len || digits >= UINT64_C(1) << 53 || point == len || len - point - 1 > 22)
+    if (i < len || point == len || len - point - 1 > 27)
         return 0;
-    *number = (double)digits / powers[len - point - 1];
-    if (literal[0] == '-')
-        *number = -*number;
+    int power = -(int)(len - point - 1);
+    if (digits == 0 || (digits < UINT64_C(1) << 53 && fives < UINT64_C(1) << 53)) {
+        *number = (double)(int64_t)digits / (double)(int64_t)fives;
+    } else {
+        int up = __builtin_clzll(digits), down = __builtin_clzll(fives);
+        unsigned __int128 dividend = (unsigned __int128)(digits << up) << 63;
+        uint64_t divisor = fives << down, quotient = (uint64_t)(dividend / divisor);
+        *number = (double)(quotient | (dividend % divisor != 0));
+        power += down - up - 63;
+    }
+    double scale;
+    uint64_t bits = (uint64_t)(1023 + power) << 52; /* of 2^power */
+    memcpy(&scale, &bits, sizeof scale);
+    *number *= literal[0] == '-' ? -scale : scale;
     return 1;
 }
 
@@ -221,12 +315,9 @@ static PyObject *to_float(const memory *m, const simd_json_node *node, PyObject 
     double number;
     if (read_short(m->document.text + node->value, node->len, &number))
         return PyFloat_FromDouble(number);
-    char few[64];
-    char *literal = node->len < sizeof few ? few : malloc(node->len + 1);
+    char few[FEW], *literal = terminated(m, node, few);
     if (!literal)
-        return PyErr_NoMemory();
-    memcpy(literal, m->document.text + node->value, node->len);
-    literal[node->len] = 0;
+        return NULL;
     number = PyOS_string_to_double(literal, NULL, NULL);
     if (literal != few)
         free(literal);
@@ -234,6 +325,8 @@ static PyObject *to_float(const memory *m, const simd_json_node *node, PyObject 
 }
 
 static PyObject *to_value(const memory *m, const simd_json_node *node, PyObject *parse_float) {
+    if (node->kind == SIMD_JSON_STRING) /* most are, and so it is guessed better than a jump of the switch */
+        return to_string(m, node);
     switch (node->kind) {
     case SIMD_JSON_NULL:
         Py_INCREF(Py_None);
@@ -243,14 +336,12 @@ static PyObject *to_value(const memory *m, const simd_json_node *node, PyObject 
     case SIMD_JSON_I64:
         return PyLong_FromLongLong((int64_t)node->value);
     case SIMD_JSON_U64:
-        return PyLong_FromUnsignedLongLong(node->value);
+        return node->value <= LONG_MAX ? PyLong_FromLong((long)node->value) : PyLong_FromUnsignedLongLong(node->value);
     case SIMD_JSON_I128:
     case SIMD_JSON_U128:
-        return to_wide(node);
+        return to_wide(m, node);
     case SIMD_JSON_DECIMAL:
         return to_float(m, node, parse_float);
-    case SIMD_JSON_STRING:
-        return to_string(m, node);
     case SIMD_JSON_ARRAY:
         return PyList_New((Py_ssize_t)node->len);
     default:
@@ -258,60 +349,53 @@ static PyObject *to_value(const memory *m, const simd_json_node *node, PyObject 
     }
 }
 
-/* Puts a value, whose reference it takes, into the innermost open container. */
-static int put(struct open *in, PyObject *value) {
-    int failed;
-    if (in->is_object) {
-        failed = PyDict_SetItem(in->container, in->key, value);
-        Py_CLEAR(in->key);
-        Py_DECREF(value);
-    } else {
-        failed = PyList_SetItem(in->container, (Py_ssize_t)(in->len - in->left), value);
+static int grow_open(memory *m) {
+    size_t cap = 2 * m->open_cap + 16;
+    struct open *more = realloc(m->open, cap * sizeof *more);
+    if (!more) {
+        PyErr_NoMemory();
+        return 0;
     }
-    in->left--;
-    return failed == 0;
+    m->open = more;
+    m->open_cap = cap;
+    return 1;
 }
 
 /* The value of all nodes. A container is put into the one around it as soon as it is made, so an error frees the root alone. */
 static PyObject *build(memory *m, PyObject *parse_float) {
+    const simd_json_node *node = m->document.nodes, *end = node + m->document.nodes_len;
     PyObject *root = NULL;
+    struct open in = {NULL, 0, 1, 0}; /* around the root */
     size_t depth = 0;
-    for (size_t i = 0; i < m->document.nodes_len; i++) {
-        const simd_json_node *node = &m->document.nodes[i];
-        struct open *in = depth ? &m->open[depth - 1] : NULL;
-        if (in && in->is_object && !in->key) {
-            if (!(in->key = to_key(m, node)))
-                goto failed;
-            continue;
-        }
+    for (; node < end; node++) {
+        PyObject *key = NULL;
+        if (in.is_object && !(key = to_key(m, node++)))
+            goto failed;
         PyObject *value = to_value(m, node, parse_float);
-        if (!value)
-            goto failed;
-        if (!in)
+        int failed = !value;
+        if (key) {
+            failed = failed || PyDict_SetItem(in.container, key, value) < 0;
+            Py_DECREF(key);
+            Py_XDECREF(value);
+        } else if (root) {
+            failed = failed || PyList_SetItem(in.container, (Py_ssize_t)in.read, value) < 0;
+        } else {
             root = value;
-        else if (!put(in, value))
-            goto failed;
-        if (node->kind >= SIMD_JSON_ARRAY && node->len > 0) {
-            if (depth == m->open_cap) {
-                struct open *more = realloc(m->open, (2 * depth + 16) * sizeof *more);
-                if (!more) {
-                    PyErr_NoMemory();
-                    goto failed;
-                }
-                m->open = more;
-                m->open_cap = 2 * depth + 16;
-            }
-            m->open[depth++] = (struct open){value, NULL, node->len, node->len, node->kind == SIMD_JSON_OBJECT};
         }
-        while (depth && m->open[depth - 1].left == 0)
-            depth--;
+        if (failed)
+            goto failed;
+        in.read++;
+        if (node->kind >= SIMD_JSON_ARRAY && node->len > 0) {
+            if (depth == m->open_cap && !grow_open(m))
+                goto failed;
+            m->open[depth++] = in;
+            in = (struct open){value, 0, node->len, node->kind == SIMD_JSON_OBJECT};
+        }
+        while (in.read == in.len && depth)
+            in = m->open[--depth];
     }
     return root;
 failed:
-    while (depth) {
-        depth--;
-        Py_CLEAR(m->open[depth].key);
-    }
     Py_XDECREF(root);
     return NULL;
 }
@@ -334,7 +418,15 @@ static PyObject *loads_in(memory *kept, arguments *given) {
     memory own = {0};
     memory *m = kept->in_use ? &own : kept;
     m->in_use = 1;
-    PyObject *value = parse(m, given->data, (size_t)given->max_depth) ? build(m, given->parse_float) : NULL;
+    PyObject *value = NULL;
+    if (parse(m, given->data, (size_t)given->max_depth)) {
+        /* Nothing that is being made is garbage, so collections would look through it in vain. Without parse_float no code of
+         * users runs in build, and no other thread, since the interpreter's lock is held: nobody sees that the collector is off. */
+        int collects = !given->parse_float && PyGC_Disable();
+        value = build(m, given->parse_float);
+        if (collects)
+            PyGC_Enable();
+    }
     m->in_use = 0;
     if (m == &own)
         release(m);

@@ -37,8 +37,10 @@ if python3 -c 'import sysconfig, os; raise SystemExit(not os.path.exists(sysconf
         -Wl,--wrap=malloc,--wrap=realloc,--wrap=free -o "$room/site/simd_json/_native.abi3.so"
     run python3 python/tests/test_memory.py
     if [ -n "$check" ]; then
-        # shellcheck disable=SC2086
-        PYTHONMALLOC=malloc MUTANTS=300 run valgrind -q --error-exitcode=1 python3 python/tests/test_simd_json.py
+        # The system's Python, if it can: of one that a script starts, valgrind would watch the shell.
+        python=/usr/bin/python3
+        "$python" -c 'import simd_json' 2> /dev/null || python=$(python3 -c 'import sys; print(sys.executable)')
+        PYTHONMALLOC=malloc MUTANTS=300 run valgrind -q --error-exitcode=1 "$python" python/tests/test_simd_json.py
     fi
 else
     left_out="$left_out Python (no python3 with its headers);"

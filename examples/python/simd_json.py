@@ -11,6 +11,7 @@ import sys
 from ctypes import POINTER, byref, c_int32, c_size_t, c_uint32, c_uint64, c_void_p
 
 NULL, BOOL, I64, U64, I128, U128, DECIMAL, STRING, ARRAY, OBJECT = range(10)
+TEXTS = I128, U128, DECIMAL, STRING  # the kinds whose nodes have a text
 TOO_LITTLE_ROOM = 19
 
 
@@ -19,7 +20,7 @@ class Place(ctypes.Structure):
 
 
 class Node(ctypes.Structure):
-    _fields_ = [("kind", c_uint32), ("len", c_size_t), ("value", c_uint64), ("high", c_uint64)]
+    _fields_ = [("kind", c_uint32), ("len", c_uint32), ("value", c_uint64)]
 
 
 class Room(ctypes.Structure):
@@ -97,11 +98,10 @@ class Library:
 
         def read(at):
             node = nodes[at]
-            if node.kind in (I64, I128):
-                number = node.high << 64 | node.value
-                return (number - (1 << 128) if node.high >> 63 else number), at + 1
-            if node.kind in (U64, U128):
-                return node.high << 64 | node.value, at + 1
+            if node.kind == I64:
+                return node.value - (node.value >> 63 << 64), at + 1
+            if node.kind == U64:
+                return node.value, at + 1
             if node.kind == ARRAY:
                 items, at = [], at + 1
                 for _ in range(node.len):
@@ -113,8 +113,8 @@ class Library:
                 for _ in range(node.len):
                     pairs[string(nodes[at])], at = read(at + 1)
                 return pairs, at
-            scalar = {NULL: lambda: None, BOOL: lambda: bool(node.value), DECIMAL: lambda: decimal(string(node)),
-                      STRING: lambda: string(node)}
+            scalar = {NULL: lambda: None, BOOL: lambda: bool(node.value), I128: lambda: int(string(node)),
+                      U128: lambda: int(string(node)), DECIMAL: lambda: decimal(string(node)), STRING: lambda: string(node)}
             return scalar[node.kind](), at + 1
 
         return read(0)[0]

@@ -2,12 +2,15 @@
 A call that fails raises MemoryError, leaves nothing behind, and the next one succeeds."""
 import ctypes
 import gc
+import itertools
 import sys
 import unittest
 
 import simd_json
 
-TEXT = b'{"a":[1,-2.5,"\\u00e9",{"' + b"k" * 70 + b'":[[[[[[[[[[[[[[[[[[[]]]]]]]]]]]]]]]]]]]}],"wide":340282366920938463463374607431768211455}'
+TEXT = (b'{"a":[1,-2.5,"\\u00e9",{"' + b"k" * 70 + b'":[[[[[[[[[[[[[[[[[[[]]]]]]]]]]]]]]]]]]]}],'
+        b'"wide":[340282366920938463463374607431768211455,-9223372036854775809,0.' + b"1" * 70 + b"],"
+        + '"é":"ああ😀","long":["{}","{}"]}}'.format("x" * 600, "é€" * 300).encode())
 VALUE = simd_json.loads(TEXT)
 LARGE = b"[" + b" " * (1 << 21) + b"]"  # after it the module keeps no memory
 
@@ -32,6 +35,11 @@ def nested():
     return simd_json.loads("[1.5]", parse_float=lambda literal: simd_json.loads(TEXT))
 
 
+def fresh(count=itertools.count()):
+    """A key that is in no cache."""
+    return simd_json.loads('{"é%d":1}' % next(count))
+
+
 class Memory(unittest.TestCase):
     def test_the_module_s_own(self):
         native = ctypes.CDLL(simd_json._native.__file__)
@@ -47,6 +55,7 @@ class Memory(unittest.TestCase):
                 allowed.value = count
                 failed = fails(call)
                 allowed.value = -1
+                self.assertTrue(gc.isenabled())
                 if not failed:
                     break
                 refused += 1
@@ -59,13 +68,14 @@ class Memory(unittest.TestCase):
         except ImportError:
             self.skipTest("_testcapi is not installed")
         refused = 0
-        for call in [*calls(), nested]:
+        for call in [*calls(), nested, fresh]:
             for start in range(1, 400):
                 set_nomemory(start, start + 1)
                 try:
                     failed = fails(call)
                 finally:
                     remove_mem_hooks()
+                self.assertTrue(gc.isenabled())
                 refused += failed
             self.assertEqual(simd_json.loads(TEXT), VALUE)
         self.assertGreater(refused, 50)

@@ -2,6 +2,7 @@
 
     python3 -m unittest discover python/tests     with the wheel on the path
 """
+import gc
 import io
 import json
 import os
@@ -97,6 +98,12 @@ class Values(unittest.TestCase):
                      "0." + "1" * 200, "3.141592653589793238462643383279"):
             found = simd_json.loads(text)
             self.assertEqual((type(found), repr(found)), (type(json.loads(text)), repr(json.loads(text))))
+        # Halfway between two floats and beside it, and powers that are no floats.
+        for text in ("9007199254740993.0", "4503599627370497.5", "4503599627370497.4999", "4503599627370497.5001",
+                     "9007199254740992.0", "9999999999999999999.0", "18446744073709551616.0", "0." + "0" * 22 + "1",
+                     "0." + "0" * 26 + "1", "0." + "0" * 27 + "1", "0." + "0" * 27, "-0." + "0" * 23, "0.9999999999999999999",
+                     "65.613616999999977"):
+            self.assertEqual(repr(simd_json.loads(text)), repr(float(text)), text)
         rng = random.Random(754)
         for _ in range(20000):
             text = repr(rng.choice([-1, 1]) * rng.random() * 10 ** rng.randrange(-12, 12))[:rng.randrange(4, 25)].rstrip("e.-+")
@@ -110,6 +117,46 @@ class Values(unittest.TestCase):
         text = json.dumps([{"a": 1, "é" * 40: 2, "k" * 100: 3}] * 3 + [{f"k{i}": i for i in range(5000)}])
         self.assertEqual(simd_json.loads(text), json.loads(text))
         self.assertEqual(simd_json.loads('{"a":1,"a":2}'), {"a": 2})
+
+    def test_strings(self):
+        """Characters of each length of UTF-8 at its bounds, in strings and keys of lengths around those where the code forks."""
+        characters = "a\0\x7f\x80\u07ff\u0800\uffff\U00010000\U0010ffff"
+        rng = random.Random(3629)
+        for length in [*range(70), 127, 200, *range(505, 520), 2000]:
+            for kinds in ("a", "a\0\x7f", "a\x80", "ab\u07ff", "a\u0800\uffff", "\uffff", "\U0010ffff", characters):
+                text = "".join(rng.choice(kinds) for _ in range(length))
+                for end in ("", "b", "\xe9"):
+                    value = [text + end, {text + end: text, end: end}, [{text + end: 1}, {text + "c" + end: 2}]]
+                    found = simd_json.loads(json.dumps(value, ensure_ascii=False))
+                    self.assertEqual(found, value)
+                    self.assertEqual(repr(found), repr(value))
+
+    def test_like_keys(self):
+        """Keys that differ in one byte, wherever it is, and repeat in other orders."""
+        keys = ["".join("x" if i == at else "k" for i in range(length)) for length in range(70) for at in range(length + 1)]
+        rng = random.Random(8)
+        value = [{key: 1 for key in rng.sample(keys, 30)} for _ in range(1000)]
+        self.assertEqual(json.dumps(simd_json.loads(json.dumps(value))), json.dumps(value))
+
+    def test_collections(self):
+        """Whether the garbage collector is on is as before, after each end of a call."""
+        def enabled(literal=None):
+            return gc.isenabled()
+
+        self.addCleanup(gc.enable)
+        for change in (gc.disable, gc.enable):
+            change()
+            for text in ('{"a":[1.5,"é"]}', "[1,]", "[[1]", ""):
+                for given in ({}, {"parse_float": float}, {"parse_float": enabled}, {"max_depth": 1}):
+                    before = gc.isenabled()
+                    by(simd_json.loads, text, **given)
+                    self.assertEqual(gc.isenabled(), before)
+            self.assertEqual(simd_json.loads("[1.5]", parse_float=enabled), [gc.isenabled()])
+            self.assertEqual(simd_json.loads("[1.5]", parse_float=lambda _: (simd_json.loads("[{}]"), enabled())),
+                             [([{}], gc.isenabled())])
+            with self.assertRaises(ZeroDivisionError):
+                simd_json.loads("[1.5]", parse_float=lambda _: 1 // 0)
+            self.assertEqual(gc.isenabled(), change is gc.enable)
 
     def test_depth(self):
         for depth in (1, 1000, 1024):

@@ -18,7 +18,7 @@ static void parser_kept(void) {
                                    SIMD_JSON_DEPTH_LIMIT_EXCEEDED, SIMD_JSON_OK};
     static const size_t counts[] = {6, 1, 77, 77, 77, 1};
     char copy[64], out[8] = "";
-    simd_json_node nodes[8] = {{99, 99, 99, 99}};
+    simd_json_node nodes[8] = {{99, 99, 99}};
     simd_json_place place = {5, 5};
     simd_json_parser parser = {0};
     for (int opened = 0; opened < 3; opened++) {

@@ -2,6 +2,7 @@
 // and `pretty` rows by those that print one, `indexes` rows by the one that finds them, `locate` rows by the one that finds an
 // error's line and column, `pointer` rows by the one that follows a pointer and the one that prints what it names. Rows that C
 // has no call for and comments are copied. So a file of right rows comes out unchanged.
+#include <inttypes.h>
 #include <simd_json.h>
 #include <stdbool.h>
 #include <stdio.h>
@@ -234,15 +235,17 @@ static void put_quoted(struct bytes *to, const unsigned char *text, size_t len) 
     put_text(to, "\"");
 }
 
-static void put_integer(struct bytes *to, const simd_json_node *node) {
-    unsigned __int128 number = (unsigned __int128)node->high << 64 | node->value;
-    bool is_negative = node->high >> 63 && (node->kind == SIMD_JSON_I64 || node->kind == SIMD_JSON_I128);
-    char digits[40], *first = digits + sizeof digits;
-    if (is_negative) number = -number;
-    do *--first = (char)('0' + (int)(number % 10));
-    while (number /= 10);
-    if (is_negative) put_text(to, "-");
-    put(to, first, (size_t)(digits + sizeof digits - first));
+// A scalar in compact text.
+static void put_scalar(struct bytes *to, const simd_json_node *node, const unsigned char *text) {
+    char digits[24];
+    switch (node->kind) {
+    case SIMD_JSON_NULL: put_text(to, "null"); break;
+    case SIMD_JSON_BOOL: put_text(to, node->value ? "true" : "false"); break;
+    case SIMD_JSON_I64: put(to, digits, (size_t)snprintf(digits, sizeof digits, "%" PRId64, (int64_t)node->value)); break;
+    case SIMD_JSON_U64: put_number(to, node->value); break;
+    case SIMD_JSON_STRING: put_quoted(to, text + node->value, node->len); break;
+    default: put(to, text + node->value, node->len);
+    }
 }
 
 static void put_node(struct bytes *to, const simd_json_node *node, const unsigned char *text) {
@@ -250,14 +253,10 @@ static void put_node(struct bytes *to, const simd_json_node *node, const unsigne
     put(to, name, simd_json_kind_name(node->kind, name, sizeof name));
     if (node->kind == SIMD_JSON_NULL) return;
     put_text(to, " ");
-    switch (node->kind) {
-    case SIMD_JSON_BOOL: put_text(to, node->value ? "true" : "false"); break;
-    case SIMD_JSON_DECIMAL: put(to, text + node->value, node->len); break;
-    case SIMD_JSON_STRING: put_quoted(to, text + node->value, node->len); break;
-    case SIMD_JSON_ARRAY:
-    case SIMD_JSON_OBJECT: put_number(to, node->len), put_text(to, " "), put_number(to, node->value); break;
-    default: put_integer(to, node);
-    }
+    if (node->kind >= SIMD_JSON_ARRAY)
+        put_number(to, node->len), put_text(to, " "), put_number(to, node->value);
+    else
+        put_scalar(to, node, text);
 }
 
 static void put_status(struct bytes *to, int status, simd_json_place place) {
@@ -293,11 +292,8 @@ static bool is_tidy(const struct tape *tape) {
     size_t text = 0;
     for (size_t i = 0; i < tape->room.nodes; i++) {
         const simd_json_node *node = &tape->nodes[i];
-        bool is_text = node->kind == SIMD_JSON_STRING || node->kind == SIMD_JSON_DECIMAL;
+        bool is_text = node->kind >= SIMD_JSON_I128 && node->kind <= SIMD_JSON_STRING;
         bool is_container = node->kind == SIMD_JSON_ARRAY || node->kind == SIMD_JSON_OBJECT;
-        bool is_wide = node->kind == SIMD_JSON_I128 || node->kind == SIMD_JSON_U128;
-        uint64_t high = node->kind == SIMD_JSON_I64 && node->value >> 63 ? UINT64_MAX : 0;
-        if (!is_wide && node->high != high) return false;
         if (!is_text && !is_container && node->len != 0) return false;
         if (is_text && (node->value != text || node->len > tape->room.text - text)) return false;
         if (is_text) text += node->len;
@@ -315,7 +311,7 @@ static bool is_equal(const struct tape *a, const struct tape *b) {
         const simd_json_node *m = &a->nodes[i], *n = &b->nodes[i];
         bool is_zero = m->kind == SIMD_JSON_I64 && m->value == 0 && n->kind == SIMD_JSON_U64;
         if (!is_zero && m->kind != n->kind) return false;
-        if (m->len != n->len || m->value != n->value || m->high != n->high) return false;
+        if (m->len != n->len || m->value != n->value) return false;
     }
     return true;
 }
@@ -471,15 +467,8 @@ static void answer_locate(struct bytes *to, const struct row *row) {
 static size_t put_value(struct bytes *to, const struct tape *tape, size_t i) {
     const simd_json_node *node = &tape->nodes[i];
     bool is_object = node->kind == SIMD_JSON_OBJECT;
-    if (node->kind < SIMD_JSON_DECIMAL) {
-        if (node->kind <= SIMD_JSON_BOOL)
-            put_text(to, node->kind == SIMD_JSON_NULL ? "null" : node->value ? "true" : "false");
-        else
-            put_integer(to, node);
-    } else if (node->kind == SIMD_JSON_DECIMAL) {
-        put(to, tape->text + node->value, node->len);
-    } else if (node->kind == SIMD_JSON_STRING) {
-        put_quoted(to, tape->text + node->value, node->len);
+    if (node->kind < SIMD_JSON_ARRAY) {
+        put_scalar(to, node, tape->text);
     } else {
         size_t at = i + 1;
         put_text(to, is_object ? "{" : "[");

@@ -52,14 +52,14 @@ def integer(number, is_negative):
 def nodes(ours, listed, text):
     """The lines of a tape."""
     for node in listed:
-        kind, number = node.kind, node.high << 64 | node.value
-        if kind in (simd_json.DECIMAL, simd_json.STRING):
-            literal = text[node.value:node.value + node.len].decode()
-            of = literal if kind == simd_json.DECIMAL else mutants.printed(literal)
+        kind, number = node.kind, node.value
+        if kind in simd_json.TEXTS:
+            literal = text[number:number + node.len].decode()
+            of = mutants.printed(literal) if kind == simd_json.STRING else literal
         elif kind in (simd_json.ARRAY, simd_json.OBJECT):
             of = f"{node.len} {number}"
-        elif kind in (simd_json.I64, simd_json.I128) and node.high >> 63:
-            of = number - (1 << 128)
+        elif kind == simd_json.I64:
+            of = number - (number >> 63 << 64)
         else:
             of = json.dumps(bool(number)) if kind == simd_json.BOOL else number
         yield ours.kind_name(kind) + ("" if kind == simd_json.NULL else f" {of}")

@@ -2,16 +2,15 @@
 use crate::error::{Error, ErrorType};
 use crate::value::Tape;
 use std::ffi::c_void;
-use std::ptr;
+use std::{ptr, slice, str};
 
 /// A node as the library writes it; `include/simd_json.h` says what its fields are.
 #[repr(C)]
 #[derive(Clone, Copy, Debug)]
 pub(crate) struct Node {
     pub(crate) kind: u32,
-    pub(crate) len: usize,
+    pub(crate) len: u32,
     pub(crate) value: u64,
-    pub(crate) high: u64,
 }
 
 #[repr(C)]
@@ -26,25 +25,43 @@ struct Place {
     character: u32,
 }
 
+/// What a parse lends: memory of the parser, until its next call.
 #[repr(C)]
-struct Room {
-    nodes: usize,
-    text: usize,
+pub(crate) struct Document {
+    nodes: *const Node,
+    nodes_len: usize,
+    text: *const u8,
+    text_len: usize,
+}
+
+// SAFETY: the memory is only read, and belongs to no thread.
+unsafe impl Send for Document {}
+unsafe impl Sync for Document {}
+
+impl Document {
+    pub(crate) fn nodes(&self) -> &[Node] {
+        // SAFETY: the library lends so many nodes, at least one. A `Tape` has borrowed the parser, or owns it and calls it no more.
+        unsafe { slice::from_raw_parts(self.nodes, self.nodes_len) }
+    }
+
+    pub(crate) fn text(&self) -> &str {
+        if self.text_len == 0 {
+            return "";
+        }
+        // SAFETY: so many bytes are lent, as above: strings and literals of a document, one after another, each of which is UTF-8.
+        unsafe { str::from_utf8_unchecked(slice::from_raw_parts(self.text, self.text_len)) }
+    }
 }
 
 extern "C" {
     fn simd_json_open(parser: *mut Parser, max_depth: usize) -> i32;
     fn simd_json_close(parser: *mut Parser);
     fn simd_json_parser_check(parser: *mut Parser, input: *mut u8, len: usize, place: *mut Place) -> i32;
-    fn simd_json_parser_tape(
+    fn simd_json_parser_parse(
         parser: *mut Parser,
         input: *mut u8,
         len: usize,
-        nodes: *mut Node,
-        nodes_len: usize,
-        text: *mut u8,
-        text_len: usize,
-        room: *mut Room,
+        document: *mut Document,
         place: *mut Place,
     ) -> i32;
 }
@@ -52,7 +69,7 @@ extern "C" {
 const OUT_OF_MEMORY: Error = Error { kind: ErrorType::OutOfMemory, index: 0, character: None };
 
 fn error_of(status: i32, place: &Place) -> Error {
-    // The library returns no other status here: TOO_LITTLE_ROOM and PARSER_CLOSED are excluded by how it is called.
+    // The library returns no other status here: PARSER_CLOSED is excluded by how it is called.
     let kind = ErrorType::of_status(status).unwrap_or(ErrorType::InternalError);
     Error { kind, index: place.index, character: char::from_u32(place.character) }
 }
@@ -62,8 +79,10 @@ pub struct Buffers {
     parser: Parser,
 }
 
-// SAFETY: what `at` points to is this parser's alone, and the library keeps nothing that belongs to a thread.
+// SAFETY: what `at` points to is this parser's alone, the library keeps nothing that belongs to a thread, and no call takes a
+// parser that is only shared.
 unsafe impl Send for Buffers {}
+unsafe impl Sync for Buffers {}
 
 impl Buffers {
     /// Memory for inputs with at most 1,024 open containers.
@@ -89,47 +108,27 @@ impl Buffers {
         }
     }
 
-    /// Parses a document into a tape. The input is overwritten.
+    /// Parses a document into a tape in this memory. The input is overwritten.
     ///
     /// # Errors
     ///
     /// The first error of the input, with its kind, index and character.
-    pub fn parse(&mut self, input: &mut [u8]) -> Result<Tape, Error> {
-        // A node that is not the first follows a bracket, a comma or a colon.
-        let room = 1 + input.iter().filter(|byte| matches!(**byte, b'[' | b'{' | b',' | b':')).count();
-        let mut nodes: Vec<Node> = Vec::new();
-        let mut text: Vec<u8> = Vec::new();
-        if nodes.try_reserve_exact(room).is_err() || text.try_reserve_exact(input.len()).is_err() {
-            return Err(OUT_OF_MEMORY);
-        }
-        let mut found = Room { nodes: 0, text: 0 };
+    pub fn parse(&mut self, input: &mut [u8]) -> Result<Tape<'_>, Error> {
+        Ok(Tape::lent(self.document(input)?))
+    }
+
+    pub(crate) fn document(&mut self, input: &mut [u8]) -> Result<Document, Error> {
+        let mut document = Document { nodes: ptr::null(), nodes_len: 0, text: ptr::null(), text_len: 0 };
         let mut place = Place { index: 0, character: u32::MAX };
-        // SAFETY: the parser is open; all lengths are those of memory that is reserved or borrowed for writing, in regions that
-        // do not overlap; the call uses them until it returns, and reads nothing that it has not written but the input.
+        // SAFETY: the parser is open, and the input is borrowed for writing until the call returns.
         let status = unsafe {
-            simd_json_parser_tape(
-                &mut self.parser,
-                input.as_mut_ptr(),
-                input.len(),
-                nodes.as_mut_ptr(),
-                nodes.capacity(),
-                text.as_mut_ptr(),
-                text.capacity(),
-                &mut found,
-                &mut place,
-            )
+            simd_json_parser_parse(&mut self.parser, input.as_mut_ptr(), input.len(), &mut document, &mut place)
         };
-        if status != 0 {
-            return Err(error_of(status, &place));
+        if status == 0 {
+            Ok(document)
+        } else {
+            Err(error_of(status, &place))
         }
-        // SAFETY: after OK `found` is how many of each were written, at most as many as there was room for.
-        unsafe {
-            nodes.set_len(found.nodes);
-            text.set_len(found.text);
-        }
-        // SAFETY: after OK the text is the strings and literals of a document, one after another, each UTF-8.
-        let text = unsafe { String::from_utf8_unchecked(text) };
-        Ok(Tape::new(nodes, text))
     }
 
     /// Checks that the input is a document. It is overwritten.

@@ -7,13 +7,13 @@
 //! # Ok::<(), simd_json_proved::Error>(())
 //! ```
 //!
-//! What is accepted, the nodes, the first error and its place are proved of the library. This crate is not: it passes memory to
-//! the library and reads the nodes. Its only `unsafe` code is in the module `ffi`.
+//! What is accepted, the nodes, the first error and its place are proved of the library. This crate is not: it reads the nodes that
+//! the library lends. Its only `unsafe` code is in the module `ffi`.
 //!
 //! | with `simd-json` | with this crate |
 //! |---|---|
-//! | `simd_json::to_tape(&mut input)?` | the same; the tape owns its strings, so the input is free again |
-//! | `Buffers::new(n)`, `fill_tape` | [`Buffers::new`], [`Buffers::parse`] |
+//! | `simd_json::to_tape(&mut input)?` | the same |
+//! | `Buffers::new(n)`, `fill_tape` | [`Buffers::new`], [`Buffers::parse`], whose tape borrows the buffers and not the input |
 //! | `value.as_f64()` of a parsed float | [`Value::as_f64`] converts the literal, which is kept: [`Value::as_decimal`] |
 //! | `get` of equal keys: the last | the first |
 //! | integers of 64 bits, more with `128bit` | always 128 bits |
@@ -32,6 +32,8 @@ pub use value::{Array, Object, Tape, Value, ValueType};
 /// # Errors
 ///
 /// The first error of the input, with its kind, index and character.
-pub fn to_tape(input: &mut [u8]) -> Result<Tape, Error> {
-    Buffers::new()?.parse(input)
+pub fn to_tape(input: &mut [u8]) -> Result<Tape<'_>, Error> {
+    let mut buffers = Buffers::new()?;
+    let document = buffers.document(input)?;
+    Ok(Tape::owned(document, buffers))
 }

@@ -1,5 +1,7 @@
 //! Values of a tape. A node of a container is followed by the nodes of its members; its `value` is how many they are.
-use crate::ffi::Node;
+use crate::ffi::{Buffers, Document, Node};
+use std::fmt;
+use std::marker::PhantomData;
 
 /// The kind of a value.
 #[derive(Clone, Copy, Debug, PartialEq, Eq, Hash)]
@@ -39,26 +41,37 @@ const KINDS: [ValueType; 10] = [
     ValueType::Object,
 ];
 
-/// A parsed document: its nodes in preorder, and the text of its strings and decimals.
-#[derive(Clone, Debug)]
-pub struct Tape {
-    nodes: Vec<Node>,
-    text: String,
+/// A parsed document: its nodes in preorder, and the texts of its strings and literals.
+pub struct Tape<'buffers> {
+    document: Document,
+    // the memory, where it is not borrowed
+    _own: Option<Buffers>,
+    _borrowed: PhantomData<&'buffers mut Buffers>,
 }
 
-impl Tape {
-    pub(crate) fn new(nodes: Vec<Node>, text: String) -> Tape {
-        Tape { nodes, text }
+impl<'buffers> Tape<'buffers> {
+    pub(crate) fn lent(document: Document) -> Tape<'buffers> {
+        Tape { document, _own: None, _borrowed: PhantomData }
+    }
+
+    pub(crate) fn owned(document: Document, buffers: Buffers) -> Tape<'buffers> {
+        Tape { document, _own: Some(buffers), _borrowed: PhantomData }
     }
 
     /// The document as a value.
     pub fn as_value(&self) -> Value<'_> {
-        Value { nodes: &self.nodes, text: &self.text }
+        Value { nodes: self.document.nodes(), text: self.document.text() }
     }
 
     /// How many nodes the document has: values and keys.
     pub fn node_count(&self) -> usize {
-        self.nodes.len()
+        self.document.nodes().len()
+    }
+}
+
+impl fmt::Debug for Tape<'_> {
+    fn fmt(&self, f: &mut fmt::Formatter<'_>) -> fmt::Result {
+        f.debug_tuple("Tape").field(&self.as_value()).finish()
     }
 }
 
@@ -90,12 +103,7 @@ impl<'tape> Value<'tape> {
 
     fn literal(self) -> &'tape str {
         let node = self.node();
-        &self.text[node.value as usize..node.value as usize + node.len]
-    }
-
-    // The integer, in two's complement where it has a `-`.
-    fn bits(self) -> u128 {
-        u128::from(self.node().high) << 64 | u128::from(self.node().value)
+        &self.text[node.value as usize..node.value as usize + node.len as usize]
     }
 
     /// Its kind.
@@ -117,8 +125,8 @@ impl<'tape> Value<'tape> {
     pub fn as_i128(self) -> Option<i128> {
         match self.value_type() {
             ValueType::I64 => Some(i128::from(self.node().value as i64)),
-            ValueType::I128 => Some(self.bits() as i128),
-            ValueType::U64 | ValueType::U128 => i128::try_from(self.bits()).ok(),
+            ValueType::U64 => Some(i128::from(self.node().value)),
+            ValueType::I128 | ValueType::U128 => self.literal().parse().ok(),
             _ => None,
         }
     }
@@ -126,7 +134,7 @@ impl<'tape> Value<'tape> {
     /// The integer, if it is not negative.
     pub fn as_u128(self) -> Option<u128> {
         match self.value_type() {
-            ValueType::U64 | ValueType::U128 => Some(self.bits()),
+            ValueType::U128 => self.literal().parse().ok(),
             _ => self.as_i128().and_then(|number| u128::try_from(number).ok()),
         }
     }
@@ -149,8 +157,7 @@ impl<'tape> Value<'tape> {
     /// The number as the nearest float, infinite where it is past the greatest; `None` if it is no number.
     pub fn as_f64(self) -> Option<f64> {
         match self.value_type() {
-            ValueType::Decimal => self.literal().parse().ok(),
-            ValueType::U128 => Some(self.bits() as f64),
+            ValueType::I128 | ValueType::U128 | ValueType::Decimal => self.literal().parse().ok(),
             _ => self.as_i128().map(|number| number as f64),
         }
     }
@@ -167,12 +174,12 @@ impl<'tape> Value<'tape> {
 
     /// The elements, if it is an array.
     pub fn as_array(self) -> Option<Array<'tape>> {
-        (self.value_type() == ValueType::Array).then(|| Array { rest: self.at(1), left: self.node().len })
+        (self.value_type() == ValueType::Array).then(|| Array { rest: self.at(1), left: self.node().len as usize })
     }
 
     /// The members, if it is an object.
     pub fn as_object(self) -> Option<Object<'tape>> {
-        (self.value_type() == ValueType::Object).then(|| Object { rest: self.at(1), left: self.node().len })
+        (self.value_type() == ValueType::Object).then(|| Object { rest: self.at(1), left: self.node().len as usize })
     }
 
     /// The value of the first member of an object with this key.

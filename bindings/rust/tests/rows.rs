@@ -137,10 +137,24 @@ fn values() {
 }
 
 #[test]
+fn buffers_are_kept() {
+    let mut buffers = Buffers::new().unwrap();
+    for text in [r#"{"a":[1,"b"]}"#, "[]", r#"[1.5,"\u00e9",340282366920938463463374607431768211455]"#, "7"] {
+        let tape = buffers.parse(&mut text.as_bytes().to_vec()).unwrap();
+        let mut again = text.as_bytes().to_vec();
+        let moved = Box::new(to_tape(&mut again).unwrap());
+        assert_eq!(format!("{tape:?}"), format!("{moved:?}"));
+        std::thread::scope(|scope| scope.spawn(|| assert!(tape.node_count() > 0)).join().unwrap());
+    }
+    assert!(buffers.parse(&mut b"[".to_vec()).is_err());
+    assert_eq!(buffers.parse(&mut b"[null]".to_vec()).unwrap().node_count(), 2);
+}
+
+#[test]
 fn errors() {
     let error = to_tape(&mut b"[1,]".to_vec()).unwrap_err();
     assert_eq!((error.error(), error.index(), error.character()), (ErrorType::InternalError, 3, Some(']')));
     assert_eq!(to_tape(&mut [0xff]).unwrap_err().to_string(), "InvalidUtf8 at character 0");
-    assert_eq!(to_tape(&mut b"[[]]".repeat(1)).unwrap().node_count(), 2);
-    assert_eq!(Buffers::with_max_depth(1).unwrap().parse(&mut *b"[[]]".to_vec()).unwrap_err().index(), 1);
+    assert_eq!(to_tape(&mut b"[[]]".to_vec()).unwrap().node_count(), 2);
+    assert_eq!(Buffers::with_max_depth(1).unwrap().parse(&mut b"[[]]".to_vec()).unwrap_err().index(), 1);
 }

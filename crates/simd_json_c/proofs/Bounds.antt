@@ -2,13 +2,16 @@
 use Rattle.std.proofs.Common.{◌≡◌, ◌≤◌, ◌+◌, ◌/◌, ◌%◌, ◌==◌, ℕ, suc, List, [], ◌∷◌, ◌++◌, length, length-append, Bool, true, false}
 use Rattle.std.proofs.Common.{cond, min, ap, None, Result, Ok, Err, IfOk, String, string_bytes, flat_map, codes, arith, subst, sym, ◌∙◌}
 use Rattle.std.specs.Char.{digit_char}
+use Rattle.std.specs.Fmt.{signed_decimal}
 use Rattle.simd_json_parts.specs.Bytes.{backspace, tab, line_feed, form_feed, carriage_return, quote, comma, backslash}
 use Rattle.simd_json_parts.specs.Bytes.{left_bracket, right_bracket, left_brace, right_brace, is_control}
 use Rattle.simd_json_parts.specs.Document.{Document, null, boolean, integer, decimal, string, array, object, Elements, no_elements}
 use Rattle.simd_json_parts.specs.Document.{element, Members, no_members, member}
 use Rattle.simd_json_parts.specs.Listing.{listing, elements_listing, members_listing}
-use Rattle.simd_json_parts.specs.Nodes.{Item}
+use Rattle.simd_json_parts.specs.Integers.{integer_node, number_of}
+use Rattle.simd_json_parts.specs.Nodes.{Item, static_item}
 use Rattle.simd_json_parts.specs.Printed.{escaped_byte, quoted, text, elements_text, members_text, compact}
+use Rattle.simd_json_parts.proofs.Documents.Integers.{of-integer_node}
 use Rattle.simd_json_theorems.proofs.Printing.Shortest.{compact-shortest}
 use Rattle.simd_json.specs.Parsed.{IsParse, IsParsed}
 use Rattle.simd_json.proofs.Views.Listed.{known}
@@ -16,7 +19,7 @@ use Rattle.simd_json_c.specs.Calls.{IsCompact}
 use Rattle.simd_json_c.specs.Nodes.{room_for, text_of, texts}
 use Rattle.simd_json_c.specs.declared.nodes.Room.{Room}
 
-texts-append : (xs ys : List Item) → length (texts (xs ++ ys)) ≡ length (texts xs) + length (texts ys)
+pub texts-append : (xs ys : List Item) → length (texts (xs ++ ys)) ≡ length (texts xs) + length (texts ys)
 texts-append [] ys = omega arith
 texts-append (x ∷ xs) ys =
     omega (arith, length-append (text_of x) (texts (xs ++ ys)), length-append (text_of x) (texts xs), texts-append xs ys)
@@ -47,11 +50,18 @@ quoted-longer t = omega (arith, length-append (flat_map escaped_byte t) (quote �
 
 -- ---- documents
 
+integer-text : (minus : Bool) (m : ℕ)
+    → length (texts (static_item (integer_node minus m) ∷ [])) ≤ length (signed_decimal (number_of minus m))
+integer-text =
+    of-integer_node (λ minus m s. length (texts (static_item s ∷ [])) ≤ length (signed_decimal (number_of minus m)))
+    (λ m. omega arith) (λ m. omega arith) (λ m. omega (arith, length-append (signed_decimal (number_of true m)) []))
+    (λ m. omega (arith, length-append (signed_decimal (number_of false m)) []))
+
 mutual
   value-texts : (d : Document) (n : ℕ) → length (texts (listing d)) ≤ length (text false d n)
   value-texts null n = omega arith
   value-texts (boolean b) n = omega arith
-  value-texts (integer minus m) n = omega arith
+  value-texts (integer minus m) n = integer-text minus m
   value-texts (decimal literal) n = omega (arith, length-append literal [])
   value-texts (string t) n = omega (arith, length-append t [], quoted-longer t)
   value-texts (array no_elements) n = omega arith
@@ -97,7 +107,7 @@ mutual
 
 -- ---- of what is parsed
 
-texts-within : (b : List ℕ) (limit : ℕ) (ns : List Item) → IsParsed b limit ns → length (texts ns) ≤ length b
+pub texts-within : (b : List ℕ) (limit : ℕ) (ns : List Item) → IsParsed b limit ns → length (texts ns) ≤ length b
 texts-within b limit ns p =
     let own : length (texts (listing p.document)) ≤ length b =
     omega (arith, compact-shortest b p.document p.denoted p.within.integers, value-texts p.document 0) in

@@ -6,12 +6,14 @@ use Rattle.std.proofs.lemmas.List.{length-append, drop_more, take-append-drop, l
 use Rattle.std.proofs.Math.Dec.{eqb-suc-zero}
 use Rattle.std.proofs.Math.Seq.{take-append_seam, drop-append-add, set-append_seam}
 use Rattle.simd_json_parts.specs.Nodes.{Item, static_item, array_item, object_item, string_item, decimal_item}
+use Rattle.simd_json_parts.specs.declared.node.StaticNode.{StaticNode}
+use Rattle.simd_json_parts.specs.declared.node.StaticNode.TheVariants as fixed
 use Rattle.simd_json_stages.specs.Building.{header_of, is_header}
 use Rattle.simd_json_stages.specs.declared.stage2.stack.Container.{Container}
 use Rattle.simd_json_stages.specs.declared.stage2.stack.Container.TheVariants.{Array, Object}
-use Rattle.simd_json_c.specs.Nodes.{node_of, nodes_from, text_of, texts}
+use Rattle.simd_json_c.specs.Nodes.{is_wide, text_of, texts}
 use Rattle.simd_json_c.specs.Notes.{Note}
-use Rattle.simd_json_c.specs.Loans.{AreLaid, AreTextsLaid, is_headed, noting, text_item}
+use Rattle.simd_json_c.specs.Loans.{AreLaid, AreTextsLaid, cut_from, cut_of, is_headed, noting}
 use Rattle.simd_json_c.specs.declared.nodes.Node.{Node}
 
 -- ---- one more item
@@ -23,7 +25,7 @@ append-nil (x ∷ xs) = ap (λ r. x ∷ r) (append-nil xs)
 pub length-push : {X : Type 0} (xs : List X) (x : X) → length (xs ++ x ∷ []) ≡ length xs + 1
 length-push xs x = length-append xs (x ∷ [])
 
-pub length-nodes : (start : ℕ) (ns : List Item) → length (nodes_from start ns) ≡ length ns
+pub length-nodes : (start : ℕ) (ns : List Item) → length (cut_from start ns) ≡ length ns
 length-nodes start [] = refl
 length-nodes start (n ∷ ns) = ap suc (length-nodes (start + length (text_of n)) ns)
 
@@ -35,20 +37,20 @@ pub length-texts-push : (ns : List Item) (x : Item) → length (texts (ns ++ x �
 length-texts-push ns x = ap length (texts-push ns x) ∙ length-append (texts ns) (text_of x)
 
 pub nodes-push : (start : ℕ) (ns : List Item) (x : Item)
-    → nodes_from start (ns ++ x ∷ []) ≡ nodes_from start ns ++ node_of (start + length (texts ns)) x ∷ []
-nodes-push start [] x = ap (λ s. node_of s x ∷ []) (omega arith)
+    → cut_from start (ns ++ x ∷ []) ≡ cut_from start ns ++ cut_of (start + length (texts ns)) x ∷ []
+nodes-push start [] x = ap (λ s. cut_of s x ∷ []) (omega arith)
 nodes-push start (n ∷ ns) x =
     let next = start + length (text_of n) in
     let along : next + length (texts ns) ≡ start + length (texts (n ∷ ns)) =
     omega (arith, length-append (text_of n) (texts ns)) in
-    ap (λ r. node_of start n ∷ r) (nodes-push next ns x ∙ ap (λ s. nodes_from next ns ++ node_of s x ∷ []) along)
+    ap (λ r. cut_of start n ∷ r) (nodes-push next ns x ∙ ap (λ s. cut_from next ns ++ cut_of s x ∷ []) along)
 
 pub laid-push : (n : Note) (x : Item) (now newer : List Node) (node : Node) → length now ≡ length n.nodes_before → length newer ≡ length now
-    → AreLaid n now → (length (texts n.items) < 2 ^ 64 → node ≡ node_of (length (texts n.items)) x)
+    → AreLaid n now → (length (texts n.items) < 2 ^ 64 → node ≡ cut_of (length (texts n.items)) x)
     → (length n.items < length now → newer ≡ set now (length n.items) node) → AreLaid (noting n x) newer
 laid-push n x now newer node as_lent same laid is fits few small =
     let k = length n.items in
-    let front = nodes_from 0 n.items in
+    let front = cut_from 0 n.items in
     let rest = drop (k + 1) n.nodes_before in
     let one = length-push n.items x in
     let within : k < length now = omega (arith, few, same, one) in
@@ -59,10 +61,10 @@ laid-push n x now newer node as_lent same laid is fits few small =
     let put : set (front ++ get_or n.nodes_before k node ∷ rest) k node ≡ front ++ node ∷ rest =
     ap (λ i. set (front ++ get_or n.nodes_before k node ∷ rest) i node) (sym (length-nodes 0 n.items))
     ∙ set-append_seam front (get_or n.nodes_before k node) rest node in
-    fits within ∙ ap (λ l. set l k node) here ∙ put ∙ ap (λ y. front ++ y ∷ rest) (is less ∙ ap (λ at. node_of at x) (omega arith))
-    ∙ sym (append_assoc front (node_of (0 + length (texts n.items)) x ∷ []) rest)
+    fits within ∙ ap (λ l. set l k node) here ∙ put ∙ ap (λ y. front ++ y ∷ rest) (is less ∙ ap (λ at. cut_of at x) (omega arith))
+    ∙ sym (append_assoc front (cut_of (0 + length (texts n.items)) x ∷ []) rest)
     ∙ ap (λ l. l ++ rest) (sym (nodes-push 0 n.items x))
-    ∙ ap (λ j. nodes_from 0 (n.items ++ x ∷ []) ++ drop j n.nodes_before) (sym one)
+    ∙ ap (λ j. cut_from 0 (n.items ++ x ∷ []) ++ drop j n.nodes_before) (sym one)
 
 pub texts_laid-push : (n : Note) (x : Item) (now newer bytes : List ℕ) (used : ℕ) → used ≡ min (length (texts n.items)) 18446744073709551615
     → length newer ≡ length now → AreTextsLaid n now → text_of x ≡ bytes
@@ -92,13 +94,21 @@ texts_laid-same n ns now same laid =
     subst (λ t. length t ≤ length now → length t < 2 ^ 64 → now ≡ t ++ drop (length t) n.text_before) (sym same) laid
 
 -- no text
+pub plain-text : (v : StaticNode) → is_wide v ≡ false → text_of (static_item v) ≡ []
+plain-text fixed.Null plain = refl
+plain-text (fixed.Bool b) plain = refl
+plain-text (fixed.I64 z) plain = refl
+plain-text (fixed.U64 n) plain = refl
+plain-text (fixed.I128 z) plain = absurd (cc plain)
+plain-text (fixed.U128 n) plain = absurd (cc plain)
+
 pub texts-push-none : (ns : List Item) (x : Item) → text_of x ≡ [] → texts (ns ++ x ∷ []) ≡ texts ns
 texts-push-none ns x none = texts-push ns x ∙ ap (λ t. texts ns ++ t) none ∙ append-nil (texts ns)
 
 -- ---- a header that is patched
 
 header-text : (n : Item) → is_header n ≡ true → text_of n ≡ []
-header-text (static_item s) is = refl
+header-text (static_item s) is = absurd (cc is)
 header-text (decimal_item t) is = absurd (cc is)
 header-text (string_item t) is = absurd (cc is)
 header-text (array_item len count) is = refl
@@ -111,13 +121,13 @@ texts-set (n ∷ ns) zero y d is header = ap (λ t. t ++ texts ns) (header-text 
 texts-set (n ∷ ns) (suc i) y d is header = ap (λ t. text_of n ++ t) (texts-set ns i y d is header)
 
 pub nodes-set : (start : ℕ) (ns : List Item) (i : ℕ) (y d : Item) (node : Node) → is_header (get_or ns i d) ≡ true → is_header y ≡ true
-    → ((s : ℕ) → node ≡ node_of s y) → nodes_from start (set ns i y) ≡ set (nodes_from start ns) i node
+    → ((s : ℕ) → node ≡ cut_of s y) → cut_from start (set ns i y) ≡ set (cut_from start ns) i node
 nodes-set start [] i y d node is header same = refl
 nodes-set start (n ∷ ns) zero y d node is header same =
-    ap (λ t. node_of start y ∷ nodes_from (start + length t) ns) (header-text y header ∙ sym (header-text n is))
-    ∙ ap (λ z. z ∷ nodes_from (start + length (text_of n)) ns) (sym (same start))
+    ap (λ t. cut_of start y ∷ cut_from (start + length t) ns) (header-text y header ∙ sym (header-text n is))
+    ∙ ap (λ z. z ∷ cut_from (start + length (text_of n)) ns) (sym (same start))
 nodes-set start (n ∷ ns) (suc i) y d node is header same =
-    ap (λ r. node_of start n ∷ r) (nodes-set (start + length (text_of n)) ns i y d node is header same)
+    ap (λ r. cut_of start n ∷ r) (nodes-set (start + length (text_of n)) ns i y d node is header same)
 
 pub headed-set : (ns : List Item) (i : ℕ) (y d : Item) → is_header (get_or ns i d) ≡ true → is_header y ≡ true
     → is_headed (set ns i y) ≡ is_headed ns
@@ -130,11 +140,11 @@ headed-push [] x none = none
 headed-push (n ∷ ns) x none = refl
 
 pub laid-set : (n : Note) (i : ℕ) (y d : Item) (now newer : List Node) (node : Node) → i < length n.items → length newer ≡ length now
-    → AreLaid n now → is_header (get_or n.items i d) ≡ true → is_header y ≡ true → ((s : ℕ) → node ≡ node_of s y)
+    → AreLaid n now → is_header (get_or n.items i d) ≡ true → is_header y ≡ true → ((s : ℕ) → node ≡ cut_of s y)
     → (i < length now → newer ≡ set now i node) → AreLaid (record n { items = set n.items i y }) newer
 laid-set n i y d now newer node within same laid is header node_is fits few small =
     let k = length n.items in
-    let front = nodes_from 0 n.items in
+    let front = cut_from 0 n.items in
     let rest = drop k n.nodes_before in
     let len : length (set n.items i y) ≡ k = length-set n.items i y in
     let texts_len = ap length (texts-set n.items i y d is header) in
@@ -143,7 +153,7 @@ laid-set n i y d now newer node within same laid is header node_is fits few smal
     let in_front : i < length front = omega (arith, within, length-nodes 0 n.items) in
     fits in_now ∙ ap (λ l. set l i node) here ∙ set-append_left front rest i node in_front
     ∙ ap (λ l. l ++ rest) (sym (nodes-set 0 n.items i y d node is header node_is))
-    ∙ ap (λ j. nodes_from 0 (set n.items i y) ++ drop j n.nodes_before) (sym len)
+    ∙ ap (λ j. cut_from 0 (set n.items i y) ++ drop j n.nodes_before) (sym len)
 
 -- ---- the items of texts and headers
 
@@ -164,14 +174,6 @@ headed-push_header [] c count b counted is =
     ap (λ k. b || nat_eq k 0) counted ∙ ap (λ z. z || true) is ∙ sym (header_of-header c 0 0)
 headed-push_header (n ∷ ns) c count b counted is =
     ap (λ k. b || nat_eq k 0) counted ∙ ap (λ z. b || z) (eqb-suc-zero (length ns)) ∙ ap (λ z. z || false) is ∙ or-false (is_header n)
-
-pub text_item-text : (is_decimal : Bool) (t : List ℕ) → text_of (text_item is_decimal t) ≡ t
-text_item-text true t = refl
-text_item-text false t = refl
-
-pub text_item-header : (is_decimal : Bool) (t : List ℕ) → is_header (text_item is_decimal t) ≡ false
-text_item-header true t = refl
-text_item-header false t = refl
 
 pub counted-exact : (used len : ℕ) → used ≡ min len 18446744073709551615 → len < 2 ^ 64 → used ≡ len
 counted-exact used len counted small = omega (arith, counted, small)

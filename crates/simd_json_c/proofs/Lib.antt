@@ -1,4 +1,5 @@
 mod Bounds
+mod Whole
 mod LooseValues
 mod HeldValues
 mod Laying

@@ -23,9 +23,12 @@ use Rattle.simd_json_c.specs.Nodes.{node_of, nodes_from, span, static_node, text
 use Rattle.simd_json_c.specs.Placed.{AreAt, IsValueAt}
 use Rattle.simd_json_c.specs.declared.nodes.Node.{Node}
 use Rattle.simd_json_parts.proofs.Pointers.Pointed.{found, member-here, member-later, member-none}
-use Rattle.simd_json_c.proofs.Laying.{length-nodes}
 
 -- ---- parts of a list
+
+pub length-nodes : (start : ℕ) (ns : List Item) → length (nodes_from start ns) ≡ length ns
+length-nodes start [] = refl
+length-nodes start (n ∷ ns) = ap suc (length-nodes (start + length (text_of n)) ns)
 
 nodes-append : (start : ℕ) (xs ys : List Item)
     → nodes_from start (xs ++ ys) ≡ nodes_from start xs ++ nodes_from (start + length (texts xs)) ys
@@ -103,14 +106,14 @@ key-at nodes text i k ns a =
 
 -- ---- headers
 
-static-kind : (s : StaticNode) → (static_node s).kind < 8
-static-kind fixed.Null = omega arith
-static-kind (fixed.Bool false) = omega arith
-static-kind (fixed.Bool true) = omega arith
-static-kind (fixed.I64 z) = omega arith
-static-kind (fixed.U64 n) = omega arith
-static-kind (fixed.I128 z) = omega arith
-static-kind (fixed.U128 n) = omega arith
+static-kind : (start : ℕ) (s : StaticNode) → (static_node start s).kind < 8
+static-kind start fixed.Null = omega arith
+static-kind start (fixed.Bool false) = omega arith
+static-kind start (fixed.Bool true) = omega arith
+static-kind start (fixed.I64 z) = omega arith
+static-kind start (fixed.U64 n) = omega arith
+static-kind start (fixed.I128 z) = omega arith
+static-kind start (fixed.U128 n) = omega arith
 
 -- what the header of a document says
 pub record Header (d : Document) (node : Node) : Type 0 where
@@ -154,10 +157,10 @@ headed (array ds) = refl
 headed (object ms) = refl
 
 header-of : (start : ℕ) (d : Document) → Header d (node_of start (head d))
-header-of start null = scalar-header null (node_of start (head null)) refl (static-kind fixed.Null) (λ t. refl)
-header-of start (boolean b) = scalar-header (boolean b) (node_of start (head (boolean b))) refl (static-kind (fixed.Bool b)) (λ t. refl)
+header-of start null = scalar-header null (node_of start (head null)) refl (static-kind start fixed.Null) (λ t. refl)
+header-of start (boolean b) = scalar-header (boolean b) (node_of start (head (boolean b))) refl (static-kind start (fixed.Bool b)) (λ t. refl)
 header-of start (integer minus n) =
-    scalar-header (integer minus n) (node_of start (head (integer minus n))) refl (static-kind (integer_node minus n)) (λ t. refl)
+    scalar-header (integer minus n) (node_of start (head (integer minus n))) refl (static-kind start (integer_node minus n)) (λ t. refl)
 header-of start (decimal l) = scalar-header (decimal l) (node_of start (head (decimal l))) refl (omega arith) (λ t. refl)
 header-of start (string t) = scalar-header (string t) (node_of start (head (string t))) refl (omega arith) (λ u. refl)
 header-of start (array ds) = record {

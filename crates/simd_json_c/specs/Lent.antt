@@ -1,6 +1,6 @@
 -- Nodes and texts that a parser keeps, and lends until the next call.
-use Rattle.std.specs.Prelude.{◌≡◌, ◌⊎◌, ℕ, ℤ, pos, List, Option, MatchOption}
-use Rattle.std.specs.Vec.{vec_len, vec_ptr}
+use Rattle.std.specs.Prelude.{◌≡◌, ◌⊎◌, ℕ, ℤ, pos, List, length, take, Option, MatchOption}
+use Rattle.std.specs.Vec.{vec_ptr}
 use Rattle.simd_json_parts.specs.Nodes.{Item}
 use Rattle.simd_json_parts.specs.declared.error.Error.{Error}
 use Rattle.simd_json_c.specs.Kept.{IsCallWith, IsReadWith}
@@ -11,24 +11,24 @@ use Rattle.simd_json_c.specs.declared.nodes.Node.{Node}
 use Rattle.simd_json_c.specs.declared.status.ErrorPlace.{ErrorPlace}
 use Rattle.simd_json_c.specs.declared.tape.Lists.{Lists}
 
--- the nodes of these items, and their texts
+-- the nodes of these items, and their texts, which other bytes may follow
 abbrev pub AreKept : List Item → List Node → List ℕ → Type 0
-AreKept ns nodes text = (nodes ≡ nodes_from 0 ns) × (text ≡ texts ns)
+AreKept ns nodes text = (nodes ≡ nodes_from 0 ns) × (take (length (texts ns)) text ≡ texts ns)
 
 -- where they are, and how many
-abbrev pub lent_of : Lists → Lent
-lent_of lists =
+abbrev pub lent_of : List Item → Lists → Lent
+lent_of ns lists =
     record {
       nodes = vec_ptr lists.nodes;
-      nodes_len = vec_len lists.nodes;
+      nodes_len = length ns;
       text = vec_ptr lists.text;
-      text_len = vec_len lists.text;
+      text_len = length (texts ns);
     }
 
 -- they are kept and lent, or memory lacks for them
 abbrev pub AreLent : List Item → Lists → ℤ → Lent → Lent → Type 0
 AreLent ns lists status old lent =
-    ((status ≡ pos 0) × AreKept ns lists.nodes.items lists.text.items × (lent ≡ lent_of lists))
+    ((status ≡ pos 0) × AreKept ns lists.nodes.items lists.text.items × (lent ≡ lent_of ns lists))
     ⊎ ((status ≡ out_of_memory) × (lent ≡ old))
 
 -- a call that lends the nodes of the document that b is

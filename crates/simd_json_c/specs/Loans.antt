@@ -1,8 +1,8 @@
 -- Nodes and texts that are written to lent memory one after another, as far as they fit.
-use Rattle.std.specs.Prelude.{◌≡◌, ◌≤◌, ◌<◌, ◌^◌, ℕ, List, [], ◌∷◌, ◌++◌, length, drop, Bool, true, false}
-use Rattle.simd_json_parts.specs.Nodes.{Item, decimal_item, string_item}
+use Rattle.std.specs.Prelude.{◌≡◌, ◌≤◌, ◌<◌, ◌+◌, ◌%◌, ◌^◌, ℕ, List, [], ◌∷◌, ◌++◌, length, drop, Bool, false}
+use Rattle.simd_json_parts.specs.Nodes.{Item}
 use Rattle.simd_json_stages.specs.Building.{is_header}
-use Rattle.simd_json_c.specs.Nodes.{nodes_from, texts}
+use Rattle.simd_json_c.specs.Nodes.{node_of, span, text_of, texts}
 use Rattle.simd_json_c.specs.Notes.{Note}
 use Rattle.simd_json_c.specs.declared.nodes.Node.{Node}
 
@@ -13,10 +13,20 @@ pub record Loan : Type 0 where
   pub nodes_before : List Node
   pub text_before : List ℕ
 
--- the node of a text
-abbrev pub text_item : Bool → List ℕ → Item
-text_item true t = decimal_item t
-text_item false t = string_item t
+-- A node has 32 bits of its length, which are all where it is of a document.
+abbrev pub cut : Node → Node
+cut n = record n { len = n.len % 2 ^ 32 }
+
+abbrev pub cut_of : ℕ → Item → Node
+cut_of start n = cut (node_of start n)
+
+abbrev pub cut_from : ℕ → List Item → List Node
+cut_from start [] = []
+cut_from start (n ∷ ns) = cut_of start n ∷ cut_from (start + length (text_of n)) ns
+
+-- all of them, and their texts
+abbrev pub AreCut : List Item → List Node → List ℕ → Type 0
+AreCut ns nodes text = (nodes ≡ cut_from 0 ns) × (text ≡ texts ns)
 
 abbrev pub is_headed : List Item → Bool
 is_headed [] = false
@@ -26,10 +36,16 @@ is_headed (n ∷ ns) = is_header n
 abbrev pub noting : Note → Item → Note
 noting n x = record n { items = n.items ++ x ∷ [] }
 
+-- and so is one that has this kind and this text
+abbrev pub IsTextNoted : Note → Note → ℕ → List ℕ → Type 0
+IsTextNoted old new kind bytes =
+    (x : Item) × (new ≡ noting old x) × (is_header x ≡ false) × (text_of x ≡ bytes)
+    × ((start : ℕ) → node_of start x ≡ span kind (length bytes) start)
+
 -- Where the nodes fit, they are at the front; so long a text that it can't be counted is nowhere.
 abbrev pub AreLaid : Note → List Node → Type 0
 AreLaid n now = length n.items ≤ length now → length (texts n.items) < 2 ^ 64
-    → now ≡ nodes_from 0 n.items ++ drop (length n.items) n.nodes_before
+    → now ≡ cut_from 0 n.items ++ drop (length n.items) n.nodes_before
 
 -- where the texts fit, they are at the front
 abbrev pub AreTextsLaid : Note → List ℕ → Type 0

@@ -1,21 +1,27 @@
 //! A parse into memory that a parser keeps: nodes and texts are lent until the next call with it.
-ghost use Rattle.std.specs.Prelude.{◌≡◌, ◌<◌, ◌++◌, List, [], ◌∷◌, length, false, true};
-ghost use Rattle.std.specs.Prelude.{IfOk, slice_set};
+ghost use Rattle.std.specs.Prelude.{◌≡◌, ◌≤◌, ◌<◌, ◌+◌, ◌++◌, List, [], ◌∷◌, length, take, true};
+ghost use Rattle.std.specs.Prelude.{IfOk, IfSome, slice_set};
 ghost use Rattle.std.specs.Result.{result_err};
 ghost use Rattle.simd_json.specs.Capacities.{KeepsCapacities, capacity};
 ghost use Rattle.simd_json.specs.Parsed.{IsParse};
 ghost use Rattle.simd_json_parts.specs.Limits.{max_length};
-ghost use Rattle.simd_json_parts.specs.Nodes.{Item};
-ghost use Rattle.simd_json_c.specs.Lent.{AreKept, IsParsedWith};
-ghost use Rattle.simd_json_c.specs.Loans.{Loan, is_headed, noting, text_item};
+ghost use Rattle.simd_json_parts.specs.Nodes.{Item, static_item};
+ghost use Rattle.simd_json_c.specs.Lent.{IsParsedWith};
+ghost use Rattle.simd_json_c.specs.Loans.{AreCut, IsTextNoted, Loan, is_headed, noting};
+ghost use Rattle.simd_json_c.specs.Nodes.{is_wide};
 
-use crate::nodes::{Node, static_of};
+use crate::nodes::{Node, header_node, is_wide, literal_of, span_of, static_of};
 use crate::parser::Parser;
-use crate::sink::{Noted, header_node, text_node};
+use crate::sink::Noted;
 use crate::status::{ErrorPlace, PARSER_CLOSED, reported};
+use itoa::Buffer;
 use simd_json::{Buffers, Container, NodeSink, Original, Result, StaticNode, fill_sink};
+use simd_json_print::text::store_bytes;
 use std::alloc::Global;
 use std::mem::replace;
+
+// How many bytes the texts are filled ahead of those that are needed.
+const STEP: usize = 65_536;
 
 /// What a parse lends.
 #[repr(C)]
@@ -25,13 +31,13 @@ pub struct Lent {
     pub nodes: *const Node,
     /// How many there are.
     pub nodes_len: usize,
-    /// The texts of strings and decimals, one after another.
+    /// The texts of strings and literals, one after another.
     pub text: *const u8,
     /// How many bytes these have.
     pub text_len: usize,
 }
 
-/// Keeps the nodes of a document, and the texts of its strings and decimals, and lends them until
+/// Keeps the nodes of a document, and the texts of its strings and literals, and lends them until
 /// the next call with the parser.
 #[unsafe(no_mangle)]
 pub extern "C" fn simd_json_parser_parse(
@@ -54,28 +60,31 @@ pub extern "C" fn simd_json_parser_parse(
     }
 }
 
-// Keeps the nodes of a document and their texts in empty lists. Returns whether there was memory
-// for all of them.
+// Keeps the nodes of a document in an empty list, and their texts at the front of another. Returns
+// how many bytes these have, or `None` if an allocation failed.
 pub(crate) fn keep<K: Original>(
     buffers: &mut Buffers,
     input: &mut [u8],
     nodes: &mut Vec<Node>,
     text: &mut Vec<u8>,
-) -> Result<bool>
+) -> Result<Option<usize>>
     requires input { input.old ≡ K.bytes }
-    requires empty { (nodes.old.items ≡ []) × (text.old.items ≡ []) }
+    requires empty { nodes.old.items ≡ [] }
     ensures read { (ns : List Item) × IsParse K.bytes buffers.old.limit (capacity buffers.old)
         (result_err result) ns buffers.new.positions
-        × IfOk result (λ is_whole. is_whole ≡ true → AreKept ns nodes.new.items text.new.items) }
+        × IfOk result (λ kept. IfSome kept (λ used. (used ≤ length text.new.items)
+        × AreCut ns nodes.new.items (take used text.new.items))) }
     ensures kept { (buffers.new.limit ≡ buffers.old.limit)
         × KeepsCapacities buffers.old buffers.new }
 {
     let noted = Noted::of(&());
+    let is_whole = text.reserve(input.len().saturating_sub(text.len())).is_ok();
     let mut sink = KeptSink {
         nodes,
         text,
+        used: 0,
         count: 0,
-        is_whole: true,
+        is_whole,
         is_container: false,
         noted,
     };
@@ -83,20 +92,23 @@ pub(crate) fn keep<K: Original>(
     let KeptSink {
         nodes: _nodes,
         text: _text,
+        used,
         count: _,
         is_whole,
         is_container: _,
         noted: _,
     } = sink;
-    Ok(is_whole)
+    if is_whole { Ok(Some(used)) } else { Ok(None) }
 }
 
 // Nodes and texts in memory that grows with them, as long as allocations succeed.
 #[derive(Drop)]
 pub(crate) struct KeptSink<'t> {
     nodes: &'t mut Vec<Node>,
-    // the bytes of strings and decimals, one after another
+    // the bytes of strings and literals, one after another, and behind them bytes that are not in use
     text: &'t mut Vec<u8>,
+    // how many are in use
+    used: usize,
     // how many nodes were appended, kept or not
     count: usize,
     // whether all of them are kept
@@ -107,23 +119,48 @@ pub(crate) struct KeptSink<'t> {
     noted: Noted,
     ghost counted: { count ≡ length noted.note.items },
     ghost headed: { is_container ≡ is_headed noted.note.items },
-    ghost kept: { is_whole ≡ true → AreKept noted.note.items nodes.now.items text.now.items },
+    ghost within: { used ≤ length text.now.items },
+    ghost kept: { is_whole ≡ true
+        → AreCut noted.note.items nodes.now.items (take used text.now.items) },
 }
 
 impl KeptSink<'_> {
-    // Appends a string or a decimal. Not inlined, as in the other sink.
+    // Appends a node with a text. Not inlined, as in the other sink.
     #[inline(never)]
-    fn put_text(&mut self, is_decimal: bool, bytes: &[u8])
-        requires { length self.old.noted.note.items < max_length }
-        ensures note { self.new.noted.note
-            ≡ noting self.old.noted.note (text_item is_decimal bytes.now) }
+    fn put_text(&mut self, kind: u32, bytes: &[u8], noted: Noted)
+        requires room { length self.old.noted.note.items < max_length }
+        requires one { IsTextNoted self.old.noted.note noted.note kind bytes.now }
+        ensures note { self.new.noted.note ≡ noted.note }
         ensures nodes { self.new.nodes.ghost_name ≡ self.old.nodes.ghost_name }
         ensures text { self.new.text.ghost_name ≡ self.old.text.ghost_name }
     {
-        let node = text_node(is_decimal, bytes.len(), self.text.len());
-        self.is_whole = keep_both(self.is_whole, self.nodes, node, self.text, bytes);
+        let node = span_of(kind, bytes.len(), self.used);
+        (self.is_whole, self.used) = keep_both(
+            self.is_whole,
+            self.nodes,
+            node,
+            self.text,
+            self.used,
+            bytes,
+        );
         self.count += 1;
-        self.noted = Noted::of(&(&self.noted, is_decimal, bytes));
+        self.noted = noted;
+    }
+
+    // Appends an integer of 128 bits.
+    #[cold]
+    #[inline(never)]
+    fn put_wide(&mut self, value: StaticNode)
+        requires room { length self.old.noted.note.items < max_length }
+        requires wide { is_wide value ≡ true }
+        ensures note { self.new.noted.note ≡ noting self.old.noted.note (static_item value) }
+        ensures nodes { self.new.nodes.ghost_name ≡ self.old.nodes.ghost_name }
+        ensures text { self.new.text.ghost_name ≡ self.old.text.ghost_name }
+    {
+        let mut digits = Buffer::new();
+        let (kind, literal) = literal_of(value, &mut digits);
+        let noted = Noted::of(&(&self.noted, value));
+        self.put_text(kind, literal.as_bytes(), noted);
     }
 }
 
@@ -148,19 +185,25 @@ impl<'de, 't> NodeSink<'de> for KeptSink<'t> {
 
     #[inline(always)]
     fn push_string(&mut self, string: &'de str) {
-        self.put_text(false, string.as_bytes());
+        let noted = Noted::of(&(&self.noted, string));
+        self.put_text(7, string.as_bytes(), noted);
     }
 
     #[inline(always)]
     fn push_decimal(&mut self, literal: &'de str) {
-        self.put_text(true, literal.as_bytes());
+        let noted = Noted::of(&(&self.noted, literal));
+        self.put_text(6, literal.as_bytes(), noted);
     }
 
     #[inline(always)]
     fn push_static(&mut self, value: StaticNode) {
-        self.is_whole = keep_node(self.is_whole, self.nodes, static_of(value));
-        self.count += 1;
-        self.noted = Noted::of(&(&self.noted, value));
+        if is_wide(&value) {
+            self.put_wide(value);
+        } else {
+            self.is_whole = keep_node(self.is_whole, self.nodes, static_of(value));
+            self.count += 1;
+            self.noted = Noted::of(&(&self.noted, value));
+        }
     }
 
     #[inline(always)]
@@ -192,21 +235,48 @@ fn keep_node(is_whole: bool, nodes: &mut Vec<Node>, node: Node) -> bool
     is_whole && nodes.push(node).is_ok()
 }
 
-// Appends a node and its text if all before them are kept, and returns whether they are. One call:
-// between the two the sink's invariant does not hold.
+// Appends a node and its text if all before them are kept. Returns whether they are, and how many
+// bytes of the texts are in use then. One call: between the two the sink's invariant does not hold.
 #[inline(always)]
 fn keep_both(
     is_whole: bool,
     nodes: &mut Vec<Node>,
     node: Node,
     text: &mut Vec<u8>,
+    used: usize,
     bytes: &[u8],
-) -> bool
-    ensures whole { result ≡ true → is_whole ≡ true }
-    ensures nodes { result ≡ true → nodes.new.items ≡ nodes.old.items ++ node ∷ [] }
-    ensures text { result ≡ true → text.new.items ≡ text.old.items ++ bytes.now }
+) -> (bool, usize)
+    requires { used ≤ length text.old.items }
+    ensures whole { result.0 ≡ true → is_whole ≡ true }
+    ensures nodes { result.0 ≡ true → nodes.new.items ≡ nodes.old.items ++ node ∷ [] }
+    ensures text { result.0 ≡ true
+        → take result.1 text.new.items ≡ take used text.old.items ++ bytes.now }
+    ensures within { result.1 ≤ length text.new.items }
 {
-    keep_node(is_whole, nodes, node) && text.extend_from_slice(bytes).is_ok()
+    if !keep_node(is_whole, nodes, node) {
+        return (false, used);
+    }
+    if bytes.len() > text.len() - used && !has_grown(text, bytes.len()) {
+        return (false, used);
+    }
+    store_bytes(text, used, bytes);
+    (true, used + bytes.len())
+}
+
+// Makes a list longer by `more` at least, and returns whether there was memory for that. It is
+// filled a step ahead, so that the bytes are still in the cache when they are overwritten.
+#[cold]
+#[inline(never)]
+fn has_grown(text: &mut Vec<u8>, more: usize) -> bool
+    ensures room { result ≡ true → length text.old.items + more ≤ length text.new.items }
+    ensures kept { take (length text.old.items) text.new.items ≡ text.old.items }
+    ensures longer { length text.old.items ≤ length text.new.items }
+{
+    let ahead = STEP.min(text.capacity() - text.len());
+    match text.len().checked_add(more.max(ahead)) {
+        Some(len) => text.resize(len, 0).is_ok(),
+        None => false,
+    }
 }
 
 // Writes a node at index `at` if there is one.

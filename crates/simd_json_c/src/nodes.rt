@@ -1,8 +1,12 @@
-//! Nodes as a program in C gets them. Integers are two words, since 128 bits don't cross to C.
-ghost use Rattle.std.specs.Prelude.{◌≡◌, ◌≤◌};
-ghost use Rattle.simd_json_c.specs.Nodes.{span, static_node, words};
+//! Nodes as a program in C gets them.
+ghost use Rattle.std.specs.Prelude.{◌≡◌, ℕ, false, length, true};
+ghost use Rattle.simd_json_parts.specs.Nodes.{static_item};
+ghost use Rattle.simd_json_stages.specs.Building.{header_of};
+ghost use Rattle.simd_json_c.specs.Nodes.{is_wide, node_of, span, text_of};
+ghost use Rattle.simd_json_c.specs.Loans.{cut, cut_of};
 
-use simd_json::StaticNode;
+use itoa::Buffer;
+use simd_json::{Container, StaticNode};
 
 /// A node of a tape.
 #[repr(C)]
@@ -11,11 +15,9 @@ pub struct Node {
     /// What it is, by the header's numbers.
     pub kind: u32,
     /// The length of its text in bytes, or its number of members.
-    pub len: usize,
-    /// The start of its text, the number of nodes beneath it, or the lower 64 bits of its number.
+    pub len: u32,
+    /// The start of its text, the number of nodes beneath it, or its number.
     pub value: u64,
-    /// The upper 64 bits of its number.
-    pub high: u64,
 }
 
 /// How much a tape takes.
@@ -28,70 +30,67 @@ pub struct Room {
     pub text: usize,
 }
 
-// A number of 128 bits, as two words.
-#[inline(always)]
-fn words_of(kind: u32, bits: u128) -> Node
-    ensures { result ≡ words kind bits }
-{
-    Node {
-        kind,
-        len: 0,
-        value: (bits % (1 << 64)) as u64,
-        high: (bits / (1 << 64)) as u64,
-    }
-}
-
+// A node with so many bytes or members. Only 32 bits of the length are kept: no document needs
+// more, since an input has fewer than 2^32 bytes.
 #[inline(always)]
 pub(crate) fn span_of(kind: u32, len: usize, value: usize) -> Node
-    ensures { result ≡ span kind len value }
+    ensures { result ≡ cut (span kind len value) }
 {
     Node {
         kind,
-        len,
+        len: (len % (1 << 32)) as u32,
         value: value as u64,
-        high: 0,
     }
 }
 
-// The node of a value. Its kind is known where this is inlined, so the other cases disappear.
+// The header of a container with `len` members and `count` nodes beneath it.
+#[inline(always)]
+pub(crate) fn header_node(container: Container, len: usize, count: usize) -> Node
+    ensures { (start : ℕ) → result ≡ cut_of start (header_of container len count) }
+{
+    match container {
+        Container::Array => span_of(8, len, count),
+        Container::Object => span_of(9, len, count),
+    }
+}
+
+// Whether a value is an integer of 128 bits, which has a text.
+#[inline(always)]
+pub(crate) fn is_wide(value: &StaticNode) -> bool
+    ensures { result ≡ is_wide value.now }
+{
+    matches!(value, StaticNode::I128(_) | StaticNode::U128(_))
+}
+
+// The node of any other value. Its kind is known where this is inlined, so the other cases
+// disappear.
 #[inline(always)]
 pub(crate) fn static_of(value: StaticNode) -> Node
-    ensures { result ≡ static_node value }
+    ensures { is_wide value ≡ false
+        → (start : ℕ) → result ≡ cut_of start (static_item value) }
 {
-    match value {
-        StaticNode::Null => number(0, 0, 0),
-        StaticNode::Bool(value) => number(1, value as u64, 0),
-        StaticNode::I64(value) => number(
-            2,
-            value.cast_unsigned(),
-            ((value as i128).cast_unsigned() / (1 << 64)) as u64,
-        ),
-        StaticNode::U64(value) => number(3, value, 0),
-        wide => wide_of(&wide),
-    }
-}
-
-#[inline(always)]
-fn number(kind: u32, value: u64, high: u64) -> Node
-    ensures { result ≡ record { kind = kind; len = 0; value = value; high = high } }
-{
+    let (kind, value) = match value {
+        StaticNode::Bool(value) => (1, value as u64),
+        StaticNode::I64(value) => (2, value.cast_unsigned()),
+        StaticNode::U64(value) => (3, value),
+        _ => (0, 0),
+    };
     Node {
         kind,
         len: 0,
         value,
-        high,
     }
 }
 
-// The node of a number of 128 bits; `null` for any other value.
-#[cold]
-#[inline(never)]
-fn wide_of(value: &StaticNode) -> Node
-    ensures { 4 ≤ (static_node value.now).kind → result ≡ static_node value.now }
+// The kind and the literal of an integer of 128 bits.
+pub(crate) fn literal_of(value: StaticNode, digits: &mut Buffer) -> (u32, &str)
+    ensures { is_wide value ≡ true → (text_of (static_item value) ≡ result.1.now)
+        × ((start : ℕ) → node_of start (static_item value)
+        ≡ span result.0 (length result.1.now) start) }
 {
-    match *value {
-        StaticNode::I128(number) => words_of(4, number.cast_unsigned()),
-        StaticNode::U128(number) => words_of(5, number),
-        _ => words_of(0, 0),
+    match value {
+        StaticNode::I128(number) => (4, digits.format(number)),
+        StaticNode::U128(number) => (5, digits.format(number)),
+        _ => (0, ""),
     }
 }

@@ -99,7 +99,7 @@ pub extern "C" fn simd_json_parser_check(
     }
 }
 
-/// Writes the nodes of a document, and the texts of its strings and decimals, to the caller's
+/// Writes the nodes of a document, and the texts of its strings and literals, to the caller's
 /// memory.
 #[unsafe(no_mangle)]
 pub extern "C" fn simd_json_parser_tape(

@@ -68,10 +68,10 @@ fn child(nodes: &[Node], text: &[u8], at: usize, token: &[u8]) -> Option<usize>
     }
     let node = nodes[at];
     if node.kind == ARRAY {
-        return element(nodes, at + 1, node.len, token);
+        return element(nodes, at + 1, node.len as usize, token);
     }
     if node.kind == OBJECT {
-        return member(nodes, text, at + 1, node.len, token);
+        return member(nodes, text, at + 1, node.len as usize, token);
     }
     None
 }
@@ -128,7 +128,7 @@ fn member(nodes: &[Node], text: &[u8], first: usize, len: usize, token: &[u8]) -
             return None;
         }
         let key = nodes[at];
-        if is_key(token, text_at(text, key.value, key.len)) {
+        if is_key(token, text_at(text, key.value, key.len as usize)) {
             return Some(at + 1);
         }
         at = after(nodes, at + 1)?;

@@ -2,18 +2,18 @@
 //! caller learns how much room it needs, and one that keeps nothing, which checks that an input is
 //! a document. A ghost record says which nodes were appended, also those that did not fit or were
 //! not kept.
-ghost use Rattle.std.specs.Prelude.{◌≡◌, ◌≤◌, ◌<◌, ◌+◌, ◌++◌, ℕ, List, drop, length, min};
-ghost use Rattle.std.specs.Prelude.{slice_set, take};
+ghost use Rattle.std.specs.Prelude.{◌≡◌, ◌≤◌, ◌<◌, ◌+◌, ◌++◌, drop, length, min};
+ghost use Rattle.std.specs.Prelude.{slice_set, take, true};
 ghost use Rattle.simd_json_parts.specs.Nodes.{static_item};
 ghost use Rattle.simd_json_parts.specs.Limits.{max_length};
-ghost use Rattle.simd_json_stages.specs.Building.{header_of};
-ghost use Rattle.simd_json_c.specs.Loans.{AreLaid, AreTextsLaid, Loan, is_headed, noting};
-ghost use Rattle.simd_json_c.specs.Loans.{text_item};
-ghost use Rattle.simd_json_c.specs.Nodes.{node_of, texts};
+ghost use Rattle.simd_json_c.specs.Loans.{AreLaid, AreTextsLaid, IsTextNoted, Loan};
+ghost use Rattle.simd_json_c.specs.Loans.{is_headed, noting};
+ghost use Rattle.simd_json_c.specs.Nodes.{is_wide, texts};
 ghost use base.Fml.{ftrue};
 ghost use Rattle.simd_json_c.specs.Notes.{Note};
 
-use crate::nodes::{Node, span_of, static_of};
+use crate::nodes::{Node, header_node, is_wide, literal_of, span_of, static_of};
+use itoa::Buffer;
 use simd_json::{Container, NodeSink, StaticNode};
 use simd_json_print::text::store_bytes;
 use std::marker::Model;
@@ -25,7 +25,7 @@ pub(crate) struct CallerSink<'t> {
     pub(crate) nodes: &'t mut [Node],
     // how many nodes were appended, whether they fit or not
     pub(crate) count: usize,
-    // the caller's memory for the bytes of strings and decimals, one after another
+    // the caller's memory for the bytes of strings and literals, one after another
     pub(crate) text: &'t mut [u8],
     // how many bytes these have, whether they fit or not, or the greatest number
     pub(crate) used: usize,
@@ -43,21 +43,37 @@ pub(crate) struct CallerSink<'t> {
 }
 
 impl CallerSink<'_> {
-    // Appends a string or a decimal. Not inlined, since the machine calls it from many places, and
+    // Appends a node with a text. Not inlined, since the machine calls it from many places, and
     // would become too large to be inlined itself.
     #[inline(never)]
-    fn put_text(&mut self, is_decimal: bool, bytes: &[u8])
-        requires { length self.old.noted.note.items < max_length }
-        ensures note { self.new.noted.note
-            ≡ noting self.old.noted.note (text_item is_decimal bytes.now) }
+    fn put_text(&mut self, kind: u32, bytes: &[u8], noted: Noted)
+        requires room { length self.old.noted.note.items < max_length }
+        requires one { IsTextNoted self.old.noted.note noted.note kind bytes.now }
+        ensures note { self.new.noted.note ≡ noted.note }
         ensures nodes { self.new.nodes.ghost_name ≡ self.old.nodes.ghost_name }
         ensures text { self.new.text.ghost_name ≡ self.old.text.ghost_name }
     {
-        let node = text_node(is_decimal, bytes.len(), self.used);
+        let node = span_of(kind, bytes.len(), self.used);
         write_both(self.nodes, self.count, node, self.text, self.used, bytes);
         self.count += 1;
         self.used = self.used.saturating_add(bytes.len());
-        self.noted = Noted::of(&(&self.noted, is_decimal, bytes));
+        self.noted = noted;
+    }
+
+    // Appends an integer of 128 bits.
+    #[cold]
+    #[inline(never)]
+    fn put_wide(&mut self, value: StaticNode)
+        requires room { length self.old.noted.note.items < max_length }
+        requires wide { is_wide value ≡ true }
+        ensures note { self.new.noted.note ≡ noting self.old.noted.note (static_item value) }
+        ensures nodes { self.new.nodes.ghost_name ≡ self.old.nodes.ghost_name }
+        ensures text { self.new.text.ghost_name ≡ self.old.text.ghost_name }
+    {
+        let mut digits = Buffer::new();
+        let (kind, literal) = literal_of(value, &mut digits);
+        let noted = Noted::of(&(&self.noted, value));
+        self.put_text(kind, literal.as_bytes(), noted);
     }
 }
 
@@ -82,19 +98,25 @@ impl<'de, 't> NodeSink<'de> for CallerSink<'t> {
 
     #[inline(always)]
     fn push_string(&mut self, string: &'de str) {
-        self.put_text(false, string.as_bytes());
+        let noted = Noted::of(&(&self.noted, string));
+        self.put_text(7, string.as_bytes(), noted);
     }
 
     #[inline(always)]
     fn push_decimal(&mut self, literal: &'de str) {
-        self.put_text(true, literal.as_bytes());
+        let noted = Noted::of(&(&self.noted, literal));
+        self.put_text(6, literal.as_bytes(), noted);
     }
 
     #[inline(always)]
     fn push_static(&mut self, value: StaticNode) {
-        write_node(self.nodes, self.count, static_of(value));
-        self.count += 1;
-        self.noted = Noted::of(&(&self.noted, value));
+        if is_wide(&value) {
+            self.put_wide(value);
+        } else {
+            write_node(self.nodes, self.count, static_of(value));
+            self.count += 1;
+            self.noted = Noted::of(&(&self.noted, value));
+        }
     }
 
     #[inline(always)]
@@ -114,29 +136,6 @@ impl<'de, 't> NodeSink<'de> for CallerSink<'t> {
     #[inline(always)]
     fn starts_with_header(&self) -> bool {
         self.is_container
-    }
-}
-
-// The node of a string or a decimal whose `len` bytes begin at index `start` of the texts.
-#[inline(always)]
-pub(crate) fn text_node(is_decimal: bool, len: usize, start: usize) -> Node
-    ensures { (t : List ℕ) → length t ≡ len → result ≡ node_of start (text_item is_decimal t) }
-{
-    if is_decimal {
-        span_of(6, len, start)
-    } else {
-        span_of(7, len, start)
-    }
-}
-
-// The header of a container with `len` members and `count` nodes beneath it.
-#[inline(always)]
-pub(crate) fn header_node(container: Container, len: usize, count: usize) -> Node
-    ensures { (start : ℕ) → result ≡ node_of start (header_of container len count) }
-{
-    match container {
-        Container::Array => span_of(8, len, count),
-        Container::Object => span_of(9, len, count),
     }
 }
 

@@ -6,7 +6,7 @@ ghost use Rattle.simd_json_c.specs.Nodes.{room_for, texts};
 ghost use Rattle.simd_json_parts.specs.Nodes.{Item};
 ghost use Rattle.std.specs.Result.{result_err};
 ghost use Rattle.simd_json.specs.Capacities.{KeepsCapacities, capacity};
-ghost use Rattle.simd_json.specs.Parsed.{IsParse, written};
+ghost use Rattle.simd_json.specs.Parsed.{IsParse};
 ghost use Rattle.simd_json_c.specs.Kept.{AreNew, IsReadWith, KeepsLists};
 ghost use Rattle.simd_json_c.specs.Chosen.{IsChosenPut, IsTapedWith};
 ghost use Rattle.simd_json_c.specs.Lent.{AreLent};
@@ -44,7 +44,7 @@ fn tape(
     Lists::new(alloc, max_depth)?.tape(input, nodes, text, room)
 }
 
-/// Writes the nodes of a document, and the texts of its strings and decimals, to the caller's
+/// Writes the nodes of a document, and the texts of its strings and literals, to the caller's
 /// memory.
 #[unsafe(no_mangle)]
 pub extern "C" fn simd_json_tape(
@@ -197,17 +197,18 @@ impl Lists {
         ensures kept { KeepsLists self.old self.new }
     {
         self.nodes.clear();
-        self.text.clear();
-        if !keep::<Brand>(&mut self.buffers, input, &mut self.nodes, &mut self.text)? {
-            return Ok(OUT_OF_MEMORY);
+        match keep::<Brand>(&mut self.buffers, input, &mut self.nodes, &mut self.text)? {
+            Some(text_len) => {
+                *lent = Lent {
+                    nodes: self.nodes.as_ptr(),
+                    nodes_len: self.nodes.len(),
+                    text: self.text.as_ptr(),
+                    text_len,
+                };
+                Ok(0)
+            }
+            None => Ok(OUT_OF_MEMORY),
         }
-        *lent = Lent {
-            nodes: self.nodes.as_ptr(),
-            nodes_len: self.nodes.len(),
-            text: self.text.as_ptr(),
-            text_len: self.text.len(),
-        };
-        Ok(0)
     }
 }
 

@@ -1,22 +1,31 @@
-use Rattle.std.proofs.Common.{◌∙◌, ap, refl, sym, ◌+◌}
-use Rattle.simd_json_c.specs.Loans.{text_item}
-use Rattle.simd_json_c.specs.Nodes.{node_of}
+use Rattle.std.proofs.Common.{◌∙◌, ap, sym, ◌+◌}
+use Rattle.std.proofs.lemmas.List.{length-take-le}
+use Rattle.simd_json_c.specs.Loans.{cut, cut_of}
 use Rattle.simd_json_c.proofs.Keeping.{kept-push}
-use Rattle.simd_json_c.proofs.Laying.{length-push, headed-push, text_item-text, text_item-header}
+use Rattle.simd_json_c.proofs.Laying.{length-push, headed-push}
 use Rattle.simd_json_c.proofs.lent.KeptSink.put_text.Goals as goal
 
-pub invariant_of-self : goal.invariant_of-self
-invariant_of-self c =
+pub invariant_of-self-clause-counted : goal.invariant_of-self-clause-counted
+invariant_of-self-clause-counted c =
     let s = c.args.self.now in
-    let items = s.noted.note.items in
-    let decimal = c.args.is_decimal in
-    let bytes = c.args.bytes.now in
-    let x = text_item decimal bytes in
-    let k = c.keep_both-self.ensures in
-    rw c.of-self.ensures (record {
-      counted = ap (λ k. k + 1) s.counted ∙ sym (length-push items x);
-      headed = s.headed ∙ sym (headed-push items x (text_item-header decimal bytes));
-      kept = λ whole. kept-push items x _ _ _ _ bytes _ (s.kept (k.whole whole))
-          (c.text_node-node.ensures bytes refl ∙ ap (λ at. node_of at x) (c.len.ensures ∙ s.text.now.ok.0))
-          (text_item-text decimal bytes) (k.nodes whole) (k.text whole);
-    })
+    let one = c.requires.one in
+    rw one.1 (ap (λ k. k + 1) s.counted ∙ sym (length-push s.noted.note.items one.0))
+
+pub invariant_of-self-clause-headed : goal.invariant_of-self-clause-headed
+invariant_of-self-clause-headed c =
+    let s = c.args.self.now in
+    let one = c.requires.one in
+    rw one.1 (s.headed ∙ sym (headed-push s.noted.note.items one.0 one.2))
+
+pub invariant_of-self-clause-within : goal.invariant_of-self-clause-within
+invariant_of-self-clause-within c = c.keep_both.ensures.within
+
+pub invariant_of-self-clause-kept : goal.invariant_of-self-clause-kept
+invariant_of-self-clause-kept c whole =
+    let s = c.args.self.now in
+    let one = c.requires.one in
+    let k = c.keep_both.ensures in
+    let at = sym (length-take-le s.used s.text.now.items s.within) in
+    rw one.1
+    (kept-push s.noted.note.items one.0 _ _ _ _ c.args.bytes.now _ (s.kept (k.whole whole))
+    (c.span_of-node.ensures ∙ ap cut (sym (one.4 _)) ∙ ap (λ i. cut_of i one.0) at) one.3 (k.nodes whole) (k.text whole))

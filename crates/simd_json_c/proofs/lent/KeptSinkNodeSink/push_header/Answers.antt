@@ -1,19 +1,29 @@
-use Rattle.std.proofs.Common.{◌∙◌, ap, sym, [], ◌+◌}
+use Rattle.std.proofs.Common.{◌∙◌, ap, sym, [], ◌+◌, take}
 use Rattle.simd_json_stages.specs.Building.{header_of}
 use Rattle.simd_json_c.proofs.Keeping.{kept-push}
 use Rattle.simd_json_c.proofs.Laying.{append-nil, length-push, headed-push_header, header_of-text}
 use Rattle.simd_json_c.proofs.lent.KeptSinkNodeSink.push_header.Goals as goal
 
-pub invariant_of-self : goal.invariant_of-self
-invariant_of-self c =
+pub invariant_of-self-clause-counted : goal.invariant_of-self-clause-counted
+invariant_of-self-clause-counted c =
     let s = c.args.self.now in
-    let items = s.noted.note.items in
     let x = header_of c.args.container 0 0 in
-    let none = header_of-text c.args.container 0 0 in
+    rw c.of-self.ensures (ap (λ k. k + 1) s.counted ∙ sym (length-push s.noted.note.items x))
+
+pub invariant_of-self-clause-headed : goal.invariant_of-self-clause-headed
+invariant_of-self-clause-headed c =
+    let s = c.args.self.now in
+    let x = header_of c.args.container 0 0 in
+    rw c.of-self.ensures (headed-push_header s.noted.note.items c.args.container s.count s.is_container s.counted s.headed)
+
+pub invariant_of-self-clause-within : goal.invariant_of-self-clause-within
+invariant_of-self-clause-within c = c.args.self.now.within
+
+pub invariant_of-self-clause-kept : goal.invariant_of-self-clause-kept
+invariant_of-self-clause-kept c whole =
+    let s = c.args.self.now in
+    let x = header_of c.args.container 0 0 in
     let k = c.keep_node-self.ensures in
-    rw c.of-self.ensures (record {
-      counted = ap (λ k. k + 1) s.counted ∙ sym (length-push items x);
-      headed = headed-push_header items c.args.container s.count s.is_container s.counted s.headed;
-      kept = λ whole. kept-push items x _ _ _ _ [] _ (s.kept (k.whole whole)) (c.header_node.ensures _) none (k.nodes whole)
-          (sym (append-nil s.text.now.items));
-    })
+    rw c.of-self.ensures
+    (kept-push s.noted.note.items x _ _ _ _ [] _ (s.kept (k.whole whole)) (c.header_node.ensures _)
+    (header_of-text c.args.container 0 0) (k.nodes whole) (sym (append-nil (take s.used s.text.now.items))))

@@ -1,18 +1,31 @@
-use Rattle.std.proofs.Common.{◌∙◌, ap, refl, sym, [], ◌+◌}
+use Rattle.std.proofs.Common.{◌≡◌, ◌∙◌, ap, refl, sym, [], ◌+◌, false, take}
 use Rattle.simd_json_parts.specs.Nodes.{static_item}
+use Rattle.simd_json_c.specs.Nodes.{is_wide}
 use Rattle.simd_json_c.proofs.Keeping.{kept-push}
-use Rattle.simd_json_c.proofs.Laying.{append-nil, length-push, headed-push}
+use Rattle.simd_json_c.proofs.Laying.{append-nil, length-push, headed-push, plain-text}
 use Rattle.simd_json_c.proofs.lent.KeptSinkNodeSink.push_static.Goals as goal
 
-pub invariant_of-self : goal.invariant_of-self
-invariant_of-self c =
+pub invariant_of-self-clause-counted : goal.invariant_of-self-clause-counted
+invariant_of-self-clause-counted c =
     let s = c.args.self.now in
-    let items = s.noted.note.items in
     let x = static_item c.args.value in
+    rw c.of-self.ensures (ap (λ k. k + 1) s.counted ∙ sym (length-push s.noted.note.items x))
+
+pub invariant_of-self-clause-headed : goal.invariant_of-self-clause-headed
+invariant_of-self-clause-headed c =
+    let s = c.args.self.now in
+    let x = static_item c.args.value in
+    rw c.of-self.ensures (s.headed ∙ sym (headed-push s.noted.note.items x refl))
+
+pub invariant_of-self-clause-within : goal.invariant_of-self-clause-within
+invariant_of-self-clause-within c = c.args.self.now.within
+
+pub invariant_of-self-clause-kept : goal.invariant_of-self-clause-kept
+invariant_of-self-clause-kept c whole =
+    let s = c.args.self.now in
+    let x = static_item c.args.value in
+    let plain : is_wide c.args.value ≡ false = sym c.is_wide.ensures ∙ c.if-is_wide.false in
     let k = c.keep_node-self.ensures in
-    rw c.of-self.ensures (record {
-      counted = ap (λ k. k + 1) s.counted ∙ sym (length-push items x);
-      headed = s.headed ∙ sym (headed-push items x refl);
-      kept = λ whole. kept-push items x _ _ _ _ [] _ (s.kept (k.whole whole)) c.static_of.ensures refl (k.nodes whole)
-          (sym (append-nil s.text.now.items));
-    })
+    rw c.of-self.ensures
+    (kept-push s.noted.note.items x _ _ _ _ [] _ (s.kept (k.whole whole)) (c.static_of.ensures plain _)
+    (plain-text c.args.value plain) (k.nodes whole) (sym (append-nil (take s.used s.text.now.items))))

@@ -5,16 +5,26 @@ use Rattle.simd_json_c.proofs.Keeping.{kept-set}
 use Rattle.simd_json_c.proofs.Laying.{headed-set, header_of-header}
 use Rattle.simd_json_c.proofs.lent.KeptSinkNodeSink.set_counts.Goals as goal
 
-pub invariant_of-self : goal.invariant_of-self
-invariant_of-self c =
+pub invariant_of-self-clause-counted : goal.invariant_of-self-clause-counted
+invariant_of-self-clause-counted c =
     let s = c.args.self.now in
-    let items = s.noted.note.items in
-    let i = c.args.header in
     let y = header_of c.args.container c.args.len c.args.count in
-    let is = header_of-header c.args.container c.args.len c.args.count in
-    rw c.of-self.ensures (record {
-      counted = s.counted ∙ sym (length-set items i y);
-      headed = s.headed ∙ sym (headed-set items i y _ c.requires.header is);
-      kept = λ whole. kept-set items i y _ _ _ _ _ (s.kept whole) c.requires.within c.requires.header is c.header_node.ensures
-          c.set_node.ensures;
-    })
+    rw c.of-self.ensures (s.counted ∙ sym (length-set s.noted.note.items c.args.header y))
+
+pub invariant_of-self-clause-headed : goal.invariant_of-self-clause-headed
+invariant_of-self-clause-headed c =
+    let s = c.args.self.now in
+    let y = header_of c.args.container c.args.len c.args.count in
+    rw c.of-self.ensures (s.headed ∙ sym (headed-set s.noted.note.items c.args.header y _ c.requires.header
+    (header_of-header c.args.container c.args.len c.args.count)))
+
+pub invariant_of-self-clause-within : goal.invariant_of-self-clause-within
+invariant_of-self-clause-within c = c.args.self.now.within
+
+pub invariant_of-self-clause-kept : goal.invariant_of-self-clause-kept
+invariant_of-self-clause-kept c whole =
+    let s = c.args.self.now in
+    let y = header_of c.args.container c.args.len c.args.count in
+    rw c.of-self.ensures
+    (kept-set s.noted.note.items c.args.header y _ _ _ _ _ (s.kept whole) c.requires.within c.requires.header
+    (header_of-header c.args.container c.args.len c.args.count) c.header_node.ensures c.set_node.ensures)
