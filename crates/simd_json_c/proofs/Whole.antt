@@ -1,6 +1,6 @@
 -- The lengths of a document's nodes fit 32 bits, since it has fewer bytes.
-use Rattle.std.proofs.Common.{◌≡◌, ◌≤◌, ◌<◌, ◌+◌, ◌^◌, ◌∙◌, ap, sym, subst, arith, ℕ, List, [], ◌∷◌, ◌++◌, length, length-append, true, false}
-use Rattle.std.proofs.Common.{Bool, None, refl, drop, take}
+use Rattle.std.proofs.Common.{◌≡◌, ◌≤◌, ◌<◌, ◌+◌, ◌^◌, ◌∙◌, ap, sym, subst, arith, ℕ, List, [], ◌∷◌, ◌++◌, length, length-append}
+use Rattle.std.proofs.Common.{true, false, Bool, None, refl, drop, take}
 use Rattle.std.proofs.lemmas.List.{length-take-le}
 use Rattle.std.proofs.Math.Nat.{mod-eq_of_lt}
 use Rattle.std.specs.Fmt.{signed_decimal}

@@ -20,6 +20,9 @@ use simd_json_print::text::store_bytes;
 use std::alloc::Global;
 use std::mem::replace;
 
+// How many bytes of a text are stored without a call.
+const FEW: usize = 32;
+
 // How many bytes the texts are filled ahead of those that are needed.
 const STEP: usize = 65_536;
 
@@ -105,7 +108,7 @@ pub(crate) fn keep<K: Original>(
 #[derive(Drop)]
 pub(crate) struct KeptSink<'t> {
     nodes: &'t mut Vec<Node>,
-    // the bytes of strings and literals, one after another, and behind them bytes that are not in use
+    // the bytes of strings and literals, one after another, then bytes that are not in use
     text: &'t mut Vec<u8>,
     // how many are in use
     used: usize,
@@ -125,9 +128,44 @@ pub(crate) struct KeptSink<'t> {
 }
 
 impl KeptSink<'_> {
-    // Appends a node with a text. Not inlined, as in the other sink.
+    // Appends a node with a text. Not inlined, as in the other sink. If there is memory for it and
+    // it is short, nothing is called, so that no register has to be saved.
     #[inline(never)]
     fn put_text(&mut self, kind: u32, bytes: &[u8], noted: Noted)
+        requires room { length self.old.noted.note.items < max_length }
+        requires one { IsTextNoted self.old.noted.note noted.note kind bytes.now }
+        ensures note { self.new.noted.note ≡ noted.note }
+        ensures nodes { self.new.nodes.ghost_name ≡ self.old.nodes.ghost_name }
+        ensures text { self.new.text.ghost_name ≡ self.old.text.ghost_name }
+    {
+        // One by one, so that the compiler knows each in what follows.
+        if !self.is_whole || bytes.len() > FEW {
+            return self.put_any(kind, bytes, noted);
+        }
+        if bytes.len() > self.text.len() - self.used {
+            return self.put_any(kind, bytes, noted);
+        }
+        if self.nodes.len() == self.nodes.capacity() {
+            return self.put_any(kind, bytes, noted);
+        }
+        self.put(kind, bytes, noted);
+    }
+
+    // The same for any text.
+    #[inline(never)]
+    fn put_any(&mut self, kind: u32, bytes: &[u8], noted: Noted)
+        requires room { length self.old.noted.note.items < max_length }
+        requires one { IsTextNoted self.old.noted.note noted.note kind bytes.now }
+        ensures note { self.new.noted.note ≡ noted.note }
+        ensures nodes { self.new.nodes.ghost_name ≡ self.old.nodes.ghost_name }
+        ensures text { self.new.text.ghost_name ≡ self.old.text.ghost_name }
+    {
+        self.put(kind, bytes, noted);
+    }
+
+    // What both do.
+    #[inline(always)]
+    fn put(&mut self, kind: u32, bytes: &[u8], noted: Noted)
         requires room { length self.old.noted.note.items < max_length }
         requires one { IsTextNoted self.old.noted.note noted.note kind bytes.now }
         ensures note { self.new.noted.note ≡ noted.note }
@@ -253,10 +291,12 @@ fn keep_both(
         → take result.1 text.new.items ≡ take used text.old.items ++ bytes.now }
     ensures within { result.1 ≤ length text.new.items }
 {
-    if !keep_node(is_whole, nodes, node) {
+    if bytes.len() > text.len() - used && !has_grown(text, bytes.len()) {
         return (false, used);
     }
-    if bytes.len() > text.len() - used && !has_grown(text, bytes.len()) {
+    // Of a list, its length would be read again once a node is stored.
+    let text = text.as_mut_slice();
+    if !keep_node(is_whole, nodes, node) {
         return (false, used);
     }
     store_bytes(text, used, bytes);

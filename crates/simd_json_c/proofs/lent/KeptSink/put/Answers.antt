@@ -3,7 +3,7 @@ use Rattle.std.proofs.lemmas.List.{length-take-le}
 use Rattle.simd_json_c.specs.Loans.{cut, cut_of}
 use Rattle.simd_json_c.proofs.Keeping.{kept-push}
 use Rattle.simd_json_c.proofs.Laying.{length-push, headed-push}
-use Rattle.simd_json_c.proofs.lent.KeptSink.put_text.Goals as goal
+use Rattle.simd_json_c.proofs.lent.KeptSink.put.Goals as goal
 
 pub invariant_of-self-clause-counted : goal.invariant_of-self-clause-counted
 invariant_of-self-clause-counted c =
