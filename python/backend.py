@@ -1,6 +1,7 @@
 """Builds the wheel with a C compiler and nothing else: `make wheel`, or `pip install python/` where the library is built.
 
-The library is that of the folder SIMD_JSON_LIB_DIR, or else of `build`; the version is the header's."""
+The library is that of the folder SIMD_JSON_LIB_DIR, or else of `build`, and with it that of SIMD_JSON_V3_LIB_DIR for processors
+that have x86-64-v3, if that is given; the version is the header's."""
 import base64
 import hashlib
 import os
@@ -14,6 +15,7 @@ import zipfile
 HERE = pathlib.Path(__file__).resolve().parent
 ROOT = HERE.parent
 LIBRARY = pathlib.Path(os.environ.get("SIMD_JSON_LIB_DIR") or ROOT / "build")
+FASTER = os.environ.get("SIMD_JSON_V3_LIB_DIR")
 HEADER = (ROOT / "include" / "simd_json.h").read_text()
 VERSION = ".".join(re.findall(r"^#define SIMD_JSON_VERSION_\w+ (\d+)$", HEADER, re.M))
 NAME, TAG = "simd_json", "cp310-abi3-manylinux_2_31_x86_64"
@@ -27,15 +29,31 @@ Requires-Python: >=3.10
 WHEEL = f"Wheel-Version: 1.0\nGenerator: simd_json\nRoot-Is-Purelib: false\nTag: {TAG}\n"
 
 
+def run(*command):
+    subprocess.run([str(word) for word in command], check=True)
+
+
 def compiled():
     """The bytes of the extension module, with the static library in it."""
     out = LIBRARY / "_native.abi3.so"
-    command = shlex.split(os.environ.get("CC", "cc")) + [
-        "-O2", "-Wall", "-Wextra", "-Werror", "-fPIC", "-shared", "-fvisibility=hidden", "-s",
-        "-I" + sysconfig.get_paths()["include"], f"-I{ROOT}/include", str(HERE / "native.c"),
-        str(LIBRARY / "libsimd_json.a"), "-o", str(out)]
-    subprocess.run(command, check=True)
+    compiler = shlex.split(os.environ.get("CC", "cc")) + [
+        "-O2", "-Wall", "-Wextra", "-Werror", "-fPIC", "-fvisibility=hidden",
+        "-I" + sysconfig.get_paths()["include"], f"-I{ROOT}/include"]
+    if FASTER:
+        parts = [part("v2", LIBRARY, compiler), part("v3", pathlib.Path(FASTER), compiler), HERE / "start.c"]
+    else:
+        parts = [HERE / "native.c", LIBRARY / "libsimd_json.a"]
+    run(*compiler, "-shared", "-s", *parts, "-o", out)
     return out.read_bytes()
+
+
+def part(level, library, compiler):
+    """The module with the library of a level in it, which shows nothing but how it begins."""
+    module, whole = LIBRARY / f"native_{level}.o", LIBRARY / f"module_{level}.o"
+    run(*compiler, f"-DPyInit__native=begin_{level}", "-c", HERE / "native.c", "-o", module)
+    run("ld", "-r", module, library / "libsimd_json.a", "-o", whole)
+    run("objcopy", f"--keep-global-symbol=begin_{level}", whole)
+    return whole
 
 
 def record(name, data):

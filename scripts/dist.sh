@@ -28,7 +28,7 @@ for program in "$@"; do
     cp completions/simd_json.bash "$to/share/bash-completion/completions/$program"
 done
 
-SIMD_JSON_LIB_DIR=$v2 python3 -B python/backend.py "$to/python" > /dev/null
+SIMD_JSON_LIB_DIR=$v2 SIMD_JSON_V3_LIB_DIR=$v3 python3 -B python/backend.py "$to/python" > /dev/null
 cp -R bindings/rust/Cargo.toml bindings/rust/build.rs bindings/rust/src "$to/rust/"
 cp LICENSE-MIT LICENSE-APACHE "$to/"
 { printf '# simd_json %s\n' "$version" && sed -n '/^### From the release/,/^### /{/^### /d;p;}' README.md; } > "$to/README.md"

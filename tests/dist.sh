@@ -86,8 +86,10 @@ fi
 
 if python3 -m pip --version > /dev/null 2>&1; then
     run python3 -m pip install --no-index --target "$room/site" "$at"/python/simd_json-*.whl
-    prints Python "42 $version" env PYTHONPATH="$room/site" python3 -B -c \
-        'import simd_json; print(simd_json.loads(b"[42]")[0], simd_json.__version__)'
+    for level in x86-64-v2 x86-64-v3; do
+        prints "Python, $level" "42 $version" env SIMD_JSON_CPU=$level PYTHONPATH="$room/site" python3 -B -c \
+            'import simd_json; print(simd_json.loads(b"[42]")[0], simd_json.__version__)'
+    done
 else
     left_out="$left_out Python (no pip);"
 fi
