@@ -130,45 +130,25 @@ fn all<'de, T: Deserialize<'de> + Sum>(texts: &'de [u8], stride: usize, len: usi
     sum
 }
 
-/// Reads texts of `len` bytes, one at the front of each `stride`, into types that own their strings. Returns the sum, or
-/// 2^64 - 1 where one was refused.
-///
-/// # Safety
-///
-/// `texts` has `size` bytes, and `stride` is at least `len` and not 0.
-#[no_mangle]
-pub unsafe extern "C" fn serde_json_typed_owned(
-    texts: *const u8,
-    size: usize,
-    stride: usize,
-    len: usize,
-    form: u32,
-) -> u64 {
-    let texts = std::slice::from_raw_parts(texts, size);
-    match form {
-        0 => all::<Line<String>>(texts, stride, len),
-        1 => all::<Timeline<String>>(texts, stride, len),
-        _ => all::<Map>(texts, stride, len),
-    }
+// Exports a function for types with such strings.
+macro_rules! export {
+    ($name:ident, $text:ty) => {
+        /// Reads texts of `len` bytes, one at the front of each `stride`. Returns the sum, or 2^64 - 1 where one was refused.
+        ///
+        /// # Safety
+        ///
+        /// `texts` has `size` bytes, and `stride` is at least `len` and not 0.
+        #[no_mangle]
+        pub unsafe extern "C" fn $name(texts: *const u8, size: usize, stride: usize, len: usize, form: u32) -> u64 {
+            let texts = std::slice::from_raw_parts(texts, size);
+            match form {
+                0 => all::<Line<$text>>(texts, stride, len),
+                1 => all::<Timeline<$text>>(texts, stride, len),
+                _ => all::<Map>(texts, stride, len),
+            }
+        }
+    };
 }
 
-/// The same into types that borrow them.
-///
-/// # Safety
-///
-/// As of `serde_json_typed_owned`.
-#[no_mangle]
-pub unsafe extern "C" fn serde_json_typed_borrowed(
-    texts: *const u8,
-    size: usize,
-    stride: usize,
-    len: usize,
-    form: u32,
-) -> u64 {
-    let texts = std::slice::from_raw_parts(texts, size);
-    match form {
-        0 => all::<Line<&str>>(texts, stride, len),
-        1 => all::<Timeline<&str>>(texts, stride, len),
-        _ => all::<Map>(texts, stride, len),
-    }
-}
+export!(serde_json_typed_owned, String);
+export!(serde_json_typed_borrowed, &str);

@@ -158,7 +158,8 @@ headed (object ms) = refl
 
 header-of : (start : ℕ) (d : Document) → Header d (node_of start (head d))
 header-of start null = scalar-header null (node_of start (head null)) refl (static-kind start fixed.Null) (λ t. refl)
-header-of start (boolean b) = scalar-header (boolean b) (node_of start (head (boolean b))) refl (static-kind start (fixed.Bool b)) (λ t. refl)
+header-of start (boolean b) =
+    scalar-header (boolean b) (node_of start (head (boolean b))) refl (static-kind start (fixed.Bool b)) (λ t. refl)
 header-of start (integer minus n) =
     scalar-header (integer minus n) (node_of start (head (integer minus n))) refl (static-kind start (integer_node minus n)) (λ t. refl)
 header-of start (decimal l) = scalar-header (decimal l) (node_of start (head (decimal l))) refl (omega arith) (λ t. refl)

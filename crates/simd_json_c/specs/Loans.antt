@@ -13,7 +13,7 @@ pub record Loan : Type 0 where
   pub nodes_before : List Node
   pub text_before : List ℕ
 
--- A node has 32 bits of its length, which are all where it is of a document.
+-- a node as it is written, with the lower 32 bits of its length: of a document's node these are all
 abbrev pub cut : Node → Node
 cut n = record n { len = n.len % 2 ^ 32 }
 
