@@ -24,8 +24,8 @@
  * Lengths and indexes are in bytes, of `nodes` in nodes.
  *
  * Nothing is kept between calls but in a simd_json_parser, nothing is locked, and threads may call at the same time, each
- * with a parser of its own. Memory is allocated by malloc, realloc and free of the C library, and freed before a call
- * returns, but for what a parser keeps; in a signal handler, or in the forked child of a process with threads, these can't
+ * with a parser of its own. Memory is allocated by malloc, realloc and free of the C library, of 4 MB or more with
+ * madvise(MADV_HUGEPAGE), and freed before a call returns, but for what a parser keeps; in a signal handler, or in the forked child of a process with threads, these can't
  * be called, and so neither can this library.
  *
  * Pointers are to memory of the caller, which a call uses until it returns, but for those that simd_json_parser_parse writes.
@@ -171,6 +171,15 @@ int32_t simd_json_tape(void *input, size_t len, size_t max_depth, simd_json_node
 #define SIMD_JSON_NO_NODE SIZE_MAX
 size_t simd_json_pointer(const simd_json_node *nodes, size_t nodes_len, const void *text, size_t text_len, size_t from,
                          const void *pointer, size_t pointer_len);
+
+/* The double nearest to a number as it is written, such as the literal of a SIMD_JSON_DECIMAL, in any locale:
+ *
+ *     double number;
+ *     simd_json_double(text + node.value, node.len, &number);
+ *
+ * Of two that are equally near it is the one with the even significand; past the greatest it is infinite.
+ * INVALID_NUMBER: the bytes are not a number as a document may hold it, without more; *number is unchanged. */
+int32_t simd_json_double(const void *literal, size_t len, double *number);
 
 /* The document as text, without whitespace. A decimal is its literal, an integer its digits; in strings a quote, a
  * backslash and bytes below 0x20 are escaped. Writes *place.

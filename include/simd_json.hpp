@@ -11,9 +11,7 @@
 
 #include <simd_json.h>
 
-#include <charconv>
 #include <cstdint>
-#include <cstdlib>
 #include <cstring>
 #include <exception>
 #include <memory>
@@ -123,9 +121,8 @@ private:
     }
     static double nearest(std::string_view literal) {
         double number = 0;
-        const auto read = std::from_chars(literal.data(), literal.data() + literal.size(), number);
-        /* Past the greatest, or nearer to 0 than the least: strtod says which. */
-        return read.ec == std::errc::result_out_of_range ? std::strtod(std::string(literal).c_str(), nullptr) : number;
+        simd_json_double(literal.data(), literal.size(), &number);
+        return number;
     }
 
     const simd_json_node *node_;

@@ -252,76 +252,21 @@ static PyObject *to_key(const memory *m, const simd_json_node *node) {
     return at->key;
 }
 
-/* A literal with a terminator, in `few` or in memory to be freed. */
-enum { FEW = 64 };
-static char *terminated(const memory *m, const simd_json_node *node, char *few) {
-    char *literal = node->len < FEW ? few : malloc((size_t)node->len + 1);
-    if (!literal)
-        return (char *)PyErr_NoMemory();
+/* An integer of more than 64 bits, which has 39 digits at most. */
+static PyObject *to_wide(const memory *m, const simd_json_node *node) {
+    char literal[48];
     memcpy(literal, m->document.text + node->value, node->len);
     literal[node->len] = 0;
-    return literal;
-}
-
-/* An integer of more than 64 bits. */
-static PyObject *to_wide(const memory *m, const simd_json_node *node) {
-    char few[FEW], *literal = terminated(m, node, few);
-    PyObject *number = literal ? PyLong_FromString(literal, NULL, 10) : NULL;
-    if (literal != few)
-        free(literal);
-    return number;
-}
-
-/* The nearest float of a literal without an exponent whose digits are an integer below 2^64, at most 27 of them behind the point:
- * that integer over a power of five, scaled by one of two, which rounds nothing. If both are floats, one rounding is left, that
- * of their quotient (W. D. Clinger, "How to Read Floating Point Numbers Accurately", PLDI 1990). Else the quotient of the integers
- * has 62 bits or more, and is odd where there is a remainder, so it is rounded as if it had all its bits. */
-static int read_short(const char *literal, size_t len, double *number) {
-    size_t i = literal[0] == '-', point = len;
-    uint64_t digits = 0, fives = 1;
-    for (; i < len && digits < UINT64_C(1000000000000000000); i++) {
-        if (literal[i] >= '0' && literal[i] <= '9') {
-            digits = 10 * digits + (uint64_t)(literal[i] - '0');
-            fives *= i > point ? 5 : 1;
-        } else if (literal[i] == '.') {
-            point = i;
-        } else {
-            return 0;
-        }
-    }
-    if (i < len || point == len || len - point - 1 > 27)
-        return 0;
-    int power = -(int)(len - point - 1);
-    if (digits == 0 || (digits < UINT64_C(1) << 53 && fives < UINT64_C(1) << 53)) {
-        *number = (double)(int64_t)digits / (double)(int64_t)fives;
-    } else {
-        int up = __builtin_clzll(digits), down = __builtin_clzll(fives);
-        unsigned __int128 dividend = (unsigned __int128)(digits << up) << 63;
-        uint64_t divisor = fives << down, quotient = (uint64_t)(dividend / divisor);
-        *number = (double)(quotient | (dividend % divisor != 0));
-        power += down - up - 63;
-    }
-    double scale;
-    uint64_t bits = (uint64_t)(1023 + power) << 52; /* of 2^power */
-    memcpy(&scale, &bits, sizeof scale);
-    *number *= literal[0] == '-' ? -scale : scale;
-    return 1;
+    return PyLong_FromString(literal, NULL, 10);
 }
 
 /* A number with a fraction or an exponent: the nearest float, or what `parse_float` makes of its literal. */
 static PyObject *to_float(const memory *m, const simd_json_node *node, PyObject *parse_float) {
     if (parse_float)
         return PyObject_CallFunction(parse_float, "s#", m->document.text + node->value, (Py_ssize_t)node->len);
-    double number;
-    if (read_short(m->document.text + node->value, node->len, &number))
-        return PyFloat_FromDouble(number);
-    char few[FEW], *literal = terminated(m, node, few);
-    if (!literal)
-        return NULL;
-    number = PyOS_string_to_double(literal, NULL, NULL);
-    if (literal != few)
-        free(literal);
-    return number == -1.0 && PyErr_Occurred() ? NULL : PyFloat_FromDouble(number);
+    double number = 0;
+    simd_json_double(m->document.text + node->value, node->len, &number);
+    return PyFloat_FromDouble(number);
 }
 
 static PyObject *to_value(const memory *m, const simd_json_node *node, PyObject *parse_float) {

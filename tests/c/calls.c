@@ -1,6 +1,8 @@
 // What no row of tests/vectors asks: parsers that are opened and closed, and names. Silent where all is well.
+#include <math.h>
 #include <simd_json.h>
 #include <stdio.h>
+#include <stdlib.h>
 #include <string.h>
 
 static int wrong;
@@ -75,6 +77,44 @@ static void kinds_named(void) {
     WANT(simd_json_status_name(20, out, sizeof out) == 12 && memcmp(out, "ParserClosed", 12) == 0, "status 20");
     WANT(simd_json_status_name(21, out, sizeof out) == 7 && memcmp(out, "NoValue", 7) == 0, "status 21");
     WANT(simd_json_status_name(22, out, sizeof out) == 0 && simd_json_status_name(-1, out, sizeof out) == 0, "no status");
+}
+
+// Numbers as they are written: the compiler rounds the same ones for itself, and strtod random ones. Those that a document can't
+// hold are rejected.
+static void doubles(void) {
+    static const struct {
+        const char *literal;
+        double number;
+    } rows[] = {
+        {"0", 0}, {"-0", -0.0}, {"-0.0", -0.0}, {"1", 1}, {"-1.5E+2", -150}, {"0.1", 0.1}, {"1e23", 1e23},
+        {"9007199254740993", 0x1p53}, {"9007199254740995", 0x1.0000000000002p53}, {"9007199254740993.00000000000000000001", 0x1.0000000000001p53},
+        {"1.7976931348623157e308", 0x1.fffffffffffffp1023}, {"1.7976931348623159e308", INFINITY}, {"-1e400", -INFINITY},
+        {"2.2250738585072011e-308", 0x0.fffffffffffffp-1022}, {"5e-324", 0x1p-1074}, {"2e-324", 0}, {"-2e-324", -0.0},
+        {"340282366920938463463374607431768211455", 0x1p128}, {"-170141183460469231731687303715884105728", -0x1p127}};
+    static const char *const others[] = {"", "-", "1.", ".5", "01", "-01", "+1", "1e", "1e+", "1 ", " 1", "1,", "1]", "0x10", "inf",
+                                         "-inf", "nan", "NaN", "Infinity", "--1", "1.5.2", "1e5x", "1_0", "true", "\"1\"",
+                                         "340282366920938463463374607431768211456"};
+    double number;
+    for (size_t i = 0; i < sizeof rows / sizeof *rows; i++) {
+        WANT(simd_json_double(rows[i].literal, strlen(rows[i].literal), &number) == SIMD_JSON_OK, rows[i].literal);
+        WANT(memcmp(&number, &rows[i].number, sizeof number) == 0, rows[i].literal);
+    }
+    for (size_t i = 0; i < sizeof others / sizeof *others; i++) {
+        number = 7.5;
+        WANT(simd_json_double(others[i], strlen(others[i]), &number) == SIMD_JSON_INVALID_NUMBER, others[i]);
+        WANT(number == 7.5, others[i]);
+    }
+    uint64_t random = 1;
+    char literal[64];
+    for (int i = 0; i < 100000; i++) {
+        random = random * UINT64_C(6364136223846793005) + 1442695040888963407;
+        int power = (int)(random >> 33) % 330, digits = (int)(random >> 50) % 20;
+        sprintf(literal, "%s%llu.%0*llue%d", i % 2 ? "-" : "", (unsigned long long)(random >> (random >> 58)), digits + 1,
+                (unsigned long long)(random % 1000), i % 3 ? power : -power);
+        double nearest = strtod(literal, NULL);
+        WANT(simd_json_double(literal, strlen(literal), &number) == SIMD_JSON_OK, literal);
+        WANT(memcmp(&number, &nearest, sizeof number) == 0, literal);
+    }
 }
 
 // The next sibling of each node of a document, and its members by the loops of the header; by hand.
@@ -241,6 +281,7 @@ static void version(void) {
 int main(void) {
     version();
     siblings();
+    doubles();
     parser_kept();
     values_printed();
     tapes_lent();

@@ -50,7 +50,7 @@ tape-with old new was lists b (Err e) status place old_room room old_nodes nodes
 
 pub parsed-with : (old new : Option Lists) (was lists : Lists) (b : List ℕ) (r : Result ℤ Error) (status : ℤ) (place : ErrorPlace)
     (old_lent lent : Lent) → AreKeptOpen old new was lists → IsReported r status place
-    → IfOk r (λ s. (ns : List Item) × IsReadWith was b None ns lists × AreLent ns lists s old_lent lent)
+    → IfOk r (λ s. (ns : List Item) × IsReadWith was b None ns lists × AreLent ns was lists s old_lent lent)
     → IfErr r (λ e. (ns : List Item) × IsReadWith was b (Some e) ns lists × (lent ≡ old_lent))
     → IsParsedWith old new b status place old_lent lent
 parsed-with old new was lists b (Ok s) status place old_lent lent kept told are none =

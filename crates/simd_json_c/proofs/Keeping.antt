@@ -1,11 +1,13 @@
 -- Nodes and texts in memory that grows, one more at a time.
-use Rattle.std.proofs.Common.{◌≡◌, ◌∙◌, ap, sym, ℕ, ◌<◌, arith, List, [], ◌∷◌, ◌++◌, length, get_or, set, true}
+use Rattle.std.proofs.Common.{◌≡◌, ◌∙◌, ap, sym, ℕ, ◌<◌, ◌≤◌, ◌+◌, ◌⊎◌, inl, inr, refl, arith, List, [], ◌∷◌, ◌++◌, length, take}
+use Rattle.std.proofs.Common.{Bool, true, false, get_or, set}
+use Rattle.std.proofs.lemmas.List.{length-set, length-take-le}
 use Rattle.simd_json_parts.specs.Nodes.{Item}
 use Rattle.simd_json_stages.specs.Building.{is_header}
-use Rattle.simd_json_c.specs.Loans.{AreCut, cut_from, cut_of}
+use Rattle.simd_json_c.specs.Loans.{AreCut, AreTooSmall, cut_from, cut_of}
 use Rattle.simd_json_c.specs.Nodes.{text_of, texts}
 use Rattle.simd_json_c.specs.declared.nodes.Node.{Node}
-use Rattle.simd_json_c.proofs.Laying.{length-nodes, nodes-push, nodes-set, texts-push, texts-set}
+use Rattle.simd_json_c.proofs.Laying.{length-nodes, length-push, length-texts-push, nodes-push, nodes-set, texts-push, texts-set}
 
 pub kept-push : (ns : List Item) (x : Item) (nodes newer : List Node) (text longer bytes : List ℕ) (node : Node) → AreCut ns nodes text
     → node ≡ cut_of (length text) x → text_of x ≡ bytes → newer ≡ nodes ++ node ∷ [] → longer ≡ text ++ bytes
@@ -25,3 +27,25 @@ kept-set ns i y d nodes newer text node kept within is header node_is fits = (
       ∙ sym (nodes-set 0 ns i y d node is header node_is),
   kept.1 ∙ sym (texts-set ns i y d is header),
 )
+
+small-more : (capacity filled : ℕ) (ns : List Item) (x : Item) → AreTooSmall capacity filled ns → AreTooSmall capacity filled (ns ++ x ∷ [])
+small-more capacity filled ns x small fits =
+    omega (arith, small (omega (arith, fits, length-push ns x)), length-texts-push ns x)
+
+-- Where one more is not kept, those before it were not, or a list was full.
+pub small-push : (was : Bool) (capacity filled now : ℕ) (ns : List Item) (x : Item) (nodes : List Node) (text : List ℕ) (used : ℕ)
+    → (was ≡ false → AreTooSmall capacity filled ns) → (was ≡ true → AreCut ns nodes (take used text)) → used ≤ length text
+    → capacity ≤ now → filled ≤ length text
+    → (was ≡ true → (now ≤ length nodes) ⊎ (length text < used + length (text_of x))) → AreTooSmall capacity filled (ns ++ x ∷ [])
+small-push false capacity filled now ns x nodes text used small kept within room longer full fits =
+    small-more capacity filled ns x (small refl) fits
+small-push true capacity filled now ns x nodes text used small kept within room longer full fits =
+    elim (full refl) [
+      | inl many ↦ omega (arith, fits, room, many, ap length (kept refl).0, length-nodes 0 ns, length-push ns x)
+      | inr long ↦ omega (arith, longer, long, length-take-le used text within, ap length (kept refl).1, length-texts-push ns x)
+    ]
+
+pub small-set : (capacity filled : ℕ) (ns : List Item) (i : ℕ) (y d : Item) → AreTooSmall capacity filled ns
+    → is_header (get_or ns i d) ≡ true → is_header y ≡ true → AreTooSmall capacity filled (set ns i y)
+small-set capacity filled ns i y d small is header fits =
+    omega (arith, small (omega (arith, fits, length-set ns i y)), ap length (texts-set ns i y d is header))

@@ -8,3 +8,4 @@ mod Placing
 mod Printed
 mod Calling
 mod Naming
+mod Doubles

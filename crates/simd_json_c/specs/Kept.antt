@@ -1,5 +1,6 @@
 -- What a parser keeps from one call to the next. A closed one keeps no lists.
-use Rattle.std.specs.Prelude.{◌≡◌, ◌≤◌, ◌⊎◌, ℕ, ℤ, pos, List, false, Option, Some, None, MatchOption, ⊤}
+use Rattle.std.specs.Prelude.{◌≡◌, ◌≤◌, ◌⊎◌, ℕ, ℤ, pos, List, length, false, Option, Some, None, MatchOption, ⊤}
+use Rattle.std.specs.Vec.{vec_capacity}
 use Rattle.simd_json.specs.Capacities.{KeepsCapacities, capacity, new_buffers}
 use Rattle.simd_json.specs.Parsed.{IsParse}
 use Rattle.simd_json_parts.specs.Nodes.{Item}
@@ -15,6 +16,7 @@ use Rattle.simd_json_c.specs.declared.status.ErrorPlace.{ErrorPlace}
 abbrev pub KeepsRoom : Lists → Lists → Type 0
 KeepsRoom old new =
     (new.buffers.limit ≡ old.buffers.limit) × KeepsCapacities old.buffers new.buffers × (old.tape.capacity ≤ new.tape.capacity)
+    × (vec_capacity old.nodes ≤ vec_capacity new.nodes) × (length old.text.items ≤ length new.text.items)
 
 -- and the input that is kept, if one is
 abbrev pub KeepsLists : Lists → Lists → Type 0

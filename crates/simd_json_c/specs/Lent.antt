@@ -1,9 +1,10 @@
 -- Nodes and texts that a parser keeps, and lends until the next call.
 use Rattle.std.specs.Prelude.{◌≡◌, ◌⊎◌, ℕ, ℤ, pos, List, length, take, Option, MatchOption}
-use Rattle.std.specs.Vec.{vec_ptr}
+use Rattle.std.specs.Vec.{vec_capacity, vec_ptr}
 use Rattle.simd_json_parts.specs.Nodes.{Item}
 use Rattle.simd_json_parts.specs.declared.error.Error.{Error}
 use Rattle.simd_json_c.specs.Kept.{IsCallWith, IsReadWith}
+use Rattle.simd_json_c.specs.Loans.{AreTooSmall}
 use Rattle.simd_json_c.specs.Nodes.{nodes_from, texts}
 use Rattle.simd_json_c.specs.Statuses.{error_place, error_status, out_of_memory}
 use Rattle.simd_json_c.specs.declared.lent.Lent.{Lent}
@@ -25,11 +26,11 @@ lent_of ns lists =
       text_len = length (texts ns);
     }
 
--- they are kept and lent, or memory lacks for them
-abbrev pub AreLent : List Item → Lists → ℤ → Lent → Lent → Type 0
-AreLent ns lists status old lent =
+-- they are kept and lent, or memory lacks for them, where the lists were too small
+abbrev pub AreLent : List Item → Lists → Lists → ℤ → Lent → Lent → Type 0
+AreLent ns was lists status old lent =
     ((status ≡ pos 0) × AreKept ns lists.nodes.items lists.text.items × (lent ≡ lent_of ns lists))
-    ⊎ ((status ≡ out_of_memory) × (lent ≡ old))
+    ⊎ ((status ≡ out_of_memory) × (lent ≡ old) × AreTooSmall (vec_capacity was.nodes) (length was.text.items) ns)
 
 -- a call that lends the nodes of the document that b is
 abbrev pub IsParsedWith : Option Lists → Option Lists → List ℕ → ℤ → ErrorPlace → Lent → Lent → Type 0
@@ -37,5 +38,5 @@ IsParsedWith old new b status place old_lent lent =
     IsCallWith old new status place (lent ≡ old_lent)
     (λ was lists. (fault : Option Error) × (ns : List Item) × IsReadWith was b fault ns lists × (place ≡ error_place fault)
     × MatchOption fault
-    (AreLent ns lists status old_lent lent)
+    (AreLent ns was lists status old_lent lent)
     (λ e. (status ≡ error_status fault) × (lent ≡ old_lent)))

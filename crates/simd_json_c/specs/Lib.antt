@@ -10,5 +10,6 @@ pub mod Kept
 pub mod Chosen
 pub mod Lent
 pub mod Found
+pub mod Doubles
 pub mod Notes
 pub mod Loans

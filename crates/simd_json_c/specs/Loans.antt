@@ -12,6 +12,7 @@ pub record Loan : Type 0 where
   pub text : ℕ
   pub nodes_before : List Node
   pub text_before : List ℕ
+  pub node_capacity : ℕ
 
 -- a node as it is written, with the lower 32 bits of its length: of a document's node these are all
 abbrev pub cut : Node → Node
@@ -31,6 +32,10 @@ AreCut ns nodes text = (nodes ≡ cut_from 0 ns) × (text ≡ texts ns)
 abbrev pub is_headed : List Item → Bool
 is_headed [] = false
 is_headed (n ∷ ns) = is_header n
+
+-- Two lists, with capacity for so many nodes and with so many bytes, are too small: where the first is not, the second is.
+abbrev pub AreTooSmall : ℕ → ℕ → List Item → Type 0
+AreTooSmall nodes text ns = length ns ≤ nodes → text < length (texts ns)
 
 -- one more node is known
 abbrev pub noting : Note → Item → Note

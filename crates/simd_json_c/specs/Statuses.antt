@@ -41,6 +41,10 @@ abbrev pub error_place : Option Error → ErrorPlace
 error_place None = record { index = 0; character = 2 ^ 32 - 1 }
 error_place (Some e) = record { index = e.index; character = character_of e.character }
 
+-- bytes are no number
+abbrev pub invalid_number : ℤ
+invalid_number = pos (kind_status errors.InvalidNumber)
+
 -- the memory that was lent is too small
 abbrev pub too_little_room : ℤ
 too_little_room = pos 19

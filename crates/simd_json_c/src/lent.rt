@@ -1,13 +1,15 @@
 //! A parse into memory that a parser keeps: nodes and texts are lent until the next call with it.
-ghost use Rattle.std.specs.Prelude.{◌≡◌, ◌≤◌, ◌<◌, ◌+◌, ◌++◌, List, [], ◌∷◌, length, take, true};
-ghost use Rattle.std.specs.Prelude.{IfOk, IfSome, slice_set};
+ghost use Rattle.std.specs.Prelude.{◌≡◌, ◌≤◌, ◌<◌, ◌+◌, ◌⊎◌, ◌++◌, List, [], ◌∷◌, length, take};
+ghost use Rattle.std.specs.Prelude.{true, false, IfOk, MatchOption, slice_set};
 ghost use Rattle.std.specs.Result.{result_err};
+ghost use Rattle.std.specs.Vec.{vec_capacity};
 ghost use Rattle.simd_json.specs.Capacities.{KeepsCapacities, capacity};
 ghost use Rattle.simd_json.specs.Parsed.{IsParse};
 ghost use Rattle.simd_json_parts.specs.Limits.{max_length};
 ghost use Rattle.simd_json_parts.specs.Nodes.{Item, static_item};
 ghost use Rattle.simd_json_c.specs.Lent.{IsParsedWith};
-ghost use Rattle.simd_json_c.specs.Loans.{AreCut, IsTextNoted, Loan, is_headed, noting};
+ghost use Rattle.simd_json_c.specs.Loans.{AreCut, AreTooSmall, IsTextNoted, Loan, is_headed};
+ghost use Rattle.simd_json_c.specs.Loans.{noting};
 ghost use Rattle.simd_json_c.specs.Nodes.{is_wide};
 
 use crate::nodes::{Node, header_node, is_wide, literal_of, span_of, static_of};
@@ -64,7 +66,7 @@ pub extern "C" fn simd_json_parser_parse(
 }
 
 // Keeps the nodes of a document in an empty list, and their texts at the front of another. Returns
-// how many bytes these have, or `None` if an allocation failed.
+// how many bytes these have, or `None` if one of the lists had to grow and could not.
 pub(crate) fn keep<K: Original>(
     buffers: &mut Buffers,
     input: &mut [u8],
@@ -75,19 +77,24 @@ pub(crate) fn keep<K: Original>(
     requires empty { nodes.old.items ≡ [] }
     ensures read { (ns : List Item) × IsParse K.bytes buffers.old.limit (capacity buffers.old)
         (result_err result) ns buffers.new.positions
-        × IfOk result (λ kept. IfSome kept (λ used. (used ≤ length text.new.items)
+        × IfOk result (λ kept. MatchOption kept
+        (AreTooSmall (vec_capacity nodes.old) (length text.old.items) ns)
+        (λ used. (used ≤ length text.new.items)
         × AreCut ns nodes.new.items (take used text.new.items))) }
     ensures kept { (buffers.new.limit ≡ buffers.old.limit)
         × KeepsCapacities buffers.old buffers.new }
+    ensures nodes { vec_capacity nodes.old ≤ vec_capacity nodes.new }
+    ensures text { length text.old.items ≤ length text.new.items }
 {
-    let noted = Noted::of(&());
-    let is_whole = text.reserve(input.len().saturating_sub(text.len())).is_ok();
+    let noted = Noted::of(&(&*nodes, &*text));
+    // No document has longer texts. If there is no memory for that many, less may do.
+    let _ = text.reserve(input.len().saturating_sub(text.len()));
     let mut sink = KeptSink {
         nodes,
         text,
         used: 0,
         count: 0,
-        is_whole,
+        is_whole: true,
         is_container: false,
         noted,
     };
@@ -125,6 +132,10 @@ pub(crate) struct KeptSink<'t> {
     ghost within: { used ≤ length text.now.items },
     ghost kept: { is_whole ≡ true
         → AreCut noted.note.items nodes.now.items (take used text.now.items) },
+    ghost small: { is_whole ≡ false → AreTooSmall noted.note.node_capacity
+        (length noted.note.text_before) noted.note.items },
+    ghost capacity: { noted.note.node_capacity ≤ vec_capacity nodes.now },
+    ghost longer: { length noted.note.text_before ≤ length text.now.items },
 }
 
 impl KeptSink<'_> {
@@ -214,6 +225,7 @@ impl<'de, 't> NodeSink<'de> for KeptSink<'t> {
       text = s.text.ghost_name;
       nodes_before = s.noted.note.nodes_before;
       text_before = s.noted.note.text_before;
+      node_capacity = s.noted.note.node_capacity;
     } };
 
     #[inline(always)]
@@ -269,6 +281,9 @@ impl<'de, 't> NodeSink<'de> for KeptSink<'t> {
 fn keep_node(is_whole: bool, nodes: &mut Vec<Node>, node: Node) -> bool
     ensures whole { result ≡ true → is_whole ≡ true }
     ensures nodes { result ≡ true → nodes.new.items ≡ nodes.old.items ++ node ∷ [] }
+    ensures full { is_whole ≡ true → result ≡ false
+        → vec_capacity nodes.old ≤ length nodes.old.items }
+    ensures capacity { vec_capacity nodes.old ≤ vec_capacity nodes.new }
 {
     is_whole && nodes.push(node).is_ok()
 }
@@ -290,6 +305,11 @@ fn keep_both(
     ensures text { result.0 ≡ true
         → take result.1 text.new.items ≡ take used text.old.items ++ bytes.now }
     ensures within { result.1 ≤ length text.new.items }
+    ensures full { is_whole ≡ true → result.0 ≡ false
+        → (vec_capacity nodes.old ≤ length nodes.old.items)
+        ⊎ (length text.old.items < used + length bytes.now) }
+    ensures capacity { vec_capacity nodes.old ≤ vec_capacity nodes.new }
+    ensures longer { length text.old.items ≤ length text.new.items }
 {
     if bytes.len() > text.len() - used && !has_grown(text, bytes.len()) {
         return (false, used);
@@ -322,7 +342,9 @@ fn has_grown(text: &mut Vec<u8>, more: usize) -> bool
 // Writes a node at index `at` if there is one.
 #[inline(always)]
 fn set_node(nodes: &mut Vec<Node>, at: usize, node: Node)
-    ensures { at < length nodes.old.items → nodes.new.items ≡ slice_set nodes.old.items at node }
+    ensures set { at < length nodes.old.items
+        → nodes.new.items ≡ slice_set nodes.old.items at node }
+    ensures capacity { vec_capacity nodes.new ≡ vec_capacity nodes.old }
 {
     if at < nodes.len() {
         nodes[at] = node;

@@ -4,6 +4,7 @@
 //! nothing for it. No export has a precondition.
 #![tactic(auto)]
 
+mod double;
 mod find;
 mod index;
 mod lent;
@@ -18,6 +19,7 @@ mod status;
 mod tape;
 mod version;
 
+pub use double::simd_json_double;
 pub use find::{Found, simd_json_parser_find, simd_json_parser_index};
 pub use index::simd_json_index;
 pub use lent::{Lent, simd_json_parser_parse};

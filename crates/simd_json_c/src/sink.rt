@@ -89,6 +89,7 @@ impl<'de, 't> NodeSink<'de> for CallerSink<'t> {
       text = s.text.ghost_name;
       nodes_before = s.noted.note.nodes_before;
       text_before = s.noted.note.text_before;
+      node_capacity = s.noted.note.node_capacity;
     } };
 
     #[inline(always)]

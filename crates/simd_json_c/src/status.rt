@@ -29,6 +29,9 @@ impl ErrorPlace {
 // An allocation failed.
 pub(crate) const OUT_OF_MEMORY: i32 = 1;
 
+// Bytes are no number.
+pub(crate) const INVALID_NUMBER: i32 = 16;
+
 /// The caller's memory is too small.
 pub(crate) const TOO_LITTLE_ROOM: i32 = 19;
 

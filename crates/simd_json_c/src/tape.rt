@@ -191,7 +191,7 @@ impl Lists {
     pub(crate) fn parse(&mut self, input: &mut [u8], lent: &mut Lent) -> Result<i32>
         ensures lent { IfOk result (λ status. (ns : List Item)
             × IsReadWith self.old input.old None ns self.new
-            × AreLent ns self.new status lent.old lent.new) }
+            × AreLent ns self.old self.new status lent.old lent.new) }
         ensures rejected { IfErr result (λ e. (ns : List Item)
             × IsReadWith self.old input.old (Some e) ns self.new × (lent.new ≡ lent.old)) }
         ensures kept { KeepsLists self.old self.new }

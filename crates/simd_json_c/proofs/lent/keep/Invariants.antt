@@ -1,5 +1,7 @@
 use Rattle.std.proofs.Common.{[]}
+use Rattle.std.specs.Vec.{vec_capacity}
 use Rattle.simd_json_c.proofs.lent.keep.Given as goal
 
 abbrev pub ghost-of : goal.ghost-of
-ghost-of g a = record { items = []; nodes_before = []; text_before = [] }
+ghost-of g a =
+    record { items = []; nodes_before = []; text_before = a.seen.now.1.now.items; node_capacity = vec_capacity a.seen.now.0.now }

@@ -1,7 +1,7 @@
-use Rattle.std.proofs.Common.{◌∙◌, ap, sym, ◌+◌}
+use Rattle.std.proofs.Common.{◌∙◌, ap, arith, sym, ◌+◌}
 use Rattle.std.proofs.lemmas.List.{length-take-le}
 use Rattle.simd_json_c.specs.Loans.{cut, cut_of}
-use Rattle.simd_json_c.proofs.Keeping.{kept-push}
+use Rattle.simd_json_c.proofs.Keeping.{small-push, kept-push}
 use Rattle.simd_json_c.proofs.Laying.{length-push, headed-push}
 use Rattle.simd_json_c.proofs.lent.KeptSink.put.Goals as goal
 
@@ -29,3 +29,17 @@ invariant_of-self-clause-kept c whole =
     rw one.1
     (kept-push s.noted.note.items one.0 _ _ _ _ c.args.bytes.now _ (s.kept (k.whole whole))
     (c.span_of-node.ensures ∙ ap cut (sym (one.4 _)) ∙ ap (λ i. cut_of i one.0) at) one.3 (k.nodes whole) (k.text whole))
+
+pub invariant_of-self-clause-small : goal.invariant_of-self-clause-small
+invariant_of-self-clause-small c lost =
+    let s = c.args.self.now in
+    let one = c.requires.one in
+    rw one.1
+    (small-push s.is_whole _ _ _ s.noted.note.items one.0 _ _ s.used s.small s.kept s.within s.capacity s.longer
+    (λ whole. rw one.3 (c.keep_both.ensures.full whole lost)))
+
+pub invariant_of-self-clause-capacity : goal.invariant_of-self-clause-capacity
+invariant_of-self-clause-capacity c = rw c.requires.one.1 (omega (arith, c.args.self.now.capacity, c.keep_both.ensures.capacity))
+
+pub invariant_of-self-clause-longer : goal.invariant_of-self-clause-longer
+invariant_of-self-clause-longer c = rw c.requires.one.1 (omega (arith, c.args.self.now.longer, c.keep_both.ensures.longer))

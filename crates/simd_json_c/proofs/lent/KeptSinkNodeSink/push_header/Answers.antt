@@ -1,6 +1,6 @@
-use Rattle.std.proofs.Common.{◌∙◌, ap, sym, [], ◌+◌, take}
+use Rattle.std.proofs.Common.{arith, inl, ◌∙◌, ap, sym, [], ◌+◌, take}
 use Rattle.simd_json_stages.specs.Building.{header_of}
-use Rattle.simd_json_c.proofs.Keeping.{kept-push}
+use Rattle.simd_json_c.proofs.Keeping.{small-push, kept-push}
 use Rattle.simd_json_c.proofs.Laying.{append-nil, length-push, headed-push_header, header_of-text}
 use Rattle.simd_json_c.proofs.lent.KeptSinkNodeSink.push_header.Goals as goal
 
@@ -27,3 +27,17 @@ invariant_of-self-clause-kept c whole =
     rw c.of-self.ensures
     (kept-push s.noted.note.items x _ _ _ _ [] _ (s.kept (k.whole whole)) (c.header_node.ensures _)
     (header_of-text c.args.container 0 0) (k.nodes whole) (sym (append-nil (take s.used s.text.now.items))))
+
+pub invariant_of-self-clause-small : goal.invariant_of-self-clause-small
+invariant_of-self-clause-small c lost =
+    let s = c.args.self.now in
+    let x = header_of c.args.container 0 0 in
+    rw c.of-self.ensures
+    (small-push s.is_whole _ _ _ s.noted.note.items x s.nodes.now.items s.text.now.items s.used s.small s.kept s.within s.capacity s.longer
+    (λ whole. inl (c.keep_node-self.ensures.full whole lost)))
+
+pub invariant_of-self-clause-capacity : goal.invariant_of-self-clause-capacity
+invariant_of-self-clause-capacity c = rw c.of-self.ensures (omega (arith, c.args.self.now.capacity, c.keep_node-self.ensures.capacity))
+
+pub invariant_of-self-clause-longer : goal.invariant_of-self-clause-longer
+invariant_of-self-clause-longer c = rw c.of-self.ensures c.args.self.now.longer

@@ -1,7 +1,7 @@
-use Rattle.std.proofs.Common.{◌≡◌, ◌∙◌, ap, refl, sym, [], ◌+◌, false, take}
+use Rattle.std.proofs.Common.{arith, inl, ◌≡◌, ◌∙◌, ap, refl, sym, [], ◌+◌, false, take}
 use Rattle.simd_json_parts.specs.Nodes.{static_item}
 use Rattle.simd_json_c.specs.Nodes.{is_wide}
-use Rattle.simd_json_c.proofs.Keeping.{kept-push}
+use Rattle.simd_json_c.proofs.Keeping.{small-push, kept-push}
 use Rattle.simd_json_c.proofs.Laying.{append-nil, length-push, headed-push, plain-text}
 use Rattle.simd_json_c.proofs.lent.KeptSinkNodeSink.push_static.Goals as goal
 
@@ -29,3 +29,17 @@ invariant_of-self-clause-kept c whole =
     rw c.of-self.ensures
     (kept-push s.noted.note.items x _ _ _ _ [] _ (s.kept (k.whole whole)) (c.static_of.ensures plain _)
     (plain-text c.args.value plain) (k.nodes whole) (sym (append-nil (take s.used s.text.now.items))))
+
+pub invariant_of-self-clause-small : goal.invariant_of-self-clause-small
+invariant_of-self-clause-small c lost =
+    let s = c.args.self.now in
+    let x = static_item c.args.value in
+    rw c.of-self.ensures
+    (small-push s.is_whole _ _ _ s.noted.note.items x s.nodes.now.items s.text.now.items s.used s.small s.kept s.within s.capacity s.longer
+    (λ whole. inl (c.keep_node-self.ensures.full whole lost)))
+
+pub invariant_of-self-clause-capacity : goal.invariant_of-self-clause-capacity
+invariant_of-self-clause-capacity c = rw c.of-self.ensures (omega (arith, c.args.self.now.capacity, c.keep_node-self.ensures.capacity))
+
+pub invariant_of-self-clause-longer : goal.invariant_of-self-clause-longer
+invariant_of-self-clause-longer c = rw c.of-self.ensures c.args.self.now.longer
