@@ -260,12 +260,35 @@ static PyObject *to_wide(const memory *m, const simd_json_node *node) {
     return PyLong_FromString(literal, NULL, 10);
 }
 
+/* The nearest float of a literal of at most 15 digits without an exponent: these digits and the power of ten behind the point are
+ * floats, so one rounding is left, that of their quotient (W. D. Clinger, "How to Read Floating Point Numbers Accurately", PLDI
+ * 1990). */
+static int read_short(const char *literal, size_t len, double *number) {
+    size_t i = literal[0] == '-';
+    int64_t digits = 0, power = 0;
+    if (len - i > 16)
+        return 0;
+    for (; i < len; i++) {
+        if (literal[i] >= '0' && literal[i] <= '9') {
+            digits = 10 * digits + (literal[i] - '0');
+            power *= 10;
+        } else if (literal[i] == '.') {
+            power = 1;
+        } else {
+            return 0;
+        }
+    }
+    *number = (literal[0] == '-' ? -(double)digits : (double)digits) / (double)power;
+    return 1;
+}
+
 /* A number with a fraction or an exponent: the nearest float, or what `parse_float` makes of its literal. */
 static PyObject *to_float(const memory *m, const simd_json_node *node, PyObject *parse_float) {
     if (parse_float)
         return PyObject_CallFunction(parse_float, "s#", m->document.text + node->value, (Py_ssize_t)node->len);
     double number = 0;
-    simd_json_double(m->document.text + node->value, node->len, &number);
+    if (!read_short(m->document.text + node->value, node->len, &number))
+        simd_json_double(m->document.text + node->value, node->len, &number);
     return PyFloat_FromDouble(number);
 }
 
