@@ -87,7 +87,9 @@ pub(crate) fn keep<K: Original>(
     ensures text { length text.old.items ≤ length text.new.items }
 {
     let noted = Noted::of(&(&*nodes, &*text));
-    // No document has longer texts. If there is no memory for that many, less may do.
+    // Most documents have fewer nodes, and none has longer texts. If there is no memory for as
+    // many, less may do.
+    let _ = nodes.reserve(input.len() / 8);
     let _ = text.reserve(input.len().saturating_sub(text.len()));
     let mut sink = KeptSink {
         nodes,
