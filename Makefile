@@ -62,16 +62,14 @@ proved-simd_json_theorems proved-simd_json_print: private nice = nice
 version := $(shell awk '/define SIMD_JSON_VERSION_(MAJOR|MINOR|PATCH)/ { v = v s $$3; s = "." } END { print v }' include/simd_json.h)
 major = $(firstword $(subst ., ,$(version)))
 
-# The library for programs in C, static and shared. Each needs nothing beside it but the C library: the toolchain's heap is in it,
-# with the pages for large blocks, and the exports alone are visible.
+# The library for programs in C, static and shared. Each needs nothing beside it but malloc, realloc, free, memcpy and memset:
+# the toolchain's heap is in it, and the exports alone are visible.
 kit = $(dir $(shell readlink -f "$$(command -v rt)"))..
 parts = $(into)/parts
 library: proved-simd_json_c
 	mkdir -p $(parts)
 	cd $(parts) && ar x $(kit)/c/liblibc_c.a heap.pic.o
-	cc -O2 -Wall -Wextra -Werror -fPIC -c -o $(parts)/pages.o scripts/pages.c
-	ld -r --wrap=malloc --wrap=realloc -o $(parts)/all.o --whole-archive crates/simd_json_c/out/libsimd_json_c.a \
-		--no-whole-archive $(parts)/heap.pic.o $(parts)/pages.o
+	ld -r -o $(parts)/all.o --whole-archive crates/simd_json_c/out/libsimd_json_c.a --no-whole-archive $(parts)/heap.pic.o
 	nm --defined-only -g $(parts)/all.o | sed -n 's/.* T \(simd_json_.*\)/\1/p' > $(parts)/exports
 	objcopy --keep-global-symbols=$(parts)/exports --strip-unneeded $(parts)/all.o $(parts)/simd_json.o
 	rm -f $(into)/libsimd_json.a $(into)/libsimd_json.so*

@@ -24,8 +24,8 @@
  * Lengths and indexes are in bytes, of `nodes` in nodes.
  *
  * Nothing is kept between calls but in a simd_json_parser, nothing is locked, and threads may call at the same time, each
- * with a parser of its own. Memory is allocated by malloc, realloc and free of the C library, of 4 MB or more with
- * madvise(MADV_HUGEPAGE), and freed before a call returns, but for what a parser keeps; in a signal handler, or in the forked child of a process with threads, these can't
+ * with a parser of its own. Memory is allocated by malloc, realloc and free of the C library, and freed before a call
+ * returns, but for what a parser keeps; in a signal handler, or in the forked child of a process with threads, these can't
  * be called, and so neither can this library.
  *
  * Pointers are to memory of the caller, which a call uses until it returns, but for those that simd_json_parser_parse writes.

@@ -22,8 +22,8 @@ cp -P "$v3/libsimd_json.so.$version" "$v3/libsimd_json.so.${version%%.*}" "$to/l
 for program in "$@"; do
     objcopy --redefine-sym main=main_v2 "$v2/$program.o" "$parts/v2.o"
     objcopy --redefine-sym main=main_v3 "$v3/$program.o" "$parts/v3.o"
-    cc -O2 -Wall -Wextra -Werror -fPIE -pie -nostartfiles -s -Wl,-z,relro,-z,now,--wrap=malloc,--wrap=realloc \
-        -o "$to/bin/$program" scripts/start.c scripts/pages.c "$parts/v2.o" "$parts/v3.o" "$kit/c/libos_c.a" "$kit/c/liblibc_c.a"
+    cc -O2 -Wall -Wextra -Werror -fPIE -pie -nostartfiles -s -Wl,-z,relro,-z,now -o "$to/bin/$program" scripts/start.c \
+        "$parts/v2.o" "$parts/v3.o" "$kit/c/libos_c.a" "$kit/c/liblibc_c.a"
     cp "man/$program.1" "$to/share/man/man1/"
     cp completions/simd_json.bash "$to/share/bash-completion/completions/$program"
 done

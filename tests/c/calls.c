@@ -1,11 +1,9 @@
 // What no row of tests/vectors asks: parsers that are opened and closed, and names. Silent where all is well.
-#include <errno.h>
 #include <math.h>
 #include <simd_json.h>
 #include <stdio.h>
 #include <stdlib.h>
 #include <string.h>
-#include <unistd.h>
 
 static int wrong;
 #define WANT(condition, input)                                                                \
@@ -119,29 +117,21 @@ static void doubles(void) {
     }
 }
 
-// Lists that grow past 4 MB keep what they hold, and have large pages where the kernel has them. errno is as it was.
-static void large_pages(void) {
+// Lists that grow far past what is reserved keep what they hold.
+static void grown(void) {
     enum { COUNT = 1000000 };
-    static char input[8 * COUNT];
+    static char input[2 * COUNT + 2];
     size_t len = 1;
     input[0] = '[';
-    for (unsigned i = 0; i < COUNT; i++) len += (size_t)sprintf(input + len, "%u,", i);
+    for (unsigned i = 0; i < COUNT; i++) len += (size_t)sprintf(input + len, "%u,", i % 10);
     input[len - 1] = ']';
     simd_json_parser parser = {0};
     simd_json_document lent;
     simd_json_place place;
-    errno = 0;
-    WANT(simd_json_open(&parser, 1) == SIMD_JSON_OK, "large");
-    WANT(simd_json_parser_parse(&parser, input, len, &lent, &place) == SIMD_JSON_OK && lent.nodes_len == COUNT + 1, "large");
-    WANT(errno == 0, "large");
+    WANT(simd_json_open(&parser, 1) == SIMD_JSON_OK, "a million");
+    WANT(simd_json_parser_parse(&parser, input, len, &lent, &place) == SIMD_JSON_OK && lent.nodes_len == COUNT + 1, "a million");
     for (size_t i = 0; i < COUNT; i++)
-        if (lent.nodes[i + 1].kind != SIMD_JSON_U64 || lent.nodes[i + 1].value != i) WANT(0, "large");
-    FILE *maps = fopen("/proc/self/smaps", "r");
-    char line[256];
-    int advised = maps == NULL || access("/sys/kernel/mm/transparent_hugepage", F_OK) != 0;
-    while (maps && fgets(line, sizeof line, maps)) advised |= strncmp(line, "VmFlags:", 8) == 0 && strstr(line, " hg") != NULL;
-    WANT(advised, "large");
-    if (maps) fclose(maps);
+        if (lent.nodes[i + 1].kind != SIMD_JSON_U64 || lent.nodes[i + 1].value != i % 10) WANT(0, "a million");
     simd_json_close(&parser);
 }
 
@@ -310,7 +300,7 @@ int main(void) {
     version();
     siblings();
     doubles();
-    large_pages();
+    grown();
     parser_kept();
     values_printed();
     tapes_lent();
