@@ -26,7 +26,7 @@ use std::mem::replace;
 const FEW: usize = 32;
 
 // How many bytes the texts are filled ahead of those that are needed.
-const STEP: usize = 65_536;
+const STEP: usize = 8_192;
 
 /// What a parse lends.
 #[repr(C)]
