@@ -1,4 +1,4 @@
-// What no row of tests/vectors asks: parsers that are opened and closed, and names. Silent where all is well.
+// What no row of tests/vectors asks: parsers that are opened and closed, doubles, names. Silent where all is well.
 #include <math.h>
 #include <simd_json.h>
 #include <stdio.h>
