@@ -133,8 +133,8 @@ impl Write for Short {
     }
 }
 
-// A writer that is full at each byte of the reports in turn: its error is returned, and it has taken
-// all that it had room for.
+// A writer that is full at each byte of the reports in turn: its error is returned, and it has
+// taken all that it had room for.
 pub(crate) fn assert_stopped(
     rt: &(impl AllocGlobal + Abort),
     input: &[u8],

@@ -33,7 +33,8 @@ fn inputs() -> [&'static [u8]; 20] {
         b"[-170141183460469231731687303715884105728,340282366920938463463374607431768211455]",
         b"-170141183460469231731687303715884105729",
         b"340282366920938463463374607431768211456",
-        b"{\"content\":\"aaaaaaaaaaaaaaaaaaaaaaaaaaaaaaaaaaaaaaaaaaaaaaaaa\\\\\\\"\",\"\xc3\xa9\":[ [{}], false ]}",
+        b"{\"content\":\"aaaaaaaaaaaaaaaaaaaaaaaaaaaaaaaaaaaaaaaaaaaaaaaaa\\\\\\\"\",\
+        \"\xc3\xa9\":[ [{}], false ]}",
     ]
 }
 

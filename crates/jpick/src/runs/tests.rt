@@ -131,8 +131,9 @@ fn quiet_runs_name_nothing(rt: HostRuntime) {
 // rows of `@tsv` and `@csv` for scalars are those of jq's manual and of its program.
 #[test]
 fn rows_have_layouts(rt: HostRuntime) {
-    let input =
-        b"{\"a\":\"x\\ty\\\\\\\"\\n\\r\",\"b\":null,\"c\":true,\"d\":-1.50,\"e\":[1, \"\\\"\\n\"]}\n".as_slice();
+    let input = b"{\"a\":\"x\\ty\\\\\\\"\\n\\r\",\"b\":null,\"c\":true,\"d\":-1.50,\
+        \"e\":[1, \"\\\"\\n\"]}\n"
+        .as_slice();
     let pointers = ["/a", "/b", "/c", "/d", "/e", "/f"].as_slice();
     let rows: [(Layout, bool, &[u8]); 5] = [
         (

@@ -105,8 +105,10 @@ const LAST_AFTER_ERRORS: &[Piece] = &[
 const LAST_HAS_ESCAPES: &[Piece] = &[
     ("\"a\"", "\"a\"\n"),
     (
-        "\"\\na-string-of-more-than-two-blocks-of-bytes-with-a-backslash-in-each-of-them\\n-and-another-that-is-here-and-ends\\n\"",
-        "\"\\na-string-of-more-than-two-blocks-of-bytes-with-a-backslash-in-each-of-them\\n-and-another-that-is-here-and-ends\\n\"\n",
+        "\"\\na-string-of-more-than-two-blocks-of-bytes-with-a-backslash-in-each-of-them\\n\
+        -and-another-that-is-here-and-ends\\n\"",
+        "\"\\na-string-of-more-than-two-blocks-of-bytes-with-a-backslash-in-each-of-them\\n\
+        -and-another-that-is-here-and-ends\\n\"\n",
     ),
 ];
 

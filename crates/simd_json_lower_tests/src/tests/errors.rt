@@ -25,8 +25,8 @@ fn reports_where_and_why(rt: HostRuntime) -> std::result::Result<(), Fail> {
 
 #[test]
 fn prints_what_a_kind_holds(rt: HostRuntime) -> std::result::Result<(), Fail> {
-    let unexpected = ErrorType::Unexpected(Some(ValueType::I64), None);
-    assert_same!(&rt; printed(&rt, unexpected)?.as_str(), "Unexpected(Some(I64), None) at character 0");
+    let unexpected = printed(&rt, ErrorType::Unexpected(Some(ValueType::I64), None))?;
+    assert_same!(&rt; unexpected.as_str(), "Unexpected(Some(I64), None) at character 0");
     let message = ErrorType::Serde(String::from_str(rt.alloc(), "a")?);
     assert_same!(&rt; printed(&rt, message)?.as_str(), "Serde(a) at character 0");
     Ok(())

@@ -28,7 +28,8 @@ fn so_many_nodes_are_enough(rt: HostRuntime) -> std::result::Result<(), Fail> {
         ("[[[[1]]]]", 9, 4, 7, Some(5)),
     ];
     for (source, positions, max_depth, enough, wanted) in rows {
-        assert_that!(&rt; nodes_enough(positions, max_depth) == enough, (source, "within", max_depth));
+        let nodes = nodes_enough(positions, max_depth);
+        assert_that!(&rt; nodes == enough, (source, "within", max_depth));
         let mut input = source.as_bytes().to_vec(rt.alloc())?;
         let answer = tape_of(rt.alloc(), input.as_mut_slice(), max_depth);
         let used = answer.ok().map(|nodes| nodes.len());

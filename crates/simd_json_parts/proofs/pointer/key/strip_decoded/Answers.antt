@@ -45,7 +45,8 @@ returns-then-others-first c =
     let s = strips-run _ _ left wanted others c.front_len-run.result c.loop-wanted.invariant c.front_len-run.ensures split in
     IsStripped-other _ _ _ others s
     (other-byte (take (length left - c.front_len-run.result) (drop c.front_len-run.result left)) c.in-Some-first_byte.rest.now others
-    c.in-Some-first_byte.first (goes-on left wanted others _ c.if-wanted-run.false split) c.if-others-first.true c.in-Some-first_byte.ensures.0)
+    c.in-Some-first_byte.first (goes-on left wanted others _ c.if-wanted-run.false split) c.if-others-first.true
+    c.in-Some-first_byte.ensures.0)
 
 pub loop-wanted-preserved : goal.loop-wanted-preserved
 loop-wanted-preserved c =
