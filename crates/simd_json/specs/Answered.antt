@@ -1,4 +1,4 @@
--- What contracts see of an answer that holds a reference or a view: the bytes of a string, the values of an array,
+-- What contracts see of a result that holds a reference or a view: the bytes of a string, the values of an array,
 -- the pairs of an object.
 use Rattle.std.specs.Prelude.{ℕ, List, Result, Ok, Err}
 use Rattle.simd_json_parts.specs.Document.{Document, elements, members}

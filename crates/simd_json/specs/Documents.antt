@@ -1,4 +1,4 @@
--- Which documents nodes list: listings read backwards, as total functions. Nodes that list none have an answer that
+-- Which documents nodes list: listings read backwards, as total functions. For nodes that list none the result
 -- means nothing.
 use Rattle.std.specs.Prelude.{◌≡◌, ℕ, zero, suc, ℤ, pos, negsuc, true, false, List, [], ◌∷◌}
 use Rattle.simd_json_parts.specs.Document.{Document, null, boolean, integer, decimal, string, array}

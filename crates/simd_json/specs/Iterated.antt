@@ -26,6 +26,6 @@ keys_left it = keys (pairs it.left)
 abbrev pub values_left : Values → List Document
 values_left it = values (pairs it.left)
 
--- what `size_hint` answers where so many items are left: the number is both bounds
+-- what `size_hint` returns where so many items are left: the number is both bounds
 abbrev pub exact_hint : ℕ → ℕ × Option ℕ
 exact_hint count = (count, Some count)

@@ -19,6 +19,6 @@ module _ {F T : Type 0} (g : Shared F (Bor T × (Bor Value × Unit {0})) Bool) (
   abbrev pub MayCompareTo : List T → Document → Type 0
   MayCompareTo wanted d = (ms : Members) → d ≡ object ms → MayCompare wanted ms
 
-  -- its answer is that of `says`, and so depends on the two values alone
+  -- its result is that of `says`, and so depends on the two values alone
   abbrev pub Says : (T → Document → Bool) → Type 0
   Says says = (x : Bor T) (v : Bor Value) (r : Bool) → g.post same (x, (v, tt)) r → r ≡ says x.now (doc v.now)

@@ -1,4 +1,4 @@
--- What a parse answers, and what it leaves.
+-- What a parse returns, and what it leaves.
 use Rattle.std.specs.Prelude.{◌≡◌, ◌≤◌, ◌<◌, ◌⊎◌, ℕ, suc, List, [], length, take, Option, Some}
 use Rattle.std.specs.Prelude.{None, is_some, IsSome, IsTrue, IfNone, IfSome, OnSome, MatchOption, Result, Ok, Err, if◌then◌else◌}
 use Rattle.simd_json_parts.specs.Answer.{answer}
@@ -23,7 +23,7 @@ pub record IsParsed (b : List ℕ) (limit : ℕ) (nodes : List Item) : Type 0 wh
   pub answered : answer b limit ≡ Ok document
   pub listed : nodes ≡ listing document
 
--- b is no document within the limits, and the fault is the one that the definitions answer: the whole input's, of
+-- b is no document within the limits, and the fault is the one that the definitions give: the whole input's, of
 -- one of its kinds and without a character, or else a token's, of one of theirs and with its character. A fault
 -- with a character is not reported late: the bytes before it go on to a document. Where it is a token that an array
 -- or an object does not expect after an element, at a name, after a name or after a member, it is not early: with
@@ -57,12 +57,12 @@ IsPaddedParse s len limit capacity fault nodes listed =
     (IsParse (take len s) limit capacity fault nodes listed)
     (λ e. (fault ≡ Some e) × (nodes ≡ []) × (listed ≡ []))
 
--- the nodes of the document that the definitions answer, if they do
+-- the nodes of the document that the definitions give, if they do
 abbrev pub answered_nodes : Result Document Error → List Item
 answered_nodes (Ok d) = listing d
 answered_nodes (Err e) = []
 
--- the nodes of the tape that is answered, if one is
+-- the nodes of the tape that is returned, if one is
 abbrev pub nodes_of : Result Listed Error → List Item
 nodes_of (Ok tape) = tape.nodes
 nodes_of (Err e) = []

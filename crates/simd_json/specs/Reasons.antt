@@ -1,4 +1,4 @@
--- Why an input is refused, for people: what was expected there, and what was found. Of a token's error the reason
+-- Why an input is rejected, for people: what was expected there, and what was found. Of a token's error the reason
 -- goes by the bytes around its index alone.
 use Rattle.std.specs.Prelude.{ℕ, zero, suc, ◌-◌, List, drop, Bool, true, not, ◌&&◌, ◌||◌, ◌==◌, nat_le, if◌then◌else◌, Option, Some, None}
 use Rattle.std.specs.Char.{is_ascii_digit, is_digit}
@@ -39,8 +39,8 @@ closes_root b i =
     ((byte_at b i == right_bracket) || (byte_at b i == right_brace))
     && not (expects_value (byte_before b i) (byte_at b i))
 
--- Two digits, and then a digit or the end of the number. A number is refused after two digits where it is an integer
--- that is too great: a malformed one is refused at a byte that no number has there, or after a single 0.
+-- Two digits, and then a digit or the end of the number. A number is rejected after two digits where it is an integer
+-- that is too great: a malformed one is rejected at a byte that no number has there, or after a single 0.
 abbrev pub ends_range : List ℕ → ℕ → Bool
 ends_range b i =
     nat_le 2 i && is_ascii_digit (byte_at b (i - 2)) && is_ascii_digit (byte_at b (i - 1))

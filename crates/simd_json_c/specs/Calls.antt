@@ -17,7 +17,7 @@ use Rattle.simd_json_c.specs.declared.status.ErrorPlace.{ErrorPlace}
 abbrev pub IsFreshRead : List ℕ → ℕ → Option Error → List Item → Type 0
 IsFreshRead b limit fault ns = (listed : List ℕ) × IsParse b limit 0 fault ns listed
 
--- what is told of a read that is such
+-- what a call returns of such a read
 abbrev pub IsTold : (Option Error → List Item → Type 0) → ℤ → ErrorPlace → Type 0
 IsTold Is status place =
     (fault : Option Error) × (ns : List Item) × Is fault ns × (status ≡ error_status fault) × (place ≡ error_place fault)
@@ -65,7 +65,7 @@ IsCompact b limit text = IsTextOf compact b limit text × (length text ≤ lengt
 abbrev pub IsPretty : List ℕ → ℕ → List ℕ → Type 0
 IsPretty b limit text = IsTextOf pretty b limit text
 
--- b is rejected, or the parse lacks memory, or b is a document and its text lacks memory
+-- b is rejected, or an allocation of the parse failed, or b is a document and one for its text failed
 abbrev pub IsUnprinted : List ℕ → ℕ → Error → Type 0
 IsUnprinted b limit e =
     IsRefused b limit e ⊎ LacksMemory b e ⊎ (IsOutOfMemory e × ((ns : List Item) × IsParsed b limit ns))

@@ -24,7 +24,7 @@ printed true d = pretty d
 abbrev pub text_at : Bool → List ℕ → Document → Option (List ℕ)
 text_at is_pretty pointer d = option_map (printed is_pretty) (result_ok (pointed pointer d))
 
--- it is put or has too little room, or memory lacks for it; or there is no such value
+-- it is put or has too little room, or an allocation failed; or there is no such value
 unfoldable pub IsChosenPut : Bool → List ℕ → Document → ℤ → ℕ → ℕ → List ℕ → List ℕ → Type 0
 IsChosenPut is_pretty pointer d status old_needed needed old new =
     MatchOption (text_at is_pretty pointer d)

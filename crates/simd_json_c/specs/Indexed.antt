@@ -14,7 +14,7 @@ AreIndexesPut is status used old new =
     (used ≡ length is)
     × (((status ≡ pos 0) × IsAtFront is old new) ⊎ ((status ≡ too_little_room) × (new ≡ old) × (length old < length is)))
 
--- the error of the whole input, or memory lacks
+-- the error of the whole input, or an allocation failed
 abbrev pub IsUnscanned : List ℕ → Error → Type 0
 IsUnscanned b e = (input_fault b ≡ Some e) ⊎ LacksMemory b e
 

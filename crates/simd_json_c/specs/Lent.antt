@@ -26,7 +26,7 @@ lent_of ns lists =
       text_len = length (texts ns);
     }
 
--- they are kept and lent, or memory lacks for them, where the lists were too small
+-- they are kept and lent, or an allocation failed, where the lists were too small
 abbrev pub AreLent : List Item → Lists → Lists → ℤ → Lent → Lent → Type 0
 AreLent ns was lists status old lent =
     ((status ≡ pos 0) × AreKept ns lists.nodes.items lists.text.items × (lent ≡ lent_of ns lists))

@@ -1,4 +1,4 @@
--- What a program in C is told of an error: a status and a place.
+-- What a program in C gets of an error: a status and a place.
 use Rattle.std.specs.Prelude.{◌-◌, ◌^◌, ℕ, ℤ, pos, Option, Some, None}
 use Rattle.simd_json_parts.specs.declared.error.Error.{Error}
 use Rattle.simd_json_parts.specs.declared.error.ErrorType.{ErrorType}

@@ -138,7 +138,7 @@ impl<A: Allocator> Index<A> {
     /// nothing of the index afterwards; that of this call says that the index keeps its capacity.
     /// After an error nothing is listed.
     ///
-    /// So a caller that has reserved memory once can prove that no later call lacks it.
+    /// So a caller that has reserved memory once can prove that no later call fails for it.
     pub fn fill(&mut self, input: &[u8]) -> Result<()>
         ensures indexes { OnOk result (self.new.listed ≡ positions input.now) }
         ensures escapes { OnOk result (self.new.escapes ≡ backslash_blocks input.now) }

@@ -1,5 +1,5 @@
 //! Whether structural indexes are those of a value, within so many nested containers. Nothing is
-//! kept of it, and no error is told apart from another.
+//! kept of it, and one error is as good as another.
 ghost use Rattle.std.specs.Prelude.{◌≡◌, ◌<◌};
 
 use crate::value::{Document, Value};

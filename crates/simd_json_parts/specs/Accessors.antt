@@ -1,4 +1,4 @@
--- The typed accessors as one table: what each answers of a document, and which kind its refusals name as expected.
+-- The typed accessors as one table: what each returns of a document, and which kind its errors name as expected.
 -- Neither acceptance nor faults rest on it.
 use Rattle.std.specs.Prelude.{ℕ, ℤ, List, Bool, false, Option, option_and_then, Result, ok_or}
 use Rattle.std.specs.Option.{option_map_or}
@@ -16,7 +16,7 @@ pub record Accessor (A : Type 0) : Type 0 where
 abbrev pub row : {A : Type 0} → (Document → Option A) → ValueType → Accessor A
 row answer expected = record { answer = answer; expected = expected }
 
--- ---- the table. An integer is answered where its number fits the type, of whatever kind it is.
+-- ---- the table. An integer is returned where its number fits the type, of whatever kind it is.
 
 abbrev pub null : Accessor (Unit {0})
 null = row as_null kinds.Null

@@ -1,4 +1,4 @@
--- What a parse of b answers: the fault of the whole input, else what the descent answers. Faults rest on it.
+-- What a parse of b returns: the fault of the whole input, else what the descent gives. Faults rest on it.
 use Rattle.std.specs.Prelude.{ℕ, List, take, Option, Some, None, Result, Err}
 use Rattle.simd_json_parts.specs.Document.{Document}
 use Rattle.simd_json_parts.specs.InputFaults.{input_fault, padding_fault}

@@ -42,8 +42,8 @@ IsOfInput e = IsTrue (is_input_kind e.error) × (e ≡ whole_fault e.error)
 abbrev pub IsOfToken : Error → Type 0
 IsOfToken e = IsTrue (is_token_kind e.error) × IsSome e.character
 
--- Each fault that the definitions answer is one of these. Beside them a parse reports only that memory or padding
--- is lacking.
+-- Each fault that the definitions give is one of these. Beside them a parse reports only that an allocation failed
+-- or padding is missing.
 abbrev pub IsNamedFault : Error → Type 0
 IsNamedFault e = IsOfInput e ⊎ IsOfToken e
 

@@ -13,7 +13,7 @@ use Rattle.simd_json_parts.specs.declared.error.ErrorType.TheVariants.{InvalidNu
 abbrev pub first_excess : List ℕ → Option ℕ
 first_excess literal = find (λ k. nat_lt (max_magnitude false) (magnitude (take (k + 1) literal))) (indices literal)
 
--- refused there, or else where the number ends if `-` makes its magnitude too great
+-- rejected there, or else where the number ends if `-` makes its magnitude too great
 abbrev pub integer_or : List ℕ → ℕ → List ℕ → ℕ → Option ℕ → Result (Document × ℕ) Error
 integer_or b i literal end (Some k) = Err (fault_at b InvalidNumber (i + k))
 integer_or b i literal end None =

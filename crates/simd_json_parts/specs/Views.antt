@@ -1,4 +1,4 @@
--- What a view of a document answers. Neither acceptance nor faults rest on it.
+-- What a view of a document returns. Neither acceptance nor faults rest on it.
 use Rattle.std.specs.Prelude.{ℕ, ◌-◌, ◌^◌, ℤ, pos, neg_ℤ, int_le, int_lt, List, length, map, slice_get, Bool, cond}
 use Rattle.std.specs.Prelude.{◌&&◌, Option, Some, None, is_some, option_and_then, Result, Ok, Err, bytes_eq}
 use Rattle.simd_json_parts.specs.Document.{Document, null, boolean, integer, decimal, string, array, object, elements}
@@ -108,7 +108,7 @@ keys ms = map (λ (m : List ℕ × Document). m.0) (members ms)
 abbrev pub values : Members → List Document
 values ms = map (λ (m : List ℕ × Document). m.1) (members ms)
 
--- ---- the `try_` forms: a refusal names the kind that was expected, and the value's
+-- ---- the `try_` forms: an error names the kind that was expected, and the value's
 
 abbrev pub mismatch : ValueType → Document → TryTypeError
 mismatch expected d = record { expected = expected; got = value_type d }

@@ -1,4 +1,4 @@
--- What a reader of numbers answers of the number at an index. It serves proofs: contracts of laws and readers cite it.
+-- What a reader of numbers returns of the number at an index. It serves proofs: contracts of laws and readers cite it.
 use Rattle.std.specs.Prelude.{◌≡◌, ℕ, ◌+◌, List, take, drop, Bool, Ok, Err}
 use Rattle.simd_json_parts.specs.Document.{integer, decimal}
 use Rattle.simd_json_parts.specs.Integers.{integer_node}

@@ -1,4 +1,4 @@
--- What a reader of numerals answers of the number at an index: of an integer of 64 bits its magnitude alone, since the
+-- What a reader of numerals returns of the number at an index: of an integer of 64 bits its magnitude alone, since the
 -- byte at the index tells the sign; of another its length. It serves proofs: contracts of readers cite it.
 use Rattle.std.specs.Prelude.{◌≡◌, ℕ, ◌+◌, ◌≤◌, ◌==◌, List, length, take, drop, Ok, Err, IsTrue}
 use Rattle.simd_json_parts.specs.Bytes.{byte_at, minus_sign, is_terminator}

@@ -1,4 +1,4 @@
--- What a reader of strings answers of the string at an index. It serves proofs: contracts of laws and readers cite it.
+-- What a reader of strings returns of the string at an index. It serves proofs: contracts of laws and readers cite it.
 use Rattle.std.specs.Prelude.{◌≡◌, ℕ, ◌+◌, List, drop, Result, Ok, Err}
 use Rattle.simd_json_parts.specs.Faults.{error_of}
 use Rattle.simd_json_parts.specs.declared.error.Error.{Error}
@@ -6,7 +6,7 @@ use Rattle.simd_json_parts.specs.StringAt.{string_at, escape_fault}
 use Rattle.simd_json_scalars.specs.declared.stringparse.ParsedString.{ParsedString}
 use Rattle.simd_json_scalars.specs.declared.stringparse.BadEscape.{BadEscape}
 
--- an answer, for bytes that begin i bytes further on
+-- a result, for bytes that begin i bytes further on
 abbrev pub further : ℕ → Result (List ℕ × ℕ) Error → Result (List ℕ × ℕ) Error
 further i (Ok (string, end)) = Ok (string, i + end)
 further i (Err e) = Err (error_of (i + e.index) e.character e.error)

@@ -1,4 +1,4 @@
-//! The types, and what is told of their values.
+//! The types, and the sums of their values.
 use serde::Deserialize;
 use std::convert::AsStr;
 

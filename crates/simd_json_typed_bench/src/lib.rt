@@ -74,7 +74,7 @@ pub extern "C" fn simd_json_typed_serde_json(
     sum.unwrap_or(NONE)
 }
 
-/// By `serde_json::from_slice`, into types that borrow them. It refuses a string with an escape.
+/// By `serde_json::from_slice`, into types that borrow them. It rejects a string with an escape.
 #[unsafe(no_mangle)]
 pub extern "C" fn simd_json_typed_serde_json_borrowed(
     alloc: Global,

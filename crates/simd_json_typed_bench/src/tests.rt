@@ -28,8 +28,7 @@ fn assert_sums(
 
 #[test]
 fn all_agree(rt: HostRuntime) -> Result<(), Fail> {
-    let line =
-        br#"{"time":1,"level":"a","host":"bc","path":"","status":2,"ms":1e3,"user":null,
+    let line = br#"{"time":1,"level":"a","host":"bc","path":"","status":2,"ms":1e3,"user":null,
         "retry":true,"text":"xyz"}"#;
     assert_sums(&rt, rt.alloc(), line, 0, [3 * 6_000_656; 4])?;
     let map = br#"{"features":[{"geometry":{"coordinates":[[[-101.5,61],[-99,2.5]]]}}]}"#;
@@ -38,8 +37,7 @@ fn all_agree(rt: HostRuntime) -> Result<(), Fail> {
 
 #[test]
 fn escapes_are_borrowed_by_ours_alone(rt: HostRuntime) -> Result<(), Fail> {
-    let tweets =
-        br#"{"statuses":[{"id":5,"text":"\n","user":{"id":1,"name":"a","screen_name":"b",
+    let tweets = br#"{"statuses":[{"id":5,"text":"\n","user":{"id":1,"name":"a","screen_name":"b",
         "followers_count":2},"retweet_count":3,"favorite_count":4}]}"#;
     let sum = 3 * 3_000_434;
     assert_sums(&rt, rt.alloc(), tweets, 1, [sum, NONE, sum, sum])

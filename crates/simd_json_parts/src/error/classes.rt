@@ -5,7 +5,7 @@ ghost use Rattle.simd_json_parts.specs.ErrorKinds.{class_of, io, eof, syntax, sh
 use super::{Error, ErrorType};
 
 impl Error {
-    /// Whether an allocation failed, or the input is too large or lacks its padding.
+    /// Whether an allocation failed, or the input is too large or its padding is missing.
     pub fn is_io(&self) -> bool
         ensures { IsTrue result ↔ (class_of self.now.error ≡ io) }
     {

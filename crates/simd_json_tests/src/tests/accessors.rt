@@ -1,10 +1,10 @@
-// What accessors and comparisons answer: the ends of each width, and each kind beside the others.
+// What accessors and comparisons return: the ends of each width, and each kind beside the others.
 use crate::tests::{Tested, array_len, object_len};
 use simd_json::tape::{Array, Object, Value};
 use simd_json::{Node, StaticNode, TryTypeError, ValueType, to_tape};
 use std::process::Abort;
 
-// What is answered for each integer type: from i8 to i128, from u8 to u128, and usize.
+// The result for each integer type: from i8 to i128, from u8 to u128, and usize.
 type Each = [Option<i128>; 11];
 
 type TriedEach<T> = [std::result::Result<T, TryTypeError>; 11];
@@ -166,7 +166,7 @@ fn eq_each(value: &Value<'_, '_>, number: i128) -> [bool; 11] {
     ]
 }
 
-// What each integer accessor answers of the value with the key `k` of a document, which is of the
+// What each integer accessor returns of the value with the key `k` of a document, which is of the
 // kind `got`.
 fn assert_each(
     rt: &(impl AllocGlobal + Abort),
@@ -392,7 +392,7 @@ fn integers_past_64_bits_have_kinds_of_their_own(rt: HostRuntime) -> Tested {
     Ok(())
 }
 
-// What is answered of a value of the kind `got` where one of the kind `expected` answers.
+// What an accessor of the kind `expected` returns of a value of the kind `got`.
 fn own<T: Drop>(
     expected: ValueType,
     got: ValueType,
@@ -405,7 +405,7 @@ fn own<T: Drop>(
     }
 }
 
-// What the accessors of null and truth values answer of the value with the key `k`.
+// What the accessors of null and truth values return of the value with the key `k`.
 fn assert_words(rt: &impl Abort, document: &Value<'_, '_>, k: &str, got: ValueType) {
     let value = document.get(k).expect(rt, "it is there");
     let null = own(ValueType::Null, got, ());
@@ -418,7 +418,7 @@ fn assert_words(rt: &impl Abort, document: &Value<'_, '_>, k: &str, got: ValueTy
     assert_same!(rt; (value.eq_bool(true), value.eq_bool(false)), (truth.is_ok(), false));
 }
 
-// What those of strings answer.
+// What those of strings return.
 fn assert_strings(rt: &impl Abort, document: &Value<'_, '_>, k: &str, got: ValueType) {
     let value = document.get(k).expect(rt, "it is there");
     let string = own(ValueType::String, got, "a\n");
@@ -430,7 +430,7 @@ fn assert_strings(rt: &impl Abort, document: &Value<'_, '_>, k: &str, got: Value
     assert_same!(rt; (value.eq_str("a\n"), value.eq_str("a")), (string.is_ok(), false));
 }
 
-// What those of decimals answer.
+// What those of decimals return.
 fn assert_decimals(rt: &impl Abort, document: &Value<'_, '_>, k: &str, got: ValueType) {
     let value = document.get(k).expect(rt, "it is there");
     let decimal = own(ValueType::Decimal, got, "1.50");
@@ -476,7 +476,7 @@ fn is_there(member: Tried<Option<Value<'_, '_>>>) -> Tried<bool> {
     }
 }
 
-// What those of arrays answer: how many members there are.
+// What those of arrays return: how many members there are.
 fn assert_arrays(rt: &impl Abort, document: &Value<'_, '_>, k: &str, got: ValueType) {
     let value = document.get(k).expect(rt, "it is there");
     let array = own(ValueType::Array, got, 1usize);
@@ -488,7 +488,7 @@ fn assert_arrays(rt: &impl Abort, document: &Value<'_, '_>, k: &str, got: ValueT
     assert_same!(rt; keyed_array_len(document.try_get_array(k)), array.map(Some));
 }
 
-// What those of objects answer.
+// What those of objects return.
 fn assert_objects(rt: &impl Abort, document: &Value<'_, '_>, k: &str, got: ValueType) {
     let value = document.get(k).expect(rt, "it is there");
     let object = own(ValueType::Object, got, 2usize);
@@ -567,9 +567,9 @@ fn the_first_value_with_a_key_is_asked(rt: HostRuntime) -> Tested {
     Ok(())
 }
 
-// Of a missing key or index nothing is answered; of a value that has none the kind is.
+// For a missing key or index there is nothing; for a value that has none an error names the kind.
 #[test]
-fn missing_members_are_told_from_other_kinds(rt: HostRuntime) -> Tested {
+fn missing_members_differ_from_other_kinds(rt: HostRuntime) -> Tested {
     let mut input = *b"{\"a\":null,\"b\":[7]}";
     let tape = to_tape(rt.alloc(), &mut input)?;
     let object = tape.as_value();

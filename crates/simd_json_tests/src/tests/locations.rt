@@ -56,7 +56,7 @@ fn nested(rt: &(impl AllocGlobal + Abort), count: usize, closed: usize) -> Vec<u
     text
 }
 
-// At which byte an input is refused, and why.
+// At which byte an input is rejected, and why.
 fn place<A: Allocator + Copy>(
     alloc: A,
     input: &[u8],

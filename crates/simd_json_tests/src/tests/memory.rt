@@ -1,4 +1,4 @@
-// Reservations, and what is told without memory.
+// Reservations, and what is found without memory.
 use linked_list_allocator::LocalHeap;
 use simd_json::{
     Buffers, Error, ErrorType, Node, Result, StaticNode, Tape, fill_tape, refill_tape, reserve,
@@ -7,7 +7,7 @@ use std::alloc::Allocator;
 use std::io::{self, BufRead};
 use std::process::Abort;
 
-// Why a test goes on: the allocations that are not to be refused.
+// Why a test goes on: the allocations that are not to fail.
 pub(super) const MEMORY: &str = "there is memory";
 
 type Ballast<'h> = Vec<Vec<u8, &'h LocalHeap>>;
@@ -279,7 +279,7 @@ fn both_are_reserved_by_the_depth_limit(rt: HostRuntime) {
 
 // An error of size, padding or encoding is returned also where no memory is left.
 #[test]
-fn encoding_is_told_without_memory(rt: HostRuntime) {
+fn encoding_is_tested_without_memory(rt: HostRuntime) {
     let mut input = *b"[\xff]";
     let heap = LocalHeap::new(rt.alloc(), 1 << 10).expect(&rt, MEMORY);
     let mut buffers = Buffers::new(&heap, 0).expect(&rt, MEMORY);

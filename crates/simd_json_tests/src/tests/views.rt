@@ -1,4 +1,4 @@
-// What the views answer of documents with members.
+// What the views return of documents with members.
 use crate::tests::{Tested, array_len, object_len};
 use simd_json::tape::Value;
 use simd_json::to_tape;
