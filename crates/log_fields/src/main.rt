@@ -1,5 +1,5 @@
 //! `log_fields KEY ..` reads JSON Lines from standard input and prints for each line the values of
-//! these keys, as they are written: a tab between two, and `-` for a key that the line does not have.
+//! these keys, as they are written: a tab between two, and `-` for a key that is not there.
 //!
 //! A line is checked only where it is read. The program stops with status 3 at a line of more than
 //! 65,536 bytes, at one that is not UTF-8 or leaves a string open, and if reading, writing or an
