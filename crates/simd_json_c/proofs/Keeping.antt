@@ -1,6 +1,6 @@
 -- Nodes and texts in memory that grows, one more at a time.
 use Rattle.std.proofs.Common.{◌≡◌, ◌∙◌, ap, sym, ℕ, ◌<◌, ◌≤◌, ◌+◌, ◌⊎◌, inl, inr, refl, arith, List, [], ◌∷◌, ◌++◌, length, take}
-use Rattle.std.proofs.Common.{Bool, true, false, get_or, set}
+use Rattle.std.proofs.Common.{zero, suc, true, get_or, set}
 use Rattle.std.proofs.lemmas.List.{length-set, length-take-le}
 use Rattle.simd_json_parts.specs.Nodes.{Item}
 use Rattle.simd_json_stages.specs.Building.{is_header}
@@ -28,18 +28,29 @@ kept-set ns i y d nodes newer text node kept within is header node_is fits = (
   kept.1 ∙ sym (texts-set ns i y d is header),
 )
 
+-- One more is kept or lost.
+pub counted-push : (ns : List Item) (x : Item) (nodes newer : List Node) (node : Node) (lost after : ℕ) → length nodes + lost ≡ length ns
+    → (after ≡ 0 → (lost ≡ 0) × (newer ≡ nodes ++ node ∷ [])) → (0 < after → (after ≡ lost + 1) × (newer ≡ nodes))
+    → length newer + after ≡ length (ns ++ x ∷ [])
+counted-push ns x nodes newer node lost zero is kept more =
+    let k = kept refl in
+    omega (arith, is, k.0, ap length k.1, length-push nodes node, length-push ns x)
+counted-push ns x nodes newer node lost (suc after) is kept more =
+    let m = more (omega arith) in
+    omega (arith, is, m.0, ap length m.1, length-push ns x)
+
 small-more : (capacity filled : ℕ) (ns : List Item) (x : Item) → AreTooSmall capacity filled ns → AreTooSmall capacity filled (ns ++ x ∷ [])
 small-more capacity filled ns x small fits =
     omega (arith, small (omega (arith, fits, length-push ns x)), length-texts-push ns x)
 
--- Where one more is not kept, those before it were not, or a list was full.
-pub small-push : (was : Bool) (capacity filled now : ℕ) (ns : List Item) (x : Item) (nodes : List Node) (text : List ℕ) (used : ℕ)
-    → (was ≡ false → AreTooSmall capacity filled ns) → (was ≡ true → AreCut ns nodes (take used text)) → used ≤ length text
+-- Where one more is lost, some before it were, or a list was full.
+pub small-push : (lost : ℕ) (capacity filled now : ℕ) (ns : List Item) (x : Item) (nodes : List Node) (text : List ℕ) (used : ℕ)
+    → (0 < lost → AreTooSmall capacity filled ns) → (lost ≡ 0 → AreCut ns nodes (take used text)) → used ≤ length text
     → capacity ≤ now → filled ≤ length text
-    → (was ≡ true → (now ≤ length nodes) ⊎ (length text < used + length (text_of x))) → AreTooSmall capacity filled (ns ++ x ∷ [])
-small-push false capacity filled now ns x nodes text used small kept within room longer full fits =
-    small-more capacity filled ns x (small refl) fits
-small-push true capacity filled now ns x nodes text used small kept within room longer full fits =
+    → (lost ≡ 0 → (now ≤ length nodes) ⊎ (length text < used + length (text_of x))) → AreTooSmall capacity filled (ns ++ x ∷ [])
+small-push (suc lost) capacity filled now ns x nodes text used small kept within room longer full fits =
+    small-more capacity filled ns x (small (omega arith)) fits
+small-push zero capacity filled now ns x nodes text used small kept within room longer full fits =
     elim (full refl) [
       | inl many ↦ omega (arith, fits, room, many, ap length (kept refl).0, length-nodes 0 ns, length-push ns x)
       | inr long ↦ omega (arith, longer, long, length-take-le used text within, ap length (kept refl).1, length-texts-push ns x)

@@ -95,8 +95,7 @@ pub(crate) fn keep<K: Original>(
         nodes,
         text,
         used: 0,
-        count: 0,
-        is_whole: true,
+        lost: 0,
         is_container: false,
         noted,
     };
@@ -105,12 +104,11 @@ pub(crate) fn keep<K: Original>(
         nodes: _nodes,
         text: _text,
         used,
-        count: _,
-        is_whole,
+        lost,
         is_container: _,
         noted: _,
     } = sink;
-    if is_whole { Ok(Some(used)) } else { Ok(None) }
+    if lost == 0 { Ok(Some(used)) } else { Ok(None) }
 }
 
 // Nodes and texts in memory that grows with them, as long as allocations succeed.
@@ -121,20 +119,19 @@ pub(crate) struct KeptSink<'t> {
     text: &'t mut Vec<u8>,
     // how many are in use
     used: usize,
-    // how many nodes were appended, kept or not
-    count: usize,
-    // whether all of them are kept
-    is_whole: bool,
+    // how many nodes were appended and are not kept, from the first that could not be on
+    lost: usize,
     // whether the first node is the header of a container
     is_container: bool,
     // the ghost record of the nodes, kept or not
     noted: Noted,
-    ghost counted: { count ≡ length noted.note.items },
+    ghost counted: { length nodes.now.items + lost ≡ length noted.note.items },
+    ghost few: { length noted.note.items ≤ max_length },
     ghost headed: { is_container ≡ is_headed noted.note.items },
     ghost within: { used ≤ length text.now.items },
-    ghost kept: { is_whole ≡ true
+    ghost kept: { lost ≡ 0
         → AreCut noted.note.items nodes.now.items (take used text.now.items) },
-    ghost small: { is_whole ≡ false → AreTooSmall noted.note.node_capacity
+    ghost small: { 0 < lost → AreTooSmall noted.note.node_capacity
         (length noted.note.text_before) noted.note.items },
     ghost capacity: { noted.note.node_capacity ≤ vec_capacity nodes.now },
     ghost longer: { length noted.note.text_before ≤ length text.now.items },
@@ -152,7 +149,7 @@ impl KeptSink<'_> {
         ensures text { self.new.text.ghost_name ≡ self.old.text.ghost_name }
     {
         // One by one, so that the compiler knows each in what follows.
-        if !self.is_whole || bytes.len() > FEW {
+        if self.lost > 0 || bytes.len() > FEW {
             return self.put_any(kind, bytes, noted);
         }
         if bytes.len() > self.text.len() - self.used {
@@ -186,15 +183,14 @@ impl KeptSink<'_> {
         ensures text { self.new.text.ghost_name ≡ self.old.text.ghost_name }
     {
         let node = span_of(kind, bytes.len(), self.used);
-        (self.is_whole, self.used) = keep_both(
-            self.is_whole,
+        keep_both(
+            &mut self.lost,
             self.nodes,
             node,
             self.text,
-            self.used,
+            &mut self.used,
             bytes,
         );
-        self.count += 1;
         self.noted = noted;
     }
 
@@ -232,7 +228,7 @@ impl<'de, 't> NodeSink<'de> for KeptSink<'t> {
 
     #[inline(always)]
     fn len(&self) -> usize {
-        self.count
+        self.nodes.len() + self.lost
     }
 
     #[inline(always)]
@@ -252,17 +248,15 @@ impl<'de, 't> NodeSink<'de> for KeptSink<'t> {
         if is_wide(&value) {
             self.put_wide(value);
         } else {
-            self.is_whole = keep_node(self.is_whole, self.nodes, static_of(value));
-            self.count += 1;
+            keep_node(&mut self.lost, self.nodes, static_of(value));
             self.noted = Noted::of(&(&self.noted, value));
         }
     }
 
     #[inline(always)]
     fn push_header(&mut self, container: Container) {
-        self.is_whole = keep_node(self.is_whole, self.nodes, header_node(container, 0, 0));
-        self.is_container |= self.count == 0;
-        self.count += 1;
+        self.is_container |= self.nodes.len() + self.lost == 0;
+        keep_node(&mut self.lost, self.nodes, header_node(container, 0, 0));
         self.noted = Noted::of(&(&self.noted, container));
     }
 
@@ -278,51 +272,61 @@ impl<'de, 't> NodeSink<'de> for KeptSink<'t> {
     }
 }
 
-// Appends a node if all before it are kept, and returns whether it is.
+// Appends a node if none before it is lost; else that one is lost, too.
 #[inline(always)]
-fn keep_node(is_whole: bool, nodes: &mut Vec<Node>, node: Node) -> bool
-    ensures whole { result ≡ true → is_whole ≡ true }
-    ensures nodes { result ≡ true → nodes.new.items ≡ nodes.old.items ++ node ∷ [] }
-    ensures full { is_whole ≡ true → result ≡ false
+fn keep_node(lost: &mut usize, nodes: &mut Vec<Node>, node: Node)
+    requires { lost.old < max_length }
+    ensures kept { lost.new ≡ 0
+        → (lost.old ≡ 0) × (nodes.new.items ≡ nodes.old.items ++ node ∷ []) }
+    ensures lost { 0 < lost.new
+        → (lost.new ≡ lost.old + 1) × (nodes.new.items ≡ nodes.old.items) }
+    ensures full { 0 < lost.new → lost.old ≡ 0
         → vec_capacity nodes.old ≤ length nodes.old.items }
     ensures capacity { vec_capacity nodes.old ≤ vec_capacity nodes.new }
 {
-    is_whole && nodes.push(node).is_ok()
+    if *lost > 0 || nodes.push(node).is_err() {
+        *lost += 1;
+    }
 }
 
-// Appends a node and its text if all before them are kept. Returns whether they are, and how many
-// bytes of the texts are in use then. One call: between the two the sink's invariant does not hold.
+// Appends a node and its text likewise. One call: between the two the sink's invariant does not
+// hold.
 #[inline(always)]
 fn keep_both(
-    is_whole: bool,
+    lost: &mut usize,
     nodes: &mut Vec<Node>,
     node: Node,
     text: &mut Vec<u8>,
-    used: usize,
+    used: &mut usize,
     bytes: &[u8],
-) -> (bool, usize)
-    requires { used ≤ length text.old.items }
-    ensures whole { result.0 ≡ true → is_whole ≡ true }
-    ensures nodes { result.0 ≡ true → nodes.new.items ≡ nodes.old.items ++ node ∷ [] }
-    ensures text { result.0 ≡ true
-        → take result.1 text.new.items ≡ take used text.old.items ++ bytes.now }
-    ensures within { result.1 ≤ length text.new.items }
-    ensures full { is_whole ≡ true → result.0 ≡ false
+)
+    requires { (lost.old < max_length) × (used.old ≤ length text.old.items) }
+    ensures kept { lost.new ≡ 0
+        → (lost.old ≡ 0) × (nodes.new.items ≡ nodes.old.items ++ node ∷ []) }
+    ensures text { lost.new ≡ 0
+        → take used.new text.new.items ≡ take used.old text.old.items ++ bytes.now }
+    ensures lost { 0 < lost.new
+        → (lost.new ≡ lost.old + 1) × (nodes.new.items ≡ nodes.old.items) }
+    ensures within { used.new ≤ length text.new.items }
+    ensures full { 0 < lost.new → lost.old ≡ 0
         → (vec_capacity nodes.old ≤ length nodes.old.items)
-        ⊎ (length text.old.items < used + length bytes.now) }
+        ⊎ (length text.old.items < used.old + length bytes.now) }
     ensures capacity { vec_capacity nodes.old ≤ vec_capacity nodes.new }
     ensures longer { length text.old.items ≤ length text.new.items }
 {
-    if bytes.len() > text.len() - used && !has_grown(text, bytes.len()) {
-        return (false, used);
+    let start = *used;
+    if bytes.len() > text.len() - start && !has_grown(text, bytes.len()) {
+        *lost += 1;
+        return;
     }
     // Of a list, its length would be read again once a node is stored.
     let text = text.as_mut_slice();
-    if !keep_node(is_whole, nodes, node) {
-        return (false, used);
+    if *lost > 0 || nodes.push(node).is_err() {
+        *lost += 1;
+        return;
     }
-    store_bytes(text, used, bytes);
-    (true, used + bytes.len())
+    store_bytes(text, start, bytes);
+    *used = start + bytes.len();
 }
 
 // Makes a list longer by `more` at least, and returns whether there was memory for that. It is
@@ -346,6 +350,7 @@ fn has_grown(text: &mut Vec<u8>, more: usize) -> bool
 fn set_node(nodes: &mut Vec<Node>, at: usize, node: Node)
     ensures set { at < length nodes.old.items
         → nodes.new.items ≡ slice_set nodes.old.items at node }
+    ensures len { length nodes.new.items ≡ length nodes.old.items }
     ensures capacity { vec_capacity nodes.new ≡ vec_capacity nodes.old }
 {
     if at < nodes.len() {

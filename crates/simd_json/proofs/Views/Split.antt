@@ -1,13 +1,13 @@
 -- The first of documents in a row, or of pairs, and the others.
-use Rattle.std.proofs.Common.{◌≡◌, ◌∙◌, ap, sym, refl, ◌<◌, ◌-◌, ℕ, false, cond, bytes_eq, List, [], ◌∷◌, ◌++◌, length, map, take}
-use Rattle.std.proofs.Common.{drop, get_or, Some, None, Bor, arith}
+use Rattle.std.proofs.Common.{◌≡◌, ◌∙◌, ap, sym, refl, ◌<◌, ◌-◌, ℕ, false, List, [], ◌∷◌, ◌++◌, length, map, take}
+use Rattle.std.proofs.Common.{drop, get_or, None, Bor, arith}
 use Rattle.std.proofs.lemmas.List.{append_cancel_left}
-use Rattle.simd_json_parts.specs.Document.{Document, null, string, array, object, Elements, no_elements, element, elements, Members}
+use Rattle.simd_json_parts.specs.Document.{Document, string, array, object, Elements, no_elements, element, elements, Members}
 use Rattle.simd_json_parts.specs.Document.{no_members, member, members}
 use Rattle.simd_json_parts.specs.Listing.{listing, elements_listing, members_listing}
 use Rattle.simd_json.specs.Tapes.{StandsFor}
 use Rattle.simd_json_parts.specs.Nodes.{Item, string_item, item_of}
-use Rattle.simd_json_parts.specs.Views.{first_with, get, get_idx, is_object, is_array}
+use Rattle.simd_json_parts.specs.Views.{get, get_idx, is_object, is_array}
 use Rattle.simd_json_parts.specs.declared.node.Node.{Node}
 use Rattle.simd_json_parts.specs.declared.node.Node.TheVariants as nodes
 use Rattle.simd_json.specs.Documents.{elements_of, members_of, in_pairs, AreElements, AreMembers}

@@ -1,7 +1,7 @@
-use Rattle.std.proofs.Common.{arith, inl, ◌≡◌, ◌∙◌, ap, refl, sym, [], ◌+◌, false, take}
+use Rattle.std.proofs.Common.{arith, inl, ◌≡◌, ◌∙◌, refl, sym, [], false, take}
 use Rattle.simd_json_parts.specs.Nodes.{static_item}
 use Rattle.simd_json_c.specs.Nodes.{is_wide}
-use Rattle.simd_json_c.proofs.Keeping.{small-push, kept-push}
+use Rattle.simd_json_c.proofs.Keeping.{counted-push, small-push, kept-push}
 use Rattle.simd_json_c.proofs.Laying.{append-nil, length-push, headed-push, plain-text}
 use Rattle.simd_json_c.proofs.lent.KeptSinkNodeSink.push_static.Goals as goal
 
@@ -9,7 +9,13 @@ pub invariant_of-self-clause-counted : goal.invariant_of-self-clause-counted
 invariant_of-self-clause-counted c =
     let s = c.args.self.now in
     let x = static_item c.args.value in
-    rw c.of-self.ensures (ap (λ k. k + 1) s.counted ∙ sym (length-push s.noted.note.items x))
+    let k = c.keep_node.ensures in
+    rw c.of-self.ensures (counted-push s.noted.note.items x _ _ _ s.lost _ s.counted k.kept k.lost)
+
+pub invariant_of-self-clause-few : goal.invariant_of-self-clause-few
+invariant_of-self-clause-few c =
+    let items = c.args.self.now.noted.note.items in
+    rw c.of-self.ensures (omega (arith, c.requires, length-push items (static_item c.args.value)))
 
 pub invariant_of-self-clause-headed : goal.invariant_of-self-clause-headed
 invariant_of-self-clause-headed c =
@@ -25,21 +31,21 @@ invariant_of-self-clause-kept c whole =
     let s = c.args.self.now in
     let x = static_item c.args.value in
     let plain : is_wide c.args.value ≡ false = sym c.is_wide.ensures ∙ c.if-is_wide.false in
-    let k = c.keep_node-self.ensures in
+    let k = c.keep_node.ensures in
     rw c.of-self.ensures
-    (kept-push s.noted.note.items x _ _ _ _ [] _ (s.kept (k.whole whole)) (c.static_of.ensures plain _)
-    (plain-text c.args.value plain) (k.nodes whole) (sym (append-nil (take s.used s.text.now.items))))
+    (kept-push s.noted.note.items x _ _ _ _ [] _ (s.kept (k.kept whole).0) (c.static_of.ensures plain _)
+    (plain-text c.args.value plain) (k.kept whole).1 (sym (append-nil (take s.used s.text.now.items))))
 
 pub invariant_of-self-clause-small : goal.invariant_of-self-clause-small
 invariant_of-self-clause-small c lost =
     let s = c.args.self.now in
     let x = static_item c.args.value in
     rw c.of-self.ensures
-    (small-push s.is_whole _ _ _ s.noted.note.items x s.nodes.now.items s.text.now.items s.used s.small s.kept s.within s.capacity s.longer
-    (λ whole. inl (c.keep_node-self.ensures.full whole lost)))
+    (small-push s.lost _ _ _ s.noted.note.items x s.nodes.now.items s.text.now.items s.used s.small s.kept s.within s.capacity s.longer
+    (λ whole. inl (c.keep_node.ensures.full lost whole)))
 
 pub invariant_of-self-clause-capacity : goal.invariant_of-self-clause-capacity
-invariant_of-self-clause-capacity c = rw c.of-self.ensures (omega (arith, c.args.self.now.capacity, c.keep_node-self.ensures.capacity))
+invariant_of-self-clause-capacity c = rw c.of-self.ensures (omega (arith, c.args.self.now.capacity, c.keep_node.ensures.capacity))
 
 pub invariant_of-self-clause-longer : goal.invariant_of-self-clause-longer
 invariant_of-self-clause-longer c = rw c.of-self.ensures c.args.self.now.longer

@@ -9,7 +9,13 @@ pub invariant_of-self-clause-counted : goal.invariant_of-self-clause-counted
 invariant_of-self-clause-counted c =
     let s = c.args.self.now in
     let y = header_of c.args.container c.args.len c.args.count in
-    rw c.of-self.ensures (s.counted ∙ sym (length-set s.noted.note.items c.args.header y))
+    rw c.of-self.ensures (omega (arith, c.set_node.ensures.len, s.counted, length-set s.noted.note.items c.args.header y))
+
+pub invariant_of-self-clause-few : goal.invariant_of-self-clause-few
+invariant_of-self-clause-few c =
+    let s = c.args.self.now in
+    let y = header_of c.args.container c.args.len c.args.count in
+    rw c.of-self.ensures (omega (arith, s.few, length-set s.noted.note.items c.args.header y))
 
 pub invariant_of-self-clause-headed : goal.invariant_of-self-clause-headed
 invariant_of-self-clause-headed c =
