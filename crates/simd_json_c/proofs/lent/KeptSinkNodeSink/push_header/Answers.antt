@@ -19,8 +19,9 @@ invariant_of-self-clause-few c =
 pub invariant_of-self-clause-headed : goal.invariant_of-self-clause-headed
 invariant_of-self-clause-headed c =
     let s = c.args.self.now in
-    let x = header_of c.args.container 0 0 in
-    rw c.of-self.ensures (headed-push_header s.noted.note.items c.args.container _ s.is_container (omega (arith, c.len.ensures, s.counted)) s.headed)
+    let items = s.noted.note.items in
+    rw c.of-self.ensures
+    (headed-push_header items c.args.container _ s.is_container (omega (arith, c.len.ensures, s.counted)) s.headed)
 
 pub invariant_of-self-clause-within : goal.invariant_of-self-clause-within
 invariant_of-self-clause-within c = c.args.self.now.within
