@@ -50,6 +50,10 @@ pub record IsParse (b : List ℕ) (limit capacity : ℕ) (fault : Option Error) 
   pub found : listed ≡ positions_after b fault
   pub few : (length nodes ≤ length (positions b)) × (length (positions b) ≤ length b)
 
+-- the same where it is not said what is listed
+abbrev pub IsParseResult : List ℕ → ℕ → ℕ → Option Error → List Item → Type 0
+IsParseResult b limit capacity fault nodes = (listed : List ℕ) × IsParse b limit capacity fault nodes listed
+
 -- of the first `len` bytes of s; where too few follow them, only this is reported
 abbrev pub IsPaddedParse : List ℕ → ℕ → ℕ → ℕ → Option Error → List Item → List ℕ → Type 0
 IsPaddedParse s len limit capacity fault nodes listed =

@@ -77,19 +77,20 @@ mod deserializer;
 pub mod laws;
 mod location;
 mod parse;
+mod sink;
 pub mod value;
 
 pub use buffers::Buffers;
 pub use deserializer::Deserializer;
 pub use location::{Location, Reason, locate};
 pub use parse::{
-    check, fill_sink, fill_tape, fill_tape_padded, refill_tape, reserve, to_tape,
-    to_tape_with_buffers,
+    check, fill_tape, fill_tape_padded, refill_tape, reserve, to_tape, to_tape_with_buffers,
 };
 pub use simd_json_parts::error::{Error, ErrorType, Result};
 pub use simd_json_parts::node::{Node, StaticNode, TryTypeError, ValueType};
 pub use simd_json_print::document::{append_quoted, write_quoted};
 pub use simd_json_stages::stage2::{Container, ListSink, NodeSink, Original};
+pub use sink::fill_sink;
 pub use value::pointer::{Pointer, PointerError, PointerExpected};
 pub use value::tape;
 pub use value::tape::Tape;

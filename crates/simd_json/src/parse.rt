@@ -1,12 +1,11 @@
-//! The entry points. Each finds the structural indexes of its input into the buffers
-//! (`find_positions`), and then builds nodes from them, into a tape (`build`) or a sink
-//! (`build_tape` of the buffers). `check` builds none.
+//! The entry points that make a tape. Each finds the structural indexes of its input into the
+//! buffers (`find_positions`), and then builds nodes from them (`build`). `check` builds none.
 ghost use Rattle.std.specs.Prelude.{◌≡◌, ◌≢◌, ◌≤◌, ◌<◌, [], ℕ, List};
 ghost use Rattle.std.specs.Prelude.{length, map, vec_capacity};
 ghost use Rattle.std.specs.Prelude.{IfErr, IfOk, OnOk, OnErr, None, Err, ◌⊎◌};
 ghost use Rattle.std.specs.Result.{result_err};
-ghost use Rattle.simd_json.specs.Parsed.{IsPaddedParse, IsParse, IsParsed, IsRefused};
-ghost use Rattle.simd_json.specs.Parsed.{nodes_of, written};
+ghost use Rattle.simd_json.specs.Parsed.{IsPaddedParse, IsParse, IsParseResult};
+ghost use Rattle.simd_json.specs.Parsed.{IsParsed, IsRefused, nodes_of};
 ghost use Rattle.simd_json.specs.Capacities.{HoldsScan, KeepsCapacities, ListsSame, capacity};
 ghost use Rattle.simd_json.specs.Capacities.{capped};
 ghost use Rattle.simd_json.specs.Memory.{HasMemory, IsOutOfMemory, LacksMemory};
@@ -26,7 +25,7 @@ use crate::{DEFAULT_MAX_DEPTH, INPUT_PADDING};
 use simd_json_ondemand::Index;
 use simd_json_parts::error::{Error, ErrorType, Result};
 use simd_json_parts::node::Node;
-use simd_json_stages::stage2::{ListSink, NodeSink, Original, nodes_enough};
+use simd_json_stages::stage2::{ListSink, Original, nodes_enough};
 use std::alloc::Allocator;
 use std::marker::Brand;
 
@@ -59,8 +58,8 @@ use std::marker::Brand;
 /// }
 /// ```
 pub fn to_tape<'de, A: Allocator + Copy>(a: A, s: &'de mut [u8]) -> Result<Tape<'de, A>>
-    ensures parse { (listed : List ℕ)
-        × IsParse s.old default_max_depth 0 (result_err result) (nodes_of result) listed }
+    ensures parse { IsParseResult s.old default_max_depth 0
+        (result_err result) (nodes_of result) }
     ensures some { IfOk result (λ tape. tape.nodes ≢ []) }
 {
     let mut buffers = Buffers::empty(a, DEFAULT_MAX_DEPTH);
@@ -144,38 +143,6 @@ pub fn fill_tape<'de, A: Allocator, B: Allocator>(
         return Err(e);
     }
     build::<Brand, A, B>(s, buffers, &mut tape.list)
-}
-
-/// Reads a document as [`fill_tape`] does, and writes its nodes to an empty sink in place of a
-/// tape: to a form of the caller's own, in one pass. The sink has room for 4,294,967,295 nodes,
-/// since no document has more. [`NodeSink`] has an example of one.
-///
-/// The errors are those of [`to_tape`]. After one without a character the sink is as it was; after
-/// another it may hold nodes that were written before the error. In any case its room and what it
-/// borrows stay the same. If the buffers have capacity for as many bytes as `s` has, `OutOfMemory`
-/// is not returned.
-///
-/// `K` names the bytes of `s` as they were given (see [`Original`]): the contract speaks of these,
-/// and strings are decoded in place. The function that makes the sink is generic over `K`, and is
-/// called with [`Brand`](std::marker::Brand).
-pub fn fill_sink<'de, K: Original, S: NodeSink<'de>, A: Allocator>(
-    s: &'de mut [u8],
-    buffers: &mut Buffers<A>,
-    sink: &mut S,
-) -> Result<()>
-    requires input { s.old ≡ K.bytes }
-    requires room { max_length ≤ S.node_room sink.old }
-    requires empty { S.held_nodes sink.old ≡ [] }
-    ensures parse { IsParse K.bytes buffers.old.limit (capacity buffers.old)
-        (result_err result) (written result (S.held_nodes sink.new)) buffers.new.positions }
-    ensures unread { IfErr result (λ e. e.character ≡ None → sink.new ≡ sink.old) }
-    ensures lender { S.lender sink.new ≡ S.lender sink.old }
-    ensures room { S.node_room sink.new ≡ S.node_room sink.old }
-    ensures limit { buffers.new.limit ≡ buffers.old.limit }
-    ensures capacities { KeepsCapacities buffers.old buffers.new }
-{
-    buffers.find_positions(s)?;
-    buffers.build_tape::<K, S>(s, sink)
 }
 
 /// Reads the document in the first `len` bytes of `s` into a tape, as [`fill_tape`] does, if at

@@ -13,7 +13,7 @@ use Rattle.simd_json_parts.specs.Nodes.{Item, static_item}
 use Rattle.simd_json_parts.specs.Printed.{escaped_byte, quoted, text, elements_text, members_text, compact}
 use Rattle.simd_json_parts.proofs.Documents.Integers.{of-integer_node}
 use Rattle.simd_json_theorems.proofs.Printing.Shortest.{compact-shortest}
-use Rattle.simd_json.specs.Parsed.{IsParse, IsParsed}
+use Rattle.simd_json.specs.Parsed.{IsParseResult, IsParsed}
 use Rattle.simd_json.proofs.Views.Listed.{known}
 use Rattle.simd_json_c.specs.Calls.{IsCompact}
 use Rattle.simd_json_c.specs.Nodes.{room_for, text_of, texts}
@@ -118,11 +118,11 @@ pub same-texts-within : (b : List ℕ) (limit : ℕ) (ms ns : List Item) → ms 
 same-texts-within b limit ms ns same p =
     subst (λ ls. length (texts ls) ≤ length b) (sym same) (texts-within b limit ns p)
 
-pub room-within : (b : List ℕ) (limit capacity : ℕ) (ns : List Item) (listed : List ℕ) (room : Room)
-    → IsParse b limit capacity None ns listed → room ≡ room_for ns → (room.nodes ≤ length b) × (room.text ≤ length b)
-room-within b limit capacity ns listed room p is =
-    let few : length ns ≤ length b = omega (arith, p.few.0, p.few.1) in
-    subst (λ r. (r.nodes ≤ length b) × (r.text ≤ length b)) (sym is) (few, texts-within b limit ns p.parsed)
+pub room-within : (b : List ℕ) (limit capacity : ℕ) (ns : List Item) (room : Room)
+    → IsParseResult b limit capacity None ns → room ≡ room_for ns → (room.nodes ≤ length b) × (room.text ≤ length b)
+room-within b limit capacity ns room p is =
+    let few : length ns ≤ length b = omega (arith, p.1.few.0, p.1.few.1) in
+    subst (λ r. (r.nodes ≤ length b) × (r.text ≤ length b)) (sym is) (few, texts-within b limit ns p.1.parsed)
 
 pub compact-within : {A E : Type 0} (r : Result (String A) E) (b : List ℕ) (limit : ℕ) (ns : List Item) (d : Document) → IsParsed b limit ns
     → listing d ≡ ns → IfOk r (λ text. string_bytes text ≡ compact d) → IfOk r (λ text. IsCompact b limit (string_bytes text))
@@ -134,10 +134,10 @@ compact-within (Ok text) b limit ns d p is same =
 compact-within (Err e) b limit ns d p is same = tt
 
 -- what is counted is what is needed
-pub room-counted : (b : List ℕ) (limit capacity : ℕ) (ns : List Item) (listed : List ℕ) (room : Room)
-    → IsParse b limit capacity None ns listed → room.nodes ≡ length ns → room.text ≡ min (length (texts ns)) 18446744073709551615
+pub room-counted : (b : List ℕ) (limit capacity : ℕ) (ns : List Item) (room : Room)
+    → IsParseResult b limit capacity None ns → room.nodes ≡ length ns → room.text ≡ min (length (texts ns)) 18446744073709551615
     → room ≡ room_for ns
-room-counted b limit capacity ns listed room p nodes text =
-    let few = texts-within b limit ns p.parsed in
-    let exact : room.text ≡ length (texts ns) = omega (arith, text, few, p.parsed.within.size) in
+room-counted b limit capacity ns room p nodes text =
+    let few = texts-within b limit ns p.1.parsed in
+    let exact : room.text ≡ length (texts ns) = omega (arith, text, few, p.1.parsed.within.size) in
     ap (λ n. record { nodes = n; text = room.text }) nodes ∙ ap (λ t. record { nodes = length ns; text = t }) exact

@@ -30,7 +30,7 @@ AreKeptOpen old new was lists = (old ≡ Some was) × (new ≡ Some lists) × Ke
 
 pub checked-with : (old new : Option Lists) (was lists : Lists) (b : List ℕ) (r : Result ℤ Error) (status : ℤ) (place : ErrorPlace)
     → AreKeptOpen old new was lists → IsReported r status place
-    → ((ns : List Item) × IsReadWith was b (result_err r) ns lists) → IfOk r (λ s. s ≡ pos 0) → IsCheckedWith old new b status place
+    → ((ns : List Item) × IsReadWith was b (result_err r) ns) → IfOk r (λ s. s ≡ pos 0) → IsCheckedWith old new b status place
 checked-with old new was lists b (Ok s) status place kept told read zero =
     rw kept.0 (lists, kept.1, kept.2, (None, read.0, read.1, told.1 ∙ zero, told.0))
 checked-with old new was lists b (Err e) status place kept told read zero =
@@ -39,9 +39,9 @@ checked-with old new was lists b (Err e) status place kept told read zero =
 pub tape-with : (old new : Option Lists) (was lists : Lists) (b : List ℕ) (r : Result ℤ Error) (status : ℤ) (place : ErrorPlace)
     (old_room room : Room) (old_nodes nodes : List Node) (old_text text : List ℕ) → AreKeptOpen old new was lists
     → IsReported r status place
-    → IfOk r (λ s. (ns : List Item) × IsReadWith was b None ns lists × (room ≡ room_for ns) × ArePut ns s old_nodes nodes old_text text)
+    → IfOk r (λ s. (ns : List Item) × IsReadWith was b None ns × (room ≡ room_for ns) × ArePut ns s old_nodes nodes old_text text)
     → IfOk r (λ s. (room.nodes ≤ length b) × (room.text ≤ length b))
-    → IfErr r (λ e. (ns : List Item) × IsReadWith was b (Some e) ns lists × (room ≡ old_room))
+    → IfErr r (λ e. (ns : List Item) × IsReadWith was b (Some e) ns × (room ≡ old_room))
     → IsTapeWith old new b status place old_room room old_nodes nodes old_text text
 tape-with old new was lists b (Ok s) status place old_room room old_nodes nodes old_text text kept told put few none =
     rw kept.0 (lists, kept.1, kept.2, (None, put.0, put.1, told.0, (put.2, few.0, few.1, rw told.1 put.3)))
@@ -50,8 +50,8 @@ tape-with old new was lists b (Err e) status place old_room room old_nodes nodes
 
 pub parsed-with : (old new : Option Lists) (was lists : Lists) (b : List ℕ) (r : Result ℤ Error) (status : ℤ) (place : ErrorPlace)
     (old_lent lent : Lent) → AreKeptOpen old new was lists → IsReported r status place
-    → IfOk r (λ s. (ns : List Item) × IsReadWith was b None ns lists × AreLent ns was lists s old_lent lent)
-    → IfErr r (λ e. (ns : List Item) × IsReadWith was b (Some e) ns lists × (lent ≡ old_lent))
+    → IfOk r (λ s. (ns : List Item) × IsReadWith was b None ns × AreLent ns was lists s old_lent lent)
+    → IfErr r (λ e. (ns : List Item) × IsReadWith was b (Some e) ns × (lent ≡ old_lent))
     → IsParsedWith old new b status place old_lent lent
 parsed-with old new was lists b (Ok s) status place old_lent lent kept told are none =
     rw kept.0 (lists, kept.1, kept.2, (None, are.0, are.1, told.0, rw told.1 are.2))

@@ -11,7 +11,7 @@ use Rattle.simd_json_parts.specs.Integers.{integer_node, number_of}
 use Rattle.simd_json_parts.specs.Listing.{listing, elements_listing, members_listing}
 use Rattle.simd_json_parts.specs.Nodes.{Item, static_item}
 use Rattle.simd_json_parts.proofs.Documents.Integers.{of-integer_node}
-use Rattle.simd_json.specs.Parsed.{IsParse}
+use Rattle.simd_json.specs.Parsed.{IsParseResult}
 use Rattle.simd_json_c.specs.Calls.{IsAtFront}
 use Rattle.simd_json_c.specs.Lent.{AreKept}
 use Rattle.simd_json_c.specs.Loans.{AreCut, cut, cut_from}
@@ -95,32 +95,32 @@ mutual
 
 -- ---- of what is parsed
 
-pub whole : (b : List ℕ) (limit capacity : ℕ) (ns : List Item) (listed : List ℕ) → IsParse b limit capacity None ns listed
+pub whole : (b : List ℕ) (limit capacity : ℕ) (ns : List Item) → IsParseResult b limit capacity None ns
     → cut_from 0 ns ≡ nodes_from 0 ns
-whole b limit capacity ns listed p =
-    let few = texts-within b limit ns p.parsed in
-    let size = p.parsed.within.size in
-    let same = ap (λ ms. length (texts ms)) p.parsed.listed in
-    let long = ap length p.parsed.listed in
-    let short = value-short p.parsed.document (omega (arith, few, size, same)) (omega (arith, p.few.0, p.few.1, size, long)) in
-    cut-short 0 ns (subst AreShort (sym p.parsed.listed) short)
+whole b limit capacity ns p =
+    let few = texts-within b limit ns p.1.parsed in
+    let size = p.1.parsed.within.size in
+    let same = ap (λ ms. length (texts ms)) p.1.parsed.listed in
+    let long = ap length p.1.parsed.listed in
+    let short = value-short p.1.parsed.document (omega (arith, few, size, same)) (omega (arith, p.1.few.0, p.1.few.1, size, long)) in
+    cut-short 0 ns (subst AreShort (sym p.1.parsed.listed) short)
 
-pub texts-small : (b : List ℕ) (limit capacity : ℕ) (ns : List Item) (listed : List ℕ) → IsParse b limit capacity None ns listed
+pub texts-small : (b : List ℕ) (limit capacity : ℕ) (ns : List Item) → IsParseResult b limit capacity None ns
     → length (texts ns) < 2 ^ 64
-texts-small b limit capacity ns listed p = omega (arith, texts-within b limit ns p.parsed, p.parsed.within.size)
+texts-small b limit capacity ns p = omega (arith, texts-within b limit ns p.1.parsed, p.1.parsed.within.size)
 
-pub front-whole : (b : List ℕ) (limit capacity : ℕ) (ns : List Item) (listed : List ℕ) (old new before : List Node)
-    → IsParse b limit capacity None ns listed → before ≡ old → new ≡ cut_from 0 ns ++ drop (length ns) before
+pub front-whole : (b : List ℕ) (limit capacity : ℕ) (ns : List Item) (old new before : List Node)
+    → IsParseResult b limit capacity None ns → before ≡ old → new ≡ cut_from 0 ns ++ drop (length ns) before
     → IsAtFront (nodes_from 0 ns) old new
-front-whole b limit capacity ns listed old new before p same are =
-    are ∙ ap (λ l. l ++ drop (length ns) before) (whole b limit capacity ns listed p)
+front-whole b limit capacity ns old new before p same are =
+    are ∙ ap (λ l. l ++ drop (length ns) before) (whole b limit capacity ns p)
     ∙ ap (λ k. nodes_from 0 ns ++ drop k before) (sym (length-nodes 0 ns))
     ∙ ap (λ o. nodes_from 0 ns ++ drop (length (nodes_from 0 ns)) o) same
 
-pub kept-whole : (b : List ℕ) (limit capacity : ℕ) (ns : List Item) (listed : List ℕ) (nodes : List Node) (text : List ℕ) (used : ℕ)
-    → IsParse b limit capacity None ns listed → used ≤ length text → AreCut ns nodes (take used text)
+pub kept-whole : (b : List ℕ) (limit capacity : ℕ) (ns : List Item) (nodes : List Node) (text : List ℕ) (used : ℕ)
+    → IsParseResult b limit capacity None ns → used ≤ length text → AreCut ns nodes (take used text)
     → AreKept ns nodes text × (length nodes ≡ length ns) × (used ≡ length (texts ns))
-kept-whole b limit capacity ns listed nodes text used p within are =
-    let exact = are.0 ∙ whole b limit capacity ns listed p in
+kept-whole b limit capacity ns nodes text used p within are =
+    let exact = are.0 ∙ whole b limit capacity ns p in
     let long : used ≡ length (texts ns) = sym (length-take-le used text within) ∙ ap length are.1 in
     ((exact, ap (λ k. take k text) (sym long) ∙ are.1), ap length exact ∙ length-nodes 0 ns, long)

@@ -6,7 +6,7 @@ use Rattle.simd_json_parts.specs.Nodes.{Item}
 use Rattle.simd_json_parts.specs.Printed.{compact, pretty}
 use Rattle.simd_json_parts.specs.declared.error.Error.{Error}
 use Rattle.simd_json.specs.Memory.{IsOutOfMemory, LacksMemory}
-use Rattle.simd_json.specs.Parsed.{IsParse, IsParsed, IsRefused}
+use Rattle.simd_json.specs.Parsed.{IsParseResult, IsParsed, IsRefused}
 use Rattle.simd_json_c.specs.Nodes.{nodes_from, room_for, texts}
 use Rattle.simd_json_c.specs.Statuses.{error_place, error_status, too_little_room}
 use Rattle.simd_json_c.specs.declared.nodes.Node.{Node}
@@ -15,7 +15,7 @@ use Rattle.simd_json_c.specs.declared.status.ErrorPlace.{ErrorPlace}
 
 -- a parse of b, with no buffers before it
 abbrev pub IsFreshRead : List ℕ → ℕ → Option Error → List Item → Type 0
-IsFreshRead b limit fault ns = (listed : List ℕ) × IsParse b limit 0 fault ns listed
+IsFreshRead b limit fault ns = IsParseResult b limit 0 fault ns
 
 -- what a call returns of such a read
 abbrev pub IsTold : (Option Error → List Item → Type 0) → ℤ → ErrorPlace → Type 0

@@ -2,7 +2,7 @@
 use Rattle.std.specs.Prelude.{◌≡◌, ◌≤◌, ◌⊎◌, ℕ, ℤ, pos, List, length, false, Option, Some, None, MatchOption, ⊤}
 use Rattle.std.specs.Vec.{vec_capacity}
 use Rattle.simd_json.specs.Capacities.{KeepsCapacities, capacity, new_buffers}
-use Rattle.simd_json.specs.Parsed.{IsParse}
+use Rattle.simd_json.specs.Parsed.{IsParseResult}
 use Rattle.simd_json_parts.specs.Nodes.{Item}
 use Rattle.simd_json_parts.specs.declared.error.Error.{Error}
 use Rattle.simd_json_c.specs.Statuses.{out_of_memory, parser_closed, error_place}
@@ -22,9 +22,9 @@ KeepsRoom old new =
 abbrev pub KeepsLists : Lists → Lists → Type 0
 KeepsLists old new = KeepsRoom old new × (new.source ≡ old.source)
 
--- a parse of b with the lists, and the lists afterwards
-abbrev pub IsReadWith : Lists → List ℕ → Option Error → List Item → Lists → Type 0
-IsReadWith old b fault ns new = IsParse b old.buffers.limit (capacity old.buffers) fault ns new.buffers.positions
+-- a parse of b with the lists
+abbrev pub IsReadWith : Lists → List ℕ → Option Error → List Item → Type 0
+IsReadWith lists b fault ns = IsParseResult b lists.buffers.limit (capacity lists.buffers) fault ns
 
 -- lists with no capacity yet, and no input
 abbrev pub AreNew : ℕ → Lists → Type 0
@@ -43,10 +43,10 @@ IsCallWith old new status place Same Is =
 
 abbrev pub IsCheckedWith : Option Lists → Option Lists → List ℕ → ℤ → ErrorPlace → Type 0
 IsCheckedWith old new b status place =
-    IsCallWith old new status place ⊤ (λ was lists. IsTold (λ fault ns. IsReadWith was b fault ns lists) status place)
+    IsCallWith old new status place ⊤ (λ was lists. IsTold (IsReadWith was b) status place)
 
 abbrev pub IsTapeWith : Option Lists → Option Lists → List ℕ → ℤ → ErrorPlace → Room → Room
     → List Node → List Node → List ℕ → List ℕ → Type 0
 IsTapeWith old new b status place old_room room old_nodes nodes old_text text =
     IsCallWith old new status place ((room ≡ old_room) × (nodes ≡ old_nodes) × (text ≡ old_text))
-    (λ was lists. IsTapeOf (λ fault ns. IsReadWith was b fault ns lists) b status place old_room room old_nodes nodes old_text text)
+    (λ was lists. IsTapeOf (IsReadWith was b) b status place old_room room old_nodes nodes old_text text)

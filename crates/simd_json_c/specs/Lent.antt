@@ -36,7 +36,7 @@ AreLent ns was lists status old lent =
 abbrev pub IsParsedWith : Option Lists → Option Lists → List ℕ → ℤ → ErrorPlace → Lent → Lent → Type 0
 IsParsedWith old new b status place old_lent lent =
     IsCallWith old new status place (lent ≡ old_lent)
-    (λ was lists. (fault : Option Error) × (ns : List Item) × IsReadWith was b fault ns lists × (place ≡ error_place fault)
+    (λ was lists. (fault : Option Error) × (ns : List Item) × IsReadWith was b fault ns × (place ≡ error_place fault)
     × MatchOption fault
     (AreLent ns was lists status old_lent lent)
     (λ e. (status ≡ error_status fault) × (lent ≡ old_lent)))

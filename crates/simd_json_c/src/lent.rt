@@ -4,7 +4,7 @@ ghost use Rattle.std.specs.Prelude.{true, false, IfOk, MatchOption, slice_set};
 ghost use Rattle.std.specs.Result.{result_err};
 ghost use Rattle.std.specs.Vec.{vec_capacity};
 ghost use Rattle.simd_json.specs.Capacities.{KeepsCapacities, capacity};
-ghost use Rattle.simd_json.specs.Parsed.{IsParse};
+ghost use Rattle.simd_json.specs.Parsed.{IsParseResult};
 ghost use Rattle.simd_json_parts.specs.Limits.{max_length};
 ghost use Rattle.simd_json_parts.specs.Nodes.{Item, static_item};
 ghost use Rattle.simd_json_c.specs.Lent.{IsParsedWith};
@@ -75,8 +75,8 @@ pub(crate) fn keep<K: Original>(
 ) -> Result<Option<usize>>
     requires input { input.old ≡ K.bytes }
     requires empty { nodes.old.items ≡ [] }
-    ensures read { (ns : List Item) × IsParse K.bytes buffers.old.limit (capacity buffers.old)
-        (result_err result) ns buffers.new.positions
+    ensures read { (ns : List Item) × IsParseResult K.bytes buffers.old.limit
+        (capacity buffers.old) (result_err result) ns
         × IfOk result (λ kept. MatchOption kept
         (AreTooSmall (vec_capacity nodes.old) (length text.old.items) ns)
         (λ used. (used ≤ length text.new.items)

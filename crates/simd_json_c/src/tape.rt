@@ -6,7 +6,7 @@ ghost use Rattle.simd_json_c.specs.Nodes.{room_for, texts};
 ghost use Rattle.simd_json_parts.specs.Nodes.{Item};
 ghost use Rattle.std.specs.Result.{result_err};
 ghost use Rattle.simd_json.specs.Capacities.{KeepsCapacities, capacity};
-ghost use Rattle.simd_json.specs.Parsed.{IsParse};
+ghost use Rattle.simd_json.specs.Parsed.{IsParseResult};
 ghost use Rattle.simd_json_c.specs.Kept.{AreNew, IsReadWith, KeepsLists};
 ghost use Rattle.simd_json_c.specs.Chosen.{IsChosenPut, IsTapedWith};
 ghost use Rattle.simd_json_c.specs.Lent.{AreLent};
@@ -116,7 +116,7 @@ impl Lists {
     // Returns 0 if the input is a document, or its error.
     pub(crate) fn check(&mut self, input: &mut [u8]) -> Result<i32>
         ensures read { (ns : List Item)
-            × IsReadWith self.old input.old (result_err result) ns self.new }
+            × IsReadWith self.old input.old (result_err result) ns }
         ensures zero { IfOk result (λ status. status ≡ pos 0) }
         ensures kept { KeepsLists self.old self.new }
     {
@@ -134,12 +134,12 @@ impl Lists {
         room: &mut Room,
     ) -> Result<i32>
         ensures lent { IfOk result (λ status. (ns : List Item)
-            × IsReadWith self.old input.old None ns self.new × (room.new ≡ room_for ns)
+            × IsReadWith self.old input.old None ns × (room.new ≡ room_for ns)
             × ArePut ns status nodes.old nodes.new text.old text.new) }
         ensures few { IfOk result (λ _.
             (room.new.nodes ≤ length input.old) × (room.new.text ≤ length input.old)) }
         ensures rejected { IfErr result (λ e. (ns : List Item)
-            × IsReadWith self.old input.old (Some e) ns self.new × (room.new ≡ room.old)) }
+            × IsReadWith self.old input.old (Some e) ns × (room.new ≡ room.old)) }
         ensures kept { KeepsLists self.old self.new }
     {
         let (nodes_len, text_len) = (nodes.len(), text.len());
@@ -190,10 +190,10 @@ impl Lists {
     // Keeps the nodes of a document and their texts, and lends them. Returns 0 or `OUT_OF_MEMORY`.
     pub(crate) fn parse(&mut self, input: &mut [u8], lent: &mut Lent) -> Result<i32>
         ensures lent { IfOk result (λ status. (ns : List Item)
-            × IsReadWith self.old input.old None ns self.new
+            × IsReadWith self.old input.old None ns
             × AreLent ns self.old self.new status lent.old lent.new) }
         ensures rejected { IfErr result (λ e. (ns : List Item)
-            × IsReadWith self.old input.old (Some e) ns self.new × (lent.new ≡ lent.old)) }
+            × IsReadWith self.old input.old (Some e) ns × (lent.new ≡ lent.old)) }
         ensures kept { KeepsLists self.old self.new }
     {
         self.nodes.clear();
@@ -215,8 +215,8 @@ impl Lists {
 // Parses the input, and keeps none of its nodes.
 fn count<K: Original>(buffers: &mut Buffers, input: &mut [u8]) -> Result<()>
     requires { input.old ≡ K.bytes }
-    ensures read { (ns : List Item) × IsParse K.bytes buffers.old.limit (capacity buffers.old)
-        (result_err result) ns buffers.new.positions }
+    ensures read { (ns : List Item) × IsParseResult K.bytes buffers.old.limit
+        (capacity buffers.old) (result_err result) ns }
     ensures kept { (buffers.new.limit ≡ buffers.old.limit)
         × KeepsCapacities buffers.old buffers.new }
 {
@@ -246,10 +246,9 @@ fn write<K: Original>(
 ) -> Result<Written>
     requires { input.old ≡ K.bytes }
     ensures read { MatchResult result
-        (λ w. IsParse K.bytes buffers.old.limit (capacity buffers.old) None w.noted.note.items
-        buffers.new.positions)
-        (λ e. IsParse K.bytes buffers.old.limit (capacity buffers.old) (Some e) []
-        buffers.new.positions) }
+        (λ w. IsParseResult K.bytes buffers.old.limit (capacity buffers.old) None
+        w.noted.note.items)
+        (λ e. IsParseResult K.bytes buffers.old.limit (capacity buffers.old) (Some e) []) }
     ensures room { IfOk result (λ w. (w.room.nodes ≡ length w.noted.note.items)
         × (w.room.text ≡ min (length (texts w.noted.note.items)) 18446744073709551615)) }
     ensures before { IfOk result (λ w. (w.noted.note.nodes_before ≡ nodes.old)

@@ -9,5 +9,6 @@
 #![tactic(auto)]
 
 pub mod laws;
+mod marks;
 pub mod stage1;
 pub mod stage2;

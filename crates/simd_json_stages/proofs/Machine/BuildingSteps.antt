@@ -218,10 +218,10 @@ module _ {b ps : List ℕ} {limit : ℕ} {stack : List StackState} {nodes : List
       → p.depth < limit → p.byte + 2 ≡ closer c → IsNext b ps p q → q.byte ≢ closer c
       → AtMember b ps limit kinds.ExpectedObjectContent (set stack p.depth
       (record { header = header; outer = p.container; len = p.len })) nodes'
-      (record { read = q.read; at = q.at; byte = q.byte; depth = p.depth + 1; container = c; len = 0 })
+      (record { read = q.read; at = q.at; byte = q.byte; depth = p.depth + 1; container = c; len = 0; bits = q.bits })
   step-open {nodes'} {q} {header} c at first put head s capacity o n byte =
       subst (λ (q : Progress). AtMember b ps limit kinds.ExpectedObjectContent (set stack p.depth f) nodes'
-      (record { read = q.read; at = q.at; byte = q.byte; depth = p.depth + 1; container = c; len = 0 })) (sym n.same)
+      (record { read = q.read; at = q.at; byte = q.byte; depth = p.depth + 1; container = c; len = 0; bits = q.bits })) (sym n.same)
       (go c put (opening-form b c p.at (omega (arith, first, o))) (λ is. byte (sym (next-byte n) ∙ is)))
     where
       f : StackState
@@ -239,7 +239,7 @@ module _ {b ps : List ℕ} {limit : ℕ} {stack : List StackState} {nodes : List
 
       go : (c : Container) → nodes' ≡ nodes ++ header_of c 0 0 ∷ [] → form_at b p.at ≡ opening_form c → byte_at b i ≢ closer c
           → AtMember b ps limit kinds.ExpectedObjectContent (set stack p.depth f) nodes'
-          (record { read = p.read + 1; at = i; byte = byte_at b i; depth = p.depth + 1; container = c; len = 0 })
+          (record { read = p.read + 1; at = i; byte = byte_at b i; depth = p.depth + 1; container = c; len = 0; bits = q.bits })
       go Array put is other = record {
         opens = in_array [] ∷ at.opens;
         same = opened Array at capacity is n.more ∙ at_array-element b (missing b ps) limit at.opens (token b i)
@@ -267,7 +267,7 @@ module _ {b ps : List ℕ} {limit : ℕ} {stack : List StackState} {nodes : List
   -- a comma, and the next member
   pub step-comma : {q s : Progress} → AfterValue b ps limit stack nodes p → 0 < p.depth → IsNext b ps p q → q.byte ≡ 44
       → IsNext b ps q s → AtMember b ps limit kinds.ExpectedObjectKey stack nodes s
-  step-comma at some n byte m' =
+  step-comma {s = s} at some n byte m' =
       subst (AtMember b ps limit kinds.ExpectedObjectKey stack nodes) (sym (two-is n m')) (go at.opens at.last at.same at.holds at.deep)
     where
       m : p.read + 1 < length ps
@@ -281,10 +281,11 @@ module _ {b ps : List ℕ} {limit : ℕ} {stack : List StackState} {nodes : List
 
       go : (opens' : List Open) (last : Document) → whole b ps limit ≡ after_value b (missing b ps) limit opens' last
           (tokens_along b (drop p.read ps)) → HoldsValue opens' last p.container (frames stack p.depth) p.len nodes
-          → length opens' ≡ p.depth → AtMember b ps limit kinds.ExpectedObjectKey stack nodes (at_second b ps p)
+          → length opens' ≡ p.depth → AtMember b ps limit kinds.ExpectedObjectKey stack nodes (at_second b ps s.bits p)
       go [] last same h deep = absurd (omega (arith, deep, some))
       go (in_array ds ∷ outer) last same h deep =
-          subst (λ c. AtMemberOf b ps limit c (error_type kinds.ExpectedObjectKey) stack nodes (at_second b ps p)) (sym h.0) (record {
+          subst (λ c. AtMemberOf b ps limit c (error_type kinds.ExpectedObjectKey) stack nodes (at_second b ps s.bits p)) (sym h.0)
+          (record {
             opens = in_array (ds ++ last ∷ []) ∷ outer;
             same = same
                 ∙ ap (after_value b (missing b ps) limit (in_array ds ∷ outer) last)
@@ -297,7 +298,8 @@ module _ {b ps : List ℕ} {limit : ℕ} {stack : List StackState} {nodes : List
             deep = deep;
           })
       go (in_object ms name ∷ outer) last same h deep =
-          subst (λ c. AtMemberOf b ps limit c (error_type kinds.ExpectedObjectKey) stack nodes (at_second b ps p)) (sym h.0) (record {
+          subst (λ c. AtMemberOf b ps limit c (error_type kinds.ExpectedObjectKey) stack nodes (at_second b ps s.bits p)) (sym h.0)
+          (record {
             members = ms ++ (name, last) ∷ [];
             outer = outer;
             same = same
@@ -316,9 +318,9 @@ module _ {b ps : List ℕ} {limit : ℕ} {stack : List StackState} {nodes : List
   pub step-close : {nodes' : List Item} {q q' : Progress} → AfterValue b ps limit stack nodes p → 0 < p.depth → IsNext b ps p q
       → q.byte ≡ closer p.container → q' ≡ closed_at stack q → nodes' ≡ patch nodes (top stack q.depth) q
       → AfterValue b ps limit stack nodes' q'
-  step-close {nodes'} at some n byte is patched =
+  step-close {nodes'} {q} at some n byte is patched =
       subst (AfterValue b ps limit stack nodes') (sym (is ∙ ap (closed_at stack) n.same))
-      (subst (λ ns. AfterValue b ps limit stack ns (closed_at stack (at_next b ps p)))
+      (subst (λ ns. AfterValue b ps limit stack ns (closed_at stack (at_next b ps q.bits p)))
       (sym (patched ∙ ap (λ (q : Progress). patch nodes (top stack q.depth) q) n.same)) (go at.opens at.last at.same at.holds at.deep))
     where
       i : ℕ
@@ -330,7 +332,7 @@ module _ {b ps : List ℕ} {limit : ℕ} {stack : List StackState} {nodes : List
       go : (opens' : List Open) (last : Document) → whole b ps limit ≡ after_value b (missing b ps) limit opens' last
           (tokens_along b (drop p.read ps)) → HoldsValue opens' last p.container (frames stack p.depth) p.len nodes
           → length opens' ≡ p.depth
-          → AfterValue b ps limit stack (patch nodes (top stack p.depth) p) (closed_at stack (at_next b ps p))
+          → AfterValue b ps limit stack (patch nodes (top stack p.depth) p) (closed_at stack (at_next b ps q.bits p))
       go [] last same h deep = absurd (omega (arith, deep, some))
       go (o ∷ outer) last same h deep =
           let is : form_at b i ≡ closing_form o = closing-form b i o outer last p.container (frames stack p.depth) p.len nodes h
@@ -413,14 +415,17 @@ module _ {b ps : List ℕ} {limit : ℕ} {stack : List StackState} {nodes : List
       }
 
 -- at the first token nothing is read
-pub root-value : {b ps : List ℕ} {limit : ℕ} {stack : List StackState} {nodes : List Item} {byte : ℕ} → nodes ≡ [] → 0 < length ps
-    → AtValue b ps limit stack nodes (record { read = 1; at = get_or ps 0 0; byte = byte; depth = 0; container = Array; len = 0 })
-root-value {b} {ps} {limit} empty l =
+pub root-value : {b ps : List ℕ} {limit : ℕ} {stack : List StackState} {nodes : List Item} {i byte bits : ℕ} → nodes ≡ []
+    → 0 < length ps → i ≡ get_or ps 0 0
+    → AtValue b ps limit stack nodes (record { read = 1; at = i; byte = byte; depth = 0; container = Array; len = 0; bits = bits })
+root-value {b} {ps} {limit} empty l first =
+    let all : drop 0 ps ≡ get_or ps 0 0 ∷ drop 1 ps = drop_more ps 0 0 l in
+    let from = all ∙ ap (λ i. i ∷ drop 1 ps) (sym first) in
     record {
       opens = [];
-      same = ap (λ us. at_value b (missing b ps) limit [] (tokens_along b us)) (drop_more ps 0 0 l);
+      same = ap (λ us. at_value b (missing b ps) limit [] (tokens_along b us)) from;
       before = [];
-      along = ap (tokens_along b) (drop_more ps 0 0 l);
+      along = ap (tokens_along b) from;
       holds = (refl, refl, empty);
       deep = refl;
     }

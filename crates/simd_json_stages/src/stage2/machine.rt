@@ -12,6 +12,7 @@
 //!               the end of the tokens, in no container            →  done
 //! ```
 ghost use Rattle.std.specs.Prelude.{◌≡◌, ◌<◌, ◌≤◌, ◌+◌, length, IfOk, IfErr};
+ghost use Rattle.simd_json_stages.specs.Leading.{listed};
 ghost use Rattle.simd_json_stages.specs.Members.{AfterMember, AtElement, AtFirst, AtOpening};
 ghost use Rattle.simd_json_stages.specs.Members.{AtPair, AtStart, HasCome, HasFollowed};
 ghost use Rattle.simd_json_stages.specs.Members.{IsAtMember, IsFault, IsFrom, IsTape};
@@ -207,7 +208,7 @@ impl<'de> Machine<'_, 'de> {
                 Following::Closed(closed) => p = closed,
             }
         }
-        if p.read < route.indexes.len() {
+        if p.read < route.positions.len() {
             return Err(p.fault_after_root(nodes.starts_with_header()));
         }
         Ok(NextMember::End)
@@ -219,7 +220,7 @@ impl<'de> Machine<'_, 'de> {
     // Reads the elements of an array, from the first token of one on, up to a container that opens
     // in it or to its end.
     #[inline(always)]
-    fn elements<K: Original, S: NodeSink<'de>, const COPY: usize>(
+    fn elements<K: Original, S: NodeSink<'de>, const COPY: usize, const MARKED: bool>(
         &mut self,
         route: Route,
         nodes: &mut S,
@@ -250,7 +251,7 @@ impl<'de> Machine<'_, 'de> {
 
     // Reads the members of an object, likewise. If the first has no key, the fault is of this kind.
     #[inline(always)]
-    fn members<K: Original, S: NodeSink<'de>, const COPY: usize>(
+    fn members<K: Original, S: NodeSink<'de>, const COPY: usize, const MARKED: bool>(
         &mut self,
         route: Route,
         nodes: &mut S,
@@ -285,17 +286,17 @@ impl<'de> Machine<'_, 'de> {
 
     // Appends the nodes of the tokens at the structural indexes, from the root's first token on.
     #[inline(always)]
-    pub(super) fn build<K: Original, S: NodeSink<'de>, const COPY: usize>(
+    pub(super) fn build<K: Original, S: NodeSink<'de>, const COPY: usize, const MARKED: bool>(
         &mut self,
         route: Route,
         nodes: &mut S,
     ) -> Result<(), Fault>
         requires { AtStart K.bytes route self.old (S.node_room nodes.old) (S.held_nodes nodes.old) }
         ensures sink { SameSink S.node_room S.lender nodes.old nodes.new }
-        ensures tape { IsTape K.bytes route.entry.indexes.now route.entry.max_depth
+        ensures tape { IsTape K.bytes (listed route.entry.positions) route.entry.max_depth
             (S.held_nodes nodes.new) result }
     {
-        let at = route.indexes[0] as usize;
+        let (at, bits) = route.positions.first();
         let first = Progress {
             at,
             byte: self.input.byte(at),
@@ -303,13 +304,14 @@ impl<'de> Machine<'_, 'de> {
             read: 1,
             depth: 0,
             len: 0,
+            bits,
         };
         let mut value = self.read_value::<K, S>(route, nodes, first)?;
         'values: loop {
             value = match self.next_member::<K, S>(route, nodes, value)? {
                 NextMember::Next(p, kind) => match p.container {
-                    Container::Array => self.elements::<K, S, COPY>(route, nodes, p)?,
-                    Container::Object => self.members::<K, S, COPY>(route, nodes, p, kind)?,
+                    Container::Array => self.elements::<K, S, COPY, MARKED>(route, nodes, p)?,
+                    Container::Object => self.members::<K, S, COPY, MARKED>(route, nodes, p, kind)?,
                 },
                 NextMember::End => return Ok(()),
             };

@@ -45,6 +45,7 @@ fn agree(
 ) -> Tested {
     let mut numbers = Numbers { state: seed };
     let (mut positions, mut blocks) = (Vec::new(rt.alloc()), Vec::new(rt.alloc()));
+    let mut marks = Vec::new(rt.alloc());
     for _ in 0..texts {
         let text = numbers.text(rt.alloc(), max_len, bytes)?;
         let found = BlockStage1Parse::find_structural_bits(&text, &mut positions, &mut blocks).map(
@@ -54,15 +55,42 @@ fn agree(
             ),
         );
         let slowly = found_slowly(rt.alloc(), &text, 0);
-        match (found, slowly) {
+        match (found, &slowly) {
             (Ok(found), Ok(slowly)) => {
-                assert_same!(rt; found, (slowly.0.as_slice(), slowly.1.as_slice()), text);
+                assert_same!(rt; found, (slowly.0.as_slice(), slowly.1.as_slice()), &text);
             }
-            (Err(found), Err(slowly)) => assert_same!(rt; found, slowly, text),
-            _ => assert_that!(rt; false, text),
+            (Err(found), Err(slowly)) => assert_same!(rt; &found, slowly, &text),
+            _ => assert_that!(rt; false, &text),
+        }
+        if text.len() < BLOCK_LEN {
+            continue;
+        }
+        let marked = BlockStage1Parse::mark_structural_bits(&text, &mut marks, &mut blocks);
+        match (marked, &slowly) {
+            (Ok(found), Ok(slowly)) => {
+                let places = bits_of(rt.alloc(), &marks, text.len())?;
+                assert_same!(rt; places.as_slice(), slowly.0.as_slice(), &text);
+                assert_same!(rt; found.positions, slowly.0.len(), &text);
+                let listed = &blocks[..found.escape_blocks];
+                assert_same!(rt; listed, slowly.1.as_slice(), &text);
+            }
+            (Err(marked), Err(slowly)) => assert_same!(rt; &marked, slowly, &text),
+            _ => assert_that!(rt; false, &text),
         }
     }
     Ok(())
+}
+
+// The places of the bits that are set for a text of so many bytes, one by one.
+fn bits_of(alloc: Global, marks: &[u32], len: usize) -> std::result::Result<Vec<u32>, AllocError> {
+    let mut places = Vec::new(alloc);
+    for place in 0..len {
+        let half = marks.get(place / 32).copied().unwrap_or(0);
+        if (half >> (place % 32)) & 1 == 1 {
+            places.push(u32::try_from(place).unwrap_or(u32::MAX))?;
+        }
+    }
+    Ok(places)
 }
 
 #[test]

@@ -12,7 +12,7 @@ returns-in-Some-clause-lent c =
     let kept =
     subst (λ o. MatchOption o (AreTooSmall (vec_capacity c.clear.new.self) (length c.args.self.now.text.items) r.0)
     (λ used. (used ≤ length text) × AreCut r.0 nodes.items (take used text))) c.in-Some.is r.2 in
-    let whole = kept-whole _ _ _ r.0 _ nodes.items text c.in-Some.text_len r.1 kept.0 kept.1 in (
+    let whole = kept-whole _ _ _ r.0 nodes.items text c.in-Some.text_len r.1 kept.0 kept.1 in (
       r.0,
       r.1,
       inl (

@@ -5,8 +5,8 @@ use Rattle.simd_json_stages.proofs.Machine.InputLaws.{reads-kept}
 use Rattle.simd_json_stages.proofs.Scan.WholeFaults.{some-listed}
 use Rattle.simd_json_stages.proofs.stage2.machine.Machine.build.Goals as goal
 
-pub bounds-route-0 : goal.bounds-route-0
-bounds-route-0 g c = let route = c.requires.on_route in some-listed _ _ route.positions route.whole
+pub first-at-requires : goal.first-at-requires
+first-at-requires g c = let route = c.requires.on_route in some-listed _ _ route.positions route.whole
 
 pub byte-requires : goal.byte-requires
 byte-requires g c =
@@ -16,7 +16,7 @@ byte-requires g c =
     record {
       b = b;
       reads = reads-kept b c.args.self.now.input 0 _ start.input (omega arith);
-      within = omega (arith, inside _ _ route.positions 0 (some-listed _ _ route.positions route.whole));
+      within = omega (arith, c.first-at.ensures.at, inside _ _ route.positions 0 (some-listed _ _ route.positions route.whole));
     }
 
 pub read_value-requires : goal.read_value-requires
@@ -26,5 +26,6 @@ read_value-requires g c =
     λ κs. (
       (refl, tt),
       at-first start (some-listed _ _ start.on_route.positions start.on_route.whole)
-          (c.byte.ensures b (reads-kept b c.args.self.now.input 0 _ start.input (omega arith))),
+          c.first-at.ensures.at (c.byte.ensures b (reads-kept b c.args.self.now.input 0 _ start.input (omega arith)))
+          c.first-at.ensures.leads,
     )

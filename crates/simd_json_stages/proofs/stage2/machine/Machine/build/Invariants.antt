@@ -1,4 +1,5 @@
 use Rattle.std.proofs.Common.{◌≡◌, ◌-◌, length}
+use Rattle.simd_json_stages.specs.Leading.{listed}
 use Rattle.simd_json_stages.specs.Members.{HasCome}
 use Rattle.simd_json_stages.specs.Progresses.{reached}
 use Rattle.simd_json_stages.specs.Put.{SameSink}
@@ -12,4 +13,4 @@ invariant-values g l = record {
 }
 
 abbrev pub decreases-values : goal.decreases-values
-decreases-values g l = length l.route.indexes.now - (reached l.value).read
+decreases-values g l = length (listed l.route.positions) - (reached l.value).read
