@@ -6,19 +6,21 @@
  *
  *     int main(void) {
  *         char input[] = "{\"the_answer\": 42}";
- *         simd_json_node nodes[16];
- *         char text[32];
- *         simd_json_room room;
- *         simd_json_place place;
- *         int status = simd_json_tape(input, strlen(input), 1024, nodes, 16, text, 32, &room, &place);
- *         if (status != SIMD_JSON_OK) {
+ *         simd_json_parser parser = {0};
+ *         simd_json_document d;
+ *         simd_json_place place = {0};
+ *         int status = simd_json_open(&parser, 1024);
+ *         if (status == SIMD_JSON_OK)
+ *             status = simd_json_parser_parse(&parser, input, strlen(input), &d, &place);
+ *         if (status == SIMD_JSON_OK) {
+ *             size_t at = simd_json_pointer(d.nodes, d.nodes_len, d.text, d.text_len, 0, "/the_answer", 11);
+ *             if (at != SIMD_JSON_NO_NODE && d.nodes[at].kind == SIMD_JSON_U64)
+ *                 printf("%llu\n", (unsigned long long)d.nodes[at].value);
+ *         } else {
  *             fprintf(stderr, "rejected: status %d at byte %zu\n", status, place.index);
- *             return 1;
  *         }
- *         for (size_t i = 0; i + 1 < room.nodes; i++)
- *             if (nodes[i].kind == SIMD_JSON_STRING && nodes[i].len == 10
- *                 && memcmp(text + nodes[i].value, "the_answer", 10) == 0)
- *                 printf("%llu\n", (unsigned long long)nodes[i + 1].value);
+ *         simd_json_close(&parser);
+ *         return status != SIMD_JSON_OK;
  *     }
  *
  * Lengths and indexes are in bytes, of `nodes` in nodes.
@@ -277,11 +279,6 @@ typedef struct {
 } simd_json_document;
 
 /* As simd_json_parser_tape, into memory that the parser keeps: no room has to be guessed, and the input is read once.
- *
- *     simd_json_document d;
- *     if (simd_json_parser_parse(&parser, input, len, &d, &place) == SIMD_JSON_OK)
- *         at = simd_json_pointer(d.nodes, d.nodes_len, d.text, d.text_len, 0, "/the_answer", 11);
- *
  * After each status but OK *document is unchanged, and what was lent before is no longer valid. */
 int32_t simd_json_parser_parse(simd_json_parser *parser, void *input, size_t len, simd_json_document *document,
                                simd_json_place *place);
