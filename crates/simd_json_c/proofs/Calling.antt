@@ -1,6 +1,7 @@
 -- What a call leaves that is made with the lists of an open parser, by what it returns for them.
 use Rattle.std.specs.Prelude.{◌≡◌, ◌≤◌, ℕ, ℤ, pos, List, length, Bool, Option, Some, None, Result, Ok, Err, IfOk, IfErr, MatchResult}
 use Rattle.std.specs.Result.{result_err}
+use Rattle.std.specs.Vec.{vec_capacity}
 use Rattle.std.proofs.Common.{◌∙◌}
 use Rattle.simd_json_parts.specs.Document.{Document}
 use Rattle.simd_json_parts.specs.Listing.{listing}
@@ -62,7 +63,7 @@ pub printed-with : (old new : Option Lists) (was lists : Lists) (b : List ℕ) (
     (status : ℤ) (place : ErrorPlace) (old_needed needed : ℕ) (old_out out : List ℕ) → AreKeptOpen old new was lists
     → IsReported r status place
     → IfOk r (λ s. (ns : List Item) × (d : Document) × IsTapedWith was b None ns lists × (listing d ≡ ns)
-    × IsChosenPut is_pretty pointer d s old_needed needed old_out out)
+    × IsChosenPut (vec_capacity was.printed) is_pretty pointer d s old_needed needed old_out out)
     → IfErr r (λ e. (ns : List Item) × IsTapedWith was b (Some e) ns lists × (needed ≡ old_needed) × (out ≡ old_out))
     → IsPrintedWith old new b is_pretty pointer status place old_needed needed old_out out
 printed-with old new was lists b is_pretty pointer (Ok s) status place old_needed needed old_out out kept told is none =

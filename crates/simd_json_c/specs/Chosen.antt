@@ -1,6 +1,7 @@
 -- The text of a value that a pointer names in a document.
-use Rattle.std.specs.Prelude.{◌≡◌, ◌⊎◌, ℕ, ℤ, List, Bool, true, false, Option, None, MatchOption, option_map, IsUtf8}
+use Rattle.std.specs.Prelude.{◌≡◌, ◌<◌, ◌⊎◌, ℕ, ℤ, List, length, Bool, true, false, Option, None, MatchOption, option_map, IsUtf8}
 use Rattle.std.specs.Result.{result_ok}
+use Rattle.std.specs.Vec.{vec_capacity}
 use Rattle.simd_json.specs.Parsed.{IsParse}
 use Rattle.simd_json.specs.Reserved.{parse_capacity}
 use Rattle.simd_json_parts.specs.Document.{Document}
@@ -24,12 +25,15 @@ printed true d = pretty d
 abbrev pub text_at : Bool → List ℕ → Document → Option (List ℕ)
 text_at is_pretty pointer d = option_map (printed is_pretty) (result_ok (pointed pointer d))
 
--- it is put or has too little room, or an allocation failed; or there is no such value
-unfoldable pub IsChosenPut : Bool → List ℕ → Document → ℤ → ℕ → ℕ → List ℕ → List ℕ → Type 0
-IsChosenPut is_pretty pointer d status old_needed needed old new =
+-- it is put or has too little room, or an allocation failed, where what is kept for texts has less capacity; or there is no such
+-- value
+unfoldable pub IsChosenPut : ℕ → Bool → List ℕ → Document → ℤ → ℕ → ℕ → List ℕ → List ℕ → Type 0
+IsChosenPut capacity is_pretty pointer d status old_needed needed old new =
     MatchOption (text_at is_pretty pointer d)
     ((status ≡ no_value) × (needed ≡ old_needed) × (new ≡ old))
-    (λ text. IsTextPut text status needed old new ⊎ ((status ≡ out_of_memory) × (needed ≡ old_needed) × (new ≡ old)))
+    (λ text.
+    IsTextPut text status needed old new
+    ⊎ ((status ≡ out_of_memory) × (needed ≡ old_needed) × (new ≡ old) × (capacity < length text)))
 
 -- a parse of b with the lists and their tape, and the lists afterwards
 abbrev pub IsTapedWith : Lists → List ℕ → Option Error → List Item → Lists → Type 0
@@ -42,7 +46,8 @@ IsPrintedWith old new b is_pretty pointer status place old_needed needed old_out
     IsCallWith old new status place ((needed ≡ old_needed) × (out ≡ old_out))
     (λ was lists. (fault : Option Error) × (ns : List Item) × IsTapedWith was b fault ns lists × (place ≡ error_place fault)
     × MatchOption fault
-    ((d : Document) × (listing d ≡ ns) × IsChosenPut is_pretty pointer d status old_needed needed old_out out)
+    ((d : Document) × (listing d ≡ ns)
+    × IsChosenPut (vec_capacity was.printed) is_pretty pointer d status old_needed needed old_out out)
     (λ e. (status ≡ error_status fault) × (needed ≡ old_needed) × (out ≡ old_out)))
 
 -- the same, where the pointer may be no text: then it names no value

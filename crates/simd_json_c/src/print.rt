@@ -1,8 +1,10 @@
 //! The printed text of a document. If the room is too small, only the needed size is written, so a
 //! text is made first and then copied.
-ghost use Rattle.std.specs.Prelude.{◌≡◌, ◌++◌, IfOk, IfErr, OnOk, Some, [], map, false};
+ghost use Rattle.std.specs.Prelude.{◌≡◌, ◌<◌, ◌≤◌, ◌+◌, ◌++◌, IfOk, IfErr, OnOk, OnErr, Some, []};
+ghost use Rattle.std.specs.Prelude.{false, length, map};
 ghost use Rattle.std.specs.Prelude.{string_bytes, true};
 ghost use Rattle.std.specs.Result.{result_err};
+ghost use Rattle.std.specs.Vec.{vec_capacity};
 ghost use Rattle.simd_json_c.specs.Calls.{IsCompact, IsPretty, IsPrinted, IsTextPut, IsUnprinted};
 ghost use Rattle.simd_json_c.specs.Statuses.{error_place, error_status};
 ghost use Rattle.simd_json_c.specs.Chosen.{IsChosenPut, IsPrintedFrom, IsPrintedWith, printed};
@@ -82,8 +84,9 @@ pub(crate) fn print_at(
     out: &mut [u8],
     needed: &mut usize,
 ) -> i32
-    ensures { IsChosenPut is_pretty pointer.now (doc value.entry) result needed.old needed.new
-        out.old out.new }
+    ensures chosen { IsChosenPut (vec_capacity text.old) is_pretty pointer.now (doc value.entry)
+        result needed.old needed.new out.old out.new }
+    ensures capacity { vec_capacity text.old ≤ vec_capacity text.new }
 {
     text.clear();
     let Some(named) = value.pointer(pointer) else {
@@ -101,8 +104,12 @@ fn append(
     nodes: &[Node<'_>],
     is_pretty: bool,
 ) -> std::result::Result<(), AllocError>
-    ensures { (d : Document) → map item_of nodes.now ≡ listing d
+    ensures appended { (d : Document) → map item_of nodes.now ≡ listing d
         → OnOk result (text.new.items ≡ text.old.items ++ printed is_pretty d) }
+    ensures lacking { (d : Document) → map item_of nodes.now ≡ listing d
+        → OnErr result (vec_capacity text.old
+        < length text.old.items + length (printed is_pretty d)) }
+    ensures capacity { vec_capacity text.old ≤ vec_capacity text.new }
 {
     if is_pretty {
         append_pretty(text, nodes)

@@ -5,6 +5,7 @@ ghost use Rattle.simd_json_c.specs.Calls.{ArePut, IsFreshRead, IsFreshTape, IsCh
 ghost use Rattle.simd_json_c.specs.Nodes.{room_for, texts};
 ghost use Rattle.simd_json_parts.specs.Nodes.{Item};
 ghost use Rattle.std.specs.Result.{result_err};
+ghost use Rattle.std.specs.Vec.{vec_capacity};
 ghost use Rattle.simd_json.specs.Capacities.{KeepsCapacities, capacity};
 ghost use Rattle.simd_json.specs.Parsed.{IsParseResult};
 ghost use Rattle.simd_json_c.specs.Kept.{AreNew, IsReadWith, KeepsLists};
@@ -165,7 +166,8 @@ impl Lists {
     ) -> Result<i32>
         ensures printed { IfOk result (λ status. (ns : List Item) × (d : Document)
             × IsTapedWith self.old input.old None ns self.new × (listing d ≡ ns)
-            × IsChosenPut is_pretty pointer.now d status needed.old needed.new out.old out.new) }
+            × IsChosenPut (vec_capacity self.old.printed) is_pretty pointer.now d status
+            needed.old needed.new out.old out.new) }
         ensures rejected { IfErr result (λ e. (ns : List Item)
             × IsTapedWith self.old input.old (Some e) ns self.new
             × (needed.new ≡ needed.old) × (out.new ≡ out.old)) }

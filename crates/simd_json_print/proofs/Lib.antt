@@ -1,5 +1,6 @@
 pub mod FlatMaps
 pub mod Texts
+pub mod Growing
 pub mod Walk
 pub mod Nestings
 pub mod Lines

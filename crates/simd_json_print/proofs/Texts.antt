@@ -1,12 +1,13 @@
 -- Laws of what a text was given.
-use Rattle.std.proofs.Common.{◌≡◌, ◌∙◌, ap, sym, refl, subst, ℕ, Bool, true, false, List, [], ◌++◌, Option, None, Some}
-use Rattle.std.proofs.Common.{append_assoc, append-nil, length, take, drop, take-append-drop}
+use Rattle.std.proofs.Common.{◌≡◌, ◌<◌, ◌∙◌, ap, sym, refl, subst, arith, ℕ, Bool, true, false, List, [], ◌∷◌, ◌++◌, Option, None, Some}
+use Rattle.std.proofs.Common.{append_assoc, append-nil, length, length-append, length-drop, take, drop, take-append-drop}
 use Rattle.std.proofs.Math.Seq.{take-append_seam}
-use Rattle.std.proofs.lemmas.Bool.{false≢true}
+use Rattle.std.proofs.lemmas.Bool.{false≢true, lt-ltb}
 use Rattle.std.specs.Prelude.{Result, Ok, Err, is_some, is_none, is_ok, OnOk, OnErr, IfNone, option_map, ◌||◌, ◌&&◌, ◌==◌, zero}
 use Rattle.std.specs.Prelude.{suc, nat_lt}
 use Rattle.std.specs.Io.KnownBytes.{Appends, Keeps}
-use Rattle.simd_json_print.specs.Texts.{TargetState, Takes, IsUnsent, failed_or, HasGiven, HasEnded, Adds, AddsSome, IsLonger, IsPrefix}
+use Rattle.simd_json_print.specs.Texts.{TargetState, Takes, IsUnsent, failed_or, HasGiven, HasFailed, HasEnded, Adds, AddsSome}
+use Rattle.simd_json_print.specs.Texts.{IsLonger, IsPrefix}
 use Rattle.simd_json_print.specs.declared.text.Text.{Text}
 
 pub appends-none : (a : Option (List ℕ)) → Appends a a []
@@ -25,9 +26,16 @@ appends-keeps (Some xs) None c us p q = absurd p
 appends-keeps (Some xs) (Some ys) None us p q = absurd q
 appends-keeps (Some xs) (Some ys) (Some zs) us p q = q ∙ p
 
--- a beginning was taken, and the target failed
-abbrev pub HasFailed : TargetState → TargetState → List ℕ → Type 0
-HasFailed a b bytes = ((count : ℕ) × Appends a.held b.held (take count bytes)) × (b.failed ≡ option_map (λ _. true) a.failed)
+-- ---- lengths
+
+shorter : (xs ys whole : List ℕ) → xs ++ ys ≡ whole → 0 < length ys → length xs < length whole
+shorter xs ys whole all some = subst (λ us. length xs < length us) all (omega (arith, length-append xs ys, some))
+
+some-more : (xs ys : List ℕ) → 0 < length xs → 0 < length (xs ++ ys)
+some-more xs ys some = omega (arith, length-append xs ys, some)
+
+some-left : (n : ℕ) (xs : List ℕ) → n < length xs → 0 < length (drop n xs)
+some-left n xs less = omega (arith, length-drop n xs, less)
 
 -- ---- one call, after these bytes were sent
 
@@ -41,11 +49,12 @@ none-now None t is = refl
 none-now (Some true) t is = refl
 none-now (Some false) t is = ap Some is
 
-pub write-failed : {E : Type 0} (e : E) (a b c : TargetState) (sent left whole : List ℕ) → Takes b c (Err e) left
+pub write-failed : {E : Type 0} (e : E) (a b c : TargetState) (sent left whole : List ℕ) → Takes b c (Err e) left → 0 < length left
     → Appends a.held b.held sent → sent ++ left ≡ whole → b.failed ≡ a.failed → HasFailed a c whole
-write-failed e a b c sent left whole t p all same = (
+write-failed e a b c sent left whole t some p all same = (
   (
     length sent,
+    shorter sent left whole all some,
     subst (λ us. Appends a.held c.held us) (sym (take-append_seam sent left) ∙ ap (take (length sent)) all)
         (appends-keeps a.held b.held c.held sent p t.taken),
   ),
@@ -53,14 +62,15 @@ write-failed e a b c sent left whole t p all same = (
 )
 
 pub write-zero : {E : Type 0} (n : ℕ) (a b c : TargetState) (sent left whole : List ℕ) → n ≡ 0 → Takes {E = E} b c (Ok n) left
-    → nat_lt 0 (length left) ≡ true → Appends a.held b.held sent → sent ++ left ≡ whole → b.failed ≡ a.failed → HasFailed a c whole
+    → 0 < length left → Appends a.held b.held sent → sent ++ left ≡ whole → b.failed ≡ a.failed → HasFailed a c whole
 write-zero zero a b c sent left whole is t some p all same = (
   (
     length sent,
+    shorter sent left whole all some,
     subst (λ us. Appends a.held c.held us) (append-nil sent ∙ sym (take-append_seam sent left) ∙ ap (take (length sent)) all)
         (appends-then a.held b.held c.held sent [] p t.taken),
   ),
-  t.failed ∙ none-now b.failed _ some ∙ ap (option_map (λ _. true)) same,
+  t.failed ∙ none-now b.failed _ (lt-ltb 0 (length left) some) ∙ ap (option_map (λ _. true)) same,
 )
 write-zero (suc n) a b c sent left whole is t some p all same = cc
 
@@ -92,11 +102,15 @@ left-of (Some e) collected left off is = cc
 
 is-left : {E : Type 0} (o : Option E) (collected left : List ℕ) → is_some o ≡ false → left ≡ collected → IsUnsent o collected left
 is-left None collected left off is = is
-is-left (Some e) collected left off is = tt
+is-left (Some e) collected left off is = cc
 
-any-left : {E : Type 0} (o : Option E) (collected left : List ℕ) → is_some o ≡ true → IsUnsent o collected left
-any-left None collected left off = cc
-any-left (Some e) collected left off = tt
+lost-left : {E : Type 0} (o : Option E) (collected left : List ℕ) → is_some o ≡ true → 0 < length left → IsUnsent o collected left
+lost-left None collected left stopped some = cc
+lost-left (Some e) collected left stopped some = some
+
+is-lost : {E : Type 0} (o : Option E) (collected left : List ℕ) → is_some o ≡ true → IsUnsent o collected left → 0 < length left
+is-lost None collected left stopped is = cc
+is-lost (Some e) collected left stopped is = is
 
 still : (b : Bool) (o : Option Bool) → b ≡ false → failed_or b o ≡ o
 still true o is = cc
@@ -133,7 +147,8 @@ module _ {T : Type 0} {size : ℕ} (state : T → TargetState) where
           → IsUnsent p ys (left ++ bytes)
       more None None xs ys left same is l = ap (λ us. us ++ bytes) l ∙ sym is
       more (Some e) None xs ys left same is l = cc
-      more o (Some e) xs ys left same is l = tt
+      more None (Some e) xs ys left same is l = cc
+      more (Some d) (Some e) xs ys left same is l = some-more left bytes l
 
   -- all was taken
   pub adds-taken : (old new : Text T size) (bytes chunk : List ℕ) → new.target.ghost_name ≡ old.target.ghost_name
@@ -163,8 +178,8 @@ module _ {T : Type 0} {size : ℕ} (state : T → TargetState) where
     given = λ start before is. record {
       sent = is.sent ++ take ends.0.0 chunk;
       left = drop ends.0.0 chunk;
-      is_left = any-left new.fault new.collected _ stopped;
-      taken = appends-then start.held _ _ is.sent (take ends.0.0 chunk) is.taken ends.0.1;
+      is_left = lost-left new.fault new.collected _ stopped (some-left ends.0.0 chunk ends.0.1);
+      taken = appends-then start.held _ _ is.sent (take ends.0.0 chunk) is.taken ends.0.2;
       whole = append_assoc is.sent (take ends.0.0 chunk) (drop ends.0.0 chunk)
           ∙ ap (λ us. is.sent ++ us) (take-append-drop ends.0.0 chunk ∙ all
           ∙ ap (λ us. us ++ bytes) (sym (left-of old.fault old.collected is.left sound is.is_left)))
@@ -180,7 +195,8 @@ module _ {T : Type 0} {size : ℕ} (state : T → TargetState) where
     given = λ start before is. record {
       sent = is.sent;
       left = is.left ++ bytes;
-      is_left = any-left old.fault old.collected _ stopped;
+      is_left = lost-left old.fault old.collected _ stopped
+          (some-more is.left bytes (is-lost old.fault old.collected is.left stopped is.is_left));
       taken = is.taken;
       whole = sym (append_assoc is.sent is.left bytes) ∙ ap (λ us. us ++ bytes) is.whole;
       failed = is.failed;
@@ -220,6 +236,7 @@ pub ends-before : {T : Type 0} {size : ℕ} (state : T → TargetState) (start :
 ends-before state start text bytes stopped g = (
   (
     length g.sent,
+    shorter g.sent g.left bytes g.whole (is-lost text.fault text.collected g.left stopped g.is_left),
     subst (λ us. Appends start.held (state text.target.now).held us)
         (sym (take-append_seam g.sent g.left) ∙ ap (take (length g.sent)) g.whole) g.taken,
   ),
@@ -242,10 +259,15 @@ ends-after (Ok u) state start end text bytes sound g ends = (
 ends-after (Err e) state start end text bytes sound g ends = (
   (
     length (g.sent ++ take ends.0.0 text.collected),
+    shorter (g.sent ++ take ends.0.0 text.collected) (drop ends.0.0 text.collected) bytes
+        (append_assoc g.sent (take ends.0.0 text.collected) (drop ends.0.0 text.collected)
+        ∙ ap (λ us. g.sent ++ us) (take-append-drop ends.0.0 text.collected
+        ∙ sym (left-of text.fault text.collected g.left sound g.is_left)) ∙ g.whole)
+        (some-left ends.0.0 text.collected ends.0.1),
     subst (λ us. Appends start.held end.held us)
         (sym (take-further g.sent text.collected ends.0.0) ∙ ap (take (length (g.sent ++ take ends.0.0 text.collected)))
         (ap (λ us. g.sent ++ us) (sym (left-of text.fault text.collected g.left sound g.is_left)) ∙ g.whole))
-        (appends-then start.held _ end.held g.sent (take ends.0.0 text.collected) g.taken ends.0.1),
+        (appends-then start.held _ end.held g.sent (take ends.0.0 text.collected) g.taken ends.0.2),
   ),
   ends.1 ∙ ap (option_map (λ _. true)) (g.failed ∙ still _ start.failed sound),
 )
@@ -258,7 +280,7 @@ ended-written (Err e) a b bytes ends = tt
 pub ended-begun : {E : Type 0} (r : Result Unit E) (a b : TargetState) (bytes : List ℕ) → HasEnded r a b bytes
     → OnErr r ((count : ℕ) × Appends a.held b.held (take count bytes))
 ended-begun (Ok u) a b bytes ends = tt
-ended-begun (Err e) a b bytes ends = ends.0
+ended-begun (Err e) a b bytes ends = (ends.0.0, ends.0.2)
 
 -- of a port that had not failed
 pub ended-sound : {E : Type 0} (r : Result Unit E) (a b : Option (List ℕ)) (old new : Bool) (bytes : List ℕ)
@@ -273,13 +295,13 @@ pub ended-failed : {E : Type 0} (r : Result Unit E) (a b : Option (List ℕ)) (o
     → HasEnded r (record { held = a; failed = Some old }) (record { held = b; failed = Some new }) bytes → is_ok r ≡ false
     → (new ≡ true) × ((count : ℕ) × Appends a b (take count bytes))
 ended-failed (Ok u) a b old new bytes ends ok = cc
-ended-failed (Err e) a b old true bytes ends ok = (refl, ends.0)
+ended-failed (Err e) a b old true bytes ends ok = (refl, (ends.0.0, ends.0.2))
 ended-failed (Err e) a b old false bytes ends ok = cc
 
 pub ended-longer : {E : Type 0} (r : Result Unit E) (a b : TargetState) (bytes : List ℕ) → HasEnded r a b bytes → IsLonger a.held b.held
 unfolding IsLonger
 ended-longer (Ok u) a b bytes ends = (bytes, ends.0)
-ended-longer (Err e) a b bytes ends = (take ends.0.0 bytes, ends.0.1)
+ended-longer (Err e) a b bytes ends = (take ends.0.0 bytes, ends.0.2)
 
 -- ---- where the text ends well
 
@@ -299,15 +321,15 @@ sound-text state (Err e) start end text bytes true is ok old given ends = cc
 sound-text state (Ok u) start end text bytes true is ok old given ends =
     let here = state text.target.now in
     let failed : here.failed ≡ Some true = given.failed ∙ ap (λ f. failed_or f start.failed) is ∙ ap (failed_or true) old in
-    let again : HasGiven state here text [] = record {
+    let again : HasGiven state here text (0 ∷ []) = record {
       sent = [];
-      left = [];
-      is_left = any-left text.fault text.collected [] is;
+      left = 0 ∷ [];
+      is_left = lost-left text.fault text.collected (0 ∷ []) is (search arith);
       taken = appends-none here.held;
       whole = refl;
       failed = failed ∙ sym (ap (λ f. failed_or f here.failed) is ∙ ap (failed_or true) failed);
     } in
-    let one = (ends here [] again).1 ∙ failed in
+    let one = (ends here (0 ∷ []) again).1 ∙ failed in
     let two = (ends start bytes given).1 ∙ old in
     absurd (false≢true (some-is (sym two ∙ one)))
 

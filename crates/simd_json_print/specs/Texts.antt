@@ -1,5 +1,5 @@
 -- A target that takes bytes, and what a text on its way to it was given.
-use Rattle.std.specs.Prelude.{◌≡◌, ℕ, List, ◌++◌, length, take, ⊤, Bool, true, false, ◌||◌, ◌&&◌, ◌==◌, nat_lt, Option, None, Some}
+use Rattle.std.specs.Prelude.{◌≡◌, ◌<◌, ℕ, List, ◌++◌, length, take, Bool, true, false, ◌||◌, ◌&&◌, ◌==◌, nat_lt, Option, None, Some}
 use Rattle.std.specs.Prelude.{option_map, is_some, Result, Ok, Err, MatchResult, is_err}
 use Rattle.std.specs.Io.{WritesAtMost}
 use Rattle.std.specs.Io.KnownBytes.{Appends, WriteAppends}
@@ -21,10 +21,10 @@ pub record Takes {E : Type 0} (old new : TargetState) (result : Result ℕ E) (b
   pub taken : WriteAppends old.held new.held result bytes
   pub failed : new.failed ≡ option_map (λ failed. failed || is_err result || took_none result (length bytes)) old.failed
 
--- what is collected, or anything where a call has failed
+-- what is collected, or some bytes where a call has failed
 abbrev pub IsUnsent : {E : Type 0} → Option E → List ℕ → List ℕ → Type 0
 IsUnsent None collected left = left ≡ collected
-IsUnsent (Some fault) collected left = ⊤
+IsUnsent (Some fault) collected left = 0 < length left
 
 -- the target failed now, or before
 abbrev pub failed_or : Bool → Option Bool → Option Bool
@@ -46,11 +46,16 @@ pub record Adds {T : Type 0} {size : ℕ} (state : T → TargetState) (old new :
   pub same_target : new.target.ghost_name ≡ old.target.ghost_name
   pub given : (start : TargetState) (before : List ℕ) → HasGiven state start old before → HasGiven state start new (before ++ bytes)
 
--- all bytes were taken and nothing failed; or a beginning was taken, and the target failed
+-- a beginning of the bytes was taken, but not all, and the target failed
+abbrev pub HasFailed : TargetState → TargetState → List ℕ → Type 0
+HasFailed start end bytes =
+    ((count : ℕ) × (count < length bytes) × Appends start.held end.held (take count bytes))
+    × (end.failed ≡ option_map (λ _. true) start.failed)
+
+-- all bytes were taken and nothing failed; or the target failed
 abbrev pub HasEnded : {E : Type 0} → Result Unit E → TargetState → TargetState → List ℕ → Type 0
-HasEnded result start end bytes = MatchResult result
-    (λ _. Appends start.held end.held bytes × (end.failed ≡ start.failed))
-    (λ _. ((count : ℕ) × Appends start.held end.held (take count bytes)) × (end.failed ≡ option_map (λ _. true) start.failed))
+HasEnded result start end bytes =
+    MatchResult result (λ _. Appends start.held end.held bytes × (end.failed ≡ start.failed)) (λ _. HasFailed start end bytes)
 
 -- of any bytes
 abbrev pub AddsSome : {T : Type 0} {size : ℕ} → (T → TargetState) → Text T size → Text T size → Type 0

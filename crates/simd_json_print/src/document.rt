@@ -1,17 +1,21 @@
 //! The printed text of a document, from its nodes: compact, or pretty with a line for each member.
 //! An open container takes about 11 bytes of stack, at most 672 for 64. That the stack suffices is
 //! not proved.
-ghost use Rattle.std.specs.Prelude.{◌≡◌, ◌++◌, ℕ, map, take, OnOk, OnErr};
+ghost use Rattle.std.specs.Prelude.{◌≡◌, ◌<◌, ◌≤◌, ◌+◌, ◌++◌, ℕ, List, length, map, take, OnOk};
+ghost use Rattle.std.specs.Prelude.{OnErr};
+ghost use Rattle.std.specs.Vec.{vec_capacity};
 ghost use Rattle.std.specs.Io.KnownBytes.{Appends};
 ghost use Rattle.simd_json_parts.specs.Document.{Document};
 ghost use Rattle.simd_json_parts.specs.Listing.{listing};
 ghost use Rattle.simd_json_parts.specs.Nodes.{item_of};
-ghost use Rattle.simd_json_parts.specs.Printed.{compact, pretty, quoted};
-ghost use Rattle.simd_json_print.specs.Texts.{Adds, AddsSome, IsLonger, IsPrefix};
+ghost use Rattle.simd_json_parts.specs.Printed.{compact, pretty, quoted, text};
+ghost use Rattle.simd_json_print.specs.Texts.{Adds, AddsSome, HasEnded, IsLonger, IsPrefix};
 
+mod growing;
 mod scalar;
 mod walk;
 
+use crate::document::growing::Growing;
 use crate::document::walk::put_value;
 use crate::text::{Target, Text};
 use simd_json_parts::node::Node;
@@ -44,34 +48,74 @@ pub fn put_pretty<T: Target, const SIZE: usize>(out: &mut Text<'_, T, SIZE>, nod
 
 /// Appends the compact text of the document that the nodes list.
 ///
-/// Returns an error if an allocation fails. `out` then has its old contents, and a part of the text
-/// may follow.
-#[tactic(auto, using(crate::proofs::Texts::longer_prefix))]
+/// Returns an error if an allocation fails, so only where `out` lacks the capacity. `out` then has
+/// its old contents, and a part of the text may follow.
 pub fn append_compact<A: Allocator>(
     out: &mut Vec<u8, A>,
     nodes: &[Node<'_>],
 ) -> std::result::Result<(), AllocError>
     ensures appended { (d : Document) → map item_of nodes.now ≡ listing d
         → OnOk result (out.new.items ≡ out.old.items ++ compact d) }
+    ensures lacking { (d : Document) → map item_of nodes.now ≡ listing d
+        → OnErr result (vec_capacity out.old < length out.old.items + length (compact d)) }
     ensures kept { IsPrefix out.old.items out.new.items }
+    ensures capacity { vec_capacity out.old ≤ vec_capacity out.new }
 {
-    write_compact(out, nodes).map_err(|_| AllocError)
+    append::<A, false>(out, nodes)
 }
 
 /// Appends the pretty text of the document that the nodes list.
 ///
-/// Returns an error if an allocation fails. `out` then has its old contents, and a part of the text
-/// may follow.
-#[tactic(auto, using(crate::proofs::Texts::longer_prefix))]
+/// Returns an error if an allocation fails, so only where `out` lacks the capacity. `out` then has
+/// its old contents, and a part of the text may follow.
 pub fn append_pretty<A: Allocator>(
     out: &mut Vec<u8, A>,
     nodes: &[Node<'_>],
 ) -> std::result::Result<(), AllocError>
     ensures appended { (d : Document) → map item_of nodes.now ≡ listing d
         → OnOk result (out.new.items ≡ out.old.items ++ pretty d) }
+    ensures lacking { (d : Document) → map item_of nodes.now ≡ listing d
+        → OnErr result (vec_capacity out.old < length out.old.items + length (pretty d)) }
     ensures kept { IsPrefix out.old.items out.new.items }
+    ensures capacity { vec_capacity out.old ≤ vec_capacity out.new }
 {
-    write_pretty(out, nodes).map_err(|_| AllocError)
+    append::<A, true>(out, nodes)
+}
+
+// Appends the text of the document that the nodes list.
+fn append<A: Allocator, const PRETTY: bool>(
+    out: &mut Vec<u8, A>,
+    nodes: &[Node<'_>],
+) -> std::result::Result<(), AllocError>
+    ensures appended { (d : Document) → map item_of nodes.now ≡ listing d
+        → OnOk result (out.new.items ≡ out.old.items ++ text PRETTY d 0) }
+    ensures lacking { (d : Document) → map item_of nodes.now ≡ listing d
+        → OnErr result (vec_capacity out.old < length out.old.items + length (text PRETTY d 0)) }
+    ensures kept { IsPrefix out.old.items out.new.items }
+    ensures capacity { vec_capacity out.old ≤ vec_capacity out.new }
+{
+    let capacity = out.capacity();
+    let mut list = Growing {
+        list: out,
+        capacity,
+        has_failed: false,
+    };
+    match print::<Growing<'_, A>, PRETTY>(&mut list, nodes) {
+        Ok(()) => Ok(()),
+        Err(_) => Err(AllocError),
+    }
+}
+
+// Writes the text of the document that the nodes list.
+fn print<T: Target, const PRETTY: bool>(target: &mut T, nodes: &[Node<'_>]) -> io::Result<()>
+    ensures kept { (bytes : List ℕ)
+        × HasEnded result (T.state target.old) (T.state target.new) bytes }
+    ensures given { (d : Document) → map item_of nodes.now ≡ listing d
+        → HasEnded result (T.state target.old) (T.state target.new) (text PRETTY d 0) }
+{
+    let mut out = Text::<T, PIECE>::new(target);
+    put_value::<T, PIECE, PRETTY>(&mut out, nodes, 0);
+    out.finish()
 }
 
 /// Writes the compact text of the document that the nodes list.
@@ -86,9 +130,7 @@ pub fn write_compact<W: Write>(writer: &mut W, nodes: &[Node<'_>]) -> io::Result
         × Appends (W.contents writer.old) (W.contents writer.new) (take count (compact d))) }
     ensures kept { IsLonger (W.contents writer.old) (W.contents writer.new) }
 {
-    let mut out = Text::<W, PIECE>::new(writer);
-    put_compact(&mut out, nodes);
-    out.finish()
+    print::<W, false>(writer, nodes)
 }
 
 /// Writes the pretty text of the document that the nodes list.
@@ -103,25 +145,34 @@ pub fn write_pretty<W: Write>(writer: &mut W, nodes: &[Node<'_>]) -> io::Result<
         × Appends (W.contents writer.old) (W.contents writer.new) (take count (pretty d))) }
     ensures kept { IsLonger (W.contents writer.old) (W.contents writer.new) }
 {
-    let mut out = Text::<W, PIECE>::new(writer);
-    put_pretty(&mut out, nodes);
-    out.finish()
+    print::<W, true>(writer, nodes)
 }
 
 /// Appends a string as it is printed (RFC 8259, section 7): between quotes, with quotes,
 /// backslashes and bytes below 0x20 escaped.
 ///
-/// Returns an error if an allocation fails. `out` then has its old contents, and a part of the
-/// string may follow.
-#[tactic(auto, using(crate::proofs::Texts::longer_prefix))]
+/// Returns an error if an allocation fails, so only where `out` lacks the capacity. `out` then has
+/// its old contents, and a part of the string may follow.
 pub fn append_quoted<A: Allocator>(
     out: &mut Vec<u8, A>,
     string: &str,
 ) -> std::result::Result<(), AllocError>
     ensures appended { OnOk result (out.new.items ≡ out.old.items ++ quoted string.now) }
+    ensures lacking { OnErr result
+        (vec_capacity out.old < length out.old.items + length (quoted string.now)) }
     ensures kept { IsPrefix out.old.items out.new.items }
+    ensures capacity { vec_capacity out.old ≤ vec_capacity out.new }
 {
-    write_quoted(out, string).map_err(|_| AllocError)
+    let capacity = out.capacity();
+    let mut list = Growing {
+        list: out,
+        capacity,
+        has_failed: false,
+    };
+    match print_quoted::<Growing<'_, A>>(&mut list, string) {
+        Ok(()) => Ok(()),
+        Err(_) => Err(AllocError),
+    }
 }
 
 /// Writes a string as [`append_quoted`] appends it.
@@ -134,7 +185,14 @@ pub fn write_quoted<W: Write>(writer: &mut W, string: &str) -> io::Result<()>
         (W.contents writer.new) (take count (quoted string.now))) }
     ensures kept { IsLonger (W.contents writer.old) (W.contents writer.new) }
 {
-    let mut out = Text::<W, 256>::new(writer);
+    print_quoted::<W>(writer, string)
+}
+
+// Writes a string between quotes.
+fn print_quoted<T: Target>(target: &mut T, string: &str) -> io::Result<()>
+    ensures { HasEnded result (T.state target.old) (T.state target.new) (quoted string.now) }
+{
+    let mut out = Text::<T, 256>::new(target);
     out.put_string(b"\"", string, b"\"");
     out.finish()
 }

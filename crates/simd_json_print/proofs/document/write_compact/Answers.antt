@@ -1,24 +1,16 @@
-use Rattle.std.proofs.Common.{rules, []}
 use Rattle.std.specs.Prelude.{None}
+use Rattle.simd_json_parts.specs.Printed.{compact}
 use Rattle.simd_json_print.specs.Texts.{TargetState}
 use Rattle.simd_json_print.proofs.Texts.{ended-written, ended-begun, ended-longer}
 use Rattle.simd_json_print.proofs.document.write_compact.Goals as goal
 
 pub returns : goal.returns
 returns g c =
-    let start : TargetState = record { held = g.W.Write.contents c.args.writer.now; failed = None } in
-    let p = c.put_compact.ensures in
+    let old : TargetState = record { held = g.W.Write.contents c.args.writer.now; failed = None } in
+    let new : TargetState = record { held = g.W.Write.contents c.print.new.target; failed = None } in
+    let p = c.print.ensures in
     record {
-      written = λ d is.
-          let ends = c.finish.ensures start _ ((p.given d is).given start [] c.new-out.ensures.empty) in
-          let all = ended-written c.finish.result start _ _ ends in
-          search rules;
-      begun = λ d is.
-          let ends = c.finish.ensures start _ ((p.given d is).given start [] c.new-out.ensures.empty) in
-          let all = ended-begun c.finish.result start _ _ ends in
-          search rules;
-      kept =
-          let ends = c.finish.ensures start _ (p.kept.1.given start [] c.new-out.ensures.empty) in
-          let all = ended-longer c.finish.result start _ _ ends in
-          search rules;
+      written = λ d is. ended-written c.print.result old new (compact d) (p.given d is);
+      begun = λ d is. ended-begun c.print.result old new (compact d) (p.given d is);
+      kept = ended-longer c.print.result old new p.kept.0 p.kept.1;
     }

@@ -5,7 +5,7 @@ use Rattle.simd_json_print.proofs.text.write_all.Goals as goal
 pub returns-in-Err : goal.returns-in-Err
 returns-in-Err g c =
     let i = c.loop-left.invariant in
-    write-failed c.in-Err.fault _ _ _ i.0 c.loop-left.left.now c.args.bytes.now c.in-Err.ensures i.1 i.2 i.3
+    write-failed c.in-Err.fault _ _ _ i.0 c.loop-left.left.now c.args.bytes.now c.in-Err.ensures (search (rules, arith)) i.1 i.2 i.3
 
 pub returns-in-Ok-eq0 : goal.returns-in-Ok-eq0
 returns-in-Ok-eq0 g c =
