@@ -255,8 +255,8 @@ int32_t simd_json_parser_check(simd_json_parser *parser, void *input, size_t len
 int32_t simd_json_parser_tape(simd_json_parser *parser, void *input, size_t len, simd_json_node *nodes, size_t nodes_len,
                               void *text, size_t text_len, simd_json_room *room, simd_json_place *place);
 
-/* As simd_json_compact and simd_json_pretty, with what the parser keeps: an input that is no larger than those before allocates
- * nothing. PARSER_CLOSED: nothing but *place is written. */
+/* As simd_json_compact and simd_json_pretty, with what the parser keeps: where that suffices, nothing is allocated.
+ * PARSER_CLOSED: nothing but *place is written. */
 int32_t simd_json_parser_compact(simd_json_parser *parser, void *input, size_t len, void *out, size_t out_len, size_t *needed,
                                  simd_json_place *place);
 int32_t simd_json_parser_pretty(simd_json_parser *parser, void *input, size_t len, void *out, size_t out_len, size_t *needed,
