@@ -11,9 +11,11 @@
 
 #include <simd_json.h>
 
+#include <cstddef>
 #include <cstdint>
 #include <cstring>
 #include <exception>
+#include <iterator>
 #include <memory>
 #include <new>
 #include <optional>
@@ -53,7 +55,8 @@ using object_view = members<true>;
 /* A value of a document. It is valid until its parser parses again or is destroyed, and is copied freely. */
 class element {
 public:
-    element(const simd_json_node *node, const char *text) : node_(node), text_(text) {}
+    /* The root of a document, to which it keeps a pointer. */
+    explicit element(const simd_json_document &document) : element(document.nodes, &document) {}
 
     /* SIMD_JSON_NULL to SIMD_JSON_OBJECT. */
     uint32_t kind() const { return node_->kind; }
@@ -106,13 +109,23 @@ public:
     element operator[](size_t index) const { return found(find(index)); }
     element operator[](int index) const { return found(find(index < 0 ? SIZE_MAX : static_cast<size_t>(index))); }
 
+    /* The value that a JSON Pointer (RFC 6901) names beneath this one, as "/sizes/0". */
+    std::optional<element> pointer(std::string_view pointer) const {
+        const size_t at = simd_json_pointer(node_, simd_json_next(node_, 0), document_->text, document_->text_len, 0,
+                                            pointer.data(), pointer.size());
+        return at == SIMD_JSON_NO_NODE ? std::nullopt : std::optional(element(node_ + at, document_));
+    }
+
 private:
     template <bool> friend class members;
 
-    std::string_view text() const { return {text_ + (holds_text() ? node_->value : 0), holds_text() ? node_->len : 0}; }
+    element(const simd_json_node *node, const simd_json_document *document) : node_(node), document_(document) {}
+    std::string_view text() const {
+        return {document_->text + (holds_text() ? node_->value : 0), holds_text() ? node_->len : 0};
+    }
     bool holds_text() const { return kind() >= SIMD_JSON_I128 && kind() <= SIMD_JSON_STRING; }
-    element after() const { return {node_ + simd_json_next(node_, 0), text_}; }
-    element beneath() const { return {node_ + 1, text_}; }
+    element after() const { return {node_ + simd_json_next(node_, 0), document_}; }
+    element beneath() const { return {node_ + 1, document_}; }
     template <class T> std::optional<T> if_kind(uint32_t kind, T value) const {
         return node_->kind == kind ? std::optional<T>(value) : std::nullopt;
     }
@@ -126,7 +139,7 @@ private:
     }
 
     const simd_json_node *node_;
-    const char *text_;
+    const simd_json_document *document_;
 };
 
 /* The members of a container, for a range-for: the elements of an array, or the keys of an object with their values. */
@@ -135,6 +148,11 @@ public:
     using item = std::conditional_t<is_object, std::pair<std::string_view, element>, element>;
     class iterator {
     public:
+        using iterator_category = std::input_iterator_tag;
+        using value_type = item;
+        using difference_type = std::ptrdiff_t;
+        using pointer = void;
+        using reference = item;
         iterator(element at, size_t left) : at_(at), left_(left) {}
         item operator*() const {
             if constexpr (is_object)
@@ -147,6 +165,12 @@ public:
             at_ = is_object ? at_.after().after() : at_.after();
             return *this;
         }
+        iterator operator++(int) {
+            iterator before = *this;
+            ++*this;
+            return before;
+        }
+        bool operator==(const iterator &other) const { return left_ == other.left_; }
         bool operator!=(const iterator &other) const { return left_ != other.left_; }
 
     private:
@@ -215,7 +239,7 @@ public:
     }
 
     /* The document that was parsed last; after an error it must not be used. */
-    element root() const { return {document_.nodes, document_.text}; }
+    element root() const { return element(document_); }
 
 private:
     simd_json_parser parser_{};

@@ -488,7 +488,9 @@ static PyObject *parser_loads(PyObject *self, PyObject *data) {
     parser *p = (parser *)self;
     arguments given = {data, p->parse_float, p->max_depth};
     Py_INCREF(self);
+    Py_XINCREF(given.parse_float); /* which may call __init__ with another */
     PyObject *value = loads_in(&p->kept, &given);
+    Py_XDECREF(given.parse_float);
     Py_DECREF(self);
     return value;
 }

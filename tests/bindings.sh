@@ -49,6 +49,9 @@ fi
 if command -v cargo > /dev/null; then
     export CARGO_TARGET_DIR="$room/target" SIMD_JSON_LIB_DIR="$top/build"
     run cargo test --offline -q --manifest-path bindings/rust/Cargo.toml
+    # What the test harness still holds in the end is no leak of the crate's.
+    [ -z "$check" ] || CARGO_TARGET_X86_64_UNKNOWN_LINUX_GNU_RUNNER="$check --errors-for-leak-kinds=definite" \
+        run cargo test --offline -q --manifest-path bindings/rust/Cargo.toml
 else
     left_out="$left_out Rust (no cargo);"
 fi

@@ -46,8 +46,20 @@ class Parser(_native.Parser):
 
     __slots__ = ()
 
-    def lines(self, file):
-        """The values of the lines of a binary file, or of any other iterable of lines; blank lines are passed over."""
-        for line in file:
+    def lines(self, file, *, on_error=None):
+        """The values of the lines of a binary file, or of any other iterable of lines; blank lines are passed over.
+
+        A line that is not a document raises SimdJsonError, with the number of the line as lineno. Where on_error is given, it is
+        called with the error instead, and the next line is read.
+        """
+        for number, line in enumerate(file, 1):
             if line.strip(b" \t\r\n" if not isinstance(line, str) else " \t\r\n"):
-                yield self.loads(line)
+                try:
+                    value = self.loads(line)
+                except SimdJsonError as error:
+                    error = SimdJsonError(error.msg, error.reason, error.pos, number, error.colno)
+                    if on_error is None:
+                        raise error from None
+                    on_error(error)
+                else:
+                    yield value

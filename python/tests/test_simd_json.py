@@ -241,6 +241,24 @@ class Kept(unittest.TestCase):
         self.assertEqual(list(parser.lines(io.BytesIO(b'{"a":1}\n\n[2]\r\n3'))), [{"a": 1}, [2], 3])
         self.assertEqual(simd_json.Parser(parse_float=str).loads("1.0"), "1.0")
 
+    def test_lines(self):
+        """A rejected line is named by its number, and does not affect the next."""
+        log = b'{"a":1}\n\n[2,]\r\n[3]\n\xff\n 4 5\n6'
+        wanted = [("InternalError", 3, 3, 4), ("InvalidUtf8", 0, 5, 1), ("TrailingData", 1, 6, 2)]
+        place = lambda error: (error.reason, error.pos, error.lineno, error.colno)
+        parser, errors = simd_json.Parser(), []
+        self.assertEqual(list(parser.lines(io.BytesIO(log), on_error=errors.append)), [{"a": 1}, [3], 6])
+        self.assertEqual([place(error) for error in errors], wanted)
+        values = parser.lines(io.BytesIO(log))
+        self.assertEqual(next(values), {"a": 1})
+        with self.assertRaises(simd_json.SimdJsonError) as caught:
+            next(values)
+        self.assertEqual(place(caught.exception), wanted[0])
+        self.assertIn("line 3 column 4", str(caught.exception))
+        with self.assertRaises(simd_json.SimdJsonError) as caught:
+            list(parser.lines(["[1]", "\n", "[é,é]"]))
+        self.assertEqual(place(caught.exception), ("InternalError", 1, 3, 2))
+
     def test_many_sizes(self):
         parser = simd_json.Parser()
         for size in (0, 1, 7, 8, 100, 5000, 200000, 3):

@@ -1,4 +1,5 @@
 // Calls the C++ wrapper: values, look-up, errors, and a parser that is used again. Silent where all is well.
+#include <algorithm>
 #include <cmath>
 #include <iostream>
 #include <simd_json.hpp>
@@ -26,6 +27,8 @@ int main() {
     EXPECT(std::isinf(a[3].as_double().value()) && a[4].as_double() == 0.0);
     EXPECT(a[5].as_string() == "é" && a[6].is_null() && a[7].as_bool() == true && !a.find(8));
     EXPECT(root["b"]["c"].as_uint64() == UINT64_MAX && !root["b"]["c"].as_int64());
+    EXPECT(root.pointer("/b/c")->as_uint64() == UINT64_MAX && root.pointer("")->is_object() && a.pointer("/2")->as_double() == 2.5);
+    EXPECT(a.pointer("/5")->as_string() == "é" && !root.pointer("/b/d") && !a.pointer("/8") && !a[0].pointer("/0") && !a.pointer("0"));
     EXPECT(!root.find("d") && !a.find("a") && !root.find(0) && a.object().size() == 0);
     std::string keys;
     for (const auto &[key, value] : root.object())
@@ -35,6 +38,8 @@ int main() {
     for (const auto value : a.array())
         count += value.kind() != SIMD_JSON_OBJECT;
     EXPECT(count == 8);
+    const auto members = root.object();
+    EXPECT(std::count_if(members.begin(), members.end(), [](const auto &member) { return member.first == "a"; }) == 2);
     bool caught = false;
     try {
         root["d"];

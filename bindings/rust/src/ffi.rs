@@ -64,6 +64,33 @@ extern "C" {
         document: *mut Document,
         place: *mut Place,
     ) -> i32;
+    fn simd_json_pointer(
+        nodes: *const Node,
+        nodes_len: usize,
+        text: *const u8,
+        text_len: usize,
+        from: usize,
+        pointer: *const u8,
+        pointer_len: usize,
+    ) -> usize;
+}
+
+/// The index of the value that a JSON Pointer names beneath the first of the nodes.
+pub(crate) fn pointed(nodes: &[Node], text: &str, pointer: &str) -> Option<usize> {
+    // SAFETY: these are only read, until the call returns.
+    let index = unsafe {
+        simd_json_pointer(
+            nodes.as_ptr(),
+            nodes.len(),
+            text.as_ptr(),
+            text.len(),
+            0,
+            pointer.as_ptr(),
+            pointer.len(),
+        )
+    };
+    // No node has the index that is returned for none, the greatest.
+    (index < nodes.len()).then_some(index)
 }
 
 const OUT_OF_MEMORY: Error = Error { kind: ErrorType::OutOfMemory, index: 0, character: None };

@@ -1,5 +1,5 @@
 //! Values of a tape. A node of a container is followed by the nodes of its members; its `value` is how many they are.
-use crate::ffi::{Buffers, Document, Node};
+use crate::ffi::{pointed, Buffers, Document, Node};
 use std::fmt;
 use std::marker::PhantomData;
 
@@ -76,7 +76,7 @@ impl fmt::Debug for Tape<'_> {
 }
 
 /// A value of a tape.
-#[derive(Clone, Copy, Debug)]
+#[derive(Clone, Copy)]
 pub struct Value<'tape> {
     // its nodes, and those after them
     nodes: &'tape [Node],
@@ -190,6 +190,34 @@ impl<'tape> Value<'tape> {
     /// The element of an array with this index.
     pub fn get_idx(self, index: usize) -> Option<Value<'tape>> {
         self.as_array()?.nth(index)
+    }
+
+    /// The value that a JSON Pointer (RFC 6901) names beneath this one.
+    ///
+    /// ```
+    /// let mut input = *br#"{"sizes":[1,{"a/b":2}]}"#;
+    /// let tape = simd_json_proved::to_tape(&mut input)?;
+    /// assert_eq!(tape.as_value().pointer("/sizes/1/a~1b").and_then(|value| value.as_u64()), Some(2));
+    /// # Ok::<(), simd_json_proved::Error>(())
+    /// ```
+    pub fn pointer(self, pointer: &str) -> Option<Value<'tape>> {
+        pointed(self.nodes, self.text, pointer).map(|index| self.at(index))
+    }
+}
+
+/// A scalar, or how many members a container has.
+impl fmt::Debug for Value<'_> {
+    fn fmt(&self, f: &mut fmt::Formatter<'_>) -> fmt::Result {
+        let (kind, node) = (self.value_type(), self.node());
+        match kind {
+            ValueType::Null => write!(f, "Null"),
+            ValueType::Bool => write!(f, "Bool({})", node.value != 0),
+            ValueType::I64 => write!(f, "I64({})", node.value as i64),
+            ValueType::U64 => write!(f, "U64({})", node.value),
+            ValueType::I128 | ValueType::U128 | ValueType::Decimal => write!(f, "{kind:?}({})", self.literal()),
+            ValueType::String => write!(f, "String({:?})", self.literal()),
+            ValueType::Array | ValueType::Object => write!(f, "{kind:?}(len {})", node.len),
+        }
     }
 }
 

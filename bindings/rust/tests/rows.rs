@@ -49,6 +49,12 @@ fn quoted(text: &str) -> String {
 }
 
 // The lines of the nodes of a value.
+fn nodes(value: Value<'_>) -> Vec<String> {
+    let mut out = Vec::new();
+    lines(value, &mut out);
+    out
+}
+
 fn lines(value: Value<'_>, out: &mut Vec<String>) {
     let kind = format!("{:?}", value.value_type());
     let at = out.len();
@@ -83,8 +89,7 @@ fn lines(value: Value<'_>, out: &mut Vec<String>) {
 fn answer(input: &mut [u8], limit: usize) -> String {
     match Buffers::with_max_depth(limit).unwrap().parse(input) {
         Ok(tape) => {
-            let mut out = Vec::new();
-            lines(tape.as_value(), &mut out);
+            let out = nodes(tape.as_value());
             assert_eq!(out.len(), tape.node_count());
             shown(&out.join(", "))
         }
@@ -92,11 +97,27 @@ fn answer(input: &mut [u8], limit: usize) -> String {
     }
 }
 
+fn judge_pointer(document: &[u8], pointer: &[u8], wanted: &str, row: &str) {
+    let mut input = document.to_vec();
+    let tape = to_tape(&mut input).unwrap();
+    let found = tape.as_value().pointer(std::str::from_utf8(pointer).unwrap());
+    if wanted.starts_with("! ") {
+        assert!(found.is_none(), "{row}");
+    } else {
+        let mut text = decoded(wanted.as_bytes());
+        assert_eq!(nodes(found.unwrap()), nodes(to_tape(&mut text).unwrap().as_value()), "{row}");
+    }
+}
+
 fn judge_rows() {
     let folder = Path::new(env!("CARGO_MANIFEST_DIR")).join("../../tests/vectors");
-    let mut judged = 0;
+    let (mut judged, mut pointers, mut document) = (0, 0, Vec::new());
     for file in fs::read_dir(folder).unwrap() {
         for row in fs::read_to_string(file.unwrap().path()).unwrap().lines() {
+            if let Some(text) = row.strip_prefix("document ") {
+                document = decoded(text.as_bytes());
+                continue;
+            }
             let Some((question, wanted)) = row.split_once(" => ") else { continue };
             let Some((word, text)) = question.split_once(' ') else { continue };
             let (word, limit) = word.split_once(':').unwrap_or((word, "1024"));
@@ -109,9 +130,13 @@ fn judge_rows() {
                 assert_eq!(check.is_ok(), !wanted.starts_with("! "), "{row}");
                 judged += 1;
             }
+            if word == "pointer" {
+                judge_pointer(&document, &decoded(text.as_bytes()), wanted, row);
+                pointers += 1;
+            }
         }
     }
-    assert!(judged > 100, "{judged} rows");
+    assert!(judged > 100 && pointers > 100, "{judged} rows, {pointers} pointers");
 }
 
 #[test]
@@ -137,13 +162,24 @@ fn values() {
 }
 
 #[test]
+fn values_are_shown() {
+    let mut input = *br#"["a\n",-1,2,2.5,18446744073709551616,true,null,[3],{}]"#;
+    let tape = to_tape(&mut input).unwrap();
+    let shown: Vec<_> = tape.as_value().as_array().unwrap().map(|value| format!("{value:?}")).collect();
+    let wanted = ["String(\"a\\n\")", "I64(-1)", "U64(2)", "Decimal(2.5)", "U128(18446744073709551616)", "Bool(true)", "Null"];
+    assert_eq!(shown[..7], wanted);
+    assert_eq!(shown[7..], ["Array(len 1)", "Object(len 0)"]);
+    assert_eq!(format!("{tape:?}"), "Tape(Array(len 9))");
+}
+
+#[test]
 fn buffers_are_kept() {
     let mut buffers = Buffers::new().unwrap();
     for text in [r#"{"a":[1,"b"]}"#, "[]", r#"[1.5,"\u00e9",340282366920938463463374607431768211455]"#, "7"] {
         let tape = buffers.parse(&mut text.as_bytes().to_vec()).unwrap();
         let mut again = text.as_bytes().to_vec();
         let moved = Box::new(to_tape(&mut again).unwrap());
-        assert_eq!(format!("{tape:?}"), format!("{moved:?}"));
+        assert_eq!(nodes(tape.as_value()), nodes(moved.as_value()));
         std::thread::scope(|scope| scope.spawn(|| assert!(tape.node_count() > 0)).join().unwrap());
     }
     assert!(buffers.parse(&mut b"[".to_vec()).is_err());
