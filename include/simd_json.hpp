@@ -57,6 +57,7 @@ class element {
 public:
     /* The root of a document, to which it keeps a pointer. */
     explicit element(const simd_json_document &document) : element(document.nodes, &document) {}
+    explicit element(simd_json_document &&) = delete;
 
     /* SIMD_JSON_NULL to SIMD_JSON_OBJECT. */
     uint32_t kind() const { return node_->kind; }
