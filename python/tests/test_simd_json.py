@@ -259,6 +259,17 @@ class Kept(unittest.TestCase):
             list(parser.lines(["[1]", "\n", "[é,é]"]))
         self.assertEqual(place(caught.exception), ("InternalError", 1, 3, 2))
 
+    def test_parse_float_may_begin_its_parser_again(self):
+        """The parser then drops its parse_float, which reads the document to its end all the same."""
+        class Literal:
+            def __call__(self, literal):
+                parser.__init__()
+                return literal
+
+        parser = simd_json.Parser(parse_float=Literal())
+        self.assertEqual(parser.loads("[1.5,2.5,3.5]"), ["1.5", "2.5", "3.5"])
+        self.assertEqual(parser.loads("[1.5]"), [1.5])
+
     def test_many_sizes(self):
         parser = simd_json.Parser()
         for size in (0, 1, 7, 8, 100, 5000, 200000, 3):

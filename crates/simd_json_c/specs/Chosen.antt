@@ -25,8 +25,7 @@ printed true d = pretty d
 abbrev pub text_at : Bool → List ℕ → Document → Option (List ℕ)
 text_at is_pretty pointer d = option_map (printed is_pretty) (result_ok (pointed pointer d))
 
--- it is put or has too little room, or an allocation failed, where what is kept for texts has less capacity; or there is no such
--- value
+-- it is put or has too little room, or an allocation failed, where the list for it had less capacity; or there is no such value
 unfoldable pub IsChosenPut : ℕ → Bool → List ℕ → Document → ℤ → ℕ → ℕ → List ℕ → List ℕ → Type 0
 IsChosenPut capacity is_pretty pointer d status old_needed needed old new =
     MatchOption (text_at is_pretty pointer d)
