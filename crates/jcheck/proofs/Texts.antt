@@ -9,10 +9,10 @@ use Rattle.jcheck.specs.Excerpts.{caret, characters, end_text, excerpt, front_te
 use Rattle.jcheck.specs.Excerpts.{line_from}
 use Rattle.jcheck.specs.Reports.{words}
 use Rattle.jcheck.specs.declared.excerpt.Style.{Style}
-use Rattle.simd_json.specs.Locations.{is_line_feed, line_before}
-use Rattle.simd_json.specs.Messages.{reason_text}
-use Rattle.simd_json.specs.declared.location.Location.{Location}
-use Rattle.simd_json.specs.declared.location.reason.Reason.{Reason}
+use Rattle.simd_json_check.specs.Locations.{is_line_feed, line_before}
+use Rattle.simd_json_check.specs.Messages.{reason_text}
+use Rattle.simd_json_check.specs.declared.location.Location.{Location}
+use Rattle.simd_json_check.specs.declared.location.reason.Reason.{Reason}
 use Rattle.simd_json_parts.specs.Bytes.{line_feed, space}
 use Rattle.simd_json_parts.specs.ErrorKinds.{kind_text}
 use Rattle.simd_json_parts.specs.declared.error.ErrorType.{ErrorType}

@@ -6,7 +6,7 @@ use Rattle.std.specs.List.{before_first, repeat}
 use Rattle.std.specs.Str.{chars}
 use Rattle.std.specs.Str.Lossy.{utf8_lossy}
 use Rattle.jcheck.specs.declared.excerpt.Style.{Style}
-use Rattle.simd_json.specs.Locations.{begins_character, is_line_feed, line_before}
+use Rattle.simd_json_check.specs.Locations.{begins_character, is_line_feed, line_before}
 use Rattle.simd_json_parts.specs.Bytes.{line_feed, space}
 
 -- ---- characters, by the bytes that begin one

@@ -2,10 +2,10 @@
 use Rattle.std.specs.Prelude.{ℕ, ◌-◌, List, [], ◌∷◌, length, drop, Bool, true, false, ◌==◌, Option, if◌then◌else◌}
 use Rattle.std.specs.Option.{option_map}
 use Rattle.std.specs.Result.{result_err}
-use Rattle.simd_json.specs.Reasons.{location_of}
-use Rattle.simd_json.specs.declared.location.Location.{Location}
-use Rattle.simd_json.specs.declared.location.reason.Reason.{Reason}
-use Rattle.simd_json.specs.declared.location.reason.Reason.TheVariants.{MoreText}
+use Rattle.simd_json_check.specs.Reasons.{location_of}
+use Rattle.simd_json_check.specs.declared.location.Location.{Location}
+use Rattle.simd_json_check.specs.declared.location.reason.Reason.{Reason}
+use Rattle.simd_json_check.specs.declared.location.reason.Reason.TheVariants.{MoreText}
 use Rattle.simd_json_parts.specs.Answer.{answer}
 use Rattle.simd_json_parts.specs.Bytes.{backslash, quote, is_terminator, is_whitespace}
 use Rattle.simd_json_parts.specs.Faults.{fault_at}

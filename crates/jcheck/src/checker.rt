@@ -3,8 +3,7 @@ ghost use Rattle.std.specs.Prelude.{◌≡◌, false, IfOk};
 ghost use Rattle.jcheck.specs.Places.{after_quote, after_scalar, after_token, after_whitespace};
 ghost use Rattle.jcheck.specs.Places.{error_in, is_more_text, next_token, shown_place};
 
-use simd_json::{Error, ErrorType, Location, Reason};
-use simd_json_ondemand::Index;
+use simd_json_check::{Error, ErrorType, Index, Location, Reason};
 use simd_json_parts::charutils::{byte_or_space, is_structural_or_whitespace, is_whitespace};
 use std::alloc::{AllocError, Global};
 

@@ -4,7 +4,7 @@ ghost use Rattle.std.specs.List.{after_last, position_or_len, repeat};
 ghost use Rattle.jcheck.specs.Excerpts.{caret, characters, end_text, excerpt};
 ghost use Rattle.jcheck.specs.Excerpts.{first_characters, front_text, last_characters, lossy_text};
 ghost use Rattle.jcheck.specs.Excerpts.{visible, visible_text};
-ghost use Rattle.simd_json.specs.Locations.{begins_character, is_line_feed};
+ghost use Rattle.simd_json_check.specs.Locations.{begins_character, is_line_feed};
 ghost use Rattle.simd_json_parts.specs.Bytes.{line_feed, space};
 ghost use Rattle.simd_json_print.specs.Texts.{Adds};
 

@@ -1,7 +1,7 @@
 //! What the program's arguments ask for.
 use clap::builder::ValueParser;
 use clap::{Arg, ArgAction, Command, Error, value_parser};
-use simd_json::DEFAULT_MAX_DEPTH;
+use simd_json_check::DEFAULT_MAX_DEPTH;
 use std::alloc::Global;
 
 const STANDARD_INPUT: &str = "-";

@@ -12,7 +12,7 @@ ghost use Rattle.simd_json_print.specs.Texts.{Adds};
 use crate::checker::Checker;
 use crate::excerpt::{Style, put_excerpt};
 use jtape::Channel;
-use simd_json::Location;
+use simd_json_check::Location;
 use simd_json_print::text::{Target, Text};
 use std::alloc::{AllocError, Global};
 use std::io::{self, ErrorKind, Write};

@@ -5,7 +5,8 @@ use Rattle.std.specs.Io.KnownBytes.{Appends}
 use Rattle.std.proofs.lemmas.Bool.{lt-ltb, le-ltb}
 use Rattle.jtape.specs.Pieces.{is_blank}
 use Rattle.jtape.specs.Ports.{Watched}
-use Rattle.simd_json.specs.Capacities.{Capacities, default_max_depth}
+use Rattle.simd_json.specs.Capacities.{Capacities}
+use Rattle.simd_json_check.specs.Capacities.{default_max_depth}
 use Rattle.simd_json.specs.Reserved.{IsReserved}
 use Rattle.simd_json.specs.Tapes.{Listed}
 use Rattle.simd_json_parts.specs.Answer.{answer}

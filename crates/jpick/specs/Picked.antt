@@ -3,10 +3,10 @@ use Rattle.std.specs.Prelude.{ℕ, ◌+◌, ◌-◌, ◌^◌, min, List, [], ◌
 use Rattle.std.specs.Prelude.{Result, Ok, Err, if◌then◌else◌}
 use Rattle.std.specs.Fmt.{decimal}
 use Rattle.jtape.specs.Pieces.{pieces, is_blank}
-use Rattle.simd_json.specs.Capacities.{default_max_depth}
-use Rattle.simd_json.specs.Messages.{reason_text}
-use Rattle.simd_json.specs.Reasons.{location_of}
-use Rattle.simd_json.specs.declared.location.Location.{Location}
+use Rattle.simd_json_check.specs.Capacities.{default_max_depth}
+use Rattle.simd_json_check.specs.Messages.{reason_text}
+use Rattle.simd_json_check.specs.Reasons.{location_of}
+use Rattle.simd_json_check.specs.declared.location.Location.{Location}
 use Rattle.simd_json_parts.specs.Answer.{answer}
 use Rattle.simd_json_parts.specs.Bytes.{line_feed}
 use Rattle.simd_json_parts.specs.Document.{Document}

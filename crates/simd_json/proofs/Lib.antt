@@ -1,4 +1,3 @@
 mod Parses
 pub mod Views
 pub mod Walks
-mod Places

@@ -5,10 +5,6 @@ use Rattle.simd_json_parts.specs.InputFaults.{input_fault}
 use Rattle.simd_json_parts.specs.Positions.{positions}
 use Rattle.simd_json_stages.specs.EscapeBlocks.{backslash_blocks, blocks_in}
 
--- how many containers may be open at a time, where no limit is asked for
-abbrev pub default_max_depth : ℕ
-default_max_depth = 1024
-
 -- the positions and the blocks that are listed, the depth limit, and for how many positions, blocks and open containers
 -- there is capacity
 pub record Capacities : Type 0 where

@@ -14,6 +14,3 @@ pub mod Beneath
 pub mod Sizes
 pub mod Descending
 pub mod MapCompared
-pub mod Locations
-pub mod Reasons
-pub mod Messages

@@ -75,17 +75,16 @@
 mod buffers;
 mod deserializer;
 pub mod laws;
-mod location;
 mod parse;
 mod sink;
 pub mod value;
 
 pub use buffers::Buffers;
 pub use deserializer::Deserializer;
-pub use location::{Location, Reason, locate};
 pub use parse::{
     check, fill_tape, fill_tape_padded, refill_tape, reserve, to_tape, to_tape_with_buffers,
 };
+pub use simd_json_check::{DEFAULT_MAX_DEPTH, Location, Reason, locate};
 pub use simd_json_parts::error::{Error, ErrorType, Result};
 pub use simd_json_parts::node::{Node, StaticNode, TryTypeError, ValueType};
 pub use simd_json_print::document::{append_quoted, write_quoted};
@@ -94,9 +93,6 @@ pub use sink::fill_sink;
 pub use value::pointer::{Pointer, PointerError, PointerExpected};
 pub use value::tape;
 pub use value::tape::Tape;
-
-/// How many containers may be open at a time, unless another limit is given.
-pub const DEFAULT_MAX_DEPTH: usize = 1024;
 
 /// How many bytes [`fill_tape_padded`] needs after its document.
 pub const INPUT_PADDING: usize = 64;

@@ -13,7 +13,7 @@ ghost use Rattle.simd_json.specs.Reserved.{IsReserved, parse_capacity};
 ghost use Rattle.simd_json_parts.specs.Descent.{descent};
 ghost use Rattle.simd_json_parts.specs.Limits.{max_length};
 ghost use Rattle.simd_json_parts.specs.Nodes.{Item, item_of};
-ghost use Rattle.simd_json.specs.Capacities.{default_max_depth};
+ghost use Rattle.simd_json_check.specs.Capacities.{default_max_depth};
 ghost use Rattle.simd_json_parts.specs.Positions.{positions};
 ghost use Rattle.simd_json_stages.specs.Building.{IsWritten};
 ghost use Rattle.simd_json_stages.specs.NodesEnough.{nodes_enough};
@@ -22,7 +22,7 @@ ghost use Rattle.simd_json_stages.specs.Refusals.{IsTokenFault};
 use crate::buffers::Buffers;
 use crate::tape::Tape;
 use crate::{DEFAULT_MAX_DEPTH, INPUT_PADDING};
-use simd_json_ondemand::Index;
+use simd_json_check::Index;
 use simd_json_parts::error::{Error, ErrorType, Result};
 use simd_json_parts::node::Node;
 use simd_json_stages::stage2::{ListSink, Original, nodes_enough};
@@ -242,7 +242,7 @@ pub fn refill_tape<'de, A: Allocator, B: Allocator>(
 ///
 /// It takes four bytes for each structural index, and for an input that it rejects, or whose
 /// containers are nested more than 64 deep, one for each byte of the input. All of it is freed
-/// before it returns. For many inputs keep a [`simd_json_ondemand::Index`] and call its `check`,
+/// before it returns. For many inputs keep a [`simd_json_check::Index`] and call its `check`,
 /// which returns the same and keeps the memory of the structural indexes.
 ///
 /// ```

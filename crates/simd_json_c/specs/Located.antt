@@ -1,9 +1,9 @@
 -- The place and the reason of an error, for people.
 use Rattle.std.specs.Prelude.{◌≡◌, ◌⊎◌, ℕ, ℤ, pos, List, ◌∷◌, map, nat_lt, slice_get, unwrap_or, if◌then◌else◌}
 use Rattle.std.specs.Prelude.{Option, Some, None, option_map, MatchOption}
-use Rattle.simd_json.specs.Messages.{reason_text}
-use Rattle.simd_json.specs.Reasons.{location_of}
-use Rattle.simd_json.specs.declared.location.Location.{Location}
+use Rattle.simd_json_check.specs.Messages.{reason_text}
+use Rattle.simd_json_check.specs.Reasons.{location_of}
+use Rattle.simd_json_check.specs.declared.location.Location.{Location}
 use Rattle.simd_json_parts.specs.Faults.{error_of}
 use Rattle.simd_json_parts.specs.declared.error.Error.{Error}
 use Rattle.simd_json_parts.specs.declared.error.ErrorType.{ErrorType}

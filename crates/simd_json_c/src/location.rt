@@ -1,7 +1,7 @@
 //! Where an input is rejected and why, for people.
 ghost use Rattle.std.specs.Prelude.{◌≡◌, IfErr, IfOk, string_bytes};
 ghost use Rattle.simd_json.specs.Memory.{IsOutOfMemory};
-ghost use Rattle.simd_json.specs.Messages.{reason_text};
+ghost use Rattle.simd_json_check.specs.Messages.{reason_text};
 ghost use Rattle.simd_json_c.specs.Located.{IsLocated, error_with, kind_with, position_of};
 
 use crate::print::lend_text;

@@ -10,7 +10,8 @@ use Rattle.simd_json_parts.specs.TokensAlong.{goes_on, tokens_along}
 use Rattle.simd_json_parts.specs.Views.{value_type, is_array, is_object}
 use Rattle.simd_json_parts.specs.declared.error.Error.{Error}
 use Rattle.simd_json_parts.specs.declared.error.ErrorType.TheVariants.{Syntax}
-use Rattle.simd_json_ondemand.specs.Standing.{scalar_of, kind_of, opens_array, opens_object}
+use Rattle.simd_json_check.specs.Scalars.{scalar_of}
+use Rattle.simd_json_ondemand.specs.Standing.{kind_of, opens_array, opens_object}
 use Rattle.simd_json_ondemand.specs.Viewed.{first_read, read_along}
 use Rattle.simd_json_ondemand.proofs.Standing.{by_standing}
 

@@ -25,7 +25,8 @@ use Rattle.simd_json_parts.specs.declared.error.Error.{Error}
 use Rattle.simd_json_stages.proofs.Tokens.ScalarLaws.{form_at-number}
 use Rattle.simd_json_ondemand.specs.Docs.{text, index_of, literal, number}
 use Rattle.simd_json_ondemand.specs.Numerals.{IsDecimalFloat}
-use Rattle.simd_json_ondemand.specs.Standing.{begins_number, literal_end}
+use Rattle.simd_json_check.specs.Scalars.{begins_number}
+use Rattle.simd_json_ondemand.specs.Standing.{literal_end}
 use Rattle.simd_json_ondemand.specs.declared.value.Value.{Value}
 
 -- from state s the pattern leads to state t

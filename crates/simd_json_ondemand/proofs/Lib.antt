@@ -1,5 +1,3 @@
-pub mod Whole
-pub mod Scans
 pub mod Standing
 pub mod Agreement
 pub mod Quoted
@@ -7,7 +5,7 @@ pub mod Literals
 pub mod Floats
 pub mod Skipping
 pub mod Written
-pub mod Enough
+pub mod Answered
 pub mod Sequence
 pub mod Groups
 pub mod Counting
@@ -19,8 +17,6 @@ pub mod MemberTails
 pub mod ObjectViews
 pub mod Keys
 pub mod Lookup
-pub mod Escaped
-pub mod Along
 pub mod Inside
 pub mod Turns
 pub mod Walks

@@ -20,9 +20,11 @@ use Rattle.simd_json_scalars.proofs.Strings.Standalone.{closing_quote-further}
 use Rattle.simd_json_stages.proofs.Tokens.ScalarLaws.{form_at-number, form_at-null, form_at-true, form_at-false}
 use Rattle.simd_json_stages.proofs.Tokens.TokenForms.{quotes}
 use Rattle.simd_json_ondemand.specs.Numerals.{IsNumberLen, IsLiteralLen}
-use Rattle.simd_json_ondemand.specs.Standing.{literal_end, begins_number}
+use Rattle.simd_json_check.specs.Scalars.{begins_number}
+use Rattle.simd_json_ondemand.specs.Standing.{literal_end}
 use Rattle.simd_json_ondemand.proofs.Quoted.{IsQuoted}
-use Rattle.simd_json_ondemand.proofs.Standing.{spells, by_form, by_atom, other-byte, first, spelt}
+use Rattle.simd_json_check.proofs.Words.{spells, first, spelt}
+use Rattle.simd_json_ondemand.proofs.Standing.{by_form, by_atom, other-byte}
 
 module _ (b : List ℕ) (i : ℕ) where
   -- ---- a string

@@ -29,7 +29,7 @@ use Rattle.simd_json_ondemand.proofs.Agreement.{array-is, begins-at}
 use Rattle.simd_json_ondemand.proofs.ArrayViews.{found-elements}
 use Rattle.simd_json_ondemand.proofs.Keys.{IsCompared, from-quote}
 use Rattle.simd_json_ondemand.proofs.Standing.{opens_array_byte}
-use Rattle.simd_json_ondemand.proofs.Whole.{few-positions, right-input}
+use Rattle.simd_json_check.proofs.Whole.{few-positions, right-input}
 
 -- ---- a string and a token
 

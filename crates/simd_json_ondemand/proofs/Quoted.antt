@@ -25,10 +25,10 @@ use Rattle.simd_json_parts.specs.declared.error.Error.{Error}
 use Rattle.simd_json_scalars.specs.StringDecoded.{IsDecoded}
 use Rattle.simd_json_scalars.specs.StringRead.{further}
 use Rattle.simd_json_ondemand.specs.Docs.{text, places, index_of, HasEscape}
-use Rattle.simd_json_ondemand.specs.Scanned.{IsScanned}
-use Rattle.simd_json_ondemand.specs.Standing.{scalar_of}
+use Rattle.simd_json_check.specs.Scanned.{IsScanned}
+use Rattle.simd_json_check.specs.Scalars.{scalar_of}
 use Rattle.simd_json_ondemand.specs.declared.value.Value.{Value}
-use Rattle.simd_json_ondemand.proofs.Scans.{within}
+use Rattle.simd_json_check.proofs.Scans.{within}
 
 -- ---- a string is closed
 

@@ -1,10 +1,9 @@
 -- Which scalar or string stands at an index, by cases on the first byte.
 use Rattle.std.proofs.Common.{◌≡◌, refl, sym, ◌∙◌, ap, ℕ, ◌+◌, List, length, take, drop, Bool, true, false, ◌||◌, ◌&&◌, ◌==◌}
-use Rattle.std.proofs.Common.{nat_le, nat_eq, inl, inr, [], ◌∷◌, arith}
+use Rattle.std.proofs.Common.{nat_le, inl, inr, arith}
 use Rattle.std.specs.Prelude.{Option, Some, None, Result, Ok, Err, IfOk, IfSome, nat_lt, codes, option_map, option_and_then}
 use Rattle.std.specs.Prelude.{is_some, IsUtf8, ◌≤◌}
-use Rattle.std.specs.List.{starts_with}
-use Rattle.std.proofs.lemmas.Bool.{cases_Bool, cond_both, cond-true, and_parts, eqb-true, false≢true}
+use Rattle.std.proofs.lemmas.Bool.{cases_Bool, cond_both, cond-true, eqb-true, false≢true}
 use Rattle.simd_json_parts.specs.AtomAt.{atom_at, atom_or}
 use Rattle.simd_json_parts.specs.Bytes.{byte_at, is_terminator}
 use Rattle.simd_json_parts.specs.Derivatives.{matches, longest_prefix}
@@ -19,7 +18,6 @@ use Rattle.simd_json_parts.specs.Views.{value_type, as_null, as_bool, as_integer
 use Rattle.simd_json_parts.specs.declared.error.Error.{Error}
 use Rattle.simd_json_parts.specs.declared.error.ErrorType.{ErrorType}
 use Rattle.simd_json_parts.specs.declared.error.ErrorType.TheVariants.{ExpectedTrue, ExpectedFalse, ExpectedNull}
-use Rattle.simd_json_stages.proofs.Tokens.ScalarLaws.{form_at-null, form_at-true, form_at-false, byte_at-after}
 use Rattle.simd_json_stages.proofs.Tokens.TokenForms as forms
 use Rattle.simd_json_stages.proofs.Machine.ScalarPut.{decimal-here}
 use Rattle.simd_json_scalars.proofs.Numbers.Literals.{number_at-literal, integer-number}
@@ -27,13 +25,11 @@ use Rattle.simd_json_scalars.specs.NumeralRead.{IsIntegerLiteral}
 use Rattle.simd_json_parts.proofs.Patterns.Sets.{Matches-matches}
 use Rattle.std.proofs.lemmas.List.{get_or-drop, length-drop}
 use Rattle.std.proofs.Common.{take-append-drop}
-use Rattle.simd_json_ondemand.specs.Standing.{scalar_of, kind_of, opens_array, opens_object, begins_number}
+use Rattle.simd_json_check.specs.Scalars.{scalar_of, begins_number}
+use Rattle.simd_json_check.proofs.Words.{spells}
+use Rattle.simd_json_ondemand.specs.Standing.{kind_of, opens_array, opens_object}
 
 module _ (b : List ℕ) (i : ℕ) where
-  -- these letters stand at the index, and a terminator after them
-  abbrev pub spells : List ℕ → Bool
-  spells letters = starts_with nat_eq (drop i b) letters && is_terminator (byte_at b (i + length letters))
-
   -- what holds of each form holds of the one that stands there
   pub by_form : (P : Form → Type 0) → (byte_at b i ≡ 91 → P begin_array) → P end_array → (byte_at b i ≡ 123 → P begin_object)
       → P end_object → P name_separator → P value_separator → (byte_at b i ≡ 34 → P (string_token (string_at b i)))
@@ -59,11 +55,11 @@ module _ (b : List ℕ) (i : ℕ) where
     abbrev pub Read : Result (Document × ℕ) Error → Type 0
     Read r = IfOk r (λ p. P p.0)
 
-    letters : (bs : List ℕ) (d : Document) (kind : ErrorType) → (spells bs ≡ true → P d) → Read (atom_or bs d kind b i)
-    letters bs d kind h = cond_both (spells bs) _ _ Read (λ e. h e) (λ _. tt)
+    letters : (bs : List ℕ) (d : Document) (kind : ErrorType) → (spells b i bs ≡ true → P d) → Read (atom_or bs d kind b i)
+    letters bs d kind h = cond_both (spells b i bs) _ _ Read (λ e. h e) (λ _. tt)
 
-    pub by_atom : (spells (codes "true") ≡ true → P (boolean true)) → (spells (codes "false") ≡ true → P (boolean false))
-        → (spells (codes "null") ≡ true → P null) → Read (atom_at b i)
+    pub by_atom : (spells b i (codes "true") ≡ true → P (boolean true)) → (spells b i (codes "false") ≡ true → P (boolean false))
+        → (spells b i (codes "null") ≡ true → P null) → Read (atom_at b i)
     unfolding atom_at
     by_atom t f n =
         cond_both (byte_at b i == 116) _ _ Read (λ _. letters (codes "true") (boolean true) ExpectedTrue t)
@@ -98,8 +94,8 @@ module _ (b : List ℕ) (i : ℕ) where
 
     -- What holds of each string, of each word that is spelled out, and of each number where one begins, holds of what
     -- stands there.
-    pub by_standing : (byte_at b i ≡ 34 → (t : List ℕ) → P (string t)) → (spells (codes "true") ≡ true → P (boolean true))
-        → (spells (codes "false") ≡ true → P (boolean false)) → (spells (codes "null") ≡ true → P null)
+    pub by_standing : (byte_at b i ≡ 34 → (t : List ℕ) → P (string t)) → (spells b i (codes "true") ≡ true → P (boolean true))
+        → (spells b i (codes "false") ≡ true → P (boolean false)) → (spells b i (codes "null") ≡ true → P null)
         → (begins_number (byte_at b i) ≡ true → (minus : Bool) (n : ℕ) → P (integer minus n))
         → (begins_number (byte_at b i) ≡ true → (literal : List ℕ) → P (decimal literal))
         → IfSome (scalar_of (form_at b i)) P
@@ -144,46 +140,6 @@ module _ (b : List ℕ) (i : ℕ) where
 pub none-standing : {A : Type 0} (f : Document → Option A) (o : Option Document) → IfSome o (λ d. f d ≡ None) → option_and_then f o ≡ None
 none-standing f (Some d) h = h
 none-standing f None h = refl
-
--- ---- words
-
--- the first byte of letters that stand at an index
-first-letter : (b : List ℕ) (i c : ℕ) (letters : List ℕ) → starts_with nat_eq (drop i b) (c ∷ letters) ≡ true → byte_at b i ≡ c
-first-letter b i c letters h = byte_at-here ∙ go (drop i b) h
-  where
-    byte_at-here : byte_at b i ≡ byte_at (drop i b) 0
-    byte_at-here = ap (byte_at b) (omega arith) ∙ byte_at-after b (drop i b) i 0 refl
-
-    go : (bs : List ℕ) → starts_with nat_eq bs (c ∷ letters) ≡ true → byte_at bs 0 ≡ c
-    go [] e = cc
-    go (x ∷ bs) e = sym (eqb-true c x (and_parts _ _ e).0)
-
-pub spelt : (b : List ℕ) (i : ℕ) (letters : List ℕ) → spells b i letters ≡ true
-    → (starts_with nat_eq (drop i b) letters && is_terminator (byte_at (drop i b) (length letters))) ≡ true
-spelt b i letters h =
-    ap (λ c. starts_with nat_eq (drop i b) letters && is_terminator c) (sym (byte_at-after b (drop i b) i (length letters) refl)) ∙ h
-
-pub first : (b : List ℕ) (i c : ℕ) (letters : List ℕ) → spells b i (c ∷ letters) ≡ true → byte_at b i ≡ c
-first b i c letters h =
-    let parts : (starts_with nat_eq (drop i b) (c ∷ letters) ≡ true) × (is_terminator (byte_at b (i + length (c ∷ letters))) ≡ true) =
-    and_parts _ _ h in
-    first-letter b i c letters parts.0
-
--- as a reader says whether they are spelled at the front of the bytes from the index on
-pub spelt-here : (b bs letters : List ℕ) (i : ℕ) (r : Bool) → bs ≡ drop i b
-    → r ≡ (starts_with nat_eq bs letters && is_terminator (byte_at bs (length letters))) → spells b i letters ≡ r
-spelt-here b bs letters i r at is =
-    ap (λ c. starts_with nat_eq (drop i b) letters && is_terminator c) (byte_at-after b (drop i b) i (length letters) refl)
-    ∙ ap (λ us. starts_with nat_eq us letters && is_terminator (byte_at us (length letters))) (sym at) ∙ sym is
-
-pub null-standing : (b : List ℕ) (i : ℕ) → spells b i (codes "null") ≡ true → scalar_of (form_at b i) ≡ Some null
-null-standing b i h = ap scalar_of (form_at-null b (drop i b) i refl (first b i 110 (codes "ull") h) (spelt b i (codes "null") h))
-
-pub true-standing : (b : List ℕ) (i : ℕ) → spells b i (codes "true") ≡ true → scalar_of (form_at b i) ≡ Some (boolean true)
-true-standing b i h = ap scalar_of (form_at-true b (drop i b) i refl (first b i 116 (codes "rue") h) (spelt b i (codes "true") h))
-
-pub false-standing : (b : List ℕ) (i : ℕ) → spells b i (codes "false") ≡ true → scalar_of (form_at b i) ≡ Some (boolean false)
-false-standing b i h = ap scalar_of (form_at-false b (drop i b) i refl (first b i 102 (codes "alse") h) (spelt b i (codes "false") h))
 
 -- ---- what stands is none of these
 

@@ -14,7 +14,7 @@ use Rattle.simd_json_ondemand.specs.Closing.{is_opening, is_closing, span}
 use Rattle.simd_json_ondemand.specs.Remaining.{value_at_first}
 use Rattle.simd_json_ondemand.specs.Viewed.{first_read, read_along}
 use Rattle.simd_json_ondemand.specs.Standing.{opens_array, opens_object, literal_end}
-use Rattle.simd_json_ondemand.specs.Scanned.{IsScanned}
+use Rattle.simd_json_check.specs.Scanned.{IsScanned}
 use Rattle.simd_json_ondemand.specs.Docs.{doc, text, index_of, form, literal}
 use Rattle.simd_json_ondemand.specs.Written.{last_index, enclosed, written}
 use Rattle.simd_json_ondemand.specs.declared.value.Value.{Value}

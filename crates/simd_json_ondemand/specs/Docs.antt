@@ -7,7 +7,8 @@ use Rattle.simd_json_parts.specs.StringAt.{closing_quote}
 use Rattle.simd_json_parts.specs.Tokens.{Form, form_at}
 use Rattle.simd_json_parts.specs.declared.node.ValueType.{ValueType}
 use Rattle.simd_json_ondemand.specs.Viewed.{read_along}
-use Rattle.simd_json_ondemand.specs.Standing.{scalar_of, kind_of, literal_end, begins_number}
+use Rattle.simd_json_check.specs.Scalars.{scalar_of, begins_number}
+use Rattle.simd_json_ondemand.specs.Standing.{kind_of, literal_end}
 use Rattle.simd_json_ondemand.specs.declared.value.Document.{Document}
 use Rattle.simd_json_ondemand.specs.declared.value.Value.{Value}
 

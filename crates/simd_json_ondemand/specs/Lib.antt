@@ -1,6 +1,5 @@
--- What values are: the document that begins at a structural index, and the scalar there.
+-- What values are: the document that begins at a structural index, and what is there by its token.
 pub mod Viewed
-pub mod Scanned
 pub mod Standing
 pub mod Docs
 pub mod Numerals
@@ -24,7 +23,3 @@ pub mod Walks
 pub mod Walked
 pub mod Sites
 pub mod Reached
--- What contracts see of an index: what it lists, and for how many bytes it has capacity.
-pub mod Capacities
--- What the test of a whole input finds.
-pub mod Whole

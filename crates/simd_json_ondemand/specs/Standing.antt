@@ -1,9 +1,7 @@
--- What is at a structural index, whether or not the bytes are a document: a string or a scalar, whole and with
--- what must follow it, or the kind of a value by its token.
-use Rattle.std.specs.Prelude.{◌≡◌, ℕ, suc, List, Bool, true, false, ◌||◌, ◌==◌, Option, Some, None, Ok}
-use Rattle.std.specs.Char.{is_ascii_digit}
-use Rattle.simd_json_parts.specs.Bytes.{minus_sign}
-use Rattle.simd_json_parts.specs.Document.{Document, integer, string}
+-- What is at a structural index, whether or not the bytes are a document: the kind of a value by its token, the node of an
+-- integer, and where a string or a scalar ends.
+use Rattle.std.specs.Prelude.{◌≡◌, ℕ, suc, List, Bool, true, false, Option, Some, None, Ok}
+use Rattle.simd_json_parts.specs.Document.{Document, integer}
 use Rattle.simd_json_parts.specs.Integers.{integer_node}
 use Rattle.simd_json_parts.specs.declared.node.StaticNode.{StaticNode}
 use Rattle.simd_json_parts.specs.StringAt.{closing_quote}
@@ -11,11 +9,6 @@ use Rattle.simd_json_parts.specs.Tokens.{Form, begin_array, begin_object, string
 use Rattle.simd_json_parts.specs.Views.{value_type}
 use Rattle.simd_json_parts.specs.declared.node.ValueType.{ValueType}
 use Rattle.simd_json_parts.specs.declared.node.ValueType.TheVariants as kinds
-
-abbrev pub scalar_of : Form → Option Document
-scalar_of (string_token (Ok s)) = Some (string s.0)
-scalar_of (scalar (Ok s)) = Some s.0
-scalar_of _ = None
 
 -- of a string its kind alone, even if it has a bad escape
 abbrev pub kind_of : Form → Option ValueType
@@ -32,10 +25,6 @@ opens_array _ = false
 abbrev pub opens_object : Form → Bool
 opens_object begin_object = true
 opens_object _ = false
-
--- whether a token with this first byte is a number, or should be one
-abbrev pub begins_number : ℕ → Bool
-begins_number c = (c == minus_sign) || is_ascii_digit c
 
 -- the node of the integer there
 abbrev pub IsInteger : StaticNode → Option Document → Type 0

@@ -2,31 +2,24 @@
 //!
 //! Each contract is of what is at the value's structural index, so it holds for any input; a law
 //! says that where a document begins there, it is what the same accessor of a tape returns.
-ghost use Rattle.std.specs.Prelude.{◌≡◌, ◌&&◌, length, nat_eq};
-ghost use Rattle.std.specs.List.{starts_with};
-ghost use Rattle.simd_json_parts.specs.Bytes.{byte_at, is_terminator};
-
-use crate::numbers::{begins_number, fraction, number_len, numeral};
+use crate::numbers::{fraction, number_len};
 use crate::strings::closing;
 use crate::value::Value;
-use simd_json_parts::charutils::{byte_or_space, is_structural_or_whitespace};
+use simd_json_check::scalars::{begins_number, numeral, spells};
 use simd_json_parts::node::{StaticNode, ValueType};
 use simd_json_scalars::numberparse::{Numeral, integer_node, parse_long};
 
 impl<'d> Value<'d> {
-    ghost use Rattle.std.specs.Prelude.{◌≡◌, ◌==◌, Some, None, false, IsTrue};
+    ghost use Rattle.std.specs.Prelude.{◌≡◌, ◌==◌, Some, None, false};
     ghost use Rattle.std.specs.Prelude.{option_and_then, option_map, is_some, IfSome, MatchOption};
     ghost use Rattle.std.specs.Float.{binary64};
     ghost use Rattle.fast_float.specs.Parse.{parse_float};
-    ghost use Rattle.simd_json_ondemand.specs.Docs.{text, index_of, form, kind};
+    ghost use Rattle.simd_json_ondemand.specs.Docs.{text, index_of, kind};
     ghost use Rattle.simd_json_ondemand.specs.Docs.{standing, as_standing, literal, number};
     ghost use Rattle.simd_json_ondemand.specs.Numerals.{IsNumeral, IsNoNumber, IsLiteralLen};
     ghost use Rattle.simd_json_ondemand.specs.Standing.{IsInteger};
     ghost use Rattle.simd_json_parts.specs.Accessors as accessors;
-    ghost use Rattle.simd_json_parts.specs.Document as parts;
-    ghost use Rattle.simd_json_parts.specs.NumberAt.{number_at};
-    ghost use Rattle.simd_json_parts.specs.Tokens.{scalar};
-    ghost use Rattle.simd_json_parts.specs.Views.{as_integer, as_decimal, value_type};
+    ghost use Rattle.simd_json_parts.specs.Views.{as_integer, value_type};
     ghost use Rattle.simd_json_parts.specs.Bytes.{byte_at, quote};
 
     /// Returns `Some` if the value is null, else `None`.
@@ -66,21 +59,6 @@ impl<'d> Value<'d> {
             Some(numeral(self.bytes()))
         } else {
             None
-        }
-    }
-
-    // Whether a number, `true`, `false` or `null` is here.
-    #[inline(always)]
-    pub(crate) fn is_scalar(self) -> bool
-        ensures { IsTrue result → (d : parts.Document) × (standing self.entry ≡ Some d) }
-    {
-        match self.numeral() {
-            Some(Numeral::Integer(_)) => true,
-            Some(Numeral::Decimal(_)) => true,
-            Some(Numeral::Long(len)) => parse_long(self.bytes(), len).is_ok(),
-            Some(Numeral::Invalid(_)) => false,
-            None if self.first() == b'n' => self.as_null().is_some(),
-            None => self.as_bool().is_some(),
         }
     }
 
@@ -343,13 +321,4 @@ impl<'d> Value<'d> {
             None => None,
         }
     }
-}
-
-// Whether the letters are at the front, and what may follow a scalar after them.
-#[inline(always)]
-fn spells(bytes: &[u8], letters: &[u8]) -> bool
-    ensures { result ≡ (starts_with nat_eq bytes.now letters.now
-        && is_terminator (byte_at bytes.now (length letters.now))) }
-{
-    bytes.starts_with(letters) && is_structural_or_whitespace(byte_or_space(bytes, letters.len()))
 }

@@ -42,7 +42,7 @@ impl<'d> Document<'d> {
 
     // The first byte of the token with this structural index.
     #[inline(always)]
-    #[tactic(auto, using(crate::proofs::Scans::within))]
+    #[tactic(auto, using(simd_json_check::proofs::Scans::within))]
     pub(crate) fn byte(self, at: usize) -> u8
         requires { at < length (places self) }
         ensures { result ≡ byte_at (text self.entry) (slice_index (places self.entry) at) }
@@ -84,7 +84,7 @@ impl<'d> Document<'d> {
 
     // The same of the value that a cursor comes to next.
     #[inline(always)]
-    #[tactic(auto, using(crate::proofs::Scans::within))]
+    #[tactic(auto, using(simd_json_check::proofs::Scans::within))]
     fn next_value(self, at: usize, position: Position) -> Option<usize>
         requires { at < length (places self) }
         ensures found { MatchOption result (tails_at self.entry at position ≡ [])

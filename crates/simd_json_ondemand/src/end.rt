@@ -19,7 +19,7 @@ impl<'d> Document<'d> {
 
     // The end of the container that a cursor is in.
     #[inline(always)]
-    #[tactic(auto, using(crate::proofs::Scans::within))]
+    #[tactic(auto, using(simd_json_check::proofs::Scans::within))]
     pub(crate) fn end(self, at: usize, position: Position) -> End
         requires { at < length (places self) }
         ensures { result.after ≡ after_at self.entry at position }
@@ -39,7 +39,7 @@ impl<'d> Value<'d> {
 
     // Where the value ends.
     #[inline(always)]
-    #[tactic(auto, using(crate::proofs::Scans::within))]
+    #[tactic(auto, using(simd_json_check::proofs::Scans::within))]
     pub(crate) fn end(self) -> End
         ensures { result.after ≡ after self.entry }
     {

@@ -1,8 +1,9 @@
-//! The structural indexes of one input after another.
-ghost use Rattle.std.specs.Prelude.{◌≡◌, ◌≤◌, ◌<◌, ℕ, length, take, max, Ok, Some, None};
+//! The structural indexes of one input after another, and the document that they are of.
+ghost use Rattle.std.specs.Prelude.{◌≡◌, ◌≤◌, ◌<◌, ◌⊎◌, ℕ, max, Ok, Err, Some, None};
 ghost use Rattle.std.specs.Prelude.{[], IfOk, OnOk, IfErr, OnErr};
-ghost use Rattle.simd_json_ondemand.specs.Capacities.{capacity, capped, capacities_of};
-ghost use Rattle.simd_json_ondemand.specs.Capacities.{KeepsCapacities, IsOutOfMemory, IsRefused};
+ghost use Rattle.simd_json_check.specs.Capacities.{capacity, capped};
+ghost use Rattle.simd_json_check.specs.Capacities.{KeepsCapacities, IsOutOfMemory, IsRefused};
+ghost use Rattle.simd_json_check.specs.Capacities.{LacksMemory};
 ghost use Rattle.simd_json_parts.specs.Answer.{answer};
 ghost use Rattle.simd_json_parts.specs.Document as parts;
 ghost use Rattle.simd_json_parts.specs.InputFaults.{input_fault};
@@ -11,7 +12,6 @@ ghost use Rattle.simd_json_stages.specs.EscapeBlocks.{backslash_blocks, blocks_i
 
 use crate::value::Document;
 use simd_json_parts::error::Result;
-use simd_json_stages::stage1::{BLOCK_LEN, BlockStage1Parse, Stage1Parse};
 use std::alloc::{Allocator, Global};
 use std::marker::Model;
 
@@ -22,27 +22,15 @@ use std::marker::Model;
 /// result. See [`find`](Index::find).
 #[derive(Drop)]
 pub struct Index<A: Allocator = Global> {
-    // structural indexes (byte indexes into the input), and entries not in use
-    pub(crate) indexes: Vec<u32, A>,
-    // how many of these are in use, from the front
-    pub(crate) used: usize,
-    // numbers of blocks of 64 bytes that hold a backslash, and entries not in use
-    pub(crate) escape_blocks: Vec<u32, A>,
-    // how many of these are in use, from the front
-    pub(crate) used_blocks: usize,
+    inner: simd_json_check::Index<A>,
 }
 
 impl<A: Allocator> Model for Index<A> {
-    ghost use Rattle.std.specs.Prelude.{◌≤◌, length};
-    ghost use Rattle.simd_json_ondemand.specs.Capacities.{Capacities, capacities_of};
+    ghost use Rattle.simd_json_check.specs.Capacities.{Capacities};
 
     ghost Value = { Capacities };
 
-    ghost view = { λ i. capacities_of i.indexes.items i.used
-        i.escape_blocks.items i.used_blocks };
-
-    ghost invariant = { λ i. (i.used ≤ length i.indexes.items)
-        × (i.used_blocks ≤ length i.escape_blocks.items) };
+    ghost view = { λ i. i.inner };
 }
 
 impl<A: Allocator + Copy> Index<A> {
@@ -56,14 +44,9 @@ impl<A: Allocator + Copy> Index<A> {
             × (index.blocks ≡ blocks_in (capped input_len)) × (index.listed ≡ [])) }
         ensures fault { IfErr result (λ e. IsOutOfMemory e × (0 < input_len)) }
     {
-        let mut index = Index {
-            indexes: Vec::new(a),
-            used: 0,
-            escape_blocks: Vec::new(a),
-            used_blocks: 0,
-        };
-        index.reserve(input_len)?;
-        Ok(index)
+        Ok(Index {
+            inner: simd_json_check::Index::new(a, input_len)?,
+        })
     }
 }
 
@@ -85,9 +68,7 @@ impl<A: Allocator> Index<A> {
         ensures fault { IfErr result (λ e. IsOutOfMemory e
             × (capacity self.old < capped input_len)) }
     {
-        let len = input_len.min(u32::MAX as usize);
-        lengthen(&mut self.indexes, len)?;
-        lengthen(&mut self.escape_blocks, len.div_ceil(BLOCK_LEN))
+        self.inner.reserve(input_len)
     }
 
     /// Finds the structural indexes of an input: the byte index of the opening quote of each string
@@ -147,16 +128,7 @@ impl<A: Allocator> Index<A> {
         ensures kept { KeepsCapacities self.old self.new }
         ensures fault { IfErr result (λ e. IsRefused input.now self.old e) }
     {
-        self.used = 0;
-        self.used_blocks = 0;
-        let found = BlockStage1Parse::find_structural_bits(
-            input,
-            &mut self.indexes,
-            &mut self.escape_blocks,
-        )?;
-        self.used = found.positions;
-        self.used_blocks = found.escape_blocks;
-        Ok(())
+        self.inner.find(input)
     }
 
     /// Returns the document of the input whose structural indexes are listed: that of the last
@@ -169,20 +141,58 @@ impl<A: Allocator> Index<A> {
         ensures document { (d : parts.Document) (limit : ℕ) → answer input.now limit ≡ Ok d
             → root result ≡ Some d }
     {
-        Document::new(input, &self.indexes[..self.used])
+        Document::new(input, self.inner.structural_indexes())
     }
 }
 
-// Makes the list at least `len` long: lists are kept filled, so that a store into them needs no
-// memory. What it held stays. If an allocation fails the list is unchanged.
-fn lengthen<A: Allocator>(list: &mut Vec<u32, A>, len: usize) -> Result<()>
-    ensures longer { OnOk result (length list.new.items ≡ max (length list.old.items) len) }
-    ensures kept { take (length list.old.items) list.new.items ≡ list.old.items }
-    ensures no_shorter { length list.old.items ≤ length list.new.items }
-    ensures fault { IfErr result (λ e. IsOutOfMemory e × (length list.old.items < len)) }
-{
-    if list.len() < len {
-        list.resize(len, 0)?;
+impl<A: Allocator + Copy> Index<A> {
+    ghost use Rattle.simd_json_ondemand.specs.Docs.{text, places, root};
+
+    /// Finds the structural indexes of an input, as [`find`](Index::find) does, and checks all of
+    /// it: that it is one document (RFC 8259) with at most `max_depth` containers open at a time.
+    /// So each call on the values of the document returns what the same call of `simd_json`'s tape
+    /// returns.
+    ///
+    /// Returns the first error of a parse by `simd_json` within that depth limit, with its kind,
+    /// index and character:
+    ///
+    /// - an error of the whole input, as [`find`](Index::find) returns it, or else
+    /// - that of the first token that is rejected, from the left: because another is expected
+    ///   (RFC 8259, sections 2, 4 and 5), because of its letters (section 3), as a number
+    ///   (section 6), for an escape (section 7), or because it opens a container beyond the limit
+    ///   (section 9)
+    ///
+    /// Returns `OutOfMemory` if an allocation fails, and only if size and encoding are right.
+    ///
+    /// The input stays unchanged. A document with at most 64 containers open at a time is checked
+    /// in place, without memory but for the index. For any other input the second stage of a parse
+    /// runs, and keeps no node. A parse decodes strings in place, so it works on a copy of the
+    /// input, which is taken from the allocator of the index. So are 24 bytes for each container
+    /// that may be open (`max_depth`, or one for each structural index, whichever is less) if these
+    /// are more than 64. Both are freed before it returns.
+    ///
+    /// ```
+    /// use simd_json_ondemand::{ErrorType, Index, Result};
+    ///
+    /// // Whether the bytes are a JSON text.
+    /// fn is_json(rt: &impl AllocGlobal, input: &[u8]) -> Result<bool> {
+    ///     let mut index = Index::new(rt.alloc(), input.len())?;
+    ///     match index.check(input, 1024) {
+    ///         Ok(_document) => Ok(true),
+    ///         Err(e) if *e.error() == ErrorType::OutOfMemory => Err(e),
+    ///         Err(_) => Ok(false),
+    ///     }
+    /// }
+    /// ```
+    pub fn check<'d>(&'d mut self, input: &'d [u8], max_depth: usize) -> Result<Document<'d>>
+        ensures input { IfOk result (λ document. text document ≡ input.now) }
+        ensures indexes { IfOk result (λ document. places document ≡ positions input.now) }
+        ensures document { IfOk result (λ document. (d : parts.Document)
+            × (answer input.now max_depth ≡ Ok d) × (root document ≡ Some d)) }
+        ensures fault { IfErr result (λ e. (answer input.now max_depth ≡ Err e)
+            ⊎ LacksMemory input.now e) }
+    {
+        self.inner.check(input, max_depth)?;
+        Ok(self.document(input))
     }
-    Ok(())
 }

@@ -51,13 +51,10 @@
 
 mod accessors;
 mod array;
-mod check;
 mod end;
-mod escapes;
 mod index;
 mod key;
 pub mod laws;
-mod nested;
 mod numbers;
 mod object;
 mod pointer;

@@ -1,33 +1,9 @@
-//! Numbers at the front of bytes: whether one may begin there, what it is and how long.
-ghost use Rattle.std.specs.Prelude.{◌≡◌, ◌<◌, ◌==◌, ◌||◌, ℕ, List, length, drop, IfSome};
-ghost use Rattle.simd_json_parts.specs.Bytes.{minus_sign};
-ghost use Rattle.std.specs.Char.{is_ascii_digit};
+//! Numbers at the front of bytes: how long one is, and the float nearest to one with a fraction.
+ghost use Rattle.std.specs.Prelude.{◌≡◌, ◌<◌, ℕ, List, length, drop, IfSome};
 ghost use Rattle.simd_json_ondemand.specs.Numerals.{IsNumberLen, IsDecimalFloat};
-ghost use Rattle.simd_json_scalars.specs.NumeralRead.{IsNumeralAt};
 
 use simd_json_parts::charutils::is_structural_or_whitespace;
-use simd_json_scalars::numberparse::{
-    Number, Numeral, is_integer, parse_number, parse_numeral, parse_short,
-};
-
-// Whether a number may begin with the byte.
-#[inline(always)]
-pub(crate) fn begins_number(c: u8) -> bool
-    ensures { result ≡ ((c == minus_sign) || is_ascii_digit c) }
-{
-    c == b'-' || is_integer(c)
-}
-
-// Reads the number at the front.
-#[inline(always)]
-pub(crate) fn numeral(bytes: &[u8]) -> Numeral
-    ensures { (b : List ℕ) (i : ℕ) → drop i b ≡ bytes.now → IsNumeralAt b i result }
-{
-    match parse_short(bytes) {
-        Some(numeral) => numeral,
-        None => parse_numeral(bytes),
-    }
-}
+use simd_json_scalars::numberparse::{Number, Numeral, parse_number, parse_short};
 
 // The length of the number at the front, if one is there.
 #[inline(always)]

@@ -70,7 +70,7 @@ impl<'d> Document<'d> {
 
     // The same of the member that a cursor comes to next.
     #[inline(always)]
-    #[tactic(auto, using(crate::proofs::Scans::within))]
+    #[tactic(auto, using(simd_json_check::proofs::Scans::within))]
     fn next_member(self, at: usize, position: Position) -> Option<usize>
         requires { at < length (places self) }
         ensures found { MatchOption result (member_tails_at self.entry at position ≡ [])

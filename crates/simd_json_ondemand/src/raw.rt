@@ -32,7 +32,7 @@ impl<'d> Value<'d> {
     }
 
     // The bytes of the container here, if it is closed.
-    #[tactic(auto, using(crate::proofs::Scans::within))]
+    #[tactic(auto, using(simd_json_check::proofs::Scans::within))]
     fn container(self) -> Option<&'d [u8]>
         requires { is_opening (byte_at (text self.document) (index_of self)) ≡ true }
         ensures { option_map (λ bytes. bytes.now) result ≡ enclosed self.entry }

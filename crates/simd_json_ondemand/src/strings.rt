@@ -1,7 +1,7 @@
 //! Strings: borrowed from the input where they have no escape, else decoded into a buffer.
 ghost use Rattle.std.specs.Prelude.{◌≡◌, ◌≤◌, ◌<◌, ◌+◌, length, drop, OnOk, IfErr};
 ghost use Rattle.std.specs.List.{prefix_len};
-ghost use Rattle.simd_json_ondemand.specs.Capacities.{IsOutOfMemory};
+ghost use Rattle.simd_json_check.specs.Capacities.{IsOutOfMemory};
 ghost use Rattle.simd_json_parts.specs.Bytes.{byte_at, quote};
 ghost use Rattle.simd_json_parts.specs.StringAt.{closing_quote};
 ghost use Rattle.simd_json_scalars.specs.StringContent.{is_plain};

@@ -1,6 +1,6 @@
 //! A document, and a value in it: places among the structural indexes.
 ghost use Rattle.std.specs.Prelude.{◌≡◌, ◌<◌, length};
-ghost use Rattle.simd_json_ondemand.specs.Scanned.{IsScanned};
+ghost use Rattle.simd_json_check.specs.Scanned.{IsScanned};
 
 /// An input whose structural indexes are known. Whether it is a document of the grammar is tested
 /// only where values are read.
@@ -36,7 +36,7 @@ impl<'d> Document<'d> {
 
     /// Returns the root of the document: the value at the first structural index.
     #[inline(always)]
-    #[tactic(auto, using(crate::proofs::Scans::some_position))]
+    #[tactic(auto, using(simd_json_check::proofs::Scans::some_position))]
     pub fn as_value(self) -> Value<'d>
         ensures document { doc result ≡ root self.entry }
         ensures token { form result
@@ -57,7 +57,7 @@ impl<'d> Value<'d> {
 
     // The input from the value's first byte on.
     #[inline(always)]
-    #[tactic(auto, using(crate::proofs::Scans::within))]
+    #[tactic(auto, using(simd_json_check::proofs::Scans::within))]
     pub(crate) fn bytes(self) -> &'d [u8]
         ensures bytes { result.now ≡ drop (index_of self.entry) (text self.entry.document) }
         ensures some { 0 < length result.now }
@@ -68,7 +68,7 @@ impl<'d> Value<'d> {
 
     // The value's first byte.
     #[inline(always)]
-    #[tactic(auto, using(crate::proofs::Scans::within))]
+    #[tactic(auto, using(simd_json_check::proofs::Scans::within))]
     pub(crate) fn first(self) -> u8
         ensures { result ≡ byte_at (text self.entry.document) (index_of self.entry) }
     {

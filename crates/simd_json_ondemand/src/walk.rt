@@ -89,7 +89,7 @@ impl<'d> Document<'d> {
     }
 
     // The number of the token where the item that a cursor comes to next is to begin.
-    #[tactic(auto, using(crate::proofs::Scans::within))]
+    #[tactic(auto, using(simd_json_check::proofs::Scans::within))]
     fn item_ahead(
         self,
         at: usize,

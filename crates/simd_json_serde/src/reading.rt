@@ -1,6 +1,6 @@
 //! The entry points.
 ghost use Rattle.std.specs.Prelude.{◌≡◌, ◌≤◌, ◌<◌, ℕ, length, Ok, IfOk, OnOk, OnErr};
-ghost use Rattle.simd_json.specs.Capacities.{default_max_depth};
+ghost use Rattle.simd_json_check.specs.Capacities.{default_max_depth};
 ghost use Rattle.simd_json.specs.Reserved.{IsReserved};
 ghost use Rattle.simd_json_serde.specs.Outcomes.{IsRead, IsLate, HasParseMemory};
 

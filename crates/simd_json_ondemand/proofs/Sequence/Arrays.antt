@@ -21,7 +21,7 @@ use Rattle.simd_json_stages.proofs.Tokens.TokenForms as forms
 use Rattle.simd_json_ondemand.specs.Viewed.{read_along, first_read}
 use Rattle.simd_json_ondemand.specs.Remaining.{value_at_first, listed, elements_inside, elements_behind, elements_past}
 use Rattle.simd_json_ondemand.proofs.Sequence.Reading.{takes, enough, left}
-use Rattle.simd_json_ondemand.proofs.Enough.{kept, array_from-keeps}
+use Rattle.simd_json_check.proofs.Enough.{kept, array_from-keeps}
 
 module _ (b : List ℕ) where
   -- at an element: the first of those that are left

@@ -24,7 +24,7 @@ use Rattle.simd_json_ondemand.specs.Viewed.{read_along, first_read}
 use Rattle.simd_json_ondemand.specs.Remaining.{value_at_first}
 use Rattle.simd_json_ondemand.specs.Remaining.{paired, members_inside, members_behind, members_past}
 use Rattle.simd_json_ondemand.proofs.Sequence.Reading.{takes, enough, left}
-use Rattle.simd_json_ondemand.proofs.Enough.{kept, object_from-keeps}
+use Rattle.simd_json_check.proofs.Enough.{kept, object_from-keeps}
 
 module _ (b : List ℕ) where
   -- ---- a form's byte

@@ -12,7 +12,7 @@ use Rattle.simd_json_parts.proofs.Descent.Shrinking.{value_from-leaves}
 use Rattle.simd_json_ondemand.specs.Closing.{span}
 use Rattle.simd_json_ondemand.specs.Remaining.{value_at_first}
 use Rattle.simd_json_ondemand.proofs.Skipping.{Spanned, Spans, value_from-spans}
-use Rattle.simd_json_ondemand.proofs.Enough.{Keeps, value_from-keeps}
+use Rattle.simd_json_check.proofs.Enough.{Keeps, value_from-keeps}
 
 module _ (b : List ℕ) where
   pub takes : TakesTokens (fault_at b Syntax 0) (value_at_first b)

@@ -1,7 +1,7 @@
 use Rattle.std.proofs.Common.{arith, sym, get_or}
 use Rattle.std.proofs.lemmas.Bool.{eq-eqb}
 use Rattle.std.proofs.lemmas.List.Sums.{position_or_len_is}
-use Rattle.simd_json.specs.Locations.{is_line_feed}
+use Rattle.simd_json_check.specs.Locations.{is_line_feed}
 use Rattle.jcheck.proofs.excerpt.line_end.Goals as goal
 
 pub returns-else-bytes-end-ne10-clause-end : goal.returns-else-bytes-end-ne10-clause-end

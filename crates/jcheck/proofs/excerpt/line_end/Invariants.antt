@@ -1,5 +1,5 @@
 use Rattle.std.proofs.Common.{◌≡◌, ◌-◌, ◌<◌, ◌≤◌, ℕ, length, get_or, false}
-use Rattle.simd_json.specs.Locations.{is_line_feed}
+use Rattle.simd_json_check.specs.Locations.{is_line_feed}
 use Rattle.jcheck.proofs.excerpt.line_end.Given as goal
 
 -- no byte before `end` is a line feed

@@ -2,7 +2,7 @@ use Rattle.std.proofs.Common.{arith, ◌-◌, ◌≡◌, length, not, ap, drop, 
 use Rattle.std.specs.List.{suffix_len}
 use Rattle.std.proofs.lemmas.Bool.{eq-eqb}
 use Rattle.std.proofs.lemmas.List.Sums.{suffix_len_is}
-use Rattle.simd_json.specs.Locations.{is_line_feed}
+use Rattle.simd_json_check.specs.Locations.{is_line_feed}
 use Rattle.jcheck.proofs.excerpt.line_start.Goals as goal
 
 pub returns-else-bytes-start-ne10-clause-start : goal.returns-else-bytes-start-ne10-clause-start

@@ -1,5 +1,5 @@
 use Rattle.std.proofs.Common.{◌≡◌, ◌<◌, ◌≤◌, ℕ, length, not, get_or, true}
-use Rattle.simd_json.specs.Locations.{is_line_feed}
+use Rattle.simd_json_check.specs.Locations.{is_line_feed}
 use Rattle.jcheck.proofs.excerpt.line_start.Given as goal
 
 -- no byte from `start` on is a line feed

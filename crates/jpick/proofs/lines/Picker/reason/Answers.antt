@@ -1,8 +1,8 @@
 use Rattle.std.proofs.Common.{◌≡◌, ◌∙◌, ◌++◌, ap, sym, List, [], ◌∷◌, ℕ, None, Some, append_assoc}
 use Rattle.std.specs.Fmt.{decimal}
 use Rattle.std.specs.Prelude.{codes}
-use Rattle.simd_json.specs.Messages.{reason_text}
-use Rattle.simd_json.specs.Reasons.{location_of}
+use Rattle.simd_json_check.specs.Messages.{reason_text}
+use Rattle.simd_json_check.specs.Reasons.{location_of}
 use Rattle.jpick.specs.Picked.{place_text}
 use Rattle.jpick.proofs.lines.Picker.reason.Goals as goal
 

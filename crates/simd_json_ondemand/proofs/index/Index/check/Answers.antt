@@ -1,8 +1,7 @@
-use Rattle.simd_json_stages.proofs.Exits.{passed-on}
-use Rattle.simd_json_ondemand.proofs.Whole.{check-refused}
+use Rattle.simd_json_ondemand.proofs.Answered.{whole-answered}
 use Rattle.simd_json_ondemand.proofs.index.Index.check.Goals as goal
 
-pub returns-in_err-fill-clause-fault : goal.returns-in_err-fill-clause-fault
-returns-in_err-fill-clause-fault g c =
-    passed-on c.from_residual.result _ _ c.from_residual.ensures.1
-    (check-refused c.args.input.now c.args.max_depth c.args.self.now _ c.in_err-fill.ensures.fault)
+pub document-requires-clause-whole : goal.document-requires-clause-whole
+document-requires-clause-whole g c =
+    let answered = c.in_ok-check.ensures.document in
+    whole-answered c.args.input.now c.args.max_depth answered.0 answered.1

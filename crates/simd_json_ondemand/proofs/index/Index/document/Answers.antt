@@ -2,7 +2,7 @@ use Rattle.std.proofs.Common.{◌≡◌, sym, ◌∙◌, ap, subst}
 use Rattle.std.specs.Prelude.{Some}
 use Rattle.simd_json_parts.specs.Positions.{positions}
 use Rattle.simd_json_ondemand.specs.Viewed.{read_along}
-use Rattle.simd_json_ondemand.proofs.Enough.{read-answered}
+use Rattle.simd_json_ondemand.proofs.Answered.{read-answered}
 use Rattle.simd_json_ondemand.proofs.index.Index.document.Goals as goal
 
 pub returns-clause-document : goal.returns-clause-document

@@ -1,6 +1,6 @@
 use Rattle.std.proofs.Common.{get_or}
 use Rattle.std.proofs.lemmas.List.{get_or_default}
-use Rattle.simd_json_ondemand.proofs.Scans.{within}
+use Rattle.simd_json_check.proofs.Scans.{within}
 use Rattle.simd_json_ondemand.proofs.value.Document.byte.Goals as goal
 
 pub returns : goal.returns

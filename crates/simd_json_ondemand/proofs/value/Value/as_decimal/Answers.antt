@@ -6,7 +6,7 @@ use Rattle.simd_json_parts.specs.Tokens.{scalar}
 use Rattle.simd_json_parts.specs.NumberAt.{number_at}
 use Rattle.simd_json_scalars.specs.NumeralRead.{IsNumeralAt}
 use Rattle.simd_json_scalars.specs.declared.numberparse.Numeral.TheVariants.{Decimal, Long}
-use Rattle.simd_json_ondemand.proofs.Scans.{within}
+use Rattle.simd_json_check.proofs.Scans.{within}
 use Rattle.simd_json_ondemand.proofs.Standing.{decimal-within, long-no_decimal}
 use Rattle.simd_json_ondemand.specs.declared.value.Value.{Value}
 use Rattle.simd_json_ondemand.proofs.value.Value.as_decimal.Goals as goal

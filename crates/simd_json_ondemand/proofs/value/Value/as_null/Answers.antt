@@ -2,8 +2,9 @@ use Rattle.std.proofs.Common.{◌≡◌, sym, ◌∙◌, ap, ℕ, List}
 use Rattle.std.specs.Prelude.{option_and_then, codes, true}
 use Rattle.simd_json_ondemand.specs.Docs.{text, index_of}
 use Rattle.simd_json_parts.specs.Views as views
-use Rattle.simd_json_ondemand.proofs.Standing.{spells, spelt-here}
-use Rattle.simd_json_ondemand.proofs.Standing.{null-standing, no-null}
+use Rattle.simd_json_check.proofs.Words.{spells, spelt-here}
+use Rattle.simd_json_check.proofs.Words.{null-standing}
+use Rattle.simd_json_ondemand.proofs.Standing.{no-null}
 use Rattle.simd_json_ondemand.proofs.value.Value.as_null.Goals as goal
 
 pub returns-then-spells : goal.returns-then-spells

@@ -1,5 +1,5 @@
 use Rattle.std.proofs.lemmas.List.{get_or_default}
-use Rattle.simd_json_ondemand.proofs.Scans.{within}
+use Rattle.simd_json_check.proofs.Scans.{within}
 use Rattle.simd_json_ondemand.proofs.value.Value.first.Goals as goal
 
 pub returns : goal.returns

@@ -6,7 +6,7 @@ use Rattle.fast_float.specs.Parse.{parse_float}
 use Rattle.simd_json_parts.specs.Bytes.{byte_at}
 use Rattle.simd_json_ondemand.specs.Docs.{text, index_of, number}
 use Rattle.simd_json_ondemand.specs.Numerals.{IsDecimalFloat}
-use Rattle.simd_json_ondemand.specs.Standing.{begins_number}
+use Rattle.simd_json_check.specs.Scalars.{begins_number}
 use Rattle.simd_json_ondemand.proofs.Floats.{decimal-float}
 use Rattle.simd_json_ondemand.proofs.value.Value.fraction.Goals as goal
 

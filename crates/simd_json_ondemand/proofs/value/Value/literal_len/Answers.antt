@@ -4,9 +4,9 @@ use Rattle.std.proofs.lemmas.Bool.{ne_eqb}
 use Rattle.simd_json_parts.specs.Bytes.{byte_at, quote}
 use Rattle.simd_json_ondemand.specs.Docs.{text, index_of}
 use Rattle.simd_json_ondemand.specs.declared.value.Value.{Value}
-use Rattle.simd_json_ondemand.proofs.Scans.{within}
-use Rattle.simd_json_ondemand.specs.Standing.{begins_number}
-use Rattle.simd_json_ondemand.proofs.Standing.{spelt-here}
+use Rattle.simd_json_check.proofs.Scans.{within}
+use Rattle.simd_json_check.specs.Scalars.{begins_number}
+use Rattle.simd_json_check.proofs.Words.{spelt-here}
 use Rattle.simd_json_ondemand.proofs.Quoted.{IsQuoted, quoted-value}
 use Rattle.simd_json_ondemand.proofs.Literals.{string-ends, number-ends, null-ends, true-ends, false-ends, none-ends}
 use Rattle.simd_json_ondemand.proofs.value.Value.literal_len.Goals as goal

@@ -2,7 +2,7 @@ use Rattle.std.proofs.Common.{refl, sym, ◌∙◌, ap, ℕ, List, ◌≡◌, tr
 use Rattle.simd_json_parts.specs.Bytes.{byte_at}
 use Rattle.simd_json_stages.proofs.Tokens.ScalarLaws.{form_at-number}
 use Rattle.simd_json_ondemand.specs.Docs.{text, index_of}
-use Rattle.simd_json_ondemand.specs.Standing.{begins_number}
+use Rattle.simd_json_check.specs.Scalars.{begins_number}
 use Rattle.simd_json_ondemand.proofs.Standing.{no-integer, no-decimal}
 use Rattle.simd_json_ondemand.proofs.value.Value.numeral.Goals as goal
 

@@ -1,5 +1,0 @@
-use Rattle.simd_json.proofs.Places.StringScan.{IsOpen, IsScan}
-use Rattle.simd_json.proofs.location.scan.open_quote.Given as goal
-
-abbrev pub invariant-loop-i : goal.invariant-loop-i
-invariant-loop-i l = IsScan l.input l.i l.strings.is_escaped l.strings.is_inside × IsOpen l.input l.i l.open

@@ -1,0 +1,110 @@
+-- What the test of a whole input finds is what a parse answers.
+use Rattle.std.proofs.Common.{◌≡◌, ◌∙◌, ap, sym, refl, ◌≤◌, ℕ, List, [], ◌∷◌, ◌++◌, length, get_or, arith, cond, ◌+◌}
+use Rattle.std.proofs.Common.{Bool, true, false, not, Option, Some, None, Err, IsUtf8, nat_lt, nat_eq, ◌||◌, ◌&&◌, ◌⊎◌, inl, inr}
+use Rattle.std.specs.Str.{is_utf8}
+use Rattle.std.proofs.Math.Dec.{eqb-suc-zero}
+use Rattle.std.proofs.lemmas.Bool.{cases_lt, ltb-false}
+use Rattle.std.proofs.lemmas.List.{length-append}
+use Rattle.std.proofs.lemmas.List.FromFn.{length-range_with_len}
+use Rattle.std.proofs.lemmas.List.Sums.{length-filter, count_by-le-length}
+use Rattle.std.proofs.lemmas.Option.{none-some}
+use Rattle.std.proofs.lemmas.Str.{IsUtf8-from_is_utf8}
+use Rattle.simd_json_parts.proofs.Positions.ScannedInputs.{fault-by_size, too_large}
+use Rattle.simd_json_parts.specs.Answer.{answer, fault_or}
+use Rattle.simd_json_parts.specs.Bytes.{indices}
+use Rattle.simd_json_parts.specs.Descent.{descent}
+use Rattle.simd_json_parts.specs.Faults.{whole_fault}
+use Rattle.simd_json_parts.specs.InputFaults.{input_fault, scan_fault}
+use Rattle.simd_json_parts.specs.Limits.{max_length}
+use Rattle.simd_json_parts.specs.Nodes.{Item}
+use Rattle.simd_json_parts.specs.Positions.{positions, is_position}
+use Rattle.simd_json_check.specs.Capacities.{Capacities, IsRefused, LacksMemory}
+use Rattle.simd_json_parts.specs.declared.error.Error.{Error}
+use Rattle.simd_json_parts.specs.declared.error.ErrorType.TheVariants.{InputTooLarge, OutOfMemory}
+use Rattle.simd_json_stages.specs.Building.{is_header}
+use Rattle.simd_json_stages.specs.NodesEnough.{nodes_enough}
+
+-- ---- the answer
+
+fault-answered : (b : List ℕ) (limit : ℕ) (e : Error) → input_fault b ≡ Some e → answer b limit ≡ Err e
+unfolding answer
+fault-answered b limit e is = ap (λ o. fault_or o (descent b limit)) is
+
+pub descent-answered : (b : List ℕ) (limit : ℕ) → input_fault b ≡ None → answer b limit ≡ descent b limit
+unfolding answer
+descent-answered b limit is = ap (λ o. fault_or o (descent b limit)) is
+
+-- ---- size and encoding
+
+right-in : (p q : Bool) (o : Option Error) (e f : Error) → cond p (Some e) (cond (not q) (Some f) o) ≡ None → (p ≡ false) × (q ≡ true)
+right-in true q o e f is = absurd (none-some e (sym is))
+right-in false true o e f is = (refl, refl)
+right-in false false o e f is = absurd (none-some f (sym is))
+
+-- where nothing is wrong with the whole, they are right
+pub right-input : (b : List ℕ) → input_fault b ≡ None → (length b ≤ max_length) × IsUtf8 b
+right-input b none =
+    let right = right-in (nat_lt max_length (length b)) (is_utf8 b) (scan_fault b) (whole_fault _) (whole_fault _)
+    (sym (fault-by_size b) ∙ none) in
+    (ltb-false max_length (length b) right.0, IsUtf8-from_is_utf8 b right.1)
+
+pub few-positions : (b : List ℕ) → length (positions b) ≤ length b
+unfolding positions
+few-positions b = omega (
+  arith,
+  length-filter (is_position b) (indices b),
+  count_by-le-length (is_position b) (indices b),
+  length-range_with_len 0 (length b),
+)
+
+-- so a sink with room for as many nodes has enough
+pub nodes-within : (b : List ℕ) (count limit : ℕ) → input_fault b ≡ None → count ≡ length (positions b)
+    → nodes_enough count limit ≤ max_length
+unfolding nodes_enough
+nodes-within b count limit none is = omega (arith, is, few-positions b, (right-input b none).0)
+
+-- ---- what the first stage refuses
+
+pub check-refused : (b : List ℕ) (limit : ℕ) (before : Capacities) (e : Error) → IsRefused b before e
+    → (answer b limit ≡ Err e) ⊎ LacksMemory b e
+check-refused b limit before e (inl whole) = inl (fault-answered b limit e whole)
+check-refused b limit before e (inr (lacks, size, encoding, short)) = inr (lacks, size, encoding)
+
+-- ---- want of memory
+
+-- an error of this kind is the answer only where the size is right
+pub size_right : (b : List ℕ) (limit : ℕ) (e : Error) → answer b limit ≡ Err e → e.error ≡ OutOfMemory → length b ≤ max_length
+size_right b limit e is kind = elim (cases_lt max_length (length b)) [
+  | inl large ↦
+      let same : Err e ≡ Err (whole_fault InputTooLarge) = sym is ∙ fault-answered b limit (whole_fault InputTooLarge) (too_large b large) in
+      absurd (cc (same, kind))
+  | inr right ↦ right
+]
+
+-- ---- the nodes that are counted
+
+pub length-push : (ns : List Item) (n : Item) → length (ns ++ n ∷ []) ≡ length ns + 1
+length-push ns n = length-append ns (n ∷ [])
+
+module _ (d : Item) where
+  -- whether the first of them is a header
+  abbrev pub is_headed : List Item → Bool
+  is_headed ns = is_header (get_or ns 0 d)
+
+  pub headed-push : (ns : List Item) (n : Item) (is_container is_first : Bool) (count : ℕ) → is_header d ≡ false
+      → is_container ≡ is_headed ns → count ≡ length ns → is_first ≡ is_header n
+      → (is_container || (is_first && nat_eq count 0)) ≡ is_headed (ns ++ n ∷ [])
+  headed-push [] n is_container is_first count none is counted first =
+      ap (λ t. t || (is_first && nat_eq count 0)) (is ∙ none) ∙ ap (λ k. is_first && nat_eq k 0) counted ∙ and-true is_first ∙ first
+    where
+      and-true : (t : Bool) → (t && true) ≡ t
+      and-true true = refl
+      and-true false = refl
+  headed-push (m ∷ ms) n is_container is_first count none is counted first =
+      ap (λ k. is_container || (is_first && nat_eq k 0)) counted ∙ ap (λ t. is_container || (is_first && t)) (eqb-suc-zero (length ms))
+      ∙ unchanged is_container is_first ∙ is
+    where
+      unchanged : (s t : Bool) → (s || (t && false)) ≡ s
+      unchanged true t = refl
+      unchanged false true = refl
+      unchanged false false = refl

@@ -1,0 +1,5 @@
+use Rattle.std.proofs.Common.{[]}
+use Rattle.simd_json_check.proofs.check.count_nodes.Given as goal
+
+abbrev pub ghost-of : goal.ghost-of
+ghost-of g a = []

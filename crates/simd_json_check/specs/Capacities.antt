@@ -1,0 +1,51 @@
+-- What a contract sees of an index: what it lists, and for how many bytes it has capacity; and the depth limit.
+use Rattle.std.specs.Prelude.{◌≡◌, ◌≤◌, ◌<◌, ◌⊎◌, ℕ, ◌*◌, List, length, take, min, Some, IsUtf8}
+use Rattle.simd_json_parts.specs.Faults.{whole_fault}
+use Rattle.simd_json_parts.specs.InputFaults.{input_fault}
+use Rattle.simd_json_parts.specs.Limits.{max_length}
+use Rattle.simd_json_parts.specs.declared.error.Error.{Error}
+use Rattle.simd_json_parts.specs.declared.error.ErrorType.TheVariants.{OutOfMemory}
+
+-- how many containers may be open at a time, where no limit is asked for
+abbrev pub default_max_depth : ℕ
+default_max_depth = 1024
+
+-- the structural indexes and the blocks with a backslash that are listed, and for how many indexes, and how many blocks of 64 bytes,
+-- there is capacity
+pub record Capacities : Type 0 where
+  pub listed : List ℕ
+  pub escapes : List ℕ
+  pub indexes : ℕ
+  pub blocks : ℕ
+
+-- how the two lists are seen, of which so many entries are in use
+abbrev pub capacities_of : List ℕ → ℕ → List ℕ → ℕ → Capacities
+capacities_of list used blocks used_blocks =
+    record { listed = take used list; escapes = take used_blocks blocks; indexes = length list; blocks = length blocks }
+
+-- for an input of how many bytes there is capacity
+abbrev pub capacity : Capacities → ℕ
+capacity r = min r.indexes (64 * r.blocks)
+
+-- of how many bytes a reservation is meant
+abbrev pub capped : ℕ → ℕ
+capped len = min len max_length
+
+-- no list is shorter
+abbrev pub KeepsCapacities : Capacities → Capacities → Type 0
+KeepsCapacities old new = (old.indexes ≤ new.indexes) × (old.blocks ≤ new.blocks)
+
+-- an allocation failed
+abbrev pub IsOutOfMemory : Error → Type 0
+IsOutOfMemory e = e ≡ whole_fault OutOfMemory
+
+-- so it is in a parse of b: memory is asked for once size and encoding are known to be right
+abbrev pub LacksMemory : List ℕ → Error → Type 0
+LacksMemory b e = IsOutOfMemory e × (length b ≤ max_length) × IsUtf8 b
+
+-- The error of the input b: that of the whole input, as in a parse, or it needs more memory than there is. Memory is
+-- asked for once size and encoding are known to be right, and only where there is no capacity for as many bytes.
+abbrev pub IsRefused : List ℕ → Capacities → Error → Type 0
+IsRefused b before e =
+    (input_fault b ≡ Some e)
+    ⊎ (IsOutOfMemory e × (length b ≤ max_length) × IsUtf8 b × (capacity before < length b))

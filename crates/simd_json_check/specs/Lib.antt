@@ -1,0 +1,10 @@
+-- What contracts see of an index, and the scalars along it.
+pub mod Capacities
+pub mod Scanned
+pub mod Scalars
+-- What the test of a whole input finds.
+pub mod Whole
+-- Where an input is wrong and why, for people.
+pub mod Locations
+pub mod Reasons
+pub mod Messages

@@ -1,0 +1,244 @@
+//! The test of a whole input: along its structural indexes and, where that finds a fault, by the
+//! second stage of a parse over a copy of the input, into a sink that keeps no node.
+ghost use Rattle.std.specs.Prelude.{◌≡◌, ◌≤◌, ◌<◌, ◌⊎◌, ◌++◌, ◌∷◌, [], List, length, get_or};
+ghost use Rattle.std.specs.Prelude.{Ok, Err, IsTrue, OnOk, IfErr, min, max};
+ghost use Rattle.simd_json_check.specs.Capacities.{KeepsCapacities, LacksMemory};
+ghost use Rattle.simd_json_parts.specs.Answer.{answer};
+ghost use Rattle.simd_json_parts.specs.Descent.{descent};
+ghost use Rattle.simd_json_parts.specs.Document.{Document};
+ghost use Rattle.simd_json_parts.specs.Limits.{max_length};
+ghost use Rattle.simd_json_parts.specs.Nodes.{Item, static_item};
+ghost use Rattle.simd_json_parts.specs.Positions.{positions};
+ghost use Rattle.simd_json_parts.specs.declared.node.StaticNode.TheVariants.{Null};
+ghost use Rattle.simd_json_stages.specs.Building.{header_of, is_header};
+ghost use Rattle.simd_json_stages.specs.Scans.{IsScanOf};
+ghost use base.Fml.{ftrue};
+
+use crate::escapes::are_escapes_valid;
+use crate::index::Index;
+use crate::nested::value_end;
+use simd_json_parts::error::Result;
+use simd_json_parts::node::StaticNode;
+use simd_json_stages::stage2::{Container, NodeSink, Original, Scanned, StackState, build_tape};
+use std::alloc::Allocator;
+use std::marker::{Brand, Model};
+
+// For how many open containers there is a stack that is not allocated.
+const FEW_OPEN: usize = 64;
+
+impl<A: Allocator + Copy> Index<A> {
+    /// Finds the structural indexes of an input, as [`find`](Index::find) does, and checks all of
+    /// it: that it is one document (RFC 8259) with at most `max_depth` containers open at a time; 0
+    /// allows scalars only.
+    ///
+    /// Returns the first error of a parse by `simd_json` within that depth limit, with its kind,
+    /// index and character:
+    ///
+    /// - an error of the whole input, as [`find`](Index::find) returns it, or else
+    /// - that of the first token that is rejected, from the left: because another is expected
+    ///   (RFC 8259, sections 2, 4 and 5), because of its letters (section 3), as a number
+    ///   (section 6), for an escape (section 7), or because it opens a container beyond the limit
+    ///   (section 9)
+    ///
+    /// Returns `OutOfMemory` if an allocation fails, and only if size and encoding are right.
+    ///
+    /// The input stays unchanged. A document with at most 64 containers open at a time is checked
+    /// in place, without memory but for the index. For any other input the second stage of a parse
+    /// runs, and keeps no node. A parse decodes strings in place, so it works on a copy of the
+    /// input, which is taken from the allocator of the index. So are 24 bytes for each container
+    /// that may be open (`max_depth`, or one for each structural index, whichever is less) if these
+    /// are more than 64. Both are freed before it returns.
+    ///
+    /// ```
+    /// use simd_json_check::{ErrorType, Index, Result};
+    ///
+    /// // Whether the bytes are a JSON text.
+    /// fn is_json(rt: &impl AllocGlobal, input: &[u8]) -> Result<bool> {
+    ///     let mut index = Index::new(rt.alloc(), input.len())?;
+    ///     match index.check(input, 1024) {
+    ///         Ok(()) => Ok(true),
+    ///         Err(e) if *e.error() == ErrorType::OutOfMemory => Err(e),
+    ///         Err(_) => Ok(false),
+    ///     }
+    /// }
+    /// ```
+    pub fn check(&mut self, input: &[u8], max_depth: usize) -> Result<()>
+        ensures document { OnOk result ((d : Document) × (answer input.now max_depth ≡ Ok d)) }
+        ensures indexes { OnOk result (self.new.listed ≡ positions input.now) }
+        ensures kept { KeepsCapacities self.old self.new }
+        ensures fault { IfErr result (λ e. (answer input.now max_depth ≡ Err e)
+            ⊎ LacksMemory input.now e) }
+    {
+        self.find(input)?;
+        let scanned = Scanned {
+            structural_indexes: &self.indexes[..self.used],
+            escape_blocks: &self.escape_blocks[..self.used_blocks],
+        };
+        if !is_document(input, scanned, max_depth) {
+            parse_copy(*self.indexes.allocator(), input, scanned, max_depth)?;
+        }
+        Ok(())
+    }
+}
+
+// Whether an input whose structural indexes and blocks with a backslash are known is a document
+// within the depth limit, and with at most `FEW_OPEN` containers open at a time: so deep the calls
+// nest.
+fn is_document(input: &[u8], scanned: Scanned<'_>, max_depth: usize) -> bool
+    requires { IsScanOf input.now scanned }
+    ensures { IsTrue result → (d : Document) × (answer input.now max_depth ≡ Ok d) }
+{
+    if !are_escapes_valid(input, scanned.escape_blocks) {
+        return false;
+    }
+    let indexes = scanned.structural_indexes;
+    match value_end(input, indexes, 0, max_depth.min(FEW_OPEN)) {
+        Some(end) => end == indexes.len(),
+        None => false,
+    }
+}
+
+// Parses a copy of an input whose structural indexes and blocks with a backslash are known.
+fn parse_copy<A: Allocator + Copy>(
+    a: A,
+    input: &[u8],
+    scanned: Scanned<'_>,
+    max_depth: usize,
+) -> Result<()>
+    requires { IsScanOf input.now scanned }
+    ensures document { OnOk result ((d : Document) × (answer input.now max_depth ≡ Ok d)) }
+    ensures fault { IfErr result (λ e. (answer input.now max_depth ≡ Err e)
+        ⊎ LacksMemory input.now e) }
+{
+    let mut copy = Vec::from_slice(a, input)?;
+    let mut stack = Vec::new(a);
+    let open = scanned.structural_indexes.len().min(max_depth);
+    if open > FEW_OPEN {
+        stack.resize(open, StackState::EMPTY)?;
+    }
+    count_nodes::<Brand>(
+        copy.as_mut_slice(),
+        scanned,
+        stack.as_mut_slice(),
+        max_depth,
+    )
+}
+
+// Runs the second stage, and keeps none of the nodes.
+fn count_nodes<K: Original>(
+    input: &mut [u8],
+    scanned: Scanned<'_>,
+    stack: &mut [StackState],
+    max_depth: usize,
+) -> Result<()>
+    requires input { input.old ≡ K.bytes }
+    requires scanned { IsScanOf K.bytes scanned }
+    requires stack { min (length (positions K.bytes)) max_depth ≤ max (length stack.old) 64 }
+    ensures document { OnOk result ((d : Document) × (descent K.bytes max_depth ≡ Ok d)) }
+    ensures fault { IfErr result (λ e. descent K.bytes max_depth ≡ Err e) }
+{
+    let mut few = [StackState::EMPTY; FEW_OPEN];
+    let mut sink = Counted {
+        count: 0,
+        is_container: false,
+        noted: Noted::of(&()),
+    };
+    build_tape::<K, Counted>(input, scanned, stack, &mut few, &mut sink, max_depth)
+}
+
+// The counts of a sink without nodes.
+#[derive(Drop)]
+struct Counted {
+    // how many nodes were appended
+    count: usize,
+    // whether the first node is the header of a container
+    is_container: bool,
+    // the ghost record of the nodes
+    noted: Noted,
+    ghost counted: { count ≡ length noted.items },
+    ghost headed: { is_container
+        ≡ is_header (get_or noted.items 0 (static_item Null)) },
+}
+
+impl Counted {
+    // Counts a node that the caller's proof chooses; `seen` makes its values available to that
+    // proof.
+    #[inline(always)]
+    fn put<T>(&mut self, opens: bool, seen: &T)
+        ghost item: { Item }
+        requires room { length self.old.noted.items < max_length }
+        requires header { opens ≡ is_header item }
+        ensures { self.new.noted.items ≡ self.old.noted.items ++ item ∷ [] }
+    {
+        self.is_container |= opens & (self.count == 0);
+        self.count += 1;
+        self.noted = Noted::of(&(&self.noted, seen));
+    }
+}
+
+impl<'de> NodeSink<'de> for Counted {
+    ghost held_nodes = { λ s. s.noted.items };
+
+    ghost node_room = { λ _. max_length };
+
+    ghost Lender = { Unit {0} };
+
+    ghost lender = { λ _. tt };
+
+    #[inline(always)]
+    fn len(&self) -> usize {
+        self.count
+    }
+
+    #[inline(always)]
+    fn push_string(&mut self, string: &'de str) {
+        self.put(false, &string);
+    }
+
+    #[inline(always)]
+    fn push_decimal(&mut self, literal: &'de str) {
+        self.put(false, &literal);
+    }
+
+    #[inline(always)]
+    fn push_static(&mut self, value: StaticNode) {
+        self.put(false, &value);
+    }
+
+    #[inline(always)]
+    fn push_header(&mut self, container: Container) {
+        self.put(true, &container);
+    }
+
+    #[inline(always)]
+    fn set_counts(&mut self, header: usize, container: Container, len: usize, count: usize) {
+        self.noted = Noted::of(&(&self.noted, header, container, len, count));
+    }
+
+    #[inline(always)]
+    fn starts_with_header(&self) -> bool {
+        self.is_container
+    }
+}
+
+// The record. It has no bytes at run time, and only clauses determine `items`.
+#[derive(Drop)]
+struct Noted {
+    ghost items: { List Item },
+}
+
+impl Model for Noted {
+    ghost also_owns = { λ _. ftrue };
+}
+
+impl Noted {
+    // The record that the caller's proof chooses; `seen` makes its values available to that proof.
+    #[inline(always)]
+    fn of<T>(seen: &T) -> Noted
+        ghost items: { List Item }
+        ensures { result.items ≡ items }
+    {
+        let _ = seen;
+        Noted {}
+    }
+}

@@ -1,0 +1,146 @@
+//! The structural indexes of one input after another.
+ghost use Rattle.std.specs.Prelude.{◌≡◌, ◌≤◌, ◌<◌, length, take, max, None};
+ghost use Rattle.std.specs.Prelude.{[], IfOk, OnOk, IfErr, OnErr};
+ghost use Rattle.simd_json_check.specs.Capacities.{capacity, capped, capacities_of};
+ghost use Rattle.simd_json_check.specs.Capacities.{KeepsCapacities, IsOutOfMemory, IsRefused};
+ghost use Rattle.simd_json_parts.specs.InputFaults.{input_fault};
+ghost use Rattle.simd_json_parts.specs.Positions.{positions};
+ghost use Rattle.simd_json_stages.specs.EscapeBlocks.{backslash_blocks, blocks_in};
+
+use simd_json_parts::error::Result;
+use simd_json_stages::stage1::{BLOCK_LEN, BlockStage1Parse, Stage1Parse};
+use std::alloc::{Allocator, Global};
+use std::marker::Model;
+
+/// The memory for the structural indexes of one input after another: four bytes for each, and as
+/// many for each block of 64 bytes that holds a backslash.
+///
+/// It grows by what an input needs, and never shrinks. What it held before does not change a
+/// result. See [`find`](Index::find).
+#[derive(Drop)]
+pub struct Index<A: Allocator = Global> {
+    // structural indexes (byte indexes into the input), and entries not in use
+    pub(crate) indexes: Vec<u32, A>,
+    // how many of these are in use, from the front
+    pub(crate) used: usize,
+    // numbers of blocks of 64 bytes that hold a backslash, and entries not in use
+    pub(crate) escape_blocks: Vec<u32, A>,
+    // how many of these are in use, from the front
+    pub(crate) used_blocks: usize,
+}
+
+impl<A: Allocator> Model for Index<A> {
+    ghost use Rattle.std.specs.Prelude.{◌≤◌, length};
+    ghost use Rattle.simd_json_check.specs.Capacities.{Capacities, capacities_of};
+
+    ghost Value = { Capacities };
+
+    ghost view = { λ i. capacities_of i.indexes.items i.used
+        i.escape_blocks.items i.used_blocks };
+
+    ghost invariant = { λ i. (i.used ≤ length i.indexes.items)
+        × (i.used_blocks ≤ length i.escape_blocks.items) };
+}
+
+impl<A: Allocator + Copy> Index<A> {
+    /// Returns an index with capacity for inputs of up to `input_len` bytes (more than
+    /// 4,294,967,295 count as that number, the greatest size of an input). `input_len` is a hint,
+    /// and may be 0: [`find`](Index::find) allocates what an input needs beyond it.
+    ///
+    /// Returns `OutOfMemory` if an allocation fails.
+    pub fn new(a: A, input_len: usize) -> Result<Index<A>>
+        ensures capacity { IfOk result (λ index. (index.indexes ≡ capped input_len)
+            × (index.blocks ≡ blocks_in (capped input_len)) × (index.listed ≡ [])) }
+        ensures fault { IfErr result (λ e. IsOutOfMemory e × (0 < input_len)) }
+    {
+        let mut index = Index {
+            indexes: Vec::new(a),
+            used: 0,
+            escape_blocks: Vec::new(a),
+            used_blocks: 0,
+        };
+        index.reserve(input_len)?;
+        Ok(index)
+    }
+}
+
+impl<A: Allocator> Index<A> {
+    /// Reserves capacity for inputs of up to `input_len` bytes (more than 4,294,967,295 count as
+    /// that number): after it [`find`](Index::find) never returns `OutOfMemory` for such an input,
+    /// however many follow.
+    ///
+    /// What is listed stays. Returns `OutOfMemory` if an allocation fails; what has been reserved
+    /// by then stays.
+    pub fn reserve(&mut self, input_len: usize) -> Result<()>
+        ensures reserved { OnOk result (capped input_len ≤ capacity self.new) }
+        ensures exact { OnOk result ((self.new.indexes ≡ max self.old.indexes (capped input_len))
+            × (self.new.blocks ≡ max self.old.blocks (blocks_in (capped input_len)))) }
+        ensures kept { KeepsCapacities self.old self.new }
+        ensures same { self.new.listed ≡ self.old.listed }
+        ensures fault { IfErr result (λ e. IsOutOfMemory e
+            × (capacity self.old < capped input_len)) }
+    {
+        let len = input_len.min(u32::MAX as usize);
+        lengthen(&mut self.indexes, len)?;
+        lengthen(&mut self.escape_blocks, len.div_ceil(BLOCK_LEN))
+    }
+
+    /// Finds the structural indexes of an input: the byte index of the opening quote of each string
+    /// and, outside strings, of each structural character and of the first byte of each other
+    /// token. The input is neither copied nor written.
+    ///
+    /// Returns the error of the whole input, as a parse does, at index 0 and without a character:
+    ///
+    /// - `InputTooLarge`: it has more than 4,294,967,295 bytes
+    /// - `InvalidUtf8`: it is not UTF-8 (RFC 3629)
+    /// - `Syntax`: a string is left open or holds a byte below 0x20 (RFC 8259, section 7)
+    /// - `Eof`: there is nothing but whitespace
+    ///
+    /// Returns `OutOfMemory` if an allocation fails: only if size and encoding are right, and only
+    /// if there is no capacity for as many bytes as the input has. After an error nothing is
+    /// listed.
+    ///
+    /// Whether each token is where the grammar expects one is not tested; [`check`](Index::check)
+    /// tests it.
+    pub fn find(&mut self, input: &[u8]) -> Result<()>
+        ensures indexes { OnOk result (self.new.listed ≡ positions input.now) }
+        ensures escapes { OnOk result (self.new.escapes ≡ backslash_blocks input.now) }
+        ensures whole { OnOk result (input_fault input.now ≡ None) }
+        ensures empty { OnErr result (self.new.listed ≡ []) }
+        ensures kept { KeepsCapacities self.old self.new }
+        ensures fault { IfErr result (λ e. IsRefused input.now self.old e) }
+    {
+        self.used = 0;
+        self.used_blocks = 0;
+        let found = BlockStage1Parse::find_structural_bits(
+            input,
+            &mut self.indexes,
+            &mut self.escape_blocks,
+        )?;
+        self.used = found.positions;
+        self.used_blocks = found.escape_blocks;
+        Ok(())
+    }
+
+    /// The structural indexes that are listed: those of the last input, if there was no error of
+    /// the whole input, else none.
+    pub fn structural_indexes(&self) -> &[u32]
+        ensures { result.now ≡ self.now.listed }
+    {
+        &self.indexes[..self.used]
+    }
+}
+
+// Makes the list at least `len` long: lists are kept filled, so that a store into them needs no
+// memory. What it held stays. If an allocation fails the list is unchanged.
+fn lengthen<A: Allocator>(list: &mut Vec<u32, A>, len: usize) -> Result<()>
+    ensures longer { OnOk result (length list.new.items ≡ max (length list.old.items) len) }
+    ensures kept { take (length list.old.items) list.new.items ≡ list.old.items }
+    ensures no_shorter { length list.old.items ≤ length list.new.items }
+    ensures fault { IfErr result (λ e. IsOutOfMemory e × (length list.old.items < len)) }
+{
+    if list.len() < len {
+        list.resize(len, 0)?;
+    }
+    Ok(())
+}

@@ -1,0 +1,141 @@
+//! Where an input is wrong and why, for people.
+ghost use Rattle.std.specs.Prelude.{◌≡◌, ◌≤◌, length, IfOk, OnErr};
+ghost use Rattle.simd_json_check.specs.Reasons.{found_in, location_of};
+ghost use Rattle.simd_json_parts.specs.Limits.{max_length};
+
+mod context;
+mod display;
+mod place;
+mod reason;
+mod scan;
+
+use crate::index::Index;
+use context::reason_for;
+use place::{byte_of, column, line};
+pub use reason::Reason;
+use simd_json_parts::error::{Error, ErrorType};
+use std::alloc::{AllocError, Allocator};
+
+/// An error, and for people where it is in the input and why: a line and a column for an editor,
+/// and a [`Reason`] in words.
+#[derive(Debug, Drop, PartialEq, Eq)]
+pub struct Location {
+    error: Error,
+    byte: usize,
+    line: usize,
+    column: usize,
+    reason: Reason,
+}
+
+impl Location {
+    /// Finds where in the input an error of its parse is, and why it was rejected. `input` holds
+    /// the bytes as they were before the parse, which may have decoded strings in place. Allocates
+    /// nothing.
+    ///
+    /// An error with a character is at its index. For one of the whole input the place is found by
+    /// a scan:
+    ///
+    /// - `InvalidUtf8`: the first byte that begins no UTF-8 character (RFC 3629)
+    /// - `Syntax`: the first control byte inside a string, or the opening quote of the string that
+    ///   is left open (RFC 8259, section 7), whichever comes first
+    /// - `Eof`: the end of the input
+    /// - `InputTooLarge`: the first byte too many
+    ///
+    /// ```
+    /// use simd_json_check::{DEFAULT_MAX_DEPTH, Index, Location};
+    ///
+    /// fn line_of_error(rt: &impl AllocGlobal) -> Option<usize> {
+    ///     let input = b"[1,\n2,]";
+    ///     let mut index = Index::new(rt.alloc(), 0).ok()?;
+    ///     let error = index.check(input, DEFAULT_MAX_DEPTH).err()?;
+    ///     Some(Location::new(input, error).line())
+    /// }
+    /// ```
+    #[tactic(auto, unfolding(crate::specs::Reasons::location_of))]
+    pub fn new(input: &[u8], error: Error) -> Location
+        ensures { result ≡ location_of input.now error }
+    {
+        let byte = byte_of(input, &error);
+        let reason = reason_for(input, &error);
+        Location {
+            error,
+            byte,
+            line: line(input, byte),
+            column: column(input, byte),
+            reason,
+        }
+    }
+
+    /// The error as the parse returned it.
+    pub fn error(&self) -> &Error
+        ensures { result.now ≡ self.now.error }
+    {
+        &self.error
+    }
+
+    /// The byte offset of the place.
+    pub fn byte(&self) -> usize
+        ensures { result ≡ self.now.byte }
+    {
+        self.byte
+    }
+
+    /// The line of the place: from 1, by line feeds.
+    pub fn line(&self) -> usize
+        ensures { result ≡ self.now.line }
+    {
+        self.line
+    }
+
+    /// The column of the place: from 1, in characters.
+    pub fn column(&self) -> usize
+        ensures { result ≡ self.now.column }
+    {
+        self.column
+    }
+
+    /// Why the input is rejected.
+    pub fn reason(&self) -> Reason
+        ensures { result ≡ self.now.reason }
+    {
+        self.reason
+    }
+}
+
+/// Checks whether the bytes are one document, with at most `max_depth` containers open at a time,
+/// and finds the place of the error if not. Returns `None` if they are, otherwise the location of
+/// the error that [`Index::check`] returns if memory suffices.
+///
+/// `input` holds the bytes as they were before a parse. They are checked in the time and the memory
+/// that a new [`Index`] takes. A caller who has parsed the bytes already has the error, and needs
+/// only [`Location::new`].
+///
+/// Returns `AllocError` if an allocation fails. So `OutOfMemory` is never the error of a location.
+///
+/// ```
+/// use simd_json_check::locate;
+/// use std::alloc::AllocError;
+///
+/// fn line_of_error(rt: &impl AllocGlobal) -> Result<Option<usize>, AllocError> {
+///     let location = locate(rt.alloc(), b"[1,\n2,]", 1024)?;
+///     Ok(location.map(|location| location.line()))
+/// }
+/// ```
+#[tactic(auto, using(crate::proofs::Whole::size_right))]
+pub fn locate<A: Allocator + Copy>(
+    alloc: A,
+    input: &[u8],
+    max_depth: usize,
+) -> Result<Option<Location>, AllocError>
+    ensures found { IfOk result (λ found. found ≡ found_in input.now max_depth) }
+    ensures size { OnErr result (length input.now ≤ max_length) }
+{
+    let Ok(mut index) = Index::new(alloc, 0) else {
+        return Err(AllocError);
+    };
+    match index.check(input, max_depth).err() {
+        None => Ok(None),
+        Some(e) if *e.error() == ErrorType::OutOfMemory => Err(AllocError),
+        Some(e) => Ok(Some(Location::new(input, e))),
+    }
+}

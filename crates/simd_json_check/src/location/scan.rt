@@ -1,0 +1,77 @@
+//! A scan of the strings of an input, byte by byte, for what is wrong with one of them.
+ghost use Rattle.std.specs.Prelude.{◌≡◌, ◌&&◌, ◌==◌, not, if◌then◌else◌};
+ghost use Rattle.simd_json_check.specs.Locations.{bad_string, first_index, is_control_inside};
+ghost use Rattle.simd_json_check.specs.Locations.{is_left_open};
+
+// What is known of the strings before an index.
+#[derive(Clone, Copy)]
+struct Strings {
+    // whether an odd number of backslashes comes right before it
+    is_escaped: bool,
+    is_inside: bool,
+}
+
+impl Strings {
+    // Before the first byte.
+    const NONE: Strings = Strings {
+        is_escaped: false,
+        is_inside: false,
+    };
+
+    // Whether this byte there opens or closes a string.
+    fn is_quote(self, byte: u8) -> bool
+        ensures { result ≡ ((byte == 34) && not self.is_escaped) }
+    {
+        byte == b'"' && !self.is_escaped
+    }
+
+    // After this byte.
+    fn after(self, byte: u8) -> Strings
+        ensures escaped { result.is_escaped ≡ ((byte == 92) && not self.is_escaped) }
+        ensures inside { result.is_inside ≡ (if (byte == 34) && not self.is_escaped
+            then not self.is_inside else self.is_inside) }
+    {
+        Strings {
+            is_escaped: byte == b'\\' && !self.is_escaped,
+            is_inside: self.is_inside != self.is_quote(byte),
+        }
+    }
+}
+
+// The first control byte inside a string or the opening quote of the string that is left open; the
+// length where all strings are right.
+pub(super) fn bad_string(input: &[u8]) -> usize
+    ensures { result ≡ bad_string input.now }
+{
+    control_inside(input).min(open_quote(input))
+}
+
+// The first control byte inside a string, or the length.
+fn control_inside(input: &[u8]) -> usize
+    ensures { result ≡ first_index (is_control_inside input.now) input.now }
+{
+    let mut strings = Strings::NONE;
+    for (i, byte) in input.iter().enumerate() {
+        strings = strings.after(*byte);
+        if strings.is_inside && *byte < 0x20 {
+            return i;
+        }
+    }
+    input.len()
+}
+
+// The opening quote of the string that is left open, or the length.
+fn open_quote(input: &[u8]) -> usize
+    ensures { result ≡ first_index (is_left_open input.now) input.now }
+{
+    let mut strings = Strings::NONE;
+    let mut open = input.len();
+    for (i, byte) in input.iter().enumerate() {
+        let is_quote = strings.is_quote(*byte);
+        strings = strings.after(*byte);
+        if is_quote {
+            open = if strings.is_inside { i } else { input.len() };
+        }
+    }
+    open
+}

@@ -1,0 +1,139 @@
+//! Whether structural indexes are those of a value, within so many nested containers. Nothing is
+//! kept of it, and one error is as good as another.
+ghost use Rattle.std.specs.Prelude.{◌≡◌, ◌<◌, ◌≤◌, length, drop, slice_index, IfSome};
+ghost use Rattle.simd_json_check.specs.Scanned.{IsScanned};
+ghost use Rattle.simd_json_check.specs.Whole.{AreStringsRead, IsElements, IsMembers, IsValue};
+ghost use Rattle.simd_json_parts.specs.Bytes.{byte_at};
+
+use crate::scalars::is_scalar;
+
+// The first byte of the token with this structural index.
+#[inline(always)]
+#[tactic(auto, using(crate::proofs::Scans::within))]
+fn first_byte(input: &[u8], indexes: &[u32], at: usize) -> u8
+    requires scanned { IsScanned input.now indexes.now }
+    requires at { at < length indexes.now }
+    ensures { result ≡ byte_at input.now (slice_index indexes.now at) }
+{
+    input[indexes[at] as usize]
+}
+
+// The input from that token on.
+#[inline(always)]
+#[tactic(auto, using(crate::proofs::Scans::within))]
+fn from_token<'i>(input: &'i [u8], indexes: &[u32], at: usize) -> &'i [u8]
+    requires scanned { IsScanned input.now indexes.now }
+    requires at { at < length indexes.now }
+    ensures bytes { result.now ≡ drop (slice_index indexes.now at) input.now }
+    ensures some { 0 < length result.now }
+{
+    let at = indexes[at] as usize;
+    &input[at..]
+}
+
+// The number of the structural index after the value here, in which at most `levels` containers
+// are open at a time; none if there is no such value.
+#[inline(always)]
+#[cycle(nested)]
+pub(crate) fn value_end(input: &[u8], indexes: &[u32], at: usize, levels: usize) -> Option<usize>
+    requires scanned { IsScanned input.now indexes.now }
+    requires at { at < length indexes.now }
+    requires strings { AreStringsRead input.now indexes.now }
+    ensures value { IfSome result (IsValue input.now indexes.now levels at) }
+    ensures bounds { IfSome result (λ end. (at < end) × (end ≤ length indexes.now)) }
+{
+    let byte = first_byte(input, indexes, at);
+    if byte == b'"' {
+        return Some(at + 1);
+    }
+    if byte == b'{' {
+        if levels == 0 {
+            return None;
+        }
+        return object_end(input, indexes, at + 1, levels - 1);
+    }
+    if byte == b'[' {
+        if levels == 0 {
+            return None;
+        }
+        return array_end(input, indexes, at + 1, levels - 1);
+    }
+    if is_scalar(from_token(input, indexes, at)) {
+        Some(at + 1)
+    } else {
+        None
+    }
+}
+
+// The same after the elements from here on, and the bracket that closes them.
+#[inline(never)]
+#[cycle(nested)]
+fn array_end(input: &[u8], indexes: &[u32], start: usize, levels: usize) -> Option<usize>
+    requires scanned { IsScanned input.now indexes.now }
+    requires start { start ≤ length indexes.now }
+    requires strings { AreStringsRead input.now indexes.now }
+    ensures elements { IfSome result (IsElements input.now indexes.now levels start) }
+    ensures bounds { IfSome result (λ end. (start < end) × (end ≤ length indexes.now)) }
+{
+    let len = indexes.len();
+    if start == len {
+        return None;
+    }
+    if first_byte(input, indexes, start) == b']' {
+        return Some(start + 1);
+    }
+    let mut at = start;
+    while at < len {
+        let after = value_end(input, indexes, at, levels)?;
+        if after == len {
+            return None;
+        }
+        let byte = first_byte(input, indexes, after);
+        at = after + 1;
+        if byte == b']' {
+            return Some(at);
+        }
+        if byte != b',' {
+            return None;
+        }
+    }
+    None
+}
+
+// The same after the members.
+#[inline(never)]
+#[cycle(nested)]
+fn object_end(input: &[u8], indexes: &[u32], start: usize, levels: usize) -> Option<usize>
+    requires scanned { IsScanned input.now indexes.now }
+    requires start { start ≤ length indexes.now }
+    requires strings { AreStringsRead input.now indexes.now }
+    ensures members { IfSome result (IsMembers input.now indexes.now levels start) }
+    ensures bounds { IfSome result (λ end. (start < end) × (end ≤ length indexes.now)) }
+{
+    let len = indexes.len();
+    if start == len {
+        return None;
+    }
+    if first_byte(input, indexes, start) == b'}' {
+        return Some(start + 1);
+    }
+    let mut at = start;
+    while len - at > 3 {
+        if first_byte(input, indexes, at) != b'"' || first_byte(input, indexes, at + 1) != b':' {
+            return None;
+        }
+        let after = value_end(input, indexes, at + 2, levels)?;
+        if after == len {
+            return None;
+        }
+        let byte = first_byte(input, indexes, after);
+        at = after + 1;
+        if byte == b'}' {
+            return Some(at);
+        }
+        if byte != b',' {
+            return None;
+        }
+    }
+    None
+}

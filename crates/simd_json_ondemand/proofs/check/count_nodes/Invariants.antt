@@ -1,5 +1,0 @@
-use Rattle.std.proofs.Common.{[]}
-use Rattle.simd_json_ondemand.proofs.check.count_nodes.Given as goal
-
-abbrev pub ghost-of : goal.ghost-of
-ghost-of g a = []

@@ -1,9 +1,0 @@
-use Rattle.std.proofs.Common.{◌≤◌, ◌-◌, length}
-use Rattle.simd_json_stages.specs.EscapesAhead.{PlainFrom}
-use Rattle.simd_json_ondemand.proofs.escapes.backslash_or_end.Given as goal
-
-abbrev pub invariant-loop-at : goal.invariant-loop-at
-invariant-loop-at l = (l.from ≤ l.at) × (l.at ≤ l.end) × PlainFrom l.fn.input l.from l.at
-
-abbrev pub decreases-loop-at : goal.decreases-loop-at
-decreases-loop-at l = length l.fn.input - l.at
