@@ -23,6 +23,7 @@ macro_rules! assert_that {
 }
 
 mod characters;
+mod checks;
 mod errors;
 mod nodes;
 mod printing;
