@@ -50,6 +50,26 @@ wanted 'a pretty text that is too deep' 1 '' "DepthLimitExceeded at character 8 
 given '{"a":[1,{}]}' pretty 3
 wanted 'a pretty text within depth 3' 0 '{\n  "a": [\n    1,\n    {}\n  ]\n}\n' ''
 
+# nested PAIRS KILOBYTES: a compact document of as many arrays with an object inside, each in the one before, is printed as it
+# is with a stack of this size.
+nested() {
+    awk -v pairs="$1" 'BEGIN {
+        for (i = 0; i < pairs; i++) printf "[{\"\":"
+        printf "null"
+        for (i = 0; i < pairs; i++) printf "}]"
+        print ""
+    }' > "$room/nested"
+    (ulimit -s "$2" && exec "$program" compact "$((2 * $1))") < "$room/nested" > "$room/out" 2> "$room/err"
+    status=$?
+    [ "$status" = 0 ] && cmp -s "$room/nested" "$room/out" && [ ! -s "$room/err" ] && return
+    different=1
+    echo "$1 pairs of containers: status $status, wanted 0 and what was given"
+    sed 's/^/    standard error: /' "$room/err"
+}
+
+# A parse does not recurse, and a container takes about 11 bytes of the stack that prints it.
+nested 250000 6000
+
 # What is refused is reported, and nothing is written.
 for mode in tape positions compact pretty; do
     given '[1,]' "$mode"

@@ -1,6 +1,8 @@
 //! By what they test.
 use std::fmt::Debug;
+use std::fs;
 use std::process::Abort;
+use std::rt::Files;
 
 // `assert_eq!` and `assert!` as calls: a call is proved in far less time than the code that those
 // expand to.
@@ -30,6 +32,12 @@ mod printing;
 mod stage1;
 mod stage2;
 mod text;
+
+// Whether long tests take all of their inputs, and not a few: where the tests' folder has a file
+// `long`, as before a release (tests/long.sh).
+fn takes_all(rt: &(impl Files + Abort)) -> bool {
+    fs::exists(rt, "long").expect(rt, "the folder can be read")
+}
 
 fn same<T: PartialEq + Debug + Drop>(rt: &impl Abort, what: &str, found: T, wanted: T) {
     assert_eq!(rt; found, wanted, "{what}");

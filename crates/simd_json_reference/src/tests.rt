@@ -1,7 +1,9 @@
 use crate::reference;
 use simd_json::{Buffers, DEFAULT_MAX_DEPTH, Tape, fill_tape, to_tape};
 use std::alloc::Global;
+use std::fs;
 use std::process::Abort;
+use std::rt::Files;
 use std::test::Fail;
 
 mod changes;
@@ -9,6 +11,12 @@ mod mutations;
 mod tokens;
 
 type Tested = std::result::Result<(), Fail>;
+
+// Whether long tests take all of their inputs, and not a few: where the tests' folder has a file
+// `long`, as before a release (tests/long.sh).
+fn takes_all(rt: &(impl Files + Abort)) -> bool {
+    fs::exists(rt, "long").expect(rt, "the folder can be read")
+}
 
 // Short documents and rejected inputs of each sort, and one that is longer than a block of 64
 // bytes.

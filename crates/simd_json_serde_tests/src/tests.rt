@@ -2,7 +2,9 @@ use serde::DeserializeOwned;
 use simd_json_serde::{Error, from_slice_owned};
 use std::alloc::Global;
 use std::fmt::Debug;
+use std::fs;
 use std::process::Abort;
+use std::rt::Files;
 
 // `assert_eq!` and `assert!` as calls: a call is proved in far less time than the code that those
 // expand to.
@@ -31,6 +33,12 @@ mod types;
 mod writing;
 
 const MEMORY: &str = "there is memory";
+
+// Whether long tests take all of their inputs, and not a few: where the tests' folder has a file
+// `long`, as before a release (tests/long.sh).
+fn takes_all(rt: &(impl Files + Abort)) -> bool {
+    fs::exists(rt, "long").expect(rt, "the folder can be read")
+}
 
 fn same<T: PartialEq + Debug + Drop>(rt: &impl Abort, what: &str, found: T, wanted: T) {
     assert_eq!(rt; found, wanted, "{what}");

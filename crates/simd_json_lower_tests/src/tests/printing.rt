@@ -1,3 +1,4 @@
+use crate::tests::takes_all;
 use simd_json_parts::node::{Node, StaticNode};
 use simd_json_print::document::{
     append_compact, append_pretty, append_quoted, write_compact, write_pretty, write_quoted,
@@ -195,10 +196,13 @@ fn escapes_are_found_wherever_they_stand(rt: HostRuntime) -> std::result::Result
     Ok(())
 }
 
-// Far more containers than a call keeps open, of both kinds in turn: `[{"":[{"":..`.
+// Far more containers than a call keeps open, of both kinds in turn: `[{"":[{"":..`. A call takes
+// several times the stack where it is compiled with checks, so tests/long.sh gives it more; and
+// tests/statuses.sh has as deep a value printed as programs are built.
 #[test]
 fn deep_values_take_little_of_the_stack(rt: HostRuntime) -> std::result::Result<(), Fail> {
-    for pairs in [31, 32, 33, 100, 250_000usize] {
+    let most = if takes_all(&rt) { 250_000 } else { 20_000 };
+    for pairs in [31, 32, 33, 100, most] {
         let mut nodes = Vec::new(rt.alloc());
         for open in 0..pairs {
             let count = 3 * (pairs - open);

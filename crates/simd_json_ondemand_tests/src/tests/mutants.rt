@@ -1,7 +1,7 @@
 // Inputs that are changed at random, with a fixed seed, beside a tape.
-use super::MEMORY;
 use super::check::checked;
 use super::tape::{assert_integers, assert_others, assert_string};
+use super::{MEMORY, takes_all};
 use simd_json::{Tape, tape, to_tape};
 use simd_json_ondemand::{Index, Value};
 use std::process::Abort;
@@ -220,7 +220,8 @@ fn mutants_are_read_as_by_a_tape(rt: HostRuntime) {
     let mut index = Index::new(rt.alloc(), 0).expect(&rt, MEMORY);
     let mut text = Vec::new(rt.alloc());
     let mut documents = 0_usize;
-    for _ in 0..100_000 {
+    let mutants = if takes_all(&rt) { 100_000 } else { 2_000 };
+    for _ in 0..mutants {
         numbers.mutant(&mut text, &rt);
         let error = checked(&rt, &mut index, &text, 1024);
         let Ok(document) = index.find(&text) else {
@@ -233,5 +234,6 @@ fn mutants_are_read_as_by_a_tape(rt: HostRuntime) {
             documents = documents.saturating_add(1);
         }
     }
-    assert_that!(&rt; documents > 20_000 && documents < 80_000);
+    let fifth = mutants / 5;
+    assert_that!(&rt; documents > fifth && documents < mutants - fifth);
 }

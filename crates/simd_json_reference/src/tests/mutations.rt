@@ -1,5 +1,5 @@
 // Inputs that are changed at random, with a fixed seed.
-use crate::tests::{Kept, Tested, compare, inputs};
+use crate::tests::{Kept, Tested, compare, inputs, takes_all};
 use std::alloc::AllocError;
 
 // A sequence of numbers that looks random (xorshift, with a period of 2^64 - 1).
@@ -69,7 +69,8 @@ fn mutations_are_answered_as_by_the_reference(rt: HostRuntime) -> Tested {
     };
     let mut kept = Kept::new(rt.alloc())?;
     let mut text = Vec::new(rt.alloc());
-    for _ in 0..100_000 {
+    let mutations = if takes_all(&rt) { 100_000 } else { 2_000 };
+    for _ in 0..mutations {
         text.clear();
         // Often behind spaces, so that it lies across the end of a block.
         let spaces = numbers.below(2).saturating_mul(numbers.below(131));

@@ -1,6 +1,6 @@
 // The same types are read by `simd_json_serde` and by `serde_json`.
-use crate::tests::MEMORY;
 use crate::tests::types::{Command, Either, Folder, Message, Placed, Shape, Tweet, Wide};
+use crate::tests::{MEMORY, takes_all};
 use serde::{Deserialize, DeserializeOwned};
 use simd_json::{Buffers, Tape};
 use simd_json_serde::{Texts, read_owned};
@@ -153,16 +153,22 @@ fn maps_tuples_and_numbers_agree(rt: HostRuntime) {
     assert_same!(&rt; values_in::<(u8, String, Option<bool>)>(&rt, alloc, SCALARS), 1);
 }
 
-// 106,240 texts. A reader written in Python from RFC 8259 and the types counts as many values.
+// 106,240 texts, or the 8,448 with the change at each thirteenth place. A reader written in Python
+// from RFC 8259 and the types counts as many values.
 #[test]
 fn mutants_agree(rt: HostRuntime) {
     let alloc = rt.alloc();
+    let (step, tweet_values, wide_values) = if takes_all(&rt) {
+        (1, 8_811, 1_677)
+    } else {
+        (13, 659, 129)
+    };
     let tweets = one_line(&rt, alloc, TWEETS);
-    let tweets = mutants_of(&rt, alloc, &tweets);
-    assert_same!(&rt; values_in::<Vec<Tweet>>(&rt, alloc, &tweets), 8_811);
+    let tweets = mutants_of(&rt, alloc, &tweets, step);
+    assert_same!(&rt; values_in::<Vec<Tweet>>(&rt, alloc, &tweets), tweet_values);
     let wide = one_line(&rt, alloc, WIDE);
-    let wide = mutants_of(&rt, alloc, &wide);
-    assert_same!(&rt; values_in::<Wide>(&rt, alloc, &wide), 1_677);
+    let wide = mutants_of(&rt, alloc, &wide, step);
+    assert_same!(&rt; values_in::<Wide>(&rt, alloc, &wide), wide_values);
 }
 
 fn one_line(rt: &impl Abort, alloc: Global, lines: &str) -> String {
@@ -173,10 +179,11 @@ fn one_line(rt: &impl Abort, alloc: Global, lines: &str) -> String {
     text
 }
 
-// A line for each text with a character of ASCII put before one of its own, or in the place of one.
-fn mutants_of(rt: &impl Abort, alloc: Global, text: &str) -> String {
+// A line for each text with a character of ASCII put before one of its own, or in the place of one:
+// before the first and in its place, and so on by steps.
+fn mutants_of(rt: &impl Abort, alloc: Global, text: &str, step: usize) -> String {
     let mut lines = String::new(alloc);
-    for at in 0..text.len() {
+    for at in (0..text.len()).step_by(step) {
         for byte in 0..128u8 {
             push_mutant(rt, &mut lines, text, at, byte, at);
             push_mutant(rt, &mut lines, text, at, byte, at.saturating_add(1));

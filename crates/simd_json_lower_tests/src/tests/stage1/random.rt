@@ -1,6 +1,7 @@
 //! Random texts, which are read as slowly by the definition.
 use super::slow::found_slowly;
 use super::*;
+use crate::tests::takes_all;
 
 // A sequence of numbers that looks random (xorshift, with a period of 2^64 - 1).
 #[derive(Drop)]
@@ -95,14 +96,16 @@ fn bits_of(alloc: Global, marks: &[u32], len: usize) -> std::result::Result<Vec<
 
 #[test]
 fn agrees_on_random_texts(rt: HostRuntime) -> Tested {
-    agree(&rt, 0x9e37_79b9_7f4a_7c15, 200_000, 301, b"\\\"a ,\n")
+    let texts = if takes_all(&rt) { 200_000 } else { 2_000 };
+    agree(&rt, 0x9e37_79b9_7f4a_7c15, texts, 301, b"\\\"a ,\n")
 }
 
 // Few quotes and backslashes, so that most strings are not rejected.
 #[test]
 fn agrees_on_mostly_plain_texts(rt: HostRuntime) -> Tested {
     let bytes = b"aaaaaaaaaaaa        ,,,,::{}[]1234\t\r\\\"\"";
-    agree(&rt, 0x2545_f491_4f6c_dd1d, 20_000, 301, bytes)
+    let texts = if takes_all(&rt) { 20_000 } else { 2_000 };
+    agree(&rt, 0x2545_f491_4f6c_dd1d, texts, 301, bytes)
 }
 
 #[test]
@@ -111,16 +114,18 @@ fn agrees_on_all_bytes(rt: HostRuntime) -> Tested {
     for (byte, i) in bytes.iter_mut().zip(0..=u8::MAX) {
         *byte = i;
     }
-    agree(&rt, 0x1234_5678_9abc_def1, 50_000, 20, &bytes)?;
+    let texts = if takes_all(&rt) { 50_000 } else { 2_000 };
+    agree(&rt, 0x1234_5678_9abc_def1, texts, 20, &bytes)?;
     let ascii = bytes.get(..128).unwrap_or(&bytes);
-    agree(&rt, 0x0bad_cafe_dead_beef, 50_000, 301, ascii)
+    agree(&rt, 0x0bad_cafe_dead_beef, texts, 301, ascii)
 }
 
 // Over several windows.
 #[test]
 fn agrees_on_long_texts(rt: HostRuntime) -> Tested {
     let bytes = b"aaaaaaaaaaaa        ,,,,::{}[]1234\t\r\\\"\"";
-    agree(&rt, 0x7e57_7e57_7e57_7e57, 200, 50_000, bytes)
+    let texts = if takes_all(&rt) { 200 } else { 20 };
+    agree(&rt, 0x7e57_7e57_7e57_7e57, texts, 50_000, bytes)
 }
 
 // Strings of some hundred bytes, so that blocks are passed over.
@@ -128,5 +133,6 @@ fn agrees_on_long_texts(rt: HostRuntime) -> Tested {
 fn agrees_on_long_strings(rt: HostRuntime) -> Tested {
     let mut bytes = [b'a'; 600];
     bytes[..6].copy_from_slice(b"\"\\,{ 1");
-    agree(&rt, 0x1357_9bdf_0246_8ace, 100, 20_000, &bytes)
+    let texts = if takes_all(&rt) { 100 } else { 20 };
+    agree(&rt, 0x1357_9bdf_0246_8ace, texts, 20_000, &bytes)
 }
