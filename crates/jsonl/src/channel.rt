@@ -5,10 +5,21 @@ use std::io::{Read, Write};
 use std::marker::Model;
 
 /// A reader or a writer that records whether a call on it failed, and whether it ended. Only its
-/// own calls set these flags, [`failed`](Channel::failed) and [`ended`](Channel::ended).
+/// own calls set these flags, [`failed`](Channel::failed) and [`ended`](Channel::ended). Text is
+/// written to it as to any [`Target`].
 ///
-/// A [`Port`] is read and written only by [`run`](crate::run). This is for a program
-/// that does so itself: text is written to it as to any [`Target`].
+/// ```
+/// use jsonl::Channel;
+/// use simd_json_print::text::Text;
+/// use std::io::{self, Write};
+///
+/// // Writes [] and a line feed; later text can be written only if this has not failed.
+/// fn put_empty<W: Write>(out: &mut Channel<W>) -> io::Result<()> {
+///     let mut text = Text::<Channel<W>, 4096>::new(out);
+///     text.put(b"[]\n");
+///     text.finish()
+/// }
+/// ```
 #[derive(Drop)]
 pub struct Channel<T> {
     inner: T,
@@ -17,7 +28,7 @@ pub struct Channel<T> {
 }
 
 impl<T> Model for Channel<T> {
-    ghost use Rattle.jtape.specs.Ports.{Watched};
+    ghost use Rattle.jsonl.specs.Ports.{Watched};
 
     ghost Value = { Watched T };
 
@@ -109,56 +120,5 @@ impl<W: Write> Target for Channel<W> {
             _ => self.failed = true,
         }
         written
-    }
-}
-
-/// A reader or a writer for [`run`](crate::run) that records whether a call on it failed and
-/// whether it ended. Only the run's own calls set these flags, [`failed`](Port::failed) and
-/// [`ended`](Port::ended).
-#[derive(Drop)]
-pub struct Port<T> {
-    pub(crate) channel: Channel<T>,
-}
-
-impl<T> Model for Port<T> {
-    ghost use Rattle.jtape.specs.Ports.{Watched};
-
-    ghost Value = { Watched T };
-
-    ghost view = { λ port. port.channel };
-}
-
-impl<T> Port<T> {
-    ghost use Rattle.std.specs.Prelude.{◌≡◌, false};
-
-    /// A port that has neither failed nor ended.
-    pub fn new(inner: T) -> Port<T>
-        ensures { result ≡ record { inner = inner; failed = false; ended = false } }
-    {
-        Port {
-            channel: Channel::new(inner),
-        }
-    }
-
-    /// Whether a read or a write through the port returned an error, or a write wrote 0 bytes of a
-    /// non-empty buffer.
-    pub fn failed(&self) -> bool
-        ensures { result ≡ self.now.failed }
-    {
-        self.channel.failed()
-    }
-
-    /// Whether a read into a non-empty buffer returned 0.
-    pub fn ended(&self) -> bool
-        ensures { result ≡ self.now.ended }
-    {
-        self.channel.ended()
-    }
-
-    /// The reader or the writer.
-    pub fn into_inner(self) -> T
-        ensures { result ≡ self.inner }
-    {
-        self.channel.into_inner()
     }
 }

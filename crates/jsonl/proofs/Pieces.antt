@@ -2,9 +2,8 @@
 use Rattle.std.proofs.Common.{◌≡◌, ◌∙◌, ap, sym, ℕ, List, [], ◌∷◌, take, drop, Some, None}
 use Rattle.memchr.specs.Find.{IsFirstByte, is_byte}
 use Rattle.simd_json_parts.proofs.Pieces.{cut-at, uncut}
-pub use Rattle.simd_json_parts.proofs.Pieces.{has_none, is-equal, none-before, pieces-cut, pieces-last, pieces-some}
 use Rattle.simd_json_parts.specs.Bytes.{line_feed}
-use Rattle.jtape.specs.Pieces.{pieces}
+use Rattle.simd_json_parts.specs.Pieces.{pieces}
 
 pub found-cut : (hay piece after more : List ℕ) (k : ℕ) → IsFirstByte (is_byte line_feed) hay (Some k) → piece ≡ take k hay
     → after ≡ drop k hay → more ≡ drop 1 after → pieces hay ≡ piece ∷ pieces more
