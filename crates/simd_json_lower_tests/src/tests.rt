@@ -25,9 +25,11 @@ macro_rules! assert_that {
 mod characters;
 mod errors;
 mod nodes;
+mod numbers;
 mod printing;
 mod stage1;
 mod stage2;
+mod strings;
 mod text;
 
 fn same<T: PartialEq + Debug + Drop>(rt: &impl Abort, what: &str, found: T, wanted: T) {
