@@ -30,20 +30,20 @@ jtape: proved-jtape
 	@sh scripts/prove.sh jtape_main run $(cpu) -- tape < examples/nested-list.json
 	$(call put,jtape_main,jtape)
 
-jcheck: proved-jtape
-	@nice sh scripts/prove.sh jcheck run $(cpu) -- $(CURDIR)/examples/nested-list.json
-	$(call put,jcheck,jcheck)
+jcheck: proved-jcheck
+	@nice sh scripts/prove.sh jcheck_main run $(cpu) -- $(CURDIR)/examples/nested-list.json
+	$(call put,jcheck_main,jcheck)
 
 # It counts a document that is no object.
-log_report: proved-jtape
-	@sh scripts/prove.sh log_report run $(cpu) -- level < examples/nested-list.json
-	$(call put,log_report,log_report)
+log_report: proved-log_report
+	@sh scripts/prove.sh log_report_main run $(cpu) -- level < examples/nested-list.json
+	$(call put,log_report_main,log_report)
 build/log_report: log_report
 
 # It prints the second value of the array.
-jpick: proved-jtape
-	@sh scripts/prove.sh jpick run $(cpu) -- /1 < examples/nested-list.json
-	$(call put,jpick,jpick)
+jpick: proved-jpick
+	@sh scripts/prove.sh jpick_main run $(cpu) -- /1 < examples/nested-list.json
+	$(call put,jpick_main,jpick)
 build/jpick: jpick
 
 # proved-CRATE: a library is proved after those that it stands on, which crates.txt names, and beside all others.
@@ -55,8 +55,8 @@ proved-$(1): has-rt $(patsubst %,proved-%,$(filter $(crates),$(shell sed -n 's/^
 endef
 $(foreach crate,$(crates),$(eval $(call proved,$(crate))))
 
-# All else waits longest for simd_json_stages, so these leave the processors to it.
-proved-simd_json_theorems proved-simd_json_print: private nice = nice
+# All else waits longest for simd_json_stages, and then for simd_json, so these leave the processors to them.
+proved-simd_json_theorems proved-simd_json_print proved-jcheck: private nice = nice
 
 # The version, which the header has, and its first number.
 version := $(shell awk '/define SIMD_JSON_VERSION_(MAJOR|MINOR|PATCH)/ { v = v s $$3; s = "." } END { print v }' include/simd_json.h)

@@ -9,7 +9,7 @@ room=$(mktemp -d) || exit 1
 trap 'rm -rf "$room"' EXIT
 mkdir "$room/build"
 ln -s "$top/examples" "$room/examples"
-for program in jtape_main:jtape jcheck:jcheck jpick:jpick log_report:log_report; do
+for program in jtape_main:jtape jcheck_main:jcheck jpick_main:jpick log_report_main:log_report; do
     built=$top/crates/${program%:*}/out/${program%:*}
     [ -x "$built" ] || { echo "$built is not there: run make test" >&2; exit 1; }
     ln -s "$built" "$room/build/${program#*:}"

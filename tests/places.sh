@@ -5,7 +5,7 @@
 #
 # usage: sh tests/places.sh [PROGRAM]
 set -u
-program=${1:-$(dirname "$0")/../crates/jcheck/out/jcheck}
+program=${1:-$(dirname "$0")/../crates/jcheck_main/out/jcheck_main}
 [ -x "$program" ] || { echo "$program is not there: run make test" >&2; exit 1; }
 room=$(mktemp -d) || exit 1
 trap 'rm -rf "$room"' EXIT

@@ -5,7 +5,7 @@
 # usage: sh tests/statuses.sh [JTAPE [LOG_REPORT [JPICK]]]
 set -u
 program=${1:-$(dirname "$0")/../crates/jtape_main/out/jtape_main}
-log_report=${2:-$(dirname "$0")/../crates/log_report/out/log_report}
+log_report=${2:-$(dirname "$0")/../crates/log_report_main/out/log_report_main}
 for built in "$program" "$log_report"; do
     [ -x "$built" ] || { echo "$built is not there: run make test" >&2; exit 1; }
 done
@@ -217,7 +217,7 @@ closed '{"k":1}\n[1,]\n'
 wanted 'a closed report, and a rejected line' 1 '' "line 2: InternalError at character 3 (']')\n"
 
 # Fields of lines.
-program=${3:-$(dirname "$0")/../crates/jpick/out/jpick}
+program=${3:-$(dirname "$0")/../crates/jpick_main/out/jpick_main}
 [ -x "$program" ] || { echo "$program is not there: run make test" >&2; exit 1; }
 given '{"a":"x"}\n \n{"a":2}' /a
 wanted 'fields' 0 '"x"\n2\n' ''

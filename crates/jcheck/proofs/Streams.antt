@@ -16,9 +16,9 @@ use Rattle.jcheck.specs.Streams.{AreDone, EndsLines, Stops, Takes, bytes_of}
 use Rattle.jcheck.specs.Writings.{HasLeftOff, HasStopped}
 use Rattle.jcheck.specs.declared.excerpt.Style.{Style}
 use Rattle.jcheck.specs.declared.lines.Lines.{Lines}
-use Rattle.jtape.proofs.Pieces.{is-equal, pieces-some}
-use Rattle.jtape.specs.Pieces.{pieces}
-use Rattle.jtape.specs.Ports.{Watched}
+use Rattle.jsonl.specs.Ports.{Watched}
+use Rattle.simd_json_parts.proofs.Pieces.{is-equal, pieces-some}
+use Rattle.simd_json_parts.specs.Pieces.{pieces}
 use Rattle.simd_json_parts.specs.Pieces.{with_first}
 use Rattle.memchr.specs.Find.{IsLastByte, is_byte}
 use Rattle.simd_json_parts.specs.Bytes.{line_feed}

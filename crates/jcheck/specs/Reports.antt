@@ -5,7 +5,7 @@ use Rattle.std.specs.Fmt.{decimal}
 use Rattle.jcheck.specs.Excerpts.{excerpt}
 use Rattle.jcheck.specs.Places.{error_in}
 use Rattle.jcheck.specs.declared.excerpt.Style.{Style}
-use Rattle.jtape.specs.Pieces.{is_blank}
+use Rattle.simd_json_parts.specs.Pieces.{is_blank}
 use Rattle.simd_json_check.specs.Messages.{reason_text}
 use Rattle.simd_json_check.specs.declared.location.Location.{Location}
 use Rattle.simd_json_parts.specs.Bytes.{line_feed}

@@ -7,8 +7,8 @@ use Rattle.jcheck.specs.Reports.{is_clean_line, lines_text}
 use Rattle.jcheck.specs.Writings.{HasStopped}
 use Rattle.jcheck.specs.declared.excerpt.Style.{Style}
 use Rattle.jcheck.specs.declared.lines.Lines.{Lines}
-use Rattle.jtape.specs.Pieces.{pieces}
-use Rattle.jtape.specs.Ports.{Watched}
+use Rattle.jsonl.specs.Ports.{Watched}
+use Rattle.simd_json_parts.specs.Pieces.{pieces}
 use Rattle.simd_json_parts.specs.Bytes.{line_feed}
 
 -- how many bytes lines have, with a line feed after each

@@ -6,14 +6,14 @@ ghost use Rattle.std.specs.List.{list_all};
 ghost use Rattle.jcheck.specs.Reports.{is_clean_line, line_text, lines_text};
 ghost use Rattle.jcheck.specs.Streams.{EndsLines, Stops, Takes};
 ghost use Rattle.jcheck.specs.Writings.{HasLeftOff, HasPart, HasStopped};
-ghost use Rattle.jtape.specs.Pieces.{pieces};
-ghost use Rattle.jtape.specs.Runs.{HasRead};
+ghost use Rattle.jsonl.specs.Ports.{HasRead};
+ghost use Rattle.simd_json_parts.specs.Pieces.{pieces};
 ghost use Rattle.simd_json_print.specs.Texts.{Adds};
 
 use crate::checker::Checker;
 use crate::excerpt::Style;
 use crate::report::{FilePlace, PIECE};
-use jtape::Channel;
+use jsonl::Channel;
 use memchr::{memchr, memrchr};
 use simd_json_parts::charutils::is_blank;
 use simd_json_print::text::{Target, Text};
@@ -269,6 +269,3 @@ fn put_line<T: Target, const SIZE: usize>(
     place.put(checker.alloc(), text, line, &location, style)?;
     Ok(false)
 }
-
-#[cfg(test)]
-mod tests;

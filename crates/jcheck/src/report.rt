@@ -11,7 +11,7 @@ ghost use Rattle.simd_json_print.specs.Texts.{Adds};
 
 use crate::checker::Checker;
 use crate::excerpt::{Style, put_excerpt};
-use jtape::Channel;
+use jsonl::Channel;
 use simd_json_check::Location;
 use simd_json_print::text::{Target, Text};
 use std::alloc::{AllocError, Global};
@@ -203,6 +203,3 @@ impl FilePlace<'_> {
         format!(in alloc; "{file}:{line}:{column}: {reason} [{kind} at byte {byte}]\n")
     }
 }
-
-#[cfg(test)]
-mod tests;

@@ -1,7 +1,7 @@
 -- What the answer of a line is.
 use Rattle.std.proofs.Common.{◌≡◌, ◌∙◌, ap, sym, subst, inl, inr, ℕ, ◌≤◌, List, length, false, Some, Result, Ok, Err}
 use Rattle.std.specs.Result.{result_err}
-use Rattle.jtape.specs.Pieces.{is_blank}
+use Rattle.simd_json_parts.specs.Pieces.{is_blank}
 use Rattle.simd_json.proofs.Views.Listed.{known}
 use Rattle.simd_json_check.specs.Capacities.{default_max_depth}
 use Rattle.simd_json.specs.Memory.{HasMemory}

@@ -8,8 +8,8 @@ use Rattle.std.proofs.lemmas.Bool.{ltb-false, ltb-true}
 use Rattle.std.proofs.lemmas.List.{drop-drop, length-take, take-append-le}
 use Rattle.std.specs.Io.KnownBytes.{Appends}
 use Rattle.memchr.specs.Find.{IsFirstByte, is_byte}
-use Rattle.jtape.proofs.Pieces.{has_none, is-equal, none-before, pieces-cut, pieces-last}
-use Rattle.jtape.specs.Pieces.{pieces}
+use Rattle.simd_json_parts.proofs.Pieces.{has_none, is-equal, none-before, pieces-cut, pieces-last}
+use Rattle.simd_json_parts.specs.Pieces.{pieces}
 use Rattle.simd_json_parts.specs.Bytes.{line_feed}
 use Rattle.jpick.specs.Picked.{Picked, no_line, picked_of, with_line, with_lines}
 use Rattle.jpick.specs.Runs.{Begins, State, after}

@@ -3,8 +3,8 @@ use Rattle.std.proofs.Common.{◌≡◌, ◌∙◌, ap, sym, subst, ℕ, ◌<◌
 use Rattle.std.proofs.Common.{Bool, cond, Option, None}
 use Rattle.std.specs.Io.KnownBytes.{Appends}
 use Rattle.std.proofs.lemmas.Bool.{lt-ltb, le-ltb}
-use Rattle.jtape.specs.Pieces.{is_blank}
-use Rattle.jtape.specs.Ports.{Watched}
+use Rattle.simd_json_parts.specs.Pieces.{is_blank}
+use Rattle.jsonl.specs.Ports.{Watched}
 use Rattle.simd_json.specs.Capacities.{Capacities}
 use Rattle.simd_json_check.specs.Capacities.{default_max_depth}
 use Rattle.simd_json.specs.Reserved.{IsReserved}

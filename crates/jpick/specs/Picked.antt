@@ -2,7 +2,7 @@
 use Rattle.std.specs.Prelude.{ℕ, ◌+◌, ◌-◌, ◌^◌, min, List, [], ◌∷◌, ◌++◌, codes, length, nat_lt, Bool, true, false, Option, None, Some}
 use Rattle.std.specs.Prelude.{Result, Ok, Err, if◌then◌else◌}
 use Rattle.std.specs.Fmt.{decimal}
-use Rattle.jtape.specs.Pieces.{pieces, is_blank}
+use Rattle.simd_json_parts.specs.Pieces.{pieces, is_blank}
 use Rattle.simd_json_check.specs.Capacities.{default_max_depth}
 use Rattle.simd_json_check.specs.Messages.{reason_text}
 use Rattle.simd_json_check.specs.Reasons.{location_of}

@@ -2,7 +2,7 @@
 use Rattle.std.specs.Prelude.{◌≡◌, ◌↔◌, ◌⊎◌, ◌||◌, ◌+◌, ◌++◌, ℕ, List, [], ◌∷◌, take, Bool, true, false, ◌==◌, Option}
 use Rattle.std.specs.Prelude.{OnOk, IfErr, IsErrAnd, Result, Ok, Err, MatchResult, if◌then◌else◌}
 use Rattle.std.specs.Io.KnownBytes.{Appends, Consumes, IsAtEnd}
-use Rattle.jtape.specs.Ports.{Watched}
+use Rattle.jsonl.specs.Ports.{Watched}
 use Rattle.simd_json_check.specs.Capacities.{default_max_depth}
 use Rattle.simd_json.specs.Reserved.{IsReserved}
 use Rattle.simd_json_parts.specs.Bytes.{line_feed}

@@ -8,7 +8,7 @@ ghost use Rattle.jpick.specs.Runs.{IsRowsFault, IsStart, PicksValue, TakesBlock,
 use crate::fields::{Wanted, append_row, is_picked};
 use crate::runs::Failure;
 use arrayvec::ArrayVec;
-use jtape::Channel;
+use jsonl::Channel;
 use simd_json::tape::Value;
 use simd_json::{Buffers, Error, Location, Tape, refill_tape, reserve};
 use simd_json_parts::charutils::is_blank;

@@ -6,7 +6,7 @@ ghost use Rattle.jpick.specs.declared.runs.Failure.TheVariants.{Resources};
 
 use crate::fields::Wanted;
 use crate::lines::Picker;
-use jtape::Channel;
+use jsonl::Channel;
 use std::alloc::{AllocError, Allocator};
 use std::io::{Read, Write};
 
@@ -83,6 +83,3 @@ pub fn run<A: Allocator + Copy, R: Read, W: Write, E: Write>(
     }
     Err(Failure::Resources)
 }
-
-#[cfg(test)]
-mod tests;

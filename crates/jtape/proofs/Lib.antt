@@ -2,5 +2,4 @@ mod NumberWords
 pub mod Given
 mod Layouts
 mod Outputs
-pub mod Pieces
 mod Streams

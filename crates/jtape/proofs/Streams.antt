@@ -13,7 +13,7 @@ use Rattle.jtape.specs.Runs.{lacks_memory}
 use Rattle.jtape.specs.Streams.{HasPut, StopsWithin}
 use Rattle.jtape.specs.declared.runs.RunFault.{RunFault}
 use Rattle.jtape.specs.declared.runs.RunFault.TheVariants.{Write}
-use Rattle.jtape.proofs.Pieces.{pieces-some}
+use Rattle.simd_json_parts.proofs.Pieces.{pieces-some}
 use Rattle.simd_json_print.specs.Texts.{TargetState, IsUnsent, failed_or, HasGiven, Adds, HasEnded}
 use Rattle.simd_json_print.specs.declared.text.Text.{Text}
 use Rattle.simd_json_print.proofs.Texts.{appends-none, adds-none, adds-is, adds-then, adds-lost, Ends, ended-sound, ended-failed}

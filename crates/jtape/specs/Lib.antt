@@ -2,7 +2,6 @@ pub mod Failures
 pub mod Lines
 pub mod Output
 pub mod Pieces
-pub mod Ports
 pub mod Runs
 pub mod Settings
 pub mod Streams

@@ -1,6 +1,7 @@
 -- What a run of the program leaves.
 use Rattle.std.specs.Prelude.{◌≡◌, ◌⊎◌, ◌∷◌, ◌++◌, ℕ, List, take, ⊤, true, false, Bool, Option, Result, Ok, Err}
-use Rattle.std.specs.Io.KnownBytes.{Appends, Consumes, IsAtEnd}
+use Rattle.std.specs.Io.KnownBytes.{Appends}
+use Rattle.jsonl.specs.Ports.{HasRead}
 use Rattle.jtape.specs.Output.{output}
 use Rattle.jtape.specs.Pieces.{pieces, pieces_text}
 use Rattle.jtape.specs.declared.runs.RunFault.{RunFault}
@@ -11,11 +12,6 @@ use Rattle.simd_json_parts.specs.declared.error.ErrorType.TheVariants.{OutOfMemo
 
 abbrev pub lacks_memory : RunFault
 lacks_memory = Refused (whole_fault OutOfMemory)
-
--- a reader with these bytes left before and after was read to its end, and gave this input
-pub record HasRead (before after : Option (List ℕ)) (input : List ℕ) : Type 0 where
-  pub given : Consumes before after input
-  pub end : IsAtEnd after
 
 -- Of such a reader, and a writer that held and holds these: the output of the input was written and returned.
 pub record HasRun (mode : Mode) (depth : ℕ) (before after held holds : Option (List ℕ)) (result : Result Bool RunFault) : Type 0 where

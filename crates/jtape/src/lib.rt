@@ -22,14 +22,17 @@
 //! The program is a crate of its own, `jtape_main`, since a crate is either a library or a program.
 #![tactic(auto)]
 
-mod channel;
+mod failure;
 mod lines;
 mod output;
+mod port;
 mod positions;
 mod runs;
 mod stream;
 mod words;
 
-pub use channel::{Channel, Port};
+pub use failure::{Failure, exit_status, requested};
+pub use jsonl::Channel;
+pub use port::Port;
 pub use runs::{Answer, RunFault, run, status};
 pub use words::{Mode, number_named, settings};

@@ -10,11 +10,11 @@ ghost use Rattle.simd_json_parts.specs.Listing.{listing};
 ghost use Rattle.simd_json_parts.specs.Nodes.{item_of};
 ghost use Rattle.simd_json_parts.specs.Positions.{positions};
 
-use crate::channel::Channel;
 use crate::lines::put_lines;
 use crate::positions::put_positions;
 use crate::runs::RunFault;
 use crate::words::Layout;
+use jsonl::Channel;
 use simd_json::{Buffers, Node, to_tape_with_buffers};
 use simd_json_print::document::{put_compact, put_pretty};
 use simd_json_print::text::Text;

@@ -2,16 +2,18 @@
 ghost use Rattle.std.specs.Prelude.{◌≡◌, ◌≢◌, ◌↔◌, ◌⊎◌, ◌<◌, ℕ, List, Option, length};
 ghost use Rattle.std.specs.Prelude.{true, false, IfOk, IfErr, OnOk, Err};
 ghost use Rattle.std.specs.Io.KnownBytes.{Consumes, IsAtEnd, Keeps};
+ghost use Rattle.jsonl.specs.Ports.{HasRead};
 ghost use Rattle.jtape.specs.Failures.{run_status};
-ghost use Rattle.jtape.specs.Runs.{HasRead, HasRun, HasBegun, HasStopped, IsReadFault, OnAnswer};
+ghost use Rattle.jtape.specs.Runs.{HasRun, HasBegun, HasStopped, IsReadFault, OnAnswer};
 ghost use Rattle.jtape.specs.Runs.{lacks_memory};
 ghost use Rattle.jtape.specs.declared.runs.RunFault.TheVariants as faults;
 ghost use Rattle.jtape.specs.declared.words.Mode.TheVariants as modes;
 
-use crate::channel::{Channel, Port};
 use crate::output::write_output;
+use crate::port::Port;
 use crate::stream::write_stream;
 use crate::words::Mode;
+use jsonl::Channel;
 use simd_json::Error;
 use std::alloc::{AllocError, Allocator};
 use std::fmt;

@@ -16,9 +16,9 @@ ghost use Rattle.simd_json_parts.specs.Bytes.{line_feed};
 ghost use Rattle.simd_json_parts.specs.declared.error.ErrorType.TheVariants as errors;
 ghost use Rattle.simd_json_print.specs.Texts.{Adds};
 
-use crate::channel::Channel;
 use crate::output::PIECE;
 use crate::runs::RunFault;
+use jsonl::Channel;
 use memchr::memchr;
 use simd_json::{Buffers, Error, ErrorType, Tape, fill_tape};
 use simd_json_parts::charutils::is_blank;

@@ -1,12 +1,9 @@
 //! `jtape MODE [DEPTH]` reads one JSON document from standard input, or JSON Lines, and prints it
-//! in the form of the mode. The library `jtape` reads and writes; here are the arguments, the line
-//! on standard error and the status.
+//! in the form of the mode. The library `jtape` does all but this: it takes the arguments from the
+//! host, and gives the host the line on standard error and the status.
 #![tactic(auto)]
 
-mod failure;
-
-use failure::{Failure, exit_status, requested};
-use jtape::{Port, run};
+use jtape::{Failure, Port, exit_status, requested, run};
 use std::process::ExitCode;
 use std::{env, io};
 

@@ -29,6 +29,7 @@ macro_rules! assert_that {
 
 mod depth;
 mod ends;
+mod failures;
 mod growths;
 mod known;
 mod lines;

@@ -7,8 +7,8 @@ use Rattle.std.proofs.Math.Seq.{take-append-add, take-length}
 use Rattle.std.proofs.lemmas.Bool.{ltb-false, ltb-true}
 use Rattle.std.proofs.lemmas.List.{drop-drop, length-take, take-append-le}
 use Rattle.memchr.specs.Find.{IsFirstByte, is_byte}
-use Rattle.jtape.proofs.Pieces.{has_none, is-equal, none-before, pieces-cut, pieces-last}
-use Rattle.jtape.specs.Pieces.{pieces}
+use Rattle.simd_json_parts.proofs.Pieces.{has_none, is-equal, none-before, pieces-cut, pieces-last}
+use Rattle.simd_json_parts.specs.Pieces.{pieces}
 use Rattle.simd_json_parts.specs.Bytes.{line_feed}
 use Rattle.log_report.specs.Report.{Report, with_line, with_lines, with_part}
 use Rattle.log_report.specs.Runs.{Begins, State, after}

@@ -1,12 +1,12 @@
 -- Inputs of which the first were read.
 use Rattle.std.proofs.Common.{◌≡◌, ◌∙◌, refl, ap, sym, subst, arith, ℕ, zero, suc, ◌<◌, List, [], ◌∷◌, ◌++◌, length, set, get_or}
 use Rattle.std.proofs.Common.{Bool, true, false, ◌||◌, Option}
-use Rattle.jtape.specs.Ports.{Watched}
+use Rattle.jsonl.specs.Ports.{Watched}
 use Rattle.log_report.specs.Report.{Part, Report, report_of, with_part, with_parts}
 use Rattle.log_report.specs.Runs.{AreRead, IsRead, Shows, has_failed}
 use Rattle.log_report.specs.declared.lines.Lines.{Lines}
 use Rattle.log_report.specs.declared.rows.Wanted.{Wanted}
-use Rattle.log_report.specs.declared.run.Input.{Input}
+use Rattle.log_report.specs.declared.runs.Input.{Input}
 
 pub parts-more : (w : Wanted) (r : Report) (parts : List Part) (part : Part)
     → with_parts w r (parts ++ part ∷ []) ≡ with_part w (with_parts w r parts) part

@@ -2,7 +2,7 @@ mod Answered
 mod Begun
 mod Cuts
 mod Feeds
-mod Inputs
+pub mod Inputs
 mod Orders
 mod Places
 mod Reported

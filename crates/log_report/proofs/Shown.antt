@@ -2,7 +2,7 @@
 use Rattle.std.proofs.Common.{◌≡◌, ◌∙◌, ap, sym, subst, ℕ, ◌<◌, ◌≤◌, List, length, Bool, cond, Option, None}
 use Rattle.std.specs.Io.KnownBytes.{Appends}
 use Rattle.std.proofs.lemmas.Bool.{lt-ltb, le-ltb}
-use Rattle.jtape.specs.Pieces.{is_blank}
+use Rattle.simd_json_parts.specs.Pieces.{is_blank}
 use Rattle.simd_json_check.specs.Capacities.{default_max_depth}
 use Rattle.simd_json_parts.specs.Answer.{answer}
 use Rattle.simd_json_parts.specs.declared.error.Error.{Error}
@@ -10,7 +10,7 @@ use Rattle.simd_json_print.proofs.Texts.{appends-then}
 use Rattle.log_report.specs.Report.{Report, next, rejection_line, with_answer, with_line, with_rejection}
 use Rattle.log_report.specs.Runs.{CountsMore, Begins, IsRejection, Shows}
 use Rattle.log_report.specs.Table.{counted, one_more, rejected}
-use Rattle.jtape.specs.Ports.{Watched}
+use Rattle.jsonl.specs.Ports.{Watched}
 use Rattle.simd_json.specs.Capacities.{Capacities}
 use Rattle.simd_json.specs.Reserved.{IsReserved}
 use Rattle.simd_json.specs.Tapes.{Listed}

@@ -2,7 +2,7 @@
 use Rattle.std.specs.Prelude.{◌≡◌, ◌↔◌, ◌||◌, ◌+◌, ◌++◌, ℕ, List, [], ◌∷◌, length, take, map, Bool, true, false, ◌==◌, Option}
 use Rattle.std.specs.Prelude.{OnOk, IfErr, IsErrAnd, Result, Ok, Err, MatchResult, Vec, if◌then◌else◌}
 use Rattle.std.specs.Io.KnownBytes.{Appends, Consumes, IsAtEnd, Keeps}
-use Rattle.jtape.specs.Ports.{Watched}
+use Rattle.jsonl.specs.Ports.{Watched}
 use Rattle.simd_json_check.specs.Capacities.{default_max_depth}
 use Rattle.simd_json.specs.Reserved.{IsReserved}
 use Rattle.simd_json_parts.specs.Document.{Document}
@@ -15,7 +15,7 @@ use Rattle.log_report.specs.declared.failure.Failure.{Failure}
 use Rattle.log_report.specs.declared.failure.Failure.TheVariants.{Read, Write, Closed, Resources}
 use Rattle.log_report.specs.declared.lines.Lines.{Lines}
 use Rattle.log_report.specs.declared.rows.Wanted.{Wanted}
-use Rattle.log_report.specs.declared.run.Input.{Input}
+use Rattle.log_report.specs.declared.runs.Input.{Input}
 
 -- Of an input before and after a run, of whose reader this is known: it has this label, and these bytes were read, to the end if all were.
 pub record IsRead {R : Type 0} (remaining : R → Option (List ℕ)) (all : Bool) (i j : Input R) (part : Part) : Type 0 where

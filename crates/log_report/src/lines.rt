@@ -11,7 +11,7 @@ use crate::failure::Failure;
 use crate::rows::{Row, Wanted, append_row};
 use arrayvec::ArrayVec;
 use indexmap::IndexMap;
-use jtape::Channel;
+use jsonl::Channel;
 use simd_json::tape::Value;
 use simd_json::{Buffers, Error, StaticNode, Tape, refill_tape, reserve};
 use simd_json_parts::charutils::is_blank;

@@ -28,9 +28,11 @@ mod characters;
 mod checks;
 mod errors;
 mod nodes;
+mod numbers;
 mod printing;
 mod stage1;
 mod stage2;
+mod strings;
 mod text;
 
 // Whether long tests take all of their inputs, and not a few: where the tests' folder has a file

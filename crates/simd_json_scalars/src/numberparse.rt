@@ -13,8 +13,6 @@ mod integers;
 mod look;
 mod plain;
 mod short;
-#[cfg(test)]
-mod tests;
 
 pub use integers::{integer_node, parse_long};
 pub use short::parse_short;

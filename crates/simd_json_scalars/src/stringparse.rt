@@ -10,8 +10,6 @@ ghost use Rattle.simd_json_scalars.specs.StringDecoded.{IsOpen, IsDecoded, IsLef
 ghost use Rattle.simd_json_scalars.specs.StringRead.{IsStringAt};
 
 mod escapes;
-#[cfg(test)]
-mod tests;
 
 pub use escapes::escape;
 use escapes::unescape_one;

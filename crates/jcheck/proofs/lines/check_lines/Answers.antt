@@ -8,7 +8,7 @@ use Rattle.jcheck.proofs.lines.check_lines.Goals as goal
 use Rattle.jcheck.specs.Reports.{is_clean_line, lines_text}
 use Rattle.jcheck.specs.Streams.{AreDone}
 use Rattle.jcheck.specs.Writings.{HasLeftOff, HasStopped}
-use Rattle.jtape.specs.Pieces.{pieces}
+use Rattle.simd_json_parts.specs.Pieces.{pieces}
 
 pub returns-in_err-count-clause-stopped : goal.returns-in_err-count-clause-stopped
 returns-in_err-count-clause-stopped g c =

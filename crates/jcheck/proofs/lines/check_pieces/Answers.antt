@@ -5,7 +5,7 @@ use Rattle.jcheck.proofs.Written.{all-written, failed-written, part-written, por
 use Rattle.simd_json_print.proofs.Texts.{sound-text}
 use Rattle.jcheck.proofs.lines.check_pieces.Goals as goal
 use Rattle.jcheck.specs.Reports.{lines_text}
-use Rattle.jtape.specs.Pieces.{pieces}
+use Rattle.simd_json_parts.specs.Pieces.{pieces}
 
 pub returns-in_err-finish-clause-stopped : goal.returns-in_err-finish-clause-stopped
 returns-in_err-finish-clause-stopped g c =

@@ -2,9 +2,9 @@ use Rattle.std.proofs.Common.{◌∙◌, ◌+◌, [], ap, arith, drop, length, r
 use Rattle.std.proofs.lemmas.Result.{err_from_is_err_and}
 use Rattle.jcheck.proofs.Puts.{all-put, and-true, clean-more, line-done, none-done, others-lost, part-put}
 use Rattle.jcheck.proofs.lines.put_lines.Goals as goal
-use Rattle.jtape.proofs.Pieces.{found-cut, not_found-last}
+use Rattle.jsonl.proofs.Pieces.{found-cut, not_found-last}
 use Rattle.jcheck.specs.Reports.{is_clean_line, lines_text}
-use Rattle.jtape.specs.Pieces.{pieces}
+use Rattle.simd_json_parts.specs.Pieces.{pieces}
 use Rattle.std.specs.List.{list_all}
 
 pub loop-end-init : goal.loop-end-init

@@ -4,7 +4,7 @@ use Rattle.std.specs.List.{list_all}
 use Rattle.jcheck.specs.Reports.{is_clean_line, lines_text}
 use Rattle.jcheck.proofs.Puts.{IsDone}
 use Rattle.jcheck.proofs.lines.put_lines.Given as goal
-use Rattle.jtape.specs.Pieces.{pieces}
+use Rattle.simd_json_parts.specs.Pieces.{pieces}
 
 abbrev pub invariant-loop-end : goal.invariant-loop-end
 invariant-loop-end g l = record {

@@ -4,7 +4,7 @@ use Rattle.std.specs.List.{list_all}
 use Rattle.jcheck.proofs.Streams.{ends-lines}
 use Rattle.jcheck.proofs.lines.Lines.end.Goals as goal
 use Rattle.jcheck.specs.Reports.{is_clean_line, lines_text}
-use Rattle.jtape.specs.Pieces.{pieces}
+use Rattle.simd_json_parts.specs.Pieces.{pieces}
 
 pub returns-clause-taken : goal.returns-clause-taken
 returns-clause-taken g c =

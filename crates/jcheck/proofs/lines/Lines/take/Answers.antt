@@ -5,7 +5,7 @@ use Rattle.jcheck.proofs.lines.Lines.take.Goals as goal
 use Rattle.jcheck.specs.Reports.{lines_text}
 use Rattle.jcheck.specs.Writings.{HasStopped}
 use Rattle.jcheck.specs.declared.lines.Lines.{Lines}
-use Rattle.jtape.specs.Pieces.{pieces}
+use Rattle.simd_json_parts.specs.Pieces.{pieces}
 use Rattle.simd_json_parts.specs.Bytes.{line_feed}
 
 pub returns-in_err-extend_from_slice-clause-stopped :

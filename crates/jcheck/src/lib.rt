@@ -1,0 +1,43 @@
+//! Whether texts are JSON documents, and where and why one is not, with the text around that place.
+//!
+//! - [`check_document`]: of an input that is one document.
+//! - [`check_lines`]: of each line of what a reader gives.
+//! - [`check_each`]: of files one after another; the worst that one of them [`Ended`] with.
+//! - [`asked`]: what the program's arguments ask for.
+//!
+//! ```
+//! use jcheck::{Checker, Style, check_document};
+//! use jsonl::Channel;
+//! use std::io;
+//!
+//! fn report(rt: &impl AllocGlobal, json: &[u8]) -> io::Result<Vec<u8>> {
+//!     let mut checker = Checker::new(rt.alloc(), 1024)?;
+//!     let mut out = Channel::new(Vec::new(rt.alloc()));
+//!     let style = Style { width: 80, is_colored: false };
+//!     check_document(&mut checker, &mut out, "f", json, style)?;
+//!     Ok(out.into_inner())
+//! }
+//! ```
+//!
+//! For `[1,x]` it returns three lines:
+//!
+//! ```text
+//! f:1:4: expected a value, found `x` [InternalError at byte 3]
+//! [1,x]
+//!    ^
+//! ```
+//!
+//! The program is a crate of its own, `jcheck_main`.
+#![tactic(auto)]
+
+mod checker;
+mod excerpt;
+mod lines;
+mod options;
+mod report;
+
+pub use checker::Checker;
+pub use excerpt::Style;
+pub use lines::check_lines;
+pub use options::{Options, asked};
+pub use report::{Ended, check_document, check_each, is_closed};

@@ -1,0 +1,125 @@
+//! `jcheck [--depth N] [--lines] [--color WHEN] [FILE..]` checks whether each file is a JSON
+//! document, and prints where and why one is not. The library `jcheck` checks and prints; here are
+//! files, the terminal and the status.
+#![tactic(auto)]
+
+use jcheck::{
+    Checker, Ended, Options, Style, asked, check_document, check_each, check_lines, is_closed,
+};
+use jsonl::Channel;
+use std::env::VarError;
+use std::io::{IsTerminal, Read};
+use std::process::ExitCode;
+use std::{env, fs, io};
+
+fn main(rt: HostRuntime) -> ExitCode {
+    let code = match arguments(&rt) {
+        Ok(words) => program(&rt, words.as_slice()),
+        Err(e) => {
+            let _ = eprintln!(rt; "jcheck: {e}");
+            2
+        }
+    };
+    ExitCode::from(code)
+}
+
+fn arguments(rt: &HostRuntime) -> io::Result<Vec<String>> {
+    Ok(env::args(rt)?.collect(rt.alloc())?)
+}
+
+fn program(rt: &HostRuntime, words: &[String]) -> u8 {
+    match asked(rt.alloc(), words) {
+        Ok(options) => check_files(rt, &options).status(),
+        Err(e) => {
+            let _ = e.print(rt);
+            if e.use_stderr() { 2 } else { 0 }
+        }
+    }
+}
+
+// How many characters a line of the terminal has: the number in `COLUMNS`, if it is not 0, or 80.
+fn terminal_width(rt: &HostRuntime) -> usize {
+    match env::var(rt, "COLUMNS") {
+        Ok(columns) => match columns.as_str().parse::<usize>() {
+            Ok(0) | Err(_) => 80,
+            Ok(width) => width,
+        },
+        Err(_) => 80,
+    }
+}
+
+// Whether standard output is a terminal, and `NO_COLOR` is empty or not set.
+fn has_colors(rt: &HostRuntime) -> bool {
+    let is_refused = match env::var(rt, "NO_COLOR") {
+        Ok(value) => !value.is_empty(),
+        Err(e) => e != VarError::NotPresent,
+    };
+    rt.stdout().is_terminal() && !is_refused
+}
+
+fn check_files(rt: &HostRuntime, options: &Options<'_>) -> Ended {
+    let mut checker = match Checker::new(rt.alloc(), options.depth()) {
+        Ok(checker) => checker,
+        Err(e) => {
+            let _ = eprintln!(rt; "jcheck: {e}");
+            return Ended::Failed;
+        }
+    };
+    let has_lines = options.has_lines();
+    let style = Style {
+        width: terminal_width(rt),
+        is_colored: options.color().unwrap_or(has_colors(rt)),
+    };
+    check_each(
+        |file| {
+            let checked = check_file(rt, &mut checker, file, has_lines, style);
+            print_failure(rt, file, &checked);
+            checked
+        },
+        options.files(),
+    )
+}
+
+// Who has closed the output has had enough of it.
+fn print_failure(rt: &HostRuntime, file: &str, checked: &io::Result<bool>) {
+    if let Err(e) = checked
+        && !is_closed(checked)
+    {
+        let _ = eprintln!(rt; "jcheck: {file}: {e}");
+    }
+}
+
+fn check_file(
+    rt: &HostRuntime,
+    checker: &mut Checker,
+    file: &str,
+    has_lines: bool,
+    style: Style,
+) -> io::Result<bool> {
+    let mut out = Channel::new(io::writer(rt));
+    if !has_lines {
+        let input = read_input(rt, file)?;
+        return check_document(checker, &mut out, file, input.as_slice(), style);
+    }
+    if file == "-" {
+        return check_lines(
+            checker,
+            &mut Channel::new(rt.reader()),
+            &mut out,
+            file,
+            style,
+        );
+    }
+    let reader = fs::File::open(rt, file)?;
+    check_lines(checker, &mut Channel::new(reader), &mut out, file, style)
+}
+
+// The bytes of a file, or of standard input for `-`.
+fn read_input(rt: &HostRuntime, file: &str) -> io::Result<Vec<u8>> {
+    if file != "-" {
+        return fs::read(rt, file);
+    }
+    let mut input = Vec::new(rt.alloc());
+    rt.reader().read_to_end(&mut input)?;
+    Ok(input)
+}

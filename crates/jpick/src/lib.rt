@@ -1,0 +1,41 @@
+//! The values at JSON Pointers in each line of JSON Lines.
+//!
+//! - [`run`]: writes a row of them for each line of a reader, and names rejected lines.
+//! - [`ending`]: the exit status, and the line for standard error.
+//! - [`asked`]: what the program's arguments ask for.
+//!
+//! ```
+//! use jpick::{Layout, Wanted, run};
+//! use jsonl::Channel;
+//!
+//! fn rows(rt: &impl AllocGlobal, lines: &[u8]) -> Vec<u8> {
+//!     let wanted = Wanted {
+//!         pointers: &["/k"],
+//!         filters: &[],
+//!         layout: Layout::Tabs,
+//!         is_raw: false,
+//!         needs_all: false,
+//!         is_quiet: true,
+//!         longest: 65_536,
+//!     };
+//!     let mut reader = Channel::new(lines);
+//!     let mut rows = Channel::new(Vec::new(rt.alloc()));
+//!     let mut rejections = Channel::new(Vec::new(rt.alloc()));
+//!     let _ = run(rt.alloc(), &wanted, "f", &mut reader, &mut rows, &mut rejections);
+//!     rows.into_inner()
+//! }
+//! ```
+//!
+//! For the lines `{"k":[1, 2]}` and `{"k":"a"}` the rows are `[1,2]` and `"a"`.
+//!
+//! The program is a crate of its own, `jpick_main`.
+#![tactic(auto)]
+
+mod fields;
+mod lines;
+mod options;
+mod runs;
+
+pub use fields::{Filter, Layout, Wanted};
+pub use options::{Options, Unasked, asked};
+pub use runs::{Failure, ending, run};

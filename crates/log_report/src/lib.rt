@@ -1,0 +1,42 @@
+//! How many lines of JSON Lines have which values at keys or JSON Pointers.
+//!
+//! - [`run`]: counts the lines of each [`Input`], names rejected lines, and writes the report.
+//! - [`ending`]: the exit status, and the line for standard error.
+//! - [`asked`]: what the program's arguments ask for.
+//!
+//! ```
+//! use jsonl::Channel;
+//! use log_report::{Input, Wanted, run};
+//!
+//! fn report(rt: &impl AllocGlobal, lines: &[u8]) -> Vec<u8> {
+//!     let wanted = Wanted {
+//!         selectors: &["level"],
+//!         is_tsv: false,
+//!         longest: 65_536,
+//!     };
+//!     let mut inputs = [Input {
+//!         label: "",
+//!         reader: Channel::new(lines),
+//!     }];
+//!     let mut report = Channel::new(Vec::new(rt.alloc()));
+//!     let mut rejections = Channel::new(Vec::new(rt.alloc()));
+//!     let _ = run(rt.alloc(), &wanted, &mut inputs, &mut report, &mut rejections);
+//!     report.into_inner()
+//! }
+//! ```
+//!
+//! For the lines `{"level":1}`, `{"level":2}` and `{"level":2}` the report is `2 2` and `1 1`.
+//!
+//! The program is a crate of its own, `log_report_main`.
+#![tactic(auto)]
+
+mod failure;
+mod lines;
+mod options;
+mod rows;
+mod runs;
+
+pub use failure::{Failure, ending};
+pub use options::{Options, asked};
+pub use rows::Wanted;
+pub use runs::{Input, run};

@@ -1,0 +1,97 @@
+// Lines in blocks of each size, and readers and writers that fail.
+use super::{Form, MORE, OPEN, Report, VALUE, assert_stopped, assert_written, plain, text_of};
+use crate::tests::{Blocks, Tested};
+use jcheck::{Checker, check_lines};
+use jsonl::Channel;
+use std::io::ErrorKind;
+
+const LINES: [(&[u8], &[Report]); 5] = [
+    (b"", &[]),
+    (b"1\n\n {} \r\n\"a\"\n", &[]),
+    (
+        b"1\n\n[1,]\n2",
+        &[[
+            "f:3:4",
+            "expected a value, found `]`",
+            "InternalError at byte 6",
+            "[1,]",
+            "   ^",
+        ]],
+    ),
+    (
+        b"x\r\n\"a",
+        &[
+            ["f:1:1", VALUE, "InternalError at byte 0", "x ", "^"],
+            ["f:2:1", OPEN, "Syntax at byte 3", "\"a", "^"],
+        ],
+    ),
+    (
+        b"[[[[[1]]]]]\n1 2\n",
+        &[
+            [
+                "f:1:5",
+                "one container more than the depth limit",
+                "DepthLimitExceeded at byte 4",
+                "[[[[[1]]]]]",
+                "    ^",
+            ],
+            ["f:2:3", MORE, "TrailingData at byte 14", "1 2", "  ^"],
+        ],
+    ),
+];
+
+// However the input is cut into blocks.
+#[test]
+fn lines_have_their_numbers(rt: HostRuntime) -> Tested {
+    for (input, reports) in &LINES {
+        for size in 1..20 {
+            assert_written(&rt, input, reports, Form::Lines(size), plain(80))?;
+        }
+    }
+    Ok(())
+}
+
+// The reports on the lines that ended before a read fails are written before it.
+#[test]
+fn a_failed_read_ends_the_check(rt: HostRuntime) -> Tested {
+    let input = b"x\n1\nx\nx".as_slice();
+    let first = ["f:1:1", VALUE, "InternalError at byte 0", "x", "^"];
+    let third = ["f:3:1", VALUE, "InternalError at byte 4", "x", "^"];
+    for (len, reports) in [
+        (0, [].as_slice()),
+        (1, &[]),
+        (2, &[first]),
+        (5, &[first]),
+        (6, &[first, third]),
+        (7, &[first, third]),
+    ] {
+        for size in 1..8 {
+            let mut checker = Checker::new(rt.alloc(), 4)?;
+            let mut reader = Channel::new(Blocks {
+                rest: &input[..len],
+                size,
+                fault: Some(ErrorKind::ConnectionReset),
+            });
+            let mut out = Channel::new(Vec::new(rt.alloc()));
+            let checked = check_lines(&mut checker, &mut reader, &mut out, "f", plain(80));
+            let kind = checked.map_err(|e| e.kind());
+            assert_eq!(rt; kind, Err(ErrorKind::ConnectionReset));
+            assert!(rt; reader.failed() && !out.failed());
+            let text = text_of(&rt, reports)?;
+            assert_eq!(rt;
+                String::from_utf8(out.into_inner())?.as_str(),
+                text.as_str()
+            );
+        }
+    }
+    Ok(())
+}
+
+#[test]
+fn failed_writes_end_the_check(rt: HostRuntime) -> Tested {
+    for (input, reports) in &LINES {
+        assert_stopped(&rt, input, reports, Form::Lines(3))?;
+        assert_stopped(&rt, input, reports, Form::Lines(100))?;
+    }
+    Ok(())
+}

@@ -1,0 +1,333 @@
+//! Runs over lines, blocks and failures.
+use crate::tests::{Blocks, FAULTS, Full, Hungry, Tested, failing, in_blocks, many_lines};
+use jpick::{Failure, Filter, Layout, Wanted, run};
+use jsonl::Channel;
+use linked_list_allocator::LocalHeap;
+use std::alloc::Global;
+use std::io::ErrorKind;
+
+// The values at `pointers` in lines of at most ten bytes.
+fn wanted<'a>(pointers: &'a [&'a str], layout: Layout) -> Wanted<'a> {
+    Wanted {
+        pointers,
+        filters: &[],
+        layout,
+        is_raw: false,
+        needs_all: false,
+        is_quiet: false,
+        longest: 10,
+    }
+}
+
+// What a run leaves.
+#[derive(Drop)]
+struct Ran {
+    result: Result<bool, Failure>,
+    rows: Vec<u8>,
+    rejections: Vec<u8>,
+}
+
+fn run_by(alloc: Global, wanted: &Wanted<'_>, size: usize, input: &[u8]) -> Ran {
+    let mut reader = Channel::new(in_blocks(input, size));
+    let mut out = Channel::new(Vec::new(alloc));
+    let mut rejections = Channel::new(Vec::new(alloc));
+    let result = run(alloc, wanted, "f", &mut reader, &mut out, &mut rejections);
+    Ran {
+        result,
+        rows: out.into_inner(),
+        rejections: rejections.into_inner(),
+    }
+}
+
+// An input, its rows, the lines that name rejected ones, and whether all lines were taken.
+type Row = (&'static [u8], &'static [u8], &'static [u8], bool);
+
+// In blocks of each size: where the blocks are cut does not matter.
+#[test]
+fn lines_are_picked_however_they_are_cut(rt: HostRuntime) {
+    let rows: [Row; 9] = [
+        (b"", b"", b"", true),
+        (b" \t\r\n\r\n", b"", b"", true),
+        (b"{\"k\":1}", b"1\n", b"", true),
+        (b"{\"k\":1}\r\n{\"k\":2}\r\n", b"1\n2\n", b"", true),
+        (b"[]\n{\"k\":\"a\"}", b"\n\"a\"\n", b"", true),
+        (
+            b"\n[1,]\n{\"k\":1}",
+            b"1\n",
+            b"f:2:4: expected a value, found `]`\n",
+            false,
+        ),
+        (
+            b"{\"k\":1234}\n{\"k\":12345}\n{\"k\":1}",
+            b"1234\n1\n",
+            b"f:2: longer than 10 bytes\n",
+            false,
+        ),
+        (
+            b"{\"k\":1}\n           \n{\"k\":123456789}",
+            b"1\n",
+            b"f:2: longer than 10 bytes\nf:3: longer than 10 bytes\n",
+            false,
+        ),
+        (
+            b"[\"\\n\x01\"]\n[\xff",
+            b"",
+            b"f:1:5: control character 1 in a string\nf:2:2: byte 255 begins no UTF-8 character\n",
+            false,
+        ),
+    ];
+    let wanted = wanted(&["/k"], Layout::Tabs);
+    for (input, picked, rejections, all_taken) in rows {
+        for size in 1..24 {
+            let ran = run_by(rt.alloc(), &wanted, size, input);
+            assert_eq!(rt; ran.result, Ok(all_taken));
+            assert_eq!(rt; ran.rows.as_slice(), picked);
+            assert_eq!(rt; ran.rejections.as_slice(), rejections);
+        }
+    }
+}
+
+// Rejected lines are not named, but the run still returns that there are any.
+#[test]
+fn quiet_runs_name_nothing(rt: HostRuntime) {
+    let mut wanted = wanted(&["/k"], Layout::Tabs);
+    wanted.is_quiet = true;
+    let ran = run_by(rt.alloc(), &wanted, 64, b"[1,]\n{\"k\":1}\n12345678901");
+    assert_eq!(rt; ran.result, Ok(false));
+    assert_eq!(rt; ran.rows.as_slice(), b"1\n".as_slice());
+    assert_eq!(rt; ran.rejections.len(), 0);
+}
+
+// The row of a document whose values are null, a truth value, numbers, strings and containers. The
+// rows of `@tsv` and `@csv` for scalars are those of jq's manual and of its program.
+#[test]
+fn rows_have_layouts(rt: HostRuntime) {
+    let input = b"{\"a\":\"x\\ty\\\\\\\"\\n\\r\",\"b\":null,\"c\":true,\"d\":-1.50,\
+        \"e\":[1, \"\\\"\\n\"]}\n"
+        .as_slice();
+    let pointers = ["/a", "/b", "/c", "/d", "/e", "/f"].as_slice();
+    let rows: [(Layout, bool, &[u8]); 5] = [
+        (
+            Layout::Tabs,
+            false,
+            b"\"x\\ty\\\\\\\"\\n\\r\"\tnull\ttrue\t-1.50\t[1,\"\\\"\\n\"]\t\n",
+        ),
+        (
+            Layout::Tabs,
+            true,
+            b"x\ty\\\"\n\r\tnull\ttrue\t-1.50\t[1,\"\\\"\\n\"]\t\n",
+        ),
+        (
+            Layout::Tsv,
+            false,
+            b"x\\ty\\\\\"\\n\\r\t\ttrue\t-1.50\t[1,\"\\\\\"\\\\n\"]\t\n",
+        ),
+        (
+            Layout::Csv,
+            false,
+            b"\"x\ty\\\"\"\n\r\",,true,-1.50,\"[1,\"\"\\\"\"\\n\"\"]\",\n",
+        ),
+        (
+            Layout::Json,
+            true,
+            b"[\"x\\ty\\\\\\\"\\n\\r\",null,true,-1.50,[1,\"\\\"\\n\"],null]\n",
+        ),
+    ];
+    for (layout, is_raw, row) in rows {
+        let mut wanted = wanted(pointers, layout);
+        wanted.is_raw = is_raw;
+        wanted.longest = 100;
+        let ran = run_by(rt.alloc(), &wanted, 64, input);
+        assert_eq!(rt; ran.result, Ok(true));
+        assert_eq!(rt; ran.rows.as_slice(), row);
+    }
+}
+
+// Lines without a value are passed over. The other conditions are in `tests/statuses.sh`.
+#[test]
+fn filters_pass_lines_over(rt: HostRuntime) {
+    let wanted = Wanted {
+        pointers: &["/k"],
+        filters: &[Filter::Exists("/k"), Filter::Exists("")],
+        layout: Layout::Tabs,
+        is_raw: false,
+        needs_all: false,
+        is_quiet: false,
+        longest: 10,
+    };
+    let ran = run_by(
+        rt.alloc(),
+        &wanted,
+        16,
+        b"{\"k\":1}\n{}\n[]\n{\"k\":[]}\n[1,]\n",
+    );
+    assert_eq!(rt; ran.result, Ok(false));
+    assert_eq!(rt; ran.rows.as_slice(), b"1\n[]\n".as_slice());
+}
+
+// A line is left out where one of the pointers has no value.
+#[test]
+fn all_values_are_needed(rt: HostRuntime) {
+    let mut wanted = wanted(&["/0", "/1"], Layout::Csv);
+    wanted.needs_all = true;
+    let ran = run_by(rt.alloc(), &wanted, 16, b"[1,2]\n[1]\n{}\n[null,0]\n");
+    assert_eq!(rt; ran.result, Ok(true));
+    assert_eq!(rt; ran.rows.as_slice(), b"1,2\n,0\n".as_slice());
+}
+
+// Lines 2 and 4 are rejected: one of many, and the last.
+const TWO_REJECTED: &[u8] = b"{\"k\":1}\n[1,]\n{\"k\":23}\n           ";
+
+const ROWS: &[u8] = b"1\n23\n";
+
+const REJECTIONS: &[u8] = b"f:2:4: expected a value, found `]`\nf:4: longer than 10 bytes\n";
+
+#[derive(Drop)]
+struct Stopped {
+    result: Result<bool, Failure>,
+    out: Channel<Full>,
+    rejections: Channel<Full>,
+}
+
+fn run_into(
+    alloc: Global,
+    fault: Option<ErrorKind>,
+    mut out: Channel<Full>,
+    mut rejections: Channel<Full>,
+) -> Stopped {
+    let mut reader = Channel::new(Blocks {
+        rest: TWO_REJECTED,
+        size: 9,
+        fault,
+    });
+    let wanted = wanted(&["/k"], Layout::Tabs);
+    let result = run(alloc, &wanted, "f", &mut reader, &mut out, &mut rejections);
+    Stopped {
+        result,
+        out,
+        rejections,
+    }
+}
+
+// Reading fails in mid-stream: what ended before is picked and named.
+#[test]
+fn a_failed_read_ends_the_run(rt: HostRuntime) {
+    let (out, rejections) = (
+        failing(rt.alloc(), 100, None),
+        failing(rt.alloc(), 100, None),
+    );
+    let ran = run_into(rt.alloc(), Some(ErrorKind::Interrupted), out, rejections);
+    assert_eq!(rt; ran.result, Err(Failure::Read));
+    assert_eq!(rt; ran.out.into_inner().taken.as_slice(), ROWS);
+    assert_eq!(rt;
+        Some(ran.rejections.into_inner().taken.as_slice()),
+        REJECTIONS.get(..35)
+    );
+}
+
+// The writer of rows fails at each of its bytes in turn. It has those before, and is called no
+// more. Who closes it has had enough: the result says whether a line was rejected before. In blocks
+// of 9 bytes the first row is written before the second line is read to its end.
+#[test]
+fn a_failed_row_ends_the_run(rt: HostRuntime) {
+    for fault in FAULTS {
+        for good_calls in 0..ROWS.len() {
+            let failure = match fault {
+                Some(ErrorKind::BrokenPipe) => Failure::Closed(good_calls < 2),
+                _ => Failure::Write,
+            };
+            let out = failing(rt.alloc(), good_calls, fault);
+            let ran = run_into(rt.alloc(), None, out, failing(rt.alloc(), 100, fault));
+            assert_eq!(rt; ran.result, Err(failure));
+            assert!(rt; ran.out.failed() && !ran.rejections.failed());
+            let out = ran.out.into_inner();
+            assert_eq!(rt; Some(out.taken.as_slice()), ROWS.get(..good_calls));
+            assert_eq!(rt; out.calls, good_calls.saturating_add(1));
+        }
+    }
+}
+
+// So does the one of rejected lines.
+#[test]
+fn a_failed_rejection_ends_the_run(rt: HostRuntime) {
+    for fault in FAULTS {
+        for good_calls in 0..REJECTIONS.len() {
+            let rejections = failing(rt.alloc(), good_calls, fault);
+            let ran = run_into(
+                rt.alloc(),
+                None,
+                failing(rt.alloc(), 100, fault),
+                rejections,
+            );
+            assert_eq!(rt; ran.result, Err(Failure::Write));
+            assert!(rt; ran.rejections.failed() && !ran.out.failed());
+            let rejections = ran.rejections.into_inner();
+            assert_eq!(rt;
+                Some(rejections.taken.as_slice()),
+                REJECTIONS.get(..good_calls)
+            );
+            assert_eq!(rt; rejections.calls, good_calls.saturating_add(1));
+            assert!(rt; ROWS.starts_with(ran.out.into_inner().taken.as_slice()));
+        }
+    }
+}
+
+// After the first read every allocation would fail, and none is made.
+#[test]
+fn no_memory_is_taken_after_the_start(rt: HostRuntime) -> Tested {
+    let input = many_lines(rt.alloc())?;
+    let heap = LocalHeap::new(rt.alloc(), 1 << 22)?;
+    let mut reader = Channel::new(Hungry {
+        rest: input.as_slice(),
+        heap: &heap,
+        pieces: Vec::new(rt.alloc()),
+    });
+    let mut out = Channel::new(Vec::new(rt.alloc()));
+    let mut rejections = Channel::new(Vec::new(rt.alloc()));
+    let mut wanted = wanted(&["/a", "/k"], Layout::Tsv);
+    wanted.longest = 4096;
+    let result = run(&heap, &wanted, "f", &mut reader, &mut out, &mut rejections);
+    assert_eq!(rt; result, Ok(false));
+    let rows = out.into_inner();
+    assert!(rt; rows.starts_with(b"[[\"\\\\n\"]]\t0\n\t    "));
+    assert_eq!(rt;
+        rows.as_slice()
+            .iter()
+            .filter(|byte| **byte == b'\n')
+            .count(),
+        3000
+    );
+    Ok(())
+}
+
+// In heaps of growing size each allocation of the start fails in some: nothing is read or written
+// then.
+#[test]
+fn too_little_memory_ends_the_run(rt: HostRuntime) -> Tested {
+    let input = b"{\"k\":1}\n[1,]\n".as_slice();
+    let wanted = wanted(&["/k"], Layout::Tabs);
+    let (mut has_failed, mut has_run) = (false, false);
+    for size in 1..96 {
+        let heap = LocalHeap::new(rt.alloc(), size << 13)?;
+        let mut reader = Channel::new(input);
+        let mut out = Channel::new(Vec::new(rt.alloc()));
+        let mut rejections = Channel::new(Vec::new(rt.alloc()));
+        let result = run(&heap, &wanted, "f", &mut reader, &mut out, &mut rejections);
+        let (rows, rejections) = (out.into_inner(), rejections.into_inner());
+        if result == Err(Failure::Resources) {
+            has_failed = true;
+            assert_eq!(rt; reader.into_inner(), input);
+            assert_eq!(rt; rows.len() + rejections.len(), 0);
+        } else {
+            has_run = true;
+            assert_eq!(rt; result, Ok(false));
+            assert_eq!(rt; rows.as_slice(), b"1\n".as_slice());
+            assert_eq!(rt;
+                rejections.as_slice(),
+                b"f:2:4: expected a value, found `]`\n".as_slice()
+            );
+        }
+    }
+    assert!(rt; has_failed && has_run);
+    Ok(())
+}
