@@ -1,6 +1,6 @@
 # `make` proves and builds the programs and shows the first run, `make test` passes the gate, and `make help` lists the rest.
 # All need the toolchain's command `rt` on the PATH, and nothing else.
-.PHONY: all jtape jcheck log_report jpick library wheel dist test test-c test-bindings test-dist bench vendor install install-library uninstall clean has-rt help build/log_report build/jpick
+.PHONY: all jtape jcheck log_report jpick library wheel dist test test-c test-bindings test-dist edits test-long try bench vendor install install-library uninstall clean has-rt help build/log_report build/jpick
 
 # The level that programs are built for: x86-64-v3 where this processor has what that asks for, else the toolchain's default.
 # A package for other machines is built with CPU=x86-64-v2.
@@ -81,22 +81,33 @@ library: proved-simd_json_c
 # The names in a folder by which a loader and a linker look for the shared library.
 links = ln -sf libsimd_json.so.$(version) $(1)/libsimd_json.so.$(major) && ln -sf libsimd_json.so.$(major) $(1)/libsimd_json.so
 
-# Every proof (from nothing, where no earlier run here passed the same files), the must-fail edits, the tests and the programs.
-# Its last line is 'N passed, M failed'. After it the programs that it built are run on the rows of tests/vectors and on inputs
-# of which the lines and the status are known, and the counts of lines in DESIGN.md and what documents show are compared with the
-# files; all are silent where all is well.
+# The gate: proofs, programs, tests, and the must-fail edits of crates that have changed (scripts/gate.sh). Its last line is
+# 'N passed, M failed'. After it the programs that it built are run on the rows of tests/vectors and on inputs of which the lines
+# and the status are known, and the counts of lines in DESIGN.md and what documents show are compared with the files; all are silent
+# where all is well.
 # One check more runs at a time than `jobs`, since each also waits for files. Left to itself `rt ci` reserves 7.5 GB for a
 # check of `simd_json`, and lets it wait behind small ones.
-# `rt ci` refuses links in the tree, such as the library's names.
 test: has-rt
-	rm -rf build/lane
-	[ ! -d build ] || find build -type l -delete
-	RT_JOBS=$$(($(jobs) + 1)) rt ci
+	JOBS=$(jobs) RT_JOBS=$$(($(jobs) + 1)) ANEW=$(ANEW) sh scripts/gate.sh
 	sh tests/rows.sh
 	sh tests/statuses.sh
 	sh tests/places.sh
 	sh tests/counts.sh
 	sh tests/commands.sh
+
+# Every must-fail edit, and edits.txt, which says what was tried. With CRATES=".." those of these crates alone, while one writes.
+edits: has-rt
+	JOBS=$(jobs) RT_JOBS=$$(($(jobs) + 1)) ANEW=$(ANEW) sh scripts/gate.sh edits $(if $(filter command,$(origin CRATES)),$(CRATES))
+
+# What takes too long for each push: the tests that read many inputs, over all of them, and commands for many machines.
+test-long: jtape
+	JOBS=$(jobs) sh tests/unit.sh long
+	sh tests/engines.sh build/jtape
+
+# The first run without a proof, within a minute.
+try: has-rt
+	cd crates/jtape_main && rt try -- tape < ../../examples/nested-list.json
+	@echo "Nothing was proved. \`make\` proves and builds it."
 
 # The library, called from C and Python. It needs a C compiler besides.
 test-c: has-rt
@@ -179,7 +190,10 @@ help:
 	@echo "make build/log_report       the same of the program that counts the lines of a log"
 	@echo "make install PREFIX=DIR     installs programs, library and manual pages; make uninstall PREFIX=DIR removes them"
 	@echo "make vendor DIR=DIR         copies the library's crates into another repository; with CRATES=simd_json_serde that crate too"
-	@echo "make test                   the gate: proofs from nothing, edits that must be rejected, tests, programs"
+	@echo "make try                    the first run within a minute, without a proof"
+	@echo "make test                   the gate: proofs, programs, tests, and the must-fail edits of crates that have changed"
+	@echo "make edits                  all must-fail edits; writes edits.txt"
+	@echo "make test-long              before a release: long tests over all their inputs, commands for many machines"
 	@echo "make test-c                 the library, called from C and Python"
 	@echo "make test-bindings          the wrapper for C++, the package for Python, the crate for Rust"
 	@echo "make test-dist              the release, in an empty folder without the toolchain"

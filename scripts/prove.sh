@@ -9,6 +9,7 @@ set -u
 crate=$1
 shift
 cd "$(dirname "$0")/.." || exit 1
+. scripts/crates.sh
 lane=$PWD/build/lane/$crate
 log=$PWD/build/log/$crate
 begin=$(date +%s)
@@ -30,17 +31,6 @@ trap 'exit 1' INT TERM
 leave
 rm -f "$log.failed"
 mkdir -p build/log "$lane/crates"
-
-# The crates that a crate stands on, those below before those above.
-below() (
-    # shellcheck disable=SC2013
-    for dep in $(sed -n "s/^$1\( [^:]*\)*: *//p" crates.txt); do
-        if [ -d "crates/$dep" ]; then
-            below "$dep"
-            echo "$dep"
-        fi
-    done
-)
 
 # Links, where the file system has them, else copies.
 linked() {
