@@ -1,4 +1,4 @@
--- What is said of how a run ended, and what a program's arguments ask for, and what is said of its end: a line, and a status.
+-- What the program's arguments ask for, and what is said of how a run or the program ended: a line, and a status.
 use Rattle.std.specs.Prelude.{ℕ, List, codes, drop, Bool, true, false, Result, Ok, Err}
 use Rattle.std.specs.Option.{ok_or}
 use Rattle.jtape.specs.Settings.{settings_of}

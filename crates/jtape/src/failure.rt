@@ -1,5 +1,4 @@
-//! What a program's arguments ask for, and how it ends: a line on standard error or none, and a
-//! status.
+//! The program's arguments, and how it ends: a line on standard error or none, and a status.
 ghost use Rattle.std.specs.Prelude.{◌≡◌, map, string_bytes, IfOk, IfErr, Err};
 ghost use Rattle.jtape.specs.Failures.{requested_of, exit_status_of};
 ghost use Rattle.jtape.specs.declared.failure.Failure.TheVariants.{Usage};

@@ -20,6 +20,7 @@
 //! `InternalError at character 3 (']')`.
 //!
 //! The program is a crate of its own, `jtape_main`, since a crate is either a library or a program.
+//! [`requested`] parses its arguments, and [`exit_status`] is its status, also after a [`Failure`].
 #![tactic(auto)]
 
 mod failure;
