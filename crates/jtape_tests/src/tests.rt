@@ -2,30 +2,8 @@
 use jtape::{Answer, Mode, Port, run};
 use simd_json::DEFAULT_MAX_DEPTH;
 use std::alloc::Allocator;
-use std::fmt::Debug;
 use std::io::{Read, Write};
-use std::process::Abort;
 use std::test::Fail;
-
-// `assert_eq!` and `assert!` as calls: a call is proved in far less time than the code that those
-// expand to.
-macro_rules! assert_same {
-    ($rt:expr; $found:expr, $wanted:expr $(,)?) => {
-        crate::tests::same($rt, stringify!($found), $found, $wanted)
-    };
-    ($rt:expr; $found:expr, $wanted:expr, $case:expr $(,)?) => {
-        crate::tests::same_of($rt, stringify!($found), $case, $found, $wanted)
-    };
-}
-
-macro_rules! assert_that {
-    ($rt:expr; $condition:expr $(,)?) => {
-        crate::tests::same($rt, stringify!($condition), $condition, true)
-    };
-    ($rt:expr; $condition:expr, $case:expr $(,)?) => {
-        crate::tests::same_of($rt, stringify!($condition), $case, $condition, true)
-    };
-}
 
 mod depth;
 mod ends;
@@ -46,21 +24,6 @@ const ALL: [Mode; 5] = [
     Mode::Pretty,
     Mode::Lines,
 ];
-
-fn same<T: PartialEq + Debug + Drop>(rt: &impl Abort, what: &str, found: T, wanted: T) {
-    assert_eq!(rt; found, wanted, "{what}");
-}
-
-// The same of one case of several.
-fn same_of<T: PartialEq + Debug + Drop>(
-    rt: &impl Abort,
-    what: &str,
-    case: impl Debug + Drop,
-    found: T,
-    wanted: T,
-) {
-    assert_eq!(rt; found, wanted, "{what} of {case:?}");
-}
 
 // What a run returned, and its ports.
 #[derive(Drop)]

@@ -13,7 +13,7 @@ mod tokens;
 type Tested = std::result::Result<(), Fail>;
 
 // Whether long tests take all of their inputs, and not a few: where the tests' folder has a file
-// `long`, as before a release (tests/long.sh).
+// `long`, as before a release (`make test-long`).
 fn takes_all(rt: &(impl Files + Abort)) -> bool {
     fs::exists(rt, "long").expect(rt, "the folder can be read")
 }

@@ -1,31 +1,10 @@
-ghost use Rattle.std.specs.Prelude.{◌≢◌, [], IsTrue};
+ghost use Rattle.std.specs.Prelude.{◌≢◌, []};
 
 use simd_json::tape::{Array, Object};
 use simd_json::{Tape, to_tape};
 use std::alloc::Global;
-use std::fmt::Debug;
 use std::process::Abort;
 use std::test::Fail;
-
-// `assert_eq!` and `assert!` as calls: a call is proved in far less time than the code that those
-// expand to.
-macro_rules! assert_same {
-    ($rt:expr; $found:expr, $wanted:expr $(,)?) => {
-        crate::tests::same($rt, stringify!($found), $found, $wanted)
-    };
-    ($rt:expr; $found:expr, $wanted:expr, $case:expr $(,)?) => {
-        crate::tests::same_of($rt, stringify!($found), $case, $found, $wanted)
-    };
-}
-
-macro_rules! assert_that {
-    ($rt:expr; $condition:expr $(,)?) => {
-        crate::tests::holds($rt, stringify!($condition), $condition)
-    };
-    ($rt:expr; $condition:expr, $case:expr $(,)?) => {
-        crate::tests::same_of($rt, stringify!($condition), $case, $condition, true)
-    };
-}
 
 mod accessors;
 mod descendants;
@@ -45,33 +24,12 @@ mod views;
 
 type Tested = std::result::Result<(), Fail>;
 
-fn same<T: PartialEq + Debug + Drop>(rt: &impl Abort, what: &str, found: T, wanted: T) {
-    assert_eq!(rt; found, wanted, "{what}");
-}
-
-// The same of one case of several.
-fn same_of<T: PartialEq + Debug + Drop>(
-    rt: &impl Abort,
-    what: &str,
-    case: impl Debug + Drop,
-    found: T,
-    wanted: T,
-) {
-    assert_eq!(rt; found, wanted, "{what} of {case:?}");
-}
-
-fn holds(rt: &impl Abort, what: &str, condition: bool)
-    ensures { IsTrue condition }
-{
-    assert!(rt; condition, "{what}");
-}
-
 // The tape of a document.
 fn tape_of<'de>(rt: &(impl AllocGlobal + Abort), input: &'de mut [u8]) -> Tape<'de>
     ensures { result.nodes ≢ [] }
 {
     let tape = to_tape(rt.alloc(), input).expect(rt, "it is a document");
-    assert_that!(rt; !tape.is_empty());
+    assert!(rt; !tape.is_empty());
     tape
 }
 

@@ -33,10 +33,10 @@ impl Read for Slow<'_> {
 
 // The reader failed, and nothing was written.
 fn assert_unread<R: Read + Drop>(rt: &impl Abort, ran: Ran<R, Vec<u8>>) -> R {
-    assert_same!(rt; status(&ran.answer), 3);
-    assert_same!(rt; ran.answer, Err(RunFault::Read));
-    assert_that!(rt; ran.reader.failed() && !ran.reader.ended());
-    assert_same!(rt; ran.writer.into_inner().len(), 0);
+    assert_eq!(rt; status(&ran.answer), 3);
+    assert_eq!(rt; ran.answer, Err(RunFault::Read));
+    assert!(rt; ran.reader.failed() && !ran.reader.ended());
+    assert_eq!(rt; ran.writer.into_inner().len(), 0);
     ran.reader.into_inner()
 }
 
@@ -87,7 +87,7 @@ fn interrupted_reads_end_the_run(rt: HostRuntime) {
         };
         let writer = Vec::new(rt.alloc());
         let ran = run_from(rt.alloc(), mode, DEFAULT_MAX_DEPTH, reader, writer);
-        assert_same!(&rt; assert_unread(&rt, ran).calls, 2);
+        assert_eq!(rt; assert_unread(&rt, ran).calls, 2);
     }
 }
 
@@ -142,14 +142,21 @@ fn assert_begun(
     let ran = run_from(rt.alloc(), mode, DEFAULT_MAX_DEPTH, reader, writer);
     let needed = output.len().div_ceil(3);
     let is_whole = good_calls >= needed;
-    assert_that!(rt; ran.reader.ended() && !ran.reader.failed());
-    assert_same!(rt; ran.writer.failed(), !is_whole);
-    assert_same!(rt; status(&ran.answer), if is_whole { 0 } else { 3 });
-    assert_same!(rt; ran.answer, if is_whole { Ok(true) } else { Err(RunFault::Write) });
+    assert!(rt; ran.reader.ended() && !ran.reader.failed());
+    assert_eq!(rt; ran.writer.failed(), !is_whole);
+    assert_eq!(rt; status(&ran.answer), if is_whole { 0 } else { 3 });
+    assert_eq!(rt;
+        ran.answer,
+        if is_whole {
+            Ok(true)
+        } else {
+            Err(RunFault::Write)
+        }
+    );
     let writer = ran.writer.into_inner();
-    assert_same!(rt; writer.calls, needed.min(good_calls.saturating_add(1)));
+    assert_eq!(rt; writer.calls, needed.min(good_calls.saturating_add(1)));
     let taken = output.len().min(good_calls.saturating_mul(3));
-    assert_same!(rt; Some(writer.taken.as_slice()), output.get(..taken));
+    assert_eq!(rt; Some(writer.taken.as_slice()), output.get(..taken));
 }
 
 // The writer fails at each of its calls in turn, and then at none.
@@ -217,10 +224,10 @@ fn large_outputs_are_begun(rt: HostRuntime) -> Tested {
         let whole = ran.writer.into_inner();
         for room in [0, 1, 65_535, 65_536, 65_537, 200_000, whole.len()] {
             let ran = run_into(&rt, mode, input.as_slice(), room);
-            assert_same!(&rt; ran.answer.is_ok(), room == whole.len());
-            assert_same!(&rt; ran.writer.failed(), ran.answer.is_err());
+            assert_eq!(rt; ran.answer.is_ok(), room == whole.len());
+            assert_eq!(rt; ran.writer.failed(), ran.answer.is_err());
             let taken = ran.writer.into_inner().taken;
-            assert_same!(&rt; Some(taken.as_slice()), whole.as_slice().get(..room));
+            assert_eq!(rt; Some(taken.as_slice()), whole.as_slice().get(..room));
         }
     }
     Ok(())
@@ -234,9 +241,9 @@ fn a_megabyte_is_written_of_more(rt: HostRuntime) -> Tested {
     input.push(b'"')?;
     for mode in [Mode::Tape, Mode::Compact, Mode::Pretty, Mode::Lines] {
         let ran = run_into(&rt, mode, input.as_slice(), 1_000_000);
-        assert_same!(&rt; ran.answer, Err(RunFault::Write));
-        assert_that!(&rt; ran.writer.failed() && !ran.reader.failed());
-        assert_same!(&rt; ran.writer.into_inner().taken.len(), 1_000_000);
+        assert_eq!(rt; ran.answer, Err(RunFault::Write));
+        assert!(rt; ran.writer.failed() && !ran.reader.failed());
+        assert_eq!(rt; ran.writer.into_inner().taken.len(), 1_000_000);
     }
     Ok(())
 }

@@ -30,8 +30,8 @@ fn each_growth_is_refused(rt: HostRuntime) -> Tested {
     ];
     for (mode, start, end) in rows {
         let (refused, printed) = run_in_heaps(&rt, mode, start, end)?;
-        assert_that!(&rt; refused > 20, refused);
-        assert_that!(&rt; printed > 20, printed);
+        assert!(rt; refused > 20, "{refused:?}");
+        assert!(rt; printed > 20, "{printed:?}");
     }
     Ok(())
 }
@@ -58,10 +58,10 @@ fn run_in_heaps(
         } else {
             refused = refused.saturating_add(1);
         }
-        assert_same!(rt; heap.used(), used);
+        assert_eq!(rt; heap.used(), used);
         drop(others);
         let again = run_slowly(rt, mode, &heap);
-        assert_that!(rt; assert_whole_or_silent(rt, again, start, end));
+        assert!(rt; assert_whole_or_silent(rt, again, start, end));
     }
     Ok((refused, printed))
 }
@@ -81,17 +81,17 @@ fn assert_whole_or_silent(
     start: &[u8],
     end: &[u8],
 ) -> bool {
-    assert_that!(rt; !ran.reader.failed() && !ran.writer.failed());
+    assert!(rt; !ran.reader.failed() && !ran.writer.failed());
     let written = ran.writer.into_inner();
     if ran.answer.is_ok() {
-        assert_same!(rt; ran.answer, Ok(true));
-        assert_that!(rt; ran.reader.ended());
-        assert_that!(rt; written.starts_with(start) && written.ends_with(end));
+        assert_eq!(rt; ran.answer, Ok(true));
+        assert!(rt; ran.reader.ended());
+        assert!(rt; written.starts_with(start) && written.ends_with(end));
         true
     } else {
         let memory = Error::generic(ErrorType::OutOfMemory);
-        assert_same!(rt; ran.answer, Err(RunFault::Refused(memory)));
-        assert_same!(rt; written.len(), 0);
+        assert_eq!(rt; ran.answer, Err(RunFault::Refused(memory)));
+        assert_eq!(rt; written.len(), 0);
         false
     }
 }
@@ -122,17 +122,17 @@ fn lists_that_cannot_grow_hold_a_beginning(rt: HostRuntime) -> Tested {
         );
         let out = ran.writer.into_inner();
         if ran.answer.is_ok() {
-            assert_same!(&rt; out.as_slice(), lines.as_slice());
+            assert_eq!(rt; out.as_slice(), lines.as_slice());
             written = written.saturating_add(1);
         } else {
-            assert_same!(&rt; ran.answer, Err(RunFault::Write));
-            assert_that!(&rt; out.starts_with(b"so far\n") && lines.starts_with(out.as_slice()));
+            assert_eq!(rt; ran.answer, Err(RunFault::Write));
+            assert!(rt; out.starts_with(b"so far\n") && lines.starts_with(out.as_slice()));
             refused = refused.saturating_add(1);
             begun = begun.saturating_add(if out.len() > 7 { 1 } else { 0 });
         }
     }
-    assert_that!(&rt; refused > 3, refused);
-    assert_that!(&rt; begun > 3, begun);
-    assert_that!(&rt; written > 3, written);
+    assert!(rt; refused > 3, "{refused:?}");
+    assert!(rt; begun > 3, "{begun:?}");
+    assert!(rt; written > 3, "{written:?}");
     Ok(())
 }

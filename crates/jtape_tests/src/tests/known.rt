@@ -126,10 +126,14 @@ fn assert_printed(
     output: &[u8],
 ) {
     let ran = run_over(rt, mode, depth, input);
-    assert_that!(rt; ran.reader.ended(), input);
-    assert_same!(rt; status(&ran.answer), if is_clean { 0 } else { 1 }, input);
-    assert_same!(rt; ran.answer, Ok(is_clean), input);
-    assert_same!(rt; ran.writer.into_inner().as_slice(), output, input);
+    assert!(rt; ran.reader.ended(), "{input:?}");
+    assert_eq!(rt;
+        status(&ran.answer),
+        if is_clean { 0 } else { 1 },
+        "{input:?}"
+    );
+    assert_eq!(rt; ran.answer, Ok(is_clean), "{input:?}");
+    assert_eq!(rt; ran.writer.into_inner().as_slice(), output, "{input:?}");
 }
 
 fn assert_all_printed(rt: &(impl AllocGlobal + Abort), table: &str, is_clean: bool) -> Tested {
@@ -207,14 +211,14 @@ fn assert_refused(
         return Ok(());
     }
     let ran = run_over(rt, mode, depth, input);
-    assert_that!(rt; ran.reader.ended(), input);
-    assert_same!(rt; status(&ran.answer), 1, input);
-    assert_same!(rt; ran.writer.into_inner().len(), 0, input);
+    assert!(rt; ran.reader.ended(), "{input:?}");
+    assert_eq!(rt; status(&ran.answer), 1, "{input:?}");
+    assert_eq!(rt; ran.writer.into_inner().len(), 0, "{input:?}");
     match ran.answer {
         Ok(_) => panic!(rt; "printed, and not {error}"),
         Err(fault) => {
             let printed = format!(in rt.alloc(); "{fault}")?;
-            assert_same!(rt; printed.as_str(), error, input);
+            assert_eq!(rt; printed.as_str(), error, "{input:?}");
         }
     }
     Ok(())

@@ -50,10 +50,10 @@ fn pieces_have_each_length(rt: HostRuntime) -> Tested {
             calls: 0,
         };
         let ran = run_from(rt.alloc(), Mode::Lines, 0, input.as_slice(), writer);
-        assert_same!(&rt; ran.answer, Ok(true));
+        assert_eq!(rt; ran.answer, Ok(true));
         let writer = ran.writer.into_inner();
-        assert_same!(&rt; writer.taken.as_slice(), input.as_slice());
-        assert_same!(&rt; writer.calls, calls);
+        assert_eq!(rt; writer.taken.as_slice(), input.as_slice());
+        assert_eq!(rt; writer.calls, calls);
     }
     Ok(())
 }
@@ -137,10 +137,10 @@ fn run_first(
         input.as_slice(),
         Vec::new(rt.alloc()),
     );
-    assert_that!(rt; !ran.reader.failed() && !ran.writer.failed());
+    assert!(rt; !ran.reader.failed() && !ran.writer.failed());
     let memory = Error::generic(ErrorType::OutOfMemory);
     let has_memory = ran.answer.is_ok();
-    assert_that!(rt; has_memory || ran.answer == Err(RunFault::Refused(memory)));
+    assert!(rt; has_memory || ran.answer == Err(RunFault::Refused(memory)));
     Ok((has_memory, ran.writer.into_inner()))
 }
 
@@ -179,14 +179,14 @@ fn assert_stopped(
             wanted.push_str(line)?;
         }
         let (has_memory, written) = run_first(rt, bytes, pieces, pieces.len())?;
-        assert_same!(rt; has_memory, done == Some(pieces.len()), bytes);
-        assert_same!(rt; written.as_slice(), wanted.as_bytes(), bytes);
+        assert_eq!(rt; has_memory, done == Some(pieces.len()), "{bytes:?}");
+        assert_eq!(rt; written.as_slice(), wanted.as_bytes(), "{bytes:?}");
         if done.is_some_and(|done| done.saturating_add(1) == pieces.len()) {
             lacking = lacking.saturating_add(1);
         }
         whole = whole.saturating_add(u32::from(has_memory));
     }
-    assert_that!(rt; whole > 0, pieces);
+    assert!(rt; whole > 0, "{pieces:?}");
     Ok(lacking)
 }
 
@@ -203,7 +203,7 @@ fn pieces_before_one_that_lacks_memory_are_written(rt: HostRuntime) -> Tested {
         LAST_HAS_ESCAPES,
     ] {
         let lacking = assert_stopped(&rt, pieces)?;
-        assert_that!(&rt; lacking > 0, pieces);
+        assert!(rt; lacking > 0, "{pieces:?}");
     }
     Ok(())
 }

@@ -28,7 +28,7 @@ position @ None";
 
 #[test]
 fn words_are_understood(rt: HostRuntime) -> Tested {
-    assert_same!(&rt; settings(&[]), None);
+    assert_eq!(rt; settings(&[]), None);
     for line in WORDS.lines() {
         let (given, wanted) = line.split_once(" @ ").expect(&rt, "it has both");
         let mut words = Vec::new(rt.alloc());
@@ -36,13 +36,13 @@ fn words_are_understood(rt: HostRuntime) -> Tested {
             words.push(String::from_str(rt.alloc(), word)?)?;
         }
         let found = format!(in rt.alloc(); "{:?}", settings(words.as_slice()))?;
-        assert_same!(&rt; found.as_str(), wanted, line);
+        assert_eq!(rt; found.as_str(), wanted, "{line:?}");
     }
     Ok(())
 }
 
 #[test]
 fn numbers_have_digits_alone(rt: HostRuntime) {
-    assert_same!(&rt; number_named("042"), Some(42));
-    assert_same!(&rt; number_named("4 "), None);
+    assert_eq!(rt; number_named("042"), Some(42));
+    assert_eq!(rt; number_named("4 "), None);
 }

@@ -8,8 +8,8 @@ use std::process::Abort;
 fn ten_bytes_are_structural_or_whitespace(rt: HostRuntime) {
     for c in 0..=u8::MAX {
         let is_listed = b"[]{}:, \t\n\r".contains(&c);
-        assert_same!(&rt; is_structural_or_whitespace(c), is_listed, c);
-        assert_same!(&rt; is_not_structural_or_whitespace(c), !is_listed, c);
+        assert_eq!(rt; is_structural_or_whitespace(c), is_listed, "{c:?}");
+        assert_eq!(rt; is_not_structural_or_whitespace(c), !is_listed, "{c:?}");
     }
 }
 
@@ -17,25 +17,25 @@ fn ten_bytes_are_structural_or_whitespace(rt: HostRuntime) {
 fn four_bytes_are_whitespace(rt: HostRuntime) {
     for c in 0..=u8::MAX {
         let is_listed = b" \t\n\r".contains(&c);
-        assert_same!(&rt; is_whitespace(c), is_listed, c);
-        assert_same!(&rt; is_blank(&[b' ', c, b'\n']), is_listed, c);
+        assert_eq!(rt; is_whitespace(c), is_listed, "{c:?}");
+        assert_eq!(rt; is_blank(&[b' ', c, b'\n']), is_listed, "{c:?}");
     }
-    assert_that!(&rt; is_blank(b""));
+    assert!(rt; is_blank(b""));
 }
 
 #[test]
 fn the_end_reads_as_a_space(rt: HostRuntime) {
-    assert_same!(&rt; byte_or_space(b"1,", 0), b'1');
-    assert_same!(&rt; byte_or_space(b"1,", 1), b',');
-    assert_same!(&rt; byte_or_space(b"1,", 2), b' ');
-    assert_same!(&rt; byte_or_space(b"", usize::MAX), b' ');
+    assert_eq!(rt; byte_or_space(b"1,", 0), b'1');
+    assert_eq!(rt; byte_or_space(b"1,", 1), b',');
+    assert_eq!(rt; byte_or_space(b"1,", 2), b' ');
+    assert_eq!(rt; byte_or_space(b"", usize::MAX), b' ');
 }
 
 #[test]
 fn four_hexadecimal_digits_have_a_number(rt: HostRuntime) {
-    assert_same!(&rt; hex_to_u32_nocheck(*b"0000"), Some(0));
-    assert_same!(&rt; hex_to_u32_nocheck(*b"12aF"), Some(0x12af));
-    assert_same!(&rt; hex_to_u32_nocheck(*b"ffff"), Some(0xffff));
+    assert_eq!(rt; hex_to_u32_nocheck(*b"0000"), Some(0));
+    assert_eq!(rt; hex_to_u32_nocheck(*b"12aF"), Some(0x12af));
+    assert_eq!(rt; hex_to_u32_nocheck(*b"ffff"), Some(0xffff));
     for c in 0..=u8::MAX {
         assert_digit(&rt, c, [c, b'0', b'0', b'1'], 12, 1);
         assert_digit(&rt, c, [b'F', c, b'0', b'0'], 8, 0xf000);
@@ -50,7 +50,7 @@ fn assert_digit(rt: &impl Abort, c: u8, digits: [u8; 4], place: u32, others: u32
         Some(digit) => Some(digit.wrapping_shl(place) | others),
         None => None,
     };
-    assert_same!(rt; hex_to_u32_nocheck(digits), wanted, c);
+    assert_eq!(rt; hex_to_u32_nocheck(digits), wanted, "{c:?}");
 }
 
 #[test]
@@ -62,8 +62,8 @@ fn characters_are_written_as_utf8(rt: HostRuntime) {
             let mut expected = [0; 4];
             let len = c.encode_utf8(&mut expected).len();
             let mut bytes = [0; 4];
-            assert_same!(&rt; codepoint_to_utf8(c, &mut bytes), len);
-            assert_same!(&rt; bytes, expected);
+            assert_eq!(rt; codepoint_to_utf8(c, &mut bytes), len);
+            assert_eq!(rt; bytes, expected);
         }
     }
 }

@@ -34,35 +34,41 @@ fn line_that_is_located(rt: &impl AllocGlobal) -> std::result::Result<Option<usi
 #[test]
 fn examples_run(rt: HostRuntime) {
     let texts = count(&rt, &[b"1", b"[", b"\"a\"", b"1 2", b" {} "]).expect(&rt, MEMORY);
-    assert_same!(&rt; texts, 3);
-    assert_same!(&rt; line_of_error(&rt), Some(2));
-    assert_same!(&rt; line_that_is_located(&rt).expect(&rt, MEMORY), Some(2));
+    assert_eq!(rt; texts, 3);
+    assert_eq!(rt; line_of_error(&rt), Some(2));
+    assert_eq!(rt; line_that_is_located(&rt).expect(&rt, MEMORY), Some(2));
 }
 
 #[test]
 fn an_index_lists_the_last_input(rt: HostRuntime) {
     let mut index = Index::new(rt.alloc(), 0).expect(&rt, MEMORY);
-    assert_same!(&rt; index.structural_indexes(), &[]);
-    assert_same!(&rt; index.check(b"[1, \"]\"]", 1), Ok(()));
-    assert_same!(&rt; index.structural_indexes(), &[0, 1, 2, 4, 7]);
+    assert_eq!(rt; index.structural_indexes(), &[]);
+    assert_eq!(rt; index.check(b"[1, \"]\"]", 1), Ok(()));
+    assert_eq!(rt; index.structural_indexes(), &[0, 1, 2, 4, 7]);
     // An error of a token comes after they are found, one of the whole input before.
     let deep = Error::new(1, Some('['), ErrorType::DepthLimitExceeded);
-    assert_same!(&rt; index.check(b"[[]]", 1), Err(deep));
-    assert_same!(&rt; index.structural_indexes(), &[0, 1, 2, 3]);
-    assert_same!(&rt; index.find(b"\""), Err(Error::generic(ErrorType::Syntax)));
-    assert_same!(&rt; index.structural_indexes(), &[]);
-    assert_same!(&rt; index.find(b" ]"), Ok(()));
-    assert_same!(&rt; index.structural_indexes(), &[1]);
+    assert_eq!(rt; index.check(b"[[]]", 1), Err(deep));
+    assert_eq!(rt; index.structural_indexes(), &[0, 1, 2, 3]);
+    assert_eq!(rt; index.find(b"\""), Err(Error::generic(ErrorType::Syntax)));
+    assert_eq!(rt; index.structural_indexes(), &[]);
+    assert_eq!(rt; index.find(b" ]"), Ok(()));
+    assert_eq!(rt; index.structural_indexes(), &[1]);
 }
 
 #[test]
 fn a_location_has_place_and_reason(rt: HostRuntime) {
     let found = locate(rt.alloc(), b"{\n \"\xc3\xa9\" 1}", 1024).expect(&rt, MEMORY);
     let place = found.map(|location| (location.byte(), location.line(), location.column()));
-    assert_same!(&rt; place, Some((8, 2, 6)));
+    assert_eq!(rt; place, Some((8, 2, 6)));
     let found = locate(rt.alloc(), b"{\"a\" 1}", 1024).expect(&rt, MEMORY);
     let reason = found.map(|location| location.reason());
-    assert_same!(&rt; reason, Some(Reason::ExpectedColon(b'1')));
-    assert_same!(&rt; locate(rt.alloc(), b"[]", 0).is_ok_and(|found| found.is_some()), true);
-    assert_same!(&rt; locate(rt.alloc(), b"0", 0).is_ok_and(|found| found.is_none()), true);
+    assert_eq!(rt; reason, Some(Reason::ExpectedColon(b'1')));
+    assert_eq!(rt;
+        locate(rt.alloc(), b"[]", 0).is_ok_and(|found| found.is_some()),
+        true
+    );
+    assert_eq!(rt;
+        locate(rt.alloc(), b"0", 0).is_ok_and(|found| found.is_none()),
+        true
+    );
 }

@@ -12,37 +12,43 @@ fn printed(rt: &HostRuntime, error: ErrorType) -> std::result::Result<String, Fa
 #[test]
 fn reports_where_and_why(rt: HostRuntime) -> std::result::Result<(), Fail> {
     let error = Error::new(20, Some(' '), ErrorType::InvalidNumber);
-    assert_same!(&rt; error.index(), 20);
-    assert_same!(&rt; error.character(), Some(' '));
-    assert_that!(&rt; *error.error() == ErrorType::InvalidNumber);
-    assert_same!(&rt; error.to_string(rt.alloc())?.as_str(), "InvalidNumber at character 20 (' ')");
+    assert_eq!(rt; error.index(), 20);
+    assert_eq!(rt; error.character(), Some(' '));
+    assert!(rt; *error.error() == ErrorType::InvalidNumber);
+    assert_eq!(rt;
+        error.to_string(rt.alloc())?.as_str(),
+        "InvalidNumber at character 20 (' ')"
+    );
     let error = Error::generic(ErrorType::Eof);
-    assert_same!(&rt; error.index(), 0);
-    assert_same!(&rt; error.character(), None);
-    assert_same!(&rt; error.to_string(rt.alloc())?.as_str(), "Eof at character 0");
+    assert_eq!(rt; error.index(), 0);
+    assert_eq!(rt; error.character(), None);
+    assert_eq!(rt; error.to_string(rt.alloc())?.as_str(), "Eof at character 0");
     Ok(())
 }
 
 #[test]
 fn prints_what_a_kind_holds(rt: HostRuntime) -> std::result::Result<(), Fail> {
     let unexpected = printed(&rt, ErrorType::Unexpected(Some(ValueType::I64), None))?;
-    assert_same!(&rt; unexpected.as_str(), "Unexpected(Some(I64), None) at character 0");
+    assert_eq!(rt;
+        unexpected.as_str(),
+        "Unexpected(Some(I64), None) at character 0"
+    );
     let message = ErrorType::Serde(String::from_str(rt.alloc(), "a")?);
-    assert_same!(&rt; printed(&rt, message)?.as_str(), "Serde(a) at character 0");
+    assert_eq!(rt; printed(&rt, message)?.as_str(), "Serde(a) at character 0");
     Ok(())
 }
 
 #[test]
 fn compares_fields(rt: HostRuntime) -> std::result::Result<(), Fail> {
     let unexpected = ErrorType::Unexpected(Some(ValueType::I64), None);
-    assert_that!(&rt; unexpected == unexpected);
-    assert_that!(&rt; unexpected != ErrorType::Unexpected(None, None));
+    assert!(rt; unexpected == unexpected);
+    assert!(rt; unexpected != ErrorType::Unexpected(None, None));
     let a = ErrorType::Serde(String::from_str(rt.alloc(), "a")?);
     let b = ErrorType::Serde(String::from_str(rt.alloc(), "b")?);
-    assert_that!(&rt; a == a);
-    assert_that!(&rt; a != b);
-    assert_that!(&rt; Error::generic(a).is_data());
-    assert_that!(&rt; Error::generic(b).is_data());
+    assert!(rt; a == a);
+    assert!(rt; a != b);
+    assert!(rt; Error::generic(a).is_data());
+    assert!(rt; Error::generic(b).is_data());
     Ok(())
 }
 
@@ -53,12 +59,12 @@ fn list_of_capacity(alloc: Global, capacity: usize) -> Result<Vec<u64>> {
 
 #[test]
 fn reports_a_refused_growth(rt: HostRuntime) {
-    assert_that!(&rt; list_of_capacity(rt.alloc(), 3).is_ok());
+    assert!(rt; list_of_capacity(rt.alloc(), 3).is_ok());
     match list_of_capacity(rt.alloc(), usize::MAX) {
         Ok(_) => panic!(rt; "more than there is"),
         Err(error) => {
-            assert_that!(&rt; error == Error::generic(ErrorType::OutOfMemory));
-            assert_that!(&rt; error.is_io());
+            assert!(rt; error == Error::generic(ErrorType::OutOfMemory));
+            assert!(rt; error.is_io());
         }
     }
 }
@@ -75,9 +81,13 @@ const DATA: [bool; 4] = [false, false, false, true];
 // Asserts what is printed of a kind, and which class it has.
 fn assert_kind(rt: &(impl AllocGlobal + Abort), kind: ErrorType, name: &str, class: [bool; 4]) {
     let printed = kind.to_string(rt.alloc()).expect(rt, "there is memory");
-    assert_same!(rt; printed.as_str(), name);
+    assert_eq!(rt; printed.as_str(), name);
     let e = Error::generic(kind);
-    assert_same!(rt; [e.is_io(), e.is_eof(), e.is_syntax(), e.is_data()], class, name);
+    assert_eq!(rt;
+        [e.is_io(), e.is_eof(), e.is_syntax(), e.is_data()],
+        class,
+        "{name:?}"
+    );
 }
 
 #[test]

@@ -2,20 +2,20 @@ use simd_json_parts::node::{Node, StaticNode, ValueType};
 
 #[test]
 fn integers_are_equal_by_number(rt: HostRuntime) {
-    assert_that!(&rt; StaticNode::U64(1) == StaticNode::I64(1));
-    assert_that!(&rt; StaticNode::I64(0) == StaticNode::U64(0));
-    assert_that!(&rt; StaticNode::I64(-1) != StaticNode::U64(u64::MAX));
-    assert_that!(&rt; StaticNode::U128(1) == StaticNode::I64(1));
-    assert_that!(&rt; StaticNode::I64(-1) == StaticNode::I128(-1));
-    assert_that!(&rt; StaticNode::U64(1) == StaticNode::U128(1));
-    assert_that!(&rt; StaticNode::I128(1) == StaticNode::U64(1));
-    assert_that!(&rt; StaticNode::I128(1) == StaticNode::U128(1));
-    assert_that!(&rt; StaticNode::I128(-1) != StaticNode::U128(u128::MAX));
-    assert_that!(&rt; StaticNode::I64(-1) != StaticNode::U128(u128::MAX));
-    assert_that!(&rt; StaticNode::Null != StaticNode::U64(0));
-    assert_that!(&rt; StaticNode::Bool(true) != StaticNode::U64(1));
-    assert_that!(&rt; StaticNode::Bool(true) != StaticNode::Bool(false));
-    assert_that!(&rt; StaticNode::default() == StaticNode::Null);
+    assert!(rt; StaticNode::U64(1) == StaticNode::I64(1));
+    assert!(rt; StaticNode::I64(0) == StaticNode::U64(0));
+    assert!(rt; StaticNode::I64(-1) != StaticNode::U64(u64::MAX));
+    assert!(rt; StaticNode::U128(1) == StaticNode::I64(1));
+    assert!(rt; StaticNode::I64(-1) == StaticNode::I128(-1));
+    assert!(rt; StaticNode::U64(1) == StaticNode::U128(1));
+    assert!(rt; StaticNode::I128(1) == StaticNode::U64(1));
+    assert!(rt; StaticNode::I128(1) == StaticNode::U128(1));
+    assert!(rt; StaticNode::I128(-1) != StaticNode::U128(u128::MAX));
+    assert!(rt; StaticNode::I64(-1) != StaticNode::U128(u128::MAX));
+    assert!(rt; StaticNode::Null != StaticNode::U64(0));
+    assert!(rt; StaticNode::Bool(true) != StaticNode::U64(1));
+    assert!(rt; StaticNode::Bool(true) != StaticNode::Bool(false));
+    assert!(rt; StaticNode::default() == StaticNode::Null);
 }
 
 #[test]
@@ -33,8 +33,8 @@ fn nodes_have_their_kinds(rt: HostRuntime) {
         (Node::Object { len: 1, count: 2 }, ValueType::Object),
     ];
     for (node, kind) in &nodes {
-        assert_same!(&rt; node.value_type(), *kind);
+        assert_eq!(rt; node.value_type(), *kind);
     }
-    assert_that!(&rt; Node::String("1.5") != Node::Decimal("1.5"));
-    assert_that!(&rt; Node::Array { len: 1, count: 2 } != Node::Array { len: 1, count: 1 });
+    assert!(rt; Node::String("1.5") != Node::Decimal("1.5"));
+    assert!(rt; Node::Array { len: 1, count: 2 } != Node::Array { len: 1, count: 1 });
 }

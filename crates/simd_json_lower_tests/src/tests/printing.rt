@@ -26,10 +26,10 @@ const PRETTY: &str = "{\n  \"k\\t\": [\n    0,\n    1E5,\n    \"\u{e9}\"\n  ],\n
 fn documents_are_appended(rt: HostRuntime) -> std::result::Result<(), Fail> {
     let mut compact = Vec::new(rt.alloc());
     append_compact(&mut compact, &NODES)?;
-    assert_same!(&rt; compact.as_slice(), COMPACT.as_bytes());
+    assert_eq!(rt; compact.as_slice(), COMPACT.as_bytes());
     let mut pretty = Vec::new(rt.alloc());
     append_pretty(&mut pretty, &NODES)?;
-    assert_same!(&rt; pretty.as_slice(), PRETTY.as_bytes());
+    assert_eq!(rt; pretty.as_slice(), PRETTY.as_bytes());
     Ok(())
 }
 
@@ -56,9 +56,9 @@ fn long_and_empty_texts_are_written(rt: HostRuntime) -> std::result::Result<(), 
         append_compact(&mut appended, nodes)?;
         let mut written = Vec::new(rt.alloc());
         write_compact(&mut written, nodes)?;
-        assert_same!(&rt; appended.len(), *len);
-        assert_that!(&rt; appended.starts_with(front));
-        assert_same!(&rt; appended.as_slice(), written.as_slice());
+        assert_eq!(rt; appended.len(), *len);
+        assert!(rt; appended.starts_with(front));
+        assert_eq!(rt; appended.as_slice(), written.as_slice());
     }
     Ok(())
 }
@@ -110,9 +110,9 @@ fn failing_writers_end_it(rt: HostRuntime) {
                 ErrorKind::WriteZero
             };
             let wanted = if calls < 9 { Some(fault) } else { None };
-            assert_same!(&rt; kind, wanted);
+            assert_eq!(rt; kind, wanted);
             let end = if calls < 9 { 3 * calls } else { 26 };
-            assert_same!(&rt; writer.taken.as_slice(), &COMPACT.as_bytes()[..end]);
+            assert_eq!(rt; writer.taken.as_slice(), &COMPACT.as_bytes()[..end]);
         }
     }
 }
@@ -121,7 +121,7 @@ fn failing_writers_end_it(rt: HostRuntime) {
 fn pretty_text_is_written(rt: HostRuntime) -> std::result::Result<(), Fail> {
     let mut writer = Vec::new(rt.alloc());
     write_pretty(&mut writer, &NODES)?;
-    assert_same!(&rt; writer.as_slice(), PRETTY.as_bytes());
+    assert_eq!(rt; writer.as_slice(), PRETTY.as_bytes());
     Ok(())
 }
 
@@ -146,7 +146,7 @@ fn deep_lines_begin_with_their_spaces(rt: HostRuntime) -> std::result::Result<()
         }
         let mut pretty = Vec::new(rt.alloc());
         append_pretty(&mut pretty, &nodes)?;
-        assert_same!(&rt; pretty.as_slice(), wanted.as_slice());
+        assert_eq!(rt; pretty.as_slice(), wanted.as_slice());
     }
     Ok(())
 }
@@ -171,7 +171,7 @@ fn strings_are_escaped(rt: HostRuntime) -> std::result::Result<(), Fail> {
     for (string, wanted) in rows.iter() {
         let mut out = Vec::new(rt.alloc());
         append_quoted(&mut out, string)?;
-        assert_same!(&rt; out.as_slice(), *wanted);
+        assert_eq!(rt; out.as_slice(), *wanted);
     }
     Ok(())
 }
@@ -190,14 +190,14 @@ fn escapes_are_found_wherever_they_stand(rt: HostRuntime) -> std::result::Result
             wanted.push(b'"')?;
             let mut out = Vec::new(rt.alloc());
             append_quoted(&mut out, &string)?;
-            assert_same!(&rt; out.as_slice(), wanted.as_slice());
+            assert_eq!(rt; out.as_slice(), wanted.as_slice());
         }
     }
     Ok(())
 }
 
 // Far more containers than a call keeps open, of both kinds in turn: `[{"":[{"":..`. A call takes
-// several times the stack where it is compiled with checks, so tests/long.sh gives it more; and
+// several times the stack where it is compiled with checks, so tests/unit.sh gives it more; and
 // tests/statuses.sh has as deep a value printed as programs are built.
 #[test]
 fn deep_values_take_little_of_the_stack(rt: HostRuntime) -> std::result::Result<(), Fail> {
@@ -225,7 +225,7 @@ fn deep_values_take_little_of_the_stack(rt: HostRuntime) -> std::result::Result<
         for _ in 0..pairs {
             wanted.extend_from_slice(b"}]")?;
         }
-        assert_that!(&rt; compact.as_slice() == wanted.as_slice(), (pairs, "pairs"));
+        assert!(rt; compact.as_slice() == wanted.as_slice(), "{pairs} pairs");
     }
     Ok(())
 }

@@ -44,9 +44,9 @@ fn each_bracket_is_a_position(rt: HostRuntime) -> Tested {
         text.push(b']')?;
     }
     let (positions, _) = found(rt.alloc(), &text)?;
-    assert_same!(&rt; positions.len(), 200_000);
+    assert_eq!(rt; positions.len(), 200_000);
     for (i, &position) in positions.iter().enumerate() {
-        assert_same!(&rt; position as usize, i);
+        assert_eq!(rt; position as usize, i);
     }
     Ok(())
 }
@@ -74,7 +74,7 @@ fn known_escape_blocks(rt: HostRuntime) -> Tested {
     ] {
         let text = text(rt.alloc(), before, byte, len, after)?;
         let (_, blocks) = found(rt.alloc(), &text)?;
-        assert_same!(&rt; blocks.as_slice(), want, text);
+        assert_eq!(rt; blocks.as_slice(), want, "{text:?}");
     }
     Ok(())
 }

@@ -68,11 +68,11 @@ fn builds_strings_across_blocks(rt: HostRuntime) -> std::result::Result<(), Fail
         input.extend_from_slice(b"\"]")?;
         let nodes = tape_of(rt.alloc(), input.as_mut_slice(), 1)?;
         let strings = [first, second];
-        assert_that!(&rt; nodes.len() == 3, len);
+        assert!(rt; nodes.len() == 3, "{len:?}");
         for (i, wanted) in strings.iter().enumerate() {
             match nodes.get(i.wrapping_add(1)) {
                 Some(Node::String(string)) => {
-                    assert_that!(&rt; string.as_bytes() == wanted.as_slice(), len);
+                    assert!(rt; string.as_bytes() == wanted.as_slice(), "{len:?}");
                 }
                 _ => panic!(rt; "{len}"),
             }

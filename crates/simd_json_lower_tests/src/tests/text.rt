@@ -64,19 +64,19 @@ fn texts_are_whole_wherever_they_are_cut(rt: HostRuntime) -> std::result::Result
         wanted.extend_from_slice(PRETTY.as_bytes())?;
         let mut out = Vec::new(rt.alloc());
         put_all(Text::<Vec<u8>, 1>::new(&mut out), letters)?;
-        assert_same!(&rt; out.as_slice(), wanted.as_slice());
+        assert_eq!(rt; out.as_slice(), wanted.as_slice());
         let mut out = Vec::new(rt.alloc());
         put_all(Text::<Vec<u8>, 2>::new(&mut out), letters)?;
-        assert_same!(&rt; out.as_slice(), wanted.as_slice());
+        assert_eq!(rt; out.as_slice(), wanted.as_slice());
         let mut out = Vec::new(rt.alloc());
         put_all(Text::<Vec<u8>, 16>::new(&mut out), letters)?;
-        assert_same!(&rt; out.as_slice(), wanted.as_slice());
+        assert_eq!(rt; out.as_slice(), wanted.as_slice());
         let mut out = Vec::new(rt.alloc());
         put_all(Text::<Vec<u8>, 40>::new(&mut out), letters)?;
-        assert_same!(&rt; out.as_slice(), wanted.as_slice());
+        assert_eq!(rt; out.as_slice(), wanted.as_slice());
         let mut out = Vec::new(rt.alloc());
         put_all(Text::<Vec<u8>, 64>::new(&mut out), letters)?;
-        assert_same!(&rt; out.as_slice(), wanted.as_slice());
+        assert_eq!(rt; out.as_slice(), wanted.as_slice());
     }
     Ok(())
 }
@@ -98,7 +98,7 @@ fn strings_stand_between_what_is_around_them(rt: HostRuntime) -> std::result::Re
             let mut text = Text::<Vec<u8>, 48>::new(&mut out);
             text.put_string(b"{\"", &string, b"\":");
             text.finish()?;
-            assert_same!(&rt; out.as_slice(), wanted.as_slice());
+            assert_eq!(rt; out.as_slice(), wanted.as_slice());
         }
     }
     Ok(())
@@ -125,16 +125,16 @@ fn assert_static(
     let wanted = wanted.as_slice();
     let mut out = Vec::new(alloc);
     put_one(Text::<Vec<u8>, 1>::new(&mut out), value)?;
-    assert_same!(rt; out.as_slice(), wanted);
+    assert_eq!(rt; out.as_slice(), wanted);
     let mut out = Vec::new(alloc);
     put_one(Text::<Vec<u8>, 33>::new(&mut out), value)?;
-    assert_same!(rt; out.as_slice(), wanted);
+    assert_eq!(rt; out.as_slice(), wanted);
     let mut out = Vec::new(alloc);
     put_one(Text::<Vec<u8>, 34>::new(&mut out), value)?;
-    assert_same!(rt; out.as_slice(), wanted);
+    assert_eq!(rt; out.as_slice(), wanted);
     let mut out = Vec::new(alloc);
     put_one(Text::<Vec<u8>, 64>::new(&mut out), value)?;
-    assert_same!(rt; out.as_slice(), wanted);
+    assert_eq!(rt; out.as_slice(), wanted);
     Ok(())
 }
 
@@ -216,13 +216,16 @@ fn a_writer_that_fails_is_called_no_more(rt: HostRuntime) {
             text.put_between(b"", b"", b"");
         }
         let fault = text.finish().err();
-        assert_same!(&rt; fault.map(|fault| fault.kind()), Some(ErrorKind::Interrupted));
-        assert_same!(&rt; writer.calls, 1);
+        assert_eq!(rt;
+            fault.map(|fault| fault.kind()),
+            Some(ErrorKind::Interrupted)
+        );
+        assert_eq!(rt; writer.calls, 1);
     }
     let mut writer = Once { calls: 0 };
     let mut text = Text::<Once, 16>::new(&mut writer);
     text.put(b"few");
-    assert_that!(&rt; !text.has_failed());
-    assert_that!(&rt; text.finish().is_err());
-    assert_same!(&rt; writer.calls, 1);
+    assert!(rt; !text.has_failed());
+    assert!(rt; text.finish().is_err());
+    assert_eq!(rt; writer.calls, 1);
 }

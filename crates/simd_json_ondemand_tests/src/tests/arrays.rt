@@ -36,15 +36,15 @@ fn elements_come_in_order(rt: HostRuntime) {
     for (input, wanted) in ARRAYS {
         let root = index.find(input).expect(&rt, "it is a document").as_value();
         let array = root.as_array().expect(&rt, "it is an array");
-        assert_same!(&rt; count(array), wanted.len(), *input);
+        assert_eq!(rt; count(array), wanted.len(), "{input:?}");
         let mut i = 0_usize;
         for element in array {
             let other = root.get_idx(i).expect(&rt, "it has so many elements");
-            assert_same!(&rt; Some(element.as_u8()), wanted.get(i).copied(), *input);
-            assert_same!(&rt; other.as_u8(), element.as_u8(), *input);
+            assert_eq!(rt; Some(element.as_u8()), wanted.get(i).copied(), "{input:?}");
+            assert_eq!(rt; other.as_u8(), element.as_u8(), "{input:?}");
             i = i.saturating_add(1);
         }
-        assert_that!(&rt; root.get_idx(wanted.len()).is_none());
+        assert!(rt; root.get_idx(wanted.len()).is_none());
     }
 }
 
@@ -57,8 +57,11 @@ fn elements_are_values(rt: HostRuntime) {
         .as_value();
     let inner = root.get_idx(1).expect(&rt, "it has two elements");
     let last = inner.get_idx(1).expect(&rt, "it has two elements");
-    assert_same!(&rt; root.get_idx(0).and_then(|v| v.value_type()), Some(ValueType::Object));
-    assert_same!(&rt; last.get_idx(1).and_then(|v| v.as_u64()), Some(5));
+    assert_eq!(rt;
+        root.get_idx(0).and_then(|v| v.value_type()),
+        Some(ValueType::Object)
+    );
+    assert_eq!(rt; last.get_idx(1).and_then(|v| v.as_u64()), Some(5));
 }
 
 // Over bytes that are no document the elements end where no comma follows.
@@ -75,11 +78,11 @@ fn other_bytes_have_elements_up_to_a_comma(rt: HostRuntime) {
     for (input, wanted) in cases {
         let root = index.find(input).expect(&rt, "it is scanned").as_value();
         let array = root.as_array().expect(&rt, "it begins an array");
-        assert_same!(&rt; count(array), wanted, input);
+        assert_eq!(rt; count(array), wanted, "{input:?}");
     }
     for input in [b"1".as_slice(), b"{}", b"\"[\"", b"[", b"]"] {
         let root = index.find(input).expect(&rt, "it is scanned").as_value();
-        assert_that!(&rt; root.as_array().is_none());
-        assert_that!(&rt; root.get_idx(0).is_none());
+        assert!(rt; root.as_array().is_none());
+        assert!(rt; root.get_idx(0).is_none());
     }
 }

@@ -29,8 +29,8 @@ pub(super) fn checked(
 ) -> Option<Error> {
     let before = Vec::from_slice(rt.alloc(), input).expect(rt, MEMORY);
     let error = index.check(input, max_depth).err();
-    assert_same!(rt; input, before.as_slice());
-    assert_same!(rt; &error, &parsed(rt, input, max_depth), input);
+    assert_eq!(rt; input, before.as_slice());
+    assert_eq!(rt; &error, &parsed(rt, input, max_depth), "{input:?}");
     error
 }
 
@@ -40,12 +40,12 @@ fn documents_are_accepted(rt: HostRuntime) {
     let mut other = Index::new(rt.alloc(), 0).expect(&rt, MEMORY);
     for documents in [SCALARS, DOCUMENTS] {
         for input in documents {
-            assert_same!(&rt; checked(&rt, &mut index, input, 1024), None, *input);
+            assert_eq!(rt; checked(&rt, &mut index, input, 1024), None, "{input:?}");
             let document = index.check(input, 1024).expect(&rt, "it is a document");
             let wanted = other.find(input).expect(&rt, "it is scanned");
             let (value, wanted) = (document.as_value(), wanted.as_value());
-            assert_same!(&rt; value.value_type(), wanted.value_type(), *input);
-            assert_same!(&rt; value.raw(), wanted.raw(), *input);
+            assert_eq!(rt; value.value_type(), wanted.value_type(), "{input:?}");
+            assert_eq!(rt; value.raw(), wanted.raw(), "{input:?}");
         }
     }
 }
@@ -62,7 +62,7 @@ fn errors_of_the_whole_input_are_those_of_a_parse(rt: HostRuntime) {
         (b"[\xed\xa0\x80]", ErrorType::InvalidUtf8),
     ] {
         let error = checked(&rt, &mut index, input, 1024).expect(&rt, "it is rejected");
-        assert_same!(&rt; error.error(), &kind, input);
+        assert_eq!(rt; error.error(), &kind, "{input:?}");
     }
 }
 
@@ -86,7 +86,7 @@ fn errors_of_structure_are_those_of_a_parse(rt: HostRuntime) {
         (b"\"\\n\" \"\"", ErrorType::TrailingData),
     ] {
         let error = checked(&rt, &mut index, input, 1024).expect(&rt, "it is rejected");
-        assert_same!(&rt; error.error(), &kind, input);
+        assert_eq!(rt; error.error(), &kind, "{input:?}");
     }
 }
 
@@ -112,7 +112,7 @@ fn errors_of_scalars_are_those_of_a_parse(rt: HostRuntime) {
         (b"[\"\\ud83d\"]", ErrorType::InvalidUnicodeCodepoint),
     ] {
         let error = checked(&rt, &mut index, input, 1024).expect(&rt, "it is rejected");
-        assert_same!(&rt; error.error(), &kind, input);
+        assert_eq!(rt; error.error(), &kind, "{input:?}");
     }
 }
 
@@ -137,7 +137,11 @@ fn escapes_are_checked_in_each_block(rt: HostRuntime) {
                 .expect(&rt, MEMORY);
             input.extend_from_slice(b"\"]").expect(&rt, MEMORY);
             let error = checked(&rt, &mut index, &input, 1024);
-            assert_same!(&rt; error.as_ref().map(|e| e.error()), wanted.as_ref(), (escape, plain));
+            assert_eq!(rt;
+                error.as_ref().map(|e| e.error()),
+                wanted.as_ref(),
+                "{escape:?}, {plain:?}"
+            );
         }
     }
 }
@@ -160,7 +164,7 @@ fn changed_documents_are_checked_as_they_are_parsed(rt: HostRuntime) {
             checked(&rt, &mut index, &document[..i], 4);
         }
     }
-    assert_that!(&rt; rejected > 1000);
+    assert!(rt; rejected > 1000);
 }
 
 // Arrays in one another, with fewer and with more levels than have a stack that is not allocated.
@@ -178,7 +182,7 @@ fn depth_is_limited(rt: HostRuntime) {
             let error = checked(&rt, &mut index, &input, limit);
             let deep = Error::new(limit, Some('['), ErrorType::DepthLimitExceeded);
             let wanted = if depth > limit { Some(deep) } else { None };
-            assert_same!(&rt; error, wanted, (depth, limit));
+            assert_eq!(rt; error, wanted, "{depth:?} within {limit:?}");
         }
     }
 }
@@ -198,9 +202,9 @@ fn checked_with(rt: &(impl AllocGlobal + Abort), depth: usize, left: usize) -> R
         Ok(_document) => Ok(()),
         Err(e) => Err(e),
     };
-    assert_same!(rt; heap.used(), used);
+    assert_eq!(rt; heap.used(), used);
     drop(full);
-    assert_same!(rt; index.check(&input, 1024).is_ok(), true);
+    assert_eq!(rt; index.check(&input, 1024).is_ok(), true);
     answer
 }
 
@@ -210,8 +214,8 @@ fn checked_with(rt: &(impl AllocGlobal + Abort), depth: usize, left: usize) -> R
 fn memory_is_taken_for_a_copy_and_a_stack(rt: HostRuntime) {
     for left in [0, 100, 200, 1000, 3000] {
         let wanted = Err(Error::generic(ErrorType::OutOfMemory));
-        assert_same!(&rt; checked_with(&rt, 70, left), wanted, left);
+        assert_eq!(rt; checked_with(&rt, 70, left), wanted, "{left:?}");
     }
-    assert_same!(&rt; checked_with(&rt, 70, 4000), Ok(()));
-    assert_same!(&rt; checked_with(&rt, 64, 0), Ok(()));
+    assert_eq!(rt; checked_with(&rt, 70, 4000), Ok(()));
+    assert_eq!(rt; checked_with(&rt, 64, 0), Ok(()));
 }

@@ -61,17 +61,17 @@ fn sum_of(rt: &impl AllocGlobal, log: &[u8], key: &str) -> Result<u64> {
 #[test]
 fn examples_run(rt: HostRuntime) {
     let line = br#"{"level":"info","status":200}"#;
-    assert_same!(&rt; status(&rt, line).expect(&rt, MEMORY), Some(200));
+    assert_eq!(rt; status(&rt, line).expect(&rt, MEMORY), Some(200));
     let len = name_len(&rt, b"\"caf\\u00e9\"").expect(&rt, MEMORY);
-    assert_same!(&rt; len, Some(5));
+    assert_eq!(rt; len, Some(5));
     let sum = sum(&rt, &[b"1", b"\"2\"", b"3"]).expect(&rt, MEMORY);
-    assert_same!(&rt; sum, 4);
-    assert_same!(&rt; is_json(&rt, b"[1,2]").expect(&rt, MEMORY), true);
-    assert_same!(&rt; is_json(&rt, b"[1,2").expect(&rt, MEMORY), false);
+    assert_eq!(rt; sum, 4);
+    assert_eq!(rt; is_json(&rt, b"[1,2]").expect(&rt, MEMORY), true);
+    assert_eq!(rt; is_json(&rt, b"[1,2").expect(&rt, MEMORY), false);
     let log = b"{\"bytes\":1}\n \n{\"other\":2}\r\n{\"bytes\":3}";
-    assert_same!(&rt; sum_of(&rt, log, "bytes").expect(&rt, MEMORY), 4);
+    assert_eq!(rt; sum_of(&rt, log, "bytes").expect(&rt, MEMORY), 4);
     let message = br#"{"author":{"id":1,"name":"a","likes":2},"likes":3}"#;
     let mut index = Index::new(rt.alloc(), 0).expect(&rt, MEMORY);
     let root = index.find(message).expect(&rt, MEMORY).as_value();
-    assert_same!(&rt; fields(root), Some(("a", Some(3))));
+    assert_eq!(rt; fields(root), Some(("a", Some(3))));
 }

@@ -51,7 +51,7 @@ fn numbers_are_read_as_the_nearest_float(rt: HostRuntime) {
             Some(number) => Some(f64_to_bits_with_nan(number)),
             None => None,
         };
-        assert_same!(&rt; found, Some(*bits), *input);
+        assert_eq!(rt; found, Some(*bits), "{input:?}");
     }
     for input in [
         b"\"1\"".as_slice(),
@@ -70,6 +70,6 @@ fn numbers_are_read_as_the_nearest_float(rt: HostRuntime) {
         b"1.5.",
     ] {
         let value = index.find(input).expect(&rt, "it is scanned").as_value();
-        assert_same!(&rt; value.as_f64(), None, input);
+        assert_eq!(rt; value.as_f64(), None, "{input:?}");
     }
 }

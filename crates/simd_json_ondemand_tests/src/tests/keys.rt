@@ -104,11 +104,11 @@ fn values_are_found_by_key(rt: HostRuntime) {
                 .find(&bytes)
                 .expect(&rt, "it is a document")
                 .as_value();
-            assert_same!(&rt; root.get(key).and_then(|v| v.as_u64()), *wanted, *key);
+            assert_eq!(rt; root.get(key).and_then(|v| v.as_u64()), *wanted, "{key:?}");
             let tape: Tape<'_> = to_tape(rt.alloc(), &mut bytes).expect(&rt, "it is a document");
-            assert_that!(&rt; !tape.is_empty());
+            assert!(rt; !tape.is_empty());
             let other = tape.as_value().get(key).and_then(|v| v.as_u64());
-            assert_same!(&rt; other, *wanted, *key);
+            assert_eq!(rt; other, *wanted, "{key:?}");
         }
     }
 }
@@ -121,15 +121,15 @@ fn a_search_goes_on_behind_what_it_found(rt: HostRuntime) {
         .expect(&rt, "it is a document")
         .as_value();
     let mut members = root.as_object().expect(&rt, "it is an object");
-    assert_that!(&rt; members.find("z").is_none());
-    assert_same!(&rt; members.find("a").and_then(|v| v.as_u64()), Some(1));
-    assert_same!(&rt; members.find("a").and_then(|v| v.as_u64()), Some(3));
-    assert_that!(&rt; members.find("z").is_none());
+    assert!(rt; members.find("z").is_none());
+    assert_eq!(rt; members.find("a").and_then(|v| v.as_u64()), Some(1));
+    assert_eq!(rt; members.find("a").and_then(|v| v.as_u64()), Some(3));
+    assert!(rt; members.find("z").is_none());
     let last = members.next().expect(&rt, "a member is left");
-    assert_same!(&rt; last.0.as_str(), Some("c"));
-    assert_that!(&rt; members.next().is_none());
-    assert_same!(&rt; members.find("c").and_then(|v| v.as_u64()), Some(4));
-    assert_that!(&rt; members.next().is_none());
+    assert_eq!(rt; last.0.as_str(), Some("c"));
+    assert!(rt; members.next().is_none());
+    assert_eq!(rt; members.find("c").and_then(|v| v.as_u64()), Some(4));
+    assert!(rt; members.next().is_none());
 }
 
 // Four members, of which two have the same key.
@@ -170,11 +170,23 @@ fn a_search_goes_once_round(rt: HostRuntime) {
             }
             let mut tried = members;
             let found = members.find(key).and_then(|v| v.as_u64());
-            assert_same!(&rt; found, *wanted, (*steps, *key));
-            assert_same!(&rt; members.next().and_then(|m| m.0.as_str()), *next, (*steps, *key));
+            assert_eq!(rt; found, *wanted, "{steps:?}, {key:?}");
+            assert_eq!(rt;
+                members.next().and_then(|m| m.0.as_str()),
+                *next,
+                "{steps:?}, {key:?}"
+            );
             let found = tried.try_find(key).expect(&rt, "no walk stops");
-            assert_same!(&rt; found.and_then(|v| v.as_u64()), *wanted, (*steps, *key));
-            assert_same!(&rt; tried.next().and_then(|m| m.0.as_str()), *next, (*steps, *key));
+            assert_eq!(rt;
+                found.and_then(|v| v.as_u64()),
+                *wanted,
+                "{steps:?}, {key:?}"
+            );
+            assert_eq!(rt;
+                tried.next().and_then(|m| m.0.as_str()),
+                *next,
+                "{steps:?}, {key:?}"
+            );
         }
     }
 }
@@ -194,6 +206,6 @@ fn other_bytes_are_searched_up_to_a_comma(rt: HostRuntime) {
     ];
     for (input, key, wanted) in cases {
         let root = index.find(input).expect(&rt, "it is scanned").as_value();
-        assert_same!(&rt; root.get(key).and_then(|v| v.as_u64()), wanted, input);
+        assert_eq!(rt; root.get(key).and_then(|v| v.as_u64()), wanted, "{input:?}");
     }
 }

@@ -38,11 +38,11 @@ fn reserved_indexes_take_no_memory(rt: HostRuntime) {
     for _ in 0..100 {
         for line in LINES {
             let found = index.find(line).is_ok();
-            assert_that!(&rt; found);
-            assert_same!(&rt; index.fill(line), Ok(()));
+            assert!(rt; found);
+            assert_eq!(rt; index.fill(line), Ok(()));
         }
     }
-    assert_same!(&rt; heap.used(), used);
+    assert_eq!(rt; heap.used(), used);
 }
 
 #[test]
@@ -54,21 +54,21 @@ fn allocations_fail(rt: HostRuntime) {
     let _ballast = ballast(&rt, &heap, 0);
     let wanted = Error::generic(ErrorType::OutOfMemory);
     match index.find(b"[1]") {
-        Ok(_) => assert_that!(&rt; false),
-        Err(e) => assert_same!(&rt; e, wanted),
+        Ok(_) => assert!(rt; false),
+        Err(e) => assert_eq!(rt; e, wanted),
     }
     let wanted = Err(Error::generic(ErrorType::OutOfMemory));
-    assert_same!(&rt; index.reserve(1 << 20), wanted);
+    assert_eq!(rt; index.reserve(1 << 20), wanted);
     let value = global
         .find(b"\"\\n\"")
         .expect(&rt, "it is a document")
         .as_value();
     match value.decode(&mut buffer) {
-        Ok(_) => assert_that!(&rt; false),
-        Err(e) => assert_same!(&rt; e, Error::generic(ErrorType::OutOfMemory)),
+        Ok(_) => assert!(rt; false),
+        Err(e) => assert_eq!(rt; e, Error::generic(ErrorType::OutOfMemory)),
     }
     match Index::new(&heap, 64) {
-        Ok(_) => assert_that!(&rt; false),
-        Err(e) => assert_same!(&rt; e, Error::generic(ErrorType::OutOfMemory)),
+        Ok(_) => assert!(rt; false),
+        Err(e) => assert_eq!(rt; e, Error::generic(ErrorType::OutOfMemory)),
     }
 }

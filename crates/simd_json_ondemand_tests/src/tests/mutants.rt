@@ -81,10 +81,10 @@ fn assert_alike(
     buffer: &mut Vec<u8>,
     case: &[u8],
 ) {
-    assert_same!(rt; value.is_some(), wanted.is_some(), case);
+    assert_eq!(rt; value.is_some(), wanted.is_some(), "{case:?}");
     if let (Some(value), Some(wanted)) = (value, wanted) {
         assert_others(rt, value, wanted, case);
-        assert_same!(rt; value.as_i128(), wanted.as_i128(), case);
+        assert_eq!(rt; value.as_i128(), wanted.as_i128(), "{case:?}");
         assert_string(rt, value, wanted, buffer, case);
     }
 }
@@ -122,8 +122,8 @@ fn assert_elements<'d, 't, 'i>(
         assert_alike(rt, value.get_idx(i), Some(other), buffer, case);
         i = i.saturating_add(1);
     }
-    assert_that!(rt; elements.next().is_none());
-    assert_that!(rt; value.get_idx(i).is_none());
+    assert!(rt; elements.next().is_none());
+    assert!(rt; value.get_idx(i).is_none());
 }
 
 // The members are those of the tape, in order, and by their keys.
@@ -142,12 +142,16 @@ fn assert_members<'d, 't, 'i>(
     for (name, other) in others.iter() {
         let (key, member) = members.next().expect(rt, "a member is left");
         left.push((member, other)).expect(rt, MEMORY);
-        assert_same!(rt; key.decode(buffer).expect(rt, MEMORY), Some(name), case);
+        assert_eq!(rt;
+            key.decode(buffer).expect(rt, MEMORY),
+            Some(name),
+            "{case:?}"
+        );
         assert_alike(rt, searched.find(name), Some(other), buffer, case);
         assert_alike(rt, value.get(name), wanted.get(name), buffer, case);
     }
-    assert_that!(rt; members.next().is_none());
-    assert_that!(rt; searched.next().is_none());
+    assert!(rt; members.next().is_none());
+    assert!(rt; searched.next().is_none());
     assert_alike(rt, value.get("a"), wanted.get("a"), buffer, case);
 }
 
@@ -168,7 +172,7 @@ fn assert_document(rt: &(impl AllocGlobal + Abort), root: Value<'_>, input: &[u8
         assert_elements(rt, value, wanted, &mut left, &mut buffer, input);
         assert_members(rt, value, wanted, &mut left, &mut buffer, input);
     }
-    assert_that!(rt; left.is_empty());
+    assert!(rt; left.is_empty());
 }
 
 // Of other bytes each value that is found is read, and all calls return.
@@ -193,7 +197,7 @@ fn walk(rt: &(impl AllocGlobal + Abort), root: Value<'_>, input: &[u8]) {
             }
         }
     }
-    assert_that!(rt; left.is_empty());
+    assert!(rt; left.is_empty());
 }
 
 // What is a value of one kind is none of another.
@@ -204,12 +208,12 @@ fn read(rt: &impl Abort, value: Value<'_>, buffer: &mut Vec<u8>) {
     let number = value.as_decimal().is_some()
         || value.as_i128().is_some()
         || value.as_u128().is_some();
-    assert_that!(rt; !(string && (scalar || number)));
-    assert_that!(rt; !(scalar && number));
-    assert_that!(rt; raw.is_some() || !(string || scalar || number));
-    assert_that!(rt; value.get("a").is_none() || value.is_object());
-    assert_that!(rt; value.get_idx(1).is_none() || value.is_array());
-    assert_that!(rt; value.value_type().is_some() || raw.is_none());
+    assert!(rt; !(string && (scalar || number)));
+    assert!(rt; !(scalar && number));
+    assert!(rt; raw.is_some() || !(string || scalar || number));
+    assert!(rt; value.get("a").is_none() || value.is_object());
+    assert!(rt; value.get_idx(1).is_none() || value.is_array());
+    assert!(rt; value.value_type().is_some() || raw.is_none());
 }
 
 #[test]
@@ -225,7 +229,7 @@ fn mutants_are_read_as_by_a_tape(rt: HostRuntime) {
         numbers.mutant(&mut text, &rt);
         let error = checked(&rt, &mut index, &text, 1024);
         let Ok(document) = index.find(&text) else {
-            assert_that!(&rt; error.is_some());
+            assert!(rt; error.is_some());
             continue;
         };
         walk(&rt, document.as_value(), &text);
@@ -235,5 +239,5 @@ fn mutants_are_read_as_by_a_tape(rt: HostRuntime) {
         }
     }
     let fifth = mutants / 5;
-    assert_that!(&rt; documents > fifth && documents < mutants - fifth);
+    assert!(rt; documents > fifth && documents < mutants - fifth);
 }

@@ -29,9 +29,9 @@ fn members_come_in_order(rt: HostRuntime) {
         let mut i = 0_usize;
         for (key, value) in object {
             let found = (key.as_str().unwrap_or("?"), value.as_u8());
-            assert_same!(&rt; Some(found), wanted.get(i).copied(), *input);
+            assert_eq!(rt; Some(found), wanted.get(i).copied(), "{input:?}");
             i = i.saturating_add(1);
         }
-        assert_same!(&rt; i, wanted.len(), *input);
+        assert_eq!(rt; i, wanted.len(), "{input:?}");
     }
 }

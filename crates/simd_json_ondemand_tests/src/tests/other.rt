@@ -14,8 +14,8 @@ fn errors_of_the_whole_input_are_found(rt: HostRuntime) {
         (b"\"\xff\"", ErrorType::InvalidUtf8),
     ] {
         match index.find(input) {
-            Ok(_) => assert_that!(&rt; false),
-            Err(e) => assert_same!(&rt; e, Error::generic(kind), input),
+            Ok(_) => assert!(rt; false),
+            Err(e) => assert_eq!(rt; e, Error::generic(kind), "{input:?}"),
         }
     }
 }
@@ -50,14 +50,14 @@ fn literals_are_whole(rt: HostRuntime) {
             .find(input)
             .expect(&rt, "the strings are closed")
             .as_value();
-        assert_same!(&rt; value.value_type(), None, input);
-        assert_same!(&rt; value.as_null(), None, input);
-        assert_same!(&rt; value.as_bool(), None, input);
-        assert_same!(&rt; value.as_i128(), None, input);
-        assert_same!(&rt; value.as_u128(), None, input);
-        assert_same!(&rt; value.as_decimal(), None, input);
-        assert_same!(&rt; value.as_f64(), None, input);
-        assert_same!(&rt; value.as_str(), None, input);
+        assert_eq!(rt; value.value_type(), None, "{input:?}");
+        assert_eq!(rt; value.as_null(), None, "{input:?}");
+        assert_eq!(rt; value.as_bool(), None, "{input:?}");
+        assert_eq!(rt; value.as_i128(), None, "{input:?}");
+        assert_eq!(rt; value.as_u128(), None, "{input:?}");
+        assert_eq!(rt; value.as_decimal(), None, "{input:?}");
+        assert_eq!(rt; value.as_f64(), None, "{input:?}");
+        assert_eq!(rt; value.as_str(), None, "{input:?}");
     }
 }
 
@@ -70,15 +70,15 @@ fn what_is_not_visited_is_not_checked(rt: HostRuntime) {
         .find(b"1 2")
         .expect(&rt, "there are no strings")
         .as_value();
-    assert_same!(&rt; value.as_u64(), Some(1));
+    assert_eq!(rt; value.as_u64(), Some(1));
     let value = index
         .find(b"\"\\q\"")
         .expect(&rt, "it is closed")
         .as_value();
-    assert_same!(&rt; value.value_type(), Some(ValueType::String));
-    assert_same!(&rt; value.as_str(), None);
+    assert_eq!(rt; value.value_type(), Some(ValueType::String));
+    assert_eq!(rt; value.as_str(), None);
     let decoded = value.decode(&mut buffer).expect(&rt, MEMORY);
-    assert_same!(&rt; decoded, None);
+    assert_eq!(rt; decoded, None);
 }
 
 // As they are written, with quotes and escapes.
@@ -109,6 +109,6 @@ fn literals_are_raw(rt: HostRuntime) {
             .find(input)
             .expect(&rt, "the strings are closed")
             .as_value();
-        assert_same!(&rt; value.raw(), raw, input);
+        assert_eq!(rt; value.raw(), raw, "{input:?}");
     }
 }

@@ -32,25 +32,25 @@ fn assert_object(rt: &impl Abort, members: Object<'_>, steps: usize, case: &[u8]
     let mut passing = members;
     for (key, value) in members {
         let (other_key, other) = passing.next().expect(rt, "there are as many");
-        assert_same!(rt; other_key.raw(), key.raw(), case);
-        assert_same!(rt; other.raw(), value.raw(), case);
+        assert_eq!(rt; other_key.raw(), key.raw(), "{case:?}");
+        assert_eq!(rt; other.raw(), value.raw(), "{case:?}");
         if let Some(end) = end_after(other, steps) {
             passing.pass(end);
         }
     }
-    assert_that!(rt; passing.next().is_none());
+    assert!(rt; passing.next().is_none());
 }
 
 fn assert_array(rt: &impl Abort, elements: Array<'_>, steps: usize, case: &[u8]) {
     let mut passing = elements;
     for value in elements {
         let other = passing.next().expect(rt, "there are as many");
-        assert_same!(rt; other.raw(), value.raw(), case);
+        assert_eq!(rt; other.raw(), value.raw(), "{case:?}");
         if let Some(end) = end_after(other, steps) {
             passing.pass(end);
         }
     }
-    assert_that!(rt; passing.next().is_none());
+    assert!(rt; passing.next().is_none());
 }
 
 #[test]

@@ -75,16 +75,20 @@ fn pointers_name_what_they_do_in_a_tape(rt: HostRuntime) {
     let mut index = Index::new(rt.alloc(), 0).expect(&rt, MEMORY);
     for (input, pointer, wanted) in POINTERS {
         let root = index.find(input).expect(&rt, "it is a document").as_value();
-        assert_same!(&rt; root.pointer(pointer).and_then(|v| v.as_u64()), *wanted, *pointer);
+        assert_eq!(rt;
+            root.pointer(pointer).and_then(|v| v.as_u64()),
+            *wanted,
+            "{pointer:?}"
+        );
         let split = Pointer::<4>::new(pointer).and_then(|p| root.at(&p));
-        assert_same!(&rt; split.and_then(|v| v.as_u64()), *wanted, *pointer);
+        assert_eq!(rt; split.and_then(|v| v.as_u64()), *wanted, "{pointer:?}");
         let mut copy = Vec::from_slice(rt.alloc(), input).expect(&rt, MEMORY);
         let tape: Tape<'_> = to_tape(rt.alloc(), &mut copy).expect(&rt, "it is a document");
-        assert_that!(&rt; !tape.is_empty());
+        assert!(rt; !tape.is_empty());
         let other = tape.as_value().pointer(pointer).and_then(|v| v.as_u64());
-        assert_same!(&rt; other, *wanted, *pointer);
+        assert_eq!(rt; other, *wanted, "{pointer:?}");
         let tried = root.try_pointer(pointer).unwrap_or(None);
-        assert_same!(&rt; tried.and_then(|v| v.as_u64()), *wanted, *pointer);
+        assert_eq!(rt; tried.and_then(|v| v.as_u64()), *wanted, "{pointer:?}");
     }
 }
 
@@ -93,9 +97,13 @@ fn keys_with_escapes_are_named(rt: HostRuntime) {
     let mut index = Index::new(rt.alloc(), 0).expect(&rt, MEMORY);
     let root = index.find(ESCAPED).expect(&rt, "it is scanned").as_value();
     for (pointer, wanted) in OTHERS {
-        assert_same!(&rt; root.pointer(pointer).and_then(|v| v.as_u64()), *wanted, *pointer);
+        assert_eq!(rt;
+            root.pointer(pointer).and_then(|v| v.as_u64()),
+            *wanted,
+            "{pointer:?}"
+        );
         let split = Pointer::<4>::new(pointer).and_then(|p| root.at(&p));
-        assert_same!(&rt; split.and_then(|v| v.as_u64()), *wanted, *pointer);
+        assert_eq!(rt; split.and_then(|v| v.as_u64()), *wanted, "{pointer:?}");
     }
 }
 
@@ -173,6 +181,6 @@ fn a_missing_value_is_no_fault(rt: HostRuntime) {
             Ok(found) => Ok(found.and_then(|v| v.as_u64())),
             Err(e) => Err((e.index, e.expected, e.got)),
         };
-        assert_same!(&rt; integer, *wanted, *pointer);
+        assert_eq!(rt; integer, *wanted, "{pointer:?}");
     }
 }

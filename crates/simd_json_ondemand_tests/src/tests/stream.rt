@@ -16,8 +16,8 @@ fn lines_are_what_is_between_line_feeds(rt: HostRuntime) {
     for (input, wanted) in STREAMS {
         let mut left = lines(input);
         for line in *wanted {
-            assert_same!(&rt; left.next(), Some(*line), *input);
+            assert_eq!(rt; left.next(), Some(*line), "{input:?}");
         }
-        assert_same!(&rt; left.next(), None, *input);
+        assert_eq!(rt; left.next(), None, "{input:?}");
     }
 }

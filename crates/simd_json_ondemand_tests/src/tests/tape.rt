@@ -66,17 +66,17 @@ pub(super) fn assert_integers(
     wanted: tape::Value<'_, '_>,
     case: &[u8],
 ) {
-    assert_same!(rt; value.as_i8(), wanted.as_i8(), case);
-    assert_same!(rt; value.as_i16(), wanted.as_i16(), case);
-    assert_same!(rt; value.as_i32(), wanted.as_i32(), case);
-    assert_same!(rt; value.as_i64(), wanted.as_i64(), case);
-    assert_same!(rt; value.as_i128(), wanted.as_i128(), case);
-    assert_same!(rt; value.as_u8(), wanted.as_u8(), case);
-    assert_same!(rt; value.as_u16(), wanted.as_u16(), case);
-    assert_same!(rt; value.as_u32(), wanted.as_u32(), case);
-    assert_same!(rt; value.as_u64(), wanted.as_u64(), case);
-    assert_same!(rt; value.as_u128(), wanted.as_u128(), case);
-    assert_same!(rt; value.as_usize(), wanted.as_usize(), case);
+    assert_eq!(rt; value.as_i8(), wanted.as_i8(), "{case:?}");
+    assert_eq!(rt; value.as_i16(), wanted.as_i16(), "{case:?}");
+    assert_eq!(rt; value.as_i32(), wanted.as_i32(), "{case:?}");
+    assert_eq!(rt; value.as_i64(), wanted.as_i64(), "{case:?}");
+    assert_eq!(rt; value.as_i128(), wanted.as_i128(), "{case:?}");
+    assert_eq!(rt; value.as_u8(), wanted.as_u8(), "{case:?}");
+    assert_eq!(rt; value.as_u16(), wanted.as_u16(), "{case:?}");
+    assert_eq!(rt; value.as_u32(), wanted.as_u32(), "{case:?}");
+    assert_eq!(rt; value.as_u64(), wanted.as_u64(), "{case:?}");
+    assert_eq!(rt; value.as_u128(), wanted.as_u128(), "{case:?}");
+    assert_eq!(rt; value.as_usize(), wanted.as_usize(), "{case:?}");
 }
 
 pub(super) fn assert_others(
@@ -85,12 +85,12 @@ pub(super) fn assert_others(
     wanted: tape::Value<'_, '_>,
     case: &[u8],
 ) {
-    assert_same!(rt; value.value_type(), Some(wanted.value_type()), case);
-    assert_same!(rt; value.is_array(), wanted.is_array(), case);
-    assert_same!(rt; value.is_object(), wanted.is_object(), case);
-    assert_same!(rt; value.as_null(), wanted.as_null(), case);
-    assert_same!(rt; value.as_bool(), wanted.as_bool(), case);
-    assert_same!(rt; value.as_decimal(), wanted.as_decimal(), case);
+    assert_eq!(rt; value.value_type(), Some(wanted.value_type()), "{case:?}");
+    assert_eq!(rt; value.is_array(), wanted.is_array(), "{case:?}");
+    assert_eq!(rt; value.is_object(), wanted.is_object(), "{case:?}");
+    assert_eq!(rt; value.as_null(), wanted.as_null(), "{case:?}");
+    assert_eq!(rt; value.as_bool(), wanted.as_bool(), "{case:?}");
+    assert_eq!(rt; value.as_decimal(), wanted.as_decimal(), "{case:?}");
 }
 
 pub(super) fn assert_string(
@@ -101,10 +101,10 @@ pub(super) fn assert_string(
     case: &[u8],
 ) {
     if let Some(string) = value.as_str() {
-        assert_same!(rt; Some(string), wanted.as_str(), case);
+        assert_eq!(rt; Some(string), wanted.as_str(), "{case:?}");
     }
     let decoded = value.decode(buffer).expect(rt, MEMORY);
-    assert_same!(rt; decoded, wanted.as_str(), case);
+    assert_eq!(rt; decoded, wanted.as_str(), "{case:?}");
 }
 
 #[test]
@@ -114,7 +114,7 @@ fn scalars_are_those_of_a_tape(rt: HostRuntime) {
     for input in SCALARS {
         let mut copy = Vec::from_slice(rt.alloc(), input).expect(&rt, MEMORY);
         let tape: Tape<'_> = to_tape(rt.alloc(), &mut copy).expect(&rt, "it is a document");
-        assert_that!(&rt; !tape.is_empty());
+        assert!(rt; !tape.is_empty());
         let document = index.find(input).expect(&rt, "it is a document");
         let (value, wanted) = (document.as_value(), tape.as_value());
         assert_integers(&rt, value, wanted, input);

@@ -130,11 +130,11 @@ fn a_missing_item_is_no_fault(rt: HostRuntime) {
     let mut index = Index::new(rt.alloc(), 100).expect(&rt, MEMORY);
     for (input, key, wanted) in KEYS {
         let root = index.find(input).expect(&rt, "it is scanned").as_value();
-        assert_same!(&rt; integer(root.try_get(key)), *wanted, *input);
+        assert_eq!(rt; integer(root.try_get(key)), *wanted, "{input:?}");
     }
     for (input, i, wanted) in INDEXES {
         let root = index.find(input).expect(&rt, "it is scanned").as_value();
-        assert_same!(&rt; integer(root.try_get_idx(*i)), *wanted, *input);
+        assert_eq!(rt; integer(root.try_get_idx(*i)), *wanted, "{input:?}");
     }
 }
 
@@ -144,18 +144,26 @@ fn walk(rt: &impl Abort, root: Value<'_>, input: &[u8]) {
         let mut walk = root.try_as_array().expect(rt, "it is an array");
         for element in array {
             let next = walk.try_next().expect(rt, "it is a document");
-            assert_same!(rt; next.and_then(|v| v.value_type()), element.value_type(), input);
+            assert_eq!(rt;
+                next.and_then(|v| v.value_type()),
+                element.value_type(),
+                "{input:?}"
+            );
         }
-        assert_that!(rt; walk.try_next().is_ok_and(|next| next.is_none()));
+        assert!(rt; walk.try_next().is_ok_and(|next| next.is_none()));
     }
     if let Some(object) = root.as_object() {
         let mut walk = root.try_as_object().expect(rt, "it is an object");
         for (key, value) in object {
             let next = walk.try_next().expect(rt, "it is a document");
-            assert_same!(rt; next.and_then(|m| m.0.raw()), key.raw(), input);
-            assert_same!(rt; next.and_then(|m| m.1.value_type()), value.value_type(), input);
+            assert_eq!(rt; next.and_then(|m| m.0.raw()), key.raw(), "{input:?}");
+            assert_eq!(rt;
+                next.and_then(|m| m.1.value_type()),
+                value.value_type(),
+                "{input:?}"
+            );
         }
-        assert_that!(rt; walk.try_next().is_ok_and(|next| next.is_none()));
+        assert!(rt; walk.try_next().is_ok_and(|next| next.is_none()));
     }
 }
 
@@ -217,7 +225,7 @@ fn scalars_of_another_kind_are_refused(rt: HostRuntime) {
         (b"x", kinds),
     ] {
         let root = index.find(input).expect(&rt, "it is scanned").as_value();
-        assert_same!(&rt; refusals(root), wanted, input);
+        assert_eq!(rt; refusals(root), wanted, "{input:?}");
     }
 }
 
@@ -246,6 +254,6 @@ fn errors_are_printed_in_words(rt: HostRuntime) {
             .err()
             .expect(&rt, "it is no object with the key");
         let printed = e.to_string(rt.alloc()).expect(&rt, MEMORY);
-        assert_same!(&rt; printed.as_str(), wanted, input);
+        assert_eq!(rt; printed.as_str(), wanted, "{input:?}");
     }
 }

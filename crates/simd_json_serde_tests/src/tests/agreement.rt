@@ -42,7 +42,7 @@ fn values_in<'a, T: DeserializeOwned + Deserialize<'a> + PartialEq>(
             (Err(_), Err(_)) => true,
             _ => false,
         };
-        assert_that!(rt; agrees || line.contains("-0"), line);
+        assert!(rt; agrees || line.contains("-0"), "{line}");
     }
     values
 }
@@ -51,7 +51,7 @@ fn values_in<'a, T: DeserializeOwned + Deserialize<'a> + PartialEq>(
 fn structs_agree(rt: HostRuntime) {
     let alloc = rt.alloc();
     let tweets = one_line(&rt, alloc, TWEETS);
-    assert_same!(&rt; values_in::<Vec<Tweet>>(&rt, alloc, &tweets), 1);
+    assert_eq!(rt; values_in::<Vec<Tweet>>(&rt, alloc, &tweets), 1);
     let folders = r#"{"size":1,"folders":[]}
 {"size":1,"folders":[{"size":2,"folders":[{"folders":[],"size":3}]}]}
 [1,[[2,[]]]]
@@ -63,11 +63,11 @@ fn structs_agree(rt: HostRuntime) {
 [1,[],2]
 []
 {}"#;
-    assert_same!(&rt; values_in::<Folder>(&rt, alloc, folders), 3);
+    assert_eq!(rt; values_in::<Folder>(&rt, alloc, folders), 3);
     let placed = r#"{"id":1,"x":2,"z":[0],"y":-3}
 {"id":1,"x":2}
 {"id":1,"x":2,"y":200}"#;
-    assert_same!(&rt; values_in::<Placed>(&rt, alloc, placed), 1);
+    assert_eq!(rt; values_in::<Placed>(&rt, alloc, placed), 1);
 }
 
 // Of each enum the values come first.
@@ -107,11 +107,11 @@ null
 #[test]
 fn enums_agree(rt: HostRuntime) {
     let alloc = rt.alloc();
-    assert_same!(&rt; values_in::<Shape>(&rt, alloc, ENUMS), 6);
-    assert_same!(&rt; values_in::<Option<Shape>>(&rt, alloc, ENUMS), 7);
-    assert_same!(&rt; values_in::<Command>(&rt, alloc, ENUMS), 3);
-    assert_same!(&rt; values_in::<Message>(&rt, alloc, ENUMS), 3);
-    assert_same!(&rt; values_in::<Either>(&rt, alloc, ENUMS), 7);
+    assert_eq!(rt; values_in::<Shape>(&rt, alloc, ENUMS), 6);
+    assert_eq!(rt; values_in::<Option<Shape>>(&rt, alloc, ENUMS), 7);
+    assert_eq!(rt; values_in::<Command>(&rt, alloc, ENUMS), 3);
+    assert_eq!(rt; values_in::<Message>(&rt, alloc, ENUMS), 3);
+    assert_eq!(rt; values_in::<Either>(&rt, alloc, ENUMS), 7);
 }
 
 const KEYS: &str = r#"{"1":[2],"-3":[],"0":[4,5]}
@@ -139,18 +139,21 @@ const SCALARS: &str = r#"0.1
 #[test]
 fn maps_tuples_and_numbers_agree(rt: HostRuntime) {
     let alloc = rt.alloc();
-    assert_same!(&rt; values_in::<BTreeMap<i32, Vec<u8>>>(&rt, alloc, KEYS), 2);
-    assert_same!(&rt; values_in::<BTreeMap<String, Vec<u8>>>(&rt, alloc, KEYS), 6);
+    assert_eq!(rt; values_in::<BTreeMap<i32, Vec<u8>>>(&rt, alloc, KEYS), 2);
+    assert_eq!(rt; values_in::<BTreeMap<String, Vec<u8>>>(&rt, alloc, KEYS), 6);
     let wide = one_line(&rt, alloc, WIDE);
-    assert_same!(&rt; values_in::<Wide>(&rt, alloc, &wide), 1);
-    assert_same!(&rt; values_in::<f64>(&rt, alloc, SCALARS), 11);
-    assert_same!(&rt; values_in::<f32>(&rt, alloc, SCALARS), 11);
-    assert_same!(&rt; values_in::<i8>(&rt, alloc, SCALARS), 2);
-    assert_same!(&rt; values_in::<u8>(&rt, alloc, SCALARS), 3);
-    assert_same!(&rt; values_in::<i64>(&rt, alloc, SCALARS), 6);
-    assert_same!(&rt; values_in::<u128>(&rt, alloc, SCALARS), 8);
-    assert_same!(&rt; values_in::<char>(&rt, alloc, SCALARS), 1);
-    assert_same!(&rt; values_in::<(u8, String, Option<bool>)>(&rt, alloc, SCALARS), 1);
+    assert_eq!(rt; values_in::<Wide>(&rt, alloc, &wide), 1);
+    assert_eq!(rt; values_in::<f64>(&rt, alloc, SCALARS), 11);
+    assert_eq!(rt; values_in::<f32>(&rt, alloc, SCALARS), 11);
+    assert_eq!(rt; values_in::<i8>(&rt, alloc, SCALARS), 2);
+    assert_eq!(rt; values_in::<u8>(&rt, alloc, SCALARS), 3);
+    assert_eq!(rt; values_in::<i64>(&rt, alloc, SCALARS), 6);
+    assert_eq!(rt; values_in::<u128>(&rt, alloc, SCALARS), 8);
+    assert_eq!(rt; values_in::<char>(&rt, alloc, SCALARS), 1);
+    assert_eq!(rt;
+        values_in::<(u8, String, Option<bool>)>(&rt, alloc, SCALARS),
+        1
+    );
 }
 
 // 106,240 texts, or the 8,448 with the change at each thirteenth place. A reader written in Python
@@ -165,10 +168,10 @@ fn mutants_agree(rt: HostRuntime) {
     };
     let tweets = one_line(&rt, alloc, TWEETS);
     let tweets = mutants_of(&rt, alloc, &tweets, step);
-    assert_same!(&rt; values_in::<Vec<Tweet>>(&rt, alloc, &tweets), tweet_values);
+    assert_eq!(rt; values_in::<Vec<Tweet>>(&rt, alloc, &tweets), tweet_values);
     let wide = one_line(&rt, alloc, WIDE);
     let wide = mutants_of(&rt, alloc, &wide, step);
-    assert_same!(&rt; values_in::<Wide>(&rt, alloc, &wide), wide_values);
+    assert_eq!(rt; values_in::<Wide>(&rt, alloc, &wide), wide_values);
 }
 
 fn one_line(rt: &impl Abort, alloc: Global, lines: &str) -> String {

@@ -13,14 +13,14 @@ fn parse_errors_are_those_of_the_parse(rt: HostRuntime) {
     let alloc = rt.alloc();
     for text in "\n{\"a\":[1,]}\n[1\ntru\n\"\\x\"\n1.\n{}1\n[\"\n{1:2}".lines() {
         let wanted = to_tape(alloc, &mut bytes_of(&rt, alloc, text)).err();
-        assert_same!(&rt; parse_error(&rt, alloc, text), wanted, text);
+        assert_eq!(rt; parse_error(&rt, alloc, text), wanted, "{text}");
     }
     let found = parse_error(&rt, alloc, "{\"a\":[1,]}");
     let found = found.expect(&rt, "it is no document");
-    assert_same!(&rt; (found.index(), found.character()), (8, Some(']')));
-    assert_that!(&rt; *found.error() == ErrorType::InternalError, "its kind");
+    assert_eq!(rt; (found.index(), found.character()), (8, Some(']')));
+    assert!(rt; *found.error() == ErrorType::InternalError, "its kind");
     let found = found.to_string(alloc).expect(&rt, MEMORY);
-    assert_same!(&rt; found.as_str(), "InternalError at character 8 (']')");
+    assert_eq!(rt; found.as_str(), "InternalError at character 8 (']')");
 }
 
 fn parse_error(rt: &impl Abort, alloc: Global, text: &str) -> Option<simd_json::Error> {
@@ -47,7 +47,7 @@ fn assert_words<T: DeserializeOwned>(rt: &impl Abort, alloc: Global, lines: &str
         let found = mismatch::<T>(rt, alloc, text)
             .to_string(alloc)
             .expect(rt, MEMORY);
-        assert_same!(rt; found.as_str(), wanted, line);
+        assert_eq!(rt; found.as_str(), wanted, "{line}");
     }
 }
 
@@ -67,8 +67,11 @@ const OF_PAIRS: &str = r#"[[1,2],[1,2,3]] @ /1: the array has another length
 fn mismatches_name_the_kinds(rt: HostRuntime) {
     let alloc = rt.alloc();
     let e = mismatch::<BTreeMap<String, Vec<u8>>>(&rt, alloc, r#"{"a":[],"b":[1,"x"]}"#);
-    assert_same!(&rt; e.path(), "/b/1");
-    assert_that!(&rt; matches!(e.kind(), MismatchKind::InvalidType { .. }), "its kind");
+    assert_eq!(rt; e.path(), "/b/1");
+    assert!(rt;
+        matches!(e.kind(), MismatchKind::InvalidType { .. }),
+        "its kind"
+    );
     assert_words::<BTreeMap<String, Vec<u8>>>(&rt, alloc, OF_MAPS);
     let keys = r#"{"1":null,"x":null} @ /x: expected an integer, found a string
 {"1":null,"2":3} @ /2: the value does not fit the type"#;

@@ -40,11 +40,11 @@ mod reading {
 fn examples_run(rt: HostRuntime) {
     let alloc = rt.alloc();
     let mut input = *br#"{"level":"info","status":200}"#;
-    assert_same!(&rt; page::status(alloc, &mut input).ok(), Some(200));
+    assert_eq!(rt; page::status(alloc, &mut input).ok(), Some(200));
     let mut input = *br#"{"servers":[{"ports":[80,8080]}]}"#;
     let tape = to_tape(alloc, &mut input).ok().expect(&rt, MEMORY);
     let ports = reading::ports(alloc, &tape.as_value()).ok();
-    assert_same!(&rt; ports.expect(&rt, MEMORY).as_slice(), &[80, 8080]);
+    assert_eq!(rt; ports.expect(&rt, MEMORY).as_slice(), [80, 8080].as_slice());
 }
 
 #[test]
@@ -53,11 +53,11 @@ fn steps_pass_one_value_each(rt: HostRuntime) {
     let mut input = bytes_of(&rt, alloc, r#"[[1,{"a":[]}],7,"x"]"#);
     let tape = to_tape(alloc, &mut input).ok().expect(&rt, MEMORY);
     let mut reader = NodeReader::new(tape.nodes(), Vec::new(alloc));
-    assert_that!(&rt; reader.begin_seq(&[]).is_ok(), "an array");
-    assert_that!(&rt; reader.skip(&[]).is_ok(), "an array in it");
+    assert!(rt; reader.begin_seq(&[]).is_ok(), "an array");
+    assert!(rt; reader.skip(&[]).is_ok(), "an array in it");
     let seven = u64::deserialize_owned(alloc, &mut Deserializer::new(&[], &mut reader));
-    assert_same!(&rt; seven.ok(), Some(7));
+    assert_eq!(rt; seven.ok(), Some(7));
     let text = String::deserialize_owned(alloc, &mut Deserializer::new(&[], &mut reader));
-    assert_same!(&rt; text.ok().expect(&rt, MEMORY).as_str(), "x");
-    assert_same!(&rt; reader.next_item(&[]).ok(), Some(false));
+    assert_eq!(rt; text.ok().expect(&rt, MEMORY).as_str(), "x");
+    assert_eq!(rt; reader.next_item(&[]).ok(), Some(false));
 }

@@ -11,7 +11,7 @@ fn assert_read_or_of_memory<T>(rt: &impl Abort, what: &str, read: &Result<T, Err
         Err(Error::Parse(e)) => *e.error() == ErrorType::OutOfMemory,
         Err(Error::Mismatch(e)) => e.kind() == MismatchKind::OutOfMemory,
     };
-    assert_that!(rt; is_read, what);
+    assert!(rt; is_read, "{what}");
 }
 
 #[test]
@@ -25,7 +25,7 @@ fn failed_allocations_are_errors(rt: HostRuntime) {
     assert_read_or_of_memory(&rt, "borrowed", &borrowed);
     let mut input = *br#"{"b":{},"a":"x"}"#;
     let misfit: Result<Folder, Error> = from_slice_owned(alloc, &mut input);
-    assert_that!(&rt; misfit.is_err(), "a misfit");
+    assert!(rt; misfit.is_err(), "a misfit");
     let mut texts = Texts::new(alloc);
     let mut kept = Tape::empty(alloc);
     let Ok(mut buffers) = Buffers::new(alloc, 0) else {
@@ -55,7 +55,7 @@ fn reserved_reads_need_no_memory(rt: HostRuntime) {
     for _ in 0..2 {
         let mut input = *text;
         let (line, tape) = read::<Line<'_>>(&mut input, &mut buffers, kept, &mut texts);
-        assert_that!(&rt; line.is_ok(), "there is memory");
+        assert!(rt; line.is_ok(), "there is memory");
         kept = tape;
     }
 }

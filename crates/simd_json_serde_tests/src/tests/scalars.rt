@@ -22,24 +22,30 @@ fn integers_are_read_where_they_fit(rt: HostRuntime) {
     );
     let tape = to_tape(alloc, &mut input).expect(&rt, MEMORY);
     let array = tape.as_value();
-    assert_same!(&rt; i8_of(alloc, &at(&rt, &array, 0)).ok(), Some(-128));
-    assert_same!(&rt; i8_of(alloc, &at(&rt, &array, 1)).ok(), None);
-    assert_same!(&rt; i16_of(alloc, &at(&rt, &array, 1)).ok(), Some(-129));
-    assert_same!(&rt; i16_of(alloc, &at(&rt, &array, 4)).ok(), None);
-    assert_same!(&rt; i32_of(alloc, &at(&rt, &array, 4)).ok(), Some(65536));
-    assert_same!(&rt; i32_of(alloc, &at(&rt, &array, 5)).ok(), None);
-    assert_same!(&rt; i64_of(alloc, &at(&rt, &array, 5)).ok(), Some(-2147483649));
-    assert_same!(&rt; i64_of(alloc, &at(&rt, &array, 6)).ok(), None);
-    assert_same!(&rt; i128_of(alloc, &at(&rt, &array, 6)).ok(), Some(18446744073709551616));
-    assert_same!(&rt; u8_of(alloc, &at(&rt, &array, 2)).ok(), Some(255));
-    assert_same!(&rt; u8_of(alloc, &at(&rt, &array, 3)).ok(), None);
-    assert_same!(&rt; u16_of(alloc, &at(&rt, &array, 3)).ok(), Some(256));
-    assert_same!(&rt; u16_of(alloc, &at(&rt, &array, 4)).ok(), None);
-    assert_same!(&rt; u32_of(alloc, &at(&rt, &array, 4)).ok(), Some(65536));
-    assert_same!(&rt; u32_of(alloc, &at(&rt, &array, 0)).ok(), None);
-    assert_same!(&rt; u64_of(alloc, &at(&rt, &array, 3)).ok(), Some(256));
-    assert_same!(&rt; u64_of(alloc, &at(&rt, &array, 6)).ok(), None);
-    assert_same!(&rt; u128_of(alloc, &at(&rt, &array, 6)).ok(), Some(18446744073709551616));
+    assert_eq!(rt; i8_of(alloc, &at(&rt, &array, 0)).ok(), Some(-128));
+    assert_eq!(rt; i8_of(alloc, &at(&rt, &array, 1)).ok(), None);
+    assert_eq!(rt; i16_of(alloc, &at(&rt, &array, 1)).ok(), Some(-129));
+    assert_eq!(rt; i16_of(alloc, &at(&rt, &array, 4)).ok(), None);
+    assert_eq!(rt; i32_of(alloc, &at(&rt, &array, 4)).ok(), Some(65536));
+    assert_eq!(rt; i32_of(alloc, &at(&rt, &array, 5)).ok(), None);
+    assert_eq!(rt; i64_of(alloc, &at(&rt, &array, 5)).ok(), Some(-2147483649));
+    assert_eq!(rt; i64_of(alloc, &at(&rt, &array, 6)).ok(), None);
+    assert_eq!(rt;
+        i128_of(alloc, &at(&rt, &array, 6)).ok(),
+        Some(18446744073709551616)
+    );
+    assert_eq!(rt; u8_of(alloc, &at(&rt, &array, 2)).ok(), Some(255));
+    assert_eq!(rt; u8_of(alloc, &at(&rt, &array, 3)).ok(), None);
+    assert_eq!(rt; u16_of(alloc, &at(&rt, &array, 3)).ok(), Some(256));
+    assert_eq!(rt; u16_of(alloc, &at(&rt, &array, 4)).ok(), None);
+    assert_eq!(rt; u32_of(alloc, &at(&rt, &array, 4)).ok(), Some(65536));
+    assert_eq!(rt; u32_of(alloc, &at(&rt, &array, 0)).ok(), None);
+    assert_eq!(rt; u64_of(alloc, &at(&rt, &array, 3)).ok(), Some(256));
+    assert_eq!(rt; u64_of(alloc, &at(&rt, &array, 6)).ok(), None);
+    assert_eq!(rt;
+        u128_of(alloc, &at(&rt, &array, 6)).ok(),
+        Some(18446744073709551616)
+    );
 }
 
 #[test]
@@ -48,14 +54,14 @@ fn other_scalars_are_read(rt: HostRuntime) {
     let mut input = bytes_of(&rt, alloc, r#"[true,"\u00e9","a\n",1.5,1e400,null]"#);
     let tape = to_tape(alloc, &mut input).expect(&rt, MEMORY);
     let array = tape.as_value();
-    assert_same!(&rt; bool_of(alloc, &at(&rt, &array, 0)).ok(), Some(true));
-    assert_same!(&rt; bool_of(alloc, &at(&rt, &array, 5)).ok(), None);
-    assert_same!(&rt; char_of(alloc, &at(&rt, &array, 1)).ok(), Some('é'));
-    assert_same!(&rt; char_of(alloc, &at(&rt, &array, 2)).ok(), None);
+    assert_eq!(rt; bool_of(alloc, &at(&rt, &array, 0)).ok(), Some(true));
+    assert_eq!(rt; bool_of(alloc, &at(&rt, &array, 5)).ok(), None);
+    assert_eq!(rt; char_of(alloc, &at(&rt, &array, 1)).ok(), Some('é'));
+    assert_eq!(rt; char_of(alloc, &at(&rt, &array, 2)).ok(), None);
     let text = string_of(alloc, &at(&rt, &array, 2));
-    assert_that!(&rt; text.is_ok_and(|text| text.as_str() == "a\n"), "a string");
-    assert_same!(&rt; f64_of(alloc, &at(&rt, &array, 3)).ok(), Some(1.5));
-    assert_same!(&rt; f32_of(alloc, &at(&rt, &array, 3)).ok(), Some(1.5));
-    assert_same!(&rt; f64_of(alloc, &at(&rt, &array, 4)).ok(), None);
-    assert_same!(&rt; f32_of(alloc, &at(&rt, &array, 5)).ok(), None);
+    assert!(rt; text.is_ok_and(|text| text.as_str() == "a\n"), "a string");
+    assert_eq!(rt; f64_of(alloc, &at(&rt, &array, 3)).ok(), Some(1.5));
+    assert_eq!(rt; f32_of(alloc, &at(&rt, &array, 3)).ok(), Some(1.5));
+    assert_eq!(rt; f64_of(alloc, &at(&rt, &array, 4)).ok(), None);
+    assert_eq!(rt; f32_of(alloc, &at(&rt, &array, 5)).ok(), None);
 }

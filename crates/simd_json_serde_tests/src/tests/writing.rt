@@ -23,15 +23,15 @@ fn assert_written<T: DeserializeOwned + Serialize + PartialEq>(
         let value: T = read_owned_from(rt, alloc, line).ok().expect(rt, MEMORY);
         let compact = to_string(alloc, &value).ok().expect(rt, MEMORY);
         let theirs = serde_json::to_string(alloc, &value).ok().expect(rt, MEMORY);
-        assert_same!(rt; compact.as_str(), theirs.as_str(), line);
+        assert_eq!(rt; compact.as_str(), theirs.as_str(), "{line}");
         let pretty = to_string_pretty(alloc, &value).ok().expect(rt, MEMORY);
         let theirs = serde_json::to_string_pretty(alloc, &value)
             .ok()
             .expect(rt, MEMORY);
-        assert_same!(rt; pretty.as_str(), theirs.as_str(), line);
+        assert_eq!(rt; pretty.as_str(), theirs.as_str(), "{line}");
         assert_encoded(rt, alloc, &compact, &pretty);
         let again: T = read_owned_from(rt, alloc, &compact).ok().expect(rt, MEMORY);
-        assert_that!(rt; again == value, line);
+        assert!(rt; again == value, "{line}");
     }
 }
 
@@ -40,9 +40,9 @@ fn assert_encoded(rt: &impl Abort, alloc: Global, compact: &str, pretty: &str) {
     let mut input = Vec::from_slice(alloc, compact.as_bytes()).expect(rt, MEMORY);
     let tape = to_tape(alloc, &mut input).ok().expect(rt, MEMORY);
     let encoded = tape.as_value().encode(alloc).ok().expect(rt, MEMORY);
-    assert_same!(rt; encoded.as_str(), compact);
+    assert_eq!(rt; encoded.as_str(), compact);
     let encoded = tape.as_value().encode_pp(alloc).ok().expect(rt, MEMORY);
-    assert_same!(rt; encoded.as_str(), pretty);
+    assert_eq!(rt; encoded.as_str(), pretty);
 }
 
 #[test]
@@ -93,20 +93,20 @@ fn what_has_no_text_is_an_error(rt: HostRuntime) {
     let alloc = rt.alloc();
     for float in [f64::NAN, f64::INFINITY, f64::NEG_INFINITY] {
         let text = to_vec(alloc, &[1.5, float]);
-        assert_that!(&rt; matches!(text, Err(WriteError::NotFinite)), "no number");
+        assert!(rt; matches!(text, Err(WriteError::NotFinite)), "no number");
     }
     let mut map = BTreeMap::new(alloc);
     let inserted: Result<_, _> = map.insert((1u8, 2u8), true);
-    assert_that!(&rt; inserted.is_ok(), MEMORY);
+    assert!(rt; inserted.is_ok(), "{}", MEMORY);
     let text = to_vec_pretty(alloc, &map);
-    assert_that!(&rt; matches!(text, Err(WriteError::KeyKind)), "no key");
+    assert!(rt; matches!(text, Err(WriteError::KeyKind)), "no key");
     let mut written = Narrow {
         left: 100,
         text: Vec::new(alloc),
     };
     let result = to_writer(alloc, &mut written, &map);
-    assert_that!(&rt; matches!(result, Err(WriteError::KeyKind)), "no key");
-    assert_that!(&rt; written.text.is_empty(), "nothing is written");
+    assert!(rt; matches!(result, Err(WriteError::KeyKind)), "no key");
+    assert!(rt; written.text.is_empty(), "nothing is written");
 }
 
 // Takes so many bytes, one at a time, and then fails.
@@ -148,21 +148,24 @@ fn each_write_may_fail(rt: HostRuntime) {
             text: Vec::new(alloc),
         };
         let result = to_writer(alloc, &mut out, &value);
-        assert_that!(&rt; matches!(result, Err(WriteError::Io(_))), "a writer failed");
-        assert_same!(&rt; Some(out.text.as_slice()), compact.as_bytes().get(..left));
+        assert!(rt; matches!(result, Err(WriteError::Io(_))), "a writer failed");
+        assert_eq!(rt; Some(out.text.as_slice()), compact.as_bytes().get(..left));
     }
     let mut out = Narrow {
         left: 100,
         text: Vec::new(alloc),
     };
-    assert_that!(&rt; to_writer(alloc, &mut out, &value).is_ok(), "it is written");
-    assert_same!(&rt; out.text.as_slice(), compact.as_bytes());
+    assert!(rt; to_writer(alloc, &mut out, &value).is_ok(), "it is written");
+    assert_eq!(rt; out.text.as_slice(), compact.as_bytes());
     let mut out = Narrow {
         left: 100,
         text: Vec::new(alloc),
     };
-    assert_that!(&rt; to_writer_pretty(alloc, &mut out, &value).is_ok(), "it is written");
-    assert_same!(&rt; out.text.as_slice(), pretty.as_bytes());
+    assert!(rt;
+        to_writer_pretty(alloc, &mut out, &value).is_ok(),
+        "it is written"
+    );
+    assert_eq!(rt; out.text.as_slice(), pretty.as_bytes());
 }
 
 // By hand, `rt try --test --fail-alloc N` for each N, where the other tests may fail.
@@ -170,8 +173,8 @@ fn each_write_may_fail(rt: HostRuntime) {
 fn failed_allocations_of_a_text_are_errors(rt: HostRuntime) {
     let alloc = rt.alloc();
     match to_string_pretty(alloc, &[Some("a"), None]) {
-        Ok(text) => assert_same!(&rt; text.as_str(), "[\n  \"a\",\n  null\n]"),
+        Ok(text) => assert_eq!(rt; text.as_str(), "[\n  \"a\",\n  null\n]"),
         Err(WriteError::OutOfMemory) => {}
-        Err(_) => assert_that!(&rt; false, "of memory"),
+        Err(_) => assert!(rt; false, "of memory"),
     }
 }

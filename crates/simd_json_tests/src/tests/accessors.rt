@@ -176,9 +176,9 @@ fn assert_each(
     wanted: &Each,
 ) {
     let value = document.get(k).expect(rt, "it is there");
-    assert_same!(rt; value.value_type(), got, k);
-    assert_same!(rt; as_each(&value), *wanted, k);
-    assert_same!(rt; get_each(document, k), *wanted, k);
+    assert_eq!(rt; value.value_type(), got, "{k:?}");
+    assert_eq!(rt; as_each(&value), *wanted, "{k:?}");
+    assert_eq!(rt; get_each(document, k), *wanted, "{k:?}");
     let tried = try_as_each(&value);
     let tried_keyed = try_get_each(document, k);
     for (i, expected) in EXPECTED.iter().enumerate() {
@@ -187,21 +187,21 @@ fn assert_each(
             got,
         };
         let answer = wanted[i].ok_or(refusal);
-        assert_same!(rt; tried[i], answer, k);
-        assert_same!(rt; tried_keyed[i], answer.map(Some), k);
+        assert_eq!(rt; tried[i], answer, "{k:?}");
+        assert_eq!(rt; tried_keyed[i], answer.map(Some), "{k:?}");
     }
 }
 
 // Where the key is missing, and where the value is not an object.
 fn assert_missing(rt: &impl Abort, document: &Value<'_, '_>, member: &Value<'_, '_>) {
-    assert_same!(rt; get_each(document, "missing"), NONE);
-    assert_same!(rt; try_get_each(document, "missing"), [Ok(None); 11]);
+    assert_eq!(rt; get_each(document, "missing"), NONE);
+    assert_eq!(rt; try_get_each(document, "missing"), [Ok(None); 11]);
     let refusal = TryTypeError {
         expected: ValueType::Object,
         got: member.value_type(),
     };
-    assert_same!(rt; get_each(member, "k"), NONE);
-    assert_same!(rt; try_get_each(member, "k"), [Err(refusal); 11]);
+    assert_eq!(rt; get_each(member, "k"), NONE);
+    assert_eq!(rt; try_get_each(member, "k"), [Err(refusal); 11]);
 }
 
 // The number, where there are at least as many bits as it takes.
@@ -296,7 +296,7 @@ fn assert_integer(rt: &(impl AllocGlobal + Abort), row: &Integer) -> Tested {
 fn assert_equal_to(rt: &impl Abort, value: &Value<'_, '_>, number: i128, wanted: &Each) {
     for other in [number, number.wrapping_sub(1), number & 0xff] {
         let is_equal = wanted.map(|fits| fits == Some(other));
-        assert_same!(rt; eq_each(value, other), is_equal, (number, other));
+        assert_eq!(rt; eq_each(value, other), is_equal, "{number:?}, {other:?}");
     }
 }
 
@@ -359,10 +359,13 @@ fn assert_long_integer(rt: &(impl AllocGlobal + Abort), row: &LongInteger) -> Te
     wanted[4] = signed;
     wanted[9] = narrowed(unsigned);
     assert_each(rt, &document, "k", kind, &wanted);
-    assert_same!(rt; document.get_u128("k"), unsigned);
-    assert_same!(rt; document.try_get_u128("k").ok(), unsigned.map(Some));
+    assert_eq!(rt; document.get_u128("k"), unsigned);
+    assert_eq!(rt; document.try_get_u128("k").ok(), unsigned.map(Some));
     let value = document.get("k").expect(rt, "it is there");
-    assert_same!(rt; (value.as_u128(), value.try_as_u128().ok()), (unsigned, unsigned));
+    assert_eq!(rt;
+        (value.as_u128(), value.try_as_u128().ok()),
+        (unsigned, unsigned)
+    );
     assert_equal_to_signed(rt, &value, signed);
     assert_equal_to_unsigned(rt, &value, unsigned);
     Ok(())
@@ -374,13 +377,13 @@ const UNSIGNED: [u128; 3] = [1 << 64, 1 << 127, u128::MAX];
 
 fn assert_equal_to_signed(rt: &impl Abort, value: &Value<'_, '_>, number: Option<i128>) {
     for other in &SIGNED {
-        assert_same!(rt; value.eq_i128(*other), number == Some(*other));
+        assert_eq!(rt; value.eq_i128(*other), number == Some(*other));
     }
 }
 
 fn assert_equal_to_unsigned(rt: &impl Abort, value: &Value<'_, '_>, number: Option<u128>) {
     for other in &UNSIGNED {
-        assert_same!(rt; value.eq_u128(*other), number == Some(*other));
+        assert_eq!(rt; value.eq_u128(*other), number == Some(*other));
     }
 }
 
@@ -409,34 +412,43 @@ fn own<T: Drop>(
 fn assert_words(rt: &impl Abort, document: &Value<'_, '_>, k: &str, got: ValueType) {
     let value = document.get(k).expect(rt, "it is there");
     let null = own(ValueType::Null, got, ());
-    assert_same!(rt; (value.as_null(), value.try_as_null()), (null.ok(), null));
-    assert_same!(rt; value.eq_null(), null.is_ok());
+    assert_eq!(rt; (value.as_null(), value.try_as_null()), (null.ok(), null));
+    assert_eq!(rt; value.eq_null(), null.is_ok());
     let truth = own(ValueType::Bool, got, true);
-    assert_same!(rt; (value.as_bool(), value.try_as_bool()), (truth.ok(), truth));
-    assert_same!(rt; document.get_bool(k), truth.ok());
-    assert_same!(rt; document.try_get_bool(k), truth.map(Some));
-    assert_same!(rt; (value.eq_bool(true), value.eq_bool(false)), (truth.is_ok(), false));
+    assert_eq!(rt; (value.as_bool(), value.try_as_bool()), (truth.ok(), truth));
+    assert_eq!(rt; document.get_bool(k), truth.ok());
+    assert_eq!(rt; document.try_get_bool(k), truth.map(Some));
+    assert_eq!(rt;
+        (value.eq_bool(true), value.eq_bool(false)),
+        (truth.is_ok(), false)
+    );
 }
 
 // What those of strings return.
 fn assert_strings(rt: &impl Abort, document: &Value<'_, '_>, k: &str, got: ValueType) {
     let value = document.get(k).expect(rt, "it is there");
     let string = own(ValueType::String, got, "a\n");
-    assert_same!(rt; (value.as_str(), value.try_as_str()), (string.ok(), string));
-    assert_same!(rt; value.into_string(), string.ok());
-    assert_same!(rt; value.try_into_string(), string);
-    assert_same!(rt; document.get_str(k), string.ok());
-    assert_same!(rt; document.try_get_str(k), string.map(Some));
-    assert_same!(rt; (value.eq_str("a\n"), value.eq_str("a")), (string.is_ok(), false));
+    assert_eq!(rt; (value.as_str(), value.try_as_str()), (string.ok(), string));
+    assert_eq!(rt; value.into_string(), string.ok());
+    assert_eq!(rt; value.try_into_string(), string);
+    assert_eq!(rt; document.get_str(k), string.ok());
+    assert_eq!(rt; document.try_get_str(k), string.map(Some));
+    assert_eq!(rt;
+        (value.eq_str("a\n"), value.eq_str("a")),
+        (string.is_ok(), false)
+    );
 }
 
 // What those of decimals return.
 fn assert_decimals(rt: &impl Abort, document: &Value<'_, '_>, k: &str, got: ValueType) {
     let value = document.get(k).expect(rt, "it is there");
     let decimal = own(ValueType::Decimal, got, "1.50");
-    assert_same!(rt; (value.as_decimal(), value.try_as_decimal()), (decimal.ok(), decimal));
-    assert_same!(rt; document.get_decimal(k), decimal.ok());
-    assert_same!(rt; document.try_get_decimal(k), decimal.map(Some));
+    assert_eq!(rt;
+        (value.as_decimal(), value.try_as_decimal()),
+        (decimal.ok(), decimal)
+    );
+    assert_eq!(rt; document.get_decimal(k), decimal.ok());
+    assert_eq!(rt; document.try_get_decimal(k), decimal.map(Some));
 }
 
 type Tried<T> = std::result::Result<T, TryTypeError>;
@@ -480,24 +492,27 @@ fn is_there(member: Tried<Option<Value<'_, '_>>>) -> Tried<bool> {
 fn assert_arrays(rt: &impl Abort, document: &Value<'_, '_>, k: &str, got: ValueType) {
     let value = document.get(k).expect(rt, "it is there");
     let array = own(ValueType::Array, got, 1usize);
-    assert_same!(rt; value.is_array(), array.is_ok());
-    assert_same!(rt; array_len(value.as_array()), array.ok());
-    assert_same!(rt; array_len(value.into_array()), array.ok());
-    assert_same!(rt; tried_array_len(value.try_as_array()), array);
-    assert_same!(rt; array_len(document.get_array(k)), array.ok());
-    assert_same!(rt; keyed_array_len(document.try_get_array(k)), array.map(Some));
+    assert_eq!(rt; value.is_array(), array.is_ok());
+    assert_eq!(rt; array_len(value.as_array()), array.ok());
+    assert_eq!(rt; array_len(value.into_array()), array.ok());
+    assert_eq!(rt; tried_array_len(value.try_as_array()), array);
+    assert_eq!(rt; array_len(document.get_array(k)), array.ok());
+    assert_eq!(rt; keyed_array_len(document.try_get_array(k)), array.map(Some));
 }
 
 // What those of objects return.
 fn assert_objects(rt: &impl Abort, document: &Value<'_, '_>, k: &str, got: ValueType) {
     let value = document.get(k).expect(rt, "it is there");
     let object = own(ValueType::Object, got, 2usize);
-    assert_same!(rt; value.is_object(), object.is_ok());
-    assert_same!(rt; object_len(value.as_object()), object.ok());
-    assert_same!(rt; object_len(value.into_object()), object.ok());
-    assert_same!(rt; tried_object_len(value.try_as_object()), object);
-    assert_same!(rt; object_len(document.get_object(k)), object.ok());
-    assert_same!(rt; keyed_object_len(document.try_get_object(k)), object.map(Some));
+    assert_eq!(rt; value.is_object(), object.is_ok());
+    assert_eq!(rt; object_len(value.as_object()), object.ok());
+    assert_eq!(rt; object_len(value.into_object()), object.ok());
+    assert_eq!(rt; tried_object_len(value.try_as_object()), object);
+    assert_eq!(rt; object_len(document.get_object(k)), object.ok());
+    assert_eq!(rt;
+        keyed_object_len(document.try_get_object(k)),
+        object.map(Some)
+    );
 }
 
 #[test]
@@ -539,9 +554,9 @@ fn kinds_are_named(rt: HostRuntime) -> Tested {
         (StaticNode::U128(0), ValueType::U128, "U128"),
     ];
     for (scalar, kind, name) in &rows {
-        assert_same!(&rt; scalar.value_type(), *kind);
-        assert_same!(&rt; Node::Static(*scalar).value_type(), *kind);
-        assert_same!(&rt; kind.to_string(rt.alloc())?.as_str(), *name);
+        assert_eq!(rt; scalar.value_type(), *kind);
+        assert_eq!(rt; Node::Static(*scalar).value_type(), *kind);
+        assert_eq!(rt; kind.to_string(rt.alloc())?.as_str(), *name);
     }
     Ok(())
 }
@@ -556,13 +571,13 @@ fn the_first_value_with_a_key_is_asked(rt: HostRuntime) -> Tested {
         let mut read = Vec::from_slice(rt.alloc(), input)?;
         let tape = to_tape(rt.alloc(), read.as_mut_slice())?;
         let value = tape.as_value();
-        assert_same!(&rt; object_len(value.as_object()), Some(len));
+        assert_eq!(rt; object_len(value.as_object()), Some(len));
         let first = value.get("a").expect(&rt, "it is there");
-        assert_that!(&rt; first.eq_u64(1));
-        assert_same!(&rt; value.get_u8("a"), Some(1));
-        assert_that!(&rt; value.get_array("a").is_none());
+        assert!(rt; first.eq_u64(1));
+        assert_eq!(rt; value.get_u8("a"), Some(1));
+        assert!(rt; value.get_array("a").is_none());
         let other = own(ValueType::Array, ValueType::U64, None);
-        assert_same!(&rt; keyed_array_len(value.try_get_array("a")), other);
+        assert_eq!(rt; keyed_array_len(value.try_get_array("a")), other);
     }
     Ok(())
 }
@@ -573,17 +588,23 @@ fn missing_members_differ_from_other_kinds(rt: HostRuntime) -> Tested {
     let mut input = *b"{\"a\":null,\"b\":[7]}";
     let tape = to_tape(rt.alloc(), &mut input)?;
     let object = tape.as_value();
-    assert_same!(&rt; (object.get_str("c"), object.try_get_str("c")), (None, Ok(None)));
-    assert_same!(&rt; is_there(object.try_get("c")), Ok(false));
-    assert_same!(&rt; is_there(object.try_get("a")), Ok(true));
+    assert_eq!(rt;
+        (object.get_str("c"), object.try_get_str("c")),
+        (None, Ok(None))
+    );
+    assert_eq!(rt; is_there(object.try_get("c")), Ok(false));
+    assert_eq!(rt; is_there(object.try_get("a")), Ok(true));
     let no_array = own(ValueType::Array, ValueType::Object, false);
-    assert_same!(&rt; is_there(object.try_get_idx(0)), no_array);
+    assert_eq!(rt; is_there(object.try_get_idx(0)), no_array);
     let array = object.get("b").expect(&rt, "it is there");
-    assert_same!(&rt; is_there(array.try_get_idx(1)), Ok(false));
-    assert_same!(&rt; is_there(array.try_get_idx(0)), Ok(true));
+    assert_eq!(rt; is_there(array.try_get_idx(1)), Ok(false));
+    assert_eq!(rt; is_there(array.try_get_idx(0)), Ok(true));
     let no_object = own(ValueType::Object, ValueType::Array, false);
-    assert_same!(&rt; is_there(array.try_get("a")), no_object);
-    assert_same!(&rt; array.try_get_bool("a"), own(ValueType::Object, ValueType::Array, None));
+    assert_eq!(rt; is_there(array.try_get("a")), no_object);
+    assert_eq!(rt;
+        array.try_get_bool("a"),
+        own(ValueType::Object, ValueType::Array, None)
+    );
     Ok(())
 }
 
@@ -606,8 +627,8 @@ fn assert_compared(rt: &(impl AllocGlobal + Abort), row: &Compared) -> Tested {
     let mut right = Vec::from_slice(rt.alloc(), right)?;
     let left = to_tape(rt.alloc(), left.as_mut_slice())?;
     let right = to_tape(rt.alloc(), right.as_mut_slice())?;
-    assert_that!(rt; !left.is_empty() && !right.is_empty());
-    assert_same!(rt; left.as_value() == right.as_value(), same);
+    assert!(rt; !left.is_empty() && !right.is_empty());
+    assert_eq!(rt; left.as_value() == right.as_value(), same);
     Ok(())
 }
 

@@ -32,19 +32,19 @@ const AT_MOST_8: [&str; 7] = [
 
 fn assert_text(rt: &(impl AllocGlobal + Abort), value: &Value<'_, '_>, text: &str) {
     let encoded = value.encode(rt.alloc()).expect(rt, "there is memory");
-    assert_same!(rt; encoded.as_str(), text);
+    assert_eq!(rt; encoded.as_str(), text);
 }
 
 #[test]
 fn values_are_in_the_order_of_the_document(rt: HostRuntime) -> Tested {
     let mut input = *b"{\"a\":[1,{\"b\":[]},\"x\"],\"c\":null}";
     let tape = to_tape(rt.alloc(), &mut input)?;
-    assert_that!(&rt; !tape.is_empty());
+    assert!(rt; !tape.is_empty());
     let value = tape.as_value();
-    assert_same!(&rt; value.descendants::<0>().count(), 1);
-    assert_same!(&rt; value.descendants::<1>().count(), 3);
-    assert_same!(&rt; value.descendants::<2>().count(), 6);
-    assert_same!(&rt; value.descendants::<8>().count(), 7);
+    assert_eq!(rt; value.descendants::<0>().count(), 1);
+    assert_eq!(rt; value.descendants::<1>().count(), 3);
+    assert_eq!(rt; value.descendants::<2>().count(), 6);
+    assert_eq!(rt; value.descendants::<8>().count(), 7);
     for (beneath, text) in value.descendants::<1>().zip(&AT_MOST_1) {
         assert_text(&rt, &beneath, text);
     }
@@ -72,9 +72,9 @@ const AFTER_CONTAINERS: [&str; 8] = [
 fn strings_after_containers_are_values(rt: HostRuntime) -> Tested {
     let mut input = *b"[{\"k\":{\"l\":1},\"m\":\"v\"},[2],\"w\"]";
     let tape = to_tape(rt.alloc(), &mut input)?;
-    assert_that!(&rt; !tape.is_empty());
+    assert!(rt; !tape.is_empty());
     let value = tape.as_value();
-    assert_same!(&rt; value.descendants::<8>().count(), 8);
+    assert_eq!(rt; value.descendants::<8>().count(), 8);
     for (beneath, text) in value.descendants::<8>().zip(&AFTER_CONTAINERS) {
         assert_text(&rt, &beneath, text);
     }
@@ -88,13 +88,13 @@ fn deep_nesting_is_passed_through(rt: HostRuntime) -> Tested {
         *byte = b']';
     }
     let tape = to_tape(rt.alloc(), &mut input)?;
-    assert_that!(&rt; !tape.is_empty());
+    assert!(rt; !tape.is_empty());
     let value = tape.as_value();
-    assert_same!(&rt; value.descendants::<1024>().count(), 1000);
-    assert_same!(&rt; value.descendants::<10>().count(), 11);
+    assert_eq!(rt; value.descendants::<1024>().count(), 1000);
+    assert_eq!(rt; value.descendants::<10>().count(), 11);
     let mut passed = value.descendants::<0>();
-    assert_that!(&rt; passed.next().is_some());
-    assert_that!(&rt; passed.next().is_none());
-    assert_that!(&rt; passed.next().is_none());
+    assert!(rt; passed.next().is_some());
+    assert!(rt; passed.next().is_none());
+    assert!(rt; passed.next().is_none());
     Ok(())
 }

@@ -16,10 +16,10 @@ fn nodes_are_given_in_order(rt: HostRuntime) -> Tested {
     let mut steps = Deserializer::from_slice(rt.alloc(), &mut input)?;
     for _ in 0..2 {
         for node in &NODES {
-            assert_that!(&rt; !steps.is_at_end());
-            assert_same!(&rt; steps.next_(), *node);
+            assert!(rt; !steps.is_at_end());
+            assert_eq!(rt; steps.next_(), *node);
         }
-        assert_that!(&rt; steps.is_at_end());
+        assert!(rt; steps.is_at_end());
         steps.restart();
     }
     Ok(())
@@ -30,31 +30,31 @@ fn nodes_are_given_in_order(rt: HostRuntime) -> Tested {
 fn the_value_is_whole_at_every_position(rt: HostRuntime) -> Tested {
     let mut input = *b"[7]";
     let mut steps = Deserializer::from_slice(rt.alloc(), &mut input)?;
-    assert_that!(&rt; steps.as_value().is_array());
-    assert_that!(&rt; !steps.is_at_end());
+    assert!(rt; steps.as_value().is_array());
+    assert!(rt; !steps.is_at_end());
     steps.next_();
-    assert_that!(&rt; steps.as_value().is_array());
-    assert_that!(&rt; !steps.is_at_end());
-    assert_same!(&rt; steps.next_(), Node::Static(StaticNode::U64(7)));
-    assert_that!(&rt; steps.is_at_end() && steps.as_value().is_array());
+    assert!(rt; steps.as_value().is_array());
+    assert!(rt; !steps.is_at_end());
+    assert_eq!(rt; steps.next_(), Node::Static(StaticNode::U64(7)));
+    assert!(rt; steps.is_at_end() && steps.as_value().is_array());
     steps.restart();
-    assert_that!(&rt; !steps.is_at_end() && steps.as_value().is_array());
+    assert!(rt; !steps.is_at_end() && steps.as_value().is_array());
     Ok(())
 }
 
 #[test]
 fn tapes_are_handed_on(rt: HostRuntime) -> Tested {
     let mut none = Deserializer::from_tape(Tape::null(rt.alloc())?.reset());
-    assert_that!(&rt; none.is_at_end());
+    assert!(rt; none.is_at_end());
     none.restart();
-    assert_that!(&rt; none.is_at_end());
-    assert_same!(&rt; none.into_tape().nodes(), [].as_slice());
+    assert!(rt; none.is_at_end());
+    assert_eq!(rt; none.into_tape().nodes(), [].as_slice());
     let mut input = *b"[1,2]";
     let mut steps = Deserializer::from_tape(to_tape(rt.alloc(), &mut input)?);
-    assert_that!(&rt; !steps.is_at_end());
-    assert_same!(&rt; steps.next_(), NODES[0]);
-    assert_that!(&rt; format!(in rt.alloc(); "{steps:?}")?.starts_with("Deserializer"));
-    assert_same!(&rt; steps.into_tape().nodes(), NODES.as_slice());
+    assert!(rt; !steps.is_at_end());
+    assert_eq!(rt; steps.next_(), NODES[0]);
+    assert!(rt; format!(in rt.alloc(); "{steps:?}")?.starts_with("Deserializer"));
+    assert_eq!(rt; steps.into_tape().nodes(), NODES.as_slice());
     Ok(())
 }
 
@@ -96,8 +96,12 @@ fn assert_refused(rt: &(impl AllocGlobal + Abort), row: &Refused) -> Tested {
     let Err(e) = Deserializer::from_slice(rt.alloc(), read.as_mut_slice()) else {
         panic!(rt; "{text}");
     };
-    assert_same!(rt; e.to_string(rt.alloc())?.as_str(), text);
-    assert_same!(rt; [e.is_io(), e.is_eof(), e.is_syntax(), e.is_data()], classes, text);
+    assert_eq!(rt; e.to_string(rt.alloc())?.as_str(), text);
+    assert_eq!(rt;
+        [e.is_io(), e.is_eof(), e.is_syntax(), e.is_data()],
+        classes,
+        "{text:?}"
+    );
     Ok(())
 }
 
@@ -123,10 +127,10 @@ fn buffers_are_used_again(rt: HostRuntime) -> Tested {
     for (input, fault, positions) in &rows {
         let mut read = Vec::from_slice(rt.alloc(), input)?;
         let steps = Deserializer::from_slice_with_buffers(read.as_mut_slice(), &mut buffers);
-        assert_same!(&rt; buffers.structural_indexes(), *positions, input);
+        assert_eq!(rt; buffers.structural_indexes(), *positions, "{input:?}");
         match steps {
-            Ok(steps) => assert_same!(&rt; steps.into_tape().nodes(), NODES.as_slice()),
-            Err(e) => assert_same!(&rt; Some(&e), fault.as_ref()),
+            Ok(steps) => assert_eq!(rt; steps.into_tape().nodes(), NODES.as_slice()),
+            Err(e) => assert_eq!(rt; Some(&e), fault.as_ref()),
         }
     }
     Ok(())

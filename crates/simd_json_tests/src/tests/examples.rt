@@ -156,27 +156,27 @@ fn views_are_used_as_shown(rt: HostRuntime) {
     let mut input = *b"{\"port\":8080,\"answer\":\"42\",\"numbers\":[1,2,3]}";
     let tape = tape_of(&rt, &mut input);
     let value = tape.as_value();
-    assert_same!(&rt; views::port(&value), Ok(Some(8080)));
+    assert_eq!(rt; views::port(&value), Ok(Some(8080)));
     let answer = value.get("answer").expect(&rt, "it is there");
-    assert_that!(&rt; views::is_answer(&answer));
+    assert!(rt; views::is_answer(&answer));
     let numbers = value.get("numbers").expect(&rt, "it is there");
-    assert_same!(&rt; views::total(&numbers), Some(6));
+    assert_eq!(rt; views::total(&numbers), Some(6));
 }
 
 #[test]
 fn a_value_is_read(rt: HostRuntime) {
-    assert_same!(&rt; first_call::the_answer(&rt), Ok(Some(42)));
+    assert_eq!(rt; first_call::the_answer(&rt), Ok(Some(42)));
 }
 
 #[test]
 fn entry_points_are_used_as_shown(rt: HostRuntime) {
     let mut log = *b"[1]\n{}\n3";
-    assert_same!(&rt; entry_points::first_len(&rt), Ok(6));
-    assert_same!(&rt; entry_points::count_positions(&rt), Ok(11));
-    assert_same!(&rt; entry_points::count_nodes(&rt, &mut log), Ok(4));
-    assert_same!(&rt; entry_points::count_in_place(&rt), Ok(30));
-    assert_same!(&rt; entry_points::read_twice(&rt), Ok(3));
-    assert_same!(&rt; entry_points::read_padded(&rt), Ok(1));
+    assert_eq!(rt; entry_points::first_len(&rt), Ok(6));
+    assert_eq!(rt; entry_points::count_positions(&rt), Ok(11));
+    assert_eq!(rt; entry_points::count_nodes(&rt, &mut log), Ok(4));
+    assert_eq!(rt; entry_points::count_in_place(&rt), Ok(30));
+    assert_eq!(rt; entry_points::read_twice(&rt), Ok(3));
+    assert_eq!(rt; entry_points::read_padded(&rt), Ok(1));
 }
 
 #[test]
@@ -190,6 +190,6 @@ fn a_sink_counts_strings(rt: HostRuntime) {
     counter.push_string("name");
     counter.push_string("tape");
     counter.set_counts(0, Container::Object, 1, 2);
-    assert_same!(&rt; counter.strings, 2);
-    assert_same!(&rt; counter.len(), 3);
+    assert_eq!(rt; counter.strings, 2);
+    assert_eq!(rt; counter.len(), 3);
 }

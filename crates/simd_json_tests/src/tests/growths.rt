@@ -74,8 +74,12 @@ fn is_call_refused(
     let full = ballast(rt, &heap, left);
     let answer = call(number, &heap, first.as_mut_slice());
     drop(full);
-    assert_same!(rt; heap.used(), 0);
-    assert_same!(rt; call(number, &heap, again.as_mut_slice()), Ok(13), number);
+    assert_eq!(rt; heap.used(), 0);
+    assert_eq!(rt;
+        call(number, &heap, again.as_mut_slice()),
+        Ok(13),
+        "{number:?}"
+    );
     is_out_of_memory(rt, number, answer, 13)
 }
 
@@ -87,7 +91,7 @@ fn is_out_of_memory(rt: &impl Abort, number: u32, answer: Result<usize>, nodes: 
     } else {
         Ok(nodes)
     };
-    assert_same!(rt; answer, wanted, number);
+    assert_eq!(rt; answer, wanted, "{number:?}");
     is_refused
 }
 
@@ -101,8 +105,8 @@ fn refuses_growths(rt: &(impl AllocGlobal + Abort), input: &[u8]) {
                 refused = refused.saturating_add(1);
             }
         }
-        assert_that!(rt; refused > 0, number);
-        assert_that!(rt; refused < 200, number);
+        assert!(rt; refused > 0, "{number:?}");
+        assert!(rt; refused < 200, "{number:?}");
     }
 }
 
@@ -163,20 +167,20 @@ fn is_refused(rt: &(impl AllocGlobal + Abort), form: u32, left: usize) -> bool {
     let full = ballast(rt, &heap, 4096);
     let answer = parse(form, first.as_mut_slice(), &mut buffers, &mut tape);
     drop(full);
-    assert_same!(rt; answer, Ok(2), form);
-    assert_same!(rt; buffers.structural_indexes().len(), 3, form);
+    assert_eq!(rt; answer, Ok(2), "{form:?}");
+    assert_eq!(rt; buffers.structural_indexes().len(), 3, "{form:?}");
     let full = ballast(rt, &heap, left);
     let answer = parse(form, second.as_mut_slice(), &mut buffers, &mut tape);
     drop(full);
     let is_refused = is_out_of_memory(rt, form, answer, 15);
     let positions = if is_refused { 0 } else { 29 };
-    assert_same!(rt; buffers.structural_indexes().len(), positions, form);
-    assert_that!(rt; !is_refused || form == 2 || tape.is_empty(), form);
+    assert_eq!(rt; buffers.structural_indexes().len(), positions, "{form:?}");
+    assert!(rt; !is_refused || form == 2 || tape.is_empty(), "{form:?}");
     let full = ballast(rt, &heap, 4096);
     let answer = parse(form, third.as_mut_slice(), &mut buffers, &mut tape);
     drop(full);
-    assert_same!(rt; answer, Ok(15), form);
-    assert_same!(rt; buffers.structural_indexes().len(), 29, form);
+    assert_eq!(rt; answer, Ok(15), "{form:?}");
+    assert_eq!(rt; buffers.structural_indexes().len(), 29, "{form:?}");
     is_refused
 }
 
@@ -189,7 +193,7 @@ fn refused_parses_list_nothing(rt: HostRuntime) {
                 refused = refused.saturating_add(1);
             }
         }
-        assert_that!(&rt; refused > 5, form);
-        assert_that!(&rt; refused < 195, form);
+        assert!(rt; refused > 5, "{form:?}");
+        assert!(rt; refused < 195, "{form:?}");
     }
 }

@@ -14,9 +14,12 @@ fn assert_reason(
     text: &str,
 ) {
     let location = Location::new(b"1", Error::generic(kind));
-    assert_same!(rt; location.byte(), byte, text);
-    assert_same!(rt; location.reason(), reason, text);
-    assert_same!(rt; reason.to_string(rt.alloc()).expect(rt, MEMORY).as_str(), text);
+    assert_eq!(rt; location.byte(), byte, "{text:?}");
+    assert_eq!(rt; location.reason(), reason, "{text:?}");
+    assert_eq!(rt;
+        reason.to_string(rt.alloc()).expect(rt, MEMORY).as_str(),
+        text
+    );
 }
 
 #[test]
@@ -73,13 +76,21 @@ fn place<A: Allocator + Copy>(
 fn places_in_deep_inputs(rt: HostRuntime) {
     for count in [1, 63, 64, 65, 128, 129, 1024] {
         let text = nested(&rt, count, count);
-        assert_same!(&rt; place(rt.alloc(), text.as_slice(), 1024), Ok(None), count);
+        assert_eq!(rt;
+            place(rt.alloc(), text.as_slice(), 1024),
+            Ok(None),
+            "{count:?}"
+        );
         let shallow = count - 1;
         let too_deep = Ok(Some((shallow, Reason::TooDeep)));
-        assert_same!(&rt; place(rt.alloc(), text.as_slice(), shallow), too_deep, count);
+        assert_eq!(rt;
+            place(rt.alloc(), text.as_slice(), shallow),
+            too_deep,
+            "{count:?}"
+        );
         let open = nested(&rt, count, shallow);
         let end = Ok(Some((count + shallow, Reason::EndOfInput)));
-        assert_same!(&rt; place(rt.alloc(), open.as_slice(), 1024), end, count);
+        assert_eq!(rt; place(rt.alloc(), open.as_slice(), 1024), end, "{count:?}");
     }
 }
 
@@ -97,26 +108,26 @@ fn may_fail(
         let full = ballast(rt, &heap, units * 16);
         let found = place(&heap, input, 8);
         drop(full);
-        assert_same!(rt; heap.used(), 0, units);
+        assert_eq!(rt; heap.used(), 0, "{units:?}");
         if found.is_err() {
             failed = failed.saturating_add(1);
         } else {
-            assert_same!(rt; found, Ok(wanted), units);
+            assert_eq!(rt; found, Ok(wanted), "{units:?}");
         }
     }
-    assert_that!(rt; failed < 200, input);
-    assert_same!(rt; place(&heap, input, 8), Ok(wanted), input);
+    assert!(rt; failed < 200, "{input:?}");
+    assert_eq!(rt; place(&heap, input, 8), Ok(wanted), "{input:?}");
     failed > 0
 }
 
 #[test]
 fn each_allocation_fails(rt: HostRuntime) {
     let document = b"[[1,\"\\n\"],{\"\\u0061\":[4]},5,6,7,8,9]";
-    assert_that!(&rt; may_fail(&rt, document, None));
+    assert!(rt; may_fail(&rt, document, None));
     let end = Some((20, Reason::ExpectedElementEnd(b'5')));
-    assert_that!(&rt; may_fail(&rt, b"[[1],{\"\\u0061\":[4]} 5,6,7,8,9]", end));
+    assert!(rt; may_fail(&rt, b"[[1],{\"\\u0061\":[4]} 5,6,7,8,9]", end));
     let deep = Some((8, Reason::TooDeep));
-    assert_that!(&rt; may_fail(&rt, b"[[[[[[[[[1,2]]]]]]]]]", deep));
+    assert!(rt; may_fail(&rt, b"[[[[[[[[[1,2]]]]]]]]]", deep));
     let byte = Some((5, Reason::NotUtf8(0xff)));
-    assert_that!(&rt; !may_fail(&rt, b"[1,2,\xff]", byte));
+    assert!(rt; !may_fail(&rt, b"[1,2,\xff]", byte));
 }

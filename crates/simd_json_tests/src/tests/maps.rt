@@ -44,7 +44,7 @@ fn objects_are_compared_with_maps(rt: HostRuntime) -> Result<(), Fail> {
     ];
     for (document, a, b, equal) in rows {
         let map = map_of(rt.alloc(), a, b)?;
-        assert_same!(&rt; is_equal(rt.alloc(), document, &map)?, Some(equal));
+        assert_eq!(rt; is_equal(rt.alloc(), document, &map)?, Some(equal));
     }
     Ok(())
 }

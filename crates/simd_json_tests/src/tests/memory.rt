@@ -47,15 +47,15 @@ fn alternating(rt: &(impl AllocGlobal + Abort)) -> Vec<u8> {
 }
 
 fn assert_document(rt: &impl Abort, answer: &Result<()>, nodes: usize, positions: &[u32]) {
-    assert_same!(rt; answer, &Ok(()));
-    assert_same!(rt; nodes, 3);
-    assert_same!(rt; positions, [0, 1, 13, 15, 17].as_slice());
+    assert_eq!(rt; answer, &Ok(()));
+    assert_eq!(rt; nodes, 3);
+    assert_eq!(rt; positions, [0, 1, 13, 15, 17].as_slice());
 }
 
 fn assert_refused(rt: &impl Abort, answer: &Result<()>, nodes: usize, positions: &[u32]) {
-    assert_same!(rt; answer, &Err(Error::new(17, Some('['), ErrorType::Syntax)));
-    assert_same!(rt; nodes, 0);
-    assert_same!(rt; positions.len(), 18);
+    assert_eq!(rt; answer, &Err(Error::new(17, Some('['), ErrorType::Syntax)));
+    assert_eq!(rt; nodes, 0);
+    assert_eq!(rt; positions.len(), 18);
 }
 
 // With capacity for their bytes, documents and rejected inputs alternate while every growth fails.
@@ -68,7 +68,7 @@ fn reserved_parses_take_no_memory(rt: HostRuntime) {
     buffers.reserve(18).expect(&rt, MEMORY);
     tape.reserve(18).expect(&rt, MEMORY);
     let _ballast = ballast(&rt, &heap, 0);
-    assert_same!(&rt; heap.free(), 0);
+    assert_eq!(rt; heap.free(), 0);
     let mut documents = 0u32;
     for piece in pieces.chunks_exact_mut(18) {
         let is_document = piece[0] == b'{';
@@ -81,7 +81,7 @@ fn reserved_parses_take_no_memory(rt: HostRuntime) {
             assert_refused(&rt, &answer, nodes, positions);
         }
     }
-    assert_same!(&rt; documents, 50);
+    assert_eq!(rt; documents, 50);
 }
 
 // Of 10 nodes, of 9, and two that are rejected.
@@ -113,12 +113,12 @@ fn a_log_takes_no_memory(rt: HostRuntime) {
             Ok(()) => nodes = nodes.saturating_add(tape.nodes().len() as u32),
             Err(e) if *e.error() == ErrorType::InternalError => refused = refused.saturating_add(1),
             Err(e) if *e.error() == ErrorType::Syntax => bad = bad.saturating_add(1),
-            Err(e) => assert_same!(&rt; e, Error::generic(ErrorType::Eof)),
+            Err(e) => assert_eq!(rt; e, Error::generic(ErrorType::Eof)),
         }
-        assert_same!(&rt; heap.free(), 0);
+        assert_eq!(rt; heap.free(), 0);
     }
-    assert_same!(&rt; (nodes, refused, bad), (2_500 * (10 + 9), 2_500, 2_500));
-    assert_same!(&rt; heap.used(), used);
+    assert_eq!(rt; (nodes, refused, bad), (2_500 * (10 + 9), 2_500, 2_500));
+    assert_eq!(rt; heap.used(), used);
 }
 
 // Reads each line into one buffer, and parses it over one tape; how many nodes the lines have, and
@@ -161,9 +161,9 @@ fn a_stream_takes_no_memory(rt: HostRuntime) {
     let used = heap.used();
     let mut reader = log.as_slice();
     let (counts, tape) = count(&mut reader, &mut line, &mut buffers, tape);
-    assert_same!(&rt; counts.ok(), Some((2_500 * (10 + 9), 5_000)));
-    assert_that!(&rt; tape.is_empty());
-    assert_same!(&rt; (heap.used(), heap.free()), (used, 0));
+    assert_eq!(rt; counts.ok(), Some((2_500 * (10 + 9), 5_000)));
+    assert!(rt; tape.is_empty());
+    assert_eq!(rt; (heap.used(), heap.free()), (used, 0));
 }
 
 // A tape is filled again for an input of another lifetime. What it listed is gone, after an error
@@ -178,18 +178,21 @@ fn a_tape_is_refilled(rt: HostRuntime) {
         &mut buffers,
         Tape::null(&heap).expect(&rt, MEMORY),
     );
-    assert_same!(&rt; answer, Ok(()));
+    assert_eq!(rt; answer, Ok(()));
     let wanted = [
         Node::Array { len: 2, count: 2 },
         Node::String("A"),
         Node::Static(StaticNode::U64(2)),
     ];
-    assert_same!(&rt; tape.nodes(), wanted.as_slice());
-    assert_same!(&rt; buffers.structural_indexes(), [0, 1, 9, 10, 11].as_slice());
+    assert_eq!(rt; tape.nodes(), wanted.as_slice());
+    assert_eq!(rt; buffers.structural_indexes(), [0, 1, 9, 10, 11].as_slice());
     let mut refused = *b"[1,]";
     let (answer, tape) = refill_tape(&mut refused, &mut buffers, tape);
-    assert_same!(&rt; answer, Err(Error::new(3, Some(']'), ErrorType::InternalError)));
-    assert_that!(&rt; tape.is_empty());
+    assert_eq!(rt;
+        answer,
+        Err(Error::new(3, Some(']'), ErrorType::InternalError))
+    );
+    assert!(rt; tape.is_empty());
     assert_capacity_stays(&rt, &heap, &mut buffers, tape)
 }
 
@@ -204,14 +207,14 @@ fn assert_capacity_stays(
     let mut large = *b"[1,2,3,4,5,6,7,8,9,0]";
     let (answer, tape) = refill_tape(&mut large, buffers, tape);
     assert_no_memory(rt, answer);
-    assert_that!(rt; tape.is_empty());
+    assert!(rt; tape.is_empty());
     let mut again = *b"[1,2]";
     let (answer, tape) = refill_tape(&mut again, buffers, tape);
-    assert_same!(rt; (answer, tape.nodes().len()), (Ok(()), 3));
+    assert_eq!(rt; (answer, tape.nodes().len()), (Ok(()), 3));
     drop(full);
     let mut larger = *b"[1,2,3,4,5,6,7,8,9,0]";
     let (answer, tape) = refill_tape(&mut larger, buffers, tape);
-    assert_same!(rt; (answer, tape.nodes().len()), (Ok(()), 11));
+    assert_eq!(rt; (answer, tape.nodes().len()), (Ok(()), 11));
 }
 
 // After a reset a parse within the capacity takes no memory, and one beyond it finds none.
@@ -225,17 +228,17 @@ fn capacity_outlives_a_reset(rt: HostRuntime) {
     let _ballast = ballast(&rt, &heap, 0);
     let mut small = *b"[1,2,3,4,5,6]";
     let mut filled = tape.reset();
-    assert_that!(&rt; filled.is_empty());
-    assert_same!(&rt; fill_tape(&mut small, &mut buffers, &mut filled), Ok(()));
-    assert_same!(&rt; filled.nodes().len(), 7);
+    assert!(rt; filled.is_empty());
+    assert_eq!(rt; fill_tape(&mut small, &mut buffers, &mut filled), Ok(()));
+    assert_eq!(rt; filled.nodes().len(), 7);
     let mut large = *b"[1,2,3,4,5,6,7,8,9,0]";
     let mut more = filled.reset();
     assert_no_memory(&rt, fill_tape(&mut large, &mut buffers, &mut more));
-    assert_that!(&rt; more.is_empty());
+    assert!(rt; more.is_empty());
 }
 
 fn assert_no_memory(rt: &impl Abort, answer: Result<()>) {
-    assert_same!(rt; answer, Err(Error::generic(ErrorType::OutOfMemory)));
+    assert_eq!(rt; answer, Err(Error::generic(ErrorType::OutOfMemory)));
 }
 
 // A reservation that fails changes nothing that is listed.
@@ -251,13 +254,13 @@ fn reservations_are_refused(rt: HostRuntime) {
     assert_no_memory(&rt, buffers.reserve(1000));
     assert_no_memory(&rt, tape.reserve(500));
     assert_no_memory(&rt, reserve(1000, &mut buffers, &mut tape));
-    assert_same!(&rt; buffers.structural_indexes(), [0, 1, 2, 3, 4].as_slice());
-    assert_same!(&rt; tape.nodes().len(), 3);
+    assert_eq!(rt; buffers.structural_indexes(), [0, 1, 2, 3, 4].as_slice());
+    assert_eq!(rt; tape.nodes().len(), 3);
     drop(full);
-    assert_same!(&rt; buffers.reserve(1000), Ok(()));
-    assert_same!(&rt; tape.reserve(500), Ok(()));
-    assert_same!(&rt; buffers.structural_indexes(), [0, 1, 2, 3, 4].as_slice());
-    assert_same!(&rt; tape.nodes().len(), 3);
+    assert_eq!(rt; buffers.reserve(1000), Ok(()));
+    assert_eq!(rt; tape.reserve(500), Ok(()));
+    assert_eq!(rt; buffers.structural_indexes(), [0, 1, 2, 3, 4].as_slice());
+    assert_eq!(rt; tape.nodes().len(), 3);
 }
 
 // Buffers know the depth limit, so a reservation of both takes fewer nodes than one of the tape for
@@ -267,13 +270,13 @@ fn both_are_reserved_by_the_depth_limit(rt: HostRuntime) {
     let heap = LocalHeap::new(rt.alloc(), 1 << 16).expect(&rt, MEMORY);
     let mut buffers = Buffers::with_max_depth(&heap, 0, 16).expect(&rt, MEMORY);
     let mut tape = Tape::null(&heap).expect(&rt, MEMORY);
-    assert_same!(&rt; reserve(1500, &mut buffers, &mut tape), Ok(()));
-    assert_that!(&rt; heap.used() >= 1500 * 28 + 16 * 48);
-    assert_that!(&rt; heap.used() < 1500 * 30);
-    assert_same!(&rt; tape.nodes().len(), 1);
+    assert_eq!(rt; reserve(1500, &mut buffers, &mut tape), Ok(()));
+    assert!(rt; heap.used() >= 1500 * 28 + 16 * 48);
+    assert!(rt; heap.used() < 1500 * 30);
+    assert_eq!(rt; tape.nodes().len(), 1);
     let used = heap.used();
-    assert_same!(&rt; reserve(1499, &mut buffers, &mut tape), Ok(()));
-    assert_same!(&rt; heap.used(), used);
+    assert_eq!(rt; reserve(1499, &mut buffers, &mut tape), Ok(()));
+    assert_eq!(rt; heap.used(), used);
     assert_no_memory(&rt, tape.reserve(1500));
 }
 
@@ -286,6 +289,6 @@ fn encoding_is_tested_without_memory(rt: HostRuntime) {
     let mut tape: Tape<'_, &LocalHeap> = Tape::null(&heap).expect(&rt, MEMORY).reset();
     let _ballast = ballast(&rt, &heap, 0);
     let answer = fill_tape(&mut input, &mut buffers, &mut tape);
-    assert_same!(&rt; answer, Err(Error::generic(ErrorType::InvalidUtf8)));
-    assert_same!(&rt; tape.nodes(), [].as_slice());
+    assert_eq!(rt; answer, Err(Error::generic(ErrorType::InvalidUtf8)));
+    assert_eq!(rt; tape.nodes(), [].as_slice());
 }

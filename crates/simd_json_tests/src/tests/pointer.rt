@@ -9,13 +9,13 @@ const MEMORY: &str = "there is memory";
 #[test]
 fn pointers_are_split_within_their_limit(rt: HostRuntime) {
     let whole = Pointer::<0>::new("").expect(&rt, "it has no token");
-    assert_same!(&rt; whole.as_str(), "");
-    assert_that!(&rt; Pointer::<0>::new("/").is_none());
+    assert_eq!(rt; whole.as_str(), "");
+    assert!(rt; Pointer::<0>::new("/").is_none());
     let keys = Pointer::<3>::new("/a/~01/").expect(&rt, "it has three tokens");
-    assert_same!(&rt; keys.as_str(), "/a/~01/");
-    assert_that!(&rt; Pointer::<2>::new("/a/~01/").is_none());
+    assert_eq!(rt; keys.as_str(), "/a/~01/");
+    assert!(rt; Pointer::<2>::new("/a/~01/").is_none());
     for malformed in ["a", "a/0", " /a", "/~", "/~2", "/a/~/b", "/a~0~"] {
-        assert_that!(&rt; Pointer::<4>::new(malformed).is_none(), malformed);
+        assert!(rt; Pointer::<4>::new(malformed).is_none(), "{malformed:?}");
     }
 }
 
@@ -33,12 +33,18 @@ fn errors_are_printed_in_words(rt: HostRuntime) {
         expected: PointerExpected::Index,
         got: ValueType::Array,
     };
-    assert_same!(&rt; stop, wanted);
+    assert_eq!(rt; stop, wanted);
     let printed = stop.to_string(rt.alloc()).expect(&rt, MEMORY);
-    assert_same!(&rt; printed.as_str(), "expected an array index, found an array at byte 2");
+    assert_eq!(rt;
+        printed.as_str(),
+        "expected an array index, found an array at byte 2"
+    );
     let refused = value.try_as_u64().err().expect(&rt, "it is an object");
     let printed = refused.to_string(rt.alloc()).expect(&rt, MEMORY);
-    assert_same!(&rt; printed.as_str(), "expected an unsigned integer that fits, found an object");
+    assert_eq!(rt;
+        printed.as_str(),
+        "expected an unsigned integer that fits, found an object"
+    );
 }
 
 // The example of `Pointer`, as it is written there.
@@ -63,7 +69,7 @@ fn servers_that_listen_are_counted(rt: HostRuntime) {
     let mut input = *b"{\"listen\":{\"port\":80}}";
     let tape = tape_of(&rt, &mut input);
     let server = tape.as_value();
-    assert_same!(&rt; servers::listening(slice::from_ref(&server)), 1);
+    assert_eq!(rt; servers::listening(slice::from_ref(&server)), 1);
 }
 
 // The recipes of docs/READING.md, as they stand there.
@@ -180,14 +186,14 @@ fn recipes_do_as_they_say(rt: HostRuntime) {
     let mut input = *b"{\"servers\":[{\"port\":8080}],\"q\\\"x\":1.50,\"n\":-3,\"big\":1e309}";
     let tape = tape_of(&rt, &mut input);
     let value = tape.as_value();
-    assert_that!(&rt; places::port(&value) == Ok(Some(8080)));
+    assert!(rt; places::port(&value) == Ok(Some(8080)));
     let decimal = value.pointer("/q\"x").expect(&rt, "it is there");
-    assert_that!(&rt; floats::float(&decimal) == Some(1.5));
+    assert!(rt; floats::float(&decimal) == Some(1.5));
     let integer = value.pointer("/n").expect(&rt, "it is there");
-    assert_that!(&rt; floats::float(&integer) == Some(-3.0));
+    assert!(rt; floats::float(&integer) == Some(-3.0));
     let big = value.pointer("/big").expect(&rt, "it is there");
-    assert_that!(&rt; floats::float(&big).is_none());
-    assert_that!(&rt; floats::float(&value).is_none());
+    assert!(rt; floats::float(&big).is_none());
+    assert!(rt; floats::float(&value).is_none());
 }
 
 #[test]
@@ -195,9 +201,9 @@ fn walks_see_each_value(rt: HostRuntime) {
     let mut input = *b"{\"a\":[\"x\",{\"b\":\"y\"}],\"c\":\"z\",\"d\":1}";
     let tape = tape_of(&rt, &mut input);
     let value = tape.as_value();
-    assert_same!(&rt; walks::depth(value), 3);
-    assert_same!(&rt; walks::count(value), 7);
-    assert_same!(&rt; walks::strings(&value), 3);
+    assert_eq!(rt; walks::depth(value), 3);
+    assert_eq!(rt; walks::count(value), 7);
+    assert_eq!(rt; walks::strings(&value), 3);
 }
 
 #[test]
@@ -207,5 +213,8 @@ fn selections_are_quoted(rt: HostRuntime) {
     let object = tape.as_value().as_object().expect(&rt, "it is one");
     let mut text = Vec::new(rt.alloc());
     selections::write_without(&object, "b", &mut text).expect(&rt, MEMORY);
-    assert_same!(&rt; text.as_slice(), b"{\"a\":[1,2],\"q\\\"x\":1.50}".as_slice());
+    assert_eq!(rt;
+        text.as_slice(),
+        b"{\"a\":[1,2],\"q\\\"x\":1.50}".as_slice()
+    );
 }

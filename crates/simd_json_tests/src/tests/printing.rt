@@ -46,18 +46,18 @@ fn fails_within(
     let used = heap.used();
     let fails = match text_of(value, is_pretty, &heap) {
         Ok(text) => {
-            assert_same!(rt; text.as_str(), whole, left);
+            assert_eq!(rt; text.as_str(), whole, "{left:?}");
             false
         }
         Err(e) => {
-            assert_same!(rt; e, Error::generic(ErrorType::OutOfMemory), left);
+            assert_eq!(rt; e, Error::generic(ErrorType::OutOfMemory), "{left:?}");
             true
         }
     };
-    assert_same!(rt; heap.used(), used, left);
+    assert_eq!(rt; heap.used(), used, "{left:?}");
     drop(others);
     let again = text_of(value, is_pretty, &heap)?;
-    assert_same!(rt; again.as_str(), whole, left);
+    assert_eq!(rt; again.as_str(), whole, "{left:?}");
     Ok(fails)
 }
 
@@ -66,7 +66,7 @@ fn fails_within(
 fn each_allocation_fails(rt: HostRuntime) -> Tested {
     let mut input = *b"[\"0123456789012345678901234567890123456789\",[[[1,2,3,4,5,6,7,8]]]]";
     let tape = to_tape(rt.alloc(), &mut input)?;
-    assert_that!(&rt; !tape.is_empty());
+    assert!(rt; !tape.is_empty());
     for is_pretty in [false, true] {
         let mut failed = 0u32;
         for units in 0..48 {
@@ -74,7 +74,7 @@ fn each_allocation_fails(rt: HostRuntime) -> Tested {
                 failed = failed.saturating_add(1);
             }
         }
-        assert_that!(&rt; failed > 0 && failed < 48, (is_pretty, failed));
+        assert!(rt; failed > 0 && failed < 48, "{is_pretty}, {failed}");
     }
     Ok(())
 }
@@ -128,8 +128,8 @@ fn assert_ended(
     } else {
         Some(ErrorKind::WriteZero)
     };
-    assert_same!(rt; written.err().map(|e| e.kind()), wanted, capacity);
-    assert_same!(rt; writer.taken.as_slice(), &text[..capacity.min(text.len())]);
+    assert_eq!(rt; written.err().map(|e| e.kind()), wanted, "{capacity:?}");
+    assert_eq!(rt; writer.taken.as_slice(), &text[..capacity.min(text.len())]);
 }
 
 const COMPACT: &[u8] = b"{\"a\":[1,\"x\"]}";

@@ -51,11 +51,11 @@ mod errors {
 
 #[test]
 fn documents_are_read_as_shown(rt: HostRuntime) {
-    assert_same!(&rt; root::sizes(&rt), Ok(3));
-    assert_same!(&rt; errors::line_of_error(&rt), Some(2));
+    assert_eq!(rt; root::sizes(&rt), Ok(3));
+    assert_eq!(rt; errors::line_of_error(&rt), Some(2));
     let mut input = *b"[1,[],[[]],{\"a\":[]}]";
     let tape = tape_of(&rt, &mut input);
-    assert_same!(&rt; members::arrays_in(tape.as_value()), 2);
+    assert_eq!(rt; members::arrays_in(tape.as_value()), 2);
     let object = tape.as_value().get_idx(3).expect(&rt, "there are four");
-    assert_same!(&rt; members::arrays_in(object), 1);
+    assert_eq!(rt; members::arrays_in(object), 1);
 }

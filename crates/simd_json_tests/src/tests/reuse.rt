@@ -42,24 +42,28 @@ fn assert_as_new(
     let mut tape = Tape::null(rt.alloc())?;
     let _ = fill_tape(first.as_mut_slice(), used, &mut tape);
     let found = fill_tape(second.as_mut_slice(), used, &mut tape).err();
-    assert_same!(rt; found, error, (before, input));
-    assert_same!(rt; tape.nodes(), wanted.nodes(), (before, input));
-    assert_same!(rt; used.structural_indexes(), new.structural_indexes(), (before, input));
+    assert_eq!(rt; found, error, "{before:?}, {input:?}");
+    assert_eq!(rt; tape.nodes(), wanted.nodes(), "{before:?}, {input:?}");
+    assert_eq!(rt;
+        used.structural_indexes(),
+        new.structural_indexes(),
+        "{before:?}, {input:?}"
+    );
     Ok(())
 }
 
 #[test]
 fn a_tape_is_null_and_then_reset(rt: HostRuntime) -> Tested {
     let null = Tape::null(rt.alloc())?;
-    assert_same!(&rt; null.nodes(), [Node::Static(StaticNode::Null)].as_slice());
-    assert_that!(&rt; format!(in rt.alloc(); "{null:?}")?.starts_with("Tape"));
+    assert_eq!(rt; null.nodes(), [Node::Static(StaticNode::Null)].as_slice());
+    assert!(rt; format!(in rt.alloc(); "{null:?}")?.starts_with("Tape"));
     let mut input = *b"[1]";
     let mut tape = null.reset();
-    assert_that!(&rt; tape.is_empty());
-    assert_that!(&rt; Tape::empty(rt.alloc()).is_empty());
+    assert!(rt; tape.is_empty());
+    assert!(rt; Tape::empty(rt.alloc()).is_empty());
     let mut buffers = Buffers::new(rt.alloc(), 3)?;
     fill_tape(&mut input, &mut buffers, &mut tape)?;
-    assert_same!(&rt; tape.nodes().len(), 2);
-    assert_same!(&rt; tape.reset().nodes().len(), 0);
+    assert_eq!(rt; tape.nodes().len(), 2);
+    assert_eq!(rt; tape.reset().nodes().len(), 0);
     Ok(())
 }

@@ -26,13 +26,13 @@ fn assert_run(
     let listed = kept.structural_indexes();
     let lens = (tape.nodes().len(), listed.len());
     if run % 2 == 0 {
-        assert_same!(rt; error, None, case);
-        assert_that!(rt; is_backslashes(tape.nodes().first(), run / 2), case);
-        assert_same!(rt; lens, (1, 1), case);
-        assert_that!(rt; listed.iter().all(|i| *i as usize == spaces), case);
+        assert_eq!(rt; error, None, "{case:?}");
+        assert!(rt; is_backslashes(tape.nodes().first(), run / 2), "{case:?}");
+        assert_eq!(rt; lens, (1, 1), "{case:?}");
+        assert!(rt; listed.iter().all(|i| *i as usize == spaces), "{case:?}");
     } else {
-        assert_same!(rt; error, Some(Error::generic(Syntax)), case);
-        assert_same!(rt; lens, (0, 0), case);
+        assert_eq!(rt; error, Some(Error::generic(Syntax)), "{case:?}");
+        assert_eq!(rt; lens, (0, 0), "{case:?}");
     }
     Ok(())
 }
@@ -59,7 +59,7 @@ fn backslashes_outside_strings_are_counted(rt: HostRuntime) -> Tested {
             Error::generic(Syntax)
         };
         let error = to_tape(rt.alloc(), input.as_mut_slice()).err();
-        assert_same!(&rt; error, Some(wanted), run);
+        assert_eq!(rt; error, Some(wanted), "{run:?}");
     }
     Ok(())
 }
@@ -76,13 +76,13 @@ fn as_many_containers_as_allowed_are_open(rt: HostRuntime) -> Tested {
         let mut input = text(rt.alloc(), &open, b"]", depth, b"")?;
         let mut buffers = Buffers::with_max_depth(rt.alloc(), 0, limit)?;
         let tape = to_tape_with_buffers(input.as_mut_slice(), &mut buffers)?;
-        assert_same!(&rt; tape.nodes().len(), depth, limit);
+        assert_eq!(rt; tape.nodes().len(), depth, "{limit:?}");
         for (node, count) in tape.nodes().iter().rev().zip(0..depth) {
             let len = count.min(1);
-            assert_same!(&rt; *node, Node::Array { len, count }, limit);
+            assert_eq!(rt; *node, Node::Array { len, count }, "{limit:?}");
         }
     }
-    assert_same!(&rt; INPUT_PADDING, 64);
+    assert_eq!(rt; INPUT_PADDING, 64);
     Ok(())
 }
 
@@ -93,10 +93,10 @@ fn long_decimals_are_kept(rt: HostRuntime) -> Tested {
         let literal = text(rt.alloc(), before, b"9", 10_000, b"")?;
         let mut input = literal.clone()?;
         let tape = to_tape(rt.alloc(), input.as_mut_slice())?;
-        assert_same!(&rt; tape.nodes().len(), 1);
+        assert_eq!(rt; tape.nodes().len(), 1);
         let is_kept = matches!(tape.nodes().first(),
             Some(Node::Decimal(digits)) if digits.as_bytes() == literal.as_slice());
-        assert_that!(&rt; is_kept, before);
+        assert!(rt; is_kept, "{before:?}");
     }
     Ok(())
 }

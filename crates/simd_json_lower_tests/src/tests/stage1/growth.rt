@@ -19,11 +19,11 @@ fn refused_lengths(
         let mut blocks = Vec::new(&heap);
         match BlockStage1Parse::find_structural_bits(text, &mut positions, &mut blocks) {
             Ok(found) => {
-                assert_same!(rt; found, want);
+                assert_eq!(rt; found, want);
                 whole = whole.saturating_add(1);
             }
             Err(e) => {
-                assert_same!(rt; e, Error::generic(ErrorType::OutOfMemory));
+                assert_eq!(rt; e, Error::generic(ErrorType::OutOfMemory));
                 let lengths = (positions.len(), blocks.len());
                 if refused.last() != Some(&lengths) {
                     refused.push(lengths)?;
@@ -31,7 +31,7 @@ fn refused_lengths(
             }
         }
     }
-    assert_that!(rt; whole > 0);
+    assert!(rt; whole > 0);
     Ok(refused)
 }
 
@@ -52,10 +52,10 @@ fn needs_no_growth(rt: &(impl AllocGlobal + Abort), text: &[u8], want: Found) ->
             break;
         }
     }
-    assert_that!(rt; others.push([0u64; 4]).is_err());
+    assert!(rt; others.push([0u64; 4]).is_err());
     let answer = BlockStage1Parse::find_structural_bits(text, &mut positions, &mut blocks);
-    assert_same!(rt; answer, Ok(want));
-    assert_same!(rt; positions.len(), text.len());
+    assert_eq!(rt; answer, Ok(want));
+    assert_eq!(rt; positions.len(), text.len());
     Ok(())
 }
 
@@ -97,7 +97,7 @@ fn each_growth_of_one_window_is_refused(rt: HostRuntime) -> Tested {
         let text = text(rt.alloc(), before, byte, len, before)?;
         let step = if len < 1000 { 16 } else { 64 };
         let refused = refused_lengths(&rt, &text, step, want)?;
-        assert_same!(&rt; refused.as_slice(), lengths);
+        assert_eq!(rt; refused.as_slice(), lengths);
         needs_no_growth(&rt, &text, want)?;
     }
     Ok(())
@@ -116,10 +116,13 @@ fn each_growth_of_several_windows_is_refused(rt: HostRuntime) -> Tested {
         escape_blocks: 0,
     };
     let refused = refused_lengths(&rt, &text, 1024, want)?;
-    assert_same!(&rt; refused.first(), Some(&(0, 0)));
-    assert_that!(&rt; refused.len() > 2, &refused);
+    assert_eq!(rt; refused.first(), Some(&(0, 0)));
+    assert!(rt; refused.len() > 2, "{refused:?}");
     for lengths in refused.windows(2) {
-        assert_that!(&rt; lengths[0].0 < lengths[1].0 || lengths[0].1 < lengths[1].1, &refused);
+        assert!(rt;
+            lengths[0].0 < lengths[1].0 || lengths[0].1 < lengths[1].1,
+            "{refused:?}"
+        );
     }
     needs_no_growth(&rt, &text, want)
 }
@@ -140,9 +143,9 @@ fn the_encoding_comes_before_memory(rt: HostRuntime) -> Tested {
                     &mut positions,
                     &mut blocks,
                 );
-                assert_same!(&rt; answer, Err(Error::generic(ErrorType::InvalidUtf8)));
-                assert_same!(&rt; positions.len(), 0);
-                assert_same!(&rt; blocks.len(), 0);
+                assert_eq!(rt; answer, Err(Error::generic(ErrorType::InvalidUtf8)));
+                assert_eq!(rt; positions.len(), 0);
+                assert_eq!(rt; blocks.len(), 0);
             }
         }
     }
@@ -168,12 +171,12 @@ fn each_growth_of_marks_is_refused(rt: HostRuntime) -> Tested {
                     positions: 1,
                     escape_blocks: 40,
                 };
-                assert_same!(&rt; found, want);
-                assert_same!(&rt; marks.first().copied(), Some(1));
+                assert_eq!(rt; found, want);
+                assert_eq!(rt; marks.first().copied(), Some(1));
                 whole = whole.saturating_add(1);
             }
             Err(e) => {
-                assert_same!(&rt; e, Error::generic(ErrorType::OutOfMemory));
+                assert_eq!(rt; e, Error::generic(ErrorType::OutOfMemory));
                 let lengths = (marks.len(), blocks.len());
                 if refused.last() != Some(&lengths) {
                     refused.push(lengths)?;
@@ -181,8 +184,8 @@ fn each_growth_of_marks_is_refused(rt: HostRuntime) -> Tested {
             }
         }
     }
-    assert_that!(&rt; whole > 0);
-    assert_same!(&rt; refused.as_slice(), [(0, 0), (2560, 0)].as_slice());
+    assert!(rt; whole > 0);
+    assert_eq!(rt; refused.as_slice(), [(0, 0), (2560, 0)].as_slice());
     let heap = LocalHeap::new(rt.alloc(), 0)?;
     let mut marks = Vec::new(&heap);
     let mut blocks = Vec::new(&heap);
@@ -191,7 +194,7 @@ fn each_growth_of_marks_is_refused(rt: HostRuntime) -> Tested {
         panic!(&rt; "too short");
     }
     let answer = BlockStage1Parse::mark_structural_bits(&bad, &mut marks, &mut blocks);
-    assert_same!(&rt; answer, Err(Error::generic(ErrorType::InvalidUtf8)));
+    assert_eq!(rt; answer, Err(Error::generic(ErrorType::InvalidUtf8)));
     Ok(())
 }
 
@@ -212,7 +215,7 @@ fn characters_across_windows_are_read(rt: HostRuntime) -> Tested {
                 positions: 1,
                 escape_blocks: 0,
             };
-            assert_same!(&rt; answer, Ok(want));
+            assert_eq!(rt; answer, Ok(want));
             for cut in 1..character.len() {
                 let mut cut = text_without(rt.alloc(), &text, at.saturating_add(1), cut)?;
                 let answer = BlockStage1Parse::find_structural_bits(
@@ -220,7 +223,7 @@ fn characters_across_windows_are_read(rt: HostRuntime) -> Tested {
                     &mut positions,
                     &mut blocks,
                 );
-                assert_same!(&rt; answer, Err(Error::generic(ErrorType::InvalidUtf8)));
+                assert_eq!(rt; answer, Err(Error::generic(ErrorType::InvalidUtf8)));
                 cut.clear();
             }
         }

@@ -58,10 +58,14 @@ fn agree(
         let slowly = found_slowly(rt.alloc(), &text, 0);
         match (found, &slowly) {
             (Ok(found), Ok(slowly)) => {
-                assert_same!(rt; found, (slowly.0.as_slice(), slowly.1.as_slice()), &text);
+                assert_eq!(rt;
+                    found,
+                    (slowly.0.as_slice(), slowly.1.as_slice()),
+                    "{text:?}"
+                );
             }
-            (Err(found), Err(slowly)) => assert_same!(rt; &found, slowly, &text),
-            _ => assert_that!(rt; false, &text),
+            (Err(found), Err(slowly)) => assert_eq!(rt; &found, slowly, "{text:?}"),
+            _ => assert!(rt; false, "{text:?}"),
         }
         if text.len() < BLOCK_LEN {
             continue;
@@ -70,13 +74,13 @@ fn agree(
         match (marked, &slowly) {
             (Ok(found), Ok(slowly)) => {
                 let places = bits_of(rt.alloc(), &marks, text.len())?;
-                assert_same!(rt; places.as_slice(), slowly.0.as_slice(), &text);
-                assert_same!(rt; found.positions, slowly.0.len(), &text);
+                assert_eq!(rt; places.as_slice(), slowly.0.as_slice(), "{text:?}");
+                assert_eq!(rt; found.positions, slowly.0.len(), "{text:?}");
                 let listed = &blocks[..found.escape_blocks];
-                assert_same!(rt; listed, slowly.1.as_slice(), &text);
+                assert_eq!(rt; listed, slowly.1.as_slice(), "{text:?}");
             }
-            (Err(marked), Err(slowly)) => assert_same!(rt; &marked, slowly, &text),
-            _ => assert_that!(rt; false, &text),
+            (Err(marked), Err(slowly)) => assert_eq!(rt; &marked, slowly, "{text:?}"),
+            _ => assert!(rt; false, "{text:?}"),
         }
     }
     Ok(())

@@ -97,7 +97,7 @@ fn agrees_with_a_slow_reading(rt: HostRuntime) {
         for start in [0, 3] {
             let text = &text[start..];
             let slowly = found_slowly(rt.alloc(), text, 0);
-            assert_same!(&rt; found(rt.alloc(), text), slowly, text);
+            assert_eq!(rt; found(rt.alloc(), text), slowly, "{text:?}");
         }
     }
 }
@@ -117,7 +117,7 @@ fn agrees_with_a_slow_reading_across_blocks(rt: HostRuntime) {
             text[start + 4] = alphabet[n / 1296 % 6];
             let text = &text[..start + 5];
             let slowly = found_slowly(rt.alloc(), text, spaces);
-            assert_same!(&rt; found(rt.alloc(), text), slowly, text);
+            assert_eq!(rt; found(rt.alloc(), text), slowly, "{text:?}");
         }
         text[start] = b' ';
     }

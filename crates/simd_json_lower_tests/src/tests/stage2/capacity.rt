@@ -29,11 +29,11 @@ fn so_many_nodes_are_enough(rt: HostRuntime) -> std::result::Result<(), Fail> {
     ];
     for (source, positions, max_depth, enough, wanted) in rows {
         let nodes = nodes_enough(positions, max_depth);
-        assert_that!(&rt; nodes == enough, (source, "within", max_depth));
+        assert!(rt; nodes == enough, "{source:?} within {max_depth}");
         let mut input = source.as_bytes().to_vec(rt.alloc())?;
         let answer = tape_of(rt.alloc(), input.as_mut_slice(), max_depth);
         let used = answer.ok().map(|nodes| nodes.len());
-        assert_that!(&rt; used == wanted, (source, "within", max_depth));
+        assert!(rt; used == wanted, "{source:?} within {max_depth}");
     }
     Ok(())
 }
