@@ -24,20 +24,11 @@ version=$(sed -n 's/^#define SIMD_JSON_VERSION_[A-Z]* //p' "$ours/include/simd_j
 # copied CRATE: the version of the copy that is there.
 copied() { [ ! -e "$theirs/crates.txt" ] || sed -n "s/^[[:space:]]*$1[[:space:]:].*# simd_json \([0-9.]*\)\$/\1/p" "$theirs/crates.txt"; }
 
-# What has a line in crates.txt is this repository's, and else the toolchain's.
-crates=
-collect() {
-    case " $crates " in *" $1 "*) return ;; esac
-    found=$(line "$1" "$ours")
-    [ -n "$found" ] || return 0
-    crates="$crates $1"
-    for below in ${found#*:}; do collect "$below"; done
-}
 differs=
 for name in "${@:-simd_json}"; do
     [ -d "$ours/crates/$name" ] || differs="$name is no crate of this repository"
-    collect "$name"
 done
+crates=$(cd "$ours" && . scripts/crates.sh && for name in "${@:-simd_json}"; do below "$name"; echo "$name"; done | awk '!seen[$0]++')
 
 # other CRATE WORDS: what is there is another, which is replaced or stands in the way.
 replaced=
@@ -84,4 +75,5 @@ for name in $crates; do
         echo "$(line "$name" "$ours") # simd_json $version" >> "$theirs/crates.txt"
     fi
 done
-echo "vendor: $theirs/crates has$crates"
+# shellcheck disable=SC2086
+echo "vendor: $theirs/crates has" $crates
