@@ -30,8 +30,8 @@ impl Checker {
         }
     }
 
-    /// The allocator.
-    pub fn alloc(&self) -> Global {
+    // The allocator.
+    pub(crate) fn alloc(&self) -> Global {
         self.alloc
     }
 

@@ -28,29 +28,29 @@ pub struct Wanted<'a> {
 // In tab separated text a mark has a backslash in front, since no value begins with `\-`, `\*` or
 // `\!` there: each of its own backslashes is doubled.
 impl Wanted<'_> {
-    /// What stands for a value that there is not.
-    pub fn no_value(&self) -> &'static [u8]
+    // What is shown for a value that there is not.
+    pub(crate) fn no_value(&self) -> &'static [u8]
         ensures { result.now ≡ no_value self.now.is_tsv }
     {
         if self.is_tsv { b"\\-" } else { b"-" }
     }
 
-    /// The row of the lines that have no count of their own.
-    pub fn others(&self) -> &'static [u8]
+    // The row of the lines that have no count of their own.
+    pub(crate) fn others(&self) -> &'static [u8]
         ensures { result.now ≡ others self.now.is_tsv }
     {
         if self.is_tsv { b"\\*" } else { b"*" }
     }
 
-    /// The row of rejected lines.
-    pub fn rejected(&self) -> &'static [u8]
+    // The row of rejected lines.
+    pub(crate) fn rejected(&self) -> &'static [u8]
         ensures { result.now ≡ rejected self.now.is_tsv }
     {
         if self.is_tsv { b"\\!" } else { b"!" }
     }
 
-    /// What is between a count and its row.
-    pub fn separator(&self) -> &'static [u8]
+    // What is between a count and its row.
+    pub(crate) fn separator(&self) -> &'static [u8]
         ensures { result.now ≡ separator self.now.is_tsv }
     {
         if self.is_tsv { b"\t" } else { b" " }
