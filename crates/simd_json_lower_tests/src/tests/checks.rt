@@ -42,17 +42,17 @@ fn examples_run(rt: HostRuntime) {
 #[test]
 fn an_index_lists_the_last_input(rt: HostRuntime) {
     let mut index = Index::new(rt.alloc(), 0).expect(&rt, MEMORY);
-    assert_eq!(rt; index.structural_indexes(), &[]);
+    assert_eq!(rt; index.structural_indexes(), [0u32; 0].as_slice());
     assert_eq!(rt; index.check(b"[1, \"]\"]", 1), Ok(()));
-    assert_eq!(rt; index.structural_indexes(), &[0, 1, 2, 4, 7]);
+    assert_eq!(rt; index.structural_indexes(), [0u32, 1, 2, 4, 7].as_slice());
     // An error of a token comes after they are found, one of the whole input before.
     let deep = Error::new(1, Some('['), ErrorType::DepthLimitExceeded);
     assert_eq!(rt; index.check(b"[[]]", 1), Err(deep));
-    assert_eq!(rt; index.structural_indexes(), &[0, 1, 2, 3]);
+    assert_eq!(rt; index.structural_indexes(), [0u32, 1, 2, 3].as_slice());
     assert_eq!(rt; index.find(b"\""), Err(Error::generic(ErrorType::Syntax)));
-    assert_eq!(rt; index.structural_indexes(), &[]);
+    assert_eq!(rt; index.structural_indexes(), [0u32; 0].as_slice());
     assert_eq!(rt; index.find(b" ]"), Ok(()));
-    assert_eq!(rt; index.structural_indexes(), &[1]);
+    assert_eq!(rt; index.structural_indexes(), [1u32].as_slice());
 }
 
 #[test]
