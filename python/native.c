@@ -282,17 +282,58 @@ static int read_short(const char *literal, size_t len, double *number) {
     return 1;
 }
 
-/* A number with a fraction or an exponent: the nearest float, or what `parse_float` makes of its literal. */
-static PyObject *to_float(const memory *m, const simd_json_node *node, PyObject *parse_float) {
-    if (parse_float)
-        return PyObject_CallFunction(parse_float, "s#", m->document.text + node->value, (Py_ssize_t)node->len);
+/* What `parse_float` has made of the literals of a document, in their order.
+ *
+ * That is code of users, which by the gc module sees every container, in each thread. So all of it is called before the first
+ * container is made, and what it has returned is held until the last is whole: then no object of theirs dies in between either. */
+typedef struct {
+    PyObject **made;
+    size_t len, taken;
+} literals;
+
+static size_t count_literals(const memory *m) {
+    size_t count = 0;
+    for (size_t i = 0; i < m->document.nodes_len; i++)
+        count += m->document.nodes[i].kind == SIMD_JSON_DECIMAL;
+    return count;
+}
+
+static int call_for_each(const memory *m, PyObject *parse_float, literals *of) {
+    size_t count = count_literals(m), cap = 0;
+    if (!grow(&of->made, &cap, count, sizeof *of->made))
+        return 0;
+    for (const simd_json_node *node = m->document.nodes; of->len < count; node++) {
+        if (node->kind != SIMD_JSON_DECIMAL)
+            continue;
+        const char *literal = m->document.text + node->value;
+        PyObject *made = PyObject_CallFunction(parse_float, "s#", literal, (Py_ssize_t)node->len);
+        if (!made)
+            return 0;
+        of->made[of->len++] = made;
+    }
+    return 1;
+}
+
+static void drop(literals *of) {
+    for (size_t i = 0; i < of->len; i++)
+        Py_DECREF(of->made[i]);
+    free(of->made);
+}
+
+/* A number with a fraction or an exponent: the nearest float, or the next that `parse_float` has made. */
+static PyObject *to_float(const memory *m, const simd_json_node *node, literals *made) {
+    if (made) {
+        PyObject *next = made->made[made->taken++];
+        Py_INCREF(next);
+        return next;
+    }
     double number = 0;
     if (!read_short(m->document.text + node->value, node->len, &number))
         simd_json_double(m->document.text + node->value, node->len, &number);
     return PyFloat_FromDouble(number);
 }
 
-static PyObject *to_value(const memory *m, const simd_json_node *node, PyObject *parse_float) {
+static PyObject *to_value(const memory *m, const simd_json_node *node, literals *made) {
     if (node->kind == SIMD_JSON_STRING) /* most are, and so it is guessed better than a jump of the switch */
         return to_string(m, node);
     switch (node->kind) {
@@ -309,7 +350,7 @@ static PyObject *to_value(const memory *m, const simd_json_node *node, PyObject 
     case SIMD_JSON_U128:
         return to_wide(m, node);
     case SIMD_JSON_DECIMAL:
-        return to_float(m, node, parse_float);
+        return to_float(m, node, made);
     case SIMD_JSON_ARRAY:
         return PyList_New((Py_ssize_t)node->len);
     default:
@@ -329,8 +370,9 @@ static int grow_open(memory *m) {
     return 1;
 }
 
-/* The value of all nodes. A container is put into the one around it as soon as it is made, so an error frees the root alone. */
-static PyObject *build(memory *m, PyObject *parse_float) {
+/* The value of all nodes. A container is put into the one around it as soon as it is made, so an error frees the root alone. No
+ * code of users runs before it returns. */
+static PyObject *build(memory *m, literals *made) {
     const simd_json_node *node = m->document.nodes, *end = node + m->document.nodes_len;
     PyObject *root = NULL;
     struct open in = {NULL, 0, 1, 0}; /* around the root */
@@ -339,7 +381,7 @@ static PyObject *build(memory *m, PyObject *parse_float) {
         PyObject *key = NULL;
         if (in.is_object && !(key = to_key(m, node++)))
             goto failed;
-        PyObject *value = to_value(m, node, parse_float);
+        PyObject *value = to_value(m, node, made);
         int failed = !value;
         if (key) {
             failed = failed || PyDict_SetItem(in.container, key, value) < 0;
@@ -382,18 +424,28 @@ static int are_right(arguments *given) {
     return given->max_depth >= 0;
 }
 
+/* Nothing that is being made is garbage, so collections would look through it in vain. In build no code of users runs, and no
+ * other thread, since the interpreter's lock is held: nobody sees that the collector is off. */
+static PyObject *build_uncollected(memory *m, literals *made) {
+    int collects = PyGC_Disable();
+    PyObject *value = build(m, made);
+    if (collects)
+        PyGC_Enable();
+    return value;
+}
+
 static PyObject *loads_in(memory *kept, arguments *given) {
     memory own = {0};
     memory *m = kept->in_use ? &own : kept;
     m->in_use = 1;
     PyObject *value = NULL;
     if (parse(m, given->data, (size_t)given->max_depth)) {
-        /* Nothing that is being made is garbage, so collections would look through it in vain. Without parse_float no code of
-         * users runs in build, and no other thread, since the interpreter's lock is held: nobody sees that the collector is off. */
-        int collects = !given->parse_float && PyGC_Disable();
-        value = build(m, given->parse_float);
-        if (collects)
-            PyGC_Enable();
+        literals made = {NULL, 0, 0};
+        if (!given->parse_float)
+            value = build_uncollected(m, NULL);
+        else if (call_for_each(m, given->parse_float, &made))
+            value = build_uncollected(m, &made);
+        drop(&made);
     }
     m->in_use = 0;
     if (m == &own)
@@ -474,9 +526,22 @@ static int parser_init(PyObject *self, PyObject *args, PyObject *named) {
     return 0;
 }
 
+/* A parser may be in a cycle, by a parse_float that is a method of its own. */
+static int parser_traverse(PyObject *self, visitproc visit, void *arg) {
+    Py_VISIT(((parser *)self)->parse_float);
+    Py_VISIT(Py_TYPE(self));
+    return 0;
+}
+
+static int parser_clear(PyObject *self) {
+    Py_CLEAR(((parser *)self)->parse_float);
+    return 0;
+}
+
 static void parser_free(PyObject *self) {
     parser *p = (parser *)self;
     PyTypeObject *type = Py_TYPE(self);
+    PyObject_GC_UnTrack(self);
     release(&p->kept);
     Py_XDECREF(p->parse_float);
     freefunc release_self = (freefunc)PyType_GetSlot(type, Py_tp_free);
@@ -511,13 +576,15 @@ static PyType_Slot parser_slots[] = {
     {Py_tp_doc, "Parser(*, max_depth=1024, parse_float=float)\n--\n\n"
                 "Reads one document after another with memory that is kept between them."},
     {Py_tp_init, parser_init},
+    {Py_tp_traverse, parser_traverse},
+    {Py_tp_clear, parser_clear},
     {Py_tp_dealloc, parser_free},
     {Py_tp_methods, parser_methods},
     {0, NULL},
 };
 
-static PyType_Spec parser_spec = {"simd_json.Parser", sizeof(parser), 0, Py_TPFLAGS_DEFAULT | Py_TPFLAGS_BASETYPE,
-                                  parser_slots};
+static PyType_Spec parser_spec = {"simd_json.Parser", sizeof(parser), 0,
+                                  Py_TPFLAGS_DEFAULT | Py_TPFLAGS_BASETYPE | Py_TPFLAGS_HAVE_GC, parser_slots};
 
 static PyObject *set_error(PyObject *module, PyObject *function) {
     (void)module;

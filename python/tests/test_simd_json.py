@@ -11,6 +11,7 @@ import pickle
 import random
 import sys
 import unittest
+import weakref
 
 import simd_json
 
@@ -183,6 +184,31 @@ class Values(unittest.TestCase):
                 simd_json.loads(text, parse_float=fails)
         self.assertEqual(simd_json.loads("[1.5]"), [1.5])
 
+    def test_code_of_users_sees_no_half_made_container(self):
+        """Neither parse_float, nor what an object does that dies because its key comes again."""
+        def is_half_made(value):
+            if type(value) is list:
+                return len(gc.get_referents(value)) < len(value)
+            return type(value) is dict and "begun" in value and "whole" not in value
+
+        class Literal:
+            def __init__(self, literal):
+                self.look()
+
+            def __del__(self):
+                self.look()
+
+            def look(self):
+                looks.append(1)
+                found.extend(type(value) for value in gc.get_objects() if is_half_made(value))
+
+        found, looks = [], []
+        text = '[[1,{"begun":1.5,"begun":{"begun":[2.5],"whole":1},"begun":3.5,"whole":1},4.5],0]'
+        value = simd_json.loads(text, parse_float=Literal)
+        self.assertEqual(len(looks), 6)
+        del value
+        self.assertEqual((found, len(looks)), ([], 8))
+
     def test_python_s_own_documents(self):
         try:
             from test.test_json import test_fail, test_pass1, test_pass2, test_pass3
@@ -269,6 +295,22 @@ class Kept(unittest.TestCase):
         parser = simd_json.Parser(parse_float=Literal())
         self.assertEqual(parser.loads("[1.5,2.5,3.5]"), ["1.5", "2.5", "3.5"])
         self.assertEqual(parser.loads("[1.5]"), [1.5])
+
+    def test_a_parser_in_a_cycle_is_freed(self):
+        class Reader(simd_json.Parser):
+            def __init__(self):
+                super().__init__(parse_float=self.read)
+
+            def read(self, literal):
+                return literal
+
+        reader = Reader()
+        gone = weakref.ref(reader)
+        self.assertEqual(reader.loads("[1.5]"), ["1.5"])
+        self.assertIn(type(reader), gc.get_referents(reader))
+        del reader
+        gc.collect()
+        self.assertIsNone(gone())
 
     def test_many_sizes(self):
         parser = simd_json.Parser()
