@@ -18,10 +18,36 @@ run make -s library
 check='valgrind -q --leak-check=full --error-exitcode=1'
 command -v valgrind > /dev/null || { left_out="$left_out valgrind (not installed);"; check=; }
 
+# wrapper OPTION..: the program that calls the wrapper for C++, built so.
+wrapper() {
+    run c++ -Wall -Wextra -Werror -pedantic -Iinclude "$@" tests/c/wrapper.cpp build/libsimd_json.a \
+        -o "$room/wrapper"
+}
+
+# refuses CASE NAMED: a part of tests/c/refused.cpp must not compile, and the first error names that.
+refuses() {
+    if LC_ALL=C c++ -std=c++17 -fsyntax-only -Iinclude "-DCASE=$1" tests/c/refused.cpp 2> "$room/log"; then
+        echo "tests/c/refused.cpp compiles with -DCASE=$1"
+        exit 1
+    fi
+    grep -m1 'error: ' "$room/log" | grep -q "$2" || { echo "-DCASE=$1: no $2"; cat "$room/log"; exit 1; }
+}
+
 if command -v c++ > /dev/null; then
-    run c++ -std=c++17 -O1 -Wall -Wextra -Werror -pedantic -Iinclude tests/c/wrapper.cpp build/libsimd_json.a -o "$room/wrapper"
-    # shellcheck disable=SC2086
-    run $check "$room/wrapper"
+    for standard in 17 20; do
+        for build in -UNDEBUG -DNDEBUG; do
+            wrapper -std=c++$standard -O1 $build
+            # shellcheck disable=SC2086
+            run $check "$room/wrapper"
+        done
+    done
+    wrapper -std=c++20 -O1 -g -fsanitize=address,undefined -fno-sanitize-recover=all
+    run "$room/wrapper"
+    run c++ -std=c++17 -fsyntax-only -Wall -Wextra -Werror -Iinclude -DCASE=0 tests/c/refused.cpp
+    for case in 1 2 3; do refuses $case 'deleted.*parse'; done
+    for case in 4 5; do refuses $case 'deleted.*root'; done
+    for case in 6 7; do refuses $case 'deleted.*element'; done
+    refuses 8 'operator\[\]'
 else
     left_out="$left_out C++ (no c++);"
 fi
