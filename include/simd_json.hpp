@@ -32,14 +32,6 @@
 
 namespace simd_json {
 
-/* Without NDEBUG an element knows its parse, and is larger. So it has another name then: parts of a
- * program that differ in NDEBUG and hand elements to each other are not linked. */
-#ifdef NDEBUG
-inline namespace unchecked {
-#else
-inline namespace checked {
-#endif
-
 /* The first error of an input: its status, as SIMD_JSON_INVALID_NUMBER, its index in bytes, and the
  * byte there. */
 class error : public std::exception {
@@ -57,7 +49,9 @@ public:
         size_t len = 0;
         const int32_t located = simd_json_location(text.data(), text.size(), status, &place,
                                                    &position_, words, sizeof words, &len);
-        if (located != SIMD_JSON_OK || len == 0)
+        if (located != SIMD_JSON_OK)
+            position_ = {};
+        if (len == 0)
             return;
         reason_.assign(words, len);
         what_ += ", line " + std::to_string(position_.line);
@@ -87,6 +81,14 @@ private:
     simd_json_position position_{};
     std::string reason_, what_;
 };
+
+/* Without NDEBUG an element knows its parse, and is larger. So it has another name then: parts of a
+ * program that differ in NDEBUG and hand elements to each other are not linked. */
+#ifdef NDEBUG
+inline namespace unchecked {
+#else
+inline namespace checked {
+#endif
 
 template <bool is_object> class members;
 using array_view = members<false>;
