@@ -1,5 +1,5 @@
-/* simd_json.hpp: simd_json.h for C++17, in a header. The parser that it calls is proved; the wrapper
- * is tested alone.
+/* simd_json.hpp: simd_json.h for C++17, in a header. The parser that it calls is proved; the
+ * wrapper is tested alone.
  *
  *     simd_json::parser parser;
  *     simd_json::element root = parser.parse(R"({"the_answer": 42, "sizes": [1, 2]})");
@@ -67,9 +67,9 @@ public:
         return place_.character;
     }
 
-    /* Where it is for people, also an error of the whole input, whose index is 0: the byte, the line
-     * and the column in characters, both from 1, and the reason, as "expected a value, found `]`".
-     * Zeros and no reason where the text was not given, or no memory was left to look. */
+    /* Where it is for people, also an error of the whole input, whose index is 0: the byte, the
+     * line and the column in characters, both from 1, and the reason, as "expected a value, found
+     * `]`". Zeros and no reason where the text was not given, or no memory was left to look. */
     size_t byte() const noexcept { return position_.byte; }
     size_t line() const noexcept { return position_.line; }
     size_t column() const noexcept { return position_.column; }
@@ -96,8 +96,8 @@ using object_view = members<true>;
 
 /* A value of a document, copied freely; one that is made of nothing is null. It is valid until its
  * parser parses again or is destroyed. Without NDEBUG it knows which parse it is of, and throws
- * std::logic_error where that is over; with NDEBUG it does not, for a loop over a large document then
- * takes half of the time or less. */
+ * std::logic_error where that is over; with NDEBUG it does not, for a loop over a large document
+ * then takes half of the time or less. */
 class element {
     template <class T>
     static constexpr bool is_index = (std::is_integral_v<T> || std::is_enum_v<T>)

@@ -64,45 +64,85 @@ static int grow(void *array, size_t *cap, size_t needed, size_t size) {
     return 1;
 }
 
-/* The bytes of an input. `*owned`, if it is not NULL, is a reference to be released after their use. */
-static int bytes_of(PyObject *data, char **bytes, Py_ssize_t *len, PyObject **owned) {
-    *owned = NULL;
+/* An input: its bytes, and a reference to be released after their use, if that is not NULL. */
+typedef struct {
+    char *bytes;
+    Py_ssize_t len;
+    PyObject *owned;
+} text;
+
+/* The UTF-8 of a str. Surrogates have none (RFC 3629, section 3), so one that holds them is given
+ * as the bytes that they would have: the library then rejects the first. */
+static int utf8_of(PyObject *data, text *of) {
+    of->bytes = (char *)PyUnicode_AsUTF8AndSize(data, &of->len);
+    if (of->bytes || !PyErr_ExceptionMatches(PyExc_UnicodeEncodeError))
+        return of->bytes != NULL;
+    PyErr_Clear();
+    of->owned = PyUnicode_AsEncodedString(data, "utf-8", "surrogatepass");
+    return of->owned && PyBytes_AsStringAndSize(of->owned, &of->bytes, &of->len) == 0;
+}
+
+/* The bytes of a view are a copy, unless they are more than the library takes: then there are none.
+ */
+static int view_of(PyObject *data, text *of) {
+    PyObject *count = PyObject_GetAttrString(data, "nbytes");
+    of->len = count ? PyLong_AsSsize_t(count) : -1;
+    Py_XDECREF(count);
+    if (of->len < 0 || of->len > UINT32_MAX)
+        return of->len >= 0;
+    of->owned = PyBytes_FromObject(data);
+    return of->owned && PyBytes_AsStringAndSize(of->owned, &of->bytes, &of->len) == 0;
+}
+
+static int text_of(PyObject *data, text *of) {
+    *of = (text){NULL, 0, NULL};
     if (PyBytes_Check(data))
-        return PyBytes_AsStringAndSize(data, bytes, len) == 0;
+        return PyBytes_AsStringAndSize(data, &of->bytes, &of->len) == 0;
+    if (PyUnicode_Check(data))
+        return utf8_of(data, of);
     if (PyByteArray_Check(data)) {
-        *bytes = PyByteArray_AsString(data);
-        *len = PyByteArray_Size(data);
+        of->bytes = PyByteArray_AsString(data);
+        of->len = PyByteArray_Size(data);
         return 1;
     }
-    if (PyUnicode_Check(data)) {
-        *bytes = (char *)PyUnicode_AsUTF8AndSize(data, len);
-        return *bytes != NULL;
-    }
-    if (PyMemoryView_Check(data)) {
-        *owned = PyBytes_FromObject(data);
-        return *owned && PyBytes_AsStringAndSize(*owned, bytes, len) == 0;
-    }
-    PyErr_Format(PyExc_TypeError, "the JSON must be str, bytes, bytearray or memoryview, not %R", Py_TYPE(data));
+    if (PyMemoryView_Check(data))
+        return view_of(data, of);
+    PyErr_Format(PyExc_TypeError, "the JSON must be str, bytes, bytearray or memoryview, not %R",
+                 Py_TYPE(data));
     return 0;
 }
 
-/* Raises what simd_json._error returns: the status by its name, the reason in words, and the place in the input. */
+/* The index of the character that has the byte at an index. */
+static size_t character_at(const text *of, size_t index) {
+    size_t count = 0, end = index < (size_t)of->len ? index + 1 : index;
+    for (size_t i = 0; i < end; i++)
+        count += (of->bytes[i] & 0xc0) != 0x80;
+    return index < (size_t)of->len ? count - 1 : count;
+}
+
+/* What simd_json._error returns: the reason in words, the input, the index there, the kind by its
+ * name, line and column. */
+static PyObject *error_of(int32_t status, const simd_json_place *place, PyObject *data,
+                          const text *of) {
+    char name[SIMD_JSON_NAME_MAX], words[SIMD_JSON_REASON_MAX];
+    size_t name_len = simd_json_status_name(status, name, sizeof name), words_len;
+    simd_json_position at;
+    if (simd_json_location(of->bytes, of->bytes ? (size_t)of->len : 0, status, place, &at, words,
+                           sizeof words, &words_len) != SIMD_JSON_OK)
+        return PyErr_NoMemory();
+    size_t index = PyUnicode_Check(data) ? character_at(of, at.byte) : at.byte;
+    return PyObject_CallFunction(to_error, "s#Ons#nn", words, (Py_ssize_t)words_len, data,
+                                 (Py_ssize_t)index, name, (Py_ssize_t)name_len, (Py_ssize_t)at.line,
+                                 (Py_ssize_t)at.column);
+}
+
+/* Raises the error of an input. */
 static void *reject(int32_t status, const simd_json_place *place, PyObject *data) {
     if (status == SIMD_JSON_OUT_OF_MEMORY)
         return PyErr_NoMemory();
-    char name[SIMD_JSON_NAME_MAX], words[SIMD_JSON_REASON_MAX], *bytes;
-    Py_ssize_t len, name_len = (Py_ssize_t)simd_json_status_name(status, name, sizeof name);
-    PyObject *owned, *error = NULL;
-    simd_json_position at;
-    size_t words_len;
-    if (bytes_of(data, &bytes, &len, &owned)) {
-        if (simd_json_location(bytes, (size_t)len, status, place, &at, words, sizeof words, &words_len) == SIMD_JSON_OK)
-            error = PyObject_CallFunction(to_error, "s#s#nnnO", name, name_len, words, (Py_ssize_t)words_len,
-                                          (Py_ssize_t)at.byte, (Py_ssize_t)at.line, (Py_ssize_t)at.column, data);
-        else
-            PyErr_NoMemory();
-    }
-    Py_XDECREF(owned);
+    text of;
+    PyObject *error = text_of(data, &of) ? error_of(status, place, data, &of) : NULL;
+    Py_XDECREF(of.owned);
     if (error) {
         PyErr_SetObject((PyObject *)Py_TYPE(error), error);
         Py_DECREF(error);
@@ -110,16 +150,24 @@ static void *reject(int32_t status, const simd_json_place *place, PyObject *data
     return NULL;
 }
 
-/* Opens the parser for a depth limit, and copies the input, which a parse overwrites. Returns its length, or -1. */
+/* Copies an input, which a parse overwrites, unless the library takes no such length. */
+static int copy(memory *m, PyObject *data, const text *of) {
+    static const simd_json_place whole = {0, SIMD_JSON_NO_CHARACTER};
+    if (of->len > UINT32_MAX) {
+        reject(SIMD_JSON_INPUT_TOO_LARGE, &whole, data);
+        return 0;
+    }
+    if (!grow(&m->input, &m->input_cap, (size_t)of->len + 1, 1))
+        return 0;
+    memcpy(m->input, of->bytes, (size_t)of->len);
+    return 1;
+}
+
+/* Copies the input, and opens the parser for a depth limit. Returns the length, or -1. */
 static Py_ssize_t prepare(memory *m, PyObject *data, size_t max_depth) {
-    PyObject *owned;
-    char *bytes;
-    Py_ssize_t len;
-    if (bytes_of(data, &bytes, &len, &owned) && grow(&m->input, &m->input_cap, (size_t)len + 1, 1))
-        memcpy(m->input, bytes, (size_t)len);
-    else
-        len = -1;
-    Py_XDECREF(owned);
+    text of;
+    Py_ssize_t len = text_of(data, &of) && copy(m, data, &of) ? of.len : -1;
+    Py_XDECREF(of.owned);
     if (len >= 0 && (!m->parser.is_open || m->max_depth != max_depth)) {
         if (simd_json_open(&m->parser, max_depth) != SIMD_JSON_OK) {
             PyErr_NoMemory();
@@ -284,8 +332,9 @@ static int read_short(const char *literal, size_t len, double *number) {
 
 /* What `parse_float` has made of the literals of a document, in their order.
  *
- * That is code of users, which by the gc module sees every container, in each thread. So all of it is called before the first
- * container is made, and what it has returned is held until the last is whole: then no object of theirs dies in between either. */
+ * That is code of users, which by the gc module sees every container, in each thread. So all of it
+ * is called before the first container is made, and what it has returned is held until the last is
+ * whole: then no object of theirs dies in between either. */
 typedef struct {
     PyObject **made;
     size_t len, taken;
@@ -320,7 +369,8 @@ static void drop(literals *of) {
     free(of->made);
 }
 
-/* A number with a fraction or an exponent: the nearest float, or the next that `parse_float` has made. */
+/* A number with a fraction or an exponent: the nearest float, or the next that `parse_float` has
+ * made. */
 static PyObject *to_float(const memory *m, const simd_json_node *node, literals *made) {
     if (made) {
         PyObject *next = made->made[made->taken++];
@@ -370,8 +420,8 @@ static int grow_open(memory *m) {
     return 1;
 }
 
-/* The value of all nodes. A container is put into the one around it as soon as it is made, so an error frees the root alone. No
- * code of users runs before it returns. */
+/* The value of all nodes. A container is put into the one around it as soon as it is made, so an
+ * error frees the root alone. No code of users runs before it returns. */
 static PyObject *build(memory *m, literals *made) {
     const simd_json_node *node = m->document.nodes, *end = node + m->document.nodes_len;
     PyObject *root = NULL;
@@ -410,7 +460,8 @@ failed:
     return NULL;
 }
 
-/* The arguments: the input, and by name parse_float (NULL where it is float) and max_depth. */
+/* The arguments: the input, and by name parse_float (NULL where it is float or None) and max_depth.
+ */
 typedef struct {
     PyObject *data, *parse_float;
     Py_ssize_t max_depth;
@@ -424,8 +475,9 @@ static int are_right(arguments *given) {
     return given->max_depth >= 0;
 }
 
-/* Nothing that is being made is garbage, so collections would look through it in vain. In build no code of users runs, and no
- * other thread, since the interpreter's lock is held: nobody sees that the collector is off. */
+/* Nothing that is being made is garbage, so collections would look through it in vain. In build no
+ * code of users runs, and no other thread, since the interpreter's lock is held: nobody sees that
+ * the collector is off. */
 static PyObject *build_uncollected(memory *m, literals *made) {
     int collects = PyGC_Disable();
     PyObject *value = build(m, made);
@@ -567,13 +619,15 @@ static PyObject *parser_check(PyObject *self, PyObject *data) {
 }
 
 static PyMethodDef parser_methods[] = {
-    {"loads", parser_loads, METH_O, "loads(data)\n--\n\nThe value of a document, as the module's loads returns it."},
-    {"check", parser_check, METH_O, "check(data)\n--\n\nRaises SimdJsonError unless the bytes are a document."},
+    {"loads", parser_loads, METH_O,
+     "loads($self, data, /)\n--\n\nThe value of a document, as the module's loads returns it."},
+    {"check", parser_check, METH_O,
+     "check($self, data, /)\n--\n\nRaises SimdJsonError unless the bytes are a document."},
     {NULL, NULL, 0, NULL},
 };
 
 static PyType_Slot parser_slots[] = {
-    {Py_tp_doc, "Parser(*, max_depth=1024, parse_float=float)\n--\n\n"
+    {Py_tp_doc, "Parser(*, max_depth=1024, parse_float=None)\n--\n\n"
                 "Reads one document after another with memory that is kept between them."},
     {Py_tp_init, parser_init},
     {Py_tp_traverse, parser_traverse},
@@ -584,7 +638,8 @@ static PyType_Slot parser_slots[] = {
 };
 
 static PyType_Spec parser_spec = {"simd_json.Parser", sizeof(parser), 0,
-                                  Py_TPFLAGS_DEFAULT | Py_TPFLAGS_BASETYPE | Py_TPFLAGS_HAVE_GC, parser_slots};
+                                  Py_TPFLAGS_DEFAULT | Py_TPFLAGS_BASETYPE | Py_TPFLAGS_HAVE_GC,
+                                  parser_slots};
 
 static PyObject *set_error(PyObject *module, PyObject *function) {
     (void)module;
@@ -597,8 +652,11 @@ static PyObject *set_error(PyObject *module, PyObject *function) {
 
 static PyMethodDef functions[] = {
     {"loads", (PyCFunction)(void (*)(void))loads, METH_VARARGS | METH_KEYWORDS,
-     "loads(data, /, *, parse_float=float, max_depth=1024)\n--\n\n"
+     "loads(data, /, *, parse_float=None, max_depth=1024)\n--\n\n"
      "The value of a JSON document (RFC 8259) in str, bytes, bytearray or memoryview.\n\n"
+     "parse_float is called with the literal of each number that has a fraction or an exponent, "
+     "in\n"
+     "their order, before a container is made; without it they are floats.\n\n"
      "Raises SimdJsonError, with the first error and its place."},
     {"check", (PyCFunction)(void (*)(void))check, METH_VARARGS | METH_KEYWORDS,
      "check(data, /, *, max_depth=1024)\n--\n\nRaises SimdJsonError unless the bytes are a JSON document (RFC 8259)."},

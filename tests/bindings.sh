@@ -57,8 +57,19 @@ if python3 -c 'import sysconfig, os; raise SystemExit(not os.path.exists(sysconf
     run python3 -m zipfile -e "$room"/simd_json-*.whl "$room/site"
     export PYTHONPATH="$room/site" PYTHONDONTWRITEBYTECODE=1
     run python3 -m unittest discover -s python/tests
-    # The same with a module whose allocations fail in turn.
+    # Where the processor has no level that the release is built for.
     include=$(python3 -c 'import sysconfig; print(sysconfig.get_paths()["include"])')
+    mkdir "$room/old" "$room/old/simd_json"
+    cp python/simd_json/__init__.py "$room/old/simd_json/"
+    echo 'void *begin_v2(void) { __builtin_trap(); } void *begin_v3(void) { __builtin_trap(); }' > "$room/levels.c"
+    run cc -fPIC -shared "-I$include" '-D__builtin_cpu_supports(level)=0' python/start.c "$room/levels.c" \
+        -o "$room/old/simd_json/_native.abi3.so"
+    if PYTHONPATH="$room/old" python3 -c 'import simd_json' 2> "$room/log" || ! grep -q '^ImportError: .*x86-64-v2' "$room/log"; then
+        echo "python/start.c: no ImportError on an old processor"
+        cat "$room/log"
+        exit 1
+    fi
+    # The same with a module whose allocations fail in turn.
     run cc -O1 -fPIC -shared -fvisibility=hidden "-I$include" -Iinclude python/native.c python/tests/refuse.c build/libsimd_json.a \
         -Wl,--wrap=malloc,--wrap=realloc,--wrap=free -o "$room/site/simd_json/_native.abi3.so"
     run python3 python/tests/test_memory.py

@@ -17,8 +17,8 @@
 //! | `value.as_f64()` of a parsed float | [`Value::as_f64`] converts the literal, which is kept: [`Value::as_decimal`] |
 //! | integers of 64 bits, more with `128bit` | always 128 bits |
 //!
-//! Of equal keys [`Value::get`] takes the first. At most 1,024 containers may be open at a time, or as many as
-//! [`Buffers::with_max_depth`] is given.
+//! Of equal keys [`Value::get`] takes the first. At most 1,024 containers may be open at a time, or
+//! as many as [`Buffers::with_max_depth`] is given.
 mod error;
 mod ffi;
 mod value;

@@ -180,7 +180,8 @@ fn arrays_and_objects_are_shown() {
         let tape = to_tape(&mut input).unwrap();
         assert_eq!(format!("{:?}", tape.as_value().as_array().unwrap()), array);
     }
-    for (text, object) in [("{}", "{}"), (r#"{"a\n":null,"b":{}}"#, r#"{"a\n": Null, "b": Object(len 0)}"#)] {
+    let shown = r#"{"a\n": Null, "b": Object(len 0)}"#;
+    for (text, object) in [("{}", "{}"), (r#"{"a\n":null,"b":{}}"#, shown)] {
         let mut input = text.as_bytes().to_vec();
         let tape = to_tape(&mut input).unwrap();
         assert_eq!(format!("{:?}", tape.as_value().as_object().unwrap()), object);
