@@ -82,14 +82,21 @@ static int utf8_of(PyObject *data, text *of) {
     return of->owned && PyBytes_AsStringAndSize(of->owned, &of->bytes, &of->len) == 0;
 }
 
-/* The bytes of a view are a copy, unless they are more than the library takes: then there are none.
- */
-static int view_of(PyObject *data, text *of) {
+static Py_ssize_t length_of_view(PyObject *data) {
     PyObject *count = PyObject_GetAttrString(data, "nbytes");
-    of->len = count ? PyLong_AsSsize_t(count) : -1;
+    Py_ssize_t len = count ? PyLong_AsSsize_t(count) : -1;
     Py_XDECREF(count);
+    return len;
+}
+
+/* The bytes of a view are a copy. There are none if it has more items than the library takes bytes;
+ * that is asked first, for its length in bytes takes longer to ask. */
+static int view_of(PyObject *data, text *of) {
+    if (PyObject_Size(data) > UINT32_MAX)
+        of->len = length_of_view(data);
     if (of->len < 0 || of->len > UINT32_MAX)
         return of->len >= 0;
+    PyErr_Clear(); /* a view without a dimension has no size */
     of->owned = PyBytes_FromObject(data);
     return of->owned && PyBytes_AsStringAndSize(of->owned, &of->bytes, &of->len) == 0;
 }
