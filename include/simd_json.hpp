@@ -96,8 +96,8 @@ using object_view = members<true>;
 
 /* A value of a document, copied freely; one that is made of nothing is null. It is valid until its
  * parser parses again or is destroyed. Without NDEBUG it knows which parse it is of, and throws
- * std::logic_error where that is over; with NDEBUG it does not, for a loop over a large document
- * then takes half of the time or less. */
+ * std::logic_error where that is over; with NDEBUG it does not, since loops over a large document
+ * take 4 to 117 % longer for it. */
 class element {
     template <class T>
     static constexpr bool is_index = (std::is_integral_v<T> || std::is_enum_v<T>)

@@ -1,7 +1,8 @@
 #!/bin/sh
-# The wrapper for C++, the package for Python and the crate for Rust, each over the library that `make library` builds: their tests,
-# a part of them under valgrind too, and of C++ and Python under the address and undefined behaviour sanitizers. Silent where all is
-# well but for a line of what was left out; else it says what differs, and ends with status 1.
+# The wrapper for C++, the package for Python and the crate for Rust, each over the library that
+# `make library` builds: their tests, a part of them under valgrind too, and those of C++ and Python
+# under the sanitizers of addresses and of undefined behaviour. Silent where all is well but for a
+# line of what was left out; else it says what differs, and ends with status 1.
 set -eu
 top=$(cd "$(dirname "$0")/.." && pwd)
 cd "$top"
@@ -96,7 +97,8 @@ if python3 -c 'import sysconfig, os; raise SystemExit(not os.path.exists(sysconf
         cat "$room/log"
         exit 1
     fi
-    # The sanitizers of the module alone must be there before Python is; of its objects they know where these are of malloc.
+    # Where the module alone has the sanitizers, they must be loaded before Python; they watch its
+    # objects if these are of malloc.
     asan=$(cc -print-file-name=libasan.so) ubsan=$(cc -print-file-name=libubsan.so)
     if [ -n "$sanitized" ] && [ -e "$asan" ] && [ -e "$ubsan" ]; then
         # shellcheck disable=SC2086
@@ -111,7 +113,8 @@ if python3 -c 'import sysconfig, os; raise SystemExit(not os.path.exists(sysconf
         python=/usr/bin/python3
         "$python" -c 'import simd_json' 2> /dev/null || python=$(python3 -c 'import sys; print(sys.executable)')
         PYTHONMALLOC=malloc MUTANTS=300 run valgrind -q --error-exitcode=1 "$python" python/tests/test_simd_json.py
-        PYTHONMALLOC=malloc ROUNDS=300 run valgrind -q --error-exitcode=1 "$python" python/tests/test_hostile.py
+        PYTHONMALLOC=malloc ROUNDS=300 run valgrind -q --error-exitcode=1 "$python" \
+            python/tests/test_hostile.py
     fi
 else
     left_out="$left_out Python (no python3 with its headers);"
