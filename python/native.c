@@ -119,12 +119,12 @@ static int text_of(PyObject *data, text *of) {
     return 0;
 }
 
-/* The index of the character that has the byte at an index. */
+/* Which character, from 0, the byte at an index is part of; at the end, how many there are. */
 static size_t character_at(const text *of, size_t index) {
-    size_t count = 0, end = index < (size_t)of->len ? index + 1 : index;
-    for (size_t i = 0; i < end; i++)
-        count += (of->bytes[i] & 0xc0) != 0x80;
-    return index < (size_t)of->len ? count - 1 : count;
+    size_t begun = 0, len = (size_t)of->len;
+    for (size_t i = 0; i < len && i <= index; i++)
+        begun += (of->bytes[i] & 0xc0) != 0x80;
+    return index < len ? begun - 1 : begun;
 }
 
 /* What simd_json._error returns: the reason in words, the input, the index there, the kind by its
