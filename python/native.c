@@ -92,11 +92,13 @@ static Py_ssize_t length_of_view(PyObject *data) {
 /* The bytes of a view are a copy. There are none if it has more items than the library takes bytes;
  * that is asked first, for its length in bytes takes longer to ask. */
 static int view_of(PyObject *data, text *of) {
-    if (PyObject_Size(data) > UINT32_MAX)
+    Py_ssize_t items = PyObject_Size(data);
+    if (items < 0)
+        PyErr_Clear(); /* a view without a dimension has no size */
+    if (items > UINT32_MAX)
         of->len = length_of_view(data);
     if (of->len < 0 || of->len > UINT32_MAX)
         return of->len >= 0;
-    PyErr_Clear(); /* a view without a dimension has no size */
     of->owned = PyBytes_FromObject(data);
     return of->owned && PyBytes_AsStringAndSize(of->owned, &of->bytes, &of->len) == 0;
 }

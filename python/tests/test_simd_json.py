@@ -91,6 +91,12 @@ class Values(unittest.TestCase):
     def test_inputs(self):
         for data in ('["é"]', '["é"]'.encode(), bytearray('["é"]'.encode()), memoryview('["é"]'.encode())):
             self.assertEqual(simd_json.loads(data), ["é"])
+        for view in (memoryview(b"71").cast("B", (2, 1)), memoryview(b"17")[::-1],
+                     memoryview(b"71").cast("H"), memoryview(b"71").cast("H").cast("B").cast("H", ())):
+            self.assertEqual(simd_json.loads(view), 71)
+        view.release()
+        with self.assertRaises(ValueError):
+            simd_json.loads(view)
         for data in (None, 1, ["[]"], {}):
             with self.assertRaises(TypeError):
                 simd_json.loads(data)
