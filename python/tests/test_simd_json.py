@@ -91,8 +91,9 @@ class Values(unittest.TestCase):
     def test_inputs(self):
         for data in ('["é"]', '["é"]'.encode(), bytearray('["é"]'.encode()), memoryview('["é"]'.encode())):
             self.assertEqual(simd_json.loads(data), ["é"])
-        for view in (memoryview(b"71").cast("B", (2, 1)), memoryview(b"17")[::-1],
-                     memoryview(b"71").cast("H"), memoryview(b"71").cast("H").cast("B").cast("H", ())):
+        view = memoryview(b"71")
+        for view in (view.cast("B", (2, 1)), view.cast("H"), view.cast("H", ()),
+                     memoryview(b"17")[::-1]):
             self.assertEqual(simd_json.loads(view), 71)
         view.release()
         with self.assertRaises(ValueError):
