@@ -1,4 +1,5 @@
-/* simd_json.hpp: simd_json.h for C++17, in a header. The parser that it calls is proved; the wrapper is tested alone.
+/* simd_json.hpp: simd_json.h for C++17, in a header. The parser that it calls is proved; the
+ * wrapper is tested alone.
  *
  *     simd_json::parser parser;
  *     simd_json::element root = parser.parse(R"({"the_answer": 42, "sizes": [1, 2]})");
@@ -15,10 +16,14 @@
 #include <cstdint>
 #include <cstring>
 #include <exception>
+#include <functional>
 #include <iterator>
 #include <memory>
 #include <new>
 #include <optional>
+#if __cplusplus >= 202002L && __has_include(<ranges>)
+#include <ranges>
+#endif
 #include <stdexcept>
 #include <string>
 #include <string_view>
@@ -27,7 +32,8 @@
 
 namespace simd_json {
 
-/* The first error of an input: its status, as SIMD_JSON_INVALID_NUMBER, its index in bytes, and the byte there. */
+/* The first error of an input: its status, as SIMD_JSON_INVALID_NUMBER, its index in bytes, and the
+ * byte there. */
 class error : public std::exception {
 public:
     error(int32_t status, const simd_json_place &place) : status_(status), place_(place) {
@@ -35,41 +41,92 @@ public:
         what_.assign(name, simd_json_status_name(status, name, sizeof name));
         what_ += " at character " + std::to_string(place.index);
     }
+
+    /* The same with its line, column and reason: `text` is the input, as parser::parse has it. */
+    error(int32_t status, const simd_json_place &place, std::string_view text)
+        : error(status, place) {
+        char words[SIMD_JSON_REASON_MAX];
+        size_t len = 0;
+        const int32_t located = simd_json_location(text.data(), text.size(), status, &place,
+                                                   &position_, words, sizeof words, &len);
+        if (located != SIMD_JSON_OK)
+            position_ = {};
+        if (len == 0)
+            return;
+        reason_.assign(words, len);
+        what_ += ", line " + std::to_string(position_.line);
+        what_ += " column " + std::to_string(position_.column) + ": " + reason_;
+    }
+
     const char *what() const noexcept override { return what_.c_str(); }
     int32_t status() const noexcept { return status_; }
     size_t index() const noexcept { return place_.index; }
     std::optional<uint32_t> character() const noexcept {
-        return place_.character == SIMD_JSON_NO_CHARACTER ? std::nullopt : std::optional(place_.character);
+        if (place_.character == SIMD_JSON_NO_CHARACTER)
+            return std::nullopt;
+        return place_.character;
     }
+
+    /* Where it is for people, also an error of the whole input, whose index is 0: the byte, the
+     * line and the column in characters, both from 1, and the reason, as "expected a value, found
+     * `]`". Zeros and no reason where the text was not given, or no memory was left to look. */
+    size_t byte() const noexcept { return position_.byte; }
+    size_t line() const noexcept { return position_.line; }
+    size_t column() const noexcept { return position_.column; }
+    const std::string &reason() const noexcept { return reason_; }
 
 private:
     int32_t status_;
     simd_json_place place_;
-    std::string what_;
+    simd_json_position position_{};
+    std::string reason_, what_;
 };
+
+/* Without NDEBUG an element knows its parse, and is larger. So it has another name then: parts of a
+ * program that differ in NDEBUG and hand elements to each other are not linked. */
+#ifdef NDEBUG
+inline namespace unchecked {
+#else
+inline namespace checked {
+#endif
 
 template <bool is_object> class members;
 using array_view = members<false>;
 using object_view = members<true>;
 
-/* A value of a document. It is valid until its parser parses again or is destroyed, and is copied freely. */
+/* A value of a document, copied freely; one that is made of nothing is null. It is valid until its
+ * parser parses again or is destroyed. Without NDEBUG it knows which parse it is of, and throws
+ * std::logic_error where that is over; with NDEBUG it does not, since loops over a large document
+ * take 4 to 117 % longer for it. */
 class element {
+    template <class T>
+    static constexpr bool is_index = (std::is_integral_v<T> || std::is_enum_v<T>)
+                                     && std::is_convertible_v<T, size_t>
+                                     && !std::is_same_v<T, bool>;
+
 public:
+    element() : element(null_document) {}
+
     /* The root of a document, to which it keeps a pointer. */
-    explicit element(const simd_json_document &document) : element(document.nodes, &document) {}
-    explicit element(simd_json_document &&) = delete;
+    explicit element(const simd_json_document &document)
+        : node_(document.nodes), document_(&document) {}
+    explicit element(const simd_json_document &&) = delete;
 
     /* SIMD_JSON_NULL to SIMD_JSON_OBJECT. */
-    uint32_t kind() const { return node_->kind; }
+    uint32_t kind() const { return node().kind; }
     bool is_null() const { return kind() == SIMD_JSON_NULL; }
     bool is_array() const { return kind() == SIMD_JSON_ARRAY; }
     bool is_object() const { return kind() == SIMD_JSON_OBJECT; }
 
-    /* The value as a type, or nothing: an integer that fits, a string without its escapes, the literal of a number with a
-     * fraction or an exponent. */
-    std::optional<bool> as_bool() const { return if_kind(SIMD_JSON_BOOL, node_->value != 0); }
+    /* The truth value, or nothing. `if (e.as_bool())` asks whether it has one, so it passes for
+     * `false` too: `if (e.as_bool().value())`, or `.value_or(false)`, asks whether it is true. */
+    std::optional<bool> as_bool() const { return if_kind(SIMD_JSON_BOOL, node().value != 0); }
+
+    /* The value as a type, or nothing: an integer that fits, a string without its escapes, the
+     * literal of a number with a fraction or an exponent, that of an integer beyond 64 bits. */
     std::optional<int64_t> as_int64() const {
-        if (kind() == SIMD_JSON_I64 || (kind() == SIMD_JSON_U64 && node_->value <= uint64_t(INT64_MAX)))
+        if (kind() == SIMD_JSON_I64
+            || (kind() == SIMD_JSON_U64 && node_->value <= uint64_t(INT64_MAX)))
             return static_cast<int64_t>(node_->value);
         return std::nullopt;
     }
@@ -79,15 +136,22 @@ public:
         return std::nullopt;
     }
     std::optional<std::string_view> as_string() const { return if_kind(SIMD_JSON_STRING, text()); }
-    std::optional<std::string_view> as_decimal() const { return if_kind(SIMD_JSON_DECIMAL, text()); }
+    std::optional<std::string_view> as_decimal() const {
+        return if_kind(SIMD_JSON_DECIMAL, text());
+    }
+    std::optional<std::string_view> as_wide_integer() const {
+        const auto lower = if_kind(SIMD_JSON_I128, text());
+        return lower ? lower : if_kind(SIMD_JSON_U128, text());
+    }
 
     /* The number as the nearest double, infinite where it is past the greatest. */
     std::optional<double> as_double() const {
-        switch (kind()) {
+        const simd_json_node &of = node();
+        switch (of.kind) {
         case SIMD_JSON_I64:
-            return static_cast<double>(static_cast<int64_t>(node_->value));
+            return static_cast<double>(static_cast<int64_t>(of.value));
         case SIMD_JSON_U64:
-            return static_cast<double>(node_->value);
+            return static_cast<double>(of.value);
         case SIMD_JSON_I128:
         case SIMD_JSON_U128:
         case SIMD_JSON_DECIMAL:
@@ -101,37 +165,69 @@ public:
     array_view array() const;
     object_view object() const;
 
-    /* The value of the first member of an object with a key, or the element of an array with an index; nothing, or for []
-     * std::out_of_range, where there is none. */
+    /* The value of the first member of an object with a key, or the element of an array with an
+     * index, of any integral type but bool; nothing, or for [] std::out_of_range, where there is
+     * none. */
     std::optional<element> find(std::string_view key) const;
     std::optional<element> find(size_t index) const;
-    element operator[](std::string_view key) const { return found(find(key)); }
-    element operator[](const char *key) const { return found(find(std::string_view(key))); }
-    element operator[](size_t index) const { return found(find(index)); }
-    element operator[](int index) const { return found(find(index < 0 ? SIZE_MAX : static_cast<size_t>(index))); }
+    element operator[](std::string_view key) const {
+        const std::optional<element> value = find(key);
+        return value ? *value : throw absent("member \"" + std::string(key) + '"');
+    }
+    element operator[](const char *key) const { return (*this)[std::string_view(key)]; }
+    template <class Index, std::enable_if_t<is_index<Index>, int> = 0>
+    element operator[](Index index) const {
+        const auto value = index < Index{} ? std::nullopt : find(static_cast<size_t>(index));
+        return value ? *value : throw absent("element " + std::to_string(index));
+    }
 
     /* The value that a JSON Pointer (RFC 6901) names beneath this one, as "/sizes/0". */
     std::optional<element> pointer(std::string_view pointer) const {
-        const size_t at = simd_json_pointer(node_, simd_json_next(node_, 0), document_->text, document_->text_len, 0,
-                                            pointer.data(), pointer.size());
-        return at == SIMD_JSON_NO_NODE ? std::nullopt : std::optional(element(node_ + at, document_));
+        const size_t at = simd_json_pointer(&node(), simd_json_next(node_, 0), document_->text,
+                                            document_->text_len, 0, pointer.data(), pointer.size());
+        return at == SIMD_JSON_NO_NODE ? std::nullopt : std::optional(ahead(at));
     }
 
 private:
     template <bool> friend class members;
+    friend class parser;
 
-    element(const simd_json_node *node, const simd_json_document *document) : node_(node), document_(document) {}
+    /* What a parser lends, and how many parses it has begun. */
+    struct lent : simd_json_document {
+        uint64_t parses = 0;
+    };
+
+    static constexpr simd_json_node null_node{};
+    static constexpr simd_json_document null_document{&null_node, 1, nullptr, 0};
+
+#ifdef NDEBUG
+    explicit element(const lent &from) : element(from.nodes, &from) {}
+    element(const simd_json_node *node, const simd_json_document *document)
+        : node_(node), document_(document) {}
+    element ahead(size_t nodes) const { return {node_ + nodes, document_}; }
+    const simd_json_node &node() const { return *node_; }
+#else
+    explicit element(const lent &from) : element(from.nodes, &from, from.parses) {}
+    element(const simd_json_node *node, const simd_json_document *document, uint64_t parse)
+        : node_(node), document_(document), parse_(parse) {}
+    element ahead(size_t nodes) const { return {node_ + nodes, document_, parse_}; }
+    const simd_json_node &node() const {
+        if (parse_ != 0 && parse_ != static_cast<const lent *>(document_)->parses)
+            throw std::logic_error("simd_json: an element of an earlier parse");
+        return *node_;
+    }
+#endif
+    static std::out_of_range absent(const std::string &what) {
+        return std::out_of_range("simd_json: no " + what);
+    }
     std::string_view text() const {
         return {document_->text + (holds_text() ? node_->value : 0), holds_text() ? node_->len : 0};
     }
     bool holds_text() const { return kind() >= SIMD_JSON_I128 && kind() <= SIMD_JSON_STRING; }
-    element after() const { return {node_ + simd_json_next(node_, 0), document_}; }
-    element beneath() const { return {node_ + 1, document_}; }
+    element after() const { return ahead(simd_json_next(&node(), 0)); }
+    element beneath() const { return ahead(1); }
     template <class T> std::optional<T> if_kind(uint32_t kind, T value) const {
-        return node_->kind == kind ? std::optional<T>(value) : std::nullopt;
-    }
-    static element found(std::optional<element> value) {
-        return value ? *value : throw std::out_of_range("simd_json: no such member");
+        return node().kind == kind ? std::optional<T>(value) : std::nullopt;
     }
     static double nearest(std::string_view literal) {
         double number = 0;
@@ -141,19 +237,25 @@ private:
 
     const simd_json_node *node_;
     const simd_json_document *document_;
+#ifndef NDEBUG
+    uint64_t parse_ = 0; /* of the parser that lent the document, or 0 where none did */
+#endif
 };
 
-/* The members of a container, for a range-for: the elements of an array, or the keys of an object with their values. */
+/* The members of a container, for a range-for and for the views of C++20: the elements of an array,
+ * or the keys of an object with their values. */
 template <bool is_object> class members {
 public:
     using item = std::conditional_t<is_object, std::pair<std::string_view, element>, element>;
     class iterator {
     public:
-        using iterator_category = std::input_iterator_tag;
+        using iterator_category = std::input_iterator_tag;  /* for items are no references */
+        using iterator_concept = std::forward_iterator_tag; /* which C++20 does not ask for */
         using value_type = item;
         using difference_type = std::ptrdiff_t;
         using pointer = void;
         using reference = item;
+        iterator() = default;
         iterator(element at, size_t left) : at_(at), left_(left) {}
         item operator*() const {
             if constexpr (is_object)
@@ -176,17 +278,19 @@ public:
 
     private:
         element at_;
-        size_t left_;
+        size_t left_ = 0;
     };
+    members() = default;
     explicit members(element of)
-        : first_(of.beneath()), len_(of.kind() == (is_object ? SIMD_JSON_OBJECT : SIMD_JSON_ARRAY) ? of.node_->len : 0) {}
+        : first_(of.beneath()),
+          len_(of.kind() == (is_object ? SIMD_JSON_OBJECT : SIMD_JSON_ARRAY) ? of.node().len : 0) {}
     iterator begin() const { return {first_, len_}; }
     iterator end() const { return {first_, 0}; }
     size_t size() const { return len_; }
 
 private:
     element first_;
-    size_t len_;
+    size_t len_ = 0;
 };
 
 inline array_view element::array() const { return array_view(*this); }
@@ -206,49 +310,103 @@ inline std::optional<element> element::find(size_t index) const {
     return std::nullopt;
 }
 
-/* A parser, which keeps its memory from one input to the next. One thread uses it at a time. */
+/* A parser, which keeps its memory from one input to the next. One thread uses it at a time. It may
+ * be moved, and the elements of its document with it; the one that it was moved from is closed, and
+ * rejects each text with SIMD_JSON_PARSER_CLOSED. */
 class parser {
 public:
-    explicit parser(size_t max_depth = 1024) {
-        if (simd_json_open(&parser_, max_depth) != SIMD_JSON_OK)
+    explicit parser(size_t max_depth = 1024) : state_(std::make_unique<state>()) {
+        if (simd_json_open(&state_->parser, max_depth) != SIMD_JSON_OK)
             throw std::bad_alloc();
     }
-    ~parser() { simd_json_close(&parser_); }
-    parser(const parser &) = delete;
-    parser &operator=(const parser &) = delete;
 
-    /* Parses a copy of the text. Throws its first error, or std::bad_alloc. */
-    element parse(std::string_view text) {
+    /* Parses a copy of the text. Throws its first error, or std::bad_alloc. The document is the
+     * parser's, so not that of a parser which is gone at once. */
+    element parse(std::string_view text) & {
+        std::string kept;
+        if (is_lent(text))
+            text = kept.assign(text);
         simd_json_place place;
         const int32_t status = try_parse(text, place);
         if (status == SIMD_JSON_OUT_OF_MEMORY)
             throw std::bad_alloc();
         if (status != SIMD_JSON_OK)
-            throw error(status, place);
+            throw error(status, place, text);
         return root();
     }
+    element parse(std::string_view) && = delete;
 
-    /* The same without exceptions but std::bad_alloc: after SIMD_JSON_OK root() is the document. */
+    /* The same without exceptions but std::bad_alloc: after SIMD_JSON_OK root() is the document. Of
+     * another status error(status, place, text) has line, column and reason. */
     int32_t try_parse(std::string_view text, simd_json_place &place) {
-        if (capacity_ < text.size()) {
-            input_.reset(new char[text.size()]);
-            capacity_ = text.size();
+        place = {0, SIMD_JSON_NO_CHARACTER};
+        if (!state_)
+            return SIMD_JSON_PARSER_CLOSED;
+        if (text.size() > UINT32_MAX) {
+            state_->forget();
+            return SIMD_JSON_INPUT_TOO_LARGE;
         }
-        if (!text.empty())
-            std::memcpy(input_.get(), text.data(), text.size());
-        return simd_json_parser_parse(&parser_, input_.get(), text.size(), &document_, &place);
+        state_->copy(text);
+        return state_->parse(text.size(), place);
     }
 
-    /* The document that was parsed last; after an error it must not be used. */
-    element root() const { return element(document_); }
+    /* The document that was parsed last. Throws std::logic_error where none was, or it was
+     * rejected. */
+    element root() const & {
+        if (!state_ || !state_->document.nodes)
+            throw std::logic_error("simd_json: the parser has no document");
+        return element(state_->document);
+    }
+    element root() const && = delete;
 
 private:
-    simd_json_parser parser_{};
-    simd_json_document document_{};
-    std::unique_ptr<char[]> input_;
-    size_t capacity_ = 0;
+    /* Apart, so that elements keep their pointer to the document where the parser is moved. */
+    struct state {
+        simd_json_parser parser{};
+        element::lent document;
+        std::unique_ptr<char[]> input;
+        size_t capacity = 0;
+
+        state() = default;
+        state(const state &) = delete;
+        state &operator=(const state &) = delete;
+        ~state() { simd_json_close(&parser); }
+        void copy(std::string_view text) {
+            if (capacity < text.size()) {
+                input.reset(new char[text.size()]);
+                capacity = text.size();
+            }
+            if (!text.empty())
+                std::memcpy(input.get(), text.data(), text.size());
+        }
+        void forget() {
+            static_cast<simd_json_document &>(document) = {};
+            document.parses++;
+        }
+        int32_t parse(size_t len, simd_json_place &place) {
+            forget();
+            return simd_json_parser_parse(&parser, input.get(), len, &document, &place);
+        }
+    };
+
+    /* Whether a text is a string of the document, which the parse overwrites. */
+    bool is_lent(std::string_view text) const {
+        const std::less<const char *> is_before;
+        return state_ && state_->document.text && !is_before(text.data(), state_->document.text)
+               && is_before(text.data(), state_->document.text + state_->document.text_len);
+    }
+
+    std::unique_ptr<state> state_;
 };
 
+} // inline namespace
 } // namespace simd_json
+
+#if defined(__cpp_lib_ranges)
+template <bool is_object>
+inline constexpr bool std::ranges::enable_view<simd_json::members<is_object>> = true;
+template <bool is_object>
+inline constexpr bool std::ranges::enable_borrowed_range<simd_json::members<is_object>> = true;
+#endif
 
 #endif

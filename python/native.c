@@ -64,45 +64,94 @@ static int grow(void *array, size_t *cap, size_t needed, size_t size) {
     return 1;
 }
 
-/* The bytes of an input. `*owned`, if it is not NULL, is a reference to be released after their use. */
-static int bytes_of(PyObject *data, char **bytes, Py_ssize_t *len, PyObject **owned) {
-    *owned = NULL;
+/* An input: its bytes, and a reference to be released after their use, if that is not NULL. */
+typedef struct {
+    char *bytes;
+    Py_ssize_t len;
+    PyObject *owned;
+} text;
+
+/* The UTF-8 of a str. Surrogates have none (RFC 3629, section 3), so one that holds them is given
+ * as the bytes that they would have: the library then rejects the first. */
+static int utf8_of(PyObject *data, text *of) {
+    of->bytes = (char *)PyUnicode_AsUTF8AndSize(data, &of->len);
+    if (of->bytes || !PyErr_ExceptionMatches(PyExc_UnicodeEncodeError))
+        return of->bytes != NULL;
+    PyErr_Clear();
+    of->owned = PyUnicode_AsEncodedString(data, "utf-8", "surrogatepass");
+    return of->owned && PyBytes_AsStringAndSize(of->owned, &of->bytes, &of->len) == 0;
+}
+
+static Py_ssize_t length_of_view(PyObject *data) {
+    PyObject *count = PyObject_GetAttrString(data, "nbytes");
+    Py_ssize_t len = count ? PyLong_AsSsize_t(count) : -1;
+    Py_XDECREF(count);
+    return len;
+}
+
+/* The bytes of a view are a copy. There are none if it has more items than the library takes bytes;
+ * that is asked first, for its length in bytes takes longer to ask. */
+static int view_of(PyObject *data, text *of) {
+    Py_ssize_t items = PyObject_Size(data);
+    if (items < 0)
+        PyErr_Clear(); /* a view without a dimension has no size */
+    if (items > UINT32_MAX)
+        of->len = length_of_view(data);
+    if (of->len < 0 || of->len > UINT32_MAX)
+        return of->len >= 0;
+    of->owned = PyBytes_FromObject(data);
+    return of->owned && PyBytes_AsStringAndSize(of->owned, &of->bytes, &of->len) == 0;
+}
+
+static int text_of(PyObject *data, text *of) {
+    *of = (text){NULL, 0, NULL};
     if (PyBytes_Check(data))
-        return PyBytes_AsStringAndSize(data, bytes, len) == 0;
+        return PyBytes_AsStringAndSize(data, &of->bytes, &of->len) == 0;
+    if (PyUnicode_Check(data))
+        return utf8_of(data, of);
     if (PyByteArray_Check(data)) {
-        *bytes = PyByteArray_AsString(data);
-        *len = PyByteArray_Size(data);
+        of->bytes = PyByteArray_AsString(data);
+        of->len = PyByteArray_Size(data);
         return 1;
     }
-    if (PyUnicode_Check(data)) {
-        *bytes = (char *)PyUnicode_AsUTF8AndSize(data, len);
-        return *bytes != NULL;
-    }
-    if (PyMemoryView_Check(data)) {
-        *owned = PyBytes_FromObject(data);
-        return *owned && PyBytes_AsStringAndSize(*owned, bytes, len) == 0;
-    }
-    PyErr_Format(PyExc_TypeError, "the JSON must be str, bytes, bytearray or memoryview, not %R", Py_TYPE(data));
+    if (PyMemoryView_Check(data))
+        return view_of(data, of);
+    PyErr_Format(PyExc_TypeError, "the JSON must be str, bytes, bytearray or memoryview, not %R",
+                 Py_TYPE(data));
     return 0;
 }
 
-/* Raises what simd_json._error returns: the status by its name, the reason in words, and the place in the input. */
+/* Which character, from 0, the byte at an index is part of; at the end, how many there are. */
+static size_t character_at(const text *of, size_t index) {
+    size_t begun = 0, len = (size_t)of->len;
+    for (size_t i = 0; i < len && i <= index; i++)
+        begun += (of->bytes[i] & 0xc0) != 0x80;
+    return index < len ? begun - 1 : begun;
+}
+
+/* What simd_json._error returns: the reason in words, the input, the index there, the kind by its
+ * name, line and column. */
+static PyObject *error_of(int32_t status, const simd_json_place *place, PyObject *data,
+                          const text *of) {
+    char name[SIMD_JSON_NAME_MAX], words[SIMD_JSON_REASON_MAX];
+    size_t name_len = simd_json_status_name(status, name, sizeof name), words_len;
+    simd_json_position at;
+    if (simd_json_location(of->bytes, of->bytes ? (size_t)of->len : 0, status, place, &at, words,
+                           sizeof words, &words_len) != SIMD_JSON_OK)
+        return PyErr_NoMemory();
+    size_t index = PyUnicode_Check(data) ? character_at(of, at.byte) : at.byte;
+    return PyObject_CallFunction(to_error, "s#Ons#nn", words, (Py_ssize_t)words_len, data,
+                                 (Py_ssize_t)index, name, (Py_ssize_t)name_len, (Py_ssize_t)at.line,
+                                 (Py_ssize_t)at.column);
+}
+
+/* Raises the error of an input. */
 static void *reject(int32_t status, const simd_json_place *place, PyObject *data) {
     if (status == SIMD_JSON_OUT_OF_MEMORY)
         return PyErr_NoMemory();
-    char name[SIMD_JSON_NAME_MAX], words[SIMD_JSON_REASON_MAX], *bytes;
-    Py_ssize_t len, name_len = (Py_ssize_t)simd_json_status_name(status, name, sizeof name);
-    PyObject *owned, *error = NULL;
-    simd_json_position at;
-    size_t words_len;
-    if (bytes_of(data, &bytes, &len, &owned)) {
-        if (simd_json_location(bytes, (size_t)len, status, place, &at, words, sizeof words, &words_len) == SIMD_JSON_OK)
-            error = PyObject_CallFunction(to_error, "s#s#nnnO", name, name_len, words, (Py_ssize_t)words_len,
-                                          (Py_ssize_t)at.byte, (Py_ssize_t)at.line, (Py_ssize_t)at.column, data);
-        else
-            PyErr_NoMemory();
-    }
-    Py_XDECREF(owned);
+    text of;
+    PyObject *error = text_of(data, &of) ? error_of(status, place, data, &of) : NULL;
+    Py_XDECREF(of.owned);
     if (error) {
         PyErr_SetObject((PyObject *)Py_TYPE(error), error);
         Py_DECREF(error);
@@ -110,16 +159,24 @@ static void *reject(int32_t status, const simd_json_place *place, PyObject *data
     return NULL;
 }
 
-/* Opens the parser for a depth limit, and copies the input, which a parse overwrites. Returns its length, or -1. */
+/* Copies an input, which a parse overwrites, unless the library takes no such length. */
+static int copy(memory *m, PyObject *data, const text *of) {
+    static const simd_json_place whole = {0, SIMD_JSON_NO_CHARACTER};
+    if (of->len > UINT32_MAX) {
+        reject(SIMD_JSON_INPUT_TOO_LARGE, &whole, data);
+        return 0;
+    }
+    if (!grow(&m->input, &m->input_cap, (size_t)of->len + 1, 1))
+        return 0;
+    memcpy(m->input, of->bytes, (size_t)of->len);
+    return 1;
+}
+
+/* Copies the input, and opens the parser for a depth limit. Returns the length, or -1. */
 static Py_ssize_t prepare(memory *m, PyObject *data, size_t max_depth) {
-    PyObject *owned;
-    char *bytes;
-    Py_ssize_t len;
-    if (bytes_of(data, &bytes, &len, &owned) && grow(&m->input, &m->input_cap, (size_t)len + 1, 1))
-        memcpy(m->input, bytes, (size_t)len);
-    else
-        len = -1;
-    Py_XDECREF(owned);
+    text of;
+    Py_ssize_t len = text_of(data, &of) && copy(m, data, &of) ? of.len : -1;
+    Py_XDECREF(of.owned);
     if (len >= 0 && (!m->parser.is_open || m->max_depth != max_depth)) {
         if (simd_json_open(&m->parser, max_depth) != SIMD_JSON_OK) {
             PyErr_NoMemory();
@@ -282,17 +339,60 @@ static int read_short(const char *literal, size_t len, double *number) {
     return 1;
 }
 
-/* A number with a fraction or an exponent: the nearest float, or what `parse_float` makes of its literal. */
-static PyObject *to_float(const memory *m, const simd_json_node *node, PyObject *parse_float) {
-    if (parse_float)
-        return PyObject_CallFunction(parse_float, "s#", m->document.text + node->value, (Py_ssize_t)node->len);
+/* What `parse_float` has made of the literals of a document, in their order.
+ *
+ * That is code of users, which by the gc module sees every container, in each thread. So all of it
+ * is called before the first container is made, and what it has returned is held until the last is
+ * whole: then no object of theirs dies in between either. */
+typedef struct {
+    PyObject **made;
+    size_t len, taken;
+} literals;
+
+static size_t count_literals(const memory *m) {
+    size_t count = 0;
+    for (size_t i = 0; i < m->document.nodes_len; i++)
+        count += m->document.nodes[i].kind == SIMD_JSON_DECIMAL;
+    return count;
+}
+
+static int call_for_each(const memory *m, PyObject *parse_float, literals *of) {
+    size_t count = count_literals(m), cap = 0;
+    if (!grow(&of->made, &cap, count, sizeof *of->made))
+        return 0;
+    for (const simd_json_node *node = m->document.nodes; of->len < count; node++) {
+        if (node->kind != SIMD_JSON_DECIMAL)
+            continue;
+        const char *literal = m->document.text + node->value;
+        PyObject *made = PyObject_CallFunction(parse_float, "s#", literal, (Py_ssize_t)node->len);
+        if (!made)
+            return 0;
+        of->made[of->len++] = made;
+    }
+    return 1;
+}
+
+static void drop(literals *of) {
+    for (size_t i = 0; i < of->len; i++)
+        Py_DECREF(of->made[i]);
+    free(of->made);
+}
+
+/* A number with a fraction or an exponent: the nearest float, or the next that `parse_float` has
+ * made. */
+static PyObject *to_float(const memory *m, const simd_json_node *node, literals *made) {
+    if (made) {
+        PyObject *next = made->made[made->taken++];
+        Py_INCREF(next);
+        return next;
+    }
     double number = 0;
     if (!read_short(m->document.text + node->value, node->len, &number))
         simd_json_double(m->document.text + node->value, node->len, &number);
     return PyFloat_FromDouble(number);
 }
 
-static PyObject *to_value(const memory *m, const simd_json_node *node, PyObject *parse_float) {
+static PyObject *to_value(const memory *m, const simd_json_node *node, literals *made) {
     if (node->kind == SIMD_JSON_STRING) /* most are, and so it is guessed better than a jump of the switch */
         return to_string(m, node);
     switch (node->kind) {
@@ -309,7 +409,7 @@ static PyObject *to_value(const memory *m, const simd_json_node *node, PyObject 
     case SIMD_JSON_U128:
         return to_wide(m, node);
     case SIMD_JSON_DECIMAL:
-        return to_float(m, node, parse_float);
+        return to_float(m, node, made);
     case SIMD_JSON_ARRAY:
         return PyList_New((Py_ssize_t)node->len);
     default:
@@ -329,8 +429,9 @@ static int grow_open(memory *m) {
     return 1;
 }
 
-/* The value of all nodes. A container is put into the one around it as soon as it is made, so an error frees the root alone. */
-static PyObject *build(memory *m, PyObject *parse_float) {
+/* The value of all nodes. A container is put into the one around it as soon as it is made, so an
+ * error frees the root alone. No code of users runs before it returns. */
+static PyObject *build(memory *m, literals *made) {
     const simd_json_node *node = m->document.nodes, *end = node + m->document.nodes_len;
     PyObject *root = NULL;
     struct open in = {NULL, 0, 1, 0}; /* around the root */
@@ -339,7 +440,7 @@ static PyObject *build(memory *m, PyObject *parse_float) {
         PyObject *key = NULL;
         if (in.is_object && !(key = to_key(m, node++)))
             goto failed;
-        PyObject *value = to_value(m, node, parse_float);
+        PyObject *value = to_value(m, node, made);
         int failed = !value;
         if (key) {
             failed = failed || PyDict_SetItem(in.container, key, value) < 0;
@@ -368,7 +469,8 @@ failed:
     return NULL;
 }
 
-/* The arguments: the input, and by name parse_float (NULL where it is float) and max_depth. */
+/* The arguments: the input, and by name parse_float (NULL where it is float or None) and max_depth.
+ */
 typedef struct {
     PyObject *data, *parse_float;
     Py_ssize_t max_depth;
@@ -382,18 +484,29 @@ static int are_right(arguments *given) {
     return given->max_depth >= 0;
 }
 
+/* Nothing that is being made is garbage, so collections would look through it in vain. In build no
+ * code of users runs, and no other thread, since the interpreter's lock is held: nobody sees that
+ * the collector is off. */
+static PyObject *build_uncollected(memory *m, literals *made) {
+    int collects = PyGC_Disable();
+    PyObject *value = build(m, made);
+    if (collects)
+        PyGC_Enable();
+    return value;
+}
+
 static PyObject *loads_in(memory *kept, arguments *given) {
     memory own = {0};
     memory *m = kept->in_use ? &own : kept;
     m->in_use = 1;
     PyObject *value = NULL;
     if (parse(m, given->data, (size_t)given->max_depth)) {
-        /* Nothing that is being made is garbage, so collections would look through it in vain. Without parse_float no code of
-         * users runs in build, and no other thread, since the interpreter's lock is held: nobody sees that the collector is off. */
-        int collects = !given->parse_float && PyGC_Disable();
-        value = build(m, given->parse_float);
-        if (collects)
-            PyGC_Enable();
+        literals made = {NULL, 0, 0};
+        if (!given->parse_float)
+            value = build_uncollected(m, NULL);
+        else if (call_for_each(m, given->parse_float, &made))
+            value = build_uncollected(m, &made);
+        drop(&made);
     }
     m->in_use = 0;
     if (m == &own)
@@ -474,9 +587,22 @@ static int parser_init(PyObject *self, PyObject *args, PyObject *named) {
     return 0;
 }
 
+/* A parser may be in a cycle, by a parse_float that is a method of its own. */
+static int parser_traverse(PyObject *self, visitproc visit, void *arg) {
+    Py_VISIT(((parser *)self)->parse_float);
+    Py_VISIT(Py_TYPE(self));
+    return 0;
+}
+
+static int parser_clear(PyObject *self) {
+    Py_CLEAR(((parser *)self)->parse_float);
+    return 0;
+}
+
 static void parser_free(PyObject *self) {
     parser *p = (parser *)self;
     PyTypeObject *type = Py_TYPE(self);
+    PyObject_GC_UnTrack(self);
     release(&p->kept);
     Py_XDECREF(p->parse_float);
     freefunc release_self = (freefunc)PyType_GetSlot(type, Py_tp_free);
@@ -502,21 +628,26 @@ static PyObject *parser_check(PyObject *self, PyObject *data) {
 }
 
 static PyMethodDef parser_methods[] = {
-    {"loads", parser_loads, METH_O, "loads(data)\n--\n\nThe value of a document, as the module's loads returns it."},
-    {"check", parser_check, METH_O, "check(data)\n--\n\nRaises SimdJsonError unless the bytes are a document."},
+    {"loads", parser_loads, METH_O,
+     "loads($self, data, /)\n--\n\nThe value of a document, as the module's loads returns it."},
+    {"check", parser_check, METH_O,
+     "check($self, data, /)\n--\n\nRaises SimdJsonError unless the bytes are a document."},
     {NULL, NULL, 0, NULL},
 };
 
 static PyType_Slot parser_slots[] = {
-    {Py_tp_doc, "Parser(*, max_depth=1024, parse_float=float)\n--\n\n"
+    {Py_tp_doc, "Parser(*, max_depth=1024, parse_float=None)\n--\n\n"
                 "Reads one document after another with memory that is kept between them."},
     {Py_tp_init, parser_init},
+    {Py_tp_traverse, parser_traverse},
+    {Py_tp_clear, parser_clear},
     {Py_tp_dealloc, parser_free},
     {Py_tp_methods, parser_methods},
     {0, NULL},
 };
 
-static PyType_Spec parser_spec = {"simd_json.Parser", sizeof(parser), 0, Py_TPFLAGS_DEFAULT | Py_TPFLAGS_BASETYPE,
+static PyType_Spec parser_spec = {"simd_json.Parser", sizeof(parser), 0,
+                                  Py_TPFLAGS_DEFAULT | Py_TPFLAGS_BASETYPE | Py_TPFLAGS_HAVE_GC,
                                   parser_slots};
 
 static PyObject *set_error(PyObject *module, PyObject *function) {
@@ -530,8 +661,11 @@ static PyObject *set_error(PyObject *module, PyObject *function) {
 
 static PyMethodDef functions[] = {
     {"loads", (PyCFunction)(void (*)(void))loads, METH_VARARGS | METH_KEYWORDS,
-     "loads(data, /, *, parse_float=float, max_depth=1024)\n--\n\n"
+     "loads(data, /, *, parse_float=None, max_depth=1024)\n--\n\n"
      "The value of a JSON document (RFC 8259) in str, bytes, bytearray or memoryview.\n\n"
+     "parse_float is called with the literal of each number that has a fraction or an exponent, "
+     "in\n"
+     "their order, before a container is made; without it they are floats.\n\n"
      "Raises SimdJsonError, with the first error and its place."},
     {"check", (PyCFunction)(void (*)(void))check, METH_VARARGS | METH_KEYWORDS,
      "check(data, /, *, max_depth=1024)\n--\n\nRaises SimdJsonError unless the bytes are a JSON document (RFC 8259)."},

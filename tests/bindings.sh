@@ -1,7 +1,8 @@
 #!/bin/sh
-# The wrapper for C++, the package for Python and the crate for Rust, each over the library that `make library` builds: their tests,
-# a part of them under valgrind too. Silent where all is well but for a line of what was left out; else it says what differs, and
-# ends with status 1.
+# The wrapper for C++, the package for Python and the crate for Rust, each over the library that
+# `make library` builds: their tests, a part of them under valgrind too, and those of C++ and Python
+# under the sanitizers of addresses and of undefined behaviour. Silent where all is well but for a
+# line of what was left out; else it says what differs, and ends with status 1.
 set -eu
 top=$(cd "$(dirname "$0")/.." && pwd)
 cd "$top"
@@ -18,10 +19,60 @@ run make -s library
 check='valgrind -q --leak-check=full --error-exitcode=1'
 command -v valgrind > /dev/null || { left_out="$left_out valgrind (not installed);"; check=; }
 
+# wrapper OPTION..: the program that calls the wrapper for C++, built so.
+wrapper() {
+    run c++ -Wall -Wextra -Werror -pedantic -Iinclude "$@" tests/c/wrapper.cpp \
+        build/libsimd_json.a -o "$room/wrapper"
+}
+
+# refuses CASE NAMED: that part of tests/c/refused.cpp must not compile; the first error names why.
+refuses() {
+    if LC_ALL=C c++ -std=c++17 -fsyntax-only -Iinclude "-DCASE=$1" tests/c/refused.cpp \
+        2> "$room/log"; then
+        echo "tests/c/refused.cpp compiles with -DCASE=$1"
+        exit 1
+    fi
+    grep -m1 'error: ' "$room/log" | grep -q "$2" && return
+    echo "tests/c/refused.cpp with -DCASE=$1: the first error does not name $2"
+    cat "$room/log"
+    exit 1
+}
+
+# native_module FOLDER COMPILER-OPTION..: the package there, its module built by these.
+native_module() {
+    folder=$1
+    shift
+    mkdir -p "$folder/simd_json"
+    cp python/simd_json/* "$folder/simd_json/"
+    run cc -fPIC -shared -fvisibility=hidden "-I$include" -Iinclude "$@" \
+        -o "$folder/simd_json/_native.abi3.so"
+}
+
+sanitized='-O1 -g -fsanitize=address,undefined -fno-sanitize-recover=all'
+# shellcheck disable=SC2086
+if ! echo 'int main(void) { return 0; }' | cc $sanitized -x c - -o "$room/trial" 2> /dev/null; then
+    left_out="$left_out the sanitizers (not of this compiler);"
+    sanitized=
+fi
+
 if command -v c++ > /dev/null; then
-    run c++ -std=c++17 -O1 -Wall -Wextra -Werror -pedantic -Iinclude tests/c/wrapper.cpp build/libsimd_json.a -o "$room/wrapper"
-    # shellcheck disable=SC2086
-    run $check "$room/wrapper"
+    for standard in 17 20; do
+        for build in -UNDEBUG -DNDEBUG; do
+            wrapper -std=c++$standard -O1 $build
+            # shellcheck disable=SC2086
+            run $check "$room/wrapper"
+        done
+    done
+    if [ -n "$sanitized" ]; then
+        # shellcheck disable=SC2086
+        wrapper -std=c++20 $sanitized
+        run "$room/wrapper"
+    fi
+    run c++ -std=c++17 -fsyntax-only -Wall -Wextra -Werror -Iinclude -DCASE=0 tests/c/refused.cpp
+    for case in 1 2 3; do refuses $case 'deleted.*parse'; done
+    for case in 4 5; do refuses $case 'deleted.*root'; done
+    for case in 6 7; do refuses $case 'deleted.*element'; done
+    refuses 8 'operator\[\]'
 else
     left_out="$left_out C++ (no c++);"
 fi
@@ -31,16 +82,39 @@ if python3 -c 'import sysconfig, os; raise SystemExit(not os.path.exists(sysconf
     run python3 -m zipfile -e "$room"/simd_json-*.whl "$room/site"
     export PYTHONPATH="$room/site" PYTHONDONTWRITEBYTECODE=1
     run python3 -m unittest discover -s python/tests
-    # The same with a module whose allocations fail in turn.
     include=$(python3 -c 'import sysconfig; print(sysconfig.get_paths()["include"])')
-    run cc -O1 -fPIC -shared -fvisibility=hidden "-I$include" -Iinclude python/native.c python/tests/refuse.c build/libsimd_json.a \
-        -Wl,--wrap=malloc,--wrap=realloc,--wrap=free -o "$room/site/simd_json/_native.abi3.so"
-    run python3 python/tests/test_memory.py
+    # The same with a module whose allocations fail in turn.
+    native_module "$room/failing" -O1 python/native.c python/tests/refuse.c build/libsimd_json.a \
+        -Wl,--wrap=malloc,--wrap=realloc,--wrap=free
+    run env "PYTHONPATH=$room/failing" python3 python/tests/test_memory.py
+    # Where the processor has neither level of the release.
+    echo 'void *begin_v2(void) { __builtin_trap(); } void *begin_v3(void) { __builtin_trap(); }' \
+        > "$room/levels.c"
+    native_module "$room/old" '-D__builtin_cpu_supports(level)=0' python/start.c "$room/levels.c"
+    if PYTHONPATH="$room/old" python3 -c 'import simd_json' 2> "$room/log" ||
+        ! grep -q '^ImportError: .* x86-64-v2 ' "$room/log"; then
+        echo "python/start.c: no ImportError where the processor is too old"
+        cat "$room/log"
+        exit 1
+    fi
+    # Where the module alone has the sanitizers, they must be loaded before Python; they watch its
+    # objects if these are of malloc.
+    asan=$(cc -print-file-name=libasan.so) ubsan=$(cc -print-file-name=libubsan.so)
+    if [ -n "$sanitized" ] && [ -e "$asan" ] && [ -e "$ubsan" ]; then
+        # shellcheck disable=SC2086
+        native_module "$room/sanitized" $sanitized python/native.c build/libsimd_json.a
+        for tests in "ROUNDS=20000 test_hostile" "MUTANTS=10000 test_simd_json"; do
+            run env "PYTHONPATH=$room/sanitized" "LD_PRELOAD=$asan $ubsan" PYTHONMALLOC=malloc \
+                ASAN_OPTIONS=detect_leaks=0 "${tests% *}" python3 "python/tests/${tests#* }.py"
+        done
+    fi
     if [ -n "$check" ]; then
         # The system's Python, if it can: of one that a script starts, valgrind would watch the shell.
         python=/usr/bin/python3
         "$python" -c 'import simd_json' 2> /dev/null || python=$(python3 -c 'import sys; print(sys.executable)')
         PYTHONMALLOC=malloc MUTANTS=300 run valgrind -q --error-exitcode=1 "$python" python/tests/test_simd_json.py
+        PYTHONMALLOC=malloc ROUNDS=300 run valgrind -q --error-exitcode=1 "$python" \
+            python/tests/test_hostile.py
     fi
 else
     left_out="$left_out Python (no python3 with its headers);"

@@ -3,9 +3,11 @@
     import simd_json
     simd_json.loads(b'{"the_answer": 42}')["the_answer"]
 
-The parse is proved: what is accepted, the nodes, the first error and its place. What makes Python values of the nodes is C code
-that is tested alone.
+The parse is proved: what is accepted, the nodes, the first error and its place. What makes Python
+values of the nodes is C code that is tested alone.
 """
+
+from json import JSONDecodeError
 
 from . import _native
 from ._native import __version__, check, loads
@@ -13,26 +15,49 @@ from ._native import __version__, check, loads
 __all__ = ["Parser", "SimdJsonError", "check", "loads"]
 
 
-class SimdJsonError(ValueError):
+class SimdJsonError(JSONDecodeError):
     """The input is not a JSON document within the limits.
 
     msg: the error in words
+    doc: the input as it was given: of json's errors it is always a str, for which bytes would have
+        to be copied; a memoryview is not pickled
+    pos: the index of the error in doc, in characters of a str, else in bytes
     reason: its kind, as "InvalidNumber"
-    pos: its index in the input, in characters of a str, else in bytes
     lineno, colno: the line, and the column in characters, both from 1
     """
 
-    def __init__(self, msg, reason, pos, lineno, colno):
-        super().__init__(f"{msg}: line {lineno} column {colno} ({reason} at {pos})")
-        self.msg, self.reason, self.pos, self.lineno, self.colno = msg, reason, pos, lineno, colno
+    def __init__(self, msg, doc, pos, reason, lineno, colno):
+        # not json's, which counts lines itself, in a str
+        ValueError.__init__(self, f"{msg}: line {lineno} column {colno} ({reason} at {pos})")
+        self.msg, self.doc, self.pos, self.reason = msg, doc, pos, reason
+        self.lineno, self.colno = lineno, colno
 
     def __reduce__(self):
-        return type(self), (self.msg, self.reason, self.pos, self.lineno, self.colno)
+        doc = None if isinstance(self.doc, memoryview) else self.doc
+        return type(self), (self.msg, doc, self.pos, self.reason, self.lineno, self.colno)
 
 
-def _error(reason, msg, index, lineno, colno, data):
-    pos = len(data.encode()[:index].decode()) if isinstance(data, str) else index
-    return SimdJsonError(msg, reason, pos, lineno, colno)
+_BLOCK = 1 << 20
+
+
+def _place_in_view(view, index):
+    """The line and the column of a byte of a view, which is read by blocks and not copied."""
+    lineno, colno = 1, 1
+    view = view if view.ndim == view.itemsize == 1 else memoryview(view.tobytes())
+    for at in range(0, index, _BLOCK):
+        before, feed, line = bytes(view[at:min(at + _BLOCK, index)]).rpartition(b"\n")
+        if feed:
+            lineno, colno = lineno + before.count(feed) + 1, 1
+        colno += len(line.translate(None, bytes(range(0x80, 0xC0))))  # which begin no character
+    return lineno, colno
+
+
+def _error(msg, doc, pos, reason, lineno, colno):
+    if reason == "InputTooLarge" and isinstance(doc, memoryview):
+        lineno, colno = _place_in_view(doc, pos)
+    if reason == "InvalidUtf8" and isinstance(doc, str):
+        msg = "half of a surrogate pair"
+    return SimdJsonError(msg, doc, pos, reason, lineno, colno)
 
 
 _native._set_error(_error)
@@ -41,23 +66,28 @@ _native._set_error(_error)
 class Parser(_native.Parser):
     """Reads one document after another with memory that is kept between them.
 
-    Parser(*, max_depth=1024, parse_float=float): as loads has them. One thread may use it at a time.
+    Parser(*, max_depth=1024, parse_float=None): as loads has them. One thread may use it at a time.
     """
 
     __slots__ = ()
 
     def lines(self, file, *, on_error=None):
-        """The values of the lines of a binary file, or of any other iterable of lines; blank lines are passed over.
+        """The values of the lines of a binary file, or of any other iterable of lines; blank lines
+        are passed over.
 
-        A line that is not a document raises SimdJsonError, with the number of the line as lineno. Where on_error is given, it is
-        called with the error instead, and the next line is read.
+        A line that is not a document raises SimdJsonError, with the line as doc and its number as
+        lineno. Where on_error is given, it is called with the error instead, and the next line is
+        read.
         """
         for number, line in enumerate(file, 1):
-            if line.strip(b" \t\r\n" if not isinstance(line, str) else " \t\r\n"):
+            if isinstance(line, memoryview):
+                line = bytes(line)
+            if line.strip(" \t\r\n" if isinstance(line, str) else b" \t\r\n"):
                 try:
                     value = self.loads(line)
                 except SimdJsonError as error:
-                    error = SimdJsonError(error.msg, error.reason, error.pos, number, error.colno)
+                    error = SimdJsonError(error.msg, line, error.pos, error.reason, number,
+                                          error.colno)
                     if on_error is None:
                         raise error from None
                     on_error(error)

@@ -2,7 +2,9 @@
 
     python3 -m unittest discover python/tests     with the wheel on the path
 """
+import copy
 import gc
+import inspect
 import io
 import json
 import os
@@ -11,6 +13,7 @@ import pickle
 import random
 import sys
 import unittest
+import weakref
 
 import simd_json
 
@@ -88,6 +91,13 @@ class Values(unittest.TestCase):
     def test_inputs(self):
         for data in ('["é"]', '["é"]'.encode(), bytearray('["é"]'.encode()), memoryview('["é"]'.encode())):
             self.assertEqual(simd_json.loads(data), ["é"])
+        view = memoryview(b"71")
+        for view in (view.cast("B", (2, 1)), view.cast("H"), view.cast("H", ()),
+                     memoryview(b"17")[::-1]):
+            self.assertEqual(simd_json.loads(view), 71)
+        view.release()
+        with self.assertRaises(ValueError):
+            simd_json.loads(view)
         for data in (None, 1, ["[]"], {}):
             with self.assertRaises(TypeError):
                 simd_json.loads(data)
@@ -183,6 +193,31 @@ class Values(unittest.TestCase):
                 simd_json.loads(text, parse_float=fails)
         self.assertEqual(simd_json.loads("[1.5]"), [1.5])
 
+    def test_code_of_users_sees_no_half_made_container(self):
+        """Neither parse_float, nor what an object does that dies because its key comes again."""
+        def is_half_made(value):
+            if type(value) is list:
+                return len(gc.get_referents(value)) < len(value)
+            return type(value) is dict and "begun" in value and "whole" not in value
+
+        class Literal:
+            def __init__(self, literal):
+                self.look()
+
+            def __del__(self):
+                self.look()
+
+            def look(self):
+                looks.append(1)
+                found.extend(type(value) for value in gc.get_objects() if is_half_made(value))
+
+        found, looks = [], []
+        text = '[[1,{"begun":1.5,"begun":{"begun":[2.5],"whole":1},"begun":3.5,"whole":1},4.5],0]'
+        value = simd_json.loads(text, parse_float=Literal)
+        self.assertEqual(len(looks), 6)
+        del value
+        self.assertEqual((found, len(looks)), ([], 8))
+
     def test_python_s_own_documents(self):
         try:
             from test.test_json import test_fail, test_pass1, test_pass2, test_pass3
@@ -230,6 +265,42 @@ class Errors(unittest.TestCase):
         self.assertEqual(by(simd_json.check, b"\xff").reason, "InvalidUtf8")
         self.assertEqual(by(simd_json.check, "").reason, "Eof")
 
+    def test_json_s_error(self):
+        """Who catches json's errors catches these, with all that those have."""
+        text = '{\n "é": 01}'
+        for doc in (text, text.encode(), bytearray(b"[01]"), memoryview(b"[01]")):
+            try:
+                simd_json.loads(doc)
+                self.fail()
+            except json.JSONDecodeError as error:
+                self.assertIs(error.doc, doc)
+                self.assertEqual(error.doc[error.pos], "1" if isinstance(doc, str) else ord("1"))
+                place = f"line {error.lineno} column {error.colno} (InvalidNumber at {error.pos})"
+                self.assertEqual(str(error), f"{error.msg}: {place}")
+                for again in (pickle.loads(pickle.dumps(error)), copy.copy(error)):
+                    self.assertIs(type(again), simd_json.SimdJsonError)
+                    self.assertEqual(str(again), str(error))
+                    named = {**vars(error), "doc": None if isinstance(doc, memoryview) else doc}
+                    self.assertEqual(vars(again), named)
+
+    def test_lone_surrogates(self):
+        """A str that holds one has no UTF-8, so it is rejected as bytes that are none."""
+        for text, place in (('"\ud800"', (1, 1, 2)), ('["é",\n"\udfff\ud800"]', (7, 2, 2)),
+                            ('[1,]\udc00', (4, 1, 5)), ("\udc80", (0, 1, 1))):
+            for call in (simd_json.loads, simd_json.check, simd_json.Parser().loads):
+                error = by(call, text)
+                self.assertEqual(error.reason, "InvalidUtf8")
+                self.assertEqual(error.msg, "half of a surrogate pair")
+                self.assertEqual((error.pos, error.lineno, error.colno), place)
+        errors = []
+        lines = ["[1]\n", '"\ud800"\n', "[2]"]
+        self.assertEqual(list(simd_json.Parser().lines(lines, on_error=errors.append)), [[1], [2]])
+        (error,) = errors
+        self.assertEqual((error.reason, error.lineno, error.doc), ("InvalidUtf8", 2, lines[1]))
+        # A pair of them in escapes is one character, and half of one is no text either.
+        self.assertEqual(simd_json.loads('"\\ud83d\\ude00"'), "😀")
+        self.assertEqual(by(simd_json.loads, '"\\ud83d"').reason, "InvalidUnicodeCodepoint")
+
 
 class Kept(unittest.TestCase):
     def test_parser(self):
@@ -258,6 +329,23 @@ class Kept(unittest.TestCase):
         with self.assertRaises(simd_json.SimdJsonError) as caught:
             list(parser.lines(["[1]", "\n", "[é,é]"]))
         self.assertEqual(place(caught.exception), ("InternalError", 1, 3, 2))
+        self.assertEqual(caught.exception.doc, "[é,é]")
+        views = [memoryview(line) for line in log.splitlines(keepends=True)]
+        self.assertEqual(list(parser.lines(views, on_error=errors.append)), [{"a": 1}, [3], 6])
+        self.assertEqual([place(error) for error in errors], wanted * 2)
+
+    def test_signatures(self):
+        named = {"parse_float": None, "max_depth": 1024}
+        for call, defaults in ((simd_json.loads, named), (simd_json.check, {"max_depth": 1024}),
+                               (simd_json.Parser, named), (simd_json.Parser().loads, {}),
+                               (simd_json.Parser().check, {})):
+            each = inspect.signature(call).parameters.values()
+            found = {of.name: of.default for of in each if of.kind == of.KEYWORD_ONLY}
+            self.assertEqual(found, defaults)
+            data = [] if call is simd_json.Parser else [b"[1.5]"]
+            self.assertEqual([of.kind for of in each if of.name not in found],
+                             [inspect.Parameter.POSITIONAL_ONLY] * len(data))
+            call(*data, **defaults)
 
     def test_parse_float_may_begin_its_parser_again(self):
         """The parser then drops its parse_float, which reads the document to its end all the same."""
@@ -269,6 +357,22 @@ class Kept(unittest.TestCase):
         parser = simd_json.Parser(parse_float=Literal())
         self.assertEqual(parser.loads("[1.5,2.5,3.5]"), ["1.5", "2.5", "3.5"])
         self.assertEqual(parser.loads("[1.5]"), [1.5])
+
+    def test_a_parser_in_a_cycle_is_freed(self):
+        class Reader(simd_json.Parser):
+            def __init__(self):
+                super().__init__(parse_float=self.read)
+
+            def read(self, literal):
+                return literal
+
+        reader = Reader()
+        gone = weakref.ref(reader)
+        self.assertEqual(reader.loads("[1.5]"), ["1.5"])
+        self.assertIn(type(reader), gc.get_referents(reader))
+        del reader
+        gc.collect()
+        self.assertIsNone(gone())
 
     def test_many_sizes(self):
         parser = simd_json.Parser()

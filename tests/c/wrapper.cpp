@@ -1,11 +1,23 @@
-// Calls the C++ wrapper: values, look-up, errors, and a parser that is used again. Silent where all is well.
+// Calls the C++ wrapper: values, look-up, errors, and a parser that is used again, moved or closed.
+// Silent where all is well.
 #include <algorithm>
 #include <cmath>
 #include <iostream>
 #include <simd_json.hpp>
+#include <sys/mman.h>
 
 static int failures = 0;
 #define EXPECT(condition) ((condition) ? void() : void((std::cerr << __LINE__ << ": " #condition "\n", failures++)))
+
+// Whether the call throws an E with these words, or any.
+template <class E, class T> static bool ends_by(T call, std::string_view words = {}) {
+    try {
+        call();
+    } catch (const E &e) {
+        return words.empty() || words == e.what();
+    }
+    return false;
+}
 
 template <class T> static bool throws(T call, int32_t status, size_t index) {
     try {
@@ -16,7 +28,203 @@ template <class T> static bool throws(T call, int32_t status, size_t index) {
     return false;
 }
 
+// What is asked of an element after another parse has begun.
+static void end_with_their_parse() {
+#ifndef NDEBUG
+    simd_json::parser parser;
+    const auto root = parser.parse(R"({"a":["b"],"c":[]})");
+    const auto a = root["a"];
+    const auto elements = a.array();
+    auto member = root.object().begin();
+    for (const char *text : {"[1,2,3]", "[", "{\"a\":[\"b\"]}"}) {
+        simd_json_place place;
+        parser.try_parse(text, place);
+        EXPECT(ends_by<std::logic_error>([&] { root.kind(); },
+                                         "simd_json: an element of an earlier parse"));
+        EXPECT(ends_by<std::logic_error>([&] { root["a"]; })
+               && ends_by<std::logic_error>([&] { a[0]; }));
+        EXPECT(ends_by<std::logic_error>([&] { root.find("a"); })
+               && ends_by<std::logic_error>([&] { a.find(0); }));
+        EXPECT(ends_by<std::logic_error>([&] { root.pointer("/a"); })
+               && ends_by<std::logic_error>([&] { a.array(); }));
+        EXPECT(ends_by<std::logic_error>([&] { a.as_bool(); })
+               && ends_by<std::logic_error>([&] { a.as_string(); }));
+        EXPECT(ends_by<std::logic_error>([&] { a.as_int64(); })
+               && ends_by<std::logic_error>([&] { a.as_uint64(); }));
+        EXPECT(ends_by<std::logic_error>([&] { a.as_double(); })
+               && ends_by<std::logic_error>([&] { a.as_decimal(); }));
+        EXPECT(ends_by<std::logic_error>([&] { a.as_wide_integer(); })
+               && ends_by<std::logic_error>([&] { root.object(); }));
+        EXPECT(ends_by<std::logic_error>([&] { ++elements.begin(); })
+               && ends_by<std::logic_error>([&] { ++member; }));
+        EXPECT(ends_by<std::logic_error>([&] { (*elements.begin()).kind(); })
+               && ends_by<std::logic_error>([&] { *member; }));
+    }
+#endif
+}
+
+static void have_no_document() {
+    simd_json::parser parser;
+    EXPECT(
+        ends_by<std::logic_error>([&] { parser.root(); }, "simd_json: the parser has no document"));
+    parser.parse("[1]");
+    EXPECT(parser.root().is_array());
+    EXPECT(throws([&] { parser.parse("nope"); }, SIMD_JSON_EXPECTED_NULL, 0));
+    EXPECT(
+        ends_by<std::logic_error>([&] { parser.root(); }, "simd_json: the parser has no document"));
+    parser.parse("[1]");
+    // More than a parser takes, which is not copied, let alone read.
+    const size_t len = size_t(UINT32_MAX) + 1;
+    void *const text =
+        mmap(nullptr, len, PROT_READ, MAP_PRIVATE | MAP_ANONYMOUS | MAP_NORESERVE, -1, 0);
+    EXPECT(text != MAP_FAILED);
+    simd_json_place place;
+    EXPECT(parser.try_parse({static_cast<char *>(text), len}, place) == SIMD_JSON_INPUT_TOO_LARGE);
+    EXPECT(place.index == 0 && place.character == SIMD_JSON_NO_CHARACTER);
+    EXPECT(ends_by<std::logic_error>([&] { parser.root(); }));
+    munmap(text, len);
+}
+
+static void moved() {
+    simd_json::parser from;
+    const auto root = from.parse("[1]");
+    simd_json::parser to(std::move(from));
+    EXPECT(root[0].as_int64() == 1 && to.root()[0].as_int64() == 1);
+    simd_json_place place;
+    EXPECT(from.try_parse("[1]", place) == SIMD_JSON_PARSER_CLOSED && place.index == 0);
+    EXPECT(throws([&] { from.parse("[1]"); }, SIMD_JSON_PARSER_CLOSED, 0));
+    EXPECT(ends_by<std::logic_error>([&] { from.root(); }));
+    from = simd_json::parser(1);
+    EXPECT(from.parse("[2]")[0].as_int64() == 2
+           && throws([&] { from.parse("[[]]"); }, SIMD_JSON_DEPTH_LIMIT_EXCEEDED, 1));
+    to = std::move(from);
+    EXPECT(throws([&] { to.parse("[[]]"); }, SIMD_JSON_DEPTH_LIMIT_EXCEEDED, 1)
+           && to.parse("[3]")[0].as_int64() == 3);
+}
+
+// A string of the document that a parse ends is the text of that parse.
+static void parse_their_own_string() {
+    simd_json::parser parser;
+    const std::string spaces(100000, ' ');
+    const auto inner = parser.parse("[\"[1,\\n" + spaces + "2]\", \"[1,\\n" + spaces + "]\"]");
+    EXPECT(parser.parse(inner[0].as_string().value())[1].as_int64() == 2);
+    const auto again = parser.parse("[\"[1,\\n" + spaces + "]\"]");
+    try {
+        parser.parse(again[0].as_string().value());
+        EXPECT(false);
+    } catch (const simd_json::error &e) {
+        EXPECT(e.line() == 2 && e.column() == 100001 && e.byte() == 100004);
+    }
+}
+
+static void name_their_place() {
+    simd_json::parser parser;
+    try {
+        parser.parse("[1,\n \"\u00e9\", }");
+        EXPECT(false);
+    } catch (const simd_json::error &e) {
+        EXPECT(e.what()
+               == std::string_view(
+                   "InternalError at character 11, line 2 column 7: expected a value, found `}`"));
+        EXPECT(e.line() == 2 && e.column() == 7 && e.byte() == 11 && e.index() == 11
+               && e.character() == '}');
+        EXPECT(e.reason() == "expected a value, found `}`");
+    }
+    try {
+        parser.parse("[\n\"\xff\"]");
+        EXPECT(false);
+    } catch (const simd_json::error &e) {
+        EXPECT(e.line() == 2 && e.column() == 2 && e.byte() == 3 && e.index() == 0
+               && !e.character());
+    }
+    simd_json_place place;
+    const int32_t status = parser.try_parse("[01]", place);
+    const simd_json::error bare(status, place), located(status, place, "[01]");
+    EXPECT(bare.line() == 0 && bare.column() == 0 && bare.reason().empty());
+    EXPECT(bare.what() == std::string_view("InvalidNumber at character 2"));
+    EXPECT(located.line() == 1 && located.column() == 3 && !located.reason().empty());
+    const simd_json::error closed(SIMD_JSON_PARSER_CLOSED, {0, SIMD_JSON_NO_CHARACTER}, "");
+    EXPECT(closed.line() == 0 && closed.reason().empty());
+}
+
+static void take_each_index() {
+    enum column { FIRST, SECOND };
+    simd_json::parser parser;
+    const auto root = parser.parse("[10,20]");
+    EXPECT(root[1].as_int64() == 20 && root[1u].as_int64() == 20 && root[1L].as_int64() == 20);
+    EXPECT(root[1UL].as_int64() == 20 && root[1LL].as_int64() == 20 && root[1ULL].as_int64() == 20);
+    EXPECT(root[uint8_t(1)].as_int64() == 20 && root[int16_t(1)].as_int64() == 20
+           && root[uint32_t(1)].as_int64() == 20);
+    EXPECT(root[int64_t(1)].as_int64() == 20 && root[size_t(1)].as_int64() == 20
+           && root[SECOND].as_int64() == 20);
+    EXPECT(root[FIRST].as_int64() == 10 && root[0].as_int64() == 10 && root[0u].as_int64() == 10);
+    EXPECT(ends_by<std::out_of_range>([&] { root[2u]; }, "simd_json: no element 2"));
+    EXPECT(ends_by<std::out_of_range>([&] { root[-1]; }, "simd_json: no element -1"));
+    EXPECT(ends_by<std::out_of_range>([&] { root[INT64_MIN]; },
+                                      "simd_json: no element -9223372036854775808"));
+    EXPECT(ends_by<std::out_of_range>([&] { root[UINT64_MAX]; },
+                                      "simd_json: no element 18446744073709551615"));
+    EXPECT(ends_by<std::out_of_range>([&] { root["size"]; }, "simd_json: no member \"size\""));
+    EXPECT(ends_by<std::out_of_range>([&] { root[std::string("size")]; },
+                                      "simd_json: no member \"size\""));
+}
+
+static void keep_wide_integers() {
+    simd_json::parser parser;
+    const auto root = parser.parse(
+        "[18446744073709551616,-9223372036854775809,18446744073709551615,-1,1.5,\"1\"]");
+    EXPECT(root[0].as_wide_integer() == "18446744073709551616" && root[0].kind() == SIMD_JSON_U128);
+    EXPECT(root[1].as_wide_integer() == "-9223372036854775809" && root[1].kind() == SIMD_JSON_I128);
+    for (int i = 2; i < 6; i++)
+        EXPECT(!root[i].as_wide_integer());
+}
+
+static void are_null_by_default() {
+    const simd_json::element none;
+    EXPECT(none.is_null() && !none.as_string() && !none.as_double() && none.array().size() == 0
+           && none.object().size() == 0);
+    EXPECT(none.pointer("")->is_null() && !none.pointer("/a") && !none.find("a") && !none.find(0));
+    EXPECT(simd_json::array_view().begin() == simd_json::array_view().end());
+}
+
+// Before clang 16 libstdc++'s views are not compiled, of vectors neither.
+#if defined(__cpp_lib_ranges) && (!defined(__clang__) || __clang_major__ >= 16)
+static_assert(
+    std::forward_iterator<simd_json::array_view::
+                              iterator> && std::forward_iterator<simd_json::object_view::iterator>);
+static_assert(std::ranges::view<
+                  simd_json::array_view> && std::ranges::borrowed_range<simd_json::object_view>);
+static_assert(std::ranges::sized_range<simd_json::array_view>);
+
+static void are_ranges() {
+    simd_json::parser parser;
+    const auto root =
+        parser.parse(R"([{"id":1,"on":true},{"id":2,"on":false},{"id":3,"on":true}])");
+    int64_t sum = 0;
+    for (const auto id :
+         root.array() | std::views::filter([](auto e) { return e["on"].as_bool().value(); })
+             | std::views::transform([](auto e) { return e["id"].as_int64().value(); }))
+        sum = 10 * sum + id;
+    EXPECT(sum == 13);
+    const auto has_two = [](const auto &member) { return member.second.as_int64() == 2; };
+    EXPECT(std::ranges::count_if(root[1].object(), has_two) == 1);
+    EXPECT(std::ranges::find_if(root[1].object(), has_two) == root[1].object().begin());
+    EXPECT(std::ranges::distance(root.array() | std::views::drop(1)) == 2);
+}
+#else
+static void are_ranges() {}
+#endif
+
 int main() {
+    end_with_their_parse();
+    have_no_document();
+    moved();
+    parse_their_own_string();
+    name_their_place();
+    take_each_index();
+    keep_wide_integers();
+    are_null_by_default();
+    are_ranges();
     simd_json::parser parser;
     const auto root = parser.parse(R"({"a":[1,-2,2.5,1e400,-1e-400,"\u00e9",null,true],"b":{"c":18446744073709551615},"a":0})");
     const auto a = root["a"];
@@ -49,7 +257,8 @@ int main() {
     EXPECT(caught);
     EXPECT(throws([&] { parser.parse("[1,]"); }, SIMD_JSON_INTERNAL_ERROR, 3));
     EXPECT(throws([&] { parser.parse(""); }, SIMD_JSON_EOF, 0));
-    EXPECT(throws([&] { simd_json::parser(1).parse("[[]]"); }, SIMD_JSON_DEPTH_LIMIT_EXCEEDED, 1));
+    simd_json::parser shallow(1);
+    EXPECT(throws([&] { shallow.parse("[[]]"); }, SIMD_JSON_DEPTH_LIMIT_EXCEEDED, 1));
     EXPECT(parser.parse("\"again\"").as_string() == "again");
     const double wide = parser.parse("-170141183460469231731687303715884105728").as_double().value();
     EXPECT(wide == -std::ldexp(1.0, 127));

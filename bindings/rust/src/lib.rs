@@ -15,9 +15,10 @@
 //! | `simd_json::to_tape(&mut input)?` | the same |
 //! | `Buffers::new(n)`, `fill_tape` | [`Buffers::new`], [`Buffers::parse`], whose tape borrows the buffers and not the input |
 //! | `value.as_f64()` of a parsed float | [`Value::as_f64`] converts the literal, which is kept: [`Value::as_decimal`] |
-//! | `get` of equal keys: the last | the first |
 //! | integers of 64 bits, more with `128bit` | always 128 bits |
-//! | no depth limit | 1,024, or [`Buffers::with_max_depth`] |
+//!
+//! Of equal keys [`Value::get`] takes the first. At most 1,024 containers may be open at a time, or
+//! as many as [`Buffers::with_max_depth`] is given.
 mod error;
 mod ffi;
 mod value;

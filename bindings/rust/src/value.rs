@@ -222,10 +222,18 @@ impl fmt::Debug for Value<'_> {
 }
 
 /// The elements of an array that are left.
-#[derive(Clone, Copy, Debug)]
+#[derive(Clone, Copy)]
 pub struct Array<'tape> {
+    // after the last element what follows the array, if anything does
     rest: Value<'tape>,
     left: usize,
+}
+
+/// The elements that are left.
+impl fmt::Debug for Array<'_> {
+    fn fmt(&self, f: &mut fmt::Formatter<'_>) -> fmt::Result {
+        f.debug_list().entries(*self).finish()
+    }
 }
 
 impl<'tape> Iterator for Array<'tape> {
@@ -246,10 +254,18 @@ impl<'tape> Iterator for Array<'tape> {
 impl ExactSizeIterator for Array<'_> {}
 
 /// The members of an object that are left, each a key and a value.
-#[derive(Clone, Copy, Debug)]
+#[derive(Clone, Copy)]
 pub struct Object<'tape> {
+    // after the last member what follows the object, if anything does
     rest: Value<'tape>,
     left: usize,
+}
+
+/// The members that are left.
+impl fmt::Debug for Object<'_> {
+    fn fmt(&self, f: &mut fmt::Formatter<'_>) -> fmt::Result {
+        f.debug_map().entries(*self).finish()
+    }
 }
 
 impl<'tape> Iterator for Object<'tape> {

@@ -173,6 +173,41 @@ fn values_are_shown() {
 }
 
 #[test]
+fn arrays_and_objects_are_shown() {
+    // At the end of the tape, amid it, and while they are read.
+    for (text, array) in [("[]", "[]"), ("[1,[2,3]]", "[U64(1), Array(len 2)]")] {
+        let mut input = text.as_bytes().to_vec();
+        let tape = to_tape(&mut input).unwrap();
+        assert_eq!(format!("{:?}", tape.as_value().as_array().unwrap()), array);
+    }
+    let shown = r#"{"a\n": Null, "b": Object(len 0)}"#;
+    for (text, object) in [("{}", "{}"), (r#"{"a\n":null,"b":{}}"#, shown)] {
+        let mut input = text.as_bytes().to_vec();
+        let tape = to_tape(&mut input).unwrap();
+        assert_eq!(format!("{:?}", tape.as_value().as_object().unwrap()), object);
+    }
+    let mut input = *br#"{"a":[],"b":{},"c":[1,2]}"#;
+    let tape = to_tape(&mut input).unwrap();
+    let mut members = tape.as_value().as_object().unwrap();
+    let mut shown = vec![format!("{members:?}")];
+    while let Some((_, value)) = members.next() {
+        shown.push(format!("{:?} {:?} {members:?}", value.as_array(), value.as_object()));
+    }
+    let wanted = [
+        r#"{"a": Array(len 0), "b": Object(len 0), "c": Array(len 2)}"#,
+        r#"Some([]) None {"b": Object(len 0), "c": Array(len 2)}"#,
+        r#"None Some({}) {"c": Array(len 2)}"#,
+        r#"Some([U64(1), U64(2)]) None {}"#,
+    ];
+    assert_eq!(shown, wanted);
+    let mut elements = tape.as_value().get("c").unwrap().as_array().unwrap();
+    elements.next();
+    assert_eq!(format!("{elements:?}"), "[U64(2)]");
+    elements.next();
+    assert_eq!((format!("{elements:?}").as_str(), elements.next().is_none()), ("[]", true));
+}
+
+#[test]
 fn buffers_are_kept() {
     let mut buffers = Buffers::new().unwrap();
     for text in [r#"{"a":[1,"b"]}"#, "[]", r#"[1.5,"\u00e9",340282366920938463463374607431768211455]"#, "7"] {

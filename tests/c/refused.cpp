@@ -1,0 +1,36 @@
+// With CASE above 0 it must not compile: an element of a parser or of a document that is gone at
+// once, and an index that is none. tests/bindings.sh says what the message names.
+#include <cstdio>
+#include <simd_json.hpp>
+
+simd_json_document lent();
+const simd_json_document lent_as_const();
+
+int main() {
+    simd_json::parser parser;
+    const simd_json_document document{};
+    const auto root = parser.parse("[1]");
+#if CASE == 0
+    const simd_json::element of(document);
+    for (const auto element : parser.parse("[1]").array())
+        std::printf("%u", element.kind());
+    return static_cast<int>(root[0].kind() + parser.root().kind());
+#elif CASE == 1
+    const auto element = simd_json::parser().parse("[1]");
+#elif CASE == 2
+    for (const auto element : simd_json::parser().parse("[1]").array())
+        std::printf("%u", element.kind());
+#elif CASE == 3
+    const auto element = std::move(parser).parse("[1]");
+#elif CASE == 4
+    const auto element = simd_json::parser().root();
+#elif CASE == 5
+    const auto element = static_cast<const simd_json::parser &&>(parser).root();
+#elif CASE == 6
+    const simd_json::element element(lent());
+#elif CASE == 7
+    const simd_json::element element(lent_as_const());
+#elif CASE == 8
+    const auto element = root[true];
+#endif
+}
