@@ -36,7 +36,9 @@
  * INPUT IS OVERWRITTEN, but by simd_json_index and simd_json_parser_index: escapes are decoded in place, and afterwards its
  * contents are unspecified. Pass a copy of what is needed again. It needs no terminator and no padding.
  *
- * `max_depth` is how many arrays and objects may be open at a time: 1024 is usual, 0 allows scalars only.
+ * `max_depth` is how many arrays and objects may be open at a time: 1024 is usual, 0 allows scalars only. The calls that
+ * print take about 11 bytes of the stack for each, which no status tells of: 8 MB are enough for 500,000, and a thread
+ * with 256 kB for 20,000. All others take the same stack however deep the input is.
  */
 #ifndef SIMD_JSON_H
 #define SIMD_JSON_H
@@ -61,7 +63,7 @@ uint32_t simd_json_version(void);
 enum {
     SIMD_JSON_OK = 0,
 
-    /* An allocation failed. Size and encoding are right. No call aborts the process. */
+    /* An allocation failed, which ends no process. Size and encoding are right. */
     SIMD_JSON_OUT_OF_MEMORY = 1,
 
     /* Of the whole input: index 0, no character. */

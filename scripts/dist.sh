@@ -31,6 +31,8 @@ done
 SIMD_JSON_LIB_DIR=$v2 SIMD_JSON_V3_LIB_DIR=$v3 python3 -B python/backend.py "$to/python" > /dev/null
 cp -R bindings/rust/Cargo.toml bindings/rust/build.rs bindings/rust/src "$to/rust/"
 cp LICENSE-MIT LICENSE-APACHE "$to/"
+mkdir -p "$to/examples/c"
+cp examples/c/answer.c "$to/examples/c/"
 { printf '# simd_json %s\n' "$version" && sed -n '/^### From the release/,/^### /{/^### /d;p;}' README.md; } > "$to/README.md"
 
 (cd "$to" && find . -type f | LC_ALL=C sort | xargs sha256sum) > "$parts/SHA256SUMS"
