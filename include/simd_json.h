@@ -222,8 +222,8 @@ typedef struct {
 /* The position and the reason in words of an error, as "expected a value, found `]`": `status` and `place` are what a call has
  * reported, and `input` is the bytes as they were before it. Writes *position: an error with a character is at its index, and
  * one of the whole input at the first byte that begins no UTF-8 character, at the control byte in a string or the opening quote
- * of the string that has no end, at the end, or at the first byte too many. Of a status that is no error of an input it is
- * zeros, and the reason is empty.
+ * of the string that has no end, at the end, or at the first byte too many. Of OUT_OF_MEMORY it is the first byte, and the
+ * reason `out of memory`; of another status that is no error of an input it is zeros, and the reason is empty.
  *
  * OK: *needed is the length of the reason, which is at the front of out; there is no terminator.
  * TOO_LITTLE_ROOM: *needed is the length that is needed, at most SIMD_JSON_REASON_MAX, and out is unchanged.

@@ -167,7 +167,7 @@ static void names(void) {
     }
 }
 
-// Of a status that names no error, and in each room for the reason.
+// In each room for the reason; of a status that names no error; and of one that is no error of an input.
 static void locations(void) {
     static const char wrong[] = "[1,\n  \"\303\251\": 2]", reason[] = "expected `,` or `]` after an element, found `:`";
     const simd_json_place place = {10, ':'};
@@ -190,6 +190,12 @@ static void locations(void) {
         WANT(simd_json_location(wrong, sizeof wrong - 1, others[i], &place, &at, 0, 0, &needed) == SIMD_JSON_OK);
         WANT(needed == 0 && at.byte == 0 && at.line == 0 && at.column == 0);
     }
+    const simd_json_place none = {0, SIMD_JSON_NO_CHARACTER};
+    simd_json_position at = {7, 7, 7};
+    char words[SIMD_JSON_REASON_MAX];
+    size_t needed = 7;
+    WANT(simd_json_location(wrong, sizeof wrong - 1, SIMD_JSON_OUT_OF_MEMORY, &none, &at, words, sizeof words, &needed) == SIMD_JSON_OK);
+    WANT(needed == 13 && memcmp(words, "out of memory", needed) == 0 && at.byte == 0 && at.line == 1 && at.column == 1);
 }
 
 // Nodes, texts and pointers of each length, and from each node; and nodes that are no document's: nothing outside is read, and
