@@ -17,8 +17,11 @@ cd "$(dirname "$0")/.." || exit 1
 mode=${1:-}
 [ $# -eq 0 ] || shift
 gate=build/gate
+# Another run in this folder ends first.
+mkdir -p build/log
+exec 9> build/log/lock && flock 9 || exit 1
 rm -rf build/lane "$gate"
-mkdir -p "$gate/.git" "$gate/crates" build/log
+mkdir -p "$gate/.git" "$gate/crates"
 beside=
 leave() {
     [ -z "$beside" ] || kill -- "-$beside" 2> /dev/null
