@@ -1,9 +1,9 @@
 -- What the test of a whole input finds is what a parse answers.
-use Rattle.std.proofs.Common.{◌≡◌, ◌∙◌, ap, sym, refl, ◌≤◌, ℕ, List, [], ◌∷◌, ◌++◌, length, get_or, arith, cond, ◌+◌}
+use Rattle.std.proofs.Common.{◌≡◌, ◌∙◌, ap, sym, refl, subst, min, ◌<◌, ◌≤◌, ℕ, List, [], ◌∷◌, ◌++◌, length, get_or, arith, cond, ◌+◌}
 use Rattle.std.proofs.Common.{Bool, true, false, not, Option, Some, None, Err, IsUtf8, nat_lt, nat_eq, ◌||◌, ◌&&◌, ◌⊎◌, inl, inr}
 use Rattle.std.specs.Str.{is_utf8}
 use Rattle.std.proofs.Math.Dec.{eqb-suc-zero}
-use Rattle.std.proofs.lemmas.Bool.{cases_lt, ltb-false}
+use Rattle.std.proofs.lemmas.Bool.{cases_lt, cond-true, cond_both, lt-ltb, ltb-false}
 use Rattle.std.proofs.lemmas.List.{length-append}
 use Rattle.std.proofs.lemmas.List.FromFn.{length-range_with_len}
 use Rattle.std.proofs.lemmas.List.Sums.{length-filter, count_by-le-length}
@@ -18,7 +18,7 @@ use Rattle.simd_json_parts.specs.InputFaults.{input_fault, scan_fault}
 use Rattle.simd_json_parts.specs.Limits.{max_length}
 use Rattle.simd_json_parts.specs.Nodes.{Item}
 use Rattle.simd_json_parts.specs.Positions.{positions, is_position}
-use Rattle.simd_json_check.specs.Capacities.{Capacities, IsRefused, LacksMemory}
+use Rattle.simd_json_check.specs.Capacities.{Capacities, KeepsCapacities, IsRefused, IsUnchecked, LacksMemory, capacity, check_capacity}
 use Rattle.simd_json_parts.specs.declared.error.Error.{Error}
 use Rattle.simd_json_parts.specs.declared.error.ErrorType.TheVariants.{InputTooLarge, OutOfMemory}
 use Rattle.simd_json_stages.specs.Building.{is_header}
@@ -66,9 +66,26 @@ nodes-within b count limit none is = omega (arith, is, few-positions b, (right-i
 -- ---- what the first stage refuses
 
 pub check-refused : (b : List ℕ) (limit : ℕ) (before : Capacities) (e : Error) → IsRefused b before e
-    → (answer b limit ≡ Err e) ⊎ LacksMemory b e
+    → (answer b limit ≡ Err e) ⊎ IsUnchecked b limit before e
 check-refused b limit before e (inl whole) = inl (fault-answered b limit e whole)
-check-refused b limit before e (inr (lacks, size, encoding, short)) = inr (lacks, size, encoding)
+check-refused b limit before e (inr (lacks, size, encoding, short)) = inr ((lacks, size, encoding), omega (arith, short))
+
+-- what is too short for a copy or a stack now was so for a check before
+check-short : (limit : ℕ) (old new : Capacities) (n : ℕ) → KeepsCapacities old new
+    → (new.copied < n) ⊎ (new.opened < min n limit) → check_capacity limit old < n
+check-short limit old new n kept (inl short) =
+    cond_both (nat_lt old.opened limit) (min old.copied old.opened) old.copied (λ k. min (capacity old) k < n)
+    (λ _. omega (arith, short, kept.2)) (λ _. omega (arith, short, kept.2))
+check-short limit old new n kept (inr short) =
+    let is = cond-true (nat_lt old.opened limit) (min old.copied old.opened) old.copied
+    (lt-ltb old.opened limit (omega (arith, short, kept.3))) in
+    subst (λ k. min (capacity old) k < n) (sym is) (omega (arith, short, kept.3))
+
+pub copy-refused : (b : List ℕ) (limit : ℕ) (old new : Capacities) (e : Error) → KeepsCapacities old new
+    → (answer b limit ≡ Err e) ⊎ (LacksMemory b e × ((new.copied < length b) ⊎ (new.opened < min (length b) limit)))
+    → (answer b limit ≡ Err e) ⊎ IsUnchecked b limit old e
+copy-refused b limit old new e kept (inl is) = inl is
+copy-refused b limit old new e kept (inr lacks) = inr (lacks.0, check-short limit old new (length b) kept lacks.1)
 
 -- ---- want of memory
 

@@ -4,7 +4,7 @@ use Rattle.std.specs.List.{after_last, position_or_len}
 use Rattle.std.specs.Str.Lossy.{utf8_valid_len}
 use Rattle.simd_json_parts.specs.Bytes.{line_feed, is_control, byte_at, indices}
 use Rattle.simd_json_parts.specs.Limits.{max_length}
-use Rattle.simd_json_parts.specs.Positions.{is_real_quote, real_quotes, is_inside}
+use Rattle.simd_json_parts.specs.Positions.{is_real_quote, real_quotes, is_inside, is_position}
 use Rattle.simd_json_parts.specs.declared.error.Error.{Error}
 use Rattle.simd_json_parts.specs.declared.error.ErrorType.{ErrorType}
 use Rattle.simd_json_parts.specs.declared.error.ErrorType.TheVariants as errors
@@ -47,6 +47,10 @@ is_left_open b i = is_real_quote b i && is_inside b i && (real_quotes b (suc i) 
 -- whichever of the two a scan from the left meets first
 unfoldable pub bad_string : List ℕ → ℕ
 bad_string b = first_index (λ i. is_control_inside b i || is_left_open b i) b
+
+-- the structural index after index i, or the length of b where there is none
+abbrev pub next_position : List ℕ → ℕ → ℕ
+next_position b i = first_index (λ k. nat_lt i k && is_position b k) b
 
 -- Of an error without a character: the first byte too many, the first that begins no UTF-8 character, what is wrong
 -- with a string, the end of an input of whitespace. Another kind is where it says.

@@ -5,7 +5,7 @@ use Rattle.std.specs.Char.{is_ascii_digit, is_digit}
 use Rattle.std.specs.Option.{option_map}
 use Rattle.std.specs.Result.{result_err}
 use Rattle.std.specs.Str.Lossy.{utf8_valid_len}
-use Rattle.simd_json_check.specs.Locations.{is_control_inside, bad_string, place_of, line_of, column_of}
+use Rattle.simd_json_check.specs.Locations.{is_control_inside, bad_string, next_position, place_of, line_of, column_of}
 use Rattle.simd_json_check.specs.declared.location.Location.{Location}
 use Rattle.simd_json_check.specs.declared.location.reason.Reason.{Reason}
 use Rattle.simd_json_check.specs.declared.location.reason.Reason.TheVariants as reasons
@@ -107,14 +107,17 @@ reason_of b e = reason_with b e.index e.character e.error
 
 -- ---- the error, its place and its reason
 
+-- a parse names the last token of the document where more text follows it; people are shown the first byte of that text
+abbrev pub shown_byte : List ℕ → Error → Reason → ℕ
+shown_byte b e reasons.MoreText = next_position b e.index
+shown_byte b e _ = place_of b e
+
+abbrev pub located : List ℕ → Error → Reason → ℕ → Location
+located b e reason byte =
+    record { error = e; byte = byte; line = line_of b byte; column = column_of b byte; reason = reason }
+
 unfoldable pub location_of : List ℕ → Error → Location
-location_of b e = record {
-  error = e;
-  byte = place_of b e;
-  line = line_of b (place_of b e);
-  column = column_of b (place_of b e);
-  reason = reason_of b e;
-}
+location_of b e = located b e (reason_of b e) (shown_byte b e (reason_of b e))
 
 -- what is found in an input: the location of its error, if it has one
 abbrev pub found_in : List ℕ → ℕ → Option Location

@@ -2,7 +2,8 @@
 //! second stage of a parse over a copy of the input, into a sink that keeps no node.
 ghost use Rattle.std.specs.Prelude.{◌≡◌, ◌≤◌, ◌<◌, ◌⊎◌, ◌++◌, ◌∷◌, [], List, length, get_or};
 ghost use Rattle.std.specs.Prelude.{Ok, Err, IsTrue, OnOk, IfErr, min, max};
-ghost use Rattle.simd_json_check.specs.Capacities.{KeepsCapacities, LacksMemory};
+ghost use Rattle.std.specs.Vec.{vec_capacity};
+ghost use Rattle.simd_json_check.specs.Capacities.{KeepsCapacities, LacksMemory, IsUnchecked};
 ghost use Rattle.simd_json_parts.specs.Answer.{answer};
 ghost use Rattle.simd_json_parts.specs.Descent.{descent};
 ghost use Rattle.simd_json_parts.specs.Document.{Document};
@@ -15,7 +16,7 @@ ghost use Rattle.simd_json_stages.specs.Scans.{IsScanOf};
 ghost use base.Fml.{ftrue};
 
 use crate::escapes::are_escapes_valid;
-use crate::index::Index;
+use crate::index::{Index, lengthen};
 use crate::nested::value_end;
 use simd_json_parts::error::Result;
 use simd_json_parts::node::StaticNode;
@@ -40,14 +41,15 @@ impl<A: Allocator + Copy> Index<A> {
     ///   (section 6), for an escape (section 7), or because it opens a container beyond the limit
     ///   (section 9)
     ///
-    /// Returns `OutOfMemory` if an allocation fails, and only if size and encoding are right.
+    /// Returns `OutOfMemory` if an allocation fails: only if size and encoding are right, and only
+    /// if there is no capacity for as many bytes as the input has.
     ///
     /// The input stays unchanged. A document with at most 64 containers open at a time is checked
-    /// in place, without memory but for the index. For any other input the second stage of a parse
-    /// runs, and keeps no node. A parse decodes strings in place, so it works on a copy of the
-    /// input, which is taken from the allocator of the index. So are 24 bytes for each container
-    /// that may be open (`max_depth`, or one for each structural index, whichever is less) if these
-    /// are more than 64. Both are freed before it returns.
+    /// in place, without memory but for the structural indexes. For any other input the second
+    /// stage of a parse runs, and keeps no node. A parse decodes strings in place, so it works on a
+    /// copy of the input. It takes 24 bytes for each container that may be open (`max_depth`, or
+    /// one for each structural index, whichever is less) if these are more than 64. The index keeps
+    /// the memory of both for the next check.
     ///
     /// ```
     /// use simd_json_check::{ErrorType, Index, Result};
@@ -67,17 +69,17 @@ impl<A: Allocator + Copy> Index<A> {
         ensures indexes { OnOk result (self.new.listed ≡ positions input.now) }
         ensures kept { KeepsCapacities self.old self.new }
         ensures fault { IfErr result (λ e. (answer input.now max_depth ≡ Err e)
-            ⊎ LacksMemory input.now e) }
+            ⊎ IsUnchecked input.now max_depth self.old e) }
     {
         self.find(input)?;
         let scanned = Scanned {
             structural_indexes: &self.indexes[..self.used],
             escape_blocks: &self.escape_blocks[..self.used_blocks],
         };
-        if !is_document(input, scanned, max_depth) {
-            parse_copy(*self.indexes.allocator(), input, scanned, max_depth)?;
+        if is_document(input, scanned, max_depth) {
+            return Ok(());
         }
-        Ok(())
+        parse_copy(&mut self.copy, &mut self.stack, input, scanned, max_depth)
     }
 }
 
@@ -99,22 +101,26 @@ fn is_document(input: &[u8], scanned: Scanned<'_>, max_depth: usize) -> bool
 }
 
 // Parses a copy of an input whose structural indexes and blocks with a backslash are known.
-fn parse_copy<A: Allocator + Copy>(
-    a: A,
+fn parse_copy<A: Allocator>(
+    copy: &mut Vec<u8, A>,
+    stack: &mut Vec<StackState, A>,
     input: &[u8],
     scanned: Scanned<'_>,
     max_depth: usize,
 ) -> Result<()>
     requires { IsScanOf input.now scanned }
     ensures document { OnOk result ((d : Document) × (answer input.now max_depth ≡ Ok d)) }
+    ensures kept { (vec_capacity copy.old ≤ vec_capacity copy.new)
+        × (length stack.old.items ≤ length stack.new.items) }
     ensures fault { IfErr result (λ e. (answer input.now max_depth ≡ Err e)
-        ⊎ LacksMemory input.now e) }
+        ⊎ (LacksMemory input.now e × ((vec_capacity copy.old < length input.now)
+        ⊎ (length stack.old.items < min (length input.now) max_depth)))) }
 {
-    let mut copy = Vec::from_slice(a, input)?;
-    let mut stack = Vec::new(a);
+    copy.clear();
+    copy.extend_from_slice(input)?;
     let open = scanned.structural_indexes.len().min(max_depth);
     if open > FEW_OPEN {
-        stack.resize(open, StackState::EMPTY)?;
+        lengthen(stack, open, StackState::EMPTY)?;
     }
     count_nodes::<Brand>(
         copy.as_mut_slice(),

@@ -1,7 +1,7 @@
 //! The structural indexes of one input after another.
 ghost use Rattle.std.specs.Prelude.{◌≡◌, ◌≤◌, ◌<◌, length, take, max, None};
 ghost use Rattle.std.specs.Prelude.{[], IfOk, OnOk, IfErr, OnErr};
-ghost use Rattle.simd_json_check.specs.Capacities.{capacity, capped, capacities_of};
+ghost use Rattle.simd_json_check.specs.Capacities.{capacity, capped, capacities_of, no_capacities};
 ghost use Rattle.simd_json_check.specs.Capacities.{KeepsCapacities, IsOutOfMemory, IsRefused};
 ghost use Rattle.simd_json_parts.specs.InputFaults.{input_fault};
 ghost use Rattle.simd_json_parts.specs.Positions.{positions};
@@ -9,11 +9,13 @@ ghost use Rattle.simd_json_stages.specs.EscapeBlocks.{backslash_blocks, blocks_i
 
 use simd_json_parts::error::Result;
 use simd_json_stages::stage1::{BLOCK_LEN, BlockStage1Parse, Stage1Parse};
+use simd_json_stages::stage2::StackState;
 use std::alloc::{Allocator, Global};
 use std::marker::Model;
 
 /// The memory for the structural indexes of one input after another: four bytes for each, and as
-/// many for each block of 64 bytes that holds a backslash.
+/// many for each block of 64 bytes that holds a backslash. A [`check`](Index::check) of an input
+/// that is rejected or deeply nested takes more, which is kept too.
 ///
 /// It grows by what an input needs, and never shrinks. What it held before does not change a
 /// result. See [`find`](Index::find).
@@ -27,22 +29,40 @@ pub struct Index<A: Allocator = Global> {
     pub(crate) escape_blocks: Vec<u32, A>,
     // how many of these are in use, from the front
     pub(crate) used_blocks: usize,
+    // the copy of an input that a check parses, and its stack, in use only during a check
+    pub(crate) copy: Vec<u8, A>,
+    pub(crate) stack: Vec<StackState, A>,
 }
 
 impl<A: Allocator> Model for Index<A> {
     ghost use Rattle.std.specs.Prelude.{◌≤◌, length};
+    ghost use Rattle.std.specs.Vec.{vec_capacity};
     ghost use Rattle.simd_json_check.specs.Capacities.{Capacities, capacities_of};
 
     ghost Value = { Capacities };
 
     ghost view = { λ i. capacities_of i.indexes.items i.used
-        i.escape_blocks.items i.used_blocks };
+        i.escape_blocks.items i.used_blocks (vec_capacity i.copy) (length i.stack.items) };
 
     ghost invariant = { λ i. (i.used ≤ length i.indexes.items)
         × (i.used_blocks ≤ length i.escape_blocks.items) };
 }
 
 impl<A: Allocator + Copy> Index<A> {
+    /// Returns an index without capacity, which allocates nothing.
+    pub fn empty(a: A) -> Index<A>
+        ensures { result ≡ no_capacities }
+    {
+        Index {
+            indexes: Vec::new(a),
+            used: 0,
+            escape_blocks: Vec::new(a),
+            used_blocks: 0,
+            copy: Vec::new(a),
+            stack: Vec::new(a),
+        }
+    }
+
     /// Returns an index with capacity for inputs of up to `input_len` bytes (more than
     /// 4,294,967,295 count as that number, the greatest size of an input). `input_len` is a hint,
     /// and may be 0: [`find`](Index::find) allocates what an input needs beyond it.
@@ -53,12 +73,7 @@ impl<A: Allocator + Copy> Index<A> {
             × (index.blocks ≡ blocks_in (capped input_len)) × (index.listed ≡ [])) }
         ensures fault { IfErr result (λ e. IsOutOfMemory e × (0 < input_len)) }
     {
-        let mut index = Index {
-            indexes: Vec::new(a),
-            used: 0,
-            escape_blocks: Vec::new(a),
-            used_blocks: 0,
-        };
+        let mut index = Index::empty(a);
         index.reserve(input_len)?;
         Ok(index)
     }
@@ -81,8 +96,8 @@ impl<A: Allocator> Index<A> {
             × (capacity self.old < capped input_len)) }
     {
         let len = input_len.min(u32::MAX as usize);
-        lengthen(&mut self.indexes, len)?;
-        lengthen(&mut self.escape_blocks, len.div_ceil(BLOCK_LEN))
+        lengthen(&mut self.indexes, len, 0)?;
+        lengthen(&mut self.escape_blocks, len.div_ceil(BLOCK_LEN), 0)
     }
 
     /// Finds the structural indexes of an input: the byte index of the opening quote of each string
@@ -133,14 +148,18 @@ impl<A: Allocator> Index<A> {
 
 // Makes the list at least `len` long: lists are kept filled, so that a store into them needs no
 // memory. What it held stays. If an allocation fails the list is unchanged.
-fn lengthen<A: Allocator>(list: &mut Vec<u32, A>, len: usize) -> Result<()>
+pub(crate) fn lengthen<T: Copy, A: Allocator>(
+    list: &mut Vec<T, A>,
+    len: usize,
+    filler: T,
+) -> Result<()>
     ensures longer { OnOk result (length list.new.items ≡ max (length list.old.items) len) }
     ensures kept { take (length list.old.items) list.new.items ≡ list.old.items }
     ensures no_shorter { length list.old.items ≤ length list.new.items }
     ensures fault { IfErr result (λ e. IsOutOfMemory e × (length list.old.items < len)) }
 {
     if list.len() < len {
-        list.resize(len, 0)?;
+        list.resize(len, filler)?;
     }
     Ok(())
 }

@@ -1,6 +1,7 @@
 //! Where an input is wrong and why, for people.
 ghost use Rattle.std.specs.Prelude.{◌≡◌, ◌≤◌, length, IfOk, OnErr};
-ghost use Rattle.simd_json_check.specs.Reasons.{found_in, location_of};
+ghost use Rattle.simd_json_check.specs.Capacities.{KeepsCapacities};
+ghost use Rattle.simd_json_check.specs.Reasons.{found_in, location_of, shown_byte};
 ghost use Rattle.simd_json_parts.specs.Limits.{max_length};
 
 mod context;
@@ -13,6 +14,7 @@ use crate::index::Index;
 use context::reason_for;
 use place::{byte_of, column, line};
 pub use reason::Reason;
+use scan::next_position;
 use simd_json_parts::error::{Error, ErrorType};
 use std::alloc::{AllocError, Allocator};
 
@@ -32,8 +34,9 @@ impl Location {
     /// the bytes as they were before the parse, which may have decoded strings in place. Allocates
     /// nothing.
     ///
-    /// An error with a character is at its index. For one of the whole input the place is found by
-    /// a scan:
+    /// An error with a character is at its index, but for more text after the document: a parse
+    /// names the document's last token then, and the place is the first byte of that text. For an
+    /// error of the whole input the place is found by a scan:
     ///
     /// - `InvalidUtf8`: the first byte that begins no UTF-8 character (RFC 3629)
     /// - `Syntax`: the first control byte inside a string, or the opening quote of the string that
@@ -55,8 +58,8 @@ impl Location {
     pub fn new(input: &[u8], error: Error) -> Location
         ensures { result ≡ location_of input.now error }
     {
-        let byte = byte_of(input, &error);
         let reason = reason_for(input, &error);
+        let byte = shown_byte(input, &error, reason);
         Location {
             error,
             byte,
@@ -102,15 +105,40 @@ impl Location {
     }
 }
 
-/// Checks whether the bytes are one document, with at most `max_depth` containers open at a time,
-/// and finds the place of the error if not. Returns `None` if they are, otherwise the location of
-/// the error that [`Index::check`] returns if memory suffices.
+// The byte that is shown of an error with this reason.
+fn shown_byte(input: &[u8], error: &Error, reason: Reason) -> usize
+    ensures { result ≡ shown_byte input.now error.now reason }
+{
+    match reason {
+        Reason::MoreText => next_position(input, error.index()),
+        _ => byte_of(input, error),
+    }
+}
+
+impl<A: Allocator + Copy> Index<A> {
+    /// Checks whether the bytes are one document, as [`check`](Index::check) does, and finds the
+    /// place of the error if not. Returns `None` if they are, otherwise the location of the error.
+    ///
+    /// Returns `AllocError` if an allocation fails. So `OutOfMemory` is never the error of a
+    /// location.
+    #[tactic(auto, using(crate::proofs::Whole::size_right))]
+    pub fn locate(&mut self, input: &[u8], max_depth: usize) -> Result<Option<Location>, AllocError>
+        ensures found { IfOk result (λ found. found ≡ found_in input.now max_depth) }
+        ensures size { OnErr result (length input.now ≤ max_length) }
+        ensures kept { KeepsCapacities self.old self.new }
+    {
+        match self.check(input, max_depth).err() {
+            None => Ok(None),
+            Some(e) if *e.error() == ErrorType::OutOfMemory => Err(AllocError),
+            Some(e) => Ok(Some(Location::new(input, e))),
+        }
+    }
+}
+
+/// Checks one input, and finds the place of its error, as [`Index::locate`] does over a new index.
 ///
-/// `input` holds the bytes as they were before a parse. They are checked in the time and the memory
-/// that a new [`Index`] takes. A caller who has parsed the bytes already has the error, and needs
-/// only [`Location::new`].
-///
-/// Returns `AllocError` if an allocation fails. So `OutOfMemory` is never the error of a location.
+/// `input` holds the bytes as they were before a parse. A caller who has parsed the bytes already
+/// has the error, and needs only [`Location::new`].
 ///
 /// ```
 /// use simd_json_check::locate;
@@ -121,7 +149,6 @@ impl Location {
 ///     Ok(location.map(|location| location.line()))
 /// }
 /// ```
-#[tactic(auto, using(crate::proofs::Whole::size_right))]
 pub fn locate<A: Allocator + Copy>(
     alloc: A,
     input: &[u8],
@@ -130,12 +157,5 @@ pub fn locate<A: Allocator + Copy>(
     ensures found { IfOk result (λ found. found ≡ found_in input.now max_depth) }
     ensures size { OnErr result (length input.now ≤ max_length) }
 {
-    let Ok(mut index) = Index::new(alloc, 0) else {
-        return Err(AllocError);
-    };
-    match index.check(input, max_depth).err() {
-        None => Ok(None),
-        Some(e) if *e.error() == ErrorType::OutOfMemory => Err(AllocError),
-        Some(e) => Ok(Some(Location::new(input, e))),
-    }
+    Index::empty(alloc).locate(input, max_depth)
 }

@@ -7,8 +7,8 @@ use Rattle.std.proofs.lemmas.List.{get_or_default, get_or_past}
 use Rattle.std.proofs.lemmas.List.FromFn.{get_or-range_with_len, length-range_with_len}
 use Rattle.std.proofs.lemmas.List.Sums.{position_or_len_is, fails_before_first, passes_at_first, prefix_len-le-length}
 use Rattle.simd_json_check.specs.Locations.{bad_string, first_index, is_control_inside, is_left_open}
-use Rattle.simd_json_parts.specs.Bytes.{byte_at, indices, is_control}
-use Rattle.simd_json_parts.specs.Positions.{is_even, backslashes_before, is_real_quote, real_quotes, is_inside}
+use Rattle.simd_json_parts.specs.Bytes.{byte_at, indices, is_control, is_structural, is_whitespace}
+use Rattle.simd_json_parts.specs.Positions.{is_even, backslashes_before, is_real_quote, real_quotes, is_inside, is_fresh, is_position}
 use Rattle.simd_json_parts.proofs.Lists.Parity.{is_even-suc}
 
 not-not : (t : Bool) → not (not t) ≡ t
@@ -87,6 +87,35 @@ module _ (b : List ℕ) (i : ℕ) (escaped inside : Bool) (l : i < length b) (s 
 
   pub control-other : 32 ≤ get_or b i 0 → is_control_inside b i ≡ false
   control-other h = and_right (is_inside b i) (is_control (byte_at b i)) (ap is_control (sym (read b i l)) ∙ le-ltb (get_or b i 0) 32 h)
+
+-- ---- tokens
+
+-- a token begins with the byte c, and one ends with it: by whether it is a real quote, whether it is inside, and whether the byte before ends one
+abbrev pub begins : ℕ → Bool → Bool → Bool → Bool
+begins c quoted inside fresh =
+    (quoted && inside) || ((not inside && not quoted) && (is_structural c || (not (is_whitespace c) && fresh)))
+
+abbrev pub ends : ℕ → Bool → Bool → Bool
+ends c quoted inside = is_whitespace c || (is_structural c && not inside) || quoted
+
+module _ (b : List ℕ) (i : ℕ) (escaped inside : Bool) (l : i < length b) (s : IsScan b i escaped inside)
+    (quoted : Bool) (is : quoted ≡ ((get_or b i 0 == 34) && not escaped))
+    (escaped' inside' : Bool) (after : IsScan b (i + 1) escaped' inside') where
+  pub begins-at : (fresh : Bool) → fresh ≡ is_fresh b i → begins (get_or b i 0) quoted inside' fresh ≡ is_position b i
+  unfolding is_position
+  begins-at fresh f =
+      ap (λ c. begins c quoted inside' fresh) (read b i l)
+      ∙ ap (λ t. begins (byte_at b i) t inside' fresh) (is ∙ read-quote b i escaped inside l s)
+      ∙ ap (λ t. begins (byte_at b i) (is_real_quote b i) t fresh) (after-inside b i escaped' inside' after)
+      ∙ ap (begins (byte_at b i) (is_real_quote b i) (is_inside b i)) f
+
+  pub ends-at : ends (get_or b i 0) quoted inside' ≡ is_fresh b (i + 1)
+  ends-at =
+      let next : suc i ≡ i + 1 = omega arith in
+      ap (λ c. ends c quoted inside') (read b i l)
+      ∙ ap (λ t. ends (byte_at b i) t inside') (is ∙ read-quote b i escaped inside l s)
+      ∙ ap (ends (byte_at b i) (is_real_quote b i)) (after-inside b i escaped' inside' after)
+      ∙ ap (is_fresh b) next
 
 -- ---- first indexes
 

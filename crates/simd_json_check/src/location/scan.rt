@@ -1,7 +1,10 @@
-//! A scan of the strings of an input, byte by byte, for what is wrong with one of them.
-ghost use Rattle.std.specs.Prelude.{◌≡◌, ◌&&◌, ◌==◌, not, if◌then◌else◌};
+//! A scan of an input, byte by byte, that knows what is inside strings.
+ghost use Rattle.std.specs.Prelude.{◌≡◌, ◌&&◌, ◌||◌, ◌==◌, not, if◌then◌else◌};
 ghost use Rattle.simd_json_check.specs.Locations.{bad_string, first_index, is_control_inside};
-ghost use Rattle.simd_json_check.specs.Locations.{is_left_open};
+ghost use Rattle.simd_json_check.specs.Locations.{is_left_open, next_position};
+ghost use Rattle.simd_json_parts.specs.Bytes.{is_structural, is_whitespace};
+
+use simd_json_parts::charutils::{is_structural_or_whitespace, is_whitespace};
 
 // What is known of the strings before an index.
 #[derive(Clone, Copy)]
@@ -74,4 +77,40 @@ fn open_quote(input: &[u8]) -> usize
         }
     }
     open
+}
+
+// The structural index after index i, or the length.
+pub(super) fn next_position(input: &[u8], i: usize) -> usize
+    ensures { result ≡ next_position input.now i }
+{
+    let mut strings = Strings::NONE;
+    let mut is_fresh = true;
+    for (k, byte) in input.iter().enumerate() {
+        let is_quote = strings.is_quote(*byte);
+        strings = strings.after(*byte);
+        if i < k && begins_token(*byte, is_quote, strings.is_inside, is_fresh) {
+            return k;
+        }
+        is_fresh = ends_token(*byte, is_quote, strings.is_inside);
+    }
+    input.len()
+}
+
+// Whether a token begins with this byte, which may open or close a string, where a string is or is
+// not open after it, and where the byte before it ends a token.
+fn begins_token(byte: u8, is_quote: bool, is_inside: bool, is_fresh: bool) -> bool
+    ensures { result ≡ ((is_quote && is_inside) || ((not is_inside && not is_quote)
+        && (is_structural byte || (not (is_whitespace byte) && is_fresh)))) }
+{
+    if is_inside || is_quote {
+        return is_inside && is_quote;
+    }
+    !is_whitespace(byte) && (is_fresh || is_structural_or_whitespace(byte))
+}
+
+// Whether a token ends before the byte after this one.
+fn ends_token(byte: u8, is_quote: bool, is_inside: bool) -> bool
+    ensures { result ≡ (is_whitespace byte || (is_structural byte && not is_inside) || is_quote) }
+{
+    is_quote || is_whitespace(byte) || (!is_inside && is_structural_or_whitespace(byte))
 }
