@@ -7,7 +7,7 @@ use Rattle.std.specs.List.{after_last, before_first, repeat}
 use Rattle.std.proofs.lemmas.List.{drop_min, take_min}
 use Rattle.jcheck.specs.Excerpts.{caret, characters, end_text, excerpt, front_text, indent}
 use Rattle.jcheck.specs.Excerpts.{line_from}
-use Rattle.jcheck.specs.Reports.{words}
+use Rattle.jcheck.specs.Reports.{words_of}
 use Rattle.jcheck.specs.declared.excerpt.Style.{Style}
 use Rattle.simd_json_check.specs.Locations.{is_line_feed, line_before}
 use Rattle.simd_json_check.specs.Messages.{reason_text}
@@ -22,17 +22,16 @@ formatted file line column reason kind byte =
     file ++ (codes ":" ++ (decimal line ++ (codes ":" ++ (decimal column ++ (codes ": " ++ (reason_text reason
     ++ (codes " [" ++ (kind_text kind ++ (codes " at byte " ++ (decimal byte ++ (codes "]" ++ (line_feed ∷ []))))))))))))
 
-words-laid-out : (file : List ℕ) (line byte : ℕ) (l : Location)
-    → formatted file line l.column l.reason l.error.error byte ≡ words file line byte l ++ line_feed ∷ []
-words-laid-out file line byte l = simp append_assoc
+words-laid-out : (file : List ℕ) (line byte : ℕ) (l : Location) (kind : ErrorType)
+    → formatted file line l.column l.reason kind byte ≡ words_of file line byte l kind ++ line_feed ∷ []
+words-laid-out file line byte l kind = simp append_assoc
 
 pub words-is : (file : List ℕ) (line byte : ℕ) (l : Location) (column : ℕ) (reason : Reason) (kind : ErrorType) → column ≡ l.column
-    → reason ≡ l.reason → kind ≡ l.error.error → formatted file line column reason kind byte ≡ words file line byte l ++ line_feed ∷ []
-words-is file line byte l column reason kind column_is reason_is kind_is =
+    → reason ≡ l.reason → formatted file line column reason kind byte ≡ words_of file line byte l kind ++ line_feed ∷ []
+words-is file line byte l column reason kind column_is reason_is =
     ap (λ n. formatted file line n reason kind byte) column_is
     ∙ ap (λ r. formatted file line l.column r kind byte) reason_is
-    ∙ ap (λ k. formatted file line l.column l.reason k byte) kind_is
-    ∙ words-laid-out file line byte l
+    ∙ words-laid-out file line byte l kind
 
 pub excerpt-is : (style : Style) (b : List ℕ) (i place count shift room : ℕ) (before after line rest : List ℕ) → place ≡ min i (length b)
     → before ≡ take place b → after ≡ drop place b → line ≡ after_last is_line_feed before → rest ≡ before_first is_line_feed after

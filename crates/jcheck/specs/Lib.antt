@@ -1,6 +1,5 @@
 pub mod Endings
 pub mod Excerpts
-pub mod Places
 pub mod Reports
 pub mod Streams
 pub mod Writings

@@ -3,19 +3,31 @@ use Rattle.std.specs.Prelude.{ℕ, ◌+◌, ◌-◌, ◌^◌, min, List, [], ◌
 use Rattle.std.specs.Prelude.{if◌then◌else◌}
 use Rattle.std.specs.Fmt.{decimal}
 use Rattle.jcheck.specs.Excerpts.{excerpt}
-use Rattle.jcheck.specs.Places.{error_in}
+use Rattle.simd_json_check.specs.Reasons.{found_in}
 use Rattle.jcheck.specs.declared.excerpt.Style.{Style}
 use Rattle.simd_json_parts.specs.Pieces.{is_blank}
 use Rattle.simd_json_check.specs.Messages.{reason_text}
 use Rattle.simd_json_check.specs.declared.location.Location.{Location}
+use Rattle.simd_json_check.specs.declared.location.reason.Reason.{Reason}
+use Rattle.simd_json_check.specs.declared.location.reason.Reason.TheVariants.{MoreText}
 use Rattle.simd_json_parts.specs.Bytes.{line_feed}
 use Rattle.simd_json_parts.specs.ErrorKinds.{kind_text}
+use Rattle.simd_json_parts.specs.declared.error.ErrorType.{ErrorType}
+use Rattle.simd_json_parts.specs.declared.error.ErrorType.TheVariants.{TrailingData}
+
+-- a parse has two kinds for more text after the document, by what its root is; one is shown
+abbrev pub shown_kind : Reason → ErrorType → ErrorType
+shown_kind MoreText kind = TrailingData
+shown_kind _ kind = kind
 
 -- FILE:LINE:COLUMN: REASON [KIND at byte BYTE]
-abbrev pub words : List ℕ → ℕ → ℕ → Location → List ℕ
-words file line byte l =
+abbrev pub words_of : List ℕ → ℕ → ℕ → Location → ErrorType → List ℕ
+words_of file line byte l kind =
     file ++ codes ":" ++ decimal line ++ codes ":" ++ decimal l.column ++ codes ": " ++ reason_text l.reason
-    ++ codes " [" ++ kind_text l.error.error ++ codes " at byte " ++ decimal byte ++ codes "]"
+    ++ codes " [" ++ kind_text kind ++ codes " at byte " ++ decimal byte ++ codes "]"
+
+abbrev pub words : List ℕ → ℕ → ℕ → Location → List ℕ
+words file line byte l = words_of file line byte l (shown_kind l.reason l.error.error)
 
 -- of an error at this line and byte of its file: the words, and the text around it in the bytes that were checked
 abbrev pub report : List ℕ → Style → ℕ → ℕ → List ℕ → Location → List ℕ
@@ -40,7 +52,7 @@ found_text file style number start line (Some l) = report file style number (pla
 -- of the line with this number, which begins at byte `start`
 abbrev pub line_text : List ℕ → Style → ℕ → ℕ → ℕ → List ℕ → List ℕ
 line_text file style limit number start line =
-    if is_blank line then [] else found_text file style number start line (error_in line limit)
+    if is_blank line then [] else found_text file style number start line (found_in line limit)
 
 -- of that line and those after it
 abbrev pub lines_text : List ℕ → Style → ℕ → ℕ → ℕ → List (List ℕ) → List ℕ
@@ -51,4 +63,4 @@ lines_text file style limit number start (line ∷ more) =
 
 -- it is blank or a document
 abbrev pub is_clean_line : ℕ → List ℕ → Bool
-is_clean_line limit line = is_blank line || is_none (error_in line limit)
+is_clean_line limit line = is_blank line || is_none (found_in line limit)

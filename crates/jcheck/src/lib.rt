@@ -11,7 +11,7 @@
 //! use std::io;
 //!
 //! fn report(rt: &impl AllocGlobal, json: &[u8]) -> io::Result<Vec<u8>> {
-//!     let mut checker = Checker::new(rt.alloc(), 1024)?;
+//!     let mut checker = Checker::new(rt.alloc(), 1024);
 //!     let mut out = Channel::new(Vec::new(rt.alloc()));
 //!     let style = Style { width: 80, is_colored: false };
 //!     check_document(&mut checker, &mut out, "f", json, style)?;

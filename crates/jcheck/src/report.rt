@@ -3,8 +3,8 @@ ghost use Rattle.std.specs.Prelude.{◌≡◌, ◌∷◌, ◌++◌, [], false, i
 ghost use Rattle.std.specs.Prelude.{IfOk, IfErr, OnOk, OnErr};
 ghost use Rattle.std.specs.Io.KnownBytes.{Appends};
 ghost use Rattle.jcheck.specs.Endings.{HasChecked, ended_of, is_closed, ended_status, worse};
-ghost use Rattle.jcheck.specs.Places.{error_in};
-ghost use Rattle.jcheck.specs.Reports.{report, whole_text, words};
+ghost use Rattle.simd_json_check.specs.Reasons.{found_in};
+ghost use Rattle.jcheck.specs.Reports.{report, whole_text, words, words_of};
 ghost use Rattle.jcheck.specs.Writings.{HasPart, HasStopped};
 ghost use Rattle.simd_json_parts.specs.Bytes.{line_feed};
 ghost use Rattle.simd_json_print.specs.Texts.{Adds};
@@ -12,7 +12,7 @@ ghost use Rattle.simd_json_print.specs.Texts.{Adds};
 use crate::checker::Checker;
 use crate::excerpt::{Style, put_excerpt};
 use jsonl::Channel;
-use simd_json_check::Location;
+use simd_json_check::{ErrorType, Location, Reason};
 use simd_json_print::text::{Target, Text};
 use std::alloc::{AllocError, Global};
 use std::io::{self, ErrorKind, Write};
@@ -113,13 +113,13 @@ pub fn check_document<W: Write>(
 ) -> io::Result<bool>
     requires { out.old.failed ≡ false }
     ensures clean { IfOk result (λ clean. clean
-        ≡ is_none (error_in input.now checker.old.depth)) }
+        ≡ is_none (found_in input.now checker.old.depth)) }
     ensures written { OnOk result ((out.new.failed ≡ false)
         × Appends (W.contents out.old.inner) (W.contents out.new.inner)
-        (whole_text file.now style input.now (error_in input.now checker.old.depth))) }
+        (whole_text file.now style input.now (found_in input.now checker.old.depth))) }
     ensures stopped { IfErr result (λ e. HasStopped e out.new.failed
         (W.contents out.old.inner) (W.contents out.new.inner)
-        (whole_text file.now style input.now (error_in input.now checker.old.depth))) }
+        (whole_text file.now style input.now (found_in input.now checker.old.depth))) }
     ensures depth { checker.new.depth ≡ checker.old.depth }
 {
     let mut text = Text::<Channel<W>, PIECE>::new(out);
@@ -138,11 +138,11 @@ fn put_whole<T: Target, const SIZE: usize>(
     style: Style,
 ) -> Result<bool, AllocError>
     ensures clean { IfOk result (λ clean. clean
-        ≡ is_none (error_in input.now checker.old.depth)) }
+        ≡ is_none (found_in input.now checker.old.depth)) }
     ensures put { OnOk result (Adds T.state text.old text.new
-        (whole_text file.now style input.now (error_in input.now checker.old.depth))) }
+        (whole_text file.now style input.now (found_in input.now checker.old.depth))) }
     ensures stopped { OnErr result (HasPart T.state text.old text.new
-        (whole_text file.now style input.now (error_in input.now checker.old.depth))) }
+        (whole_text file.now style input.now (found_in input.now checker.old.depth))) }
     ensures depth { checker.new.depth ≡ checker.old.depth }
 {
     let Some(location) = checker.check(input)? else {
@@ -196,10 +196,26 @@ impl FilePlace<'_> {
             ≡ words self.entry.file.now self.entry.line self.entry.byte location.now
             ++ line_feed ∷ []) }
     {
+        match location.reason() {
+            Reason::MoreText => self.words_of(alloc, location, &ErrorType::TrailingData),
+            _ => self.words_of(alloc, location, location.error().error()),
+        }
+    }
+
+    // The same with the kind that is shown.
+    fn words_of(
+        self,
+        alloc: Global,
+        location: &Location,
+        kind: &ErrorType,
+    ) -> Result<String, AllocError>
+        ensures { IfOk result (λ text. string_bytes text
+            ≡ words_of self.entry.file.now self.entry.line self.entry.byte location.now kind.now
+            ++ line_feed ∷ []) }
+    {
         let FilePlace { file, line, byte } = self;
         let column = location.column();
         let reason = location.reason();
-        let kind = location.error().error();
         format!(in alloc; "{file}:{line}:{column}: {reason} [{kind} at byte {byte}]\n")
     }
 }

@@ -58,13 +58,7 @@ fn has_colors(rt: &HostRuntime) -> bool {
 }
 
 fn check_files(rt: &HostRuntime, options: &Options<'_>) -> Ended {
-    let mut checker = match Checker::new(rt.alloc(), options.depth()) {
-        Ok(checker) => checker,
-        Err(e) => {
-            let _ = eprintln!(rt; "jcheck: {e}");
-            return Ended::Failed;
-        }
-    };
+    let mut checker = Checker::new(rt.alloc(), options.depth());
     let has_lines = options.has_lines();
     let style = Style {
         width: terminal_width(rt),

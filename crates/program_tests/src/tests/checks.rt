@@ -52,7 +52,7 @@ fn check<W: Write>(
     form: Form,
     style: Style,
 ) -> io::Result<bool> {
-    let mut checker = Checker::new(rt.alloc(), 4)?;
+    let mut checker = Checker::new(rt.alloc(), 4);
     match form {
         Form::Document => check_document(&mut checker, out, "f", input, style),
         Form::Lines(size) => {

@@ -66,7 +66,7 @@ fn a_failed_read_ends_the_check(rt: HostRuntime) -> Tested {
         (7, &[first, third]),
     ] {
         for size in 1..8 {
-            let mut checker = Checker::new(rt.alloc(), 4)?;
+            let mut checker = Checker::new(rt.alloc(), 4);
             let mut reader = Channel::new(Blocks {
                 rest: &input[..len],
                 size,

@@ -1,7 +1,7 @@
-use Rattle.std.proofs.Common.{◌∙◌, ap}
+use Rattle.std.proofs.Common.{◌∙◌}
 use Rattle.std.proofs.lemmas.Result.{IfOk-weaker}
 use Rattle.jcheck.proofs.Texts.{words-is}
-use Rattle.jcheck.proofs.report.FilePlace.words.Goals as goal
+use Rattle.jcheck.proofs.report.FilePlace.words_of.Goals as goal
 
 pub returns : goal.returns
 returns c =
@@ -10,9 +10,7 @@ returns c =
     let byte = c.args.self.byte in
     let column = c.column-column.result in
     let reason = c.reason-reason.result in
-    let kind = c.error-kind.result.now in
-    let kind_is = c.error-kind.ensures ∙ ap (λ e. e.error) c.error.ensures in
     IfOk-weaker c.format.result _ _
     (λ t is. is
-    ∙ words-is file line byte c.args.location.now column reason kind c.column-column.ensures c.reason-reason.ensures kind_is)
+    ∙ words-is file line byte c.args.location.now column reason c.args.kind.now c.column-column.ensures c.reason-reason.ensures)
     c.format.ensures.ok
