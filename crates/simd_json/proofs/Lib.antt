@@ -1,3 +1,3 @@
-mod Parses
+pub mod Parses
 pub mod Views
 pub mod Walks

@@ -125,6 +125,13 @@ impl<A: Allocator> Buffers<A> {
         &self.structural_indexes[..self.used]
     }
 
+    /// Returns how many containers may be open at a time.
+    pub fn max_depth(&self) -> usize
+        ensures { result ≡ self.now.limit }
+    {
+        self.max_depth
+    }
+
     /// Reserves capacity for inputs of up to `input_len` bytes (more than 4,294,967,295 count as
     /// that number): for their structural indexes, and for as many open containers as they can have
     /// within the depth limit.

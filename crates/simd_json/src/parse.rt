@@ -243,7 +243,7 @@ pub fn refill_tape<'de, A: Allocator, B: Allocator>(
 /// It takes four bytes for each structural index, and for an input that it rejects, or whose
 /// containers are nested more than 64 deep, one for each byte of the input. All of it is freed
 /// before it returns. For many inputs keep a [`simd_json_check::Index`] and call its `check`,
-/// which returns the same and keeps the memory of the structural indexes.
+/// which returns the same and keeps the memory.
 ///
 /// ```
 /// use simd_json::{DEFAULT_MAX_DEPTH, check};
@@ -261,9 +261,7 @@ pub fn check<A: Allocator + Copy>(a: A, input: &[u8], max_depth: usize) -> Resul
     ensures refused { IfErr result (λ e. IsRefused input.now max_depth e
         ⊎ LacksMemory input.now e) }
 {
-    let mut index = Index::new(a, 0)?;
-    index.check(input, max_depth)?;
-    Ok(())
+    Index::empty(a).check(input, max_depth)
 }
 
 /// Reserves capacity in buffers and tape for inputs of up to `input_len` bytes (more than

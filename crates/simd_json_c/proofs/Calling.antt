@@ -7,7 +7,8 @@ use Rattle.simd_json_parts.specs.Document.{Document}
 use Rattle.simd_json_parts.specs.Listing.{listing}
 use Rattle.simd_json_parts.specs.Nodes.{Item}
 use Rattle.simd_json_parts.specs.declared.error.Error.{Error}
-use Rattle.simd_json_c.specs.Calls.{ArePut}
+use Rattle.simd_json_check.specs.Capacities.{check_capacity}
+use Rattle.simd_json_c.specs.Calls.{ArePut, IsCheckOf}
 use Rattle.simd_json_c.specs.Chosen.{IsChosenPut, IsPrintedWith, IsTapedWith}
 use Rattle.simd_json_c.specs.Kept.{IsCheckedWith, IsReadWith, IsTapeWith, KeepsLists}
 use Rattle.simd_json_c.specs.Lent.{AreLent, IsParsedWith}
@@ -31,11 +32,12 @@ AreKeptOpen old new was lists = (old ≡ Some was) × (new ≡ Some lists) × Ke
 
 pub checked-with : (old new : Option Lists) (was lists : Lists) (b : List ℕ) (r : Result ℤ Error) (status : ℤ) (place : ErrorPlace)
     → AreKeptOpen old new was lists → IsReported r status place
-    → ((ns : List Item) × IsReadWith was b (result_err r) ns) → IfOk r (λ s. s ≡ pos 0) → IsCheckedWith old new b status place
-checked-with old new was lists b (Ok s) status place kept told read zero =
-    rw kept.0 (lists, kept.1, kept.2, (None, read.0, read.1, told.1 ∙ zero, told.0))
-checked-with old new was lists b (Err e) status place kept told read zero =
-    rw kept.0 (lists, kept.1, kept.2, (Some e, read.0, read.1, told.1, told.0))
+    → IsCheckOf b was.buffers.limit (check_capacity was.buffers.limit was.checks) (result_err r) → IfOk r (λ s. s ≡ pos 0)
+    → IsCheckedWith old new b status place
+checked-with old new was lists b (Ok s) status place kept told is zero =
+    rw kept.0 (lists, kept.1, kept.2, (None, is, told.1 ∙ zero, told.0))
+checked-with old new was lists b (Err e) status place kept told is zero =
+    rw kept.0 (lists, kept.1, kept.2, (Some e, is, told.1, told.0))
 
 pub tape-with : (old new : Option Lists) (was lists : Lists) (b : List ℕ) (r : Result ℤ Error) (status : ℤ) (place : ErrorPlace)
     (old_room room : Room) (old_nodes nodes : List Node) (old_text text : List ℕ) → AreKeptOpen old new was lists

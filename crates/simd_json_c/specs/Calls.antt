@@ -1,5 +1,5 @@
 -- What each call tells, and what it leaves in the memory that it was lent.
-use Rattle.std.specs.Prelude.{◌≡◌, ◌≤◌, ◌<◌, ◌⊎◌, ◌++◌, ℕ, ℤ, pos, List, length, drop, Option, MatchOption}
+use Rattle.std.specs.Prelude.{◌≡◌, ◌≤◌, ◌<◌, ◌⊎◌, ◌++◌, ℕ, ℤ, pos, List, length, drop, Option, Some, None, MatchOption}
 use Rattle.simd_json_parts.specs.Document.{Document}
 use Rattle.simd_json_parts.specs.Listing.{listing}
 use Rattle.simd_json_parts.specs.Nodes.{Item}
@@ -17,13 +17,15 @@ use Rattle.simd_json_c.specs.declared.status.ErrorPlace.{ErrorPlace}
 abbrev pub IsFreshRead : List ℕ → ℕ → Option Error → List Item → Type 0
 IsFreshRead b limit fault ns = IsParseResult b limit 0 fault ns
 
--- what a call returns of such a read
-abbrev pub IsTold : (Option Error → List Item → Type 0) → ℤ → ErrorPlace → Type 0
-IsTold Is status place =
-    (fault : Option Error) × (ns : List Item) × Is fault ns × (status ≡ error_status fault) × (place ≡ error_place fault)
+-- a check of b, where there was capacity for `capacity` bytes: a document within the limits, or the error that a parse has
+abbrev pub IsCheckOf : List ℕ → ℕ → ℕ → Option Error → Type 0
+IsCheckOf b limit capacity None = (ns : List Item) × IsParsed b limit ns
+IsCheckOf b limit capacity (Some e) = IsRefused b limit e ⊎ (LacksMemory b e × (capacity < length b))
 
-abbrev pub IsChecked : List ℕ → ℕ → ℤ → ErrorPlace → Type 0
-IsChecked b limit status place = IsTold (IsFreshRead b limit) status place
+-- what a call returns of it
+abbrev pub IsChecked : List ℕ → ℕ → ℕ → ℤ → ErrorPlace → Type 0
+IsChecked b limit capacity status place =
+    (fault : Option Error) × IsCheckOf b limit capacity fault × (status ≡ error_status fault) × (place ≡ error_place fault)
 
 -- these are at the front, and what was behind them is there still
 abbrev pub IsAtFront : {A : Type 0} → List A → List A → List A → Type 0

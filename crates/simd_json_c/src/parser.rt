@@ -84,10 +84,10 @@ pub extern "C" fn simd_json_open(alloc: Global, parser: &mut Parser, max_depth: 
 pub extern "C" fn simd_json_parser_check(
     alloc: Global,
     parser: &mut Parser,
-    input: &mut [u8],
+    input: &[u8],
     place: &mut ErrorPlace,
 ) -> i32
-    ensures { IsCheckedWith parser.old.held.value parser.new.held.value input.old result place.new }
+    ensures { IsCheckedWith parser.old.held.value parser.new.held.value input.now result place.new }
 {
     match replace(parser, Parser::closed(alloc)).into_lists() {
         Some(mut lists) => {

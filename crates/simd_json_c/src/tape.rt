@@ -1,7 +1,9 @@
 //! Checks and tapes of documents, with lists that parses use one after another.
 ghost use Rattle.std.specs.Prelude.{◌≡◌, ◌≤◌, List, length, IfOk, IfErr, Some, None, pos, [], min};
 ghost use Rattle.std.specs.Prelude.{MatchResult};
-ghost use Rattle.simd_json_c.specs.Calls.{ArePut, IsFreshRead, IsFreshTape, IsChecked};
+ghost use Rattle.simd_json_c.specs.Calls.{ArePut, IsCheckOf, IsChecked, IsFreshRead, IsFreshTape};
+ghost use Rattle.simd_json_check.specs.Capacities as checks;
+ghost use Rattle.simd_json_check.specs.Capacities.{check_capacity};
 ghost use Rattle.simd_json_c.specs.Nodes.{room_for, texts};
 ghost use Rattle.simd_json_parts.specs.Nodes.{Item};
 ghost use Rattle.std.specs.Result.{result_err};
@@ -18,10 +20,11 @@ ghost use Rattle.simd_json_c.specs.Loans.{AreLaid, AreTextsLaid};
 use crate::lent::{Lent, keep};
 use crate::nodes::{Node, Room};
 use crate::print::print_at;
-use crate::sink::{CallerSink, Counted, Noted};
+use crate::sink::{CallerSink, Noted};
 use crate::source::Source;
 use crate::status::{ErrorPlace, OUT_OF_MEMORY, TOO_LITTLE_ROOM, reported};
 use simd_json::{Buffers, Original, Result, Tape, fill_sink, refill_tape};
+use simd_json_check::Index;
 use std::alloc::Global;
 use std::marker::Brand;
 use std::mem::replace;
@@ -63,24 +66,31 @@ pub extern "C" fn simd_json_tape(
     reported(tape(alloc, input, max_depth, nodes, text, room), place)
 }
 
-fn check(alloc: Global, input: &mut [u8], max_depth: usize) -> Result<i32>
-    ensures read { (ns : List Item) × IsFreshRead input.old max_depth (result_err result) ns }
-    ensures zero { IfOk result (λ status. status ≡ pos 0) }
-{
-    Lists::new(alloc, max_depth)?.check(input)
-}
-
 /// Whether the input is a document with at most `max_depth` containers open at a time.
 #[unsafe(no_mangle)]
 pub extern "C" fn simd_json_check(
     alloc: Global,
-    input: &mut [u8],
+    input: &[u8],
     max_depth: usize,
     place: &mut ErrorPlace,
 ) -> i32
-    ensures { IsChecked input.old max_depth result place.new }
+    ensures { IsChecked input.now max_depth 0 result place.new }
 {
-    reported(check(alloc, input, max_depth), place)
+    let mut index = Index::empty(alloc);
+    reported(check(&mut index, input, max_depth), place)
+}
+
+// Returns 0 if the input is a document, or its error.
+fn check(index: &mut Index, input: &[u8], max_depth: usize) -> Result<i32>
+    ensures checked { IsCheckOf input.now max_depth (check_capacity max_depth index.old)
+        (result_err result) }
+    ensures zero { IfOk result (λ status. status ≡ pos 0) }
+    ensures kept { checks.KeepsCapacities index.old index.new }
+{
+    match index.check(input, max_depth) {
+        Ok(()) => Ok(0),
+        Err(e) => Err(e),
+    }
 }
 
 /// Buffers whose memory the next parse uses.
@@ -96,6 +106,8 @@ pub struct Lists {
     pub(crate) text: Vec<u8>,
     // the input in which values are found
     pub(crate) source: Source,
+    // what a check uses
+    pub(crate) checks: Index,
 }
 
 impl Lists {
@@ -111,18 +123,18 @@ impl Lists {
             nodes: Vec::new(alloc),
             text: Vec::new(alloc),
             source: Source::new(alloc)?,
+            checks: Index::empty(alloc),
         })
     }
 
     // Returns 0 if the input is a document, or its error.
-    pub(crate) fn check(&mut self, input: &mut [u8]) -> Result<i32>
-        ensures read { (ns : List Item)
-            × IsReadWith self.old input.old (result_err result) ns }
+    pub(crate) fn check(&mut self, input: &[u8]) -> Result<i32>
+        ensures checked { IsCheckOf input.now self.old.buffers.limit
+            (check_capacity self.old.buffers.limit self.old.checks) (result_err result) }
         ensures zero { IfOk result (λ status. status ≡ pos 0) }
         ensures kept { KeepsLists self.old self.new }
     {
-        count::<Brand>(&mut self.buffers, input)?;
-        Ok(0)
+        check(&mut self.checks, input, self.buffers.max_depth())
     }
 
     // Writes the nodes of a document and their texts to the caller's memory, and to `room` how much
@@ -212,22 +224,6 @@ impl Lists {
             None => Ok(OUT_OF_MEMORY),
         }
     }
-}
-
-// Parses the input, and keeps none of its nodes.
-fn count<K: Original>(buffers: &mut Buffers, input: &mut [u8]) -> Result<()>
-    requires { input.old ≡ K.bytes }
-    ensures read { (ns : List Item) × IsParseResult K.bytes buffers.old.limit
-        (capacity buffers.old) (result_err result) ns }
-    ensures kept { (buffers.new.limit ≡ buffers.old.limit)
-        × KeepsCapacities buffers.old buffers.new }
-{
-    let mut sink = Counted {
-        count: 0,
-        is_container: false,
-        noted: Noted::of(&()),
-    };
-    fill_sink::<K, Counted, Global>(input, buffers, &mut sink)
 }
 
 // What `write` returns.

@@ -22,6 +22,7 @@ use Rattle.simd_json_parts.specs.Listing.{listing}
 use Rattle.simd_json_parts.specs.Nodes.{Item, item_of}
 use Rattle.simd_json_parts.specs.declared.node.Node.{Node}
 use Rattle.simd_json_stages.specs.Building.{IsListed, IsWritten}
+use Rattle.simd_json.specs.Memory.{LacksMemory}
 use Rattle.simd_json.specs.Parsed.{IsParsed, IsRefused}
 use Rattle.simd_json.specs.Tapes.{IsTape}
 use Rattle.simd_json_parts.specs.InputFaults.{input_fault}
@@ -109,6 +110,12 @@ refused b limit e is = by_whole (input_fault b) refl where
 pub refused-or : {A : Type 0} (b : List ℕ) (limit : ℕ) (e : Error) → (answer b limit ≡ Err e) ⊎ A → IsRefused b limit e ⊎ A
 refused-or b limit e (inl is) = inl (refused b limit e is)
 refused-or b limit e (inr other) = inr other
+
+-- the same of a check that may lack memory
+pub checked-refused : {A : Type 0} (b : List ℕ) (limit : ℕ) (e : Error) → (answer b limit ≡ Err e) ⊎ (LacksMemory b e × A)
+    → IsRefused b limit e ⊎ LacksMemory b e
+checked-refused b limit e (inl is) = inl (refused b limit e is)
+checked-refused b limit e (inr (lacks, other)) = inr lacks
 
 -- ---- what is listed
 

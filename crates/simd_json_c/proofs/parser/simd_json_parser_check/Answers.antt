@@ -12,4 +12,4 @@ returns-in-Some c =
     let told = c.reported.ensures in
     rw to_z-of_z
     (checked-with _ _ _ _ _ c.check-outcome.result _ _ (was, c.open.ensures, s.kept) (told.place, told.status)
-    s.read s.zero)
+    s.checked s.zero)
