@@ -1,6 +1,6 @@
 -- The texts of a document are together no longer than its bytes, and nor is its compact text.
 use Rattle.std.proofs.Common.{◌≡◌, ◌≤◌, ◌+◌, ◌/◌, ◌%◌, ◌==◌, ℕ, suc, List, [], ◌∷◌, ◌++◌, length, length-append, Bool, true, false}
-use Rattle.std.proofs.Common.{cond, min, ap, None, Result, Ok, Err, IfOk, String, string_bytes, flat_map, codes, arith, subst, sym, ◌∙◌}
+use Rattle.std.proofs.Common.{cond, flat_map, codes, arith, subst, sym}
 use Rattle.std.specs.Char.{digit_char}
 use Rattle.std.specs.Fmt.{signed_decimal}
 use Rattle.simd_json_parts.specs.Bytes.{backspace, tab, line_feed, form_feed, carriage_return, quote, comma, backslash}
@@ -10,14 +10,11 @@ use Rattle.simd_json_parts.specs.Document.{element, Members, no_members, member}
 use Rattle.simd_json_parts.specs.Listing.{listing, elements_listing, members_listing}
 use Rattle.simd_json_parts.specs.Integers.{integer_node, number_of}
 use Rattle.simd_json_parts.specs.Nodes.{Item, static_item}
-use Rattle.simd_json_parts.specs.Printed.{escaped_byte, quoted, text, elements_text, members_text, compact}
+use Rattle.simd_json_parts.specs.Printed.{escaped_byte, quoted, text, elements_text, members_text}
 use Rattle.simd_json_parts.proofs.Documents.Integers.{of-integer_node}
 use Rattle.simd_json_theorems.proofs.Printing.Shortest.{compact-shortest}
-use Rattle.simd_json.specs.Parsed.{IsParseResult, IsParsed}
-use Rattle.simd_json.proofs.Views.Listed.{known}
-use Rattle.simd_json_c.specs.Calls.{IsCompact}
-use Rattle.simd_json_c.specs.Nodes.{room_for, text_of, texts}
-use Rattle.simd_json_c.specs.declared.nodes.Room.{Room}
+use Rattle.simd_json.specs.Parsed.{IsParsed}
+use Rattle.simd_json_c.specs.Nodes.{text_of, texts}
 
 pub texts-append : (xs ys : List Item) → length (texts (xs ++ ys)) ≡ length (texts xs) + length (texts ys)
 texts-append [] ys = omega arith
@@ -112,32 +109,3 @@ texts-within b limit ns p =
     let own : length (texts (listing p.document)) ≤ length b =
     omega (arith, compact-shortest b p.document p.denoted p.within.integers, value-texts p.document 0) in
     subst (λ ms. length (texts ms) ≤ length b) (sym p.listed) own
-
--- of the nodes that are handed on
-pub same-texts-within : (b : List ℕ) (limit : ℕ) (ms ns : List Item) → ms ≡ ns → IsParsed b limit ns → length (texts ms) ≤ length b
-same-texts-within b limit ms ns same p =
-    subst (λ ls. length (texts ls) ≤ length b) (sym same) (texts-within b limit ns p)
-
-pub room-within : (b : List ℕ) (limit capacity : ℕ) (ns : List Item) (room : Room)
-    → IsParseResult b limit capacity None ns → room ≡ room_for ns → (room.nodes ≤ length b) × (room.text ≤ length b)
-room-within b limit capacity ns room p is =
-    let few : length ns ≤ length b = omega (arith, p.1.few.0, p.1.few.1) in
-    subst (λ r. (r.nodes ≤ length b) × (r.text ≤ length b)) (sym is) (few, texts-within b limit ns p.1.parsed)
-
-pub compact-within : {A E : Type 0} (r : Result (String A) E) (b : List ℕ) (limit : ℕ) (ns : List Item) (d : Document) → IsParsed b limit ns
-    → listing d ≡ ns → IfOk r (λ text. string_bytes text ≡ compact d) → IfOk r (λ text. IsCompact b limit (string_bytes text))
-compact-within (Ok text) b limit ns d p is same =
-    let shortest : length (compact d) ≤ length b =
-    subst (λ e. length (compact e) ≤ length b) (sym (known d p.document (is ∙ p.listed)))
-    (compact-shortest b p.document p.denoted p.within.integers) in
-    ((d, (ns, p, is), same), subst (λ t. length t ≤ length b) (sym same) shortest)
-compact-within (Err e) b limit ns d p is same = tt
-
--- what is counted is what is needed
-pub room-counted : (b : List ℕ) (limit capacity : ℕ) (ns : List Item) (room : Room)
-    → IsParseResult b limit capacity None ns → room.nodes ≡ length ns → room.text ≡ min (length (texts ns)) 18446744073709551615
-    → room ≡ room_for ns
-room-counted b limit capacity ns room p nodes text =
-    let few = texts-within b limit ns p.1.parsed in
-    let exact : room.text ≡ length (texts ns) = omega (arith, text, few, p.1.parsed.within.size) in
-    ap (λ n. record { nodes = n; text = room.text }) nodes ∙ ap (λ t. record { nodes = length ns; text = t }) exact

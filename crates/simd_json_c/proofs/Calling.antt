@@ -1,24 +1,21 @@
 -- What a call leaves that is made with the lists of an open parser, by what it returns for them.
-use Rattle.std.specs.Prelude.{◌≡◌, ◌≤◌, ℕ, ℤ, pos, List, length, Bool, Option, Some, None, Result, Ok, Err, IfOk, IfErr, MatchResult}
+use Rattle.std.specs.Prelude.{◌≡◌, ◌⊎◌, ℕ, ℤ, pos, List, IsUtf8, Bool, Option, Some, None, Result, Ok, Err, IfOk, IfErr, MatchResult}
 use Rattle.std.specs.Result.{result_err}
 use Rattle.std.specs.Vec.{vec_capacity}
-use Rattle.std.proofs.Common.{◌∙◌}
+use Rattle.std.proofs.Common.{◌∙◌, inl, inr}
 use Rattle.simd_json_parts.specs.Document.{Document}
 use Rattle.simd_json_parts.specs.Listing.{listing}
 use Rattle.simd_json_parts.specs.Nodes.{Item}
 use Rattle.simd_json_parts.specs.declared.error.Error.{Error}
 use Rattle.simd_json_check.specs.Capacities.{check_capacity}
-use Rattle.simd_json_c.specs.Calls.{ArePut, IsCheckOf}
+use Rattle.simd_json_c.specs.Calls.{IsCheckOf}
 use Rattle.simd_json_c.specs.Chosen.{IsChosenPut, IsPrintedWith, IsTapedWith}
-use Rattle.simd_json_c.specs.Kept.{IsCheckedWith, IsReadWith, IsTapeWith, KeepsLists}
+use Rattle.simd_json_c.specs.Kept.{IsCheckedWith, IsReadWith, KeepsLists}
 use Rattle.simd_json_c.specs.Lent.{AreLent, IsParsedWith}
-use Rattle.simd_json_c.specs.Nodes.{room_for}
-use Rattle.simd_json_c.specs.Statuses.{error_place, error_status}
+use Rattle.simd_json_c.specs.Statuses.{error_place, error_status, no_value}
 use Rattle.simd_json_c.specs.declared.lent.Lent.{Lent}
-use Rattle.simd_json_c.specs.declared.nodes.Node.{Node}
-use Rattle.simd_json_c.specs.declared.nodes.Room.{Room}
 use Rattle.simd_json_c.specs.declared.status.ErrorPlace.{ErrorPlace}
-use Rattle.simd_json_c.specs.declared.tape.Lists.{Lists}
+use Rattle.simd_json_c.specs.declared.lists.Lists.{Lists}
 
 -- the status and the place of an outcome
 abbrev pub IsReported : Result ℤ Error → ℤ → ErrorPlace → Type 0
@@ -39,18 +36,6 @@ checked-with old new was lists b (Ok s) status place kept told is zero =
 checked-with old new was lists b (Err e) status place kept told is zero =
     rw kept.0 (lists, kept.1, kept.2, (Some e, is, told.1, told.0))
 
-pub tape-with : (old new : Option Lists) (was lists : Lists) (b : List ℕ) (r : Result ℤ Error) (status : ℤ) (place : ErrorPlace)
-    (old_room room : Room) (old_nodes nodes : List Node) (old_text text : List ℕ) → AreKeptOpen old new was lists
-    → IsReported r status place
-    → IfOk r (λ s. (ns : List Item) × IsReadWith was b None ns × (room ≡ room_for ns) × ArePut ns s old_nodes nodes old_text text)
-    → IfOk r (λ s. (room.nodes ≤ length b) × (room.text ≤ length b))
-    → IfErr r (λ e. (ns : List Item) × IsReadWith was b (Some e) ns × (room ≡ old_room))
-    → IsTapeWith old new b status place old_room room old_nodes nodes old_text text
-tape-with old new was lists b (Ok s) status place old_room room old_nodes nodes old_text text kept told put few none =
-    rw kept.0 (lists, kept.1, kept.2, (None, put.0, put.1, told.0, (put.2, few.0, few.1, rw told.1 put.3)))
-tape-with old new was lists b (Err e) status place old_room room old_nodes nodes old_text text kept told put few none =
-    rw kept.0 (lists, kept.1, kept.2, (Some e, none.0, none.1, told.0, (told.1, none.2)))
-
 pub parsed-with : (old new : Option Lists) (was lists : Lists) (b : List ℕ) (r : Result ℤ Error) (status : ℤ) (place : ErrorPlace)
     (old_lent lent : Lent) → AreKeptOpen old new was lists → IsReported r status place
     → IfOk r (λ s. (ns : List Item) × IsReadWith was b None ns × AreLent ns was lists s old_lent lent)
@@ -64,11 +49,15 @@ parsed-with old new was lists b (Err e) status place old_lent lent kept told are
 pub printed-with : (old new : Option Lists) (was lists : Lists) (b : List ℕ) (is_pretty : Bool) (pointer : List ℕ) (r : Result ℤ Error)
     (status : ℤ) (place : ErrorPlace) (old_needed needed : ℕ) (old_out out : List ℕ) → AreKeptOpen old new was lists
     → IsReported r status place
-    → IfOk r (λ s. (ns : List Item) × (d : Document) × IsTapedWith was b None ns lists × (listing d ≡ ns)
-    × IsChosenPut (vec_capacity was.printed) is_pretty pointer d s old_needed needed old_out out)
-    → IfErr r (λ e. (ns : List Item) × IsTapedWith was b (Some e) ns lists × (needed ≡ old_needed) × (out ≡ old_out))
+    → IfOk r (λ s. (IsUtf8 pointer × ((ns : List Item) × (d : Document) × IsTapedWith was b None ns lists × (listing d ≡ ns)
+    × IsChosenPut (vec_capacity was.printed) is_pretty pointer d s old_needed needed old_out out))
+    ⊎ ((IsUtf8 pointer → ⊥) × (s ≡ no_value) × (needed ≡ old_needed) × (out ≡ old_out)))
+    → IfErr r (λ e. IsUtf8 pointer
+    × ((ns : List Item) × IsTapedWith was b (Some e) ns lists × (needed ≡ old_needed) × (out ≡ old_out)))
     → IsPrintedWith old new b is_pretty pointer status place old_needed needed old_out out
-printed-with old new was lists b is_pretty pointer (Ok s) status place old_needed needed old_out out kept told is none =
-    rw kept.0 (lists, kept.1, kept.2, (None, is.0, is.2, told.0, (is.1, is.3, rw told.1 is.4)))
+printed-with old new was lists b is_pretty pointer (Ok s) status place old_needed needed old_out out kept told (inl is) none =
+    rw kept.0 (lists, kept.1, kept.2, inl (is.0, (None, is.1.0, is.1.2, told.0, (is.1.1, is.1.3, rw told.1 is.1.4))))
+printed-with old new was lists b is_pretty pointer (Ok s) status place old_needed needed old_out out kept told (inr is) none =
+    rw kept.0 (lists, kept.1, kept.2, inr (is.0, told.1 ∙ is.1, told.0, is.2, is.3))
 printed-with old new was lists b is_pretty pointer (Err e) status place old_needed needed old_out out kept told is none =
-    rw kept.0 (lists, kept.1, kept.2, (Some e, none.0, none.1, told.0, (told.1, none.2, none.3)))
+    rw kept.0 (lists, kept.1, kept.2, inl (none.0, (Some e, none.1.0, none.1.1, told.0, (told.1, none.1.2, none.1.3))))

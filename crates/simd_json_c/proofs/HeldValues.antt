@@ -22,7 +22,7 @@ use Rattle.std.proofs.cell.Inside.{Good}
 use Rattle.simd_json_c.proofs.LooseValues.{both}
 use Rattle.simd_json_c.specs.Holding.{held}
 use Rattle.simd_json_c.specs.contracts.parser.Held as handle
-use Rattle.simd_json_c.specs.declared.tape.Lists.{Lists}
+use Rattle.simd_json_c.specs.declared.lists.Lists.{Lists}
 
 pub filled : {A : Type 0} (o : Option A) → o ≢ None → (x : A) × (o ≡ Some x)
 filled None f = absurd (f refl)

@@ -5,7 +5,6 @@ mod HeldValues
 mod Laying
 mod Keeping
 mod Placing
-mod Printed
 mod Calling
 mod Naming
 mod Doubles

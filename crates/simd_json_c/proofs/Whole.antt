@@ -1,6 +1,6 @@
 -- The lengths of a document's nodes fit 32 bits, since it has fewer bytes.
 use Rattle.std.proofs.Common.{◌≡◌, ◌≤◌, ◌<◌, ◌+◌, ◌^◌, ◌∙◌, ap, sym, subst, arith, ℕ, List, [], ◌∷◌, ◌++◌, length, length-append}
-use Rattle.std.proofs.Common.{true, false, Bool, None, refl, drop, take}
+use Rattle.std.proofs.Common.{true, false, Bool, None, refl, take}
 use Rattle.std.proofs.lemmas.List.{length-take-le}
 use Rattle.std.proofs.Math.Nat.{mod-eq_of_lt}
 use Rattle.std.specs.Fmt.{signed_decimal}
@@ -12,7 +12,6 @@ use Rattle.simd_json_parts.specs.Listing.{listing, elements_listing, members_lis
 use Rattle.simd_json_parts.specs.Nodes.{Item, static_item}
 use Rattle.simd_json_parts.proofs.Documents.Integers.{of-integer_node}
 use Rattle.simd_json.specs.Parsed.{IsParseResult}
-use Rattle.simd_json_c.specs.Calls.{IsAtFront}
 use Rattle.simd_json_c.specs.Lent.{AreKept}
 use Rattle.simd_json_c.specs.Loans.{AreCut, cut, cut_from}
 use Rattle.simd_json_c.specs.Nodes.{node_of, nodes_from, text_of, texts}
@@ -104,18 +103,6 @@ whole b limit capacity ns p =
     let long = ap length p.1.parsed.listed in
     let short = value-short p.1.parsed.document (omega (arith, few, size, same)) (omega (arith, p.1.few.0, p.1.few.1, size, long)) in
     cut-short 0 ns (subst AreShort (sym p.1.parsed.listed) short)
-
-pub texts-small : (b : List ℕ) (limit capacity : ℕ) (ns : List Item) → IsParseResult b limit capacity None ns
-    → length (texts ns) < 2 ^ 64
-texts-small b limit capacity ns p = omega (arith, texts-within b limit ns p.1.parsed, p.1.parsed.within.size)
-
-pub front-whole : (b : List ℕ) (limit capacity : ℕ) (ns : List Item) (old new before : List Node)
-    → IsParseResult b limit capacity None ns → before ≡ old → new ≡ cut_from 0 ns ++ drop (length ns) before
-    → IsAtFront (nodes_from 0 ns) old new
-front-whole b limit capacity ns old new before p same are =
-    are ∙ ap (λ l. l ++ drop (length ns) before) (whole b limit capacity ns p)
-    ∙ ap (λ k. nodes_from 0 ns ++ drop k before) (sym (length-nodes 0 ns))
-    ∙ ap (λ o. nodes_from 0 ns ++ drop (length (nodes_from 0 ns)) o) same
 
 pub kept-whole : (b : List ℕ) (limit capacity : ℕ) (ns : List Item) (nodes : List Node) (text : List ℕ) (used : ℕ)
     → IsParseResult b limit capacity None ns → used ≤ length text → AreCut ns nodes (take used text)

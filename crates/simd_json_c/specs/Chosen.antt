@@ -14,7 +14,7 @@ use Rattle.simd_json_c.specs.Calls.{IsTextPut}
 use Rattle.simd_json_c.specs.Kept.{IsCallWith}
 use Rattle.simd_json_c.specs.Statuses.{error_place, error_status, no_value, out_of_memory}
 use Rattle.simd_json_c.specs.declared.status.ErrorPlace.{ErrorPlace}
-use Rattle.simd_json_c.specs.declared.tape.Lists.{Lists}
+use Rattle.simd_json_c.specs.declared.lists.Lists.{Lists}
 
 -- compact, or with a line for each member
 abbrev pub printed : Bool → Document → List ℕ
@@ -39,18 +39,19 @@ abbrev pub IsTapedWith : Lists → List ℕ → Option Error → List Item → L
 IsTapedWith old b fault ns new =
     IsParse b old.buffers.limit (parse_capacity old.buffers old.tape) fault ns new.buffers.positions
 
--- a call that prints the value that the pointer names in the document that b is
-abbrev pub IsPrintedWith : Option Lists → Option Lists → List ℕ → Bool → List ℕ → ℤ → ErrorPlace → ℕ → ℕ → List ℕ → List ℕ → Type 0
-IsPrintedWith old new b is_pretty pointer status place old_needed needed old_out out =
-    IsCallWith old new status place ((needed ≡ old_needed) × (out ≡ old_out))
-    (λ was lists. (fault : Option Error) × (ns : List Item) × IsTapedWith was b fault ns lists × (place ≡ error_place fault)
+-- a call with an open parser that prints the value that the pointer names in the document that b is
+abbrev pub IsPrintOf : Lists → Lists → List ℕ → Bool → List ℕ → ℤ → ErrorPlace → ℕ → ℕ → List ℕ → List ℕ → Type 0
+IsPrintOf was lists b is_pretty pointer status place old_needed needed old_out out =
+    (fault : Option Error) × (ns : List Item) × IsTapedWith was b fault ns lists × (place ≡ error_place fault)
     × MatchOption fault
     ((d : Document) × (listing d ≡ ns)
     × IsChosenPut (vec_capacity was.printed) is_pretty pointer d status old_needed needed old_out out)
-    (λ e. (status ≡ error_status fault) × (needed ≡ old_needed) × (out ≡ old_out)))
+    (λ e. (status ≡ error_status fault) × (needed ≡ old_needed) × (out ≡ old_out))
 
--- the same, where the pointer may be no text: then it names no value
-abbrev pub IsPrintedFrom : Option Lists → Option Lists → List ℕ → Bool → List ℕ → ℤ → ErrorPlace → ℕ → ℕ → List ℕ → List ℕ → Type 0
-IsPrintedFrom old new b is_pretty pointer status place old_needed needed old_out out =
-    (IsUtf8 pointer × IsPrintedWith old new b is_pretty pointer status place old_needed needed old_out out)
-    ⊎ ((IsUtf8 pointer → ⊥) × (status ≡ no_value) × (place ≡ error_place None) × (new ≡ old) × (needed ≡ old_needed) × (out ≡ old_out))
+-- with any parser; a pointer that is no text names no value, and the input is not read
+abbrev pub IsPrintedWith : Option Lists → Option Lists → List ℕ → Bool → List ℕ → ℤ → ErrorPlace → ℕ → ℕ → List ℕ → List ℕ → Type 0
+IsPrintedWith old new b is_pretty pointer status place old_needed needed old_out out =
+    IsCallWith old new status place ((needed ≡ old_needed) × (out ≡ old_out))
+    (λ was lists.
+    (IsUtf8 pointer × IsPrintOf was lists b is_pretty pointer status place old_needed needed old_out out)
+    ⊎ ((IsUtf8 pointer → ⊥) × (status ≡ no_value) × (place ≡ error_place None) × (needed ≡ old_needed) × (out ≡ old_out)))

@@ -19,7 +19,7 @@ use Rattle.simd_json_c.specs.Statuses.{error_place, error_status, no_value, pars
 use Rattle.simd_json_c.specs.declared.find.Found.{Found}
 use Rattle.simd_json_c.specs.declared.status.ErrorPlace.{ErrorPlace}
 use Rattle.simd_json_c.specs.declared.source.Source.{Source}
-use Rattle.simd_json_c.specs.declared.tape.Lists.{Lists}
+use Rattle.simd_json_c.specs.declared.lists.Lists.{Lists}
 
 -- the header's numbers
 abbrev pub kind_number : ValueType → ℕ

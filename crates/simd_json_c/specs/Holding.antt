@@ -5,8 +5,8 @@ use Rattle.std.specs.Prelude.{Option, Some, None}
 use Rattle.std.specs.Box.Ownership.{box_owns}
 use Rattle.std.specs.declared.alloc.Global.{Global}
 use Rattle.std.specs.contracts.impls.GlobalAllocator.TheImpl.{ghosts}
-use Rattle.simd_json_c.specs.contracts.tape.Lists.{the_row}
-use Rattle.simd_json_c.specs.declared.tape.Lists.{Lists}
+use Rattle.simd_json_c.specs.contracts.lists.Lists.{the_row}
+use Rattle.simd_json_c.specs.declared.lists.Lists.{Lists}
 
 -- the box of the lists, where there are any
 abbrev pub held : Global → Ptr → Option Lists → Fml

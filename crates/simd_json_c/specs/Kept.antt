@@ -7,10 +7,8 @@ use Rattle.simd_json_check.specs.Capacities as checks
 use Rattle.simd_json_parts.specs.Nodes.{Item}
 use Rattle.simd_json_parts.specs.declared.error.Error.{Error}
 use Rattle.simd_json_c.specs.Statuses.{out_of_memory, parser_closed, error_place}
-use Rattle.simd_json_c.specs.Calls.{IsChecked, IsTapeOf}
-use Rattle.simd_json_c.specs.declared.nodes.Node.{Node}
-use Rattle.simd_json_c.specs.declared.nodes.Room.{Room}
-use Rattle.simd_json_c.specs.declared.tape.Lists.{Lists}
+use Rattle.simd_json_c.specs.Calls.{IsChecked}
+use Rattle.simd_json_c.specs.declared.lists.Lists.{Lists}
 use Rattle.simd_json_c.specs.declared.status.ErrorPlace.{ErrorPlace}
 
 -- within the same limit, and no capacity is given up
@@ -48,9 +46,3 @@ abbrev pub IsCheckedWith : Option Lists → Option Lists → List ℕ → ℤ �
 IsCheckedWith old new b status place =
     IsCallWith old new status place ⊤
     (λ was lists. IsChecked b was.buffers.limit (checks.check_capacity was.buffers.limit was.checks) status place)
-
-abbrev pub IsTapeWith : Option Lists → Option Lists → List ℕ → ℤ → ErrorPlace → Room → Room
-    → List Node → List Node → List ℕ → List ℕ → Type 0
-IsTapeWith old new b status place old_room room old_nodes nodes old_text text =
-    IsCallWith old new status place ((room ≡ old_room) × (nodes ≡ old_nodes) × (text ≡ old_text))
-    (λ was lists. IsTapeOf (IsReadWith was b) b status place old_room room old_nodes nodes old_text text)

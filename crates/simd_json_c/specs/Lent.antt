@@ -10,7 +10,7 @@ use Rattle.simd_json_c.specs.Statuses.{error_place, error_status, out_of_memory}
 use Rattle.simd_json_c.specs.declared.lent.Lent.{Lent}
 use Rattle.simd_json_c.specs.declared.nodes.Node.{Node}
 use Rattle.simd_json_c.specs.declared.status.ErrorPlace.{ErrorPlace}
-use Rattle.simd_json_c.specs.declared.tape.Lists.{Lists}
+use Rattle.simd_json_c.specs.declared.lists.Lists.{Lists}
 
 -- the nodes of these items, and their texts, which other bytes may follow
 abbrev pub AreKept : List Item → List Node → List ℕ → Type 0

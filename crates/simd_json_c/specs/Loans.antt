@@ -1,5 +1,5 @@
 -- Nodes and texts that are written to lent memory one after another, as far as they fit.
-use Rattle.std.specs.Prelude.{◌≡◌, ◌≤◌, ◌<◌, ◌+◌, ◌%◌, ◌^◌, ℕ, List, [], ◌∷◌, ◌++◌, length, drop, Bool, false}
+use Rattle.std.specs.Prelude.{◌≡◌, ◌≤◌, ◌<◌, ◌+◌, ◌%◌, ◌^◌, ℕ, List, [], ◌∷◌, ◌++◌, length, Bool, false}
 use Rattle.simd_json_parts.specs.Nodes.{Item}
 use Rattle.simd_json_stages.specs.Building.{is_header}
 use Rattle.simd_json_c.specs.Nodes.{node_of, span, text_of, texts}
@@ -10,7 +10,6 @@ use Rattle.simd_json_c.specs.declared.nodes.Node.{Node}
 pub record Loan : Type 0 where
   pub nodes : ℕ
   pub text : ℕ
-  pub nodes_before : List Node
   pub text_before : List ℕ
   pub node_capacity : ℕ
 
@@ -46,13 +45,3 @@ abbrev pub IsTextNoted : Note → Note → ℕ → List ℕ → Type 0
 IsTextNoted old new kind bytes =
     (x : Item) × (new ≡ noting old x) × (is_header x ≡ false) × (text_of x ≡ bytes)
     × ((start : ℕ) → node_of start x ≡ span kind (length bytes) start)
-
--- Where the nodes fit, they are at the front; so long a text that it can't be counted is nowhere.
-abbrev pub AreLaid : Note → List Node → Type 0
-AreLaid n now = length n.items ≤ length now → length (texts n.items) < 2 ^ 64
-    → now ≡ cut_from 0 n.items ++ drop (length n.items) n.nodes_before
-
--- where the texts fit, they are at the front
-abbrev pub AreTextsLaid : Note → List ℕ → Type 0
-AreTextsLaid n now = length (texts n.items) ≤ length now → length (texts n.items) < 2 ^ 64
-    → now ≡ texts n.items ++ drop (length (texts n.items)) n.text_before

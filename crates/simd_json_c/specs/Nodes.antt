@@ -6,7 +6,6 @@ use Rattle.simd_json_parts.specs.Nodes.{Item, static_item, decimal_item, string_
 use Rattle.simd_json_parts.specs.declared.node.StaticNode.{StaticNode}
 use Rattle.simd_json_parts.specs.declared.node.StaticNode.TheVariants as fixed
 use Rattle.simd_json_c.specs.declared.nodes.Node.{Node}
-use Rattle.simd_json_c.specs.declared.nodes.Room.{Room}
 
 -- so many bytes or members, and where the bytes begin, how many nodes lie beneath, or the number
 abbrev pub span : ℕ → ℕ → ℕ → Node
@@ -51,7 +50,3 @@ texts (n ∷ ns) = text_of n ++ texts ns
 abbrev pub nodes_from : ℕ → List Item → List Node
 nodes_from start [] = []
 nodes_from start (n ∷ ns) = node_of start n ∷ nodes_from (start + length (text_of n)) ns
-
--- how much they need
-abbrev pub room_for : List Item → Room
-room_for ns = record { nodes = length ns; text = length (texts ns) }

@@ -11,15 +11,17 @@ ghost use Rattle.simd_json_c.specs.Lent.{IsParsedWith};
 ghost use Rattle.simd_json_c.specs.Loans.{AreCut, AreTooSmall, IsTextNoted, Loan, is_headed};
 ghost use Rattle.simd_json_c.specs.Loans.{noting};
 ghost use Rattle.simd_json_c.specs.Nodes.{is_wide};
+ghost use Rattle.simd_json_c.specs.Notes.{Note};
+ghost use base.Fml.{ftrue};
 
 use crate::nodes::{Node, header_node, is_wide, literal_of, span_of, static_of};
 use crate::parser::Parser;
-use crate::sink::Noted;
 use crate::status::{ErrorPlace, PARSER_CLOSED, reported};
 use itoa::Buffer;
 use simd_json::{Buffers, Container, NodeSink, Original, Result, StaticNode, fill_sink};
 use simd_json_print::text::store_bytes;
 use std::alloc::Global;
+use std::marker::Model;
 use std::mem::replace;
 
 // How many bytes of a text are stored without a call.
@@ -138,7 +140,7 @@ pub(crate) struct KeptSink<'t> {
 }
 
 impl KeptSink<'_> {
-    // Appends a node with a text. Not inlined, as in the other sink. If there is memory for it and
+    // Appends a node with a text. Not inlined. If there is memory for it and
     // it is short, nothing is called, so that no register has to be saved.
     #[inline(never)]
     fn put_text(&mut self, kind: u32, bytes: &[u8], noted: Noted)
@@ -221,7 +223,6 @@ impl<'de, 't> NodeSink<'de> for KeptSink<'t> {
     ghost lender = { λ s. record {
       nodes = s.nodes.ghost_name;
       text = s.text.ghost_name;
-      nodes_before = s.noted.note.nodes_before;
       text_before = s.noted.note.text_before;
       node_capacity = s.noted.note.node_capacity;
     } };
@@ -269,6 +270,29 @@ impl<'de, 't> NodeSink<'de> for KeptSink<'t> {
     #[inline(always)]
     fn starts_with_header(&self) -> bool {
         self.is_container
+    }
+}
+
+// The record of the nodes that were appended, kept or not. It has no bytes at run time, and only
+// clauses determine `note`.
+#[derive(Drop)]
+struct Noted {
+    ghost note: { Note },
+}
+
+impl Model for Noted {
+    ghost also_owns = { λ _. ftrue };
+}
+
+impl Noted {
+    // The record that the caller's proof chooses; `seen` makes its values available to that proof.
+    #[inline(always)]
+    fn of<T>(seen: &T) -> Noted
+        ghost note: { Note }
+        ensures { result.note ≡ note }
+    {
+        let _ = seen;
+        Noted {}
     }
 }
 

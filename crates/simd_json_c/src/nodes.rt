@@ -20,16 +20,6 @@ pub struct Node {
     pub value: u64,
 }
 
-/// How much a tape takes.
-#[repr(C)]
-#[derive(Clone, Copy, Drop)]
-pub struct Room {
-    /// How many nodes.
-    pub nodes: usize,
-    /// How many bytes of text.
-    pub text: usize,
-}
-
 // A node with so many bytes or members. Only 32 bits of the length are kept: no document needs
 // more, since an input has fewer than 2^32 bytes.
 #[inline(always)]

@@ -4,14 +4,13 @@
 //! never tested, and `open` returns no pointer. Small functions turn the pointer into the box and
 //! back, each proved by hand; the rest is safe code.
 ghost use Rattle.std.specs.Prelude.{◌≡◌, ◌≢◌, Option, Some, None, is_some, MatchOption, IfSome};
-ghost use Rattle.simd_json_c.specs.Kept.{AreNew, IsCheckedWith, IsOpened, IsTapeWith};
+ghost use Rattle.simd_json_c.specs.Kept.{AreNew, IsCheckedWith, IsOpened};
 ghost use Rattle.simd_json_c.specs.Holding.{held};
-ghost use Rattle.simd_json_c.specs.declared.tape.Lists.{Lists};
+ghost use Rattle.simd_json_c.specs.declared.lists.Lists.{Lists};
 ghost use Rattle.std.specs.Box.Ownership.{box_owns};
 
-use crate::nodes::{Node, Room};
+use crate::lists::Lists;
 use crate::status::{ErrorPlace, OUT_OF_MEMORY, PARSER_CLOSED, reported};
-use crate::tape::Lists;
 use std::alloc::{Allocator, Global};
 use std::marker::Model;
 use std::mem::replace;
@@ -92,31 +91,6 @@ pub extern "C" fn simd_json_parser_check(
     match replace(parser, Parser::closed(alloc)).into_lists() {
         Some(mut lists) => {
             let outcome = lists.check(input);
-            *parser = Parser::open(lists);
-            reported(outcome, place)
-        }
-        None => reported(Ok(PARSER_CLOSED), place),
-    }
-}
-
-/// Writes the nodes of a document, and the texts of its strings and literals, to the caller's
-/// memory.
-#[unsafe(no_mangle)]
-pub extern "C" fn simd_json_parser_tape(
-    alloc: Global,
-    parser: &mut Parser,
-    input: &mut [u8],
-    nodes: &mut [Node],
-    text: &mut [u8],
-    room: &mut Room,
-    place: &mut ErrorPlace,
-) -> i32
-    ensures { IsTapeWith parser.old.held.value parser.new.held.value input.old result place.new
-        room.old room.new nodes.old nodes.new text.old text.new }
-{
-    match replace(parser, Parser::closed(alloc)).into_lists() {
-        Some(mut lists) => {
-            let outcome = lists.tape(input, nodes, text, room);
             *parser = Parser::open(lists);
             reported(outcome, place)
         }

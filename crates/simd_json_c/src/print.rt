@@ -1,46 +1,27 @@
 //! The printed text of a document. If the room is too small, only the needed size is written, so a
 //! text is made first and then copied.
-ghost use Rattle.std.specs.Prelude.{◌≡◌, ◌<◌, ◌≤◌, ◌+◌, ◌++◌, IfOk, IfErr, OnOk, OnErr, Some, []};
-ghost use Rattle.std.specs.Prelude.{false, length, map};
-ghost use Rattle.std.specs.Prelude.{string_bytes, true};
+ghost use Rattle.std.specs.Prelude.{◌≡◌, ◌<◌, ◌≤◌, ◌+◌, ◌++◌, ◌==◌, IfOk, IfErr, OnOk, OnErr, Some};
+ghost use Rattle.std.specs.Prelude.{length, map, not, string_bytes};
 ghost use Rattle.std.specs.Result.{result_err};
 ghost use Rattle.std.specs.Vec.{vec_capacity};
-ghost use Rattle.simd_json_c.specs.Calls.{IsCompact, IsPretty, IsPrinted, IsTextPut, IsUnprinted};
-ghost use Rattle.simd_json_c.specs.Statuses.{error_place, error_status};
-ghost use Rattle.simd_json_c.specs.Chosen.{IsChosenPut, IsPrintedFrom, IsPrintedWith, printed};
 ghost use Rattle.simd_json.specs.Viewed.{doc};
 ghost use Rattle.simd_json_parts.specs.Document.{Document};
 ghost use Rattle.simd_json_parts.specs.Listing.{listing};
 ghost use Rattle.simd_json_parts.specs.Nodes.{item_of};
+ghost use Rattle.simd_json_c.specs.Calls.{IsTextPut};
+ghost use Rattle.simd_json_c.specs.Chosen.{IsChosenPut, IsPrintedWith, printed};
+ghost use Rattle.simd_json_c.specs.Statuses.{error_place, error_status};
 
 use crate::parser::Parser;
 use crate::status::{
     ErrorPlace, NO_VALUE, OUT_OF_MEMORY, PARSER_CLOSED, TOO_LITTLE_ROOM, reported,
 };
 use simd_json::tape::Value;
-use simd_json::{Buffers, Node, Result, to_tape_with_buffers};
+use simd_json::{Node, Result};
 use simd_json_print::document::{append_compact, append_pretty};
 use simd_json_print::text::store_bytes;
 use std::alloc::{AllocError, Global};
 use std::mem::replace;
-
-fn compact_text(alloc: Global, input: &mut [u8], max_depth: usize) -> Result<String>
-    ensures text { IfOk result (λ text. IsCompact input.old max_depth (string_bytes text)) }
-    ensures rejected { IfErr result (IsUnprinted input.old max_depth) }
-{
-    let mut buffers = Buffers::with_max_depth(alloc, 0, max_depth)?;
-    let tape = to_tape_with_buffers(input, &mut buffers)?;
-    tape.as_value().encode(alloc)
-}
-
-fn pretty_text(alloc: Global, input: &mut [u8], max_depth: usize) -> Result<String>
-    ensures text { IfOk result (λ text. IsPretty input.old max_depth (string_bytes text)) }
-    ensures rejected { IfErr result (IsUnprinted input.old max_depth) }
-{
-    let mut buffers = Buffers::with_max_depth(alloc, 0, max_depth)?;
-    let tape = to_tape_with_buffers(input, &mut buffers)?;
-    tape.as_value().encode_pp(alloc)
-}
 
 // Copies the text if there is room for it, and returns the status; of an error its place, too.
 pub(crate) fn lend_text(
@@ -118,144 +99,28 @@ fn append(
     }
 }
 
-/// Writes the compact text of a document to the caller's memory.
+/// Writes the text of the value that a pointer names in a document to the caller's memory: compact
+/// if the layout is 0, else pretty.
 #[unsafe(no_mangle)]
-pub extern "C" fn simd_json_compact(
-    alloc: Global,
-    input: &mut [u8],
-    max_depth: usize,
-    out: &mut [u8],
-    needed: &mut usize,
-    place: &mut ErrorPlace,
-) -> i32
-    ensures { IsPrinted (IsCompact input.old max_depth) input.old max_depth result place.new
-        needed.old needed.new out.old out.new }
-{
-    lend_text(compact_text(alloc, input, max_depth), out, needed, place)
-}
-
-/// Writes the pretty text of a document to the caller's memory.
-#[unsafe(no_mangle)]
-pub extern "C" fn simd_json_pretty(
-    alloc: Global,
-    input: &mut [u8],
-    max_depth: usize,
-    out: &mut [u8],
-    needed: &mut usize,
-    place: &mut ErrorPlace,
-) -> i32
-    ensures { IsPrinted (IsPretty input.old max_depth) input.old max_depth result place.new
-        needed.old needed.new out.old out.new }
-{
-    lend_text(pretty_text(alloc, input, max_depth), out, needed, place)
-}
-
-// Prints with what a parser keeps.
-fn print(
+pub extern "C" fn simd_json_parser_print(
     alloc: Global,
     parser: &mut Parser,
     input: &mut [u8],
-    pointer: &str,
-    is_pretty: bool,
+    pointer: &[u8],
+    layout: u32,
     out: &mut [u8],
     needed: &mut usize,
     place: &mut ErrorPlace,
 ) -> i32
-    ensures { IsPrintedWith parser.old.held.value parser.new.held.value input.old is_pretty
-        pointer.now result place.new needed.old needed.new out.old out.new }
+    ensures { IsPrintedWith parser.old.held.value parser.new.held.value input.old
+        (not (layout == 0)) pointer.now result place.new needed.old needed.new out.old out.new }
 {
     match replace(parser, Parser::closed(alloc)).into_lists() {
         Some(mut lists) => {
-            let outcome = lists.print(alloc, input, pointer, is_pretty, out, needed);
+            let outcome = lists.print_from(alloc, input, pointer, layout != 0, out, needed);
             *parser = Parser::open(lists);
             reported(outcome, place)
         }
         None => reported(Ok(PARSER_CLOSED), place),
     }
-}
-
-// The same for a pointer that may not be UTF-8, and then names no value.
-fn print_from(
-    alloc: Global,
-    parser: &mut Parser,
-    input: &mut [u8],
-    pointer: &[u8],
-    is_pretty: bool,
-    out: &mut [u8],
-    needed: &mut usize,
-    place: &mut ErrorPlace,
-) -> i32
-    ensures { IsPrintedFrom parser.old.held.value parser.new.held.value input.old is_pretty
-        pointer.now result place.new needed.old needed.new out.old out.new }
-{
-    match str::from_utf8(pointer) {
-        Ok(pointer) => print(alloc, parser, input, pointer, is_pretty, out, needed, place),
-        Err(_) => reported(Ok(NO_VALUE), place),
-    }
-}
-
-/// Writes the compact text of a document to the caller's memory.
-#[unsafe(no_mangle)]
-pub extern "C" fn simd_json_parser_compact(
-    alloc: Global,
-    parser: &mut Parser,
-    input: &mut [u8],
-    out: &mut [u8],
-    needed: &mut usize,
-    place: &mut ErrorPlace,
-) -> i32
-    ensures { IsPrintedWith parser.old.held.value parser.new.held.value input.old false []
-        result place.new needed.old needed.new out.old out.new }
-{
-    print(alloc, parser, input, "", false, out, needed, place)
-}
-
-/// Writes the pretty text of a document to the caller's memory.
-#[unsafe(no_mangle)]
-pub extern "C" fn simd_json_parser_pretty(
-    alloc: Global,
-    parser: &mut Parser,
-    input: &mut [u8],
-    out: &mut [u8],
-    needed: &mut usize,
-    place: &mut ErrorPlace,
-) -> i32
-    ensures { IsPrintedWith parser.old.held.value parser.new.held.value input.old true []
-        result place.new needed.old needed.new out.old out.new }
-{
-    print(alloc, parser, input, "", true, out, needed, place)
-}
-
-/// Writes the compact text of the value that a pointer names in a document to the caller's memory.
-#[unsafe(no_mangle)]
-pub extern "C" fn simd_json_parser_compact_at(
-    alloc: Global,
-    parser: &mut Parser,
-    input: &mut [u8],
-    pointer: &[u8],
-    out: &mut [u8],
-    needed: &mut usize,
-    place: &mut ErrorPlace,
-) -> i32
-    ensures { IsPrintedFrom parser.old.held.value parser.new.held.value input.old false pointer.now
-        result place.new needed.old needed.new out.old out.new }
-{
-    print_from(alloc, parser, input, pointer, false, out, needed, place)
-}
-
-/// Writes the pretty text of the value that a pointer names in a document to the caller's memory.
-#[unsafe(no_mangle)]
-pub extern "C" fn simd_json_parser_pretty_at(
-    alloc: Global,
-    parser: &mut Parser,
-    input: &mut [u8],
-    pointer: &[u8],
-    out: &mut [u8],
-    needed: &mut usize,
-    place: &mut ErrorPlace,
-) -> i32
-    ensures { IsPrintedFrom parser.old.held.value parser.new.held.value input.old true pointer.now
-        result place.new needed.old needed.new out.old out.new }
-{
-    print_from(alloc, parser, input, pointer, true, out, needed, place)
 }

@@ -7,7 +7,7 @@ use Rattle.simd_json_c.specs.Found.{IsInputWith, KeepsInput}
 use Rattle.simd_json_c.specs.Indexed.{IsUnscanned}
 use Rattle.simd_json_c.specs.Kept.{KeepsRoom}
 use Rattle.simd_json_c.specs.declared.status.ErrorPlace.{ErrorPlace}
-use Rattle.simd_json_c.specs.declared.tape.Lists.{Lists}
+use Rattle.simd_json_c.specs.declared.lists.Lists.{Lists}
 use Rattle.simd_json_c.proofs.Calling.{IsReported}
 use Rattle.simd_json_c.proofs.find.simd_json_parser_index.Goals as goal
 

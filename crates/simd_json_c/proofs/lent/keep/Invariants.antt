@@ -4,4 +4,4 @@ use Rattle.simd_json_c.proofs.lent.keep.Given as goal
 
 abbrev pub ghost-of : goal.ghost-of
 ghost-of g a =
-    record { items = []; nodes_before = []; text_before = a.seen.now.1.now.items; node_capacity = vec_capacity a.seen.now.0.now }
+    record { items = []; text_before = a.seen.now.1.now.items; node_capacity = vec_capacity a.seen.now.0.now }

@@ -24,7 +24,7 @@ use Rattle.std.proofs.ResultValues.{and_tt}
 use Rattle.std.proofs.raw_atomic.Walks.{proved_at, leaves}
 use Rattle.simd_json_c.proofs.LooseValues.{both}
 use Rattle.simd_json_c.proofs.HeldValues.{Z, al, Row, held_in}
-use Rattle.simd_json_c.specs.contracts.tape.Lists as lists
+use Rattle.simd_json_c.specs.contracts.lists.Lists as lists
 use Rattle.simd_json_c.specs.contracts.parser.Held.empty as f
 use Rattle.simd_json_c.proofs.parser.Held.empty.Statement.{statement}
 use Rattle.simd_json_c.proofs.parser.Held.empty.Code as code

@@ -22,7 +22,7 @@ use Rattle.std.proofs.alloc.Calls.{Goes-blank}
 use Rattle.std.proofs.raw_atomic.Walks.{proved_at, leaves}
 use Rattle.simd_json_c.proofs.LooseValues.{both, Loose, loose_good, loose_out}
 use Rattle.simd_json_c.proofs.HeldValues.{Z, LZ, held_in}
-use Rattle.simd_json_c.specs.contracts.tape.Lists as lists
+use Rattle.simd_json_c.specs.contracts.lists.Lists as lists
 use Rattle.simd_json_c.specs.contracts.parser.Held.full as f
 use Rattle.simd_json_c.proofs.parser.Held.full.Statement.{statement}
 use Rattle.simd_json_c.proofs.parser.Held.full.Code as code

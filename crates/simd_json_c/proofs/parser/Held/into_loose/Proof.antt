@@ -27,7 +27,7 @@ use Rattle.std.proofs.raw_atomic.Walks.{proved_at, leaves}
 use Rattle.simd_json_c.proofs.LooseValues.{both, loose_good, loose_in}
 use Rattle.simd_json_c.proofs.HeldValues.{Z, LZ, Row, filled, held_out}
 use Rattle.simd_json_c.specs.Holding.{held}
-use Rattle.simd_json_c.specs.contracts.tape.Lists as lists
+use Rattle.simd_json_c.specs.contracts.lists.Lists as lists
 use Rattle.simd_json_c.specs.contracts.parser.Held.into_loose as f
 use Rattle.simd_json_c.proofs.parser.Held.into_loose.Statement.{statement}
 use Rattle.simd_json_c.proofs.parser.Held.into_loose.Code as code

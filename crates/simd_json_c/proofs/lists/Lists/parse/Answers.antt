@@ -2,7 +2,7 @@ use Rattle.std.proofs.Common.{◌∙◌, ◌≤◌, MatchOption, arith, inl, inr
 use Rattle.std.specs.Vec.{vec_capacity}
 use Rattle.simd_json_c.specs.Loans.{AreCut, AreTooSmall}
 use Rattle.simd_json_c.proofs.Whole.{kept-whole}
-use Rattle.simd_json_c.proofs.tape.Lists.parse.Goals as goal
+use Rattle.simd_json_c.proofs.lists.Lists.parse.Goals as goal
 
 pub returns-in-Some-clause-lent : goal.returns-in-Some-clause-lent
 returns-in-Some-clause-lent c =

@@ -1,70 +1,28 @@
-//! Checks and tapes of documents, with lists that parses use one after another.
-ghost use Rattle.std.specs.Prelude.{◌≡◌, ◌≤◌, List, length, IfOk, IfErr, Some, None, pos, [], min};
-ghost use Rattle.std.specs.Prelude.{MatchResult};
-ghost use Rattle.simd_json_c.specs.Calls.{ArePut, IsCheckOf, IsChecked, IsFreshRead, IsFreshTape};
-ghost use Rattle.simd_json_check.specs.Capacities as checks;
-ghost use Rattle.simd_json_check.specs.Capacities.{check_capacity};
-ghost use Rattle.simd_json_c.specs.Nodes.{room_for, texts};
-ghost use Rattle.simd_json_parts.specs.Nodes.{Item};
+//! The lists that calls with a parser use one after another, and what is done with them.
+ghost use Rattle.std.specs.Prelude.{◌≡◌, ◌⊎◌, List, IfOk, IfErr, IsUtf8, MatchResult, None, Some, pos};
 ghost use Rattle.std.specs.Result.{result_err};
 ghost use Rattle.std.specs.Vec.{vec_capacity};
-ghost use Rattle.simd_json.specs.Capacities.{KeepsCapacities, capacity};
-ghost use Rattle.simd_json.specs.Parsed.{IsParseResult};
-ghost use Rattle.simd_json_c.specs.Kept.{AreNew, IsReadWith, KeepsLists};
-ghost use Rattle.simd_json_c.specs.Chosen.{IsChosenPut, IsTapedWith};
-ghost use Rattle.simd_json_c.specs.Lent.{AreLent};
+ghost use Rattle.simd_json_check.specs.Capacities as checks;
+ghost use Rattle.simd_json_check.specs.Capacities.{check_capacity};
 ghost use Rattle.simd_json_parts.specs.Document.{Document};
 ghost use Rattle.simd_json_parts.specs.Listing.{listing};
-ghost use Rattle.simd_json_c.specs.Loans.{AreLaid, AreTextsLaid};
+ghost use Rattle.simd_json_parts.specs.Nodes.{Item};
+ghost use Rattle.simd_json_c.specs.Calls.{IsCheckOf, IsChecked};
+ghost use Rattle.simd_json_c.specs.Chosen.{IsChosenPut, IsTapedWith};
+ghost use Rattle.simd_json_c.specs.Kept.{AreNew, IsReadWith, KeepsLists};
+ghost use Rattle.simd_json_c.specs.Lent.{AreLent};
+ghost use Rattle.simd_json_c.specs.Statuses.{no_value};
 
 use crate::lent::{Lent, keep};
-use crate::nodes::{Node, Room};
+use crate::nodes::Node;
 use crate::print::print_at;
-use crate::sink::{CallerSink, Noted};
 use crate::source::Source;
-use crate::status::{ErrorPlace, OUT_OF_MEMORY, TOO_LITTLE_ROOM, reported};
-use simd_json::{Buffers, Original, Result, Tape, fill_sink, refill_tape};
+use crate::status::{ErrorPlace, NO_VALUE, OUT_OF_MEMORY, reported};
+use simd_json::{Buffers, Result, Tape, refill_tape};
 use simd_json_check::Index;
 use std::alloc::Global;
 use std::marker::Brand;
 use std::mem::replace;
-
-fn tape(
-    alloc: Global,
-    input: &mut [u8],
-    max_depth: usize,
-    nodes: &mut [Node],
-    text: &mut [u8],
-    room: &mut Room,
-) -> Result<i32>
-    ensures lent { IfOk result (λ status. (ns : List Item)
-        × IsFreshRead input.old max_depth None ns × (room.new ≡ room_for ns)
-        × ArePut ns status nodes.old nodes.new text.old text.new) }
-    ensures few { IfOk result (λ _.
-        (room.new.nodes ≤ length input.old) × (room.new.text ≤ length input.old)) }
-    ensures rejected { IfErr result (λ e. (ns : List Item)
-        × IsFreshRead input.old max_depth (Some e) ns × (room.new ≡ room.old)) }
-{
-    Lists::new(alloc, max_depth)?.tape(input, nodes, text, room)
-}
-
-/// Writes the nodes of a document, and the texts of its strings and literals, to the caller's
-/// memory.
-#[unsafe(no_mangle)]
-pub extern "C" fn simd_json_tape(
-    alloc: Global,
-    input: &mut [u8],
-    max_depth: usize,
-    nodes: &mut [Node],
-    text: &mut [u8],
-    room: &mut Room,
-    place: &mut ErrorPlace,
-) -> i32
-    ensures { IsFreshTape input.old max_depth result place.new room.old room.new
-        nodes.old nodes.new text.old text.new }
-{
-    reported(tape(alloc, input, max_depth, nodes, text, room), place)
-}
 
 /// Whether the input is a document with at most `max_depth` containers open at a time.
 #[unsafe(no_mangle)]
@@ -137,34 +95,6 @@ impl Lists {
         check(&mut self.checks, input, self.buffers.max_depth())
     }
 
-    // Writes the nodes of a document and their texts to the caller's memory, and to `room` how much
-    // of both they need. Returns 0, or `TOO_LITTLE_ROOM` if one of them does not fit.
-    pub(crate) fn tape(
-        &mut self,
-        input: &mut [u8],
-        nodes: &mut [Node],
-        text: &mut [u8],
-        room: &mut Room,
-    ) -> Result<i32>
-        ensures lent { IfOk result (λ status. (ns : List Item)
-            × IsReadWith self.old input.old None ns × (room.new ≡ room_for ns)
-            × ArePut ns status nodes.old nodes.new text.old text.new) }
-        ensures few { IfOk result (λ _.
-            (room.new.nodes ≤ length input.old) × (room.new.text ≤ length input.old)) }
-        ensures rejected { IfErr result (λ e. (ns : List Item)
-            × IsReadWith self.old input.old (Some e) ns × (room.new ≡ room.old)) }
-        ensures kept { KeepsLists self.old self.new }
-    {
-        let (nodes_len, text_len) = (nodes.len(), text.len());
-        let needed = write::<Brand>(&mut self.buffers, input, nodes, text)?.room;
-        *room = needed;
-        if needed.nodes <= nodes_len && needed.text <= text_len {
-            Ok(0)
-        } else {
-            Ok(TOO_LITTLE_ROOM)
-        }
-    }
-
     // Prints the value that a pointer names in a document to the caller's memory. Returns 0,
     // `TOO_LITTLE_ROOM`, `NO_VALUE` or `OUT_OF_MEMORY`.
     pub(crate) fn print(
@@ -201,6 +131,34 @@ impl Lists {
         }
     }
 
+    // The same for a pointer that may not be UTF-8, and then names no value: the input is not read.
+    pub(crate) fn print_from(
+        &mut self,
+        alloc: Global,
+        input: &mut [u8],
+        pointer: &[u8],
+        is_pretty: bool,
+        out: &mut [u8],
+        needed: &mut usize,
+    ) -> Result<i32>
+        ensures printed { IfOk result (λ status. (IsUtf8 pointer.now
+            × ((ns : List Item) × (d : Document)
+            × IsTapedWith self.old input.old None ns self.new × (listing d ≡ ns)
+            × IsChosenPut (vec_capacity self.old.printed) is_pretty pointer.now d status
+            needed.old needed.new out.old out.new))
+            ⊎ ((IsUtf8 pointer.now → ⊥) × (status ≡ no_value)
+            × (needed.new ≡ needed.old) × (out.new ≡ out.old))) }
+        ensures rejected { IfErr result (λ e. IsUtf8 pointer.now × ((ns : List Item)
+            × IsTapedWith self.old input.old (Some e) ns self.new
+            × (needed.new ≡ needed.old) × (out.new ≡ out.old))) }
+        ensures kept { KeepsLists self.old self.new }
+    {
+        match str::from_utf8(pointer) {
+            Ok(pointer) => self.print(alloc, input, pointer, is_pretty, out, needed),
+            Err(_) => Ok(NO_VALUE),
+        }
+    }
+
     // Keeps the nodes of a document and their texts, and lends them. Returns 0 or `OUT_OF_MEMORY`.
     pub(crate) fn parse(&mut self, input: &mut [u8], lent: &mut Lent) -> Result<i32>
         ensures lent { IfOk result (λ status. (ns : List Item)
@@ -224,59 +182,4 @@ impl Lists {
             None => Ok(OUT_OF_MEMORY),
         }
     }
-}
-
-// What `write` returns.
-#[derive(Drop)]
-struct Written {
-    // how many nodes and bytes of text the document needs
-    room: Room,
-    // the ghost record of its nodes
-    noted: Noted,
-}
-
-// Writes the nodes of a document and their texts, as far as they fit.
-fn write<K: Original>(
-    buffers: &mut Buffers,
-    input: &mut [u8],
-    nodes: &mut [Node],
-    text: &mut [u8],
-) -> Result<Written>
-    requires { input.old ≡ K.bytes }
-    ensures read { MatchResult result
-        (λ w. IsParseResult K.bytes buffers.old.limit (capacity buffers.old) None
-        w.noted.note.items)
-        (λ e. IsParseResult K.bytes buffers.old.limit (capacity buffers.old) (Some e) []) }
-    ensures room { IfOk result (λ w. (w.room.nodes ≡ length w.noted.note.items)
-        × (w.room.text ≡ min (length (texts w.noted.note.items)) 18446744073709551615)) }
-    ensures before { IfOk result (λ w. (w.noted.note.nodes_before ≡ nodes.old)
-        × (w.noted.note.text_before ≡ text.old)) }
-    ensures nodes { IfOk result (λ w. AreLaid w.noted.note nodes.new) }
-    ensures text { IfOk result (λ w. AreTextsLaid w.noted.note text.new) }
-    ensures kept { (buffers.new.limit ≡ buffers.old.limit)
-        × KeepsCapacities buffers.old buffers.new }
-{
-    let noted = Noted::of(&(&*nodes, &*text));
-    let mut sink = CallerSink {
-        nodes,
-        count: 0,
-        text,
-        used: 0,
-        is_container: false,
-        noted,
-    };
-    fill_sink::<K, CallerSink<'_>, Global>(input, buffers, &mut sink)?;
-    let CallerSink {
-        nodes: _nodes,
-        count,
-        text: _text,
-        used,
-        is_container: _,
-        noted,
-    } = sink;
-    let room = Room {
-        nodes: count,
-        text: used,
-    };
-    Ok(Written { room, noted })
 }

@@ -1,6 +1,6 @@
 use Rattle.simd_json_parts.specs.Listing.{listing}
 use Rattle.simd_json.proofs.Parses.ParseLaws.{answered-parsed, refused-or}
-use Rattle.simd_json_c.proofs.tape.check.Goals as goal
+use Rattle.simd_json_c.proofs.lists.check.Goals as goal
 
 pub returns-in-Ok-clause-checked : goal.returns-in-Ok-clause-checked
 returns-in-Ok-clause-checked c =
