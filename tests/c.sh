@@ -22,13 +22,13 @@ by() {
 
 make -s library > "$room/log" 2>&1 || { tail -n 20 "$room/log"; exit 1; }
 flags='-std=gnu11 -O1 -Wall -Wextra -Werror -Iinclude'
-for program in rows calls lent large mutants; do
+for program in rows calls lent mutants; do
     # shellcheck disable=SC2086
     cc $flags tests/c/$program.c build/libsimd_json.a -o "$room/$program"
 done
 # shellcheck disable=SC2086
 cc $flags tests/c/memory.c build/libsimd_json.a -Wl,--wrap=malloc,--wrap=realloc,--wrap=free -o "$room/memory"
-for program in calls lent large memory; do "$room/$program"; done
+for program in calls lent memory; do "$room/$program"; done
 by "$room/rows"
 
 if command -v python3 > /dev/null; then
@@ -42,7 +42,7 @@ fi
 
 if command -v valgrind > /dev/null; then
     check='valgrind -q --leak-check=full --error-exitcode=1'
-    for program in calls lent "large 1" "mutants $room/answers"; do
+    for program in calls lent "mutants $room/answers"; do
         [ -e "$room/answers" ] || [ "$program" != "mutants $room/answers" ] || continue
         # shellcheck disable=SC2086
         $check "$room"/$program

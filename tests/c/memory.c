@@ -127,18 +127,6 @@ static void memory_is_kept(void) {
     WANT(held == before);
 }
 
-// The document behind so much whitespace that structural indexes are marked, not listed.
-static int large(void) {
-    static char text[1100000];
-    memset(text, ' ', sizeof text);
-    memcpy(text + sizeof text - sizeof document, document, sizeof document - 1);
-    int status = simd_json_open(&parser, 3);
-    if (status == SIMD_JSON_OK) status = simd_json_parser_parse(&parser, text, sizeof text, &lent, &place);
-    WANT(status != SIMD_JSON_OK || (lent.nodes_len == 8 && lent.text_len == 2 && memcmp(lent.text, "a\n", 2) == 0));
-    simd_json_close(&parser);
-    return status;
-}
-
 static void each_fails(int call(void)) {
     int failures = 0, status;
     do {
@@ -168,6 +156,5 @@ int main(void) {
     each_fails(indexed);
     each_fails(location);
     each_fails(kept);
-    each_fails(large);
     memory_is_kept();
 }

@@ -1,7 +1,7 @@
 //! The memory that parses use one after another: the two lists that the first stage fills, and the
 //! stack of the second. A parse stores into entries that are there already: the lists keep their
 //! lengths between parses, and how many entries are in use is counted apart.
-ghost use Rattle.std.specs.Prelude.{◌≡◌, ◌≤◌, ◌<◌, ◌⊎◌, ◌+◌, ◌*◌, ◌/◌, [], length, min, max};
+ghost use Rattle.std.specs.Prelude.{◌≡◌, ◌≤◌, ◌<◌, ◌⊎◌, [], length, max};
 ghost use Rattle.std.specs.Prelude.{take};
 ghost use Rattle.std.specs.Prelude.{OnOk, OnErr, IfOk, IfErr, Some, Err};
 ghost use Rattle.std.specs.Vec.{vec_capacity};
@@ -13,15 +13,13 @@ ghost use Rattle.simd_json_check.specs.Capacities.{default_max_depth};
 ghost use Rattle.simd_json_parts.specs.Positions.{positions};
 ghost use Rattle.simd_json_parts.specs.Descent.{descent};
 ghost use Rattle.simd_json_stages.specs.Building.{IsWritten};
-ghost use Rattle.simd_json_stages.specs.EscapeBlocks.{backslash_blocks, blocks_in};
-ghost use Rattle.simd_json_stages.specs.Marks.{marked};
+ghost use Rattle.simd_json_stages.specs.EscapeBlocks.{blocks_in};
 ghost use Rattle.simd_json_stages.specs.NodesEnough.{nodes_enough};
 ghost use Rattle.simd_json_stages.specs.Refusals.{IsTokenFault};
-ghost use Rattle.simd_json_stages.specs.Scans as scans;
 
 use crate::DEFAULT_MAX_DEPTH;
 use simd_json_parts::error::Result;
-use simd_json_stages::stage1::{BLOCK_LEN, BlockStage1Parse, Found, Stage1Parse};
+use simd_json_stages::stage1::{BLOCK_LEN, BlockStage1Parse, Stage1Parse};
 use simd_json_stages::stage2::{NodeSink, Original, Scanned, StackState, build_tape};
 use std::alloc::{Allocator, Global};
 use std::marker::Model;
@@ -37,8 +35,7 @@ const FEW_OPEN: usize = 64;
 /// change a result.
 #[derive(Drop)]
 pub struct Buffers<A: Allocator = Global> {
-    // structural indexes (byte indexes into the input), and entries not in use; during the first
-    // parse of a large input into a sink, its marks
+    // structural indexes (byte indexes into the input), and entries not in use
     pub(crate) structural_indexes: Vec<u32, A>,
     // how many of these are in use, from the front
     pub(crate) used: usize,
@@ -49,7 +46,7 @@ pub struct Buffers<A: Allocator = Global> {
     // the stack of the second stage, in use only during a parse
     pub(crate) stack: Vec<StackState, A>,
     // a stack for a few containers, in place of one that is too short
-    pub(crate) few: [StackState; FEW_OPEN],
+    few: [StackState; FEW_OPEN],
     // how many containers may be open at a time
     pub(crate) max_depth: usize,
 }
@@ -231,47 +228,6 @@ impl<A: Allocator> Buffers<A> {
         let stack = self.stack.as_mut_slice();
         build_tape::<K, S>(input, scanned, stack, &mut self.few, sink, self.max_depth)
     }
-}
-
-// Marks the structural indexes of the input, by two entries of `marks` for each 64 bytes, and lists
-// its blocks that hold a backslash. Lengthens the stack to as many containers as they can open
-// within the limit, if these are more than `FEW_OPEN`. Returns the error of the whole input, or
-// `OutOfMemory` if an allocation fails.
-//
-// It takes the parts of buffers, and is no method: what buffers are known by does not name marks,
-// which mean nothing between calls.
-pub(crate) fn mark_positions<A: Allocator>(
-    input: &[u8],
-    marks: &mut Vec<u32, A>,
-    escape_blocks: &mut Vec<u32, A>,
-    stack: &mut Vec<StackState, A>,
-    max_depth: usize,
-) -> Result<Found>
-    requires { 64 ≤ length input.now }
-    ensures found { IfOk result (λ found.
-        (2 * (length input.now / 64 + 1) ≤ length marks.new.items)
-        × (marked (take (2 * (length input.now / 64 + 1)) marks.new.items) ≡ positions input.now)
-        × (found.positions ≡ length (positions input.now))
-        × (input_fault input.now ≡ None)) }
-    ensures escapes { IfOk result (λ found.
-        (found.escape_blocks ≤ length escape_blocks.new.items)
-        × (take found.escape_blocks escape_blocks.new.items ≡ backslash_blocks input.now)) }
-    ensures open { OnOk result
-        (min (length (positions input.now)) max_depth ≤ max (length stack.new.items) 64) }
-    ensures kept { (length marks.old.items ≤ length marks.new.items)
-        × (length escape_blocks.old.items ≤ length escape_blocks.new.items)
-        × (length stack.old.items ≤ length stack.new.items) }
-    ensures fault { IfErr result (λ e. (input_fault input.now ≡ Some e)
-        ⊎ scans.LacksMemory input.now e marks.old.items escape_blocks.old.items
-        ⊎ (LacksMemory input.now e
-        × (length stack.old.items < min (length input.now) max_depth))) }
-{
-    let found = BlockStage1Parse::mark_structural_bits(input, marks, escape_blocks)?;
-    let open = found.positions.min(max_depth);
-    if open > FEW_OPEN {
-        lengthen(stack, open, StackState::EMPTY)?;
-    }
-    Ok(found)
 }
 
 // Makes the list at least `len` long: lists are kept filled, so that a store into them needs no

@@ -1,9 +1,8 @@
 -- Nodes and texts, one more at a time.
 use Rattle.std.proofs.Common.{◌≡◌, ◌∙◌, ap, sym, refl, ℕ, zero, suc, ◌+◌, arith}
 use Rattle.std.proofs.Common.{List, [], ◌∷◌, ◌++◌, length, get_or, set, append_assoc}
-use Rattle.std.proofs.Common.{true, false, Bool, ◌||◌, nat_eq}
+use Rattle.std.proofs.Common.{true, false}
 use Rattle.std.proofs.lemmas.List.{length-append}
-use Rattle.std.proofs.Math.Dec.{eqb-suc-zero}
 use Rattle.simd_json_parts.specs.Nodes.{Item, static_item, array_item, object_item, string_item, decimal_item}
 use Rattle.simd_json_parts.specs.declared.node.StaticNode.{StaticNode}
 use Rattle.simd_json_parts.specs.declared.node.StaticNode.TheVariants as fixed
@@ -11,7 +10,7 @@ use Rattle.simd_json_stages.specs.Building.{header_of, is_header}
 use Rattle.simd_json_stages.specs.declared.stage2.stack.Container.{Container}
 use Rattle.simd_json_stages.specs.declared.stage2.stack.Container.TheVariants.{Array, Object}
 use Rattle.simd_json_c.specs.Nodes.{is_wide, text_of, texts}
-use Rattle.simd_json_c.specs.Loans.{cut_from, cut_of, is_headed}
+use Rattle.simd_json_c.specs.Loans.{cut_from, cut_of}
 use Rattle.simd_json_c.specs.declared.nodes.Node.{Node}
 
 -- ---- one more item
@@ -76,21 +75,8 @@ nodes-set start (n ∷ ns) zero y d node is header same =
 nodes-set start (n ∷ ns) (suc i) y d node is header same =
     ap (λ r. cut_of start n ∷ r) (nodes-set (start + length (text_of n)) ns i y d node is header same)
 
-pub headed-set : (ns : List Item) (i : ℕ) (y d : Item) → is_header (get_or ns i d) ≡ true → is_header y ≡ true
-    → is_headed (set ns i y) ≡ is_headed ns
-headed-set [] i y d is header = refl
-headed-set (n ∷ ns) zero y d is header = header ∙ sym is
-headed-set (n ∷ ns) (suc i) y d is header = refl
-
-pub headed-push : (ns : List Item) (x : Item) → is_header x ≡ false → is_headed (ns ++ x ∷ []) ≡ is_headed ns
-headed-push [] x none = none
-headed-push (n ∷ ns) x none = refl
 
 -- ---- the items of texts and headers
-
-or-false : (b : Bool) → (b || false) ≡ b
-or-false true = refl
-or-false false = refl
 
 pub header_of-header : (c : Container) (len count : ℕ) → is_header (header_of c len count) ≡ true
 header_of-header Array len count = refl
@@ -99,9 +85,3 @@ header_of-header Object len count = refl
 pub header_of-text : (c : Container) (len count : ℕ) → text_of (header_of c len count) ≡ []
 header_of-text c len count = header-text (header_of c len count) (header_of-header c len count)
 
-pub headed-push_header : (ns : List Item) (c : Container) (count : ℕ) (is_container : Bool)
-    → count ≡ length ns → is_container ≡ is_headed ns → (is_container || nat_eq count 0) ≡ is_headed (ns ++ header_of c 0 0 ∷ [])
-headed-push_header [] c count b counted is =
-    ap (λ k. b || nat_eq k 0) counted ∙ ap (λ z. z || true) is ∙ sym (header_of-header c 0 0)
-headed-push_header (n ∷ ns) c count b counted is =
-    ap (λ k. b || nat_eq k 0) counted ∙ ap (λ z. b || z) (eqb-suc-zero (length ns)) ∙ ap (λ z. z || false) is ∙ or-false (is_header n)

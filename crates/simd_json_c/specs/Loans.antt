@@ -1,7 +1,6 @@
 -- Nodes and texts that are written to lent memory one after another, as far as they fit.
-use Rattle.std.specs.Prelude.{◌≡◌, ◌≤◌, ◌<◌, ◌+◌, ◌%◌, ◌^◌, ℕ, List, [], ◌∷◌, ◌++◌, length, Bool, false}
+use Rattle.std.specs.Prelude.{◌≡◌, ◌≤◌, ◌<◌, ◌+◌, ◌%◌, ◌^◌, ℕ, List, [], ◌∷◌, ◌++◌, length}
 use Rattle.simd_json_parts.specs.Nodes.{Item}
-use Rattle.simd_json_stages.specs.Building.{is_header}
 use Rattle.simd_json_c.specs.Nodes.{node_of, span, text_of, texts}
 use Rattle.simd_json_c.specs.Notes.{Note}
 use Rattle.simd_json_c.specs.declared.nodes.Node.{Node}
@@ -28,10 +27,6 @@ cut_from start (n ∷ ns) = cut_of start n ∷ cut_from (start + length (text_of
 abbrev pub AreCut : List Item → List Node → List ℕ → Type 0
 AreCut ns nodes text = (nodes ≡ cut_from 0 ns) × (text ≡ texts ns)
 
-abbrev pub is_headed : List Item → Bool
-is_headed [] = false
-is_headed (n ∷ ns) = is_header n
-
 -- Two lists, with capacity for so many nodes and with so many bytes, are too small: where the first is not, the second is.
 abbrev pub AreTooSmall : ℕ → ℕ → List Item → Type 0
 AreTooSmall nodes text ns = length ns ≤ nodes → text < length (texts ns)
@@ -43,5 +38,5 @@ noting n x = record n { items = n.items ++ x ∷ [] }
 -- and so is one that has this kind and this text
 abbrev pub IsTextNoted : Note → Note → ℕ → List ℕ → Type 0
 IsTextNoted old new kind bytes =
-    (x : Item) × (new ≡ noting old x) × (is_header x ≡ false) × (text_of x ≡ bytes)
+    (x : Item) × (new ≡ noting old x) × (text_of x ≡ bytes)
     × ((start : ℕ) → node_of start x ≡ span kind (length bytes) start)

@@ -8,8 +8,7 @@ ghost use Rattle.simd_json.specs.Parsed.{IsParseResult};
 ghost use Rattle.simd_json_parts.specs.Limits.{max_length};
 ghost use Rattle.simd_json_parts.specs.Nodes.{Item, static_item};
 ghost use Rattle.simd_json_c.specs.Lent.{IsParsedWith};
-ghost use Rattle.simd_json_c.specs.Loans.{AreCut, AreTooSmall, IsTextNoted, Loan, is_headed};
-ghost use Rattle.simd_json_c.specs.Loans.{noting};
+ghost use Rattle.simd_json_c.specs.Loans.{AreCut, AreTooSmall, IsTextNoted, Loan, noting};
 ghost use Rattle.simd_json_c.specs.Nodes.{is_wide};
 ghost use Rattle.simd_json_c.specs.Notes.{Note};
 ghost use base.Fml.{ftrue};
@@ -98,7 +97,6 @@ pub(crate) fn keep<K: Original>(
         text,
         used: 0,
         lost: 0,
-        is_container: false,
         noted,
     };
     fill_sink::<K, KeptSink<'_>, Global>(input, buffers, &mut sink)?;
@@ -107,7 +105,6 @@ pub(crate) fn keep<K: Original>(
         text: _text,
         used,
         lost,
-        is_container: _,
         noted: _,
     } = sink;
     if lost == 0 { Ok(Some(used)) } else { Ok(None) }
@@ -123,13 +120,10 @@ pub(crate) struct KeptSink<'t> {
     used: usize,
     // how many nodes were appended and are not kept, from the first that could not be on
     lost: usize,
-    // whether the first node is the header of a container
-    is_container: bool,
     // the ghost record of the nodes, kept or not
     noted: Noted,
     ghost counted: { length nodes.now.items + lost ≡ length noted.note.items },
     ghost few: { length noted.note.items ≤ max_length },
-    ghost headed: { is_container ≡ is_headed noted.note.items },
     ghost within: { used ≤ length text.now.items },
     ghost kept: { lost ≡ 0
         → AreCut noted.note.items nodes.now.items (take used text.now.items) },
@@ -256,7 +250,6 @@ impl<'de, 't> NodeSink<'de> for KeptSink<'t> {
 
     #[inline(always)]
     fn push_header(&mut self, container: Container) {
-        self.is_container |= self.nodes.len() + self.lost == 0;
         keep_node(&mut self.lost, self.nodes, header_node(container, 0, 0));
         self.noted = Noted::of(&(&self.noted, container));
     }
@@ -265,11 +258,6 @@ impl<'de, 't> NodeSink<'de> for KeptSink<'t> {
     fn set_counts(&mut self, header: usize, container: Container, len: usize, count: usize) {
         set_node(self.nodes, header, header_node(container, len, count));
         self.noted = Noted::of(&(&self.noted, header, container, len, count));
-    }
-
-    #[inline(always)]
-    fn starts_with_header(&self) -> bool {
-        self.is_container
     }
 }
 

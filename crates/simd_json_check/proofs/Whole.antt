@@ -1,10 +1,8 @@
 -- What the test of a whole input finds is what a parse answers.
-use Rattle.std.proofs.Common.{◌≡◌, ◌∙◌, ap, sym, refl, subst, min, ◌<◌, ◌≤◌, ℕ, List, [], ◌∷◌, ◌++◌, length, get_or, arith, cond, ◌+◌}
-use Rattle.std.proofs.Common.{Bool, true, false, not, Option, Some, None, Err, IsUtf8, nat_lt, nat_eq, ◌||◌, ◌&&◌, ◌⊎◌, inl, inr}
+use Rattle.std.proofs.Common.{◌≡◌, ◌∙◌, ap, sym, refl, subst, min, ◌<◌, ◌≤◌, ℕ, List, length, arith, cond}
+use Rattle.std.proofs.Common.{Bool, true, false, not, Option, Some, None, Err, IsUtf8, nat_lt, ◌⊎◌, inl, inr}
 use Rattle.std.specs.Str.{is_utf8}
-use Rattle.std.proofs.Math.Dec.{eqb-suc-zero}
 use Rattle.std.proofs.lemmas.Bool.{cases_lt, cond-true, cond_both, lt-ltb, ltb-false}
-use Rattle.std.proofs.lemmas.List.{length-append}
 use Rattle.std.proofs.lemmas.List.FromFn.{length-range_with_len}
 use Rattle.std.proofs.lemmas.List.Sums.{length-filter, count_by-le-length}
 use Rattle.std.proofs.lemmas.Option.{none-some}
@@ -16,12 +14,10 @@ use Rattle.simd_json_parts.specs.Descent.{descent}
 use Rattle.simd_json_parts.specs.Faults.{whole_fault}
 use Rattle.simd_json_parts.specs.InputFaults.{input_fault, scan_fault}
 use Rattle.simd_json_parts.specs.Limits.{max_length}
-use Rattle.simd_json_parts.specs.Nodes.{Item}
 use Rattle.simd_json_parts.specs.Positions.{positions, is_position}
 use Rattle.simd_json_check.specs.Capacities.{Capacities, KeepsCapacities, IsRefused, IsUnchecked, LacksMemory, capacity, check_capacity}
 use Rattle.simd_json_parts.specs.declared.error.Error.{Error}
 use Rattle.simd_json_parts.specs.declared.error.ErrorType.TheVariants.{InputTooLarge, OutOfMemory}
-use Rattle.simd_json_stages.specs.Building.{is_header}
 use Rattle.simd_json_stages.specs.NodesEnough.{nodes_enough}
 
 -- ---- the answer
@@ -97,31 +93,3 @@ size_right b limit e is kind = elim (cases_lt max_length (length b)) [
       absurd (cc (same, kind))
   | inr right ↦ right
 ]
-
--- ---- the nodes that are counted
-
-pub length-push : (ns : List Item) (n : Item) → length (ns ++ n ∷ []) ≡ length ns + 1
-length-push ns n = length-append ns (n ∷ [])
-
-module _ (d : Item) where
-  -- whether the first of them is a header
-  abbrev pub is_headed : List Item → Bool
-  is_headed ns = is_header (get_or ns 0 d)
-
-  pub headed-push : (ns : List Item) (n : Item) (is_container is_first : Bool) (count : ℕ) → is_header d ≡ false
-      → is_container ≡ is_headed ns → count ≡ length ns → is_first ≡ is_header n
-      → (is_container || (is_first && nat_eq count 0)) ≡ is_headed (ns ++ n ∷ [])
-  headed-push [] n is_container is_first count none is counted first =
-      ap (λ t. t || (is_first && nat_eq count 0)) (is ∙ none) ∙ ap (λ k. is_first && nat_eq k 0) counted ∙ and-true is_first ∙ first
-    where
-      and-true : (t : Bool) → (t && true) ≡ t
-      and-true true = refl
-      and-true false = refl
-  headed-push (m ∷ ms) n is_container is_first count none is counted first =
-      ap (λ k. is_container || (is_first && nat_eq k 0)) counted ∙ ap (λ t. is_container || (is_first && t)) (eqb-suc-zero (length ms))
-      ∙ unchanged is_container is_first ∙ is
-    where
-      unchanged : (s t : Bool) → (s || (t && false)) ≡ s
-      unchanged true t = refl
-      unchanged false true = refl
-      unchanged false false = refl

@@ -1,6 +1,6 @@
 //! The test of a whole input: along its structural indexes and, where that finds a fault, by the
 //! second stage of a parse over a copy of the input, into a sink that keeps no node.
-ghost use Rattle.std.specs.Prelude.{◌≡◌, ◌≤◌, ◌<◌, ◌⊎◌, ◌++◌, ◌∷◌, [], List, length, get_or};
+ghost use Rattle.std.specs.Prelude.{◌≡◌, ◌≤◌, ◌<◌, ◌⊎◌, ◌++◌, ◌∷◌, [], List, length};
 ghost use Rattle.std.specs.Prelude.{Ok, Err, IsTrue, OnOk, IfErr, min, max};
 ghost use Rattle.std.specs.Vec.{vec_capacity};
 ghost use Rattle.simd_json_check.specs.Capacities.{KeepsCapacities, LacksMemory, IsUnchecked};
@@ -8,10 +8,9 @@ ghost use Rattle.simd_json_parts.specs.Answer.{answer};
 ghost use Rattle.simd_json_parts.specs.Descent.{descent};
 ghost use Rattle.simd_json_parts.specs.Document.{Document};
 ghost use Rattle.simd_json_parts.specs.Limits.{max_length};
-ghost use Rattle.simd_json_parts.specs.Nodes.{Item, static_item};
+ghost use Rattle.simd_json_parts.specs.Nodes.{Item};
 ghost use Rattle.simd_json_parts.specs.Positions.{positions};
-ghost use Rattle.simd_json_parts.specs.declared.node.StaticNode.TheVariants.{Null};
-ghost use Rattle.simd_json_stages.specs.Building.{header_of, is_header};
+ghost use Rattle.simd_json_stages.specs.Building.{header_of};
 ghost use Rattle.simd_json_stages.specs.Scans.{IsScanOf};
 ghost use base.Fml.{ftrue};
 
@@ -146,7 +145,6 @@ fn count_nodes<K: Original>(
     let mut few = [StackState::EMPTY; FEW_OPEN];
     let mut sink = Counted {
         count: 0,
-        is_container: false,
         noted: Noted::of(&()),
     };
     build_tape::<K, Counted>(input, scanned, stack, &mut few, &mut sink, max_depth)
@@ -157,26 +155,20 @@ fn count_nodes<K: Original>(
 struct Counted {
     // how many nodes were appended
     count: usize,
-    // whether the first node is the header of a container
-    is_container: bool,
     // the ghost record of the nodes
     noted: Noted,
     ghost counted: { count ≡ length noted.items },
-    ghost headed: { is_container
-        ≡ is_header (get_or noted.items 0 (static_item Null)) },
 }
 
 impl Counted {
     // Counts a node that the caller's proof chooses; `seen` makes its values available to that
     // proof.
     #[inline(always)]
-    fn put<T>(&mut self, opens: bool, seen: &T)
+    fn put<T>(&mut self, seen: &T)
         ghost item: { Item }
-        requires room { length self.old.noted.items < max_length }
-        requires header { opens ≡ is_header item }
+        requires { length self.old.noted.items < max_length }
         ensures { self.new.noted.items ≡ self.old.noted.items ++ item ∷ [] }
     {
-        self.is_container |= opens & (self.count == 0);
         self.count += 1;
         self.noted = Noted::of(&(&self.noted, seen));
     }
@@ -198,32 +190,27 @@ impl<'de> NodeSink<'de> for Counted {
 
     #[inline(always)]
     fn push_string(&mut self, string: &'de str) {
-        self.put(false, &string);
+        self.put(&string);
     }
 
     #[inline(always)]
     fn push_decimal(&mut self, literal: &'de str) {
-        self.put(false, &literal);
+        self.put(&literal);
     }
 
     #[inline(always)]
     fn push_static(&mut self, value: StaticNode) {
-        self.put(false, &value);
+        self.put(&value);
     }
 
     #[inline(always)]
     fn push_header(&mut self, container: Container) {
-        self.put(true, &container);
+        self.put(&container);
     }
 
     #[inline(always)]
     fn set_counts(&mut self, header: usize, container: Container, len: usize, count: usize) {
         self.noted = Noted::of(&(&self.noted, header, container, len, count));
-    }
-
-    #[inline(always)]
-    fn starts_with_header(&self) -> bool {
-        self.is_container
     }
 }
 

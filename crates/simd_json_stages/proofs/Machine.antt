@@ -7,7 +7,6 @@ pub mod Refusing
 pub mod Following
 pub mod BetweenBlocks
 pub mod EscapesPassed
-pub mod Marking
 pub mod InputLaws
 pub mod ScalarPut
 pub mod StringPut

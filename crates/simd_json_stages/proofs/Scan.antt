@@ -3,7 +3,6 @@ pub mod CarryLaws
 pub mod Bits
 pub mod BlockLaws
 pub mod BlockWords
-pub mod MarkLaws
 pub mod ScanLaws
 pub mod BlockScanLaws
 pub mod GroupLaws

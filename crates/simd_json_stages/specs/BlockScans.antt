@@ -1,5 +1,5 @@
 -- What a scan of some blocks in a row requires, and what it ensures. It serves proofs: only the crate's private clauses cite it.
-use Rattle.std.specs.Prelude.{◌≡◌, ℕ, ◌+◌, ◌-◌, ◌*◌, ◌^◌, ◌≤◌, List, length, Bool}
+use Rattle.std.specs.Prelude.{◌≡◌, ℕ, ◌+◌, ◌-◌, ◌*◌, ◌^◌, ◌≤◌, List, length}
 use Rattle.simd_json_stages.specs.Blocks.{AreBlocks, CanList, IsAscii, IsClassified, IsPlaced, IsScanned}
 use Rattle.simd_json_stages.specs.declared.stage1.scan.ScanState.{ScanState}
 use Rattle.simd_json_stages.specs.declared.stage1.scan.Classifying.{Classifying}
@@ -20,9 +20,8 @@ pub record Classifies (blocks : List (List ℕ)) (first end : ℕ) (before after
       → (before.high ≡ 0) × IsAscii b (64 * first) (64 * end)
 
 -- Both steps have passed them.
-pub record Scans (marks : Bool) (blocks : List (List ℕ)) (first end : ℕ) (before after : ScanState)
-    (old old_escapes new new_escapes : List ℕ) : Type 0 where
+pub record Scans (blocks : List (List ℕ)) (first end : ℕ) (before after : ScanState) (old old_escapes new new_escapes : List ℕ)
+    : Type 0 where
   pub classifies : Classifies blocks first end before.classifying after.classifying old_escapes new_escapes
   pub few : after.placing.used ≤ before.placing.used + 64 * (end - first)
-  pub placed : (b : List ℕ) → AreBlocks b blocks → IsScanned marks b first before old old_escapes
-      → IsPlaced marks b end after.placing new
+  pub placed : (b : List ℕ) → AreBlocks b blocks → IsScanned b first before old old_escapes → IsPlaced b end after.placing new

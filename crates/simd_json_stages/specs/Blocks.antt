@@ -6,7 +6,6 @@ use Rattle.std.specs.List.{list_any, range_with_len}
 use Rattle.std.specs.Int.{from_bool}
 use Rattle.simd_json_parts.specs.Bytes.{backslash, is_whitespace, is_structural, is_control, byte_at}
 use Rattle.simd_json_parts.specs.Positions.{is_real_quote, is_inside, is_position}
-use Rattle.simd_json_stages.specs.Marks.{indexes_in}
 use Rattle.simd_json_stages.specs.Words.{HasBits, parity}
 use Rattle.simd_json_stages.specs.Classes.{is_space_or_quote, is_op_or_quote}
 use Rattle.simd_json_stages.specs.EscapeBlocks.{holds_backslash}
@@ -104,16 +103,15 @@ pub record IsClassified (b : List ℕ) (k : ℕ) (s : Classifying) (listed : Lis
   pub within : s.listed ≤ length listed
   pub found : take s.listed listed ≡ filter (holds_backslash b) (range_with_len 0 k)
 
--- After the first k blocks: what the next one needs, and at the front of the list their positions, or a word for each block.
-pub record IsPlaced (marks : Bool) (b : List ℕ) (k : ℕ) (p : Placing) (out : List ℕ) : Type 0 where
+-- After the first k blocks: what the next one needs, and at the front of the list their positions.
+pub record IsPlaced (b : List ℕ) (k : ℕ) (p : Placing) (out : List ℕ) : Type 0 where
   pub carried : IsCarried b (64 * k) p.carry
   pub bad : (p.bad == 0) ≡ not (has_control_before b (64 * k))
   pub few : p.used ≤ 64 * k
   pub within : p.used ≤ length out
-  pub words : marks ≡ true → p.used ≡ 2 * k
-  pub found : indexes_in marks (take p.used out) ≡ filter (is_position b) (range_with_len 0 (64 * k))
+  pub found : take p.used out ≡ filter (is_position b) (range_with_len 0 (64 * k))
 
 -- both
-pub record IsScanned (marks : Bool) (b : List ℕ) (k : ℕ) (s : ScanState) (out : List ℕ) (listed : List ℕ) : Type 0 where
+pub record IsScanned (b : List ℕ) (k : ℕ) (s : ScanState) (out : List ℕ) (listed : List ℕ) : Type 0 where
   pub classified : IsClassified b k s.classifying listed
-  pub placed : IsPlaced marks b k s.placing out
+  pub placed : IsPlaced b k s.placing out

@@ -1,10 +1,11 @@
 -- What the nodes so far and the stack mean for the containers that are open, the innermost first.
 use Rattle.std.specs.Prelude.{◌≡◌, ℕ, zero, suc, ◌+◌, ◌-◌, List, [], ◌∷◌, ◌++◌, length, get_or, slice_set, map, drop, Bool, true, false}
-use Rattle.std.specs.Prelude.{Result, Ok, Err}
+use Rattle.std.specs.Prelude.{◌||◌, ◌==◌, Result, Ok, Err}
+use Rattle.simd_json_parts.specs.Bytes.{byte_at}
 use Rattle.simd_json_parts.specs.Document.{Document, array, object, no_elements, no_members}
 use Rattle.simd_json_parts.specs.Nodes.{Item, array_item, object_item, string_item, item_of}
 use Rattle.simd_json_parts.specs.Listing.{listing}
-use Rattle.simd_json_parts.specs.Descent.{◌>>=◌, last_index, root_end, descent}
+use Rattle.simd_json_parts.specs.Descent.{◌>>=◌, is_container, last_index, root_end, descent}
 use Rattle.simd_json_parts.specs.Faults.{fault_with, fault_at}
 use Rattle.simd_json_parts.specs.Tokens.{Token}
 use Rattle.simd_json_parts.specs.TokensAlong.{tokens_along}
@@ -27,6 +28,9 @@ use Rattle.simd_json_stages.specs.declared.stage2.fault.FaultKind.TheVariants as
 abbrev pub closer : Container → ℕ
 closer Array = 93
 closer Object = 125
+
+abbrev pub is_closing : ℕ → Bool
+is_closing x = (x == 93) || (x == 125)
 
 abbrev pub header_of : Container → ℕ → ℕ → Item
 header_of Array len count = array_item len count
@@ -150,7 +154,7 @@ module _ (b ps : List ℕ) (limit : ℕ) where
     pub holds : HoldsMembers members outer p.container (frames stack p.depth) p.len nodes
     pub deep : suc (length outer) ≡ p.depth
 
-  -- The value has been read.
+  -- The value has been read. Its last token tells whether it is a container.
   pub record AfterValue (stack : List StackState) (nodes : List Item) (p : Progress) : Type 0 where
     pub opens : List Open
     pub last : Document
@@ -158,6 +162,7 @@ module _ (b ps : List ℕ) (limit : ℕ) where
     pub before : List Token
     pub along : tokens_along b ps ≡ before ++ tokens_along b (drop p.read ps)
     pub reached : last_index before ≡ p.at
+    pub kind : is_closing (byte_at b p.at) ≡ is_container last
     pub holds : HoldsValue opens last p.container (frames stack p.depth) p.len nodes
     pub deep : length opens ≡ p.depth
 

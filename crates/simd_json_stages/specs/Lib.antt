@@ -1,12 +1,11 @@
 -- What the public contracts of the first stage rest on: the blocks that it lists, and what it returns where memory is short.
 pub mod EscapeBlocks
 pub mod Scans
-pub mod Words
-pub mod Marks
 -- What the second stage's rests on.
 pub mod NodesEnough
 -- What serves the proofs of the first stage alone: only the crate's private clauses cite it.
 pub mod Carries
+pub mod Words
 pub mod Classes
 pub mod Blocks
 pub mod BlockScans
@@ -17,8 +16,6 @@ pub mod Inputs
 pub mod EscapesAhead
 pub mod Continued
 pub mod Building
-pub mod MarksAhead
-pub mod Leading
 pub mod Progresses
 pub mod Members
 pub mod Put

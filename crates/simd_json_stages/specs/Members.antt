@@ -1,10 +1,9 @@
 -- The machine between the members of a container.
-use Rattle.std.specs.Prelude.{◌≡◌, ◌≤◌, ◌<◌, ◌+◌, ◌*◌, ℕ, List, [], length, slice_index, min, Contains, Result, OnOk, IfErr}
+use Rattle.std.specs.Prelude.{◌≡◌, ◌≤◌, ◌<◌, ◌+◌, ◌*◌, ℕ, List, length, slice_index, min, Contains, Result, OnOk, IfErr}
 use Rattle.simd_json_parts.specs.Bytes.{quote}
 use Rattle.simd_json_parts.specs.Tokens.{form_at, tokens}
 use Rattle.simd_json_parts.specs.Nodes.{Item}
 use Rattle.simd_json_stages.specs.Building.{closer, AtValue, AtName, AfterValue, IsBuilt, IsFirstFault}
-use Rattle.simd_json_stages.specs.Leading.{listed, Leads}
 use Rattle.simd_json_stages.specs.NodesEnough.{nodes_enough}
 use Rattle.simd_json_stages.specs.Progresses.{IsOnRoute, IsRead, IsBefore, IsAfter}
 use Rattle.simd_json_stages.specs.Refusals.{error_type}
@@ -33,16 +32,14 @@ pub record HasCapacity (ps : List ℕ) (limit : ℕ) (stack : List StackState) (
 
 -- after a token, where the next one can be read if there is one
 pub record AfterToken (b : List ℕ) (r : Route) (t : Input) (p : Progress) : Type 0 where
-  pub on_route : IsOnRoute r.ends_closed b (listed r.positions)
-  pub read : IsRead b (listed r.positions) p
-  pub leads : Leads r.positions p
-  pub input : p.read < length (listed r.positions) → Reads b t (slice_index (listed r.positions) p.read)
+  pub on_route : IsOnRoute r.ends_closed b r.indexes.now
+  pub read : IsRead b r.indexes.now p
+  pub input : p.read < length r.indexes.now → Reads b t (slice_index r.indexes.now p.read)
 
 -- at the opening quote of a string
 pub record AtString (b : List ℕ) (r : Route) (t : Input) (capacity written : ℕ) (p : Progress) : Type 0 where
-  pub on_route : IsOnRoute r.ends_closed b (listed r.positions)
-  pub read : IsRead b (listed r.positions) p
-  pub leads : Leads r.positions p
+  pub on_route : IsOnRoute r.ends_closed b r.indexes.now
+  pub read : IsRead b r.indexes.now p
   pub token : Contains (tokens b) (record { index = p.at; form = form_at b p.at })
   pub opening : p.byte ≡ quote
   pub input : Reads b t p.at
@@ -53,23 +50,15 @@ abbrev pub IsFrom : ℕ → NextMember → Type 0
 IsFrom n (Next p kind) = n ≤ p.read
 IsFrom n End = Unit {0}
 
--- before any token of the input b is read
-pub record AtStart (b : List ℕ) (r : Route) (m : Machine) (capacity : ℕ) (nodes : List Item) : Type 0 where
-  pub on_route : IsOnRoute r.ends_closed b (listed r.positions)
-  pub capacities : HasCapacity (listed r.positions) r.max_depth m.stack.now capacity
-  pub empty : nodes ≡ []
-  pub input : Reads b m.input 0
-
 -- The state of the machine is its input and stack, and the nodes with their capacity.
 module _ (b : List ℕ) (r : Route) (m : Machine) (capacity : ℕ) (nodes : List Item) where
   -- at the first token of a value
   pub record AtFirst (p : Progress) : Type 0 where
-    pub on_route : IsOnRoute r.ends_closed b (listed r.positions)
-    pub capacities : HasCapacity (listed r.positions) r.max_depth m.stack.now capacity
-    pub progress : IsBefore b (listed r.positions) (Reads b m.input) (length nodes) p
-    pub leads : Leads r.positions p
+    pub on_route : IsOnRoute r.ends_closed b r.indexes.now
+    pub capacities : HasCapacity r.indexes.now r.max_depth m.stack.now capacity
+    pub progress : IsBefore b r.indexes.now (Reads b m.input) (length nodes) p
     pub depth : p.depth ≤ r.max_depth
-    pub value : AtValue b (listed r.positions) r.max_depth m.stack.now nodes p
+    pub value : AtValue b r.indexes.now r.max_depth m.stack.now nodes p
 
   -- at the opening bracket of a container of this kind
   pub record AtOpening (p : Progress) (c : Container) : Type 0 where
@@ -84,21 +73,19 @@ module _ (b : List ℕ) (r : Route) (m : Machine) (capacity : ℕ) (nodes : List
 
   -- at the first token of a member of an object, where a fault of this kind is reported if it is no key
   pub record AtPair (p : Progress) (kind : FaultKind) : Type 0 where
-    pub on_route : IsOnRoute r.ends_closed b (listed r.positions)
-    pub capacities : HasCapacity (listed r.positions) r.max_depth m.stack.now capacity
-    pub progress : IsBefore b (listed r.positions) (Reads b m.input) (length nodes) p
-    pub leads : Leads r.positions p
+    pub on_route : IsOnRoute r.ends_closed b r.indexes.now
+    pub capacities : HasCapacity r.indexes.now r.max_depth m.stack.now capacity
+    pub progress : IsBefore b r.indexes.now (Reads b m.input) (length nodes) p
     pub depth : p.depth ≤ r.max_depth
-    pub name : AtName b (listed r.positions) r.max_depth (error_type kind) m.stack.now nodes p
+    pub name : AtName b r.indexes.now r.max_depth (error_type kind) m.stack.now nodes p
 
   -- after a value
   pub record AfterLast (p : Progress) : Type 0 where
-    pub on_route : IsOnRoute r.ends_closed b (listed r.positions)
-    pub capacities : HasCapacity (listed r.positions) r.max_depth m.stack.now capacity
-    pub progress : IsAfter b (listed r.positions) (Reads b m.input) (length nodes) p
-    pub leads : Leads r.positions p
+    pub on_route : IsOnRoute r.ends_closed b r.indexes.now
+    pub capacities : HasCapacity r.indexes.now r.max_depth m.stack.now capacity
+    pub progress : IsAfter b r.indexes.now (Reads b m.input) (length nodes) p
     pub depth : p.depth ≤ r.max_depth
-    pub after : AfterValue b (listed r.positions) r.max_depth m.stack.now nodes p
+    pub after : AfterValue b r.indexes.now r.max_depth m.stack.now nodes p
 
   -- after a member of a container of this kind
   pub record AfterMember (p : Progress) (c : Container) : Type 0 where
@@ -114,7 +101,7 @@ module _ (b : List ℕ) (r : Route) (m : Machine) (capacity : ℕ) (nodes : List
   -- at a member, or at the end with the whole document
   abbrev pub IsAtMember : NextMember → Type 0
   IsAtMember (Next p kind) = IsAtMemberOf p.container p kind
-  IsAtMember End = (2 * length nodes ≤ length (listed r.positions) + 1) × IsBuilt b (listed r.positions) r.max_depth nodes
+  IsAtMember End = (2 * length nodes ≤ length r.indexes.now + 1) × IsBuilt b r.indexes.now r.max_depth nodes
 
   -- in a new container, or past a value
   abbrev pub HasCome : Step → Type 0
@@ -128,7 +115,7 @@ module _ (b : List ℕ) (r : Route) (m : Machine) (capacity : ℕ) (nodes : List
 
 -- the fault is the descent's
 abbrev pub IsFault : List ℕ → Route → Fault → Type 0
-IsFault b r f = IsFirstFault b (listed r.positions) r.max_depth f
+IsFault b r f = IsFirstFault b r.indexes.now r.max_depth f
 
 -- The nodes of the whole document are written, or the fault is the descent's.
 pub record IsTape (b ps : List ℕ) (limit : ℕ) (nodes : List Item) (r : Result (Unit {0}) Fault) : Type 0 where

@@ -3,7 +3,6 @@ use Rattle.std.specs.Prelude.{◌≡◌, ◌≢◌, ◌⊎◌, ◌≤◌, ◌<�
 use Rattle.simd_json_parts.specs.Bytes.{byte_at}
 use Rattle.simd_json_parts.specs.InputFaults.{input_fault}
 use Rattle.simd_json_parts.specs.Positions.{positions}
-use Rattle.simd_json_stages.specs.EscapeBlocks.{backslash_blocks}
 use Rattle.simd_json_stages.specs.EscapesAhead.{PlainFrom}
 use Rattle.simd_json_stages.specs.declared.stage2.progress.Progress.{Progress}
 use Rattle.simd_json_stages.specs.declared.stage2.progress.Following.{Following}
@@ -18,11 +17,11 @@ pub record IsRead (b ps : List ℕ) (p : Progress) : Type 0 where
   pub last : p.at ≡ slice_index ps (p.read - 1)
   pub first : p.byte ≡ byte_at b p.at
 
--- q is at the position after p's, and nothing else has changed but the bits that lead on
+-- q is at the position after p's, and nothing else has changed
 pub record IsNext (b ps : List ℕ) (p q : Progress) : Type 0 where
   pub more : p.read < length ps
   pub read : IsRead b ps q
-  pub same : q ≡ record p { read = p.read + 1; at = slice_index ps p.read; byte = byte_at b (slice_index ps p.read); bits = q.bits }
+  pub same : q ≡ record p { read = p.read + 1; at = slice_index ps p.read; byte = byte_at b (slice_index ps p.read) }
 
 -- the last position holds a closing bracket
 abbrev pub EndsClosed : List ℕ → List ℕ → Type 0
@@ -33,12 +32,6 @@ pub record IsOnRoute (closed : Bool) (b ps : List ℕ) : Type 0 where
   pub positions : ps ≡ positions b
   pub whole : input_fault b ≡ None
   pub closes : IsTrue closed → EndsClosed b ps
-
--- ps are the positions of b, which is no fault as a whole, and in these blocks it has a backslash
-pub record IsStructureOf (b ps blocks : List ℕ) : Type 0 where
-  pub positions : ps ≡ positions b
-  pub escapes : blocks ≡ backslash_blocks b
-  pub whole : input_fault b ≡ None
 
 -- what the copy of the machine of this number relies on: 0 that no byte is a backslash, and all but 2 that the last position closes
 pub record IsForCopy (copy : ℕ) (b ps : List ℕ) : Type 0 where

@@ -2,6 +2,7 @@
 use Rattle.std.specs.Prelude.{◌≡◌, ◌≢◌, ◌<◌, ◌⊎◌, ℕ, List, [], ◌∷◌, ◌++◌, length, Bool, true, false, ◌&&◌, nat_eq, codes, Ok, Err}
 use Rattle.std.specs.List.{starts_with}
 use Rattle.simd_json_parts.specs.Bytes.{byte_at, is_terminator}
+use Rattle.simd_json_parts.specs.Descent.{is_container}
 use Rattle.simd_json_parts.specs.Document.{Document}
 use Rattle.simd_json_parts.specs.Faults.{fault_with}
 use Rattle.simd_json_parts.specs.Listing.{listing}
@@ -56,6 +57,7 @@ pub record IsScalarPut (b : List ℕ) (i : ℕ) (nodes nodes' : List Item) (read
   pub node : Item
   pub read : form_at b i ≡ scalar (Ok (document, end))
   pub listed : listing document ≡ node ∷ []
+  pub single : is_container document ≡ false
   pub put : nodes' ≡ nodes ++ node ∷ []
   pub input : reads i ⊎ reads end
 

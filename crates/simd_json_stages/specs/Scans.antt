@@ -1,5 +1,5 @@
 -- What a scan of a whole input finds, and its errors where memory is short or the input is not UTF-8. Public contracts rest on it.
-use Rattle.std.specs.Prelude.{◌≡◌, ◌≤◌, ◌<◌, ◌⊎◌, ◌+◌, ◌*◌, ◌/◌, ℕ, List, length, take, Bool, true, false, None, IsUtf8}
+use Rattle.std.specs.Prelude.{◌≡◌, ◌≤◌, ◌<◌, ◌⊎◌, ℕ, List, length, take, Bool, None, IsUtf8}
 use Rattle.simd_json_parts.specs.Faults.{whole_fault}
 use Rattle.simd_json_parts.specs.InputFaults.{has_bad_string, input_fault}
 use Rattle.simd_json_parts.specs.Limits.{max_length}
@@ -7,9 +7,7 @@ use Rattle.simd_json_parts.specs.Positions.{positions}
 use Rattle.simd_json_parts.specs.declared.error.Error.{Error}
 use Rattle.simd_json_parts.specs.declared.error.ErrorType.TheVariants.{InvalidUtf8, OutOfMemory}
 use Rattle.simd_json_stages.specs.EscapeBlocks.{blocks_in, backslash_blocks}
-use Rattle.simd_json_stages.specs.Marks.{indexes_in, marked}
 use Rattle.simd_json_stages.specs.declared.stage1.Found.{Found}
-use Rattle.simd_json_stages.specs.declared.stage2.Marked.{Marked}
 use Rattle.simd_json_stages.specs.declared.stage2.Scanned.{Scanned}
 
 -- the list of positions is shorter than the input, or the list of blocks than its number of blocks
@@ -24,31 +22,18 @@ LacksMemory b e positions blocks = (e ≡ whole_fault OutOfMemory) × (length b 
 abbrev pub IsBadEncoding : List ℕ → Error → Type 0
 IsBadEncoding b e = (e ≡ whole_fault InvalidUtf8) × ¬ IsUtf8 b
 
--- What a scan finds in an input that is UTF-8: whether some string is bad, and at the front of either list the positions, listed or
--- marked, and the blocks that hold a backslash. These are so many entries.
-pub record IsFound (marks : Bool) (b : List ℕ) (is_bad : Bool) (found : Found) (structural_indexes escape_blocks : List ℕ) : Type 0 where
+-- What a scan finds in an input that is UTF-8: whether some string is bad, and at the front of either list the positions and the
+-- blocks that hold a backslash.
+pub record IsFound (b : List ℕ) (is_bad : Bool) (found : Found) (structural_indexes : List ℕ) (escape_blocks : List ℕ) : Type 0 where
   pub encoding : IsUtf8 b
   pub bad : is_bad ≡ has_bad_string b
   pub within : found.positions ≤ length structural_indexes
-  pub words : marks ≡ true → found.positions ≡ 2 * (length b / 64 + 1)
-  pub listed : indexes_in marks (take found.positions structural_indexes) ≡ positions b
+  pub listed : take found.positions structural_indexes ≡ positions b
   pub blocks_within : found.escape_blocks ≤ length escape_blocks
   pub blocks_listed : take found.escape_blocks escape_blocks ≡ backslash_blocks b
-
--- how many entries of the list are in use for what is found: two for each word of marks
-abbrev pub entries : Bool → List ℕ → Found → ℕ
-entries true b found = 2 * (length b / 64 + 1)
-entries false b found = found.positions
 
 -- what is handed on of an input without a fault of the whole
 pub record IsScanOf (b : List ℕ) (s : Scanned) : Type 0 where
   pub positions : s.structural_indexes.now ≡ positions b
   pub escapes : s.escape_blocks.now ≡ backslash_blocks b
-  pub whole : input_fault b ≡ None
-
--- the same where the positions are marked
-pub record IsMarkingOf (b : List ℕ) (m : Marked) : Type 0 where
-  pub marks : marked m.marks.now ≡ positions b
-  pub count : m.positions ≡ length (positions b)
-  pub escapes : m.escape_blocks.now ≡ backslash_blocks b
   pub whole : input_fault b ≡ None

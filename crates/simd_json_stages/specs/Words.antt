@@ -1,4 +1,4 @@
--- Words of 64 bits, one bit at a time. The public contract of marks rests on `set_bits`; the rest serves proofs.
+-- Words of 64 bits, one bit at a time. It serves proofs: only the crate's private clauses cite it.
 use Rattle.std.specs.Prelude.{◌≡◌, ℕ, zero, suc, ◌+◌, ◌-◌, ◌^◌, ◌<◌, ◌≤◌, ◌==◌, List, map, filter, Bool, true, false, not, ◌&&◌}
 use Rattle.std.specs.Int.{bit_at}
 use Rattle.std.specs.List.{range_with_len}

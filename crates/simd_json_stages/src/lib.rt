@@ -9,6 +9,5 @@
 #![tactic(auto)]
 
 pub mod laws;
-mod marks;
 pub mod stage1;
 pub mod stage2;

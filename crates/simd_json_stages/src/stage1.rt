@@ -20,17 +20,13 @@
 //! Where it differs from simdjson: eight blocks are taken at a time, each step over all of them;
 //! the prefix XOR is computed by shifts; the input needs no padding; the lists grow with what is
 //! found; and blocks with a backslash are listed, so that stage 2 need not search most strings for
-//! escapes. As there, an index is a `u32`. A caller that asks for marks gets the words, an eighth
-//! of the input's bytes, without the last step.
-ghost use Rattle.std.specs.Prelude.{◌≡◌, ◌+◌, ◌*◌, ◌/◌, ◌≤◌, ◌⊎◌, length, take, Some, None};
-ghost use Rattle.std.specs.Prelude.{IfOk, IfErr, IsTrue};
+//! escapes. As there, an index is a `u32`.
+ghost use Rattle.std.specs.Prelude.{◌≡◌, ◌≤◌, ◌⊎◌, length, take, Some, None, IfOk, IfErr};
 ghost use Rattle.simd_json_parts.specs.InputFaults.{input_fault};
 ghost use Rattle.simd_json_parts.specs.Positions.{positions};
 ghost use Rattle.simd_json_stages.specs.EscapeBlocks.{backslash_blocks};
-ghost use Rattle.simd_json_stages.specs.Marks.{indexes_in, marked};
-ghost use Rattle.simd_json_stages.specs.Scans.{LacksMemory, entries};
+ghost use Rattle.simd_json_stages.specs.Scans.{LacksMemory};
 
-use crate::marks::count_marks;
 use scan::{scan_blocks, scan_rest};
 use simd_json_parts::error::{Error, ErrorType, Result};
 use std::alloc::Allocator;
@@ -109,89 +105,25 @@ impl Stage1Parse for BlockStage1Parse {
         structural_indexes: &mut Vec<u32, A>,
         escape_blocks: &mut Vec<u32, A>,
     ) -> Result<Found> {
-        find::<A, false>(input, structural_indexes, escape_blocks)
+        if input.len() > u32::MAX as usize {
+            return Err(Error::generic(ErrorType::InputTooLarge));
+        }
+        let (blocks, rest) = input.as_chunks::<64>();
+        let (done, checked) = scan_blocks(input, blocks, structural_indexes, escape_blocks)?;
+        let (has_bad_string, found) = scan_rest(
+            input,
+            rest,
+            done,
+            checked,
+            structural_indexes,
+            escape_blocks,
+        )?;
+        if has_bad_string {
+            return Err(Error::generic(ErrorType::Syntax));
+        }
+        if found.positions == 0 {
+            return Err(Error::generic(ErrorType::Eof));
+        }
+        Ok(found)
     }
-}
-
-impl BlockStage1Parse {
-    /// Marks the structural indexes of an input of at least 64 bytes. At the front of `marks` it
-    /// writes two entries for each block of 64 bytes, and for the bytes after the last of them,
-    /// which may be none: bit `i` of the first is set if byte `i` of the block is at a structural
-    /// index, and bit `i` of the second if byte `32 + i` is. At the front of `escape_blocks` it
-    /// lists the blocks that hold a backslash, as
-    /// [`find_structural_bits`](Stage1Parse::find_structural_bits) does.
-    ///
-    /// Returns how many structural indexes there are, and how many entries of `escape_blocks` are
-    /// in use. The errors, and what is left after one, are those of `find_structural_bits`.
-    pub fn mark_structural_bits<A: Allocator>(
-        input: &[u8],
-        marks: &mut Vec<u32, A>,
-        escape_blocks: &mut Vec<u32, A>,
-    ) -> Result<Found>
-        requires { 64 ≤ length input.now }
-        ensures found { IfOk result (λ found.
-            (2 * (length input.now / 64 + 1) ≤ length marks.new.items)
-            × (marked (take (2 * (length input.now / 64 + 1)) marks.new.items)
-            ≡ positions input.now)
-            × (found.positions ≡ length (positions input.now))
-            × (input_fault input.now ≡ None)) }
-        ensures escapes { IfOk result (λ found.
-            (found.escape_blocks ≤ length escape_blocks.new.items)
-            × (take found.escape_blocks escape_blocks.new.items ≡ backslash_blocks input.now)) }
-        ensures fault { IfErr result (λ e. (input_fault input.now ≡ Some e)
-            ⊎ LacksMemory input.now e marks.old.items escape_blocks.old.items) }
-        ensures capacity { length marks.old.items ≤ length marks.new.items }
-        ensures block_capacity { length escape_blocks.old.items ≤ length escape_blocks.new.items }
-    {
-        find::<A, true>(input, marks, escape_blocks)
-    }
-}
-
-// Lists the structural indexes of `input` at the front of `list`, or marks them there.
-#[inline(always)]
-fn find<A: Allocator, const MARKS: bool>(
-    input: &[u8],
-    list: &mut Vec<u32, A>,
-    escape_blocks: &mut Vec<u32, A>,
-) -> Result<Found>
-    requires { IsTrue MARKS → 64 ≤ length input.now }
-    ensures found { IfOk result (λ found.
-        (entries MARKS input.now found ≤ length list.new.items)
-        × (indexes_in MARKS (take (entries MARKS input.now found) list.new.items)
-        ≡ positions input.now)
-        × (found.positions ≡ length (positions input.now))
-        × (input_fault input.now ≡ None)) }
-    ensures escapes { IfOk result (λ found.
-        (found.escape_blocks ≤ length escape_blocks.new.items)
-        × (take found.escape_blocks escape_blocks.new.items ≡ backslash_blocks input.now)) }
-    ensures fault { IfErr result (λ e. (input_fault input.now ≡ Some e)
-        ⊎ LacksMemory input.now e list.old.items escape_blocks.old.items) }
-    ensures capacity { length list.old.items ≤ length list.new.items }
-    ensures block_capacity { length escape_blocks.old.items ≤ length escape_blocks.new.items }
-{
-    if input.len() > u32::MAX as usize {
-        return Err(Error::generic(ErrorType::InputTooLarge));
-    }
-    let (blocks, rest) = input.as_chunks::<64>();
-    let (done, checked) = scan_blocks::<A, MARKS>(input, blocks, list, escape_blocks)?;
-    let (has_bad_string, found) = scan_rest::<A, MARKS>(
-        input,
-        rest,
-        done,
-        checked,
-        list,
-        escape_blocks,
-    )?;
-    if has_bad_string {
-        return Err(Error::generic(ErrorType::Syntax));
-    }
-    let positions = if MARKS {
-        count_marks(&list[..found.positions])
-    } else {
-        found.positions
-    };
-    if positions == 0 {
-        return Err(Error::generic(ErrorType::Eof));
-    }
-    Ok(Found { positions, ..found })
 }

@@ -26,7 +26,6 @@ use Rattle.simd_json.specs.Reserved.{bytes_listed}
 use Rattle.simd_json_stages.specs.Building.{IsWritten}
 use Rattle.simd_json_stages.specs.NodesEnough.{nodes_enough}
 use Rattle.simd_json_stages.specs.Refusals.{IsTokenFault}
-use Rattle.simd_json_stages.specs.Scans as scans
 use Rattle.simd_json.specs.Tapes.{IsTape}
 use Rattle.simd_json.proofs.Parses.ParseLaws.{few-positions, refused-token, refused-whole, tape-parsed, written-parsed}
 
@@ -192,23 +191,6 @@ short-stack r count n l m =
     subst (λ t. min (cond t (min r.position_capacity r.stack_capacity) r.position_capacity) (64 * r.block_capacity) < n)
     (sym (lt-ltb r.stack_capacity r.limit (omega (arith, l))))
     (omega (arith, l, m))
-
-open-few : (t : Bool) (p s : ℕ) → cond t (min p s) p ≤ p
-open-few true p s = omega arith
-open-few false p s = omega arith
-
--- a list of positions, of blocks or of containers that is too short bounds it
-pub short-lists : (r : Capacities) (b : List ℕ) (e : Error) (positions blocks : List ℕ) (stack limit : ℕ)
-    → length positions ≡ r.position_capacity → length blocks ≡ r.block_capacity → stack ≡ r.stack_capacity → limit ≡ r.limit
-    → (input_fault b ≡ Some e) ⊎ scans.LacksMemory b e positions blocks ⊎ (LacksMemory b e × (stack < min (length b) limit))
-    → (input_fault b ≡ Some e) ⊎ (LacksMemory b e × (capacity r < length b))
-short-lists r b e positions blocks stack limit p k s l (inl is) = inl is
-short-lists r b e positions blocks stack limit p k s l (inr (inl (lacks, small, utf8, inl short))) =
-    inr ((lacks, small, utf8), omega (arith, open-few (nat_lt r.stack_capacity r.limit) r.position_capacity r.stack_capacity))
-short-lists r b e positions blocks stack limit p k s l (inr (inl (lacks, small, utf8, inr short))) =
-    inr ((lacks, small, utf8), omega arith)
-short-lists r b e positions blocks stack limit p k s l (inr (inr (lacks, few))) =
-    inr (lacks, short-stack r (length b) (length b) (omega arith) (omega arith))
 
 -- ---- lists of which nothing is in use
 

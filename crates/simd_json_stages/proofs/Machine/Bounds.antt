@@ -1,9 +1,9 @@
 -- What the machine counts stays within bounds from one token to the next.
-use Rattle.std.proofs.Common.{inl, inr, ◌≡◌, ◌≢◌, refl, sym, ◌∙◌, ap, subst, ℕ, ◌+◌, ◌-◌, ◌^◌, ◌<◌, ◌≤◌, List, [], ◌∷◌, ◌++◌, length}
-use Rattle.std.proofs.Common.{get_or, drop, Contains, arith}
+use Rattle.std.proofs.Common.{inl, inr, ◌≡◌, ◌≢◌, refl, sym, ◌∙◌, ap, subst, ℕ, ◌+◌, ◌-◌, ◌<◌, ◌≤◌, List, [], ◌∷◌, ◌++◌, length, get_or}
+use Rattle.std.proofs.Common.{drop, Contains, arith}
 use Rattle.std.specs.Prelude.{Some, slice_index}
 use Rattle.std.proofs.lemmas.Bool.{cases_lt}
-use Rattle.std.proofs.lemmas.List.{get_or_past, length_push}
+use Rattle.std.proofs.lemmas.List.{length_push}
 use Rattle.simd_json_parts.specs.Bytes.{byte_at}
 use Rattle.simd_json_parts.specs.Positions.{positions}
 use Rattle.simd_json_parts.specs.Tokens.{form_end, token_end}
@@ -71,7 +71,7 @@ read-next {b} {ps} {p} {q} r l read at byte =
 
 -- it is the next one
 pub is-next : {b ps : List ℕ} {p q : Progress} → IsRead b ps p → p.read < length ps
-    → q ≡ record p { read = p.read + 1; at = get_or ps p.read 0; byte = byte_at b (get_or ps p.read 0); bits = q.bits } → IsNext b ps p q
+    → q ≡ record p { read = p.read + 1; at = get_or ps p.read 0; byte = byte_at b (get_or ps p.read 0) } → IsNext b ps p q
 is-next r more is =
     record {
       more = more;
@@ -80,30 +80,25 @@ is-next r more is =
     }
 
 module _ (b ps : List ℕ) where
-  -- the progress at the next position, from which these bits lead on
-  abbrev pub at_next : ℕ → Progress → Progress
-  at_next bits p = record p { read = p.read + 1; at = get_or ps p.read 0; byte = byte_at b (get_or ps p.read 0); bits = bits }
+  -- the progress at the next position
+  abbrev pub at_next : Progress → Progress
+  at_next p = record p { read = p.read + 1; at = get_or ps p.read 0; byte = byte_at b (get_or ps p.read 0) }
 
   -- and at the one after it
-  abbrev pub at_second : ℕ → Progress → Progress
-  at_second bits p = record p {
-    read = p.read + 2;
-    at = get_or ps (p.read + 1) 0;
-    byte = byte_at b (get_or ps (p.read + 1) 0);
-    bits = bits;
-  }
+  abbrev pub at_second : Progress → Progress
+  at_second p = record p { read = p.read + 2; at = get_or ps (p.read + 1) 0; byte = byte_at b (get_or ps (p.read + 1) 0) }
 
-  at_second-is : (first second : ℕ) (p : Progress) → at_next second (at_next first p) ≡ at_second second p
-  at_second-is first second p = let two : (p.read + 1) + 1 ≡ p.read + 2 = omega arith in
-      ap (λ n. record p { read = n; at = get_or ps (p.read + 1) 0; byte = byte_at b (get_or ps (p.read + 1) 0); bits = second }) two
+  at_second-is : (p : Progress) → at_next (at_next p) ≡ at_second p
+  at_second-is p = let two : (p.read + 1) + 1 ≡ p.read + 2 = omega arith in
+      ap (λ n. record p { read = n; at = get_or ps (p.read + 1) 0; byte = byte_at b (get_or ps (p.read + 1) 0) }) two
 
 -- two tokens further
 module _ {b ps : List ℕ} {p q s : Progress} (n : IsNext b ps p q) (m : IsNext b ps q s) where
   pub two-left : p.read + 1 < length ps
   two-left = omega (arith, m.more, next-read n)
 
-  pub two-is : s ≡ at_second b ps s.bits p
-  two-is = m.same ∙ ap (at_next b ps s.bits) n.same ∙ at_second-is b ps q.bits s.bits p
+  pub two-is : s ≡ at_second b ps p
+  two-is = m.same ∙ ap (at_next b ps) n.same ∙ at_second-is b ps p
 
   pub two-advances : (p.read < s.read) × (s.depth ≡ p.depth) × (s.container ≡ p.container)
   two-advances = subst (λ (s : Progress). (p.read < s.read) × (s.depth ≡ p.depth) × (s.container ≡ p.container))
@@ -133,14 +128,6 @@ module _ (b ps : List ℕ) (e : ps ≡ positions b) where
       → token_end (token b p.at) ≡ Some end → p.read < length ps → end ≤ get_or ps p.read 0
   ends-before = lift (λ ps. (p : Progress) (end : ℕ) → IsRead b ps p → Contains (tokens b) (token b p.at)
       → token_end (token b p.at) ≡ Some end → p.read < length ps → end ≤ get_or ps p.read 0) (end-before_next b)
-
--- and none past the end of an input that fits memory
-pub positions-fit : (b ps : List ℕ) → ps ≡ positions b → length b < 2 ^ 64 → (k : ℕ) → get_or ps k 0 < 2 ^ 64
-positions-fit b ps e fits k =
-    elim (cases_lt k (length ps)) [
-      | inl l ↦ omega (arith, inside b ps e k l)
-      | inr past ↦ omega (arith, get_or_past ps k 0 past)
-    ]
 
 -- ---- from a token to the next
 
@@ -190,7 +177,7 @@ module _ {b ps : List ℕ} {p : Progress} (e : ps ≡ positions b) where
   pub after-first : {t : Input} {q : Progress} (nodes nodes' : List Item) (x : Item) → nodes' ≡ nodes ++ x ∷ []
       → IsBefore b ps (Reads b t) (length nodes) p → IsNext b ps p q → IsAfter b ps (Reads b t) (length nodes')
       (record q { len = q.len + 1 })
-  after-first {t} {q} nodes nodes' x put r n =
+  after-first {t} nodes nodes' x put r n =
       let l : p.at < get_or ps p.read 0 = later b ps e p r.read n.more in
       let more = put-longer nodes nodes' x put in
       subst (λ (q : Progress). IsAfter b ps (Reads b t) (length nodes') (record q { len = q.len + 1 })) (sym n.same)
@@ -199,7 +186,6 @@ module _ {b ps : List ℕ} {p : Progress} (e : ps ≡ positions b) where
         at = get_or ps p.read 0;
         byte = byte_at b (get_or ps p.read 0);
         len = p.len + 1;
-        bits = q.bits;
       } in
       let read : IsRead b ps s = read-next r.read n.more refl refl refl in
       record {
@@ -213,7 +199,7 @@ module _ {b ps : List ℕ} {p : Progress} (e : ps ≡ positions b) where
   -- at the first token of a container that has members
   pub before-first : {t : Input} {q : Progress} (c : Container) (nodes nodes' : List Item) (x : Item) → nodes' ≡ nodes ++ x ∷ []
       → IsBefore b ps (Reads b t) (length nodes) p → IsNext b ps p q → IsBefore b ps (Reads b t) (length nodes')
-      (record { read = q.read; at = q.at; byte = q.byte; depth = p.depth + 1; container = c; len = 0; bits = q.bits })
+      (record { read = q.read; at = q.at; byte = q.byte; depth = p.depth + 1; container = c; len = 0 })
   before-first {t} c nodes nodes' x put r n =
       let l : p.at < get_or ps p.read 0 = later b ps e p r.read n.more in
       let more = put-longer nodes nodes' x put in
@@ -224,7 +210,6 @@ module _ {b ps : List ℕ} {p : Progress} (e : ps ≡ positions b) where
         depth = p.depth + 1;
         container = c;
         len = 0;
-        bits = q.bits;
       } in
       subst (λ (q : Progress). IsBefore b ps (Reads b t) (length nodes') (opened q)) (sym n.same)
       (record {

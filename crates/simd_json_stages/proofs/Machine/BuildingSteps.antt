@@ -8,7 +8,7 @@ use Rattle.simd_json_parts.specs.Bytes.{byte_at}
 use Rattle.simd_json_parts.specs.Document.{Document, string}
 use Rattle.simd_json_parts.specs.Nodes.{Item}
 use Rattle.simd_json_parts.specs.Listing.{listing}
-use Rattle.simd_json_parts.specs.Descent.{◌>>=◌, value_from, last_index, root_end, descent}
+use Rattle.simd_json_parts.specs.Descent.{◌>>=◌, is_container, value_from, last_index, root_end, descent}
 use Rattle.simd_json_parts.specs.Faults.{fault_at, fault_with}
 use Rattle.simd_json_parts.specs.Positions.{positions}
 use Rattle.simd_json_parts.specs.Tokens.{Token, Form, name_separator, value_separator}
@@ -18,7 +18,7 @@ use Rattle.simd_json_parts.specs.declared.error.ErrorType.{ErrorType}
 use Rattle.simd_json_parts.specs.declared.error.ErrorType.TheVariants.{Syntax}
 use Rattle.simd_json_parts.proofs.Positions.TokensAtPositions.{tokens-positions}
 use Rattle.simd_json_stages.specs.Continued.{Open, in_array, in_object, at_value, at_name, after_value}
-use Rattle.simd_json_stages.specs.Building.{closer, header_of, frames, top, patch, Headed, Holds, HoldsValue, HoldsMembers}
+use Rattle.simd_json_stages.specs.Building.{closer, is_closing, header_of, frames, top, patch, Headed, Holds, HoldsValue, HoldsMembers}
 use Rattle.simd_json_stages.specs.Building.{closed_with, missing, whole, AtValue, AtName, AfterValue, AtMemberOf, AtMember}
 use Rattle.simd_json_stages.specs.Building.{IsBuilt, IsWritten, IsFirstFault}
 use Rattle.simd_json_stages.specs.Progresses.{IsNext}
@@ -31,7 +31,7 @@ use Rattle.simd_json_stages.specs.declared.stage2.stack.StackState.{StackState}
 use Rattle.simd_json_stages.specs.declared.stage2.fault.Fault.{Fault}
 use Rattle.simd_json_stages.specs.declared.stage2.fault.FaultKind.TheVariants as kinds
 use Rattle.simd_json_stages.proofs.Machine.Holding.{Holds-value, Holds-name, Holds-comma, Holds-member_comma, Headed-open}
-use Rattle.simd_json_stages.proofs.Machine.Holding.{HasHeader, Holds-close, Holds-top, listing-some}
+use Rattle.simd_json_stages.proofs.Machine.Holding.{HasHeader, Holds-close, Holds-top}
 use Rattle.simd_json_stages.proofs.Machine.Bounds.{next-byte, at_next, at_second, two-left, two-is}
 use Rattle.simd_json_stages.proofs.Tokens.Places.{token}
 use Rattle.simd_json_stages.proofs.Machine.Steps.{opening_form, ending_form, empty_of, at_container, container-open, container-close}
@@ -39,7 +39,7 @@ use Rattle.simd_json_stages.proofs.Machine.Steps.{after_value-comma, at_array-el
 use Rattle.simd_json_stages.proofs.Machine.Steps.{after_value-closed, at_object-name, at_name-value, after_value-member_comma}
 use Rattle.simd_json_stages.proofs.Machine.Steps.{at_value-string, closing_form}
 use Rattle.simd_json_stages.proofs.Tokens.TokenForms.{along-form, closes, commas, last_index-append, next, no_end, no_end_object, opens}
-use Rattle.simd_json_stages.proofs.Tokens.TokenForms.{opens_object, closes_object, colons, quotes}
+use Rattle.simd_json_stages.proofs.Tokens.TokenForms.{opens_object, closes_object, colons, quotes, no_closing}
 
 -- ---- the stack and the nodes
 
@@ -91,6 +91,17 @@ closing-form : (b : List ℕ) (i : ℕ) (o : Open) (outer : List Open) (d : Docu
 closing-form b i (in_array ds) outer d c fs len items h e = closes b i (e ∙ ap closer h.0)
 closing-form b i (in_object ms name) outer d c fs len items h e = closes_object b i (e ∙ ap closer h.0)
 
+-- what ends with a closing bracket is a container
+empty-kind : (c : Container) → is_closing (closer c) ≡ is_container (empty_of c)
+empty-kind Array = refl
+empty-kind Object = refl
+
+closed-kind : (c : Container) (o : Open) (d : Document) → is_closing (closer c) ≡ is_container (closed_with o d)
+closed-kind Array (in_array ds) d = refl
+closed-kind Array (in_object ms name) d = refl
+closed-kind Object (in_array ds) d = refl
+closed-kind Object (in_object ms name) d = refl
+
 -- ---- the tokens up to where the machine is
 
 module _ (b ps : List ℕ) where
@@ -140,10 +151,11 @@ closed_at stack q = record q {
 module _ {b ps : List ℕ} {limit : ℕ} {stack : List StackState} {nodes : List Item} {p : Progress} where
   -- a value of one token is read, and its node is put
   step-one : {nodes' : List Item} (at : AtValue b ps limit stack nodes p) (form : Form) (d : Document) → form_at b p.at ≡ form
-      → goes_on form ≡ true → at_value b (missing b ps) limit at.opens (token b p.at ∷ tokens_along b (drop p.read ps))
+      → goes_on form ≡ true → is_closing (byte_at b p.at) ≡ is_container d
+      → at_value b (missing b ps) limit at.opens (token b p.at ∷ tokens_along b (drop p.read ps))
       ≡ after_value b (missing b ps) limit at.opens d (tokens_along b (drop p.read ps))
       → nodes' ≡ nodes ++ listing d → AfterValue b ps limit stack nodes' (record p { len = p.len + 1 })
-  step-one at form d is goes step put =
+  step-one at form d is goes kind step put =
       record {
         opens = at.opens;
         last = d;
@@ -151,6 +163,7 @@ module _ {b ps : List ℕ} {limit : ℕ} {stack : List StackState} {nodes : List
         before = at.before ++ token b p.at ∷ [];
         along = extended b ps at.before p.at (drop p.read ps) is goes at.along;
         reached = last_index-append at.before (token b p.at);
+        kind = kind;
         holds = subst (HoldsValue at.opens d p.container (frames stack p.depth) (p.len + 1)) (sym put)
             (Holds-value at.opens p.container (frames stack p.depth) p.len nodes d at.holds);
         deep = at.deep;
@@ -159,6 +172,7 @@ module _ {b ps : List ℕ} {limit : ℕ} {stack : List StackState} {nodes : List
   pub step-scalar : {nodes' : List Item} {reads : ℕ → Type 0} → AtValue b ps limit stack nodes p
       → IsScalarPut b p.at nodes nodes' reads → AfterValue b ps limit stack nodes' (record p { len = p.len + 1 })
   step-scalar at put = step-one at (scalar (Ok (put.document, put.end))) put.document put.read refl
+      (no_closing b p.at put.read ∙ sym put.single)
       (at_value-scalar b (missing b ps) limit at.opens (token b p.at) (tokens_along b (drop p.read ps)) put.document put.end put.read)
       (put.put ∙ ap (λ us. nodes ++ us) (sym put.listed))
 
@@ -167,7 +181,7 @@ module _ {b ps : List ℕ} {limit : ℕ} {stack : List StackState} {nodes : List
   step-string at first q put =
       let form : Form = string_token (Ok (put.string, put.end)) in
       let is : form_at b p.at ≡ form = quotes b p.at (sym first ∙ q) ∙ ap string_token put.read in
-      step-one at form (string put.string) is refl
+      step-one at form (string put.string) is refl (ap is_closing (sym first ∙ q))
       (at_value-string b (missing b ps) limit at.opens (token b p.at) (tokens_along b (drop p.read ps)) put.string put.end is)
       (put.put ∙ ap (λ x. nodes ++ x ∷ []) put.item)
 
@@ -206,6 +220,7 @@ module _ {b ps : List ℕ} {limit : ℕ} {stack : List StackState} {nodes : List
         before = (at.before ++ token b p.at ∷ []) ++ token b i ∷ [];
         along = extended b ps (at.before ++ token b p.at ∷ []) i rest ends (ending-goes_on c) (opened-along c at is n.more);
         reached = last_index-append (at.before ++ token b p.at ∷ []) (token b i);
+        kind = ap is_closing (next-byte n ∙ byte) ∙ empty-kind c;
         holds = subst (HoldsValue at.opens (empty_of c) p.container (frames stack p.depth) (p.len + 1))
             (sym (put ∙ ap (λ us. nodes ++ us) (sym (empty-listed c))))
             (Holds-value at.opens p.container (frames stack p.depth) p.len nodes (empty_of c) at.holds);
@@ -218,10 +233,10 @@ module _ {b ps : List ℕ} {limit : ℕ} {stack : List StackState} {nodes : List
       → p.depth < limit → p.byte + 2 ≡ closer c → IsNext b ps p q → q.byte ≢ closer c
       → AtMember b ps limit kinds.ExpectedObjectContent (set stack p.depth
       (record { header = header; outer = p.container; len = p.len })) nodes'
-      (record { read = q.read; at = q.at; byte = q.byte; depth = p.depth + 1; container = c; len = 0; bits = q.bits })
+      (record { read = q.read; at = q.at; byte = q.byte; depth = p.depth + 1; container = c; len = 0 })
   step-open {nodes'} {q} {header} c at first put head s capacity o n byte =
       subst (λ (q : Progress). AtMember b ps limit kinds.ExpectedObjectContent (set stack p.depth f) nodes'
-      (record { read = q.read; at = q.at; byte = q.byte; depth = p.depth + 1; container = c; len = 0; bits = q.bits })) (sym n.same)
+      (record { read = q.read; at = q.at; byte = q.byte; depth = p.depth + 1; container = c; len = 0 })) (sym n.same)
       (go c put (opening-form b c p.at (omega (arith, first, o))) (λ is. byte (sym (next-byte n) ∙ is)))
     where
       f : StackState
@@ -239,7 +254,7 @@ module _ {b ps : List ℕ} {limit : ℕ} {stack : List StackState} {nodes : List
 
       go : (c : Container) → nodes' ≡ nodes ++ header_of c 0 0 ∷ [] → form_at b p.at ≡ opening_form c → byte_at b i ≢ closer c
           → AtMember b ps limit kinds.ExpectedObjectContent (set stack p.depth f) nodes'
-          (record { read = p.read + 1; at = i; byte = byte_at b i; depth = p.depth + 1; container = c; len = 0; bits = q.bits })
+          (record { read = p.read + 1; at = i; byte = byte_at b i; depth = p.depth + 1; container = c; len = 0 })
       go Array put is other = record {
         opens = in_array [] ∷ at.opens;
         same = opened Array at capacity is n.more ∙ at_array-element b (missing b ps) limit at.opens (token b i)
@@ -267,7 +282,7 @@ module _ {b ps : List ℕ} {limit : ℕ} {stack : List StackState} {nodes : List
   -- a comma, and the next member
   pub step-comma : {q s : Progress} → AfterValue b ps limit stack nodes p → 0 < p.depth → IsNext b ps p q → q.byte ≡ 44
       → IsNext b ps q s → AtMember b ps limit kinds.ExpectedObjectKey stack nodes s
-  step-comma {s = s} at some n byte m' =
+  step-comma at some n byte m' =
       subst (AtMember b ps limit kinds.ExpectedObjectKey stack nodes) (sym (two-is n m')) (go at.opens at.last at.same at.holds at.deep)
     where
       m : p.read + 1 < length ps
@@ -281,11 +296,10 @@ module _ {b ps : List ℕ} {limit : ℕ} {stack : List StackState} {nodes : List
 
       go : (opens' : List Open) (last : Document) → whole b ps limit ≡ after_value b (missing b ps) limit opens' last
           (tokens_along b (drop p.read ps)) → HoldsValue opens' last p.container (frames stack p.depth) p.len nodes
-          → length opens' ≡ p.depth → AtMember b ps limit kinds.ExpectedObjectKey stack nodes (at_second b ps s.bits p)
+          → length opens' ≡ p.depth → AtMember b ps limit kinds.ExpectedObjectKey stack nodes (at_second b ps p)
       go [] last same h deep = absurd (omega (arith, deep, some))
       go (in_array ds ∷ outer) last same h deep =
-          subst (λ c. AtMemberOf b ps limit c (error_type kinds.ExpectedObjectKey) stack nodes (at_second b ps s.bits p)) (sym h.0)
-          (record {
+          subst (λ c. AtMemberOf b ps limit c (error_type kinds.ExpectedObjectKey) stack nodes (at_second b ps p)) (sym h.0) (record {
             opens = in_array (ds ++ last ∷ []) ∷ outer;
             same = same
                 ∙ ap (after_value b (missing b ps) limit (in_array ds ∷ outer) last)
@@ -298,8 +312,7 @@ module _ {b ps : List ℕ} {limit : ℕ} {stack : List StackState} {nodes : List
             deep = deep;
           })
       go (in_object ms name ∷ outer) last same h deep =
-          subst (λ c. AtMemberOf b ps limit c (error_type kinds.ExpectedObjectKey) stack nodes (at_second b ps s.bits p)) (sym h.0)
-          (record {
+          subst (λ c. AtMemberOf b ps limit c (error_type kinds.ExpectedObjectKey) stack nodes (at_second b ps p)) (sym h.0) (record {
             members = ms ++ (name, last) ∷ [];
             outer = outer;
             same = same
@@ -318,9 +331,9 @@ module _ {b ps : List ℕ} {limit : ℕ} {stack : List StackState} {nodes : List
   pub step-close : {nodes' : List Item} {q q' : Progress} → AfterValue b ps limit stack nodes p → 0 < p.depth → IsNext b ps p q
       → q.byte ≡ closer p.container → q' ≡ closed_at stack q → nodes' ≡ patch nodes (top stack q.depth) q
       → AfterValue b ps limit stack nodes' q'
-  step-close {nodes'} {q} at some n byte is patched =
+  step-close {nodes'} at some n byte is patched =
       subst (AfterValue b ps limit stack nodes') (sym (is ∙ ap (closed_at stack) n.same))
-      (subst (λ ns. AfterValue b ps limit stack ns (closed_at stack (at_next b ps q.bits p)))
+      (subst (λ ns. AfterValue b ps limit stack ns (closed_at stack (at_next b ps p)))
       (sym (patched ∙ ap (λ (q : Progress). patch nodes (top stack q.depth) q) n.same)) (go at.opens at.last at.same at.holds at.deep))
     where
       i : ℕ
@@ -332,7 +345,7 @@ module _ {b ps : List ℕ} {limit : ℕ} {stack : List StackState} {nodes : List
       go : (opens' : List Open) (last : Document) → whole b ps limit ≡ after_value b (missing b ps) limit opens' last
           (tokens_along b (drop p.read ps)) → HoldsValue opens' last p.container (frames stack p.depth) p.len nodes
           → length opens' ≡ p.depth
-          → AfterValue b ps limit stack (patch nodes (top stack p.depth) p) (closed_at stack (at_next b ps q.bits p))
+          → AfterValue b ps limit stack (patch nodes (top stack p.depth) p) (closed_at stack (at_next b ps p))
       go [] last same h deep = absurd (omega (arith, deep, some))
       go (o ∷ outer) last same h deep =
           let is : form_at b i ≡ closing_form o = closing-form b i o outer last p.container (frames stack p.depth) p.len nodes h
@@ -346,6 +359,7 @@ module _ {b ps : List ℕ} {limit : ℕ} {stack : List StackState} {nodes : List
             before = at.before ++ token b i ∷ [];
             along = extended b ps at.before i rest is (closing-goes_on o) (reached_next b ps at.before p.read n.more at.along);
             reached = last_index-append at.before (token b i);
+            kind = ap is_closing (next-byte n ∙ byte) ∙ closed-kind p.container o last;
             holds = Holds-close o outer last p.container (top stack p.depth) (frames stack (p.depth - 1)) p.len nodes
                 (held o outer _ stack nodes p some h);
             deep = omega (arith, deep);
@@ -391,41 +405,35 @@ module _ {b ps : List ℕ} {limit : ℕ} {stack : List StackState} {nodes : List
         deep = at.deep;
       })
 
-  -- with nothing open the root is whole: it has a node, and where no token is after it, all is built
-  pub root-whole : AfterValue b ps limit stack nodes p → p.depth ≡ 0 → (d : Document) × (nodes ≡ listing d)
-      × (whole b ps limit ≡ Ok (d, tokens_along b (drop p.read ps)))
+  -- with nothing open the root is whole, and where no token is after it, all is built
+  pub root-whole : (at : AfterValue b ps limit stack nodes p) → p.depth ≡ 0 → (nodes ≡ listing at.last)
+      × (whole b ps limit ≡ Ok (at.last, tokens_along b (drop p.read ps)))
   root-whole at none = go at.opens at.same at.holds at.deep
     where
       go : (opens' : List Open) → whole b ps limit ≡ after_value b (missing b ps) limit opens' at.last (tokens_along b (drop p.read ps))
           → HoldsValue opens' at.last p.container (frames stack p.depth) p.len nodes → length opens' ≡ p.depth
-          → (d : Document) × (nodes ≡ listing d) × (whole b ps limit ≡ Ok (d, tokens_along b (drop p.read ps)))
-      go [] same h deep = (at.last, h.1, same ∙ after_value-root b (missing b ps) limit at.last (tokens_along b (drop p.read ps)))
+          → (nodes ≡ listing at.last) × (whole b ps limit ≡ Ok (at.last, tokens_along b (drop p.read ps)))
+      go [] same h deep = (h.1, same ∙ after_value-root b (missing b ps) limit at.last (tokens_along b (drop p.read ps)))
       go (o ∷ outer) same h deep = absurd (omega (arith, deep, none))
-
-  pub some-node : AfterValue b ps limit stack nodes p → p.depth ≡ 0 → 0 < length nodes
-  some-node at none = let (d, listed, same) = root-whole at none in omega (arith, listing-some d, ap length listed)
 
   pub step-end : AfterValue b ps limit stack nodes p → p.depth ≡ 0 → p.read ≡ length ps → IsBuilt b ps limit nodes
   step-end at none all =
-      let (d, listed, same) = root-whole at none in
+      let (listed, same) = root-whole at none in
       record {
-        document = d;
-        same = same ∙ ap (λ us. Ok (d, tokens_along b us)) (ap (λ n. drop n ps) all ∙ drop-length ps);
+        document = at.last;
+        same = same ∙ ap (λ us. Ok (at.last, tokens_along b us)) (ap (λ n. drop n ps) all ∙ drop-length ps);
         listed = listed;
       }
 
 -- at the first token nothing is read
-pub root-value : {b ps : List ℕ} {limit : ℕ} {stack : List StackState} {nodes : List Item} {i byte bits : ℕ} → nodes ≡ []
-    → 0 < length ps → i ≡ get_or ps 0 0
-    → AtValue b ps limit stack nodes (record { read = 1; at = i; byte = byte; depth = 0; container = Array; len = 0; bits = bits })
-root-value {b} {ps} {limit} empty l first =
-    let all : drop 0 ps ≡ get_or ps 0 0 ∷ drop 1 ps = drop_more ps 0 0 l in
-    let from = all ∙ ap (λ i. i ∷ drop 1 ps) (sym first) in
+pub root-value : {b ps : List ℕ} {limit : ℕ} {stack : List StackState} {nodes : List Item} {byte : ℕ} → nodes ≡ [] → 0 < length ps
+    → AtValue b ps limit stack nodes (record { read = 1; at = get_or ps 0 0; byte = byte; depth = 0; container = Array; len = 0 })
+root-value {b} {ps} {limit} empty l =
     record {
       opens = [];
-      same = ap (λ us. at_value b (missing b ps) limit [] (tokens_along b us)) from;
+      same = ap (λ us. at_value b (missing b ps) limit [] (tokens_along b us)) (drop_more ps 0 0 l);
       before = [];
-      along = ap (tokens_along b) from;
+      along = ap (tokens_along b) (drop_more ps 0 0 l);
       holds = (refl, refl, empty);
       deep = refl;
     }

@@ -4,8 +4,7 @@ use Rattle.simd_json_parts.specs.Bytes.{byte_at}
 use Rattle.simd_json_parts.specs.Positions.{positions}
 use Rattle.simd_json_parts.specs.Nodes.{Item}
 use Rattle.simd_json_stages.specs.Building.{top, AfterValue, AtMember, AtMemberOf}
-use Rattle.simd_json_stages.specs.Leading.{listed, Leads, LeadsFrom}
-use Rattle.simd_json_stages.specs.Members.{HasCapacity, AtFirst, AtStart, IsAtMember, IsAtMemberOf}
+use Rattle.simd_json_stages.specs.Members.{HasCapacity, AtFirst, IsAtMember, IsAtMemberOf}
 use Rattle.simd_json_stages.specs.Refusals.{error_type}
 use Rattle.simd_json_stages.specs.Progresses.{IsOnRoute, IsRead, IsNext, IsBefore, IsAfter}
 use Rattle.simd_json_stages.specs.Inputs.{Reads}
@@ -21,11 +20,12 @@ use Rattle.simd_json_stages.specs.declared.stage2.fault.FaultKind.{FaultKind}
 use Rattle.simd_json_stages.proofs.Machine.Bounds.{put-longer, at_next, two-left, two-is, later, read-next}
 use Rattle.simd_json_stages.proofs.Machine.BuildingSteps.{closed_at, step-end, root-value}
 use Rattle.simd_json_stages.proofs.Machine.InputLaws.{reads-kept}
+use Rattle.simd_json_stages.proofs.Scan.WholeFaults.{some-listed}
 
 module _ {b ps : List ℕ} {p q : Progress} (e : ps ≡ positions b) where
   -- the second of two positions is after the first
   rises : {s : Progress} → IsRead b ps p → IsNext b ps p q → IsNext b ps q s → get_or ps p.read 0 < get_or ps (p.read + 1) 0
-  rises r n m = later b ps e (at_next b ps q.bits p) (read-next r n.more refl refl refl) (two-left n m)
+  rises r n m = later b ps e (at_next b ps p) (read-next r n.more refl refl refl) (two-left n m)
 
   -- after a comma
   pub comma-progress : {t : Input} {written : ℕ} {s : Progress} → IsAfter b ps (Reads b t) written p → IsNext b ps p q
@@ -63,7 +63,7 @@ module _ {b ps : List ℕ} {p q : Progress} (e : ps ≡ positions b) where
       → IsAfter b ps (Reads b t) now q'
   closed-after {t} {written} {now} stack same r some fewer n is =
       subst (IsAfter b ps (Reads b t) now) (sym (is ∙ ap (closed_at stack) n.same))
-      (let s : Progress = closed_at stack (at_next b ps q.bits p) in
+      (let s : Progress = closed_at stack (at_next b ps p) in
       let read : IsRead b ps s = read-next r.read n.more refl refl refl in
       record {
         read = read;
@@ -75,59 +75,45 @@ module _ {b ps : List ℕ} {p q : Progress} (e : ps ≡ positions b) where
 
 module _ (b : List ℕ) (r : Route) (m : Machine) (capacity : ℕ) (nodes : List Item) (p : Progress) where
   -- at the first token of a member
-  pub at-member : (kind : FaultKind) → IsOnRoute r.ends_closed b (listed r.positions)
-      → HasCapacity (listed r.positions) r.max_depth m.stack.now capacity
-      → IsBefore b (listed r.positions) (Reads b m.input) (length nodes) p → Leads r.positions p
-      → p.depth ≤ r.max_depth → 0 < p.depth → AtMember b (listed r.positions) r.max_depth kind m.stack.now nodes p
+  pub at-member : (kind : FaultKind) → IsOnRoute r.ends_closed b r.indexes.now
+      → HasCapacity r.indexes.now r.max_depth m.stack.now capacity → IsBefore b r.indexes.now (Reads b m.input) (length nodes) p
+      → p.depth ≤ r.max_depth → 0 < p.depth → AtMember b r.indexes.now r.max_depth kind m.stack.now nodes p
       → IsAtMemberOf b r m capacity nodes p.container p kind
-  at-member kind route capacities progress leads depth inside at = go p.container refl at
+  at-member kind route capacities progress depth inside at = go p.container refl at
     where
-      go : (c : Container) → p.container ≡ c → AtMemberOf b (listed r.positions) r.max_depth c (error_type kind) m.stack.now nodes p
+      go : (c : Container) → p.container ≡ c → AtMemberOf b r.indexes.now r.max_depth c (error_type kind) m.stack.now nodes p
           → IsAtMemberOf b r m capacity nodes c p kind
       go Array is at = record {
-        first = record {
-          on_route = route;
-          capacities = capacities;
-          progress = progress;
-          leads = leads;
-          depth = depth;
-          value = at;
-        };
+        first = record { on_route = route; capacities = capacities; progress = progress; depth = depth; value = at };
         inside = inside;
         array = is;
       }
-      go Object is at = record {
-        on_route = route;
-        capacities = capacities;
-        progress = progress;
-        leads = leads;
-        depth = depth;
-        name = at;
-      }
+      go Object is at = record { on_route = route; capacities = capacities; progress = progress; depth = depth; name = at }
 
   -- after the root
-  pub end-built : IsAfter b (listed r.positions) (Reads b m.input) (length nodes) p
-      → AfterValue b (listed r.positions) r.max_depth m.stack.now nodes p → p.depth ≡ 0 → p.read ≡ length (listed r.positions)
+  pub end-built : IsAfter b r.indexes.now (Reads b m.input) (length nodes) p
+      → AfterValue b r.indexes.now r.max_depth m.stack.now nodes p → p.depth ≡ 0 → p.read ≡ length r.indexes.now
       → IsAtMember b r m capacity nodes End
   end-built after at none all = (omega (arith, after.few), step-end at none all)
 
 -- At the first token all of the input can be read, and no node is written.
-pub at-first : {b : List ℕ} {r : Route} {m : Machine} {capacity : ℕ} {nodes : List Item} {i x bits : ℕ} → AtStart b r m capacity nodes
-    → 0 < length (listed r.positions) → i ≡ get_or (listed r.positions) 0 0 → x ≡ byte_at b i → LeadsFrom r.positions 1 i bits
-    → AtFirst b r m capacity nodes (record { read = 1; at = i; byte = x; depth = 0; container = Array; len = 0; bits = bits })
-at-first {b} {m = m} start some first byte leads =
-    let none = ap length start.empty in
+pub at-first : {b : List ℕ} {r : Route} {m : Machine} {capacity : ℕ} {nodes : List Item} {x : ℕ}
+    → IsOnRoute r.ends_closed b r.indexes.now → HasCapacity r.indexes.now r.max_depth m.stack.now capacity → nodes ≡ []
+    → Reads b m.input 0 → x ≡ byte_at b (get_or r.indexes.now 0 0) → AtFirst b r m capacity nodes
+    (record { read = 1; at = get_or r.indexes.now 0 0; byte = x; depth = 0; container = Array; len = 0 })
+at-first {b} {m = m} route capacities empty input byte =
+    let some = some-listed _ _ route.positions route.whole in
+    let none = ap length empty in
     record {
-      on_route = start.on_route;
-      capacities = start.capacities;
+      on_route = route;
+      capacities = capacities;
       progress = record {
-        read = record { some = omega arith; within = omega arith; last = first; first = byte };
+        read = record { some = omega arith; within = omega arith; last = refl; first = byte };
         few = omega arith;
         deep = omega arith;
         len = omega arith;
-        input = reads-kept b m.input _ _ start.input (omega arith);
+        input = reads-kept b m.input _ _ input (omega arith);
       };
-      leads = leads;
       depth = omega arith;
-      value = root-value start.empty some first;
+      value = root-value empty some;
     }

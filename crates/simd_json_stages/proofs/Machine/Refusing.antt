@@ -5,9 +5,8 @@ use Rattle.std.specs.Prelude.{Ok, Err, if◌then◌else◌}
 use Rattle.std.proofs.lemmas.List.{append-nil}
 use Rattle.std.proofs.Math.Seq.{take-append_seam, drop-length}
 use Rattle.simd_json_parts.specs.Bytes.{byte_at}
-use Rattle.simd_json_parts.specs.Document.{Document, array, object}
-use Rattle.simd_json_parts.specs.Nodes.{Item, array_item, object_item, static_item}
-use Rattle.simd_json_parts.specs.Listing.{listing}
+use Rattle.simd_json_parts.specs.Document.{Document}
+use Rattle.simd_json_parts.specs.Nodes.{Item}
 use Rattle.simd_json_parts.specs.Descent.{◌>>=◌, is_container, last_index, last_read, root_end}
 use Rattle.simd_json_parts.specs.Faults.{fault_at, fault_with}
 use Rattle.simd_json_parts.specs.Tokens.{Token, Form, name_separator, value_separator, string_token, form_at}
@@ -16,9 +15,8 @@ use Rattle.simd_json_parts.specs.declared.error.Error.{Error}
 use Rattle.simd_json_parts.specs.declared.error.ErrorType.{ErrorType}
 use Rattle.simd_json_parts.specs.declared.error.ErrorType.TheVariants.{Syntax, InternalError, ExpectedObjectKey}
 use Rattle.simd_json_parts.specs.declared.error.ErrorType.TheVariants.{TrailingData}
-use Rattle.simd_json_parts.specs.declared.node.StaticNode.TheVariants.{Null}
 use Rattle.simd_json_stages.specs.Continued.{Open, in_array, in_object, at_value, at_name, after_value}
-use Rattle.simd_json_stages.specs.Building.{closer, content_kind, end_kind, is_header, frames, HoldsValue, missing, whole, AtValue, AtName}
+use Rattle.simd_json_stages.specs.Building.{closer, content_kind, end_kind, is_closing, frames, HoldsValue, missing, whole, AtValue, AtName}
 use Rattle.simd_json_stages.specs.Building.{AfterValue, IsFirstFault}
 use Rattle.simd_json_stages.specs.Progresses.{IsNext}
 use Rattle.simd_json_stages.specs.Put.{IsBadString, IsNoScalar, IsStringPut}
@@ -38,34 +36,12 @@ use Rattle.simd_json_stages.proofs.Machine.Steps.{at_name-no_more, at_name-no_co
 use Rattle.simd_json_stages.proofs.Tokens.TokenForms.{along-form, commas, last_index-append, next, colons, quotes, no_string}
 use Rattle.simd_json_stages.proofs.Tokens.TokenForms.{no_colon, no_ending, no_member_ending}
 use Rattle.simd_json_stages.proofs.Machine.Bounds.{next-byte, next-read}
-use Rattle.simd_json_stages.proofs.Machine.BuildingSteps.{extended, reached_next, opening-form, opening-goes_on, root-whole, some-node}
+use Rattle.simd_json_stages.proofs.Machine.BuildingSteps.{extended, reached_next, opening-form, opening-goes_on, root-whole}
 
--- whether the first item is a container's header
-abbrev starts_container : List Item → Bool
-starts_container [] = false
-starts_container (array_item len count ∷ items) = true
-starts_container (object_item len count ∷ items) = true
-starts_container (_ ∷ items) = false
-
-listing-starts : (d : Document) → starts_container (listing d) ≡ is_container d
-listing-starts (array ds) = refl
-listing-starts (object ms) = refl
-listing-starts _ = refl
-
--- by its first node, a root has the kind of fault that the descent has by its document
-end_kind-starts : (first : Item) (items : List Item) → (if starts_container (first ∷ items) then InternalError else TrailingData)
-    ≡ error_type (end_kind (is_header first))
-end_kind-starts (array_item len count) items = refl
-end_kind-starts (object_item len count) items = refl
-end_kind-starts _ items = refl
-
-root-kind : (ns : List Item) (d : Document) (first : Bool) → 0 < length ns
-    → first ≡ is_header (get_or ns 0 (static_item Null)) → ns ≡ listing d
-    → (if is_container d then InternalError else TrailingData) ≡ error_type (end_kind first)
-root-kind [] d first l is listed = absurd (omega arith)
-root-kind (n ∷ ns) d first l is listed =
-    ap (λ t. if t then InternalError else TrailingData) (sym (listing-starts d) ∙ ap starts_container (sym listed))
-    ∙ end_kind-starts n ns ∙ ap (λ x. error_type (end_kind x)) (sym is)
+-- the kind of fault that the descent has after a root
+kind-of : (is : Bool) → (if is then InternalError else TrailingData) ≡ error_type (end_kind is)
+kind-of true = refl
+kind-of false = refl
 
 -- ---- where no token is left, the last one read is reported
 
@@ -229,19 +205,18 @@ module _ {b ps : List ℕ} {limit : ℕ} {stack : List StackState} {nodes : List
           at.last (token b i) ts (form_at b i) refl (no_member_ending b i other comma)
 
   -- something after the root
-  pub refuses-trailing : {first : Bool} → AfterValue b ps limit stack nodes p → p.depth ≡ 0 → p.byte ≡ byte_at b p.at
-      → p.read < length ps → first ≡ is_header (get_or nodes 0 (static_item Null))
-      → RefusedAt b ps limit (end_kind first) p.at p.byte
-  refuses-trailing {first} at root byte k is =
-      let (d, listed, same) = root-whole at root in
+  pub refuses-trailing : AfterValue b ps limit stack nodes p → p.depth ≡ 0 → p.byte ≡ byte_at b p.at → p.read < length ps
+      → RefusedAt b ps limit (end_kind (is_closing p.byte)) p.at p.byte
+  refuses-trailing at root byte k =
       let i : ℕ = get_or ps p.read 0 in
       let rest : List Token = tokens_along b (drop p.read ps) in
-      subst (RefusedAt b ps limit (end_kind first) p.at) (sym byte)
-      (ap (λ r. r >>= root_end b (tokens_along b ps)) same
+      subst (λ x. RefusedAt b ps limit (end_kind (is_closing x)) p.at x) (sym byte)
+      (ap (λ r. r >>= root_end b (tokens_along b ps)) (root-whole at root).1
       ∙ left_over b ps at.before rest (token b i) (cond (goes_on (form_at b i)) (tokens_along b (drop (p.read + 1) ps)) [])
-      d at.along (next b ps p.read k)
-      ∙ ap (λ n. Err (fault_at b (if is_container d then InternalError else TrailingData) n)) at.reached
-      ∙ ap (λ kind. Err (fault_at b kind p.at)) (root-kind nodes d first (some-node at root) is listed))
+      at.last at.along (next b ps p.read k)
+      ∙ ap (λ n. Err (fault_at b (if is_container at.last then InternalError else TrailingData) n)) at.reached
+      ∙ ap (λ is. Err (fault_at b (if is then InternalError else TrailingData) p.at)) (sym at.kind)
+      ∙ ap (λ kind. Err (fault_at b kind p.at)) (kind-of (is_closing (byte_at b p.at))))
 
   -- no name where one is expected
   pub refuses-no_name : (kind : FaultKind) → AtName b ps limit (error_type kind) stack nodes p → p.byte ≡ byte_at b p.at

@@ -10,7 +10,8 @@ use Rattle.std.proofs.lemmas.Str.{IsUtf8-from_ascii}
 use Rattle.simd_json_parts.specs.AtomAt.{atom_at, atom_or}
 use Rattle.simd_json_parts.specs.Bytes.{quote, is_terminator, byte_at}
 use Rattle.simd_json_parts.specs.Derivatives.{matches, longest_prefix}
-use Rattle.simd_json_parts.specs.Document.{Document, null, boolean, decimal}
+use Rattle.simd_json_parts.specs.Descent.{is_container}
+use Rattle.simd_json_parts.specs.Document.{Document, null, boolean, decimal, array, object}
 use Rattle.simd_json_parts.specs.Faults.{fault_at, fault_with}
 use Rattle.simd_json_parts.specs.Integers.{max_magnitude}
 use Rattle.simd_json_parts.specs.Listing.{listing}
@@ -130,18 +131,33 @@ module _ {b : List ℕ} {t : Input} {capacity written : ℕ} {p : Progress} (giv
         node = decimal_item literal;
         read = given.form ∙ ap scalar is;
         listed = ap (λ bs. decimal_item bs ∷ []) (sym shared);
+        single = refl;
         put = put;
         input = inr input;
       }
 
 -- ---- a node of fixed size
 
+static-single : (d : Document) (s : StaticNode) → listing d ≡ static_item s ∷ [] → is_container d ≡ false
+static-single (array ds) s listed = cc listed
+static-single (object ms) s listed = cc listed
+static-single _ s listed = refl
+
 -- nothing is split off before it
 pub static-put : {b : List ℕ} {i : ℕ} {nodes nodes' : List Item} {t : Input} (d : Document) (s : StaticNode) (end : ℕ) → Reads b t i
     → form_at b i ≡ scalar (Ok (d, end)) → listing d ≡ static_item s ∷ [] → nodes' ≡ nodes ++ static_item s ∷ []
     → IsScalarPut b i nodes nodes' (Reads b t)
 static-put d s end input is listed put =
-    record { document = d; end = end; node = static_item s; read = is; listed = listed; put = put; input = inl input }
+    record {
+      document = d;
+      end = end;
+      node = static_item s;
+      read = is;
+      listed = listed;
+      single = static-single d s listed;
+      put = put;
+      input = inl input;
+    }
 
 -- ---- a refusal
 

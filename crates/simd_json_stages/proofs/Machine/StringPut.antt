@@ -12,7 +12,6 @@ use Rattle.simd_json_parts.proofs.Positions.Between.{string-ends}
 use Rattle.simd_json_parts.proofs.Positions.Boundaries.{Boundary, closing_quote-next, closed-inside}
 use Rattle.simd_json_parts.proofs.Positions.Order.{Contains-positions}
 use Rattle.simd_json_parts.proofs.Positions.Scan.{is_closed, is_closed-quote, is_closed-other, is_inside-at, is_position-picks}
-use Rattle.simd_json_stages.specs.Leading.{listed}
 use Rattle.simd_json_stages.specs.Members.{AtString}
 use Rattle.simd_json_stages.specs.Inputs.{IsStringBefore}
 use Rattle.simd_json_stages.specs.Progresses.{IsRead}
@@ -108,9 +107,9 @@ module _ {b : List ℕ} {r : Route} {t : Input} {capacity written : ℕ} {p : Pr
       ]
 
   -- its closing quote is the last one before that
-  pub string-before : {next : ℕ} → next ≡ get_or (listed r.positions) p.read t.end → IsStringBefore b p.at next
+  pub string-before : {next : ℕ} → next ≡ get_or r.indexes.now p.read t.end → IsStringBefore b p.at next
   string-before {next} is' =
-      let is : next ≡ get_or (positions b) p.read (length b) = is' ∙ ap (get_or (listed r.positions) p.read) at.input.end
+      let is : next ≡ get_or (positions b) p.read (length b) = is' ∙ ap (get_or r.indexes.now p.read) at.input.end
       ∙ ap (λ ps. get_or ps p.read (length b)) at.on_route.positions in
       let there : Contains (positions b) next ⊎ (next ≡ length b) = subst (λ n. Contains (positions b) n ⊎ (n ≡ length b))
       (sym is) (next-there b p) in

@@ -1,5 +1,5 @@
 -- Scans of blocks in a row: of none, of one, and of some after others.
-use Rattle.std.proofs.Common.{◌≡◌, subst, ℕ, ◌+◌, ◌-◌, ◌*◌, ◌≤◌, inl, inr, List, length, Bool, arith}
+use Rattle.std.proofs.Common.{◌≡◌, subst, ℕ, ◌+◌, ◌-◌, ◌*◌, ◌≤◌, inl, inr, List, length, arith}
 use Rattle.std.specs.Int.{from_bool}
 use Rattle.std.proofs.lemmas.Bool.{cases_lt}
 use Rattle.simd_json_stages.specs.Carries.{is_escaped_at}
@@ -56,33 +56,31 @@ Classifies-same {blocks} {first} {m} {n} {s} {t} {old} {new} e h = subst (λ k. 
 
 -- ---- both steps
 
-pub scanned : {m : Bool} {blocks : List (List ℕ)} {first end : ℕ} {s t : ScanState} {xs ys us vs : List ℕ}
-    → Scans m blocks first end s t xs ys us vs
-    → (b : List ℕ) → AreBlocks b blocks → IsScanned m b first s xs ys → IsScanned m b end t us vs
+pub scanned : {blocks : List (List ℕ)} {first end : ℕ} {s t : ScanState} {xs ys us vs : List ℕ} → Scans blocks first end s t xs ys us vs
+    → (b : List ℕ) → AreBlocks b blocks → IsScanned b first s xs ys → IsScanned b end t us vs
 scanned h b is before = record {
   classified = h.classifies.classified b is before.classified;
   placed = h.placed b is before;
 }
 
-pub Scans-none : (m : Bool) (blocks : List (List ℕ)) (k : ℕ) (s : ScanState) (xs ys : List ℕ) → Scans m blocks k k s s xs ys xs ys
-Scans-none m blocks k s xs ys = record {
+pub Scans-none : (blocks : List (List ℕ)) (k : ℕ) (s : ScanState) (xs ys : List ℕ) → Scans blocks k k s s xs ys xs ys
+Scans-none blocks k s xs ys = record {
   classifies = Classifies-none blocks k s.classifying ys;
   few = omega arith;
   placed = λ b is before. before.placed;
 }
 
-pub Scans-more : {m : Bool} {blocks : List (List ℕ)} {first mid end : ℕ} {s t u : ScanState} {xs ys us vs ps qs : List ℕ}
-    → first ≤ mid → mid ≤ end
-    → Scans m blocks first mid s t xs ys us vs → Scans m blocks mid end t u us vs ps qs → Scans m blocks first end s u xs ys ps qs
+pub Scans-more : {blocks : List (List ℕ)} {first mid end : ℕ} {s t u : ScanState} {xs ys us vs ps qs : List ℕ} → first ≤ mid → mid ≤ end
+    → Scans blocks first mid s t xs ys us vs → Scans blocks mid end t u us vs ps qs → Scans blocks first end s u xs ys ps qs
 Scans-more l m h more = record {
   classifies = Classifies-more l m h.classifies more.classifies;
   few = omega (arith, h.few, more.few);
   placed = λ b is before. more.placed b is (scanned h b is before);
 }
 
-pub Scans-same : {w : Bool} {blocks : List (List ℕ)} {first m n : ℕ} {s t : ScanState} {xs ys us vs : List ℕ} → m ≡ n
-    → Scans w blocks first m s t xs ys us vs → Scans w blocks first n s t xs ys us vs
-Scans-same {w} {blocks} {first} {m} {n} {s} {t} {xs} {ys} {us} {vs} e h = subst (λ k. Scans w blocks first k s t xs ys us vs) e h
+pub Scans-same : {blocks : List (List ℕ)} {first m n : ℕ} {s t : ScanState} {xs ys us vs : List ℕ} → m ≡ n
+    → Scans blocks first m s t xs ys us vs → Scans blocks first n s t xs ys us vs
+Scans-same {blocks} {first} {m} {n} {s} {t} {xs} {ys} {us} {vs} e h = subst (λ k. Scans blocks first k s t xs ys us vs) e h
 
 -- ---- capacity for what is left
 
@@ -91,9 +89,8 @@ pub CanList-after : (blocks : List (List ℕ)) (first mid end used len used_then
 CanList-after blocks first mid end used len used_then len_then (inl enough) l m few longer = inl (omega arith)
 CanList-after blocks first mid end used len used_then len_then (inr none) l m few longer = inr (λ k d from to. none k d (omega arith) to)
 
-pub CanScan-after : {m : Bool} {blocks : List (List ℕ)} {first mid end : ℕ} {s t : ScanState} {xs ys us vs : List ℕ}
-    → CanScan blocks first end s xs ys → Scans m blocks first mid s t xs ys us vs → first ≤ mid → mid ≤ end
-    → length xs ≤ length us → length ys ≤ length vs
+pub CanScan-after : {blocks : List (List ℕ)} {first mid end : ℕ} {s t : ScanState} {xs ys us vs : List ℕ} → CanScan blocks first end s xs ys
+    → Scans blocks first mid s t xs ys us vs → first ≤ mid → mid ≤ end → length xs ≤ length us → length ys ≤ length vs
     → CanScan blocks mid end t us vs
 CanScan-after can scans l m long longer = record {
   order = m;

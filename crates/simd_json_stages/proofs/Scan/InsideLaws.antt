@@ -76,29 +76,27 @@ open-carried : (t : Bool) (x : ℕ) → x ≡ all_bits t → x ≢ 0 → t ≡ t
 open-carried true x e some = refl
 open-carried false x e some = absurd (some e)
 
-pub IsPlaced-passed : (b : List ℕ) (k : ℕ) (p : Placing) (out : List ℕ) → IsPlaced false b k p out
-    → IsPlaced false b k (passed b k p p.bad) out
+pub IsPlaced-passed : (b : List ℕ) (k : ℕ) (p : Placing) (out : List ℕ) → IsPlaced b k p out → IsPlaced b k (passed b k p p.bad) out
 IsPlaced-passed b k p out h = record {
   carried = record { inside = h.carried.inside; plain = refl };
   bad = h.bad;
   few = h.few;
   within = h.within;
-  words = h.words;
   found = h.found;
 }
 
-pub passed-same : {b : List ℕ} {m n : ℕ} (p : Placing) {bad : ℕ} {out : List ℕ} → m ≡ n → IsPlaced false b m (passed b m p bad) out
-    → IsPlaced false b n (passed b n p bad) out
-passed-same {b} {m} {n} p {bad} {out} e h = subst (λ k. IsPlaced false b k (passed b k p bad) out) e h
+pub passed-same : {b : List ℕ} {m n : ℕ} (p : Placing) {bad : ℕ} {out : List ℕ} → m ≡ n → IsPlaced b m (passed b m p bad) out
+    → IsPlaced b n (passed b n p bad) out
+passed-same {b} {m} {n} p {bad} {out} e h = subst (λ k. IsPlaced b k (passed b k p bad) out) e h
 
 pub IsPlaced-inside : (b : List ℕ) (k : ℕ) (p : Placing) (bad : ℕ) (out : List ℕ) (control : ℕ) → p.carry.inside ≢ 0
-    → IsControl b (64 * k) control → HasNoQuotes b (64 * k) (64 * k + 64) → IsPlaced false b k (passed b k p bad) out
-    → IsPlaced false b (k + 1) (passed b (k + 1) p (bit_or bad control)) out
+    → IsControl b (64 * k) control → HasNoQuotes b (64 * k) (64 * k + 64) → IsPlaced b k (passed b k p bad) out
+    → IsPlaced b (k + 1) (passed b (k + 1) p (bit_or bad control)) out
 IsPlaced-inside b k p bad out control inside hcontrol none h =
     let start : is_open_at b (64 * k) ≡ true = open-carried (is_open_at b (64 * k)) p.carry.inside h.carried.inside inside in
     let all : p.carry.inside ≡ all_bits true = h.carried.inside ∙ ap all_bits start in
     let e : 64 * (k + 1) ≡ 64 * k + 64 = omega arith in
     let plain = ap (λ n. from_bool (is_plain_before b n)) e in
     let nothing = sym (append-nil _) ∙ ap (λ l. take p.used out ++ l) (sym (set_bits-zero 64 (64 * k))) in
-    IsPlaced-next false b k (passed b k p bad) out _ out p.used h (starts-inside b (64 * k) start none control _ hcontrol all plain)
-    nothing (omega arith) (λ is. absurd (let no : false ≡ true = is in cc)) h.within
+    IsPlaced-next b k (passed b k p bad) out _ out p.used h (starts-inside b (64 * k) start none control _ hcontrol all plain)
+    nothing (omega arith) h.within

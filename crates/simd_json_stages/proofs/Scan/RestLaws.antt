@@ -19,7 +19,6 @@ use Rattle.simd_json_parts.specs.Positions.{positions, has_control_inside}
 use Rattle.simd_json_parts.specs.InputFaults.{has_bad_string}
 use Rattle.simd_json_stages.specs.Carries.{has_control_before}
 use Rattle.simd_json_stages.specs.EscapeBlocks.{blocks_in, holds_backslash, backslash_blocks}
-use Rattle.simd_json_stages.specs.Marks.{indexes_in}
 use Rattle.simd_json_stages.specs.Words.{is_set, set_bits, HasBits, HasLastBits}
 use Rattle.simd_json_stages.specs.Blocks.{all_bits, IsBlock, AreClassified, AreStarts, IsClassified, IsPlaced}
 use Rattle.simd_json_stages.specs.declared.stage1.words.BlockStarts.{BlockStarts}
@@ -174,10 +173,9 @@ control-all b n =
 all-zero : (t : Bool) → not (all_bits t == 0) ≡ t
 all-zero = equal-one (λ t. not (all_bits t == 0)) (λ t. t) tt
 
-pub rest-bad : (t : Bool) (b : List ℕ) (p : Placing) (out : List ℕ) (m : BlockStarts) → IsPlaced t b (whole b) p out
-    → AreStarts b (64 * whole b) m
+pub rest-bad : (b : List ℕ) (p : Placing) (out : List ℕ) (m : BlockStarts) → IsPlaced b (whole b) p out → AreStarts b (64 * whole b) m
     → (not (m.carry.inside == 0) || not (bit_or p.bad m.bad == 0)) ≡ has_bad_string b
-rest-bad t b p out m h placed =
+rest-bad b p out m h placed =
     let k = whole b in
     let n = 64 * k + 64 - length b in
     let e : 64 * k + 64 ≡ length b + n = omega arith in
@@ -188,14 +186,14 @@ rest-bad t b p out m h placed =
     (ap not (control-next b k p.bad m.bad h.bad placed.bad) ∙ not-not (has_control_before b (64 * (k + 1)))
     ∙ ap (has_control_before b) f ∙ control-all b n)
 
-pub rest-positions : (t : Bool) (b : List ℕ) (p : Placing) (out : List ℕ) (m : BlockStarts) → IsPlaced t b (whole b) p out
-    → AreStarts b (64 * whole b) m → indexes_in t (take p.used out) ++ set_bits 64 (64 * whole b) m.starts ≡ positions b
-rest-positions t b p out m h placed =
+pub rest-positions : (b : List ℕ) (p : Placing) (out : List ℕ) (m : BlockStarts) → IsPlaced b (whole b) p out
+    → AreStarts b (64 * whole b) m → take p.used out ++ set_bits 64 (64 * whole b) m.starts ≡ positions b
+rest-positions b p out m h placed =
     let k = whole b in
     ap (λ l. l ++ set_bits 64 (64 * k) m.starts) h.found ∙ positions-next (is_position b) k m.starts placed.starts
     ∙ positions-all b (64 * (k + 1)) (omega arith)
 
-pub few-positions : (b : List ℕ) → length (positions b) ≤ length b
+few-positions : (b : List ℕ) → length (positions b) ≤ length b
 unfolding positions
 few-positions b = omega (
   arith,
@@ -204,10 +202,10 @@ few-positions b = omega (
   length-range_with_len 0 (length b),
 )
 
-pub rest-few : (b : List ℕ) (p : Placing) (out : List ℕ) (m : BlockStarts) → IsPlaced false b (whole b) p out → AreStarts b (64 * whole b) m
+pub rest-few : (b : List ℕ) (p : Placing) (out : List ℕ) (m : BlockStarts) → IsPlaced b (whole b) p out → AreStarts b (64 * whole b) m
     → p.used + ones m.starts ≤ length b
 rest-few b p out m h placed =
-    let all = ap length (rest-positions false b p out m h placed) in
+    let all = ap length (rest-positions b p out m h placed) in
     let two = length-append (take p.used out) (set_bits 64 (64 * whole b) m.starts) in
     let one = length-take-le p.used out h.within in
     let bits = length-ones 64 (64 * whole b) m.starts placed.starts.small in

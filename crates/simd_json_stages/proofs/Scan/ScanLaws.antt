@@ -22,7 +22,6 @@ use Rattle.simd_json_parts.specs.Bytes.{is_control, byte_at}
 use Rattle.simd_json_parts.specs.Positions.{backslashes_before, real_quotes, is_inside, is_position}
 use Rattle.simd_json_stages.specs.Carries.{is_escaped_at, has_control_before}
 use Rattle.simd_json_stages.specs.EscapeBlocks.{holds_backslash}
-use Rattle.simd_json_stages.specs.Marks.{indexes_in}
 use Rattle.simd_json_stages.specs.Words.{is_set, HasBits, set_bits}
 use Rattle.simd_json_stages.specs.Blocks.{is_plain_before, IsCarried, AreBlocks, AreClassified, AreStarts, IsClassified, IsPlaced}
 use Rattle.simd_json_stages.specs.Blocks.{IsScanned}
@@ -137,54 +136,41 @@ IsClassified-next b k s listed m high after end h classified written count withi
       found = listed-next (holds_backslash b) k s.listed listed after end m.has_backslash classified.escapes h.found written;
     }
 
-pub IsPlaced-next : (marks : Bool) (b : List ℕ) (k : ℕ) (p : Placing) (out : List ℕ) (m : BlockStarts) (after : List ℕ) (used : ℕ)
-    → IsPlaced marks b k p out → AreStarts b (64 * k) m
-    → indexes_in marks (take used after) ≡ indexes_in marks (take p.used out) ++ set_bits 64 (64 * k) m.starts
-    → used ≤ p.used + 64 → (marks ≡ true → used ≡ p.used + 2) → used ≤ length after
-    → IsPlaced marks b (k + 1) (record { carry = m.carry; bad = bit_or p.bad m.bad; used = used }) after
-IsPlaced-next marks b k p out m after used h placed written few two within =
+pub IsPlaced-next : (b : List ℕ) (k : ℕ) (p : Placing) (out : List ℕ) (m : BlockStarts) (after : List ℕ) (used : ℕ) → IsPlaced b k p out
+    → AreStarts b (64 * k) m
+    → take used after ≡ take p.used out ++ set_bits 64 (64 * k) m.starts → used ≤ p.used + 64 → used ≤ length after
+    → IsPlaced b (k + 1) (record { carry = m.carry; bad = bit_or p.bad m.bad; used = used }) after
+IsPlaced-next b k p out m after used h placed written few within =
     let e : 64 * k + 64 ≡ 64 * (k + 1) = omega arith in
     record {
       carried = subst (λ n. IsCarried b n m.carry) e placed.carry;
       bad = control-next b k p.bad m.bad h.bad placed.bad;
       few = let f = h.few in omega arith;
       within = within;
-      words = λ is. omega (arith, h.words is, two is);
       found = written ∙ ap (λ l. l ++ set_bits 64 (64 * k) m.starts) h.found ∙ positions-next (is_position b) k m.starts placed.starts;
     }
 
 -- ---- the same block, counted otherwise
 
-pub IsPlaced-same : {t : Bool} {b : List ℕ} {m n : ℕ} {p : Placing} {out : List ℕ} → m ≡ n → IsPlaced t b m p out → IsPlaced t b n p out
-IsPlaced-same {t} {b} {m} {n} {p} {out} e h = subst (λ k. IsPlaced t b k p out) e h
+pub IsPlaced-same : {b : List ℕ} {m n : ℕ} {p : Placing} {out : List ℕ} → m ≡ n → IsPlaced b m p out → IsPlaced b n p out
+IsPlaced-same {b} {m} {n} {p} {out} e h = subst (λ k. IsPlaced b k p out) e h
 
-pub IsScanned-same : {t : Bool} {b : List ℕ} {m n : ℕ} {s : ScanState} {out listed : List ℕ} → m ≡ n → IsScanned t b m s out listed
-    → IsScanned t b n s out listed
-IsScanned-same {t} {b} {m} {n} {s} {out} {listed} e h = subst (λ k. IsScanned t b k s out listed) e h
+pub IsScanned-same : {b : List ℕ} {m n : ℕ} {s : ScanState} {out listed : List ℕ} → m ≡ n → IsScanned b m s out listed
+    → IsScanned b n s out listed
+IsScanned-same {b} {m} {n} {s} {out} {listed} e h = subst (λ k. IsScanned b k s out listed) e h
 
 -- ---- at the start, and where lists grow
 
-pub IsScanned-none : (marks : Bool) (b : List ℕ) (out listed : List ℕ)
-    → IsScanned marks b 0 (record {
+pub IsScanned-none : (b : List ℕ) (out listed : List ℕ)
+    → IsScanned b 0 (record {
       classifying = record { escaped = 0; high = 0; listed = 0 };
       placing = record { carry = record { inside = 0; plain = 0 }; bad = 0; used = 0 };
     }) out listed
 unfolding backslashes_before real_quotes is_plain_before
-IsScanned-none marks b out listed = record {
+IsScanned-none b out listed = record {
   classified = record { escaped = refl; few = omega arith; within = omega arith; found = refl };
-  placed = record {
-    carried = record { inside = refl; plain = refl };
-    bad = refl;
-    few = omega arith;
-    within = omega arith;
-    words = λ is. omega arith;
-    found = none marks;
-  };
+  placed = record { carried = record { inside = refl; plain = refl }; bad = refl; few = omega arith; within = omega arith; found = refl };
 }
-  where
-    none : (marks : Bool) → indexes_in marks [] ≡ []
-    none true = refl
-    none false = refl
 
 pub prefix : (n : ℕ) (xs ys : List ℕ) → n ≤ length xs → take (length xs) ys ≡ xs → take n ys ≡ take n xs
 prefix n xs ys l e = sym (take-take n (length xs) ys l) ∙ ap (take n) e
@@ -197,29 +183,28 @@ stored-next n k xs ys l e more =
     here ∙ ap (λ ks. ks ++ k ∷ []) (prefix n xs ys l e)
 
 -- in lists that are longer, where a window begins with no byte that is no ASCII
-pub IsScanned-longer : {t : Bool} {b : List ℕ} {k : ℕ} {s : ScanState} {xs ys us vs ps qs : List ℕ} → IsScanned t b k s xs ys
+pub IsScanned-longer : {b : List ℕ} {k : ℕ} {s : ScanState} {xs ys us vs ps qs : List ℕ} → IsScanned b k s xs ys
     → (take (length xs) us ≡ xs) × (take (length ys) vs ≡ ys) → (length xs ≤ length us) × (length ys ≤ length vs)
-    → ps ≡ us → qs ≡ vs → IsScanned t b k (record {
+    → ps ≡ us → qs ≡ vs → IsScanned b k (record {
       classifying = record { escaped = s.classifying.escaped; high = 0; listed = s.classifying.listed };
       placing = s.placing;
     }) ps qs
-IsScanned-longer {t} {b} {k} {s} {xs} {ys} {us} {vs} h kept long p q =
-    let d = h.classified in
+IsScanned-longer {b} {k} {s} {xs} {ys} {us} {vs} h kept long p q =
+    let t = h.classified in
     let w = h.placed in
     rw (p, q) (record {
       classified = record {
-        escaped = d.escaped;
-        few = d.few;
-        within = omega (arith, d.within, long.1);
-        found = prefix s.classifying.listed ys vs d.within kept.1 ∙ d.found;
+        escaped = t.escaped;
+        few = t.few;
+        within = omega (arith, t.within, long.1);
+        found = prefix s.classifying.listed ys vs t.within kept.1 ∙ t.found;
       };
       placed = record {
         carried = w.carried;
         bad = w.bad;
         few = w.few;
         within = omega (arith, w.within, long.0);
-        words = w.words;
-        found = ap (indexes_in t) (prefix s.placing.used xs us w.within kept.0) ∙ w.found;
+        found = prefix s.placing.used xs us w.within kept.0 ∙ w.found;
       };
     })
 
@@ -230,9 +215,9 @@ pub length-back : (xs ys : List ℕ) (n : ℕ) → length xs ≡ n → length (t
 length-back xs ys n e = ap length (written-back xs ys n e) ∙ e
 
 -- once the slices are given back
-pub IsScanned-back : {t : Bool} {b : List ℕ} {k : ℕ} {s : ScanState} {xs ys : List ℕ} (us vs : List ℕ) (m n : ℕ) → length xs ≡ m
-    → length ys ≡ n → IsScanned t b k s xs ys → IsScanned t b k s (take m (xs ++ us)) (take n (ys ++ vs))
-IsScanned-back {t} {b} {k} {s} {xs} {ys} us vs m n e f h = rw (written-back xs us m e, written-back ys vs n f) h
+pub IsScanned-back : {b : List ℕ} {k : ℕ} {s : ScanState} {xs ys : List ℕ} (us vs : List ℕ) (m n : ℕ) → length xs ≡ m → length ys ≡ n
+    → IsScanned b k s xs ys → IsScanned b k s (take m (xs ++ us)) (take n (ys ++ vs))
+IsScanned-back {b} {k} {s} {xs} {ys} us vs m n e f h = rw (written-back xs us m e, written-back ys vs n f) h
 
 -- ---- the blocks of an input
 

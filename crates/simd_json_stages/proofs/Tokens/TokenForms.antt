@@ -1,15 +1,18 @@
 -- Which token is at a byte, and the tokens along positions.
-use Rattle.std.proofs.Common.{◌≡◌, ◌≢◌, refl, ◌∙◌, ap, ℕ, ◌+◌, ◌<◌, List, [], ◌∷◌, ◌++◌, true, false, length, get_or, drop, cond, ◌||◌}
+use Rattle.std.proofs.Common.{◌≡◌, ◌≢◌, refl, sym, ◌∙◌, ap, ℕ, ◌+◌, ◌<◌, List, [], ◌∷◌, ◌++◌, true, false, length, get_or, drop, cond, ◌||◌}
 use Rattle.std.proofs.Common.{◌&&◌, ◌==◌, nat_le}
-use Rattle.std.specs.Prelude.{if◌then◌else◌}
-use Rattle.std.proofs.lemmas.Bool.{cond_both, eqb-true}
+use Rattle.std.specs.Prelude.{Result, if◌then◌else◌}
+use Rattle.std.proofs.lemmas.Bool.{cond_both, eqb-true, ne_eqb, or_from}
 use Rattle.std.proofs.lemmas.List.{drop_more}
 use Rattle.simd_json_parts.specs.Bytes.{byte_at}
+use Rattle.simd_json_parts.specs.Document.{Document}
 use Rattle.simd_json_parts.specs.Tokens.{Token, Form, begin_array, end_array, begin_object, end_object, name_separator, value_separator}
 use Rattle.simd_json_parts.specs.Tokens.{string_token, scalar, stray, form_of, form_at}
 use Rattle.simd_json_parts.specs.Descent.{last_index}
 use Rattle.simd_json_parts.specs.StringAt.{string_at}
 use Rattle.simd_json_parts.specs.TokensAlong.{goes_on, tokens_along}
+use Rattle.simd_json_parts.specs.declared.error.Error.{Error}
+use Rattle.simd_json_stages.specs.Building.{is_closing}
 use Rattle.simd_json_stages.specs.Put.{begins_value}
 use Rattle.simd_json_stages.proofs.Tokens.Places.{token}
 use Rattle.simd_json_stages.proofs.Tokens.ScalarLaws.{is_no_scalar}
@@ -137,6 +140,12 @@ module _ (b : List ℕ) where
 
   pub no_member_ending : (i : ℕ) → byte_at b i ≢ 125 → byte_at b i ≢ 44 → ends_member (form_at b i) ≡ false
   no_member_ending i ne nc = no_member_ending_of (form_at b i) (byte_at b i) (form-byte i) ne nc
+
+  -- a scalar does not begin with a closing bracket
+  pub no_closing : (i : ℕ) {read : Result (Document × ℕ) Error} → form_at b i ≡ scalar read → is_closing (byte_at b i) ≡ false
+  no_closing i {read} is = or_from _ _
+      (ne_eqb (byte_at b i) 93 (λ e. let clash : end_array ≡ scalar read = sym (closes i e) ∙ is in cc))
+      (ne_eqb (byte_at b i) 125 (λ e. let clash : end_object ≡ scalar read = sym (closes_object i e) ∙ is in cc))
 
   -- what is no scalar, no string and opens nothing begins no value
   pub no_value : (i : ℕ) → is_no_scalar (form_at b i) ≡ true → byte_at b i ≢ 34 → byte_at b i ≢ 91 → byte_at b i ≢ 123

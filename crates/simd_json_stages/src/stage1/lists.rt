@@ -1,5 +1,5 @@
-//! The two lists that the first stage writes, of structural indexes or marks and of blocks with a
-//! backslash: their memory, and the stores into them.
+//! The two lists that the first stage writes, of structural indexes and of blocks with a backslash:
+//! their memory, and the stores into them.
 //!
 //! **Memory.** simdjson allocates for the worst case, an index for each byte, before it scans. Here
 //! a list grows with what is found, by half or by what is guessed from the input so far. A list is

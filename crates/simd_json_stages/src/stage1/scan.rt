@@ -7,20 +7,16 @@
 //!
 //! A block passes two steps, whose states are kept apart, since all blocks of a group take the
 //! first step before one takes the second: it is classified, and listed if it holds a backslash,
-//! and its structural indexes are written, or the bits that mark them if the parameter `MARKS` says
-//! so. Control bytes inside strings are collected in a word, which is tested once, at the end.
+//! and its structural indexes are written. Control bytes inside strings are collected in a word,
+//! which is tested once, at the end.
 ghost use Rattle.std.specs.Prelude.{◌≡◌, ◌+◌, ◌*◌, ◌/◌, ◌^◌, ◌<◌, ◌≤◌, ◌⊎◌};
-ghost use Rattle.std.specs.Prelude.{ℕ, List, length, take, drop, IfOk, IfErr, IsTrue};
+ghost use Rattle.std.specs.Prelude.{ℕ, List, length, drop, IfOk, IfErr, IsTrue};
 ghost use Rattle.std.specs.Int.{from_bool};
 ghost use Rattle.std.specs.Simd.{first_chunks};
-ghost use Rattle.simd_json_parts.specs.Faults.{whole_fault};
 ghost use Rattle.simd_json_parts.specs.Limits.{max_length};
-ghost use Rattle.simd_json_parts.specs.Positions.{positions};
-ghost use Rattle.simd_json_parts.specs.declared.error.ErrorType.{ErrorType};
-ghost use Rattle.simd_json_stages.specs.Blocks.{AreClassified, AreParts, AreStarts, IsClassified};
+ghost use Rattle.simd_json_stages.specs.Blocks.{AreClassified, AreParts, IsClassified};
 ghost use Rattle.simd_json_stages.specs.Blocks.{IsControl, IsPlaced, IsScanned};
 ghost use Rattle.simd_json_stages.specs.Carries.{IsChecked, is_escaped_at};
-ghost use Rattle.simd_json_stages.specs.Marks.{indexes_in};
 ghost use Rattle.simd_json_stages.specs.Scans.{IsBadEncoding, IsFound, LacksMemory};
 
 mod groups;
@@ -28,11 +24,8 @@ mod windows;
 
 use super::encoding::check_window;
 use super::lists::{grow, list_block, write, write_exactly};
-use super::words::{
-    BlockStarts, Carry, Classified, Parts, classify, classify_last, find_parts, find_starts,
-};
+use super::words::{Carry, Classified, Parts, classify, classify_last, find_parts, find_starts};
 use super::{BLOCK_LEN, Found};
-use crate::marks::mark;
 use groups::GROUP;
 use simd_json_parts::error::Result;
 use std::alloc::Allocator;
@@ -82,15 +75,14 @@ struct Placing {
     carry: Carry,
     // not 0 if some block has a control byte inside a string
     bad: u64,
-    // how many entries of the list of structural indexes are in use, or of marks two for each block
+    // how many entries of the list of structural indexes are in use
     used: usize,
 }
 
 impl Placing {
-    // Writes the structural indexes of block number `block`, or marks them, and returns the state
-    // after it.
+    // Writes the structural indexes of block number `block`, and returns the state after it.
     #[inline(always)]
-    fn place_block<const MARKS: bool>(
+    fn place_block(
         self,
         parts: Parts,
         control: u64,
@@ -101,21 +93,15 @@ impl Placing {
         requires capacity { self.used + BLOCK_LEN ≤ length structural_indexes.old }
         ensures few { result.used ≤ self.used + BLOCK_LEN }
         ensures placed { (b : List ℕ) → AreParts b (BLOCK_LEN * block) parts
-            → IsControl b (BLOCK_LEN * block) control
-            → IsPlaced MARKS b block self structural_indexes.old
-            → IsPlaced MARKS b (block + 1) result structural_indexes.new }
+            → IsControl b (BLOCK_LEN * block) control → IsPlaced b block self structural_indexes.old
+            → IsPlaced b (block + 1) result structural_indexes.new }
     {
         let placed = find_starts(parts, control, self.carry);
         let base = (BLOCK_LEN * block) as u32;
-        let used = if MARKS {
-            mark(structural_indexes, self.used, placed.starts)
-        } else {
-            write(structural_indexes, self.used, base, placed.starts)
-        };
         Placing {
             carry: placed.carry,
             bad: self.bad | placed.bad,
-            used,
+            used: write(structural_indexes, self.used, base, placed.starts),
         }
     }
 }
@@ -149,7 +135,7 @@ const START: ScanState = ScanState {
 // Scans the whole blocks. Returns the state after them, and how many bytes of the input are known
 // to be UTF-8 then.
 #[inline(always)]
-pub(super) fn scan_blocks<A: Allocator, const MARKS: bool>(
+pub(super) fn scan_blocks<A: Allocator>(
     input: &[u8],
     blocks: &[[u8; 64]],
     structural_indexes: &mut Vec<u32, A>,
@@ -158,7 +144,7 @@ pub(super) fn scan_blocks<A: Allocator, const MARKS: bool>(
     requires size { length input.now ≤ max_length }
     requires blocks { blocks.now ≡ first_chunks 64 (length input.now / 64) input.now }
     requires len { length blocks.now ≡ length input.now / 64 }
-    ensures scanned { IfOk result (λ r. IsScanned MARKS input.now (length input.now / 64) r.0
+    ensures scanned { IfOk result (λ r. IsScanned input.now (length input.now / 64) r.0
         structural_indexes.new.items escape_blocks.new.items) }
     ensures checked { IfOk result (λ r. IsChecked input.now r.1) }
     ensures fault { IfErr result (λ e. IsBadEncoding input.now e
@@ -167,7 +153,7 @@ pub(super) fn scan_blocks<A: Allocator, const MARKS: bool>(
         × (length escape_blocks.old.items ≤ length escape_blocks.new.items) }
 {
     if !blocks.is_empty() && blocks.len() < GROUP {
-        return scan_short::<A, MARKS>(input, blocks, structural_indexes, escape_blocks);
+        return scan_short(input, blocks, structural_indexes, escape_blocks);
     }
     let mut done = START;
     let mut checked = 0;
@@ -185,7 +171,7 @@ pub(super) fn scan_blocks<A: Allocator, const MARKS: bool>(
             escape_blocks,
         )?;
         done.classifying.high = 0;
-        done = scan_window::<MARKS>(
+        done = scan_window(
             blocks,
             window,
             structural_indexes.as_mut_slice(),
@@ -202,7 +188,7 @@ pub(super) fn scan_blocks<A: Allocator, const MARKS: bool>(
 // The same for fewer blocks than a group has: one window without a loop over windows, so that LLVM
 // keeps the state in registers.
 #[inline(always)]
-fn scan_short<A: Allocator, const MARKS: bool>(
+fn scan_short<A: Allocator>(
     input: &[u8],
     blocks: &[[u8; 64]],
     structural_indexes: &mut Vec<u32, A>,
@@ -212,7 +198,7 @@ fn scan_short<A: Allocator, const MARKS: bool>(
     requires blocks { blocks.now ≡ first_chunks 64 (length input.now / 64) input.now }
     requires len { length blocks.now ≡ length input.now / 64 }
     requires some { 0 < length blocks.now }
-    ensures scanned { IfOk result (λ r. IsScanned MARKS input.now (length input.now / 64) r.0
+    ensures scanned { IfOk result (λ r. IsScanned input.now (length input.now / 64) r.0
         structural_indexes.new.items escape_blocks.new.items) }
     ensures checked { IfOk result (λ r. IsChecked input.now r.1) }
     ensures fault { IfErr result (λ e. IsBadEncoding input.now e
@@ -231,7 +217,7 @@ fn scan_short<A: Allocator, const MARKS: bool>(
         structural_indexes,
         escape_blocks,
     )?;
-    let done = scan_few::<MARKS>(
+    let done = scan_few(
         blocks,
         window,
         structural_indexes.as_mut_slice(),
@@ -262,45 +248,11 @@ fn classify_rest(input: &[u8], rest: &[u8], before: u64) -> Classified
     }
 }
 
-// Appends the structural indexes of the last block, in which `found` was found, or the bits that
-// mark them. Returns how many entries of the list are in use then.
-#[inline(always)]
-fn place_rest<A: Allocator, const MARKS: bool>(
-    input: &[u8],
-    before: Placing,
-    found: BlockStarts,
-    structural_indexes: &mut Vec<u32, A>,
-) -> Result<usize>
-    requires size { length input.now ≤ max_length }
-    requires before { IsPlaced MARKS input.now (length input.now / 64) before
-        structural_indexes.old.items }
-    requires found { AreStarts input.now (64 * (length input.now / 64)) found }
-    requires marks { IsTrue MARKS → 64 ≤ length input.now }
-    ensures placed { IfOk result (λ end. (end ≤ length structural_indexes.new.items)
-        × (indexes_in MARKS (take end structural_indexes.new.items) ≡ positions input.now)) }
-    ensures words { IfOk result (λ end. IsTrue MARKS → end ≡ 2 * (length input.now / 64 + 1)) }
-    ensures fault { IfErr result (λ e. (e ≡ whole_fault ErrorType.OutOfMemory)
-        × (length structural_indexes.old.items < length input.now)) }
-    ensures longer { length structural_indexes.old.items
-        ≤ length structural_indexes.new.items }
-{
-    let used = before.used;
-    if MARKS {
-        let end = used + 2;
-        grow(structural_indexes, end, end, input.len())?;
-        return Ok(mark(structural_indexes.as_mut_slice(), used, found.starts));
-    }
-    let end = used + found.starts.count_ones() as usize;
-    grow(structural_indexes, end, end, input.len())?;
-    let base = (BLOCK_LEN * (input.len() / BLOCK_LEN)) as u32;
-    Ok(write_exactly(structural_indexes.as_mut_slice(), used, base, found.starts))
-}
-
 // Scans the bytes after the whole blocks, `rest`, as a block that is filled up with spaces. Returns
 // whether some string of the input is left open or holds a control byte, and how many structural
 // indexes and blocks with a backslash the input has.
 #[inline(always)]
-pub(super) fn scan_rest<A: Allocator, const MARKS: bool>(
+pub(super) fn scan_rest<A: Allocator>(
     input: &[u8],
     rest: &[u8],
     done: ScanState,
@@ -311,11 +263,10 @@ pub(super) fn scan_rest<A: Allocator, const MARKS: bool>(
     requires size { length input.now ≤ max_length }
     requires rest { rest.now ≡ drop (length input.now / 64 * 64) input.now }
     requires len { length rest.now < 64 }
-    requires scanned { IsScanned MARKS input.now (length input.now / 64) done
+    requires scanned { IsScanned input.now (length input.now / 64) done
         structural_indexes.old.items escape_blocks.old.items }
     requires checked { IsChecked input.now checked }
-    requires marks { IsTrue MARKS → 64 ≤ length input.now }
-    ensures found { IfOk result (λ r. IsFound MARKS input.now r.0 r.1
+    ensures found { IfOk result (λ r. IsFound input.now r.0 r.1
         structural_indexes.new.items escape_blocks.new.items) }
     ensures fault { IfErr result (λ e. IsBadEncoding input.now e
         ⊎ LacksMemory input.now e structural_indexes.old.items escape_blocks.old.items) }
@@ -333,7 +284,11 @@ pub(super) fn scan_rest<A: Allocator, const MARKS: bool>(
         classified.escaped,
     );
     let placed = find_starts(parts, classified.control, done.placing.carry);
-    let positions = place_rest::<A, MARKS>(input, done.placing, placed, structural_indexes)?;
+    let used = done.placing.used;
+    let positions = used + placed.starts.count_ones() as usize;
+    grow(structural_indexes, positions, positions, input.len())?;
+    let base = (BLOCK_LEN * block) as u32;
+    write_exactly(structural_indexes.as_mut_slice(), used, base, placed.starts);
     let mut listed = done.classifying.listed;
     if classified.has_backslash {
         let max_blocks = input.len().div_ceil(BLOCK_LEN);

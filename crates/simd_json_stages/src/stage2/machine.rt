@@ -11,14 +11,16 @@
 //!               the closing bracket of the container              →  after a value
 //!               the end of the tokens, in no container            →  done
 //! ```
-ghost use Rattle.std.specs.Prelude.{◌≡◌, ◌<◌, ◌≤◌, ◌+◌, length, IfOk, IfErr};
-ghost use Rattle.simd_json_stages.specs.Leading.{listed};
+ghost use Rattle.std.specs.Prelude.{◌≡◌, ◌<◌, ◌≤◌, ◌+◌, [], length, IfOk, IfErr};
 ghost use Rattle.simd_json_stages.specs.Members.{AfterMember, AtElement, AtFirst, AtOpening};
-ghost use Rattle.simd_json_stages.specs.Members.{AtPair, AtStart, HasCome, HasFollowed};
+ghost use Rattle.simd_json_stages.specs.Members.{AtPair, HasCapacity, HasCome, HasFollowed};
 ghost use Rattle.simd_json_stages.specs.Members.{IsAtMember, IsFault, IsFrom, IsTape};
-ghost use Rattle.simd_json_stages.specs.Progresses.{AdvancesPastMember, AdvancesPastValue, reached};
+ghost use Rattle.simd_json_stages.specs.Progresses.{AdvancesPastMember, AdvancesPastValue};
+ghost use Rattle.simd_json_stages.specs.Progresses.{IsForCopy, reached};
 ghost use Rattle.simd_json_stages.specs.Put.{SameSink};
+ghost use Rattle.simd_json_stages.specs.Scans.{IsScanOf};
 
+use super::Scanned;
 use super::fault::{Fault, FaultKind};
 use super::input::{Input, Original};
 use super::nodes::NodeSink;
@@ -208,19 +210,19 @@ impl<'de> Machine<'_, 'de> {
                 Following::Closed(closed) => p = closed,
             }
         }
-        if p.read < route.positions.len() {
-            return Err(p.fault_after_root(nodes.starts_with_header()));
+        if p.read < route.indexes.len() {
+            return Err(p.fault_after_root());
         }
         Ok(NextMember::End)
     }
 
-    // The loops have a copy for each caller of `build`, since what has one caller alone is inlined.
-    // With one for all callers a parse takes a sixth longer.
+    // The loops have a copy for each caller of `build_copy`, since what has one caller alone is
+    // inlined. With one for all callers a parse takes a sixth longer.
 
     // Reads the elements of an array, from the first token of one on, up to a container that opens
     // in it or to its end.
     #[inline(always)]
-    fn elements<K: Original, S: NodeSink<'de>, const COPY: usize, const MARKED: bool>(
+    fn elements<K: Original, S: NodeSink<'de>, const COPY: usize>(
         &mut self,
         route: Route,
         nodes: &mut S,
@@ -251,7 +253,7 @@ impl<'de> Machine<'_, 'de> {
 
     // Reads the members of an object, likewise. If the first has no key, the fault is of this kind.
     #[inline(always)]
-    fn members<K: Original, S: NodeSink<'de>, const COPY: usize, const MARKED: bool>(
+    fn members<K: Original, S: NodeSink<'de>, const COPY: usize>(
         &mut self,
         route: Route,
         nodes: &mut S,
@@ -283,38 +285,68 @@ impl<'de> Machine<'_, 'de> {
             kind = FaultKind::ExpectedObjectKey;
         }
     }
+}
 
-    // Appends the nodes of the tokens at the structural indexes, from the root's first token on.
-    #[inline(always)]
-    pub(super) fn build<K: Original, S: NodeSink<'de>, const COPY: usize, const MARKED: bool>(
-        &mut self,
-        route: Route,
-        nodes: &mut S,
-    ) -> Result<(), Fault>
-        requires { AtStart K.bytes route self.old (S.node_room nodes.old) (S.held_nodes nodes.old) }
-        ensures sink { SameSink S.node_room S.lender nodes.old nodes.new }
-        ensures tape { IsTape K.bytes (listed route.entry.positions) route.entry.max_depth
-            (S.held_nodes nodes.new) result }
-    {
-        let (at, bits) = route.positions.first();
-        let first = Progress {
-            at,
-            byte: self.input.byte(at),
-            container: Container::Array,
-            read: 1,
-            depth: 0,
-            len: 0,
-            bits,
+// The machine is compiled three times, so that its loops need not test what is known beforehand.
+
+// The input has no backslash, so it is borrowed whole. Its last token is a closing bracket, so
+// another token follows each one that is not.
+pub(super) const PLAIN: usize = 0;
+
+// The input has backslashes. Its last token is a closing bracket.
+pub(super) const CLOSED: usize = 1;
+
+// Any other input, such as a scalar by itself.
+pub(super) const ANY: usize = 2;
+
+// Appends the nodes of the tokens at the structural indexes, from the root's first token on, by the
+// copy of the machine with number `COPY`.
+#[inline(always)]
+pub(super) fn build_copy<'de, K: Original, S: NodeSink<'de>, const COPY: usize>(
+    input: &'de mut [u8],
+    scanned: Scanned<'_>,
+    stack: &mut [StackState],
+    nodes: &mut S,
+    max_depth: usize,
+) -> Result<(), Fault>
+    requires input { input.old ≡ K.bytes }
+    requires scanned { IsScanOf K.bytes scanned }
+    requires copy { IsForCopy COPY K.bytes scanned.structural_indexes.now }
+    requires capacities { HasCapacity scanned.structural_indexes.now max_depth stack.old
+        (S.node_room nodes.old) }
+    requires empty { S.held_nodes nodes.old ≡ [] }
+    ensures sink { SameSink S.node_room S.lender nodes.old nodes.new }
+    ensures tape { IsTape K.bytes scanned.entry.structural_indexes.now max_depth
+        (S.held_nodes nodes.new) result }
+{
+    let input = if COPY == PLAIN {
+        Input::plain(input)
+    } else {
+        Input::with_escapes(input, scanned.escape_blocks)
+    };
+    let mut machine = Machine { input, stack };
+    let route = Route {
+        indexes: scanned.structural_indexes,
+        ends_closed: COPY != ANY,
+        max_depth,
+    };
+    let at = route.indexes[0] as usize;
+    let first = Progress {
+        at,
+        byte: machine.input.byte(at),
+        container: Container::Array,
+        read: 1,
+        depth: 0,
+        len: 0,
+    };
+    let mut value = machine.read_value::<K, S>(route, nodes, first)?;
+    'values: loop {
+        value = match machine.next_member::<K, S>(route, nodes, value)? {
+            NextMember::Next(p, kind) => match p.container {
+                Container::Array => machine.elements::<K, S, COPY>(route, nodes, p)?,
+                Container::Object => machine.members::<K, S, COPY>(route, nodes, p, kind)?,
+            },
+            NextMember::End => return Ok(()),
         };
-        let mut value = self.read_value::<K, S>(route, nodes, first)?;
-        'values: loop {
-            value = match self.next_member::<K, S>(route, nodes, value)? {
-                NextMember::Next(p, kind) => match p.container {
-                    Container::Array => self.elements::<K, S, COPY, MARKED>(route, nodes, p)?,
-                    Container::Object => self.members::<K, S, COPY, MARKED>(route, nodes, p, kind)?,
-                },
-                NextMember::End => return Ok(()),
-            };
-        }
     }
 }

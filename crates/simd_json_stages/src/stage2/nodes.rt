@@ -59,9 +59,6 @@ use std::alloc::Allocator;
 ///     fn len(&self) -> usize {
 ///         self.nodes.len()
 ///     }
-///     fn starts_with_header(&self) -> bool {
-///         self.nodes.starts_with_header()
-///     }
 /// }
 /// ```
 pub trait NodeSink<'de> {
@@ -120,12 +117,6 @@ pub trait NodeSink<'de> {
         ensures room { node_room self.new ≡ node_room self.old }
         ensures patched { held_nodes self.new
             ≡ slice_set (held_nodes self.old) header (header_of container len count) };
-
-    /// Returns whether the first node is the header of a container.
-    fn starts_with_header(&self) -> bool
-        requires { 0 < length (held_nodes self.now) }
-        ensures { result
-            ≡ is_header (get_or (held_nodes self.now) 0 (static_item StaticNode.Null)) };
 }
 
 /// A list of nodes as a sink, with room for as many nodes as it has capacity for. The caller makes
@@ -173,9 +164,5 @@ impl<'n, 'de, A: Allocator> NodeSink<'de> for ListSink<'n, 'de, A> {
     #[inline(always)]
     fn set_counts(&mut self, header: usize, container: Container, len: usize, count: usize) {
         self.list[header] = container.header(len, count);
-    }
-
-    fn starts_with_header(&self) -> bool {
-        matches!(self.list[0], Node::Array { .. } | Node::Object { .. })
     }
 }

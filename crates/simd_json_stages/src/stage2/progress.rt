@@ -7,22 +7,20 @@
 ghost use Rattle.std.specs.Prelude.{◌≡◌, ◌≢◌, ◌<◌, ◌≤◌, ◌+◌, ℕ, List, length, get_or};
 ghost use Rattle.std.specs.Prelude.{IfOk, IfErr, IsTrue, IsFalse};
 ghost use Rattle.simd_json_parts.specs.Bytes.{byte_at};
-ghost use Rattle.simd_json_stages.specs.Building.{end_kind};
-ghost use Rattle.simd_json_stages.specs.Leading.{Leads, listed};
+ghost use Rattle.simd_json_stages.specs.Building.{end_kind, is_closing};
 ghost use Rattle.simd_json_stages.specs.Members.{AfterToken};
 ghost use Rattle.simd_json_stages.specs.Progresses.{IsNext};
 
 use super::fault::{Fault, FaultKind};
 use super::input::Input;
-use super::positions::Positions;
 use super::stack::Container;
 use std::result::Result;
 
 // What stays the same on the way through the tokens.
 #[derive(Clone, Copy, Drop)]
 pub(crate) struct Route<'m> {
-    // where the structural indexes are
-    pub(crate) positions: Positions<'m>,
+    // the structural indexes: byte indexes into the input, ascending
+    pub(crate) indexes: &'m [u32],
     // whether the token at the last of them is known to be a closing bracket
     pub(crate) ends_closed: bool,
     // how many containers may be open at a time
@@ -30,15 +28,14 @@ pub(crate) struct Route<'m> {
 }
 
 impl Route<'_> {
-    // The structural index after the last token, or the end of the input if there is none.
+    // The structural index `number` in the list, or the end of the input if there are fewer.
     #[inline(always)]
-    pub(super) fn position_or_end(self, p: Progress, end: usize) -> usize
-        requires left { IsTrue self.ends_closed → p.read < length (listed self.positions) }
-        requires leads { Leads self.positions p }
-        ensures { result ≡ get_or (listed self.entry.positions) p.read end }
+    pub(super) fn position_or_end(self, number: usize, end: usize) -> usize
+        requires { IsTrue self.ends_closed → number < length self.indexes.now }
+        ensures { result ≡ get_or self.entry.indexes.now number end }
     {
-        if self.ends_closed || p.read < self.positions.len() {
-            self.positions.next(p.read, p.at, p.bits).0
+        if self.ends_closed || number < self.indexes.len() {
+            self.indexes[number] as usize
         } else {
             end
         }
@@ -55,32 +52,30 @@ pub(crate) struct Progress {
     pub(crate) byte: u8,
     // the kind of the innermost open container; if none is open, `Array`
     pub(crate) container: Container,
-    // how many structural indexes were read
+    // how many structural indexes were read: the place of the next one in the list
     pub(crate) read: usize,
     // how many containers are open
     pub(crate) depth: usize,
     // how many members of the innermost container were read; if none is open, 1 after the root,
     // else 0
     pub(crate) len: usize,
-    // where structural indexes are marked by bits: those of the last token's block after it
-    pub(crate) bits: u64,
 }
 
 impl Progress {
-    // Whether no token is left of so many. If the last of all is a closing bracket, a token follows
-    // any other one, which saves the comparison with their number.
+    // Whether no token is left. If the last of all is a closing bracket, a token follows any other
+    // one, which saves the comparison with the list's length.
     #[inline(always)]
-    pub(super) fn is_last(self, count: usize, ends_closed: bool) -> bool
-        requires within { self.read ≤ count }
+    pub(super) fn is_last(self, indexes: &[u32], ends_closed: bool) -> bool
+        requires within { self.read ≤ length indexes.now }
         requires left { IsTrue ends_closed → self.byte ≢ 93 → self.byte ≢ 125
-            → self.read < count }
-        ensures last { IsTrue result → self.read ≡ count }
-        ensures left { IsFalse result → self.read < count }
+            → self.read < length indexes.now }
+        ensures last { IsTrue result → self.read ≡ length indexes.now }
+        ensures left { IsFalse result → self.read < length indexes.now }
     {
         if ends_closed && self.byte != b']' && self.byte != b'}' {
             return false;
         }
-        self.read == count
+        self.read == indexes.len()
     }
 
     // Goes on to the next token. If none is left, the fault is `Syntax` at the last one.
@@ -88,24 +83,22 @@ impl Progress {
     pub(super) fn next_token(self, input: &Input, route: Route) -> Result<Progress, Fault>
         ghost b: { List ℕ }
         requires { AfterToken b route input.now self }
-        ensures next { IfOk result (IsNext b (listed route.entry.positions) self) }
-        ensures leads { IfOk result (Leads route.entry.positions) }
-        ensures none { IfErr result (λ f. (self.read ≡ length (listed route.entry.positions))
+        ensures next { IfOk result (IsNext b route.entry.indexes.now self) }
+        ensures none { IfErr result (λ f. (self.read ≡ length route.entry.indexes.now)
             × (f ≡ record {
               kind = FaultKind.Syntax;
               index = self.at;
               byte = byte_at b self.at;
             })) }
     {
-        if self.is_last(route.positions.len(), route.ends_closed) {
+        if self.is_last(route.indexes, route.ends_closed) {
             return Err(self.fault(FaultKind::Syntax));
         }
-        let (at, bits) = route.positions.next(self.read, self.at, self.bits);
+        let at = route.indexes[self.read] as usize;
         Ok(Progress {
             read: self.read + 1,
             at,
             byte: input.byte(at),
-            bits,
             ..self
         })
     }
@@ -122,16 +115,17 @@ impl Progress {
         }
     }
 
-    // The fault of a token after the root, which is a container or a scalar.
+    // The fault of a token after the root. A root whose last token is a closing bracket is a
+    // container, and any other a scalar.
     #[cold]
-    pub(super) fn fault_after_root(self, is_container: bool) -> Fault
+    pub(super) fn fault_after_root(self) -> Fault
         ensures { result ≡ record {
-          kind = end_kind is_container;
+          kind = end_kind (is_closing self.byte);
           index = self.at;
           byte = self.byte;
         } }
     {
-        if is_container {
+        if self.byte == b']' || self.byte == b'}' {
             self.fault(FaultKind::InternalError)
         } else {
             self.fault(FaultKind::TrailingData)

@@ -87,7 +87,7 @@ pub(super) fn push_string<'de, K: Original, S: NodeSink<'de>>(
         (Reads K.bytes input.new)) }
     ensures refused { IfErr result (IsBadString K.bytes p.at) }
 {
-    let next = route.position_or_end(p, input.end);
+    let next = route.position_or_end(p.read, input.end);
     let may_have_escape = input.may_have_escape(p.at, next);
     if !may_have_escape {
         nodes.push_string(input.share_string(p.at, next));

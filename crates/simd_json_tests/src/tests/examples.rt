@@ -122,10 +122,6 @@ mod sinks {
         fn len(&self) -> usize {
             self.nodes.len()
         }
-
-        fn starts_with_header(&self) -> bool {
-            self.nodes.starts_with_header()
-        }
     }
 }
 

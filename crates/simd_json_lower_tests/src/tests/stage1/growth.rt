@@ -152,52 +152,6 @@ fn the_encoding_comes_before_memory(rt: HostRuntime) -> Tested {
     Ok(())
 }
 
-// The same where structural indexes are marked.
-#[test]
-fn each_growth_of_marks_is_refused(rt: HostRuntime) -> Tested {
-    let escapes = text(rt.alloc(), b"\"", b'\\', 2558, b"\"")?;
-    let mut refused: Vec<(usize, usize)> = Vec::new(rt.alloc());
-    let mut whole = 0u32;
-    for steps in 0..200usize {
-        let heap = LocalHeap::new(rt.alloc(), 64usize.saturating_mul(steps))?;
-        let mut marks = Vec::new(&heap);
-        let mut blocks = Vec::new(&heap);
-        if escapes.len() < 64 {
-            break;
-        }
-        match BlockStage1Parse::mark_structural_bits(&escapes, &mut marks, &mut blocks) {
-            Ok(found) => {
-                let want = Found {
-                    positions: 1,
-                    escape_blocks: 40,
-                };
-                assert_eq!(rt; found, want);
-                assert_eq!(rt; marks.first().copied(), Some(1));
-                whole = whole.saturating_add(1);
-            }
-            Err(e) => {
-                assert_eq!(rt; e, Error::generic(ErrorType::OutOfMemory));
-                let lengths = (marks.len(), blocks.len());
-                if refused.last() != Some(&lengths) {
-                    refused.push(lengths)?;
-                }
-            }
-        }
-    }
-    assert!(rt; whole > 0);
-    assert_eq!(rt; refused.as_slice(), [(0, 0), (2560, 0)].as_slice());
-    let heap = LocalHeap::new(rt.alloc(), 0)?;
-    let mut marks = Vec::new(&heap);
-    let mut blocks = Vec::new(&heap);
-    let bad = text(rt.alloc(), b"[\"\xff", b'a', 100, b"\"]")?;
-    if bad.len() < 64 {
-        panic!(&rt; "too short");
-    }
-    let answer = BlockStage1Parse::mark_structural_bits(&bad, &mut marks, &mut blocks);
-    assert_eq!(rt; answer, Err(Error::generic(ErrorType::InvalidUtf8)));
-    Ok(())
-}
-
 // With capacity from the start, windows are tested one by one, and characters across their ends are
 // whole.
 #[test]

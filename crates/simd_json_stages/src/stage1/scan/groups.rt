@@ -10,7 +10,6 @@
 //! in vectors, at the cost of storing the words in between. Also, the first half of a group, or all
 //! but its last block, is skipped in step 3 if it lies inside a string: it has no structural index.
 ghost use Rattle.std.specs.Prelude.{◌≡◌, ◌≢◌, ◌+◌, ◌-◌, ◌*◌, ◌%◌, ◌^◌, ◌<◌, ◌≤◌, ℕ, List, length};
-ghost use Rattle.std.specs.Prelude.{false};
 ghost use Rattle.simd_json_stages.specs.Blocks.{AreBlocks, CanList, IsClassified, IsPlaced};
 ghost use Rattle.simd_json_stages.specs.BlockScans.{CanScan, Classifies, Scans};
 ghost use Rattle.simd_json_stages.specs.Groups.{HaveClasses, HaveControl, HaveParts, HasNoQuotes};
@@ -120,8 +119,8 @@ fn classify_group(
     now
 }
 
-// The second loop: the parts of each block from its classes. Always inlined, like the first: where
-// lists and marks are both compiled in, a call would cost a tenth of the scan.
+// The second loop: the parts of each block from its classes. Always inlined, like the first: a call
+// would cost a tenth of the scan.
 #[inline(always)]
 fn part_group(classes: &GroupClasses, parts: &mut GroupParts)
     ensures { (b : List ℕ) (first : ℕ) → HaveClasses b first GROUP classes.now
@@ -167,7 +166,7 @@ fn pass_blocks(group: &GroupParts, control: &Words, end: usize, before: Placing)
     ensures placed { (b : List ℕ) (first : ℕ) (out : List ℕ) → HaveControl b first GROUP control.now
         → HaveParts b first GROUP group.now
         → HasNoQuotes b (BLOCK_LEN * first) (BLOCK_LEN * (first + end))
-        → IsPlaced false b first before out → IsPlaced false b (first + end) result out }
+        → IsPlaced b first before out → IsPlaced b (first + end) result out }
 {
     let mut bad = before.bad;
     let mut k = 0;
@@ -185,22 +184,18 @@ fn pass_blocks(group: &GroupParts, control: &Words, end: usize, before: Placing)
     }
 }
 
-// Skips the first blocks of the group if they lie inside a string, but for marks, which have a word
-// for each block. Returns how many, and the state after them.
-fn pass_group<const MARKS: bool>(
-    group: &GroupParts,
-    control: &Words,
-    before: Placing,
-) -> (usize, Placing)
+// Skips the first blocks of the group if they lie inside a string. Returns how many, and the state
+// after them.
+fn pass_group(group: &GroupParts, control: &Words, before: Placing) -> (usize, Placing)
     ensures few { result.0 ≤ GROUP }
     ensures used { result.1.used ≡ before.used }
     ensures placed { (b : List ℕ) (first : ℕ) (out : List ℕ) → HaveControl b first GROUP control.now
         → HaveParts b first GROUP group.now
-        → IsPlaced MARKS b first before out → IsPlaced MARKS b (first + result.0) result.1 out }
+        → IsPlaced b first before out → IsPlaced b (first + result.0) result.1 out }
 {
     // The test for quotes comes first: nearly each half has one, while every other group begins
     // inside a string.
-    if !MARKS && quotes_before(group, HALF) == 0 && before.carry.inside != 0 {
+    if quotes_before(group, HALF) == 0 && before.carry.inside != 0 {
         if quotes_before(group, LAST) == 0 {
             return (LAST, pass_blocks(group, control, LAST, before));
         }
@@ -210,7 +205,7 @@ fn pass_group<const MARKS: bool>(
 }
 
 // The third loop: writes the structural indexes of the group from block number `first` on.
-fn place_group<const MARKS: bool>(
+fn place_group(
     first: usize,
     group: &GroupParts,
     control: &Words,
@@ -221,10 +216,10 @@ fn place_group<const MARKS: bool>(
     requires capacity { before.used + BLOCK_LEN * GROUP ≤ length structural_indexes.old }
     ensures few { result.used ≤ before.used + BLOCK_LEN * GROUP }
     ensures placed { (b : List ℕ) → HaveControl b first GROUP control.now
-        → HaveParts b first GROUP group.now → IsPlaced MARKS b first before structural_indexes.old
-        → IsPlaced MARKS b (first + GROUP) result structural_indexes.new }
+        → HaveParts b first GROUP group.now → IsPlaced b first before structural_indexes.old
+        → IsPlaced b (first + GROUP) result structural_indexes.new }
 {
-    let (mut k, mut now) = pass_group::<MARKS>(group, control, before);
+    let (mut k, mut now) = pass_group(group, control, before);
     while k < GROUP {
         let parts = Parts {
             parity: group.parity[k],
@@ -232,14 +227,14 @@ fn place_group<const MARKS: bool>(
             space: group.space[k],
             quote: group.quote[k],
         };
-        now = now.place_block::<MARKS>(parts, control[k], first + k, structural_indexes);
+        now = now.place_block(parts, control[k], first + k, structural_indexes);
         k += 1;
     }
     now
 }
 
 // Scans the group from block number `first` on.
-fn scan_group<const MARKS: bool>(
+fn scan_group(
     blocks: &[[u8; 64]],
     first: usize,
     structural_indexes: &mut [u32],
@@ -249,7 +244,7 @@ fn scan_group<const MARKS: bool>(
 ) -> ScanState
     requires { CanScan blocks.now first (first + GROUP) before
         structural_indexes.old escape_blocks.old }
-    ensures { Scans MARKS blocks.now first (first + GROUP) before result
+    ensures { Scans blocks.now first (first + GROUP) before result
         structural_indexes.old escape_blocks.old structural_indexes.new escape_blocks.new }
 {
     let classifying = classify_group(
@@ -260,7 +255,7 @@ fn scan_group<const MARKS: bool>(
         before.classifying,
     );
     part_group(&group.classes, &mut group.parts);
-    let placing = place_group::<MARKS>(
+    let placing = place_group(
         first,
         &group.parts,
         &group.classes.control,
@@ -275,7 +270,7 @@ fn scan_group<const MARKS: bool>(
 
 // Scans a window that consists of whole groups.
 #[inline(never)]
-pub(super) fn scan_groups<const MARKS: bool>(
+pub(super) fn scan_groups(
     blocks: &[[u8; 64]],
     window: Window,
     structural_indexes: &mut [u32],
@@ -285,14 +280,14 @@ pub(super) fn scan_groups<const MARKS: bool>(
     requires groups { (window.end - window.first) % GROUP ≡ 0 }
     requires fits { CanScan blocks.now window.first window.end before
         structural_indexes.old escape_blocks.old }
-    ensures { Scans MARKS blocks.now window.first window.end before result
+    ensures { Scans blocks.now window.first window.end before result
         structural_indexes.old escape_blocks.old structural_indexes.new escape_blocks.new }
 {
     let mut group = Group::EMPTY;
     let mut done = before;
     let mut i = window.first;
     while i < window.end {
-        done = scan_group::<MARKS>(
+        done = scan_group(
             blocks,
             i,
             structural_indexes,

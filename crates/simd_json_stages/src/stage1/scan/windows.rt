@@ -36,7 +36,7 @@ pub(super) struct Window {
 
 // Scans the blocks of a window one at a time.
 #[inline(always)]
-pub(super) fn scan_few<const MARKS: bool>(
+pub(super) fn scan_few(
     blocks: &[[u8; 64]],
     window: Window,
     structural_indexes: &mut [u32],
@@ -45,7 +45,7 @@ pub(super) fn scan_few<const MARKS: bool>(
 ) -> ScanState
     requires { CanScan blocks.now window.first window.end before
         structural_indexes.old escape_blocks.old }
-    ensures { Scans MARKS blocks.now window.first window.end before result
+    ensures { Scans blocks.now window.first window.end before result
         structural_indexes.old escape_blocks.old structural_indexes.new escape_blocks.new }
 {
     let mut classifying = before.classifying;
@@ -60,7 +60,7 @@ pub(super) fn scan_few<const MARKS: bool>(
             found.control,
             found.escaped,
         );
-        placing = placing.place_block::<MARKS>(parts, found.control, i, structural_indexes);
+        placing = placing.place_block(parts, found.control, i, structural_indexes);
         i += 1;
     }
     ScanState {
@@ -71,7 +71,7 @@ pub(super) fn scan_few<const MARKS: bool>(
 
 // Scans the blocks of a window, whole groups first.
 #[inline(always)]
-pub(super) fn scan_window<const MARKS: bool>(
+pub(super) fn scan_window(
     blocks: &[[u8; 64]],
     window: Window,
     structural_indexes: &mut [u32],
@@ -80,7 +80,7 @@ pub(super) fn scan_window<const MARKS: bool>(
 ) -> ScanState
     requires { CanScan blocks.now window.first window.end before
         structural_indexes.old escape_blocks.old }
-    ensures { Scans MARKS blocks.now window.first window.end before result
+    ensures { Scans blocks.now window.first window.end before result
         structural_indexes.old escape_blocks.old structural_indexes.new escape_blocks.new }
 {
     let mut done = before;
@@ -94,9 +94,9 @@ pub(super) fn scan_window<const MARKS: bool>(
         ..window
     };
     if window.first < middle {
-        done = scan_groups::<MARKS>(blocks, groups, structural_indexes, escape_blocks, done);
+        done = scan_groups(blocks, groups, structural_indexes, escape_blocks, done);
     }
-    scan_few::<MARKS>(blocks, rest, structural_indexes, escape_blocks, done)
+    scan_few(blocks, rest, structural_indexes, escape_blocks, done)
 }
 
 // Whether a block of the window holds a backslash.

@@ -2,7 +2,7 @@ use Rattle.std.proofs.Common.{◌∙◌, ap, arith, sym}
 use Rattle.std.proofs.lemmas.List.{length-take-le}
 use Rattle.simd_json_c.specs.Loans.{cut, cut_of}
 use Rattle.simd_json_c.proofs.Keeping.{counted-push, small-push, kept-push}
-use Rattle.simd_json_c.proofs.Laying.{length-push, headed-push}
+use Rattle.simd_json_c.proofs.Laying.{length-push}
 use Rattle.simd_json_c.proofs.lent.KeptSink.put.Goals as goal
 
 pub invariant_of-self-clause-counted : goal.invariant_of-self-clause-counted
@@ -18,12 +18,6 @@ invariant_of-self-clause-few c =
     let one = c.requires.one in
     rw one.1 (omega (arith, c.requires.room, length-push items one.0))
 
-pub invariant_of-self-clause-headed : goal.invariant_of-self-clause-headed
-invariant_of-self-clause-headed c =
-    let s = c.args.self.now in
-    let one = c.requires.one in
-    rw one.1 (s.headed ∙ sym (headed-push s.noted.note.items one.0 one.2))
-
 pub invariant_of-self-clause-within : goal.invariant_of-self-clause-within
 invariant_of-self-clause-within c = c.keep_both.ensures.within
 
@@ -35,7 +29,7 @@ invariant_of-self-clause-kept c whole =
     let at = sym (length-take-le s.used s.text.now.items s.within) in
     rw one.1
     (kept-push s.noted.note.items one.0 _ _ _ _ c.args.bytes.now _ (s.kept (k.kept whole).0)
-    (c.span_of-node.ensures ∙ ap cut (sym (one.4 _)) ∙ ap (λ i. cut_of i one.0) at) one.3 (k.kept whole).1 (k.text whole))
+    (c.span_of-node.ensures ∙ ap cut (sym (one.3 _)) ∙ ap (λ i. cut_of i one.0) at) one.2 (k.kept whole).1 (k.text whole))
 
 pub invariant_of-self-clause-small : goal.invariant_of-self-clause-small
 invariant_of-self-clause-small c lost =
@@ -43,7 +37,7 @@ invariant_of-self-clause-small c lost =
     let one = c.requires.one in
     rw one.1
     (small-push s.lost _ _ _ s.noted.note.items one.0 _ _ s.used s.small s.kept s.within s.capacity s.longer
-    (λ whole. rw one.3 (c.keep_both.ensures.full lost whole)))
+    (λ whole. rw one.2 (c.keep_both.ensures.full lost whole)))
 
 pub invariant_of-self-clause-capacity : goal.invariant_of-self-clause-capacity
 invariant_of-self-clause-capacity c = rw c.requires.one.1 (omega (arith, c.args.self.now.capacity, c.keep_both.ensures.capacity))

@@ -1,7 +1,7 @@
 use Rattle.std.proofs.Common.{arith, inl, sym, [], take}
 use Rattle.simd_json_stages.specs.Building.{header_of}
 use Rattle.simd_json_c.proofs.Keeping.{counted-push, small-push, kept-push}
-use Rattle.simd_json_c.proofs.Laying.{append-nil, length-push, headed-push_header, header_of-text}
+use Rattle.simd_json_c.proofs.Laying.{append-nil, length-push, header_of-text}
 use Rattle.simd_json_c.proofs.lent.KeptSinkNodeSink.push_header.Goals as goal
 
 pub invariant_of-self-clause-counted : goal.invariant_of-self-clause-counted
@@ -15,13 +15,6 @@ pub invariant_of-self-clause-few : goal.invariant_of-self-clause-few
 invariant_of-self-clause-few c =
     let items = c.args.self.now.noted.note.items in
     rw c.of-self.ensures (omega (arith, c.requires, length-push items (header_of c.args.container 0 0)))
-
-pub invariant_of-self-clause-headed : goal.invariant_of-self-clause-headed
-invariant_of-self-clause-headed c =
-    let s = c.args.self.now in
-    let items = s.noted.note.items in
-    rw c.of-self.ensures
-    (headed-push_header items c.args.container _ s.is_container (omega (arith, c.len.ensures, s.counted)) s.headed)
 
 pub invariant_of-self-clause-within : goal.invariant_of-self-clause-within
 invariant_of-self-clause-within c = c.args.self.now.within

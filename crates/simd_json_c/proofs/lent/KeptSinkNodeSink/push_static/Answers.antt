@@ -1,8 +1,8 @@
-use Rattle.std.proofs.Common.{arith, inl, ◌≡◌, ◌∙◌, refl, sym, [], false, take}
+use Rattle.std.proofs.Common.{arith, inl, ◌≡◌, ◌∙◌, sym, [], false, take}
 use Rattle.simd_json_parts.specs.Nodes.{static_item}
 use Rattle.simd_json_c.specs.Nodes.{is_wide}
 use Rattle.simd_json_c.proofs.Keeping.{counted-push, small-push, kept-push}
-use Rattle.simd_json_c.proofs.Laying.{append-nil, length-push, headed-push, plain-text}
+use Rattle.simd_json_c.proofs.Laying.{append-nil, length-push, plain-text}
 use Rattle.simd_json_c.proofs.lent.KeptSinkNodeSink.push_static.Goals as goal
 
 pub invariant_of-self-clause-counted : goal.invariant_of-self-clause-counted
@@ -16,12 +16,6 @@ pub invariant_of-self-clause-few : goal.invariant_of-self-clause-few
 invariant_of-self-clause-few c =
     let items = c.args.self.now.noted.note.items in
     rw c.of-self.ensures (omega (arith, c.requires, length-push items (static_item c.args.value)))
-
-pub invariant_of-self-clause-headed : goal.invariant_of-self-clause-headed
-invariant_of-self-clause-headed c =
-    let s = c.args.self.now in
-    let x = static_item c.args.value in
-    rw c.of-self.ensures (s.headed ∙ sym (headed-push s.noted.note.items x refl))
 
 pub invariant_of-self-clause-within : goal.invariant_of-self-clause-within
 invariant_of-self-clause-within c = c.args.self.now.within

@@ -1,8 +1,8 @@
-use Rattle.std.proofs.Common.{arith, ◌∙◌, sym}
+use Rattle.std.proofs.Common.{arith}
 use Rattle.std.proofs.lemmas.List.{length-set}
 use Rattle.simd_json_stages.specs.Building.{header_of}
 use Rattle.simd_json_c.proofs.Keeping.{small-set, kept-set}
-use Rattle.simd_json_c.proofs.Laying.{headed-set, header_of-header}
+use Rattle.simd_json_c.proofs.Laying.{header_of-header}
 use Rattle.simd_json_c.proofs.lent.KeptSinkNodeSink.set_counts.Goals as goal
 
 pub invariant_of-self-clause-counted : goal.invariant_of-self-clause-counted
@@ -16,13 +16,6 @@ invariant_of-self-clause-few c =
     let s = c.args.self.now in
     let y = header_of c.args.container c.args.len c.args.count in
     rw c.of-self.ensures (omega (arith, s.few, length-set s.noted.note.items c.args.header y))
-
-pub invariant_of-self-clause-headed : goal.invariant_of-self-clause-headed
-invariant_of-self-clause-headed c =
-    let s = c.args.self.now in
-    let y = header_of c.args.container c.args.len c.args.count in
-    rw c.of-self.ensures (s.headed ∙ sym (headed-set s.noted.note.items c.args.header y _ c.requires.header
-    (header_of-header c.args.container c.args.len c.args.count)))
 
 pub invariant_of-self-clause-within : goal.invariant_of-self-clause-within
 invariant_of-self-clause-within c = c.args.self.now.within

@@ -2,14 +2,13 @@ use Rattle.std.proofs.Common.{length, drop, ap, eqb-true, arith}
 use Rattle.std.proofs.lemmas.Str.{IsUtf8-nil}
 use Rattle.simd_json_stages.proofs.Scan.ScanLaws.{IsScanned-none, IsScanned-longer, IsScanned-back, AreBlocks-chunks, length-back}
 use Rattle.simd_json_stages.proofs.Scan.BlockScanLaws.{scanned, CanList-after}
-use Rattle.simd_json_stages.proofs.Scan.MarkLaws.{says}
 use Rattle.simd_json_stages.proofs.stage1.scan.scan_blocks.Goals as goal
 
 pub loop-first-init : goal.loop-first-init
 loop-first-init g c =
     record {
       to = omega arith;
-      scanned = IsScanned-none (says g.row.MARKS) c.args.input.now _ _;
+      scanned = IsScanned-none c.args.input.now _ _;
       checked = (omega arith, IsUtf8-nil);
       longer = omega arith;
       blocks_longer = omega arith;

@@ -1,7 +1,6 @@
 use Rattle.std.proofs.Common.{[], length, ap, eqb-true, arith}
 use Rattle.simd_json_stages.proofs.Scan.ScanLaws.{IsScanned-none, IsScanned-same, IsScanned-back, AreBlocks-chunks}
 use Rattle.simd_json_stages.proofs.Scan.BlockScanLaws.{scanned, CanList-after}
-use Rattle.simd_json_stages.proofs.Scan.MarkLaws.{says}
 use Rattle.simd_json_stages.proofs.stage1.scan.scan_short.Goals as goal
 
 pub scan_few-done-requires : goal.scan_few-done-requires
@@ -18,11 +17,11 @@ pub check_window-requires-clause-ascii : goal.check_window-requires-clause-ascii
 check_window-requires-clause-ascii g c = λ zero.
     let b = c.args.input.now in
     let chunks = AreBlocks-chunks b c.args.blocks.now c.requires.blocks c.requires.len in
-    (c.scan_few-done.ensures.classifies.ascii b chunks (IsScanned-none (says g.row.MARKS) b [] _).classified (eqb-true _ _ zero)).1
+    (c.scan_few-done.ensures.classifies.ascii b chunks (IsScanned-none b [] _).classified (eqb-true _ _ zero)).1
 
 pub returns-clause-scanned : goal.returns-clause-scanned
 returns-clause-scanned g c =
     let b = c.args.input.now in
     let chunks = AreBlocks-chunks b c.args.blocks.now c.requires.blocks c.requires.len in
     IsScanned-same c.requires.len (IsScanned-back _ _ _ _ (omega arith) (omega arith)
-    (scanned c.scan_few-done.ensures b chunks (IsScanned-none (says g.row.MARKS) b _ _)))
+    (scanned c.scan_few-done.ensures b chunks (IsScanned-none b _ _)))

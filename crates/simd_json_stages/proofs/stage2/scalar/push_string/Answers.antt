@@ -11,12 +11,9 @@ may_have_escape-may_have_escape-requires g c =
     record { b = g.K.Original.bytes; reads = c.requires.input; within = omega (arith, at-within c.requires) }
 
 pub position_or_end-next-requires : goal.position_or_end-next-requires
-position_or_end-next-requires g c =
+position_or_end-next-requires g c t =
     let s = c.requires in
-    record {
-      left = λ t. some-left (s.on_route.closes t) s.read (λ is. omega (arith, s.opening, is)) (λ is. omega (arith, s.opening, is));
-      leads = s.leads;
-    }
+    some-left (s.on_route.closes t) s.read (λ is. omega (arith, s.opening, is)) (λ is. omega (arith, s.opening, is))
 
 pub share_string-requires : goal.share_string-requires
 share_string-requires g c =

@@ -1,4 +1,4 @@
-use Rattle.std.proofs.Common.{false, ◌+◌, ◌-◌, ◌*◌, ◌≤◌, ℕ, List}
+use Rattle.std.proofs.Common.{◌+◌, ◌-◌, ◌*◌, ◌≤◌, ℕ, List}
 use Rattle.simd_json_stages.specs.Blocks.{IsPlaced}
 use Rattle.simd_json_stages.specs.Groups.{HaveControl, HasNoQuotes}
 use Rattle.simd_json_stages.proofs.Scan.InsideLaws.{passed}
@@ -8,8 +8,8 @@ abbrev pub invariant-loop-k : goal.invariant-loop-k
 invariant-loop-k l = record {
   to : l.k ≤ l.end;
   placed : (b : List ℕ) (first : ℕ) (out : List ℕ) → HaveControl b first 8 l.control
-      → HasNoQuotes b (64 * first) (64 * (first + l.end)) → IsPlaced false b first l.fn.before out
-      → IsPlaced false b (first + l.k) (passed b (first + l.k) l.fn.before l.bad) out;
+      → HasNoQuotes b (64 * first) (64 * (first + l.end)) → IsPlaced b first l.fn.before out
+      → IsPlaced b (first + l.k) (passed b (first + l.k) l.fn.before l.bad) out;
 }
 
 abbrev pub decreases-loop-k : goal.decreases-loop-k

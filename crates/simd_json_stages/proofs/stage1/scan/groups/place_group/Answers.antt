@@ -3,7 +3,7 @@ use Rattle.simd_json_stages.proofs.Scan.ScanLaws.{IsPlaced-same}
 use Rattle.simd_json_stages.proofs.stage1.scan.groups.place_group.Goals as goal
 
 pub loop-k-init : goal.loop-k-init
-loop-k-init g c = record {
+loop-k-init c = record {
   to = omega arith;
   capacity = omega arith;
   few = omega arith;
@@ -11,10 +11,10 @@ loop-k-init g c = record {
 }
 
 pub place_block-now-requires-clause-capacity : goal.place_block-now-requires-clause-capacity
-place_block-now-requires-clause-capacity g c = omega (arith, c.loop-k.invariant.capacity)
+place_block-now-requires-clause-capacity c = omega (arith, c.loop-k.invariant.capacity)
 
 pub loop-k-preserved : goal.loop-k-preserved
-loop-k-preserved g c =
+loop-k-preserved c =
     let l = c.loop-k in
     let i = l.invariant in
     let next : c.args.first + l.k + 1 ≡ c.args.first + (l.k + 1) = omega arith in
@@ -27,7 +27,7 @@ loop-k-preserved g c =
     }
 
 pub returns-clause-placed : goal.returns-clause-placed
-returns-clause-placed g c =
+returns-clause-placed c =
     let l = c.loop-k in
     let e : c.args.first + l.k ≡ c.args.first + 8 = omega arith in
     λ b control parts before. IsPlaced-same e (l.invariant.placed b control parts before)

@@ -3,18 +3,18 @@ use Rattle.simd_json_stages.proofs.Scan.BlockScanLaws.{Scans-none, Scans-more, S
 use Rattle.simd_json_stages.proofs.stage1.scan.groups.scan_groups.Goals as goal
 
 pub loop-i-init : goal.loop-i-init
-loop-i-init g c = record {
+loop-i-init c = record {
   from = omega arith;
   groups = c.requires.groups;
   fits = c.requires.fits;
-  scans = Scans-none _ _ _ _ _ _;
+  scans = Scans-none _ _ _ _ _;
 }
 
 pub scan_group-done-requires : goal.scan_group-done-requires
-scan_group-done-requires g c = CanScan-front c.loop-i.invariant.fits (omega arith) (omega arith)
+scan_group-done-requires c = CanScan-front c.loop-i.invariant.fits (omega arith) (omega arith)
 
 pub loop-i-preserved : goal.loop-i-preserved
-loop-i-preserved g c =
+loop-i-preserved c =
     let i = c.loop-i.invariant in
     let one = c.scan_group-done.ensures in
     record {
@@ -25,6 +25,4 @@ loop-i-preserved g c =
     }
 
 pub returns : goal.returns
-returns g c =
-    let e : c.loop-i.i ≡ c.args.window.end = omega (arith, c.loop-i.invariant.fits.order) in
-    Scans-same e c.loop-i.invariant.scans
+returns c = Scans-same (let e : c.loop-i.i ≡ c.args.window.end = omega (arith, c.loop-i.invariant.fits.order) in e) c.loop-i.invariant.scans

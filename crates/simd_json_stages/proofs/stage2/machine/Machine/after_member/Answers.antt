@@ -1,7 +1,6 @@
 use Rattle.std.proofs.Common.{◌<◌, ◌∙◌, refl, ap, sym, subst, length, arith}
 use Rattle.std.proofs.lemmas.List.{length-set}
 use Rattle.simd_json_stages.specs.Building.{closer, content_kind, top}
-use Rattle.simd_json_stages.specs.Leading.{Leads}
 use Rattle.simd_json_stages.specs.Members.{HasCapacity, IsFault}
 use Rattle.simd_json_stages.specs.declared.stage2.progress.Progress.{Progress}
 use Rattle.simd_json_stages.specs.declared.stage2.fault.FaultKind.TheVariants as kinds
@@ -26,7 +25,6 @@ next_token-requires-then-q-eq44 g c =
     record {
       on_route = last.on_route;
       read = next.read;
-      leads = c.in_ok-q.ensures.leads;
       input = next-ahead last.on_route.positions next (last.progress.input next.more);
     }
 
@@ -48,8 +46,7 @@ returns-then-q-eq44-clause-followed g c =
     let m = c.in_ok-next_token.ensures.next in
     let l = two-advances n m in
     at-member g.K.Original.bytes c.args.route c.args.self.now _ _ _ kinds.ExpectedObjectKey last.on_route last.capacities
-    (comma-progress last.on_route.positions last.progress n m) c.in_ok-next_token.ensures.leads
-    (omega (arith, l.1, last.depth)) (omega (arith, l.1, c.requires.inside))
+    (comma-progress last.on_route.positions last.progress n m) (omega (arith, l.1, last.depth)) (omega (arith, l.1, c.requires.inside))
     (step-comma last.after c.requires.inside n c.if-q-eq44.true m)
 
 pub returns-then-q-closer-clause-refused : goal.returns-then-q-closer-clause-refused
@@ -96,7 +93,6 @@ returns-clause-followed g c =
       capacities = subst (HasCapacity _ _ _) (sym close.sink.0) last.capacities;
       progress = closed-after last.on_route.positions stack (ap length close.nodes ∙ length-set _ _ _) last.progress given.inside
           (top-header last.after given.inside).1 next close.progress;
-      leads = subst (Leads c.args.route.positions) (sym close.progress) c.in_ok-q.ensures.leads;
       depth = omega (arith, last.depth, ap (λ (q : Progress). q.depth) (close.progress ∙ ap (closed_at stack) next.same));
       after = step-close last.after given.inside next (c.if-q-closer.false ∙ c.closer.ensures ∙ ap closer given.container)
           close.progress close.nodes;

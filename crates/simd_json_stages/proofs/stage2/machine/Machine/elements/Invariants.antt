@@ -1,5 +1,4 @@
 use Rattle.std.proofs.Common.{◌≡◌, ◌-◌, ◌≤◌, length}
-use Rattle.simd_json_stages.specs.Leading.{listed}
 use Rattle.simd_json_stages.specs.Members.{AtElement}
 use Rattle.simd_json_stages.specs.Put.{SameSink}
 use Rattle.simd_json_stages.proofs.stage2.machine.Machine.elements.Given as goal
@@ -13,4 +12,4 @@ invariant-values g l = record {
 }
 
 abbrev pub decreases-values : goal.decreases-values
-decreases-values g l = length (listed l.route.positions) - l.p.read
+decreases-values g l = length l.route.indexes.now - l.p.read

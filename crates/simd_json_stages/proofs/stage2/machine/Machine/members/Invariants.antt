@@ -1,5 +1,4 @@
 use Rattle.std.proofs.Common.{◌≡◌, ◌-◌, ◌≤◌, length}
-use Rattle.simd_json_stages.specs.Leading.{listed}
 use Rattle.simd_json_stages.specs.Members.{AtPair}
 use Rattle.simd_json_stages.specs.Put.{SameSink}
 use Rattle.simd_json_stages.proofs.stage2.machine.Machine.members.Given as goal
@@ -13,4 +12,4 @@ invariant-pairs g l = record {
 }
 
 abbrev pub decreases-pairs : goal.decreases-pairs
-decreases-pairs g l = length (listed l.route.positions) - l.p.read
+decreases-pairs g l = length l.route.indexes.now - l.p.read

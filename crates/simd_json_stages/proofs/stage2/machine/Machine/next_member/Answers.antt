@@ -33,15 +33,15 @@ returns-in-Next-clause-further g c =
     let along = subst (AdvancesPastMember c.loop-p.p) c.in-Next.is c.in_ok-next.ensures.advances in
     omega (arith, along.0, c.loop-p.invariant.passed)
 
-pub returns-then-p-len-clause-refused : goal.returns-then-p-len-clause-refused
-returns-then-p-len-clause-refused g c =
+pub returns-then-p-route-clause-refused : goal.returns-then-p-route-clause-refused
+returns-then-p-route-clause-refused g c =
     let last = c.loop-p.invariant.last in
     let none : c.loop-p.p.depth ≡ 0 = omega arith in
     subst (IsFault g.K.Original.bytes c.args.route) (sym c.fault_after_root.ensures)
-    (refuses-trailing last.after none last.progress.read.first (omega (arith, c.len.ensures, c.if-p-len)) c.starts_with_header.ensures)
+    (refuses-trailing last.after none last.progress.read.first (omega (arith, c.if-p-route)))
 
 pub returns-clause-member : goal.returns-clause-member
 returns-clause-member g c =
     let last = c.loop-p.invariant.last in
     end-built g.K.Original.bytes c.args.route c.args.self.now (g.S.NodeSink.node_room c.loop-p.nodes) _ c.loop-p.p
-    last.progress last.after (omega arith) (omega (arith, c.len.ensures, c.if-p-len, last.progress.read.within))
+    last.progress last.after (omega arith) (omega (arith, c.if-p-route, last.progress.read.within))

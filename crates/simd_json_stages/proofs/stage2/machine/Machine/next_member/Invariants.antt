@@ -1,5 +1,4 @@
 use Rattle.std.proofs.Common.{◌-◌, ◌≤◌, length}
-use Rattle.simd_json_stages.specs.Leading.{listed}
 use Rattle.simd_json_stages.specs.Members.{AfterLast}
 use Rattle.simd_json_stages.specs.Progresses.{reached}
 use Rattle.simd_json_stages.specs.Put.{SameSink}
@@ -13,4 +12,4 @@ invariant-loop-p g l = record {
 }
 
 abbrev pub decreases-loop-p : goal.decreases-loop-p
-decreases-loop-p g l = length (listed l.route.positions) - l.p.read
+decreases-loop-p g l = length l.route.indexes.now - l.p.read

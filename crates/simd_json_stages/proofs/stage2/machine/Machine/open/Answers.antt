@@ -24,7 +24,6 @@ next_token-requires g c =
     record {
       on_route = first.on_route;
       read = first.progress.read;
-      leads = first.leads;
       input = λ more. reads-kept g.K.Original.bytes c.args.self.now.input _ _ first.progress.input
           (omega (arith, later _ _ first.on_route.positions c.args.p first.progress.read more));
     }
@@ -45,7 +44,6 @@ returns-then-q-closer-clause-came g c =
       on_route = first.on_route;
       capacities = subst (HasCapacity _ _ _) (sym c.push_header.ensures.room) first.capacities;
       progress = after-first first.on_route.positions _ _ _ put first.progress next;
-      leads = c.in_ok-q.ensures.leads;
       depth = omega (arith, ap (λ (q : Progress). q.depth) next.same, first.depth);
       after = step-empty c.args.container first.value first.progress.read.first put (omega arith) c.requires.bracket next
           (c.if-q-closer.true ∙ c.closer.ensures);
@@ -68,6 +66,6 @@ returns-clause-came g c =
       node_capacity = omega (arith, c.push_header-2.ensures.room, first.capacities.node_capacity);
       frame_capacity = omega (arith, length-set c.args.self.now.stack.now c.args.p.depth f, first.capacities.frame_capacity);
     })
-    (before-first first.on_route.positions c.args.container _ _ _ put r next) c.in_ok-q.ensures.leads (omega arith) (omega arith)
+    (before-first first.on_route.positions c.args.container _ _ _ put r next) (omega arith) (omega arith)
     (step-open c.args.container first.value r.read.first put c.len.ensures (omega (arith, r.few, r.deep)) (omega arith)
     c.requires.bracket next (λ is. c.if-q-closer.false (is ∙ sym c.closer.ensures)))

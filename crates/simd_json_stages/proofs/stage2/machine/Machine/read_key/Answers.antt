@@ -18,7 +18,6 @@ push_string-requires g c = let given = c.requires in λ κs. (
   record {
     on_route = given.on_route;
     read = given.progress.read;
-    leads = given.leads;
     token = name-token given.on_route.positions given.name;
     opening = c.if-p-ne34.false;
     input = given.progress.input;
@@ -39,7 +38,6 @@ next_token-requires g c =
     record {
       on_route = given.on_route;
       read = r.read;
-      leads = given.leads;
       input = string-ahead e r.read (name-token e given.name) c.if-p-ne34.false c.in_ok-push_string.ensures.put;
     }
 
@@ -64,7 +62,6 @@ next_token-requires-2 g c =
     record {
       on_route = given.on_route;
       read = next.read;
-      leads = c.in_ok-colon.ensures.leads;
       input = next-ahead e next
           (string-ahead e r.read (name-token e given.name) c.if-p-ne34.false c.in_ok-push_string.ensures.put next.more);
     }
@@ -91,7 +88,6 @@ returns-clause-value g c =
       on_route = given.on_route;
       capacities = subst (HasCapacity _ _ _) (sym c.in_ok-push_string.ensures.sink.0) given.capacities;
       progress = named-progress e _ _ _ put.put r (string-ahead e r.read (name-token e given.name) c.if-p-ne34.false put n.more) n m;
-      leads = c.in_ok-value.ensures.leads;
       depth = omega (arith, (two-advances n m).1, given.depth);
       value = step-name given.name r.read.first c.if-p-ne34.false put n c.if-colon-ne58.false m;
     }

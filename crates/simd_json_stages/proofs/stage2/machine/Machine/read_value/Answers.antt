@@ -13,7 +13,6 @@ push_string-requires g c = let given = c.requires in λ κs. (
   record {
     on_route = given.on_route;
     read = given.progress.read;
-    leads = given.leads;
     token = value-token given.on_route.positions given.value;
     opening = c.if-p-eq34.true;
     input = given.progress.input;
@@ -60,7 +59,6 @@ returns-clause-came g c =
             on_route = given.on_route;
             capacities = subst (HasCapacity _ _ _) (sym w.in_ok-push_string.ensures.sink.0) given.capacities;
             progress = after-value e _ _ _ put.put r (string-ahead e r.read t w.if-p-eq34.true put);
-            leads = given.leads;
             depth = given.depth;
             after = step-string given.value r.read.first w.if-p-eq34.true put;
           }
@@ -70,7 +68,6 @@ returns-clause-came g c =
             on_route = given.on_route;
             capacities = subst (HasCapacity _ _ _) (sym w.in_ok-push_scalar.ensures.sink.0) given.capacities;
             progress = after-value e _ _ _ put.put r (scalar-ahead e r.read t put);
-            leads = given.leads;
             depth = given.depth;
             after = step-scalar given.value put;
           }
