@@ -46,7 +46,7 @@ pub(crate) fn write_output<A: Allocator + Copy, W: Write>(
         × ((count : ℕ) × Appends (W.contents writer.old.inner) (W.contents writer.new.inner)
         (take count (document_output layout depth input.old).bytes))) }
 {
-    let mut buffers = Buffers::with_max_depth(a, 0, depth)?;
+    let mut buffers = Buffers::empty(a, depth);
     let tape = to_tape_with_buffers(input, &mut buffers)?;
     print(writer, layout, tape.nodes(), buffers.structural_indexes())
 }

@@ -97,7 +97,7 @@ impl<'de, A: Allocator + Copy> Stream<'de, A> {
         ensures fault { IfErr result (λ fault. fault ≡ lacks_memory) }
     {
         Ok(Stream {
-            buffers: Buffers::with_max_depth(a, 0, depth)?,
+            buffers: Buffers::empty(a, depth),
             tape: Tape::null(a)?,
             fault: String::new(a),
         })

@@ -94,8 +94,19 @@ impl<A: Allocator + Copy> Buffers<A> {
         Ok(buffers)
     }
 
-    // Buffers that list nothing. Allocates nothing.
-    pub(crate) fn empty(a: A, max_depth: usize) -> Buffers<A>
+    /// Returns buffers with which at most `max_depth` containers may be open at a time, and which
+    /// hold no memory yet. They list no structural index. A parse allocates what an input needs.
+    ///
+    /// ```
+    /// use simd_json::{Buffers, to_tape_with_buffers};
+    ///
+    /// // Whether the bytes are read as a document with at most two containers open at a time.
+    /// fn is_shallow(rt: &impl AllocGlobal, input: &mut [u8]) -> bool {
+    ///     let mut buffers = Buffers::empty(rt.alloc(), 2);
+    ///     to_tape_with_buffers(input, &mut buffers).is_ok()
+    /// }
+    /// ```
+    pub fn empty(a: A, max_depth: usize) -> Buffers<A>
         ensures { result ≡ new_buffers 0 max_depth }
     {
         Buffers {

@@ -277,7 +277,7 @@ pub fn check<A: Allocator + Copy>(a: A, input: &[u8], max_depth: usize) -> Resul
 ///
 /// fn read_twice(rt: &impl AllocGlobal) -> simd_json::Result<usize> {
 ///     let (mut first, mut second) = (*b"[1,2]", *b"[[3]]");
-///     let mut buffers = Buffers::with_max_depth(rt.alloc(), 0, 2)?;
+///     let mut buffers = Buffers::empty(rt.alloc(), 2);
 ///     let mut tape = Tape::null(rt.alloc())?;
 ///     reserve(5, &mut buffers, &mut tape)?;
 ///     fill_tape(&mut first, &mut buffers, &mut tape)?;

@@ -73,9 +73,8 @@ impl Lists {
     pub(crate) fn new(alloc: Global, max_depth: usize) -> Result<Lists>
         ensures { MatchResult result (AreNew max_depth) (λ _. ⊥) }
     {
-        let buffers = Buffers::with_max_depth(alloc, 0, max_depth)?;
         Ok(Lists {
-            buffers,
+            buffers: Buffers::empty(alloc, max_depth),
             tape: Tape::empty(alloc),
             printed: Vec::new(alloc),
             nodes: Vec::new(alloc),

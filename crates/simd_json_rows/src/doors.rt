@@ -40,7 +40,7 @@ impl Answer {
 /// The tape of an input or its error, and what the ways return that differ. `used` has the same
 /// limit.
 pub fn parse(alloc: Global, used: &mut Buffers, input: &[u8], limit: usize) -> Result<String> {
-    let mut new = Buffers::with_max_depth(alloc, 0, limit)?;
+    let mut new = Buffers::empty(alloc, limit);
     let first = with_buffers(alloc, input, &mut new)?;
     let located = located_error(alloc, input, limit, first.as_str())?;
     let mut answer = Answer {
@@ -175,7 +175,7 @@ fn located_error(alloc: Global, input: &[u8], limit: usize, tape: &str) -> Resul
 /// At which byte an error is, and what is printed of it.
 pub fn located(alloc: Global, input: &[u8], limit: usize) -> Result<String> {
     let mut copy = Vec::from_slice(alloc, input)?;
-    let mut buffers = Buffers::with_max_depth(alloc, 0, limit)?;
+    let mut buffers = Buffers::empty(alloc, limit);
     let parsed = to_tape_with_buffers(copy.as_mut_slice(), &mut buffers).err();
     let parsed = match parsed {
         Some(error) => Some(Location::new(input, error)),
@@ -197,7 +197,7 @@ pub fn located(alloc: Global, input: &[u8], limit: usize) -> Result<String> {
 /// The structural indexes after a parse.
 pub fn indexes(alloc: Global, input: &[u8], limit: usize) -> Result<String> {
     let mut copy = Vec::from_slice(alloc, input)?;
-    let mut buffers = Buffers::with_max_depth(alloc, 0, limit)?;
+    let mut buffers = Buffers::empty(alloc, limit);
     let _ = to_tape_with_buffers(copy.as_mut_slice(), &mut buffers);
     let mut line = String::new(alloc);
     for index in buffers.structural_indexes() {

@@ -33,7 +33,7 @@ pub fn text(alloc: Global, value: &Value<'_, '_>, is_pretty: bool) -> Result<Str
 /// Fails unless both texts of a document are parsed as an equal value.
 pub fn assert_read_again(alloc: Global, input: &[u8], limit: usize) -> Result<()> {
     let mut copy = Vec::from_slice(alloc, input)?;
-    let mut buffers = Buffers::with_max_depth(alloc, 0, limit)?;
+    let mut buffers = Buffers::empty(alloc, limit);
     let Ok(tape) = to_tape_with_buffers(copy.as_mut_slice(), &mut buffers) else {
         return Ok(());
     };

@@ -74,7 +74,7 @@ impl Rows {
 
     fn limit_to(&mut self, limit: usize) -> Result<()> {
         if self.limit != limit {
-            self.used = Buffers::with_max_depth(self.alloc, 0, limit)?;
+            self.used = Buffers::empty(self.alloc, limit);
             self.limit = limit;
         }
         Ok(())

@@ -32,6 +32,11 @@ mod entry_points {
         Ok(buffers.structural_indexes().len())
     }
 
+    pub(super) fn is_shallow(rt: &impl AllocGlobal, input: &mut [u8]) -> bool {
+        let mut buffers = Buffers::empty(rt.alloc(), 2);
+        to_tape_with_buffers(input, &mut buffers).is_ok()
+    }
+
     pub(super) fn count_nodes(rt: &impl AllocGlobal, log: &mut [u8]) -> Result<usize> {
         let mut buffers = Buffers::new(rt.alloc(), 0)?;
         let mut tape = Tape::null(rt.alloc())?;
@@ -62,7 +67,7 @@ mod entry_points {
 
     pub(super) fn read_twice(rt: &impl AllocGlobal) -> Result<usize> {
         let (mut first, mut second) = (*b"[1,2]", *b"[[3]]");
-        let mut buffers = Buffers::with_max_depth(rt.alloc(), 0, 2)?;
+        let mut buffers = Buffers::empty(rt.alloc(), 2);
         let mut tape = Tape::null(rt.alloc())?;
         reserve(5, &mut buffers, &mut tape)?;
         fill_tape(&mut first, &mut buffers, &mut tape)?;
@@ -167,8 +172,11 @@ fn a_value_is_read(rt: HostRuntime) {
 #[test]
 fn entry_points_are_used_as_shown(rt: HostRuntime) {
     let mut log = *b"[1]\n{}\n3";
+    let (mut shallow, mut deep) = (*b"[[1]]", *b"[[[]]]");
     assert_eq!(rt; entry_points::first_len(&rt), Ok(6));
     assert_eq!(rt; entry_points::count_positions(&rt), Ok(11));
+    assert!(rt; entry_points::is_shallow(&rt, &mut shallow));
+    assert!(rt; !entry_points::is_shallow(&rt, &mut deep));
     assert_eq!(rt; entry_points::count_nodes(&rt, &mut log), Ok(4));
     assert_eq!(rt; entry_points::count_in_place(&rt), Ok(30));
     assert_eq!(rt; entry_points::read_twice(&rt), Ok(3));

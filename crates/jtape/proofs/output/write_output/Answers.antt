@@ -6,7 +6,7 @@ use Rattle.jtape.proofs.output.write_output.Goals as goal
 pub returns-clause-all : goal.returns-clause-all
 returns-clause-all g c =
     let input = c.args.input.now in
-    let within = ap (λ buffers. buffers.limit) c.in_ok-buffers.ensures.made in
+    let within = ap (λ buffers. buffers.limit) c.empty-buffers.ensures in
     let parse = subst (λ limit. IsParse input limit 0 None c.in_ok-tape.tape.nodes c.to_tape_with_buffers.new.buffers.positions)
     within c.in_ok-tape.ensures.parse in
     let out = parsed-output c.args.layout input c.args.depth _ _ _ parse in
@@ -16,7 +16,7 @@ returns-clause-all g c =
 pub returns-clause-begun : goal.returns-clause-begun
 returns-clause-begun g c =
     let input = c.args.input.now in
-    let within = ap (λ buffers. buffers.limit) c.in_ok-buffers.ensures.made in
+    let within = ap (λ buffers. buffers.limit) c.empty-buffers.ensures in
     let parse = subst (λ limit. IsParse input limit 0 None c.in_ok-tape.tape.nodes c.to_tape_with_buffers.new.buffers.positions)
     within c.in_ok-tape.ensures.parse in
     let out = parsed-output c.args.layout input c.args.depth _ _ _ parse in
