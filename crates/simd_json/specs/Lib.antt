@@ -1,7 +1,6 @@
 pub mod Tapes
 pub mod Steps
 pub mod Capacities
-pub mod Memory
 pub mod Parsed
 pub mod Reserved
 pub mod Documents

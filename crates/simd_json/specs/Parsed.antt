@@ -1,9 +1,10 @@
 -- What a parse returns, and what it leaves.
-use Rattle.std.specs.Prelude.{◌≡◌, ◌≤◌, ◌<◌, ◌⊎◌, ℕ, suc, List, [], length, take, Option, Some}
+use Rattle.std.specs.Prelude.{◌≡◌, ◌≢◌, ◌≤◌, ◌<◌, ◌⊎◌, ℕ, suc, List, [], length, take, Option, Some}
 use Rattle.std.specs.Prelude.{None, is_some, IsSome, IsTrue, IfNone, IfSome, OnSome, MatchOption, Result, Ok, Err, if◌then◌else◌}
 use Rattle.simd_json_parts.specs.Answer.{answer}
 use Rattle.simd_json_parts.specs.Document.{Document}
 use Rattle.simd_json_parts.specs.ErrorKinds.{is_unexpected_token}
+use Rattle.simd_json_parts.specs.Faults.{whole_fault}
 use Rattle.simd_json_parts.specs.FaultKinds.{IsOfInput, IsOfToken, IsBeginning}
 use Rattle.simd_json_parts.specs.Grammar.{Denotes}
 use Rattle.simd_json_parts.specs.InputFaults.{input_fault, padding_fault}
@@ -12,8 +13,13 @@ use Rattle.simd_json_parts.specs.Listing.{listing}
 use Rattle.simd_json_parts.specs.Nodes.{Item}
 use Rattle.simd_json_parts.specs.Positions.{positions}
 use Rattle.simd_json_parts.specs.declared.error.Error.{Error}
-use Rattle.simd_json.specs.Memory.{LacksMemory}
+use Rattle.simd_json_parts.specs.declared.error.ErrorType.TheVariants.{OutOfMemory}
+use Rattle.simd_json_check.specs.Capacities.{LacksMemory}
 use Rattle.simd_json.specs.Tapes.{Listed}
+
+-- no allocation failed
+abbrev pub HasMemory : Option Error → Type 0
+HasMemory fault = fault ≢ Some (whole_fault OutOfMemory)
 
 -- b is a document within the limits, and these are its nodes
 pub record IsParsed (b : List ℕ) (limit : ℕ) (nodes : List Item) : Type 0 where

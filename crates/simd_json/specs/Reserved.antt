@@ -3,7 +3,7 @@ use Rattle.std.specs.Prelude.{◌≡◌, ◌≤◌, ℕ, ◌*◌, ◌-◌, List,
 use Rattle.simd_json_parts.specs.Nodes.{Item}
 use Rattle.simd_json_parts.specs.declared.error.Error.{Error}
 use Rattle.simd_json.specs.Capacities.{Capacities, KeepsCapacities, capacity}
-use Rattle.simd_json.specs.Memory.{HasMemory}
+use Rattle.simd_json.specs.Parsed.{HasMemory}
 use Rattle.simd_json.specs.Parsed.{IsParse}
 use Rattle.simd_json.specs.Tapes.{Listed}
 

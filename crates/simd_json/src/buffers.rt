@@ -1,26 +1,23 @@
-//! The memory that parses use one after another: the two lists that the first stage fills, and the
-//! stack of the second. A parse stores into entries that are there already: the lists keep their
-//! lengths between parses, and how many entries are in use is counted apart.
-ghost use Rattle.std.specs.Prelude.{◌≡◌, ◌≤◌, ◌<◌, ◌⊎◌, [], length, max};
-ghost use Rattle.std.specs.Prelude.{take};
+//! The memory that parses use one after another: what the first stage lists, and the stack of the
+//! second.
+ghost use Rattle.std.specs.Prelude.{◌≡◌, ◌≤◌, ◌<◌, ◌⊎◌, [], length};
 ghost use Rattle.std.specs.Prelude.{OnOk, OnErr, IfOk, IfErr, Some, Err};
-ghost use Rattle.std.specs.Vec.{vec_capacity};
-ghost use Rattle.simd_json.specs.Memory.{IsOutOfMemory, LacksMemory};
 ghost use Rattle.simd_json.specs.Capacities.{HoldsScan, KeepsCapacities, ListsSame, capacity};
-ghost use Rattle.simd_json.specs.Capacities.{capped, new_buffers};
-ghost use Rattle.simd_json_parts.specs.InputFaults.{input_fault};
+ghost use Rattle.simd_json.specs.Capacities.{new_buffers};
+ghost use Rattle.simd_json_check.specs.Capacities.{IsOutOfMemory, LacksMemory, capped};
 ghost use Rattle.simd_json_check.specs.Capacities.{default_max_depth};
-ghost use Rattle.simd_json_parts.specs.Positions.{positions};
 ghost use Rattle.simd_json_parts.specs.Descent.{descent};
+ghost use Rattle.simd_json_parts.specs.InputFaults.{input_fault};
+ghost use Rattle.simd_json_parts.specs.Positions.{positions};
 ghost use Rattle.simd_json_stages.specs.Building.{IsWritten};
-ghost use Rattle.simd_json_stages.specs.EscapeBlocks.{blocks_in};
 ghost use Rattle.simd_json_stages.specs.NodesEnough.{nodes_enough};
 ghost use Rattle.simd_json_stages.specs.Refusals.{IsTokenFault};
 
 use crate::DEFAULT_MAX_DEPTH;
+use simd_json_check::Index;
+use simd_json_check::lists::lengthen;
 use simd_json_parts::error::Result;
-use simd_json_stages::stage1::{BLOCK_LEN, BlockStage1Parse, Stage1Parse};
-use simd_json_stages::stage2::{NodeSink, Original, Scanned, StackState, build_tape};
+use simd_json_stages::stage2::{NodeSink, Original, StackState, build_tape};
 use std::alloc::{Allocator, Global};
 use std::marker::Model;
 
@@ -35,14 +32,8 @@ const FEW_OPEN: usize = 64;
 /// change a result.
 #[derive(Drop)]
 pub struct Buffers<A: Allocator = Global> {
-    // structural indexes (byte indexes into the input), and entries not in use
-    pub(crate) structural_indexes: Vec<u32, A>,
-    // how many of these are in use, from the front
-    pub(crate) used: usize,
-    // numbers of blocks of 64 bytes that hold a backslash, and entries not in use
-    pub(crate) escape_blocks: Vec<u32, A>,
-    // how many of these are in use, from the front
-    pub(crate) used_blocks: usize,
+    // the structural indexes, and the blocks that hold a backslash
+    pub(crate) index: Index<A>,
     // the stack of the second stage, in use only during a parse
     pub(crate) stack: Vec<StackState, A>,
     // a stack for a few containers, in place of one that is too short
@@ -52,16 +43,16 @@ pub struct Buffers<A: Allocator = Global> {
 }
 
 impl<A: Allocator> Model for Buffers<A> {
-    ghost use Rattle.std.specs.Prelude.{◌≤◌, length};
-    ghost use Rattle.simd_json.specs.Capacities.{Capacities, capacities_of};
+    ghost use Rattle.std.specs.Prelude.{length};
+    ghost use Rattle.simd_json.specs.Capacities.{Capacities};
 
     ghost Value = { Capacities };
 
-    ghost view = { λ b. capacities_of b.structural_indexes.items b.used
-        b.escape_blocks.items b.used_blocks (length b.stack.items) b.max_depth };
-
-    ghost invariant = { λ b. (b.used ≤ length b.structural_indexes.items)
-        × (b.used_blocks ≤ length b.escape_blocks.items) };
+    ghost view = { λ b. record {
+      index = b.index;
+      limit = b.max_depth;
+      stack_capacity = length b.stack.items;
+    } };
 }
 
 impl<A: Allocator + Copy> Buffers<A> {
@@ -90,7 +81,7 @@ impl<A: Allocator + Copy> Buffers<A> {
         ensures fault { IfErr result (λ e. IsOutOfMemory e × (0 < input_len)) }
     {
         let mut buffers = Buffers::empty(a, max_depth);
-        buffers.reserve_lists(input_len.min(u32::MAX as usize))?;
+        buffers.index.reserve(input_len)?;
         Ok(buffers)
     }
 
@@ -110,10 +101,7 @@ impl<A: Allocator + Copy> Buffers<A> {
         ensures { result ≡ new_buffers 0 max_depth }
     {
         Buffers {
-            structural_indexes: Vec::new(a),
-            used: 0,
-            escape_blocks: Vec::new(a),
-            used_blocks: 0,
+            index: Index::empty(a),
             stack: Vec::new(a),
             few: [StackState::EMPTY; FEW_OPEN],
             max_depth,
@@ -128,9 +116,9 @@ impl<A: Allocator> Buffers<A> {
     ///
     /// Empty before the first parse, and after one that returned an error without a character.
     pub fn structural_indexes(&self) -> &[u32]
-        ensures { result.now ≡ self.now.positions }
+        ensures { result.now ≡ self.now.index.listed }
     {
-        &self.structural_indexes[..self.used]
+        self.index.structural_indexes()
     }
 
     /// Returns how many containers may be open at a time.
@@ -156,32 +144,18 @@ impl<A: Allocator> Buffers<A> {
         ensures fault { IfErr result
             (λ e. IsOutOfMemory e × (capacity self.old < capped input_len)) }
     {
-        let len = input_len.min(u32::MAX as usize);
-        self.reserve_lists(len)?;
-        lengthen(&mut self.stack, len.min(self.max_depth), StackState::EMPTY)
-    }
-
-    // Reserves capacity for the structural indexes and the blocks of `len` bytes.
-    fn reserve_lists(&mut self, len: usize) -> Result<()>
-        ensures kept { KeepsCapacities self.old self.new }
-        ensures same { ListsSame self.old self.new
-            × (self.new.stack_capacity ≡ self.old.stack_capacity) }
-        ensures capacity { OnOk result
-            ((self.new.position_capacity ≡ max self.old.position_capacity len)
-            × (self.new.block_capacity ≡ max self.old.block_capacity (blocks_in len))) }
-        ensures fault { IfErr result (λ e. IsOutOfMemory e
-            × ((self.old.position_capacity < len) ⊎ (self.old.block_capacity < blocks_in len))) }
-    {
-        lengthen(&mut self.structural_indexes, len, 0)?;
-        lengthen(&mut self.escape_blocks, len.div_ceil(BLOCK_LEN), 0)
+        self.index.reserve(input_len)?;
+        let open = input_len.min(u32::MAX as usize).min(self.max_depth);
+        lengthen(&mut self.stack, open, StackState::EMPTY)?;
+        Ok(())
     }
 
     // Empties what is listed, and keeps its capacity.
     pub(crate) fn clear(&mut self)
-        ensures { self.new ≡ record self.old { positions = []; blocks = [] } }
+        ensures { self.new ≡ record self.old {
+            index = record self.old.index { listed = []; escapes = []; }; } }
     {
-        self.used = 0;
-        self.used_blocks = 0;
+        self.index.clear();
     }
 
     // Lists the structural indexes of the input and its blocks that hold a backslash, and reserves
@@ -190,24 +164,20 @@ impl<A: Allocator> Buffers<A> {
     // and lists nothing then.
     pub(crate) fn find_positions(&mut self, input: &[u8]) -> Result<()>
         ensures found { OnOk result (HoldsScan input.now self.new) }
-        ensures empty { OnErr result ((self.new.positions ≡ []) × (self.new.blocks ≡ [])) }
+        ensures empty { OnErr result (self.new.index.listed ≡ []) }
         ensures limit { self.new.limit ≡ self.old.limit }
         ensures kept { KeepsCapacities self.old self.new }
         ensures fault { IfErr result (λ e. (input_fault input.now ≡ Some e)
             ⊎ (LacksMemory input.now e × (capacity self.old < length input.now))) }
     {
-        self.clear();
-        let found = BlockStage1Parse::find_structural_bits(
-            input,
-            &mut self.structural_indexes,
-            &mut self.escape_blocks,
-        )?;
-        let open = found.positions.min(self.max_depth);
-        if open > FEW_OPEN {
-            lengthen(&mut self.stack, open, StackState::EMPTY)?;
+        self.index.find(input)?;
+        let open = self.index.structural_indexes().len().min(self.max_depth);
+        if open > FEW_OPEN
+            && let Err(e) = lengthen(&mut self.stack, open, StackState::EMPTY)
+        {
+            self.index.clear();
+            return Err(e.into());
         }
-        self.used = found.positions;
-        self.used_blocks = found.escape_blocks;
         Ok(())
     }
 
@@ -232,30 +202,8 @@ impl<A: Allocator> Buffers<A> {
         ensures refused { IfErr result
             (λ e. IsTokenFault e × (descent K.bytes self.old.limit ≡ Err e)) }
     {
-        let scanned = Scanned {
-            structural_indexes: &self.structural_indexes[..self.used],
-            escape_blocks: &self.escape_blocks[..self.used_blocks],
-        };
+        let scanned = self.index.scanned();
         let stack = self.stack.as_mut_slice();
         build_tape::<K, S>(input, scanned, stack, &mut self.few, sink, self.max_depth)
     }
-}
-
-// Makes the list at least `len` long: lists are kept filled, so that a store into them needs no
-// memory. What it held stays. If an allocation fails the list is unchanged.
-pub(crate) fn lengthen<T: Copy, A: Allocator>(
-    list: &mut Vec<T, A>,
-    len: usize,
-    filler: T,
-) -> Result<()>
-    ensures kept { take (length list.old.items) list.new.items ≡ list.old.items }
-    ensures longer { OnOk result (length list.new.items ≡ max (length list.old.items) len) }
-    ensures refused { IfErr result (λ e. IsOutOfMemory e × (list.new.items ≡ list.old.items)
-        × (length list.old.items < len) × (vec_capacity list.old < len)) }
-    ensures capacity { vec_capacity list.old ≤ vec_capacity list.new }
-{
-    if list.len() < len {
-        list.resize(len, filler)?;
-    }
-    Ok(())
 }

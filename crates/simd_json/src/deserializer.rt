@@ -78,7 +78,7 @@ impl<'de, A: Allocator + Copy> Deserializer<'de, A> {
         buffers: &mut Buffers<A>,
     ) -> Result<Deserializer<'de, A>>
         ensures parse { IsParse input.old buffers.old.limit 0
-            (result_err result) (nodes_of (ok_map (λ d. d.tape) result)) buffers.new.positions }
+            (result_err result) (nodes_of (ok_map (λ d. d.tape) result)) buffers.new.index.listed }
         ensures some { IfOk result (λ d. d.tape.nodes ≢ []) }
         ensures start { IfOk result (λ d. d.position ≡ 0) }
         ensures limit { buffers.new.limit ≡ buffers.old.limit }

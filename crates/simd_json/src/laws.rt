@@ -5,7 +5,7 @@ ghost use Rattle.std.specs.Prelude.{take};
 ghost use Rattle.std.specs.Prelude.{Option, Some, None, Ok, IsSome};
 ghost use Rattle.std.specs.Result.{result_err};
 ghost use Rattle.simd_json.specs.Beneath.{beneath, descendants};
-ghost use Rattle.simd_json.specs.Memory.{HasMemory};
+ghost use Rattle.simd_json.specs.Parsed.{HasMemory};
 ghost use Rattle.simd_json.specs.Parsed.{IsPaddedParse, IsParse, IsRefused, answered_nodes};
 ghost use Rattle.simd_json.specs.Parsed.{positions_after};
 ghost use Rattle.simd_json.specs.Capacities.{KeepsCapacities, Capacities, capacity};

@@ -7,13 +7,13 @@ ghost use Rattle.std.specs.Result.{result_err};
 ghost use Rattle.simd_json.specs.Parsed.{IsPaddedParse, IsParse, IsParseResult};
 ghost use Rattle.simd_json.specs.Parsed.{IsParsed, IsRefused, nodes_of};
 ghost use Rattle.simd_json.specs.Capacities.{HoldsScan, KeepsCapacities, ListsSame, capacity};
-ghost use Rattle.simd_json.specs.Capacities.{capped};
-ghost use Rattle.simd_json.specs.Memory.{HasMemory, IsOutOfMemory, LacksMemory};
+ghost use Rattle.simd_json_check.specs.Capacities.{IsOutOfMemory, IsUnchecked, LacksMemory};
+ghost use Rattle.simd_json_check.specs.Capacities.{capped, default_max_depth};
+ghost use Rattle.simd_json.specs.Parsed.{HasMemory};
 ghost use Rattle.simd_json.specs.Reserved.{IsReserved, parse_capacity};
 ghost use Rattle.simd_json_parts.specs.Descent.{descent};
 ghost use Rattle.simd_json_parts.specs.Limits.{max_length};
 ghost use Rattle.simd_json_parts.specs.Nodes.{Item, item_of};
-ghost use Rattle.simd_json_check.specs.Capacities.{default_max_depth};
 ghost use Rattle.simd_json_parts.specs.Positions.{positions};
 ghost use Rattle.simd_json_stages.specs.Building.{IsWritten};
 ghost use Rattle.simd_json_stages.specs.NodesEnough.{nodes_enough};
@@ -22,7 +22,6 @@ ghost use Rattle.simd_json_stages.specs.Refusals.{IsTokenFault};
 use crate::buffers::Buffers;
 use crate::tape::Tape;
 use crate::{DEFAULT_MAX_DEPTH, INPUT_PADDING};
-use simd_json_check::Index;
 use simd_json_parts::error::{Error, ErrorType, Result};
 use simd_json_parts::node::Node;
 use simd_json_stages::stage2::{ListSink, Original, nodes_enough};
@@ -88,12 +87,12 @@ pub fn to_tape_with_buffers<'de, A: Allocator + Copy>(
     buffers: &mut Buffers<A>,
 ) -> Result<Tape<'de, A>>
     ensures parse { IsParse s.old buffers.old.limit 0
-        (result_err result) (nodes_of result) buffers.new.positions }
+        (result_err result) (nodes_of result) buffers.new.index.listed }
     ensures some { IfOk result (λ tape. tape.nodes ≢ []) }
     ensures limit { buffers.new.limit ≡ buffers.old.limit }
     ensures capacities { KeepsCapacities buffers.old buffers.new }
 {
-    let mut tape = Tape::empty(*buffers.structural_indexes.allocator());
+    let mut tape = Tape::empty(*buffers.stack.allocator());
     fill_tape(s, buffers, &mut tape)?;
     Ok(tape)
 }
@@ -129,7 +128,7 @@ pub fn fill_tape<'de, A: Allocator, B: Allocator>(
     tape: &mut Tape<'de, B>,
 ) -> Result<()>
     ensures parse { IsParse s.old buffers.old.limit (parse_capacity buffers.old tape.old)
-        (result_err result) tape.new.nodes buffers.new.positions }
+        (result_err result) tape.new.nodes buffers.new.index.listed }
     ensures some { OnOk result (tape.new.nodes ≢ []) }
     ensures limit { buffers.new.limit ≡ buffers.old.limit }
     ensures capacities { KeepsCapacities buffers.old buffers.new
@@ -171,7 +170,7 @@ pub fn fill_tape_padded<'de, A: Allocator, B: Allocator>(
     tape: &mut Tape<'de, B>,
 ) -> Result<()>
     ensures parse { IsPaddedParse s.old len buffers.old.limit (parse_capacity buffers.old tape.old)
-        (result_err result) tape.new.nodes buffers.new.positions }
+        (result_err result) tape.new.nodes buffers.new.index.listed }
     ensures some { OnOk result (tape.new.nodes ≢ []) }
     ensures limit { buffers.new.limit ≡ buffers.old.limit }
     ensures capacities { KeepsCapacities buffers.old buffers.new
@@ -220,7 +219,7 @@ pub fn refill_tape<'de, A: Allocator, B: Allocator>(
     tape: Tape<'_, B>,
 ) -> (Result<()>, Tape<'de, B>)
     ensures parse { IsParse s.old buffers.old.limit (parse_capacity buffers.old tape.entry)
-        (result_err result.0) result.1.nodes buffers.new.positions }
+        (result_err result.0) result.1.nodes buffers.new.index.listed }
     ensures some { OnOk result.0 (result.1.nodes ≢ []) }
     ensures limit { buffers.new.limit ≡ buffers.old.limit }
     ensures capacities { KeepsCapacities buffers.old buffers.new
@@ -242,8 +241,7 @@ pub fn refill_tape<'de, A: Allocator, B: Allocator>(
 ///
 /// It takes four bytes for each structural index, and for an input that it rejects, or whose
 /// containers are nested more than 64 deep, one for each byte of the input. All of it is freed
-/// before it returns. For many inputs keep a [`simd_json_check::Index`] and call its `check`,
-/// which returns the same and keeps the memory.
+/// before it returns. For many inputs keep buffers, and call their [`check`](Buffers::check).
 ///
 /// ```
 /// use simd_json::{DEFAULT_MAX_DEPTH, check};
@@ -261,7 +259,27 @@ pub fn check<A: Allocator + Copy>(a: A, input: &[u8], max_depth: usize) -> Resul
     ensures refused { IfErr result (λ e. IsRefused input.now max_depth e
         ⊎ LacksMemory input.now e) }
 {
-    Index::empty(a).check(input, max_depth)
+    Buffers::empty(a, max_depth).check(input)
+}
+
+impl<A: Allocator> Buffers<A> {
+    /// Checks that the bytes are one document within the depth limit of the buffers, as [`check`]
+    /// does, and with its errors, over memory that the buffers keep. Afterwards they list the
+    /// structural indexes of the input, unless the error has no character.
+    ///
+    /// `OutOfMemory` is returned only if no earlier check left capacity for as many bytes as the
+    /// input has.
+    pub fn check(&mut self, input: &[u8]) -> Result<()>
+        ensures parsed { OnOk result
+            ((nodes : List Item) × IsParsed input.now self.old.limit nodes) }
+        ensures refused { IfErr result (λ e. IsRefused input.now self.old.limit e
+            ⊎ IsUnchecked input.now self.old.limit self.old.index e) }
+        ensures positions { OnOk result (self.new.index.listed ≡ positions input.now) }
+        ensures limit { self.new.limit ≡ self.old.limit }
+        ensures capacities { KeepsCapacities self.old self.new }
+    {
+        self.index.check(input, self.max_depth)
+    }
 }
 
 /// Reserves capacity in buffers and tape for inputs of up to `input_len` bytes (more than

@@ -31,7 +31,7 @@ pub fn fill_sink<'de, K: Original, S: NodeSink<'de>, A: Allocator>(
     requires room { max_length ≤ S.node_room sink.old }
     requires empty { S.held_nodes sink.old ≡ [] }
     ensures parse { IsParse K.bytes buffers.old.limit (capacity buffers.old)
-        (result_err result) (written result (S.held_nodes sink.new)) buffers.new.positions }
+        (result_err result) (written result (S.held_nodes sink.new)) buffers.new.index.listed }
     ensures unread { IfErr result (λ e. e.character ≡ None → sink.new ≡ sink.old) }
     ensures lender { S.lender sink.new ≡ S.lender sink.old }
     ensures room { S.node_room sink.new ≡ S.node_room sink.old }

@@ -29,7 +29,7 @@ AreKeptOpen old new was lists = (old ≡ Some was) × (new ≡ Some lists) × Ke
 
 pub checked-with : (old new : Option Lists) (was lists : Lists) (b : List ℕ) (r : Result ℤ Error) (status : ℤ) (place : ErrorPlace)
     → AreKeptOpen old new was lists → IsReported r status place
-    → IsCheckOf b was.buffers.limit (check_capacity was.buffers.limit was.checks) (result_err r) → IfOk r (λ s. s ≡ pos 0)
+    → IsCheckOf b was.buffers.limit (check_capacity was.buffers.limit was.buffers.index) (result_err r) → IfOk r (λ s. s ≡ pos 0)
     → IsCheckedWith old new b status place
 checked-with old new was lists b (Ok s) status place kept told is zero =
     rw kept.0 (lists, kept.1, kept.2, (None, is, told.1 ∙ zero, told.0))

@@ -37,7 +37,7 @@ IsChosenPut capacity is_pretty pointer d status old_needed needed old new =
 -- a parse of b with the lists and their tape, and the lists afterwards
 abbrev pub IsTapedWith : Lists → List ℕ → Option Error → List Item → Lists → Type 0
 IsTapedWith old b fault ns new =
-    IsParse b old.buffers.limit (parse_capacity old.buffers old.tape) fault ns new.buffers.positions
+    IsParse b old.buffers.limit (parse_capacity old.buffers old.tape) fault ns new.buffers.index.listed
 
 -- a call with an open parser that prints the value that the pointer names in the document that b is
 abbrev pub IsPrintOf : Lists → Lists → List ℕ → Bool → List ℕ → ℤ → ErrorPlace → ℕ → ℕ → List ℕ → List ℕ → Type 0

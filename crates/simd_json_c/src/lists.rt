@@ -2,7 +2,7 @@
 ghost use Rattle.std.specs.Prelude.{◌≡◌, ◌⊎◌, List, IfOk, IfErr, IsUtf8, MatchResult, None, Some, pos};
 ghost use Rattle.std.specs.Result.{result_err};
 ghost use Rattle.std.specs.Vec.{vec_capacity};
-ghost use Rattle.simd_json_check.specs.Capacities as checks;
+ghost use Rattle.simd_json.specs.Capacities.{KeepsCapacities};
 ghost use Rattle.simd_json_check.specs.Capacities.{check_capacity};
 ghost use Rattle.simd_json_parts.specs.Document.{Document};
 ghost use Rattle.simd_json_parts.specs.Listing.{listing};
@@ -19,7 +19,6 @@ use crate::print::print_at;
 use crate::source::Source;
 use crate::status::{ErrorPlace, NO_VALUE, OUT_OF_MEMORY, reported};
 use simd_json::{Buffers, Result, Tape, refill_tape};
-use simd_json_check::Index;
 use std::alloc::Global;
 use std::marker::Brand;
 use std::mem::replace;
@@ -34,18 +33,19 @@ pub extern "C" fn simd_json_check(
 ) -> i32
     ensures { IsChecked input.now max_depth 0 result place.new }
 {
-    let mut index = Index::empty(alloc);
-    reported(check(&mut index, input, max_depth), place)
+    let mut buffers = Buffers::empty(alloc, max_depth);
+    reported(check(&mut buffers, input), place)
 }
 
 // Returns 0 if the input is a document, or its error.
-fn check(index: &mut Index, input: &[u8], max_depth: usize) -> Result<i32>
-    ensures checked { IsCheckOf input.now max_depth (check_capacity max_depth index.old)
-        (result_err result) }
+fn check(buffers: &mut Buffers, input: &[u8]) -> Result<i32>
+    ensures checked { IsCheckOf input.now buffers.old.limit
+        (check_capacity buffers.old.limit buffers.old.index) (result_err result) }
     ensures zero { IfOk result (λ status. status ≡ pos 0) }
-    ensures kept { checks.KeepsCapacities index.old index.new }
+    ensures kept { (buffers.new.limit ≡ buffers.old.limit)
+        × KeepsCapacities buffers.old buffers.new }
 {
-    match index.check(input, max_depth) {
+    match buffers.check(input) {
         Ok(()) => Ok(0),
         Err(e) => Err(e),
     }
@@ -64,8 +64,6 @@ pub struct Lists {
     pub(crate) text: Vec<u8>,
     // the input in which values are found
     pub(crate) source: Source,
-    // what a check uses
-    pub(crate) checks: Index,
 }
 
 impl Lists {
@@ -80,18 +78,17 @@ impl Lists {
             nodes: Vec::new(alloc),
             text: Vec::new(alloc),
             source: Source::new(alloc)?,
-            checks: Index::empty(alloc),
         })
     }
 
     // Returns 0 if the input is a document, or its error.
     pub(crate) fn check(&mut self, input: &[u8]) -> Result<i32>
         ensures checked { IsCheckOf input.now self.old.buffers.limit
-            (check_capacity self.old.buffers.limit self.old.checks) (result_err result) }
+            (check_capacity self.old.buffers.limit self.old.buffers.index) (result_err result) }
         ensures zero { IfOk result (λ status. status ≡ pos 0) }
         ensures kept { KeepsLists self.old self.new }
     {
-        check(&mut self.checks, input, self.buffers.max_depth())
+        check(&mut self.buffers, input)
     }
 
     // Prints the value that a pointer names in a document to the caller's memory. Returns 0,

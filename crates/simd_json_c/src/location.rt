@@ -1,6 +1,6 @@
 //! Where an input is rejected and why, for people.
 ghost use Rattle.std.specs.Prelude.{◌≡◌, IfErr, IfOk, string_bytes};
-ghost use Rattle.simd_json.specs.Memory.{IsOutOfMemory};
+ghost use Rattle.simd_json_check.specs.Capacities.{IsOutOfMemory};
 ghost use Rattle.simd_json_check.specs.Messages.{reason_text};
 ghost use Rattle.simd_json_c.specs.Located.{IsLocated, error_with, kind_with, position_of};
 

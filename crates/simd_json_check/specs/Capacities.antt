@@ -3,6 +3,7 @@ use Rattle.std.specs.Prelude.{◌≡◌, ◌≤◌, ◌<◌, ◌⊎◌, ℕ, ◌
 use Rattle.simd_json_parts.specs.Faults.{whole_fault}
 use Rattle.simd_json_parts.specs.InputFaults.{input_fault}
 use Rattle.simd_json_parts.specs.Limits.{max_length}
+use Rattle.simd_json_stages.specs.EscapeBlocks.{blocks_in}
 use Rattle.simd_json_parts.specs.declared.error.Error.{Error}
 use Rattle.simd_json_parts.specs.declared.error.ErrorType.TheVariants.{OutOfMemory}
 
@@ -32,10 +33,6 @@ capacities_of list used blocks used_blocks copied opened =
       opened = opened;
     }
 
--- nothing is listed, and there is no capacity
-abbrev pub no_capacities : Capacities
-no_capacities = record { listed = []; escapes = []; indexes = 0; blocks = 0; copied = 0; opened = 0 }
-
 -- for an input of how many bytes there is capacity
 abbrev pub capacity : Capacities → ℕ
 capacity r = min r.indexes (64 * r.blocks)
@@ -47,6 +44,11 @@ check_capacity limit r = min (capacity r) (if nat_lt r.opened limit then min r.c
 -- of how many bytes a reservation is meant
 abbrev pub capped : ℕ → ℕ
 capped len = min len max_length
+
+-- nothing is listed, and there is capacity for the indexes and blocks of so many bytes, but none for a check that needs more
+abbrev pub new_index : ℕ → Capacities
+new_index len =
+    record { listed = []; escapes = []; indexes = capped len; blocks = blocks_in (capped len); copied = 0; opened = 0 }
 
 -- no list is shorter
 abbrev pub KeepsCapacities : Capacities → Capacities → Type 0

@@ -15,7 +15,8 @@ ghost use Rattle.simd_json_stages.specs.Scans.{IsScanOf};
 ghost use base.Fml.{ftrue};
 
 use crate::escapes::are_escapes_valid;
-use crate::index::{Index, lengthen};
+use crate::index::Index;
+use crate::lists::lengthen;
 use crate::nested::value_end;
 use simd_json_parts::error::Result;
 use simd_json_parts::node::StaticNode;
@@ -26,7 +27,7 @@ use std::marker::{Brand, Model};
 // For how many open containers there is a stack that is not allocated.
 const FEW_OPEN: usize = 64;
 
-impl<A: Allocator + Copy> Index<A> {
+impl<A: Allocator> Index<A> {
     /// Finds the structural indexes of an input, as [`find`](Index::find) does, and checks all of
     /// it: that it is one document (RFC 8259) with at most `max_depth` containers open at a time; 0
     /// allows scalars only.

@@ -1,15 +1,16 @@
 //! The structural indexes of one input after another.
-ghost use Rattle.std.specs.Prelude.{◌≡◌, ◌≤◌, ◌<◌, length, take, max, None};
+ghost use Rattle.std.specs.Prelude.{◌≡◌, ◌≤◌, ◌<◌, max, None};
 ghost use Rattle.std.specs.Prelude.{[], IfOk, OnOk, IfErr, OnErr};
-ghost use Rattle.simd_json_check.specs.Capacities.{capacity, capped, capacities_of, no_capacities};
+ghost use Rattle.simd_json_check.specs.Capacities.{capacity, capped, new_index};
 ghost use Rattle.simd_json_check.specs.Capacities.{KeepsCapacities, IsOutOfMemory, IsRefused};
 ghost use Rattle.simd_json_parts.specs.InputFaults.{input_fault};
 ghost use Rattle.simd_json_parts.specs.Positions.{positions};
 ghost use Rattle.simd_json_stages.specs.EscapeBlocks.{backslash_blocks, blocks_in};
 
+use crate::lists::lengthen;
 use simd_json_parts::error::Result;
 use simd_json_stages::stage1::{BLOCK_LEN, BlockStage1Parse, Stage1Parse};
-use simd_json_stages::stage2::StackState;
+use simd_json_stages::stage2::{Scanned, StackState};
 use std::alloc::{Allocator, Global};
 use std::marker::Model;
 
@@ -51,7 +52,7 @@ impl<A: Allocator> Model for Index<A> {
 impl<A: Allocator + Copy> Index<A> {
     /// Returns an index without capacity, which allocates nothing.
     pub fn empty(a: A) -> Index<A>
-        ensures { result ≡ no_capacities }
+        ensures { result ≡ new_index 0 }
     {
         Index {
             indexes: Vec::new(a),
@@ -69,8 +70,7 @@ impl<A: Allocator + Copy> Index<A> {
     ///
     /// Returns `OutOfMemory` if an allocation fails.
     pub fn new(a: A, input_len: usize) -> Result<Index<A>>
-        ensures capacity { IfOk result (λ index. (index.indexes ≡ capped input_len)
-            × (index.blocks ≡ blocks_in (capped input_len)) × (index.listed ≡ [])) }
+        ensures made { IfOk result (λ index. index ≡ new_index input_len) }
         ensures fault { IfErr result (λ e. IsOutOfMemory e × (0 < input_len)) }
     {
         let mut index = Index::empty(a);
@@ -88,16 +88,19 @@ impl<A: Allocator> Index<A> {
     /// by then stays.
     pub fn reserve(&mut self, input_len: usize) -> Result<()>
         ensures reserved { OnOk result (capped input_len ≤ capacity self.new) }
-        ensures exact { OnOk result ((self.new.indexes ≡ max self.old.indexes (capped input_len))
-            × (self.new.blocks ≡ max self.old.blocks (blocks_in (capped input_len)))) }
+        ensures exact { OnOk result (self.new ≡ record self.old {
+            indexes = max self.old.indexes (capped input_len);
+            blocks = max self.old.blocks (blocks_in (capped input_len)); }) }
         ensures kept { KeepsCapacities self.old self.new }
-        ensures same { self.new.listed ≡ self.old.listed }
+        ensures same { (self.new.listed ≡ self.old.listed)
+            × (self.new.escapes ≡ self.old.escapes) }
         ensures fault { IfErr result (λ e. IsOutOfMemory e
             × (capacity self.old < capped input_len)) }
     {
         let len = input_len.min(u32::MAX as usize);
         lengthen(&mut self.indexes, len, 0)?;
-        lengthen(&mut self.escape_blocks, len.div_ceil(BLOCK_LEN), 0)
+        lengthen(&mut self.escape_blocks, len.div_ceil(BLOCK_LEN), 0)?;
+        Ok(())
     }
 
     /// Finds the structural indexes of an input: the byte index of the opening quote of each string
@@ -125,8 +128,7 @@ impl<A: Allocator> Index<A> {
         ensures kept { KeepsCapacities self.old self.new }
         ensures fault { IfErr result (λ e. IsRefused input.now self.old e) }
     {
-        self.used = 0;
-        self.used_blocks = 0;
+        self.clear();
         let found = BlockStage1Parse::find_structural_bits(
             input,
             &mut self.indexes,
@@ -137,6 +139,26 @@ impl<A: Allocator> Index<A> {
         Ok(())
     }
 
+    /// Empties what is listed, and keeps the capacity.
+    pub fn clear(&mut self)
+        ensures { self.new ≡ record self.old { listed = []; escapes = []; } }
+    {
+        self.used = 0;
+        self.used_blocks = 0;
+    }
+
+    /// What is listed, as the second stage takes it.
+    #[inline(always)]
+    pub fn scanned(&self) -> Scanned<'_>
+        ensures indexes { result.structural_indexes.now ≡ self.now.listed }
+        ensures blocks { result.escape_blocks.now ≡ self.now.escapes }
+    {
+        Scanned {
+            structural_indexes: &self.indexes[..self.used],
+            escape_blocks: &self.escape_blocks[..self.used_blocks],
+        }
+    }
+
     /// The structural indexes that are listed: those of the last input, if there was no error of
     /// the whole input, else none.
     pub fn structural_indexes(&self) -> &[u32]
@@ -144,22 +166,4 @@ impl<A: Allocator> Index<A> {
     {
         &self.indexes[..self.used]
     }
-}
-
-// Makes the list at least `len` long: lists are kept filled, so that a store into them needs no
-// memory. What it held stays. If an allocation fails the list is unchanged.
-pub(crate) fn lengthen<T: Copy, A: Allocator>(
-    list: &mut Vec<T, A>,
-    len: usize,
-    filler: T,
-) -> Result<()>
-    ensures longer { OnOk result (length list.new.items ≡ max (length list.old.items) len) }
-    ensures kept { take (length list.old.items) list.new.items ≡ list.old.items }
-    ensures no_shorter { length list.old.items ≤ length list.new.items }
-    ensures fault { IfErr result (λ e. IsOutOfMemory e × (length list.old.items < len)) }
-{
-    if list.len() < len {
-        list.resize(len, filler)?;
-    }
-    Ok(())
 }

@@ -11,7 +11,8 @@
 //! | find line, column and reason of an error | [`Location`] |
 //! | check one input, and find them | [`locate`] |
 //!
-//! [`scalars`] has readers of numbers, `true`, `false` and `null` for the crates above.
+//! [`scalars`] has readers of numbers, `true`, `false` and `null` for the crates above, and
+//! [`lists`] lengthens lists for them.
 //!
 //! # Errors
 //!
@@ -49,6 +50,7 @@
 mod check;
 mod escapes;
 mod index;
+pub mod lists;
 mod location;
 mod nested;
 pub mod scalars;

@@ -115,7 +115,7 @@ fn shown_byte(input: &[u8], error: &Error, reason: Reason) -> usize
     }
 }
 
-impl<A: Allocator + Copy> Index<A> {
+impl<A: Allocator> Index<A> {
     /// Checks whether the bytes are one document, as [`check`](Index::check) does, and finds the
     /// place of the error if not. Returns `None` if they are, otherwise the location of the error.
     ///

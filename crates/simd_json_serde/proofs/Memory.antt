@@ -2,7 +2,8 @@
 use Rattle.std.proofs.Common.{◌≡◌, ◌∙◌, ap, Result, Ok, Err, Some}
 use Rattle.std.specs.Result.{result_err}
 use Rattle.simd_json_parts.specs.declared.error.Error.{Error as ParseError}
-use Rattle.simd_json.specs.Memory.{HasMemory, IsOutOfMemory}
+use Rattle.simd_json_check.specs.Capacities.{IsOutOfMemory}
+use Rattle.simd_json.specs.Parsed.{HasMemory}
 use Rattle.simd_json_serde.specs.Outcomes.{HasParseMemory, IsLate}
 use Rattle.simd_json_serde.specs.declared.error.Error.{Error}
 use Rattle.simd_json_serde.specs.declared.error.Error.TheVariants.{Parse, Mismatch}

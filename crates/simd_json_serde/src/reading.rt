@@ -6,10 +6,11 @@ ghost use Rattle.simd_json_serde.specs.Outcomes.{IsRead, IsLate, HasParseMemory}
 
 use crate::error::{Error, Fault, Mismatch};
 use crate::node_reader::NodeReader;
-use crate::texts::{attach, copy_strings, detach, lengthen};
+use crate::texts::{attach, copy_strings, detach};
 use serde::{Deserialize, DeserializeOwned, Deserializer};
 use simd_json::tape::Value;
 use simd_json::{Buffers, Node, Tape, refill_tape, to_tape};
+use simd_json_check::lists::lengthen;
 use std::alloc::{AllocError, Global};
 
 /// Reads a type that may borrow its strings, also those with escapes. They are copied, one after

@@ -2,9 +2,8 @@
 //!
 //! `serde::Format` names no lifetime: a type borrows from the input of its `Deserializer`, and not
 //! from the nodes. So the strings are copied, one after another, to where they can be borrowed.
-ghost use Rattle.std.specs.Prelude.{◌≡◌, ◌<◌, length, max, take, OnOk, OnErr};
-
 use simd_json::Node;
+use simd_json_check::lists::lengthen;
 use simd_json_print::text::store_bytes;
 use std::alloc::AllocError;
 
@@ -40,20 +39,7 @@ fn copy_string(text: &mut Vec<u8>, used: usize, string: &str) -> Result<usize, A
     Ok(end)
 }
 
-// Makes the list at least `len` long. If an allocation fails it is unchanged.
-pub(crate) fn lengthen<T: Copy>(list: &mut Vec<T>, len: usize, filler: T) -> Result<(), AllocError>
-    ensures kept { take (length list.old.items) list.new.items ≡ list.old.items }
-    ensures longer { OnOk result (length list.new.items ≡ max (length list.old.items) len) }
-    ensures refused { OnErr result ((list.new.items ≡ list.old.items)
-        × (length list.old.items < len)) }
-{
-    if list.len() < len {
-        list.resize(len, filler)?;
-    }
-    Ok(())
-}
-
-// The same, with the literals of decimals; and the nodes without either.
+// Detaches the strings, with the literals of decimals; and the nodes without either.
 pub(crate) fn detach(
     nodes: &[Node<'_>],
     text: &mut String,

@@ -1,14 +1,13 @@
 -- How a parse ends: with a tape, with the fault of a token or of the whole input, or for want of memory.
 use Rattle.std.proofs.Common.{◌≡◌, ◌≢◌, ◌∙◌, ap, sym, subst, ◌<◌, ◌≤◌, ℕ, List, [], length, Bool, true, false, not, Some, None}
-use Rattle.std.proofs.Common.{Option, Ok, Err, refl, arith, cond, Result, min, ◌*◌, ◌⊎◌, inl, inr, IsUtf8, is_some, nat_lt, take}
+use Rattle.std.proofs.Common.{Option, Ok, Err, refl, arith, cond, Result, min, ◌⊎◌, inl, inr, IsUtf8, is_some, nat_lt}
 use Rattle.std.specs.Result.{IsErrAnd, IfErr, OnOk, OnErr, result_err}
 use Rattle.std.specs.Str.{is_utf8}
 use Rattle.simd_json_theorems.proofs.Faults.Kinds.{input-fault, token-fault}
 use Rattle.simd_json_parts.proofs.Positions.ScannedInputs.{fault-by_size}
-use Rattle.std.proofs.lemmas.List.{length-take-le}
 use Rattle.std.proofs.lemmas.Option.{none-some}
 use Rattle.std.proofs.lemmas.Str.{IsUtf8-from_is_utf8}
-use Rattle.std.proofs.lemmas.Bool.{ltb-false, ltb-true, lt-ltb, false≢true}
+use Rattle.std.proofs.lemmas.Bool.{cond_both, ltb-false, ltb-true, lt-ltb, false≢true}
 use Rattle.simd_json_parts.specs.Descent.{descent}
 use Rattle.simd_json_parts.specs.Document.{Document, null, boolean, integer, decimal, string, array, object}
 use Rattle.simd_json_parts.specs.FaultKinds.{IsOfInput, IsOfToken, is_input_kind, is_token_kind}
@@ -19,9 +18,10 @@ use Rattle.simd_json_parts.specs.Listing.{listing}
 use Rattle.simd_json_parts.specs.Nodes.{Item}
 use Rattle.simd_json_parts.specs.Positions.{positions}
 use Rattle.simd_json_parts.specs.declared.error.Error.{Error}
-use Rattle.simd_json.specs.Memory.{IsOutOfMemory, LacksMemory}
+use Rattle.simd_json_check.specs.Capacities.{IsOutOfMemory, LacksMemory}
 use Rattle.simd_json.specs.Parsed.{IsParse, IsParsed, IsRefused, written}
 use Rattle.simd_json.specs.Capacities.{KeepsCapacities, Capacities, capacity}
+use Rattle.simd_json_check.specs.Capacities as lists
 use Rattle.simd_json.specs.Reserved.{bytes_listed}
 use Rattle.simd_json_stages.specs.Building.{IsWritten}
 use Rattle.simd_json_stages.specs.NodesEnough.{nodes_enough}
@@ -188,15 +188,15 @@ bytes-kept limit nodes more l = omega (arith, l)
 -- a stack that is too short bounds the capacity
 pub short-stack : (r : Capacities) (count n : ℕ) → r.stack_capacity < min count r.limit → count ≤ n → capacity r < n
 short-stack r count n l m =
-    subst (λ t. min (cond t (min r.position_capacity r.stack_capacity) r.position_capacity) (64 * r.block_capacity) < n)
+    subst (λ t. cond t (min (lists.capacity r.index) r.stack_capacity) (lists.capacity r.index) < n)
     (sym (lt-ltb r.stack_capacity r.limit (omega (arith, l))))
     (omega (arith, l, m))
 
--- ---- lists of which nothing is in use
-
-pub unlisted : (used : ℕ) (xs ys : List ℕ) → used ≤ length xs → take used xs ≡ [] → take used ys ≡ []
-unlisted used xs ys l none =
-    let zero_used : used ≡ 0 = omega (arith, ap length none, length-take-le used xs l) in ap (λ n. take n ys) zero_used
+-- and so do lists that are too short
+pub short-index : (r : Capacities) (n : ℕ) → lists.capacity r.index < n → capacity r < n
+short-index r n l =
+    cond_both (nat_lt r.stack_capacity r.limit) (min (lists.capacity r.index) r.stack_capacity) (lists.capacity r.index) (λ k. k < n)
+    (λ _. omega (arith, l)) (λ _. l)
 
 open-kept : (t t2 : Bool) (p s l p2 s2 l2 : ℕ) → nat_lt s l ≡ t → nat_lt s2 l2 ≡ t2 → l2 ≡ l → p ≤ p2 → s ≤ s2
     → cond t (min p s) p ≤ cond t2 (min p2 s2) p2
@@ -205,10 +205,7 @@ open-kept true false p s l p2 s2 l2 a b same le_p le_s = omega (arith, le_p)
 open-kept false true p s l p2 s2 l2 a b same le_p le_s = absurd (omega (arith, ltb-false s l a, ltb-true s2 l2 b, same, le_s))
 open-kept false false p s l p2 s2 l2 a b same le_p le_s = le_p
 
-min-kept : (a b c d : ℕ) → a ≤ c → b ≤ d → min a b ≤ min c d
-min-kept a b c d l m = omega (arith, l, m)
-
 pub capacity-kept : (old new : Capacities) → new.limit ≡ old.limit → KeepsCapacities old new → capacity old ≤ capacity new
 capacity-kept old new same kept =
-    min-kept _ _ _ _ (open-kept _ _ old.position_capacity old.stack_capacity old.limit new.position_capacity new.stack_capacity
-    new.limit refl refl same kept.0 kept.2) (omega (arith, kept.1))
+    open-kept _ _ (lists.capacity old.index) old.stack_capacity old.limit (lists.capacity new.index) new.stack_capacity
+    new.limit refl refl same (omega (arith, kept.0.0, kept.0.1)) kept.1

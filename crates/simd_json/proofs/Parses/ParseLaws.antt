@@ -22,7 +22,6 @@ use Rattle.simd_json_parts.specs.Listing.{listing}
 use Rattle.simd_json_parts.specs.Nodes.{Item, item_of}
 use Rattle.simd_json_parts.specs.declared.node.Node.{Node}
 use Rattle.simd_json_stages.specs.Building.{IsListed, IsWritten}
-use Rattle.simd_json.specs.Memory.{LacksMemory}
 use Rattle.simd_json.specs.Parsed.{IsParsed, IsRefused}
 use Rattle.simd_json.specs.Tapes.{IsTape}
 use Rattle.simd_json_parts.specs.InputFaults.{input_fault}
@@ -111,11 +110,10 @@ pub refused-or : {A : Type 0} (b : List ℕ) (limit : ℕ) (e : Error) → (answ
 refused-or b limit e (inl is) = inl (refused b limit e is)
 refused-or b limit e (inr other) = inr other
 
--- the same of a check that may lack memory
-pub checked-refused : {A : Type 0} (b : List ℕ) (limit : ℕ) (e : Error) → (answer b limit ≡ Err e) ⊎ (LacksMemory b e × A)
-    → IsRefused b limit e ⊎ LacksMemory b e
-checked-refused b limit e (inl is) = inl (refused b limit e is)
-checked-refused b limit e (inr (lacks, other)) = inr lacks
+-- where it is not said for how much there was capacity
+pub memory-lacking : {A B C : Type 0} → A ⊎ (B × C) → A ⊎ B
+memory-lacking (inl is) = inl is
+memory-lacking (inr lacks) = inr lacks.0
 
 -- ---- what is listed
 

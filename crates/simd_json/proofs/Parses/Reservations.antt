@@ -2,9 +2,10 @@
 use Rattle.std.proofs.Common.{◌≡◌, ◌∙◌, refl, sym, subst, ◌<◌, ◌≤◌, ℕ, List, length, arith, min, Option}
 use Rattle.simd_json_parts.specs.Nodes.{Item}
 use Rattle.simd_json_parts.specs.declared.error.Error.{Error}
-use Rattle.simd_json.specs.Capacities.{Capacities, KeepsCapacities, capacity, capped}
-use Rattle.simd_json.specs.Memory.{HasMemory}
+use Rattle.simd_json.specs.Capacities.{Capacities, KeepsCapacities, capacity}
+use Rattle.simd_json.specs.Parsed.{HasMemory}
 use Rattle.simd_json.specs.Parsed.{IsParse}
+use Rattle.simd_json_check.specs.Capacities.{capped}
 use Rattle.simd_json.specs.Reserved.{IsReserved, bytes_listed, parse_capacity}
 use Rattle.simd_json.specs.Tapes.{Listed}
 use Rattle.simd_json_stages.specs.NodesEnough.{nodes_enough}
@@ -26,17 +27,26 @@ reserved len buffers tape enough later next same kept more b fault nodes listed 
     has-capped-memory b later.limit (parse_capacity later next) fault nodes listed parse
     (λ small. omega (arith, small, short, enough, held))
 
+kept-both : (a b c : Capacities) → KeepsCapacities a b → KeepsCapacities b c → KeepsCapacities a c
+kept-both a b c k l = (
+  (omega (arith, k.0.0, l.0.0), omega (arith, k.0.1, l.0.1), omega (arith, k.0.2, l.0.2), omega (arith, k.0.3, l.0.3)),
+  omega (arith, k.1, l.1),
+)
+
+pub kept-same : (a : Capacities) → KeepsCapacities a a
+kept-same a = ((omega arith, omega arith, omega arith, omega arith), omega arith)
+
 -- it holds of what keeps capacities
 pub reserved-still : (len : ℕ) (old new : Capacities) (tape next : Listed) → new.limit ≡ old.limit → KeepsCapacities old new
     → tape.capacity ≤ next.capacity → IsReserved len old tape → IsReserved len new next
 reserved-still len old new tape next limit kept more is later last same kept2 more2 =
     is later last (same ∙ limit)
-    (omega (arith, kept.0, kept2.0), omega (arith, kept.1, kept2.1), omega (arith, kept.2, kept2.2)) (omega (arith, more, more2))
+    (kept-both old new later kept kept2) (omega (arith, more, more2))
 
 pub reserved-now : (len : ℕ) (buffers : Capacities) (tape : Listed) → IsReserved len buffers tape
     → (b : List ℕ) (fault : Option Error) (nodes : List Item) (listed : List ℕ)
     → length b ≤ len → IsParse b buffers.limit (parse_capacity buffers tape) fault nodes listed → HasMemory fault
-reserved-now len buffers tape is = is buffers tape refl (omega arith, omega arith, omega arith) (omega arith)
+reserved-now len buffers tape is = is buffers tape refl (kept-same buffers) (omega arith)
 
 -- the nodes that code asks for
 module _ (len enough : ℕ) (buffers : Capacities) (tape : Listed) (is : enough ≡ nodes_enough (capped len) buffers.limit) where

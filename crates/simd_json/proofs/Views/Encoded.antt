@@ -10,7 +10,7 @@ use Rattle.simd_json_parts.specs.Limits.{depth, max_length, IntegersFit}
 use Rattle.simd_json_parts.specs.Nodes.{Item}
 use Rattle.simd_json_theorems.specs.Spellable.{IsSpellable}
 use Rattle.simd_json_parts.specs.declared.error.Error.{Error}
-use Rattle.simd_json.specs.Memory.{HasMemory}
+use Rattle.simd_json.specs.Parsed.{HasMemory}
 use Rattle.simd_json.specs.Parsed.{IsParse, answered_nodes}
 use Rattle.simd_json.specs.PrintedAgain.{DenotesEqual, IsParsedAgain}
 use Rattle.simd_json.specs.Viewed.{doc}

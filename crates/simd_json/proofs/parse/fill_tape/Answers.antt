@@ -14,7 +14,7 @@ returns-in_err-find_positions-clause-parse g c =
     let limit = c.args.buffers.now.limit in
     let nodes = bytes_listed limit c.args.tape.now.capacity in
     parse-unread c.from_residual.result c.args.s.now limit (min nodes (capacity c.args.buffers.now)) (capacity c.args.buffers.now) _ _ _
-    c.from_residual.ensures.1 (ap (λ t. t.nodes) c.clear.ensures) c.in_err-find_positions.ensures.empty.0 (omega arith)
+    c.from_residual.ensures.1 (ap (λ t. t.nodes) c.clear.ensures) c.in_err-find_positions.ensures.empty (omega arith)
     c.in_err-find_positions.ensures.fault
 
 pub returns-in-Err-clause-parse : goal.returns-in-Err-clause-parse
@@ -31,7 +31,7 @@ returns-in-Err-clause-parse g c =
     let right = right-input c.args.s.now found.whole in
     parse-unread {A = Unit {0}} (Err c.in-Err.e) c.args.s.now limit (min (bytes_listed limit held) (capacity c.args.buffers.now))
     (bytes_listed limit held) c.in-Err.e _ _ refl (c.reserve.ensures.nodes ∙ ap (λ t. t.nodes) c.clear.ensures)
-    (ap (λ r. r.positions) c.clear-in-Err.ensures) (omega arith)
+    (ap (λ r. r.index.listed) c.clear-in-Err.ensures) (omega arith)
     (inr ((c.in-Err.ensures.fault.0, right.0, right.1), omega (arith, few, listed, few-positions c.args.s.now)))
 
 pub invariant_of-tape : goal.invariant_of-tape
@@ -49,9 +49,9 @@ returns-clause-parse g c =
     let found = c.in_ok-find_positions.ensures in
     let nodes = map item_of c.build.new.list.items in
     let capacity = min (bytes_listed c.args.buffers.now.limit c.args.tape.now.capacity) (capacity c.args.buffers.now) in
-    let built = parse-written c.build.result c.args.s.now _ capacity nodes c.build.new.buffers.positions found.found.whole
-    c.build.ensures.built c.build.ensures.few c.build.ensures.refused (ap (λ r. r.positions) c.build.ensures.kept ∙ found.found.listed) in
-    subst (λ ns. IsParse c.args.s.now c.args.buffers.now.limit capacity (result_err c.build.result) ns c.build.new.buffers.positions)
+    let built = parse-written c.build.result c.args.s.now _ capacity nodes c.build.new.buffers.index.listed found.found.whole
+    c.build.ensures.built c.build.ensures.few c.build.ensures.refused (ap (λ r. r.index.listed) c.build.ensures.kept ∙ found.found.listed) in
+    subst (λ ns. IsParse c.args.s.now c.args.buffers.now.limit capacity (result_err c.build.result) ns c.build.new.buffers.index.listed)
     (written-all c.build.result nodes c.build.ensures.empty)
-    (subst (λ l. IsParse c.args.s.now l capacity (result_err c.build.result) (written c.build.result nodes) c.build.new.buffers.positions)
+    (subst (λ l. IsParse c.args.s.now l capacity (result_err c.build.result) (written c.build.result nodes) c.build.new.buffers.index.listed)
     found.limit built)

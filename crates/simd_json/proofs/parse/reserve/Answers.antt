@@ -1,6 +1,6 @@
 use Rattle.std.proofs.Common.{◌∙◌, ap}
 use Rattle.std.proofs.lemmas.Result.{IfErr-weaker, on_ok_weaker}
-use Rattle.simd_json.specs.Capacities.{capped}
+use Rattle.simd_json_check.specs.Capacities.{capped}
 use Rattle.simd_json_stages.specs.NodesEnough.{nodes_enough}
 use Rattle.simd_json.proofs.Parses.Reservations.{lack, reserved, room}
 use Rattle.simd_json.proofs.parse.reserve.Goals as goal

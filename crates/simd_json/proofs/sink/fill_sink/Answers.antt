@@ -11,10 +11,10 @@ returns-in_err-find_positions-clause-parse g c =
     let err = c.from_residual.ensures.1 in
     let held = g.S.NodeSink.held_nodes c.args.sink.now in
     let buffers = c.args.buffers.now in
-    subst (λ b. IsParse b buffers.limit (capacity buffers) (result_err r) (written r held) c.find_positions.new.self.positions)
+    subst (λ b. IsParse b buffers.limit (capacity buffers) (result_err r) (written r held) c.find_positions.new.self.index.listed)
     c.requires.input
     (parse-unread r c.args.s.now buffers.limit (capacity buffers) (capacity buffers) _ _ _ err (unwritten r _ held err)
-    c.in_err-find_positions.ensures.empty.0 (omega arith) c.in_err-find_positions.ensures.fault)
+    c.in_err-find_positions.ensures.empty (omega arith) c.in_err-find_positions.ensures.fault)
 
 pub build_tape-requires : goal.build_tape-requires
 build_tape-requires g c κs =
@@ -30,7 +30,7 @@ returns-clause-parse g c =
     let r = c.build_tape.result in
     let held = g.S.NodeSink.held_nodes c.build_tape.new.sink in
     let scan = subst (λ b. HoldsScan b buffers) c.requires.input c.in_ok-find_positions.ensures.found in
-    subst (λ limit. IsParse b limit (capacity c.args.buffers.now) (result_err r) (written r held) c.build_tape.new.self.positions)
+    subst (λ limit. IsParse b limit (capacity c.args.buffers.now) (result_err r) (written r held) c.build_tape.new.self.index.listed)
     c.in_ok-find_positions.ensures.limit
     (parse-written r b buffers.limit _ held _ scan.whole c.build_tape.ensures.built c.build_tape.ensures.few
-    c.build_tape.ensures.refused (ap (λ r. r.positions) c.build_tape.ensures.same ∙ scan.listed))
+    c.build_tape.ensures.refused (ap (λ r. r.index.listed) c.build_tape.ensures.same ∙ scan.listed))

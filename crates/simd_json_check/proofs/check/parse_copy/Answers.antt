@@ -16,11 +16,11 @@ returns-in_err-extend_from_slice-clause-fault g c =
 pub returns-in_err-lengthen-clause-fault : goal.returns-in_err-lengthen-clause-fault
 returns-in_err-lengthen-clause-fault g c =
     let right = right-input c.args.input.now c.requires.whole in
-    let lacks = c.in_err-lengthen.ensures.fault in
+    let lacks = c.in_err-lengthen.ensures.failed in
     let few = few-positions c.args.input.now in
     let listed = ap length c.requires.positions in
-    passed-on c.from_residual-in_err-lengthen.result _ _ c.from_residual-in_err-lengthen.ensures.1
-    (inr ((lacks.0, right.0, right.1), inr (omega (arith, lacks.1, few, listed, c.min-open.ensures))))
+    passed-on c.from_residual-in_err-lengthen.result (whole_fault OutOfMemory) _ c.from_residual-in_err-lengthen.ensures.1
+    (inr ((refl, right.0, right.1), inr (omega (arith, lacks.1, few, listed, c.min-open.ensures))))
 
 pub returns-clause-document : goal.returns-clause-document
 returns-clause-document g c =
