@@ -1,14 +1,15 @@
 //! `log_fields KEY ..` reads JSON Lines from standard input and prints for each line the values of
 //! these keys, as they are written: a tab between two, and `-` for a key that is not there.
 //!
-//! A line is checked only where it is read. The program stops with status 3 at a line of more than
-//! 65,536 bytes, at one that is not UTF-8 or leaves a string open, and if reading, writing or an
-//! allocation fails.
+//! A line is checked only where it is read. Where a token stands there that is not expected, the
+//! rest of the line's values are `-` too, and the place is reported on standard error. The program
+//! stops with status 3 at a line of more than 65,536 bytes, at one that is not UTF-8 or leaves a
+//! string open, and if reading, writing or an allocation fails.
 #![tactic(auto)]
 
 use anyhow::{Result, bail};
 use memchr::memchr;
-use simd_json_ondemand::{ErrorType, Index, Value};
+use simd_json_ondemand::{ErrorType, Expected, Index, Unexpected, Value};
 use std::io::{BufRead, BufReader, BufWriter, Write};
 use std::process::ExitCode;
 use std::{env, io};
@@ -31,12 +32,17 @@ fn program(rt: &HostRuntime) -> Result<()> {
     let mut output = BufWriter::new(rt.alloc(), io::writer(rt))?;
     let mut index = Index::new(rt.alloc(), LONGEST)?;
     let mut line = Vec::with_capacity(rt.alloc(), LONGEST)?;
-    for _ in 0..u64::MAX {
+    for number in 1..u64::MAX {
         if !read_line(&mut input, &mut line)? {
             break;
         }
         match index.find(line.as_slice()) {
-            Ok(document) => print_fields(&mut output, document.as_value(), &words)?,
+            Ok(document) => {
+                let stopped = print_fields(&mut output, document.as_value(), &words)?;
+                if let Some(unexpected) = stopped {
+                    let _ = eprintln!(rt; "line {number}: {unexpected}");
+                }
+            }
             Err(error) if *error.error() == ErrorType::Eof => {}
             Err(error) => return Err(error.into()),
         }
@@ -45,16 +51,40 @@ fn program(rt: &HostRuntime) -> Result<()> {
     Ok(())
 }
 
-fn print_fields(output: &mut impl Write, line: Value<'_>, words: &[String]) -> Result<()> {
+// Prints the fields of a line. Returns where the line was read no further.
+fn print_fields(
+    output: &mut impl Write,
+    line: Value<'_>,
+    words: &[String],
+) -> Result<Option<Unexpected>> {
+    let mut stopped = None;
     let mut separator: &[u8] = b"";
     for key in words.iter().skip(1) {
-        let value = line.get(key.as_str()).and_then(|value| value.raw());
         output.write_all(separator)?;
-        output.write_all(value.unwrap_or(b"-"))?;
         separator = b"\t";
+        let mut written: &[u8] = b"-";
+        if stopped.is_none() {
+            match field(line, key.as_str()) {
+                Ok(Some(value)) => written = value,
+                Ok(None) => {}
+                Err(unexpected) => stopped = Some(unexpected),
+            }
+        }
+        output.write_all(written)?;
     }
     output.write_all(b"\n")?;
-    Ok(())
+    Ok(stopped)
+}
+
+// The value of a key, as it is written.
+fn field<'d>(line: Value<'d>, key: &str) -> std::result::Result<Option<&'d [u8]>, Unexpected> {
+    match line.try_get(key)? {
+        Some(value) => match value.raw() {
+            Some(bytes) => Ok(Some(bytes)),
+            None => Err(value.unexpected(Expected::Value)),
+        },
+        None => Ok(None),
+    }
 }
 
 // Reads a line without its line feed. Returns whether there is one.

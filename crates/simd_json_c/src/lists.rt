@@ -1,5 +1,5 @@
 //! The lists that calls with a parser use one after another, and what is done with them.
-ghost use Rattle.std.specs.Prelude.{◌≡◌, ◌⊎◌, List, IfOk, IfErr, IsUtf8, MatchResult, None, Some, pos};
+ghost use Rattle.std.specs.Prelude.{◌≡◌, ◌⊎◌, List, IfOk, IfErr, IsUtf8, None, Some, pos};
 ghost use Rattle.std.specs.Result.{result_err};
 ghost use Rattle.std.specs.Vec.{vec_capacity};
 ghost use Rattle.simd_json.specs.Capacities.{KeepsCapacities};
@@ -68,17 +68,17 @@ pub struct Lists {
 
 impl Lists {
     // Lists with this depth limit, which hold no memory yet.
-    pub(crate) fn new(alloc: Global, max_depth: usize) -> Result<Lists>
-        ensures { MatchResult result (AreNew max_depth) (λ _. ⊥) }
+    pub(crate) fn new(alloc: Global, max_depth: usize) -> Lists
+        ensures { AreNew max_depth result }
     {
-        Ok(Lists {
+        Lists {
             buffers: Buffers::empty(alloc, max_depth),
             tape: Tape::empty(alloc),
             printed: Vec::new(alloc),
             nodes: Vec::new(alloc),
             text: Vec::new(alloc),
-            source: Source::new(alloc)?,
-        })
+            source: Source::new(alloc),
+        }
     }
 
     // Returns 0 if the input is a document, or its error.

@@ -59,7 +59,7 @@ fn opened(alloc: Global, max_depth: usize) -> Option<Parser>
     ensures { IfSome result
         (λ parser. (lists : Lists) × (parser.held.value ≡ Some lists) × AreNew max_depth lists) }
 {
-    let lists = Lists::new(alloc, max_depth).ok()?;
+    let lists = Lists::new(alloc, max_depth);
     Some(Parser::open(Box::new(alloc, lists).ok()?))
 }
 

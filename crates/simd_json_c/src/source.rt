@@ -1,6 +1,6 @@
 //! An input that a parser keeps, with its structural indexes.
 ghost use Rattle.std.specs.Prelude.{◌≡◌, ℕ, pos, false, true, None, Ok, IfOk, IfErr, IsUtf8};
-ghost use Rattle.std.specs.Prelude.{MatchResult, option_map, Some};
+ghost use Rattle.std.specs.Prelude.{option_map, Some};
 ghost use Rattle.std.specs.Result.{result_ok};
 ghost use Rattle.simd_json_ondemand.specs.Docs.{doc};
 ghost use Rattle.simd_json_parts.specs.Answer.{answer};
@@ -29,14 +29,14 @@ pub struct Source {
 
 impl Source {
     // None, which holds no memory.
-    pub(crate) fn new(alloc: Global) -> Result<Source>
-        ensures { MatchResult result (λ source. source.is_scanned ≡ false) (λ _. ⊥) }
+    pub(crate) fn new(alloc: Global) -> Source
+        ensures { result.is_scanned ≡ false }
     {
-        Ok(Source {
+        Source {
             bytes: Vec::new(alloc),
-            index: Index::new(alloc, 0)?,
+            index: Index::empty(alloc),
             is_scanned: false,
-        })
+        }
     }
 
     // Keeps an input, in place of the one before, or none. Returns 0.

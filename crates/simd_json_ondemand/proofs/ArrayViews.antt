@@ -1,19 +1,16 @@
--- The array that begins at a value, and its elements as a cursor finds them.
-use Rattle.std.proofs.Common.{◌≡◌, refl, sym, ◌∙◌, ap, ℕ, ◌+◌, ◌<◌, ◌≤◌, false, List, length, map, drop, get_or}
-use Rattle.std.specs.Prelude.{Option, Some, None, option_map, slice_get}
+-- The array that begins at a value.
+use Rattle.std.proofs.Common.{◌≡◌, refl, sym, ◌∙◌, ap, ℕ, ◌+◌, ◌<◌, ◌≤◌, false, List, length, drop, get_or}
+use Rattle.std.specs.Prelude.{Some, None}
 use Rattle.std.proofs.lemmas.Bool.{ne_eqb}
-use Rattle.std.proofs.lemmas.Option.{slice_get-map}
 use Rattle.std.proofs.lemmas.List.{drop_more, drop_all}
 use Rattle.simd_json_parts.specs.Bytes.{byte_at}
 use Rattle.simd_json_parts.specs.Document.{Document, array, elements}
-use Rattle.simd_json_parts.specs.Views.{as_array, is_array, get_idx}
+use Rattle.simd_json_parts.specs.Views.{as_array, is_array}
 use Rattle.simd_json_ondemand.specs.Remaining.{elements_inside}
-use Rattle.simd_json_ondemand.specs.Tails.{tails_inside}
 use Rattle.simd_json_ondemand.specs.Viewed.{read_along}
 use Rattle.simd_json_ondemand.proofs.Agreement.{begins-at, array-is}
 use Rattle.simd_json_ondemand.proofs.Standing.{opens_array_byte}
 use Rattle.simd_json_ondemand.proofs.Sequence.Arrays.{InArray, opened, inside-none}
-use Rattle.simd_json_ondemand.proofs.Tails.{all_some, inside-found}
 
 none-array : (d : Document) → is_array d ≡ false → as_array d ≡ None
 none-array (array ds) h = cc
@@ -31,21 +28,3 @@ module _ (b is : List ℕ) (k : ℕ) (l : k < length is) (d : Document) (h : rea
 
     pub no-end : length is ≤ k + 1 → ⊥
     no-end m = inside-none b (elements within.held) (ap (elements_inside b) (sym (drop_all (k + 1) is m)) ∙ within.inside)
-
-    pub found-elements : Some (map (read_along b) (tails_inside b (drop (k + 1) is))) ≡ option_map all_some (as_array d)
-    found-elements = ap (λ xs. Some xs) (inside-found b (elements within.held) (drop (k + 1) is) within.inside)
-        ∙ ap (λ x. option_map all_some (as_array x)) (sym within.same)
-
--- ---- the element at an index
-
-pub no-element : (i : ℕ) (d : Document) → None ≡ option_map all_some (as_array d) → None ≡ option_map (λ e. Some e) (get_idx i d)
-no-element i (array ds) h = cc
-no-element i _ h = refl
-
-pub element-there : (xs : List (Option Document)) (i : ℕ) (d : Document) → Some xs ≡ option_map all_some (as_array d)
-    → slice_get xs i ≡ option_map (λ e. Some e) (get_idx i d)
-element-there xs i (array ds) h = ap (λ ys. slice_get ys i) (same h) ∙ slice_get-map (λ e. Some e) (elements ds) i
-  where
-    same : Some xs ≡ Some (all_some (elements ds)) → xs ≡ all_some (elements ds)
-    same h = cc
-element-there xs i _ h = cc

@@ -1,18 +1,16 @@
--- The object that begins at a value, and its members as a cursor finds them.
-use Rattle.std.proofs.Common.{◌≡◌, refl, sym, ◌∙◌, ap, ℕ, ◌+◌, ◌<◌, ◌≤◌, false, List, length, map, drop, get_or}
-use Rattle.std.specs.Prelude.{Some, None, option_map}
+-- The object that begins at a value.
+use Rattle.std.proofs.Common.{◌≡◌, refl, sym, ◌∙◌, ap, ℕ, ◌+◌, ◌<◌, ◌≤◌, false, List, length, drop, get_or}
+use Rattle.std.specs.Prelude.{Some, None}
 use Rattle.std.proofs.lemmas.Bool.{ne_eqb}
 use Rattle.std.proofs.lemmas.List.{drop_more, drop_all}
 use Rattle.simd_json_parts.specs.Bytes.{byte_at}
 use Rattle.simd_json_parts.specs.Document.{Document, object, members}
 use Rattle.simd_json_parts.specs.Views.{as_object, is_object}
 use Rattle.simd_json_ondemand.specs.Remaining.{members_inside}
-use Rattle.simd_json_ondemand.specs.MemberTails.{member_tails_inside, pair_along}
 use Rattle.simd_json_ondemand.specs.Viewed.{read_along}
 use Rattle.simd_json_ondemand.proofs.Agreement.{begins-at, object-is}
 use Rattle.simd_json_ondemand.proofs.Standing.{opens_object_byte}
 use Rattle.simd_json_ondemand.proofs.Sequence.Objects.{InObject, opened, inside-none}
-use Rattle.simd_json_ondemand.proofs.MemberTails.{all_members, inside-found}
 
 none-object : (d : Document) → is_object d ≡ false → as_object d ≡ None
 none-object (object ms) h = cc
@@ -30,7 +28,3 @@ module _ (b is : List ℕ) (k : ℕ) (l : k < length is) (d : Document) (h : rea
 
     pub no-end : length is ≤ k + 1 → ⊥
     no-end m = inside-none b (members within.held) (ap (members_inside b) (sym (drop_all (k + 1) is m)) ∙ within.inside)
-
-    pub found-members : Some (map (pair_along b) (member_tails_inside b (drop (k + 1) is))) ≡ option_map all_members (as_object d)
-    found-members = ap (λ xs. Some xs) (inside-found b (members within.held) (drop (k + 1) is) within.inside)
-        ∙ ap (λ x. option_map all_members (as_object x)) (sym within.same)

@@ -19,18 +19,20 @@ use Rattle.simd_json_ondemand.specs.Docs.{text, places, index_of, form, doc}
 use Rattle.simd_json_ondemand.specs.Iterated.{all_some}
 use Rattle.simd_json_ondemand.specs.IteratedMembers.{all_members}
 use Rattle.simd_json_ondemand.specs.Keys.{is_key}
-use Rattle.simd_json_ondemand.specs.Reached.{Reached, found, walk_to, element_reached, key_reached, member_reached, named_at}
+use Rattle.simd_json_ondemand.specs.Reached.{Reached, walk_to, element_reached, key_reached, member_reached, named_at}
 use Rattle.simd_json_ondemand.specs.Reached.{go_on, followed_at, pointed_at}
 use Rattle.simd_json_ondemand.specs.Sites.{Site, site, doc_at, element_site, pair_sites, array_sites, object_sites}
 use Rattle.simd_json_ondemand.specs.Standing.{opens_array, opens_object}
+use Rattle.simd_json_ondemand.specs.Stopped.{error_at, told}
 use Rattle.simd_json_ondemand.specs.Unexpected.{unexpected}
 use Rattle.simd_json_ondemand.specs.Walked.{array_walk, object_walk, refused, first_with}
-use Rattle.simd_json_ondemand.specs.Walks.{Walk, stopped, ended, came, whole, first, walk_past, walk_from, walk_by, ok_map}
+use Rattle.simd_json_ondemand.specs.Walks.{Walk, stopped, ended, came, found, whole, first, walk_past, walk_from, walk_by, ok_map}
 use Rattle.simd_json_ondemand.specs.Walks.{elements_seen, members_seen}
 use Rattle.simd_json_ondemand.specs.declared.array.Position.TheVariants.{First}
 use Rattle.simd_json_ondemand.specs.declared.unexpected.Expected.TheVariants.{Container}
 use Rattle.simd_json_ondemand.specs.declared.unexpected.Unexpected.{Unexpected}
 use Rattle.simd_json_ondemand.specs.declared.value.Value.{Value}
+use Rattle.simd_json_ondemand.specs.declared.walk.Stop.{Stop}
 use Rattle.simd_json_ondemand.proofs.Pointers.{element-named, element-nowhere, malformed-named, some-of}
 use Rattle.simd_json_ondemand.proofs.WalkViews.{opens-array, opens-object, array-whole, object-whole}
 use Rattle.simd_json_ondemand.proofs.Walks.{past-whole, whole-with}
@@ -234,24 +236,24 @@ module _ (t : List ℕ) (v : Value) (d : Document) (h : doc v ≡ Some d) where
       go _ same is o names = cc
 
   -- what a step finds is what the token names, and where it names nothing in a container no walk stopped
-  pub record IsStep (r : Result (Option Value) Unexpected) : Type 0 where
+  pub record IsStep (r : Result (Option Value) Stop) : Type 0 where
     pub finds : option_map doc (found r) ≡ some_of (result_ok (named t d))
-    pub container : IfErr r (λ e. e.expected ≡ Container)
+    pub container : IfErr r (λ s. s.expected ≡ Container)
 
-  of-ok : (r : Result (Option Value) Unexpected)
-      → ok_map (option_map doc_at) (ok_map (option_map site) r) ≡ Ok (some_of (result_ok (named t d))) → IsStep r
+  of-ok : (r : Result (Option Value) Stop)
+      → ok_map (option_map doc_at) (told (option_map site) r) ≡ Ok (some_of (result_ok (named t d))) → IsStep r
   of-ok (Ok None) is = record { finds = (let e : None ≡ some_of (result_ok (named t d)) = cc in e); container = tt }
   of-ok (Ok (Some w)) is = record { finds = (let e : Some (doc w) ≡ some_of (result_ok (named t d)) = cc in e); container = tt }
   of-ok (Err e) is = cc
 
-  of-err : (r : Result (Option Value) Unexpected) → ok_map (option_map site) r ≡ Err (refused Container v) → result_ok (named t d) ≡ None
+  of-err : (r : Result (Option Value) Stop) → told (option_map site) r ≡ Err (refused Container v) → result_ok (named t d) ≡ None
       → IsStep r
   of-err (Ok o) is none = cc
   of-err (Err e) is none =
-      let same : e ≡ refused Container v = cc in
+      let same : error_at e ≡ refused Container v = cc in
       record { finds = ap some_of (sym none); container = ap (λ x. x.expected) same }
 
-  pub is-step : (r : Result (Option Value) Unexpected) → ok_map (option_map site) r ≡ named_at t (site v) → IsStep r
+  pub is-step : (r : Result (Option Value) Stop) → told (option_map site) r ≡ named_at t (site v) → IsStep r
   is-step r is = go d refl
     where
       other : is_array d ≡ false → is_object d ≡ false → result_ok (named t d) ≡ None → IsStep r
@@ -263,6 +265,13 @@ module _ (t : List ℕ) (v : Value) (d : Document) (h : doc v ≡ Some d) where
       go _ same = other (ap is_array same) (ap is_object same) (ap (λ e. result_ok (named t e)) same)
 
 -- ---- a token further
+
+-- where a token leads nowhere, so does the pointer
+pub leads-nowhere : (r : Result (Option Value) Stop) (further : Site → Reached) → None ≡ found r
+    → found (go_on (told (option_map site) r) further) ≡ None
+leads-nowhere (Ok (Some w)) further h = cc
+leads-nowhere (Ok None) further h = refl
+leads-nowhere (Err s) further h = refl
 
 followed-by : (q : List ℕ) (s : Site) → (0 < length q → get_or q 0 0 ≡ 47) → followed_at (tokens_after q) s ≡ pointed_at q s
 followed-by [] s begins = refl

@@ -6,11 +6,10 @@ use Rattle.std.proofs.lemmas.List.{length-drop, drop-drop}
 use Rattle.simd_json_parts.specs.Bytes.{quote, comma, colon, right_bracket, right_brace, byte_at}
 use Rattle.simd_json_ondemand.specs.Closing.{span}
 use Rattle.simd_json_ondemand.specs.Docs.{text, places}
-use Rattle.simd_json_ondemand.specs.MemberTails.{pair_along}
 use Rattle.simd_json_ondemand.specs.Viewed.{read_along}
 use Rattle.simd_json_ondemand.specs.Walks.{Walk, stopped, ended, came, ok_map, and_ok, and_some, begins_value, value_here, behind_token}
 use Rattle.simd_json_ondemand.specs.Walks.{behind_item, first_item, item_ahead, element_ahead, member_here, member_ahead, walk_by}
-use Rattle.simd_json_ondemand.specs.Walks.{elements_seen, members_seen, elements_walk, members_walk}
+use Rattle.simd_json_ondemand.specs.Walks.{elements_seen, members_seen, elements_walk, members_walk, pair_along}
 use Rattle.simd_json_ondemand.specs.Within.{after_last}
 use Rattle.simd_json_ondemand.specs.declared.array.Position.{Position}
 use Rattle.simd_json_ondemand.specs.declared.array.Position.TheVariants.{First, AtValue, AfterValue}
@@ -182,6 +181,16 @@ module _ (b : List ℕ) where
       → elements_walk b position is ≡ stopped e
   elements-stop = elements-seen-stop (read_along b)
 
+  -- after a value it is the same as from the token behind it on
+  pub elements-behind : (is : List ℕ) → elements_walk b AfterValue (drop (span b is) is) ≡ elements_walk b AtValue is
+  elements-behind is = go (element_ahead b AtValue is) refl
+    where
+      go : (r : Result (Option (List ℕ)) Unexpected) → element_ahead b AtValue is ≡ r
+          → elements_walk b AfterValue (drop (span b is) is) ≡ elements_walk b AtValue is
+      go (Ok (Some js)) h = element-comes AfterValue (drop (span b is) is) js h ∙ sym (element-comes AtValue is js h)
+      go (Ok None) h = elements-end AfterValue (drop (span b is) is) h ∙ sym (elements-end AtValue is h)
+      go (Err e) h = elements-stop AfterValue (drop (span b is) is) e h ∙ sym (elements-stop AtValue is e h)
+
   member-left : (position : Position) (is : List ℕ) → IsLeft (length is) (member_ahead b position is)
   member-left position is js h =
       let t = then-is (item_ahead b right_brace expected.CommaOrBrace position is) (member_here b) js h in
@@ -234,6 +243,18 @@ module _ (b : List ℕ) where
       go (Err e) h = members-stop AfterValue (drop (span b is) is) e h ∙ sym (members-stop AtValue is e h)
 
 -- and after the value that a cursor returned last
+pub elements-passed : (d : Document) (at end : ℕ) (position : Position) → after_last d at position ≡ Some end
+    → elements_walk (text d) AfterValue (drop end (places d)) ≡ elements_walk (text d) position (drop at (places d))
+elements-passed d at end First e = cc
+elements-passed d at end AtValue e =
+    let n : ℕ = span (text d) (drop at (places d)) in
+    let same : at + n ≡ end = cc in
+    ap (λ k. elements_walk (text d) AfterValue (drop k (places d))) (sym same)
+    ∙ ap (elements_walk (text d) AfterValue) (sym (drop-drop n at (places d))) ∙ elements-behind (text d) (drop at (places d))
+elements-passed d at end AfterValue e =
+    let same : at ≡ end = cc in
+    ap (λ k. elements_walk (text d) AfterValue (drop k (places d))) (sym same)
+
 pub members-passed : (d : Document) (at end : ℕ) (position : Position) → after_last d at position ≡ Some end
     → members_walk (text d) AfterValue (drop end (places d)) ≡ members_walk (text d) position (drop at (places d))
 members-passed d at end First e = cc

@@ -8,33 +8,36 @@ use Rattle.std.proofs.lemmas.Option.{slice_get-map}
 use Rattle.simd_json_parts.specs.Bytes.{byte_at}
 use Rattle.simd_json_parts.specs.Document.{Document, elements, array, members, object, string}
 use Rattle.simd_json_parts.specs.Tokens.{Form, string_token, form_at}
-use Rattle.simd_json_parts.specs.Views.{as_array, as_object, is_array, is_object, try_at, try_get, try_get_idx}
+use Rattle.simd_json_parts.specs.Views.{as_array, as_object, get, get_idx, is_array, is_object, try_at, try_get, try_get_idx}
 use Rattle.simd_json_parts.specs.declared.node.ValueType.TheVariants as kinds
 use Rattle.simd_json_stages.proofs.Machine.Steps.{is_string}
 use Rattle.simd_json_stages.proofs.Tokens.TokenForms as forms
 use Rattle.simd_json_ondemand.specs.Docs.{text, places, index_of, form, doc}
+use Rattle.simd_json_ondemand.specs.Iterated.{all_some}
+use Rattle.simd_json_ondemand.specs.IteratedMembers.{all_members}
 use Rattle.simd_json_ondemand.specs.Standing.{opens_array, opens_object}
 use Rattle.simd_json_ondemand.specs.Viewed.{read_along}
 use Rattle.simd_json_ondemand.specs.Walked.{array_seen, object_seen, array_walk, object_walk, refused, first_with, string_wanted}
+use Rattle.simd_json_ondemand.specs.Stopped.{error_at, told}
 use Rattle.simd_json_ondemand.specs.Unexpected.{unexpected}
-use Rattle.simd_json_ondemand.specs.Walks.{stopped, ended, came, whole, first, walk_past, walk_from, ok_map, elements_walk, members_walk}
-use Rattle.simd_json_ondemand.specs.Walks.{elements_seen, members_seen}
+use Rattle.simd_json_ondemand.specs.Walks.{stopped, ended, came, whole, first, walk_past, walk_from, ok_map}
+use Rattle.simd_json_ondemand.specs.Walks.{elements_walk, members_walk}
+use Rattle.simd_json_ondemand.specs.Walks.{Walk, elements_seen, found, items, members_seen}
 use Rattle.simd_json_ondemand.specs.declared.array.Position.TheVariants.{First}
 use Rattle.simd_json_ondemand.specs.declared.unexpected.Expected.TheVariants.{Kind}
 use Rattle.simd_json_ondemand.specs.declared.unexpected.Expected.TheVariants as expected
 use Rattle.simd_json_ondemand.specs.declared.unexpected.Unexpected.{Unexpected}
 use Rattle.simd_json_ondemand.specs.declared.value.Value.{Value}
+use Rattle.simd_json_ondemand.specs.declared.walk.Stop.{Stop}
 use Rattle.simd_json_ondemand.proofs.Agreement.{begins-at, array-is, object-is}
 use Rattle.simd_json_ondemand.proofs.ArrayViews as arrays
-use Rattle.simd_json_ondemand.proofs.MemberTails.{all_members}
 use Rattle.simd_json_ondemand.proofs.ObjectViews as objects
 use Rattle.simd_json_ondemand.proofs.Sequence.Arrays.{InArray}
 use Rattle.simd_json_ondemand.proofs.Sequence.Objects.{InObject}
 use Rattle.simd_json_ondemand.proofs.Standing.{opens_array_byte, opens_object_byte}
-use Rattle.simd_json_ondemand.proofs.Tails.{all_some}
 use Rattle.simd_json_ondemand.proofs.Turns.{elements-seen-stop, members-seen-stop}
 use Rattle.simd_json_ondemand.proofs.Walks.{Pairs, inside-walk, inside-members, from-stopped}
-use Rattle.simd_json_ondemand.proofs.Walks.{whole-with, past-whole, past-stopped}
+use Rattle.simd_json_ondemand.proofs.Walks.{items-whole, whole-with, past-whole, past-stopped}
 
 -- ---- the walk inside
 
@@ -104,13 +107,28 @@ idx-found i v (array ds) h =
     ∙ ap (λ o. Some o) (slice_get-map (λ e. Some e) (elements ds) i)
 idx-found i v d h = ap (λ w. result_ok (first (walk_past i w))) (array-none v d h refl) ∙ ap (λ w. result_ok (first w)) (past-stopped i _)
 
-pub found-with : (key : List ℕ) (r : Result (Option Value) Unexpected) (w more : Pairs) (P : Type 0)
+pub got : (key : List ℕ) (v : Value) (d : Document) → doc v ≡ Some d
+    → found (first_with key (object_walk v)) ≡ option_map (λ e. Some e) (get key d)
+got key v (object ms) h =
+    let same : object_walk v ≡ whole (all_members (members ms)) = (let e = object-whole v (object ms) h refl in cc) in
+    ap (λ w. found (first_with key w)) same ∙ ap found (whole-with key ms)
+got key v d h = ap (λ w. found (first_with key w)) (object-none v d h refl) ∙ ap found (stopped-with key _)
+
+pub idx-got : (i : ℕ) (v : Value) (d : Document) → doc v ≡ Some d
+    → found (first (walk_past i (array_walk v))) ≡ option_map (λ e. Some e) (get_idx i d)
+idx-got i v (array ds) h =
+    let same : array_walk v ≡ whole (all_some (elements ds)) = (let e = array-whole v (array ds) h refl in cc) in
+    ap (λ w. found (first (walk_past i w))) same ∙ ap found (past-whole (all_some (elements ds)) i)
+    ∙ slice_get-map (λ e. Some e) (elements ds) i
+idx-got i v d h = ap (λ w. found (first (walk_past i w))) (array-none v d h refl) ∙ ap (λ w. found (first w)) (past-stopped i _)
+
+pub found-with : (key : List ℕ) (r : Result (Option Value) Stop) (w more : Pairs) (P : Type 0)
     → MatchResult r (λ found. MatchOption found ((walk_from key w ≡ ended) × P)
-    (λ v. walk_from key w ≡ came (Some (string key), doc v) more)) (λ e. (walk_from key w ≡ stopped e) × P)
-    → ok_map (option_map doc) r ≡ first_with key w
+    (λ v. walk_from key w ≡ came (Some (string key), doc v) more)) (λ s. (walk_from key w ≡ stopped (error_at s)) × P)
+    → told (option_map doc) r ≡ first_with key w
 found-with key (Ok (Some v)) w more P m = sym (ap (λ u. ok_map (option_map (λ m. m.1)) (first u)) m)
 found-with key (Ok None) w more P m = sym (ap (λ u. ok_map (option_map (λ m. m.1)) (first u)) m.0)
-found-with key (Err e) w more P m = sym (ap (λ u. ok_map (option_map (λ m. m.1)) (first u)) m.0)
+found-with key (Err s) w more P m = sym (ap (λ u. ok_map (option_map (λ m. m.1)) (first u)) m.0)
 
 -- ---- a value that begins no array or no object
 
@@ -156,3 +174,14 @@ no-string-wanted b i ne = go (form_at b i) (forms.no_string b i ne)
     go : (form : Form) → is_string form ≡ false → string_wanted form ≡ Kind kinds.String
     go (string_token read) h = cc
     go _ h = refl
+
+-- ---- what is left of a whole walk
+
+module _ {A B C : Type 0} (ahead : A → Walk C) (all : B → List C) where
+  pub left-of-whole : (o : Option A) (p : Option B) → option_map ahead o ≡ option_map (λ x. whole (all x)) p
+      → option_map (λ a. items (ahead a)) o ≡ option_map all p
+  left-of-whole (Some a) (Some x) h = let same : ahead a ≡ whole (all x) = cc in ap (λ w. Some (items w)) same ∙ ap (λ xs. Some xs)
+      (items-whole (all x))
+  left-of-whole None None h = refl
+  left-of-whole (Some a) None h = cc
+  left-of-whole None (Some x) h = cc

@@ -1,18 +1,19 @@
 -- Walks along a document: its elements or members come, and then the end.
-use Rattle.std.proofs.Common.{◌≡◌, ◌≢◌, refl, sym, ◌∙◌, ap, ap₂, ℕ, zero, suc, ◌<◌, ◌-◌, Bool, true, false, cond, ◌==◌, ◌||◌, inl, inr}
-use Rattle.std.proofs.Common.{List, [], ◌∷◌, length, drop, arith, bytes_eq}
+use Rattle.std.proofs.Common.{◌≡◌, ◌≢◌, refl, sym, ◌∙◌, ap, ap₂, ℕ, zero, suc, ◌<◌, ◌≤◌, ◌-◌, Bool, true, false, cond, ◌==◌, ◌||◌, inl, inr}
+use Rattle.std.proofs.Common.{List, [], ◌∷◌, length, drop, arith, bytes_eq, get_or}
 use Rattle.std.specs.Prelude.{Option, Some, None, Result, Ok, Err, option_map, option_and_then, slice_get}
 use Rattle.std.specs.Char.{is_ascii_digit}
 use Rattle.std.proofs.lemmas.Bool.{cases_Bool, cond-true, cond-false, eqb-true, false≢true}
 use Rattle.simd_json_parts.specs.AtomAt.{atom_at}
 use Rattle.simd_json_parts.specs.Bytes.{byte_at, comma}
-use Rattle.simd_json_parts.specs.Descent.{after_element, after_member, elements_by, members_by, value_from}
+use Rattle.simd_json_parts.specs.Descent.{after_element, after_member, array_from, elements_by, members_by, object_from, value_from}
+use Rattle.simd_json_parts.specs.Descent.{value_of}
 use Rattle.simd_json_parts.specs.Document.{Document, Members, no_members, member, members, string}
 use Rattle.simd_json_parts.specs.Faults.{fault_at}
 use Rattle.simd_json_parts.specs.NumberAt.{number_at}
 use Rattle.simd_json_parts.specs.StringAt.{string_at}
 use Rattle.simd_json_parts.specs.Tokens.{Form, begin_array, end_array, begin_object, end_object, name_separator, value_separator}
-use Rattle.simd_json_parts.specs.Tokens.{string_token, scalar, stray, form_at}
+use Rattle.simd_json_parts.specs.Tokens.{Token, string_token, scalar, stray, form_at}
 use Rattle.simd_json_parts.specs.TokensAlong.{goes_on, tokens_along}
 use Rattle.simd_json_parts.specs.Views.{as_str, first_with}
 use Rattle.simd_json_parts.specs.declared.error.Error.{Error}
@@ -20,28 +21,27 @@ use Rattle.simd_json_parts.specs.declared.error.ErrorType.TheVariants.{Syntax, E
 use Rattle.simd_json_stages.proofs.Machine.Steps.{ends_element, ends_member}
 use Rattle.simd_json_stages.proofs.Tokens.TokenForms as forms
 use Rattle.simd_json_ondemand.specs.Closing.{span}
+use Rattle.simd_json_ondemand.specs.Iterated.{all_some}
+use Rattle.simd_json_ondemand.specs.IteratedMembers.{all_members}
 use Rattle.simd_json_ondemand.specs.Keys.{is_key}
-use Rattle.simd_json_ondemand.specs.MemberTails.{pair_along}
 use Rattle.simd_json_ondemand.specs.Remaining.{value_at_first, listed, paired, elements_inside, elements_behind}
 use Rattle.simd_json_ondemand.specs.Remaining.{members_inside, members_behind}
 use Rattle.simd_json_ondemand.specs.Unexpected.{unexpected}
-use Rattle.simd_json_ondemand.specs.Viewed.{read_along}
+use Rattle.simd_json_ondemand.specs.Viewed.{first_read, read_along}
 use Rattle.simd_json_ondemand.specs.Walked as walks
 use Rattle.simd_json_ondemand.specs.Walks.{Walk, stopped, ended, came, whole, first, walk_past, walk_from, ok_map, and_ok, and_some}
 use Rattle.simd_json_ondemand.specs.Walks.{or_walk, walk_round}
 use Rattle.simd_json_ondemand.specs.Walks.{begins_value, value_here, behind_token, behind_item, member_here}
-use Rattle.simd_json_ondemand.specs.Walks.{elements_walk, members_walk}
+use Rattle.simd_json_ondemand.specs.Walks.{elements_walk, items, members_walk, pair_along, walk_by}
 use Rattle.simd_json_ondemand.specs.declared.array.Position.TheVariants.{First, AtValue}
 use Rattle.simd_json_ondemand.specs.declared.unexpected.Expected.TheVariants as expected
 use Rattle.simd_json_ondemand.specs.declared.unexpected.Unexpected.{Unexpected}
 use Rattle.simd_json_ondemand.proofs.Agreement.{Begins, begins-at}
 use Rattle.simd_json_ondemand.proofs.Lookup.{key-is}
-use Rattle.simd_json_ondemand.proofs.MemberTails.{all_members, key-read}
 use Rattle.simd_json_ondemand.proofs.Sequence.Arrays.{AtElement, inside-end, inside-none, inside-element, behind-comma, behind-end}
 use Rattle.simd_json_ondemand.proofs.Sequence.Arrays.{behind-none}
 use Rattle.simd_json_ondemand.proofs.Sequence.Objects as objects
 use Rattle.simd_json_ondemand.proofs.Sequence.Objects.{AtMember}
-use Rattle.simd_json_ondemand.proofs.Tails.{all_some}
 use Rattle.simd_json_ondemand.proofs.Turns.{Ahead, element-comes, elements-end, member-comes, members-end}
 
 -- ---- a value begins with its first byte
@@ -204,6 +204,17 @@ module _ (b : List ℕ) where
       ahead js x = and_some (cond (x == 125) (Ok None) (ok_map (λ us. Some us)
           (cond (x == 44) (Ok js) (Err (unexpected b expected.CommaOrBrace (j ∷ js)))))) (member_here b)
 
+  key-read : (is : List ℕ) (key : List ℕ) (end : ℕ) → 0 < length is → byte_at b (get_or is 0 0) ≡ 34
+      → string_at b (get_or is 0 0) ≡ Ok (key, end) → read_along b is ≡ Some (string key)
+  unfolding value_from
+  key-read [] key end l q s = absurd (omega arith)
+  key-read (i ∷ is) key end l q s =
+      let m : Error = fault_at b Syntax 0 in
+      let rest : List Token = cond (goes_on (form_at b i)) (tokens_along b is) [] in
+      ap (λ form. first_read (value_of b m (λ _. array_from b m (value_from b m (length rest)))
+      (λ _. object_from b m (value_from b m (length rest))) (record { index = i; form = form_at b i }) form rest))
+      (forms.quotes b i q ∙ ap string_token s)
+
   -- from a member on
   member-walk : (ms : List (List ℕ × Document)) (is : List ℕ) → AtMember b is ms
       → came (pair_along b is) (members_walk b AtValue (drop 2 is)) ≡ whole (all_members ms)
@@ -212,7 +223,7 @@ module _ (b : List ℕ) where
   member-walk (m ∷ ms) is a =
       let same : (a.key, a.document) ≡ m = (let e = a.all in cc) in
       let rest : a.others ≡ ms = (let e = a.all in cc) in
-      let key : read_along b is ≡ Some (string a.key) = key-read b is a.key a.end (omega (arith, a.fits)) a.quote a.string in
+      let key : read_along b is ≡ Some (string a.key) = key-read is a.key a.end (omega (arith, a.fits)) a.quote a.string in
       ap (λ x. came x (members_walk b AtValue (drop 2 is)))
       (ap₂ (λ x y. (x, y)) key a.read ∙ ap (λ m. (Some (string m.0), Some m.1)) same)
       ∙ ap (came (Some (string m.0), Some m.1)) (behind-members ms (member-walk ms) (drop 2 is) (drop (span b (drop 2 is)) (drop 2 is)) refl
@@ -235,6 +246,33 @@ module _ (b : List ℕ) where
     where
       empty : members_inside b (i ∷ is) ≡ Some [] → [] ≡ ms
       empty h = cc
+
+-- ---- items
+
+pub items-whole : {A : Type 0} (xs : List A) → items (whole xs) ≡ xs
+unfolding items whole
+items-whole [] = refl
+items-whole (x ∷ xs) = ap (λ ys. x ∷ ys) (items-whole xs)
+
+pub items-came : {A : Type 0} (x : A) (w : Walk A) → items (came x w) ≡ x ∷ items w
+unfolding items
+items-came x w = refl
+
+pub items-ended : {A : Type 0} → items {A = A} ended ≡ []
+unfolding items
+items-ended = refl
+
+pub items-stopped : {A : Type 0} (e : Unexpected) → items {A = A} (stopped e) ≡ []
+unfolding items
+items-stopped e = refl
+
+-- no more than turns
+pub few-items : {A : Type 0} (view : List ℕ → A) (next : List ℕ → Ahead) (n : ℕ) (r : Ahead) → length (items (walk_by view next n r)) ≤ n
+unfolding items walk_by
+few-items view next n (Err e) = omega arith
+few-items view next n (Ok None) = omega arith
+few-items view next zero (Ok (Some is)) = omega arith
+few-items view next (suc n) (Ok (Some is)) = omega (arith, few-items view next n (next is))
 
 -- ---- searches
 

@@ -1,8 +1,9 @@
 -- Of a value that is read there are bytes: a container has its closing bracket.
 use Rattle.std.proofs.Common.{◌≡◌, refl, sym, ◌∙◌, ap, subst, ℕ, ◌+◌, ◌-◌, ◌<◌, ◌≤◌, zero, suc, Bool, true, false, ◌||◌}
-use Rattle.std.proofs.Common.{List, length, drop, get_or, arith}
+use Rattle.std.proofs.Common.{List, ◌∷◌, length, drop, get_or, arith}
 use Rattle.std.specs.Prelude.{Option, Some, None, option_map, Result, Ok, Err, is_some, cond, slice_range}
 use Rattle.std.specs.List.Sorted.{IsStrictlyIncreasing}
+use Rattle.std.proofs.lemmas.Bool.{cond_both}
 use Rattle.std.proofs.lemmas.List.{get_or-drop, drop_more}
 use Rattle.simd_json_parts.proofs.Positions.Order.{IsStrictlyIncreasing-positions}
 use Rattle.simd_json_parts.specs.Bytes.{byte_at}
@@ -10,7 +11,7 @@ use Rattle.simd_json_parts.specs.Document.{Document}
 use Rattle.simd_json_parts.specs.Tokens.{Form, begin_array, begin_object, string_token, scalar, Token, form_at}
 use Rattle.simd_json_parts.specs.TokensAlong.{tokens_along}
 use Rattle.simd_json_parts.specs.declared.error.Error.{Error}
-use Rattle.simd_json_ondemand.specs.Closing.{is_opening, is_closing, span}
+use Rattle.simd_json_ondemand.specs.Closing.{closed_at, first_bytes, is_opening, is_closing, span}
 use Rattle.simd_json_ondemand.specs.Remaining.{value_at_first}
 use Rattle.simd_json_ondemand.specs.Viewed.{first_read, read_along}
 use Rattle.simd_json_ondemand.specs.Standing.{opens_array, opens_object, literal_end}
@@ -19,9 +20,12 @@ use Rattle.simd_json_ondemand.specs.Docs.{doc, text, index_of, form, literal}
 use Rattle.simd_json_ondemand.specs.Written.{last_index, enclosed, written}
 use Rattle.simd_json_ondemand.specs.declared.value.Value.{Value}
 use Rattle.simd_json_ondemand.proofs.Standing.{opens_array_byte, opens_object_byte}
-use Rattle.simd_json_ondemand.proofs.Tails.{span-some}
 use Rattle.simd_json_ondemand.proofs.Agreement.{Begins, begins-at}
 use Rattle.simd_json_ondemand.proofs.Sequence.Reading.{spans}
+
+span-some : (b : List ℕ) (i : ℕ) (is : List ℕ) → 0 < span b (i ∷ is)
+span-some b i is = cond_both (is_opening (byte_at b i)) (suc (closed_at 1 (first_bytes b is))) 1 (λ n. 0 < n) (λ _. omega arith)
+    (λ _. omega arith)
 
 -- structural indexes rise
 rising : (is : List ℕ) → IsStrictlyIncreasing is → (j n : ℕ) → j + n < length is → get_or is j 0 ≤ get_or is (j + n) 0

@@ -2,18 +2,18 @@
 use Rattle.std.specs.Prelude.{ℕ, List, map, Option, Some}
 use Rattle.simd_json_parts.specs.Document as parts
 use Rattle.simd_json_ondemand.specs.Docs.{doc}
-use Rattle.simd_json_ondemand.specs.MemberTails.{pairs_at}
-use Rattle.simd_json_ondemand.specs.declared.array.Position.TheVariants.{First}
+use Rattle.simd_json_ondemand.specs.Walked.{members_ahead, members_from_first}
+use Rattle.simd_json_ondemand.specs.Walks.{items}
 use Rattle.simd_json_ondemand.specs.declared.object.Object.{Object}
 use Rattle.simd_json_ondemand.specs.declared.value.Value.{Value}
 
 -- of each member that it comes to the documents that begin at the key and at the value, if they do
 abbrev pub members_left : Object → List (Option parts.Document × Option parts.Document)
-members_left o = pairs_at o.document o.at o.position
+members_left o = items (members_ahead o)
 
 -- the same of all members of the object
 abbrev pub members_of : Object → List (Option parts.Document × Option parts.Document)
-members_of o = pairs_at o.document o.first First
+members_of o = items (members_from_first o)
 
 abbrev pub pair_doc : Value × Value → Option parts.Document × Option parts.Document
 pair_doc p = (doc p.0, doc p.1)

@@ -3,23 +3,22 @@ pub mod Viewed
 pub mod Standing
 pub mod Docs
 pub mod Numerals
--- Where values end by brackets, what is left of arrays and objects, and where a cursor goes.
+-- Where values end by brackets, and what is left of arrays and objects.
 pub mod Closing
 pub mod Written
 pub mod Remaining
-pub mod Tails
-pub mod Iterated
-pub mod MemberTails
-pub mod IteratedMembers
 pub mod Within
 -- Look-up by key.
 pub mod Keys
 pub mod Wanted
 -- The lines of a stream.
 pub mod Lines
--- Walks that tell their end from a place where they stop.
+-- Walks along arrays and objects, which tell their end from a place where they stop.
 pub mod Unexpected
 pub mod Walks
 pub mod Walked
+pub mod Iterated
+pub mod IteratedMembers
+pub mod Stopped
 pub mod Sites
 pub mod Reached

@@ -18,11 +18,6 @@ use Rattle.simd_json_ondemand.specs.declared.unexpected.Unexpected.{Unexpected}
 abbrev pub Reached : Type 0
 Reached = Result (Option Site) Unexpected
 
--- what is there, if something is
-abbrev pub found : {A E : Type 0} → Result (Option A) E → Option A
-found (Ok o) = o
-found (Err e) = None
-
 -- from the first member with the key on
 unfoldable pub walk_to : List ℕ → Walk (Site × Site) → Walk (Site × Site)
 walk_to key (came m w) = if is_key key (option_and_then as_str (doc_at m.0)) then came m w else walk_to key w

@@ -4,12 +4,11 @@ use Rattle.simd_json_parts.specs.Accessors.{Accessor}
 use Rattle.simd_json_parts.specs.Document as parts
 use Rattle.simd_json_parts.specs.Tokens.{Form, string_token}
 use Rattle.simd_json_ondemand.specs.Docs.{text, places, form, as_standing}
-use Rattle.simd_json_ondemand.specs.MemberTails.{pair_along}
 use Rattle.simd_json_ondemand.specs.Standing.{opens_array, opens_object}
 use Rattle.simd_json_ondemand.specs.Unexpected.{unexpected}
 use Rattle.simd_json_ondemand.specs.Viewed.{read_along}
 use Rattle.simd_json_ondemand.specs.Walks.{Walk, stopped, first, ok_map, elements_seen, members_seen, elements_walk, members_walk}
-use Rattle.simd_json_ondemand.specs.Walks.{walk_from}
+use Rattle.simd_json_ondemand.specs.Walks.{pair_along, walk_from}
 use Rattle.simd_json_ondemand.specs.declared.array.Array.{Array}
 use Rattle.simd_json_ondemand.specs.declared.array.Position.TheVariants.{First}
 use Rattle.simd_json_ondemand.specs.declared.object.Object.{Object}

@@ -9,7 +9,6 @@ use Rattle.simd_json_parts.specs.Document as parts
 use Rattle.simd_json_parts.specs.Views.{as_str}
 use Rattle.simd_json_ondemand.specs.Closing.{span}
 use Rattle.simd_json_ondemand.specs.Keys.{is_key}
-use Rattle.simd_json_ondemand.specs.MemberTails.{pair_along}
 use Rattle.simd_json_ondemand.specs.Unexpected.{unexpected}
 use Rattle.simd_json_ondemand.specs.Viewed.{read_along}
 use Rattle.simd_json_ondemand.specs.declared.array.Position.{Position}
@@ -32,11 +31,21 @@ and_some (Ok (Some x)) f = ok_map (λ y. Some y) (f x)
 and_some (Ok None) f = Ok None
 and_some (Err e) f = Err e
 
+-- what was found, if something was
+abbrev pub found : {A E : Type 0} → Result (Option A) E → Option A
+found (Ok o) = o
+found (Err e) = None
+
 -- what is left to come: nothing, since the walk stopped or the container ended, or an item and more
 pub data Walk (A : Type 0) : Type 0 where
   stopped : Unexpected → Walk A
   ended : Walk A
   came : A → Walk A → Walk A
+
+-- the items, without how the walk ends
+unfoldable pub items : {A : Type 0} → Walk A → List A
+items (came x w) = x ∷ items w
+items w = []
 
 -- all of a list, to the end
 unfoldable pub whole : {A : Type 0} → List A → Walk A
@@ -119,6 +128,10 @@ elements_seen view b position is = walk_by view (element_ahead b AtValue) (lengt
 abbrev pub members_seen : {A : Type 0} → (List ℕ → A) → List ℕ → Position → List ℕ → Walk A
 members_seen view b position is =
     walk_by view (λ ks. member_ahead b AtValue (drop 2 ks)) (length is) (member_ahead b position is)
+
+-- the documents of a key and of its value
+abbrev pub pair_along : List ℕ → List ℕ → Option parts.Document × Option parts.Document
+pair_along b is = (read_along b is, read_along b (drop 2 is))
 
 -- the documents that begin at the elements, and at the keys and the values of members
 abbrev pub elements_walk : List ℕ → Position → List ℕ → Walk (Option parts.Document)

@@ -1,5 +1,6 @@
 -- Where containers end among the structural indexes, by counting brackets, and a cursor inside a container.
-use Rattle.std.specs.Prelude.{◌≡◌, ℕ, ◌+◌, List, drop, Option, Some, None}
+use Rattle.std.specs.Prelude.{◌≡◌, ◌≢◌, ◌<◌, ℕ, ◌+◌, List, length, drop, slice_index, Option, Some, None}
+use Rattle.simd_json_parts.specs.Bytes.{comma, byte_at}
 use Rattle.simd_json_parts.specs.Document as parts
 use Rattle.simd_json_ondemand.specs.Closing.{closed_at, first_bytes, span}
 use Rattle.simd_json_ondemand.specs.Docs.{text, places}
@@ -64,6 +65,16 @@ pub record IsInObject (v : Value) (o : Object) : Type 0 where
 pub record AreInSameObject (o p : Object) : Type 0 where
   pub document : p.document ≡ o.document
   pub first : p.first ≡ o.first
+
+-- Where the item that a cursor comes to next is to begin: behind a comma, or where no bracket closes the container. They
+-- serve proofs: only the crate's private clauses cite them.
+abbrev pub IsBehindComma : Document → ℕ → ℕ → Type 0
+IsBehindComma d at next = (at < length (places d)) × (byte_at (text d) (slice_index (places d) at) ≡ comma) × (next ≡ at + 1)
+
+abbrev pub IsItemAt : ℕ → Document → ℕ → Position → ℕ → Type 0
+IsItemAt close d at First next = (byte_at (text d) (slice_index (places d) at) ≢ close) × (next ≡ at)
+IsItemAt close d at AtValue next = IsBehindComma d (after_value d at) next
+IsItemAt close d at AfterValue next = IsBehindComma d at next
 
 -- A cursor that comes to a value at `next` is in the same container as before. They serve proofs: only the crate's private clauses
 -- cite them.

@@ -2,8 +2,10 @@
 ghost use Rattle.std.specs.Prelude.{◌<◌, length};
 
 use crate::end::End;
-use crate::skip::skip;
+use crate::unexpected::Expected;
 use crate::value::{Document, Value};
+use crate::walk::{Stop, found};
+use simd_json_parts::node::ValueType;
 use std::iter::FusedIterator;
 
 /// Where a cursor is among the structural indexes.
@@ -20,85 +22,15 @@ pub(crate) enum Position {
 /// The values of an array that are left: an iterator, which can be copied. A value is skipped when
 /// the one after it is asked for, in time linear in the number of its tokens.
 ///
-/// Over bytes that are no document the values end where no comma follows. The iterator does not
-/// tell that from the end of the array; [`try_next`](Array::try_next) does.
+/// Over bytes that are no document the values end where the walk stops: where neither a comma nor
+/// the closing bracket follows a value, or no value begins. The iterator does not tell that from
+/// the end of the array; [`try_next`](Array::try_next) does.
 #[derive(Clone, Copy, Debug)]
 pub struct Array<'d> {
     pub(crate) document: Document<'d>,
     pub(crate) at: usize,
     pub(crate) position: Position,
     ghost inside: { at < length document.indexes.now },
-}
-
-impl<'d> Document<'d> {
-    ghost use Rattle.std.specs.Prelude.{◌≡◌, ◌<◌, ◌≤◌, [], ◌∷◌, length, drop, slice_index};
-    ghost use Rattle.std.specs.Prelude.{MatchOption, IfSome};
-    ghost use Rattle.simd_json_ondemand.specs.Docs.{places, text};
-    ghost use Rattle.simd_json_ondemand.specs.Within.{StaysInArray};
-    ghost use Rattle.simd_json_parts.specs.Bytes.{byte_at};
-    ghost use Rattle.simd_json_ondemand.specs.Tails.{tails_at};
-    ghost use Rattle.simd_json_ondemand.specs.declared.array.Position.TheVariants.{First, AtValue};
-    ghost use Rattle.simd_json_ondemand.specs.declared.array.Position.TheVariants.{AfterValue};
-
-    // The first byte of the token with this structural index.
-    #[inline(always)]
-    #[tactic(auto, using(simd_json_check::proofs::Scans::within))]
-    pub(crate) fn byte(self, at: usize) -> u8
-        requires { at < length (places self) }
-        ensures { result ≡ byte_at (text self.entry) (slice_index (places self.entry) at) }
-    {
-        self.input[self.indexes[at] as usize]
-    }
-
-    // The number of the structural index at which the first value inside an array begins.
-    #[inline(always)]
-    fn first_value(self, at: usize) -> Option<usize>
-        requires { at < length (places self) }
-        ensures found { MatchOption result (tails_at self.entry at First ≡ [])
-            (λ next. (next < length (places self.entry))
-            × (tails_at self.entry at First
-            ≡ drop next (places self.entry) ∷ tails_at self.entry next AtValue)) }
-        ensures inside { IfSome result (StaysInArray self.entry at First) }
-    {
-        if self.byte(at) == b']' {
-            return None;
-        }
-        Some(at)
-    }
-
-    // The same of the value after the one whose last token is before this.
-    #[inline(always)]
-    fn value_behind(self, after: usize) -> Option<usize>
-        requires { after ≤ length (places self) }
-        ensures found { MatchOption result (tails_at self.entry after AfterValue ≡ [])
-            (λ next. (next < length (places self.entry))
-            × (tails_at self.entry after AfterValue
-            ≡ drop next (places self.entry) ∷ tails_at self.entry next AtValue)) }
-        ensures inside { IfSome result (StaysInArray self.entry after AfterValue) }
-    {
-        if self.indexes.len() - after < 2 || self.byte(after) != b',' {
-            return None;
-        }
-        Some(after + 1)
-    }
-
-    // The same of the value that a cursor comes to next.
-    #[inline(always)]
-    #[tactic(auto, using(simd_json_check::proofs::Scans::within))]
-    fn next_value(self, at: usize, position: Position) -> Option<usize>
-        requires { at < length (places self) }
-        ensures found { MatchOption result (tails_at self.entry at position ≡ [])
-            (λ next. (next < length (places self.entry))
-            × (tails_at self.entry at position
-            ≡ drop next (places self.entry) ∷ tails_at self.entry next AtValue)) }
-        ensures inside { IfSome result (StaysInArray self.entry at position) }
-    {
-        match position {
-            Position::First => self.first_value(at),
-            Position::AtValue => self.value_behind(skip(self.input, self.indexes, at)),
-            Position::AfterValue => self.value_behind(at),
-        }
-    }
 }
 
 impl<'d> Iterator for Array<'d> {
@@ -121,30 +53,89 @@ impl<'d> Iterator for Array<'d> {
 impl<'d> FusedIterator for Array<'d> {}
 
 impl<'d> Array<'d> {
-    ghost use Rattle.std.specs.Prelude.{◌≡◌, Some, IfSome};
+    ghost use Rattle.std.specs.Prelude.{◌≡◌, [], Some, IfSome, IfOk, MatchOption, MatchResult};
+    ghost use Rattle.std.specs.Prelude.{option_map};
     ghost use Rattle.std.specs.Iterator.{YieldsFirstBy};
     ghost use Rattle.simd_json_ondemand.specs.Docs.{doc};
     ghost use Rattle.simd_json_ondemand.specs.Iterated.{elements_left};
+    ghost use Rattle.simd_json_ondemand.specs.Sites.{element_sites, site};
+    ghost use Rattle.simd_json_ondemand.specs.Stopped.{error_at, told};
+    ghost use Rattle.simd_json_ondemand.specs.Walked.{elements_ahead};
+    ghost use Rattle.simd_json_ondemand.specs.Walks.{stopped, ended, came, first, items};
+    ghost use Rattle.simd_json_ondemand.specs.Walks.{walk_past};
     ghost use Rattle.simd_json_ondemand.specs.Within.{IsInArray, after, after_at, after_last};
     ghost use Rattle.simd_json_ondemand.specs.declared.value.Value.{Value};
 
-    /// Returns the next value, as `next` does. The contract of this function says more: that the
-    /// cursor stays in its array, as [`end`](Array::end) and [`pass`](Array::pass) want it.
+    // Goes on to the next value, and returns it, or `None` at the closing bracket. Where the walk
+    // stops the cursor stays where it is.
+    #[inline(always)]
+    pub(crate) fn step(&mut self) -> Result<Option<Value<'d>>, Stop<'d>>
+        ensures steps { MatchResult result
+            (λ next. MatchOption next ((elements_ahead self.old ≡ ended) × (self.new ≡ self.old))
+            (λ value. elements_ahead self.old ≡ came (doc value) (elements_ahead self.new)))
+            (λ s. (elements_ahead self.old ≡ stopped (error_at s)) × (self.new ≡ self.old)) }
+        ensures sites { MatchResult result
+            (λ next. MatchOption next (element_sites self.old ≡ ended)
+            (λ value. element_sites self.old ≡ came (site value) (element_sites self.new)))
+            (λ s. element_sites self.old ≡ stopped (error_at s)) }
+        ensures last { IfOk result (λ next. IfSome next (λ value.
+            after_last self.new.document self.new.at self.new.position ≡ Some (after value))) }
+        ensures inside { (v : Value) → IsInArray v self.old → IsInArray v self.new }
+    {
+        let document = self.document;
+        match document.element_ahead(self.at, self.position) {
+            Ok(Some(at)) => {
+                *self = Array {
+                    document,
+                    at,
+                    position: Position::AtValue,
+                };
+                Ok(Some(Value { document, at }))
+            }
+            Ok(None) => Ok(None),
+            Err(stop) => Err(stop),
+        }
+    }
+
+    /// Returns the next value, as `next` does. The contract of this function says more: where it
+    /// is, and that the cursor stays in its array, as [`end`](Array::end) and
+    /// [`pass`](Array::pass) want it.
+    ///
+    /// Over bytes that [`Index::check`](crate::Index::check) did not check the values may end
+    /// early without a word; [`try_next`](Array::try_next) tells that.
     #[inline(always)]
     pub fn next_value(&mut self) -> Option<Value<'d>>
         ensures steps { YieldsFirstBy doc elements_left self.old result self.new }
+        ensures sites { MatchOption result (items (element_sites self.old) ≡ [])
+            (λ value. element_sites self.old ≡ came (site value) (element_sites self.new)) }
         ensures last { IfSome result (λ value.
             after_last self.new.document self.new.at self.new.position ≡ Some (after value)) }
         ensures inside { (v : Value) → IsInArray v self.old → IsInArray v self.new }
     {
-        let document = self.document;
-        let at = document.next_value(self.at, self.position)?;
-        *self = Array {
-            document,
-            at,
-            position: Position::AtValue,
-        };
-        Some(Value { document, at })
+        found(self.step())
+    }
+
+    // The value after so many.
+    fn behind(self, index: usize) -> Result<Option<Value<'d>>, Stop<'d>>
+        ensures documents { told (option_map doc) result
+            ≡ first (walk_past index (elements_ahead self.entry)) }
+        ensures sites { told (option_map site) result
+            ≡ first (walk_past index (element_sites self.entry)) }
+    {
+        let mut elements = self;
+        let mut left = index;
+        loop {
+            match elements.step() {
+                Ok(Some(value)) => {
+                    if left == 0 {
+                        return Ok(Some(value));
+                    }
+                    left -= 1;
+                }
+                Ok(None) => return Ok(None),
+                Err(stop) => return Err(stop),
+            }
+        }
     }
 
     /// Returns where the array ends. Only what is left of it is read.
@@ -177,13 +168,49 @@ impl<'d> Array<'d> {
 }
 
 impl<'d> Value<'d> {
-    ghost use Rattle.std.specs.Prelude.{◌≡◌, true, Some, IfSome, option_map};
+    ghost use Rattle.std.specs.Prelude.{◌≡◌, [], true, Some, IfOk, IfSome, MatchOption};
+    ghost use Rattle.std.specs.Prelude.{MatchResult, option_map};
+    ghost use Rattle.std.specs.Result.{result_ok};
     ghost use Rattle.simd_json_ondemand.specs.Docs.{doc, form};
     ghost use Rattle.simd_json_ondemand.specs.Iterated.{elements_left, all_some};
+    ghost use Rattle.simd_json_ondemand.specs.Sites.{array_sites, element_sites, site};
     ghost use Rattle.simd_json_ondemand.specs.Standing.{opens_array};
+    ghost use Rattle.simd_json_ondemand.specs.Stopped.{error_at, told};
+    ghost use Rattle.simd_json_ondemand.specs.Walked.{array_walk, elements_ahead};
+    ghost use Rattle.simd_json_ondemand.specs.Walks.{first, found, items, stopped, walk_past};
+    ghost use Rattle.simd_json_ondemand.specs.Walks.{whole};
     ghost use Rattle.simd_json_parts.specs.Document as parts;
     ghost use Rattle.simd_json_parts.specs.Views.{as_array, get_idx};
     ghost use Rattle.simd_json_ondemand.specs.Within.{IsInArray};
+
+    // The values of the array.
+    #[inline(always)]
+    pub(crate) fn elements(self) -> Result<Array<'d>, Stop<'d>>
+        ensures walk { MatchResult result (λ array. array_walk self.entry ≡ elements_ahead array)
+            (λ s. array_walk self.entry ≡ stopped (error_at s)) }
+        ensures sites { MatchResult result (λ array. array_sites self.entry ≡ element_sites array)
+            (λ s. array_sites self.entry ≡ stopped (error_at s)) }
+        ensures all { (d : parts.Document) → doc self.entry ≡ Some d
+            → option_map elements_ahead (result_ok result)
+            ≡ option_map (λ ds. whole (all_some ds)) (as_array d) }
+        ensures inside { (d : parts.Document) → doc self.entry ≡ Some d
+            → IfOk result (IsInArray self.entry) }
+        ensures any { IfOk result (λ array. opens_array (form self.entry) ≡ true) }
+    {
+        let document = self.document;
+        let at = self.at + 1;
+        if self.first() != b'[' {
+            return Err(document.stop(self.at, Expected::Kind(ValueType::Array)));
+        }
+        if at == document.indexes.len() {
+            return Err(document.stop(at, Expected::Value));
+        }
+        Ok(Array {
+            document,
+            at,
+            position: Position::First,
+        })
+    }
 
     /// Returns the values of the array, or `None` if the value is no array.
     #[inline(always)]
@@ -193,17 +220,26 @@ impl<'d> Value<'d> {
         ensures inside { (d : parts.Document) → doc self.entry ≡ Some d
             → IfSome result (IsInArray self.entry) }
         ensures any { IfSome result (λ array. opens_array (form self.entry) ≡ true) }
+        ensures walk { MatchOption result (items (array_walk self.entry) ≡ [])
+            (λ array. array_walk self.entry ≡ elements_ahead array) }
+        ensures sites { MatchOption result (items (array_sites self.entry) ≡ [])
+            (λ array. array_sites self.entry ≡ element_sites array) }
     {
-        let document = self.document;
-        let at = self.at + 1;
-        if self.first() != b'[' || at == document.indexes.len() {
-            return None;
+        self.elements().ok()
+    }
+
+    // The value at an index of the array.
+    #[inline(always)]
+    pub(crate) fn element(self, index: usize) -> Result<Option<Value<'d>>, Stop<'d>>
+        ensures walk { told (option_map doc) result
+            ≡ first (walk_past index (array_walk self.entry)) }
+        ensures site { told (option_map site) result
+            ≡ first (walk_past index (array_sites self.entry)) }
+    {
+        match self.elements() {
+            Ok(elements) => elements.behind(index),
+            Err(stop) => Err(stop),
         }
-        Some(Array {
-            document,
-            at,
-            position: Position::First,
-        })
     }
 
     /// Returns the value at an index of the array, or `None` if the array has no more than `index`
@@ -212,7 +248,11 @@ impl<'d> Value<'d> {
     pub fn get_idx(self, index: usize) -> Option<Value<'d>>
         ensures document { (d : parts.Document) → doc self.entry ≡ Some d → option_map doc result
             ≡ option_map (λ e. Some e) (get_idx index d) }
+        ensures walk { option_map doc result
+            ≡ found (first (walk_past index (array_walk self.entry))) }
+        ensures site { option_map site result
+            ≡ found (first (walk_past index (array_sites self.entry))) }
     {
-        self.as_array()?.nth(index)
+        found(self.element(index))
     }
 }

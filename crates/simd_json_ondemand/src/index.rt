@@ -1,9 +1,9 @@
 //! The structural indexes of one input after another, and the document that they are of.
 ghost use Rattle.std.specs.Prelude.{◌≡◌, ◌≤◌, ◌<◌, ◌⊎◌, ℕ, max, Ok, Err, Some, None};
 ghost use Rattle.std.specs.Prelude.{[], IfOk, OnOk, IfErr, OnErr};
-ghost use Rattle.simd_json_check.specs.Capacities.{capacity, capped};
+ghost use Rattle.simd_json_check.specs.Capacities.{capacity, capped, new_index};
 ghost use Rattle.simd_json_check.specs.Capacities.{KeepsCapacities, IsOutOfMemory, IsRefused};
-ghost use Rattle.simd_json_check.specs.Capacities.{LacksMemory};
+ghost use Rattle.simd_json_check.specs.Capacities.{IsUnchecked};
 ghost use Rattle.simd_json_parts.specs.Answer.{answer};
 ghost use Rattle.simd_json_parts.specs.Document as parts;
 ghost use Rattle.simd_json_parts.specs.InputFaults.{input_fault};
@@ -34,14 +34,22 @@ impl<A: Allocator> Model for Index<A> {
 }
 
 impl<A: Allocator + Copy> Index<A> {
+    /// Returns an index without capacity, which allocates nothing.
+    pub fn empty(a: A) -> Index<A>
+        ensures { result ≡ new_index 0 }
+    {
+        Index {
+            inner: simd_json_check::Index::empty(a),
+        }
+    }
+
     /// Returns an index with capacity for inputs of up to `input_len` bytes (more than
     /// 4,294,967,295 count as that number, the greatest size of an input). `input_len` is a hint,
     /// and may be 0: [`find`](Index::find) allocates what an input needs beyond it.
     ///
     /// Returns `OutOfMemory` if an allocation fails.
     pub fn new(a: A, input_len: usize) -> Result<Index<A>>
-        ensures capacity { IfOk result (λ index. (index.indexes ≡ capped input_len)
-            × (index.blocks ≡ blocks_in (capped input_len)) × (index.listed ≡ [])) }
+        ensures made { IfOk result (λ index. index ≡ new_index input_len) }
         ensures fault { IfErr result (λ e. IsOutOfMemory e × (0 < input_len)) }
     {
         Ok(Index {
@@ -61,10 +69,12 @@ impl<A: Allocator> Index<A> {
     /// by then stays.
     pub fn reserve(&mut self, input_len: usize) -> Result<()>
         ensures reserved { OnOk result (capped input_len ≤ capacity self.new) }
-        ensures exact { OnOk result ((self.new.indexes ≡ max self.old.indexes (capped input_len))
-            × (self.new.blocks ≡ max self.old.blocks (blocks_in (capped input_len)))) }
+        ensures exact { OnOk result (self.new ≡ record self.old {
+            indexes = max self.old.indexes (capped input_len);
+            blocks = max self.old.blocks (blocks_in (capped input_len)); }) }
         ensures kept { KeepsCapacities self.old self.new }
-        ensures same { self.new.listed ≡ self.old.listed }
+        ensures same { (self.new.listed ≡ self.old.listed)
+            × (self.new.escapes ≡ self.old.escapes) }
         ensures fault { IfErr result (λ e. IsOutOfMemory e
             × (capacity self.old < capped input_len)) }
     {
@@ -162,14 +172,11 @@ impl<A: Allocator + Copy> Index<A> {
     ///   (section 6), for an escape (section 7), or because it opens a container beyond the limit
     ///   (section 9)
     ///
-    /// Returns `OutOfMemory` if an allocation fails, and only if size and encoding are right.
+    /// Returns `OutOfMemory` if an allocation fails: only if size and encoding are right, and only
+    /// if there is no capacity for as many bytes as the input has.
     ///
-    /// The input stays unchanged. A document with at most 64 containers open at a time is checked
-    /// in place, without memory but for the index. For any other input the second stage of a parse
-    /// runs, and keeps no node. A parse decodes strings in place, so it works on a copy of the
-    /// input, which is taken from the allocator of the index. So are 24 bytes for each container
-    /// that may be open (`max_depth`, or one for each structural index, whichever is less) if these
-    /// are more than 64. Both are freed before it returns.
+    /// The input stays unchanged. What is copied, and what is kept of it, is as by
+    /// [`simd_json_check::Index::check`].
     ///
     /// ```
     /// use simd_json_ondemand::{ErrorType, Index, Result};
@@ -190,7 +197,7 @@ impl<A: Allocator + Copy> Index<A> {
         ensures document { IfOk result (λ document. (d : parts.Document)
             × (answer input.now max_depth ≡ Ok d) × (root document ≡ Some d)) }
         ensures fault { IfErr result (λ e. (answer input.now max_depth ≡ Err e)
-            ⊎ LacksMemory input.now e) }
+            ⊎ IsUnchecked input.now max_depth self.old e) }
     {
         self.inner.check(input, max_depth)?;
         Ok(self.document(input))

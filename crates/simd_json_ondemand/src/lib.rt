@@ -22,24 +22,26 @@
 //!   `simd_json`'s tape returns.
 //! - If it is not, a call may return a value all the same: `1 2` has the root 1. A string or a
 //!   scalar that is returned is always the whole literal at that place, followed by what must
-//!   follow a scalar. `None` does not tell a missing value, or one of another kind, from bytes that
-//!   are none; the `try_` forms do: their error, [`Unexpected`], names the place where the walk
-//!   stopped, and what was expected there.
+//!   follow a scalar. The walk to it tests each token on its way, but not what is inside the values
+//!   that it passes over, and stops where the grammar has another token.
 //!
-//! Where that matters call [`Index::check`] in place of `find`: it checks the whole input, as a
-//! parse does, and returns the error of the parse. It keeps no node, and copies the input only if
-//! it finds a fault or more than 64 nested containers.
+//! Where the walk stops, an iteration by [`next`](Iterator::next) or
+//! [`next_value`](Array::next_value) ends early without a word, and [`Value::get`] or
+//! [`Value::pointer`] returns `None`, as for a missing value. The `try_` forms tell that: their
+//! error, [`Unexpected`], names the place where the walk stopped, and what was expected there. Or
+//! call [`Index::check`] in place of `find`: it checks the whole input, as a parse does, and
+//! returns the error of the parse. It keeps no node, and copies the input only if it finds a fault
+//! or more than 64 nested containers.
 //!
 //! # Example
 //!
 //! ```
-//! use simd_json_ondemand::{Index, Result};
+//! use simd_json_ondemand::{Unexpected, Value};
 //!
 //! // The status of a line of a log, as `{"level":"info","status":200}`.
-//! fn status(rt: &impl AllocGlobal, line: &[u8]) -> Result<Option<u64>> {
-//!     let mut index = Index::new(rt.alloc(), line.len())?;
-//!     match index.find(line)?.as_value().get("status") {
-//!         Some(status) => Ok(status.as_u64()),
+//! fn status(line: Value<'_>) -> std::result::Result<Option<u64>, Unexpected> {
+//!     match line.try_get("status")? {
+//!         Some(status) => Ok(Some(status.try_as_u64()?)),
 //!         None => Ok(None),
 //!     }
 //! }

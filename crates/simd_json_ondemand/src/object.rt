@@ -4,16 +4,19 @@ ghost use Rattle.std.specs.Prelude.{◌<◌, length};
 use crate::array::Position;
 use crate::end::End;
 use crate::key::Wanted;
-use crate::skip::skip;
+use crate::unexpected::Expected;
 use crate::value::{Document, Value};
+use crate::walk::{Stop, found};
+use simd_json_parts::node::ValueType;
 use std::iter::FusedIterator;
 
 /// The members of an object that are left: an iterator over pairs of a key and a value, which can
 /// be copied. The key is a string. A value is skipped when the member after it is asked for, in
 /// time linear in the number of its tokens.
 ///
-/// Over bytes that are no document the members end where no comma follows, or no string. The
-/// iterator does not tell that from the end of the object; [`try_next`](Object::try_next) does.
+/// Over bytes that are no document the members end where the walk stops: where neither a comma nor
+/// the closing brace follows a value, or no key, colon and value follow. The iterator does not tell
+/// that from the end of the object; [`try_next`](Object::try_next) does.
 #[derive(Clone, Copy, Debug)]
 pub struct Object<'d> {
     pub(crate) document: Document<'d>,
@@ -23,68 +26,6 @@ pub struct Object<'d> {
     pub(crate) position: Position,
     ghost begins: { first < length document.indexes.now },
     ghost inside: { at < length document.indexes.now },
-}
-
-impl<'d> Document<'d> {
-    ghost use Rattle.std.specs.Prelude.{◌≡◌, ◌<◌, ◌≤◌, ◌+◌, ◌-◌, [], ◌∷◌, length, drop};
-    ghost use Rattle.std.specs.Prelude.{slice_index, IfSome, MatchOption};
-    ghost use Rattle.simd_json_parts.specs.Bytes.{byte_at, quote};
-    ghost use Rattle.simd_json_ondemand.specs.Docs.{places, text};
-    ghost use Rattle.simd_json_ondemand.specs.Within.{StaysInObject};
-    ghost use Rattle.simd_json_ondemand.specs.MemberTails.{member_tails_at};
-    ghost use Rattle.simd_json_ondemand.specs.declared.array.Position.TheVariants.{First, AtValue};
-    ghost use Rattle.simd_json_ondemand.specs.declared.array.Position.TheVariants.{AfterValue};
-
-    // The number of the structural index of the value of the member that begins here, if one does.
-    #[inline(always)]
-    fn member(self, at: usize) -> Option<usize>
-        requires { at ≤ length (places self) }
-        ensures found { MatchOption result (member_tails_at self.entry at First ≡ [])
-            (λ value. (2 ≤ value) × (value < length (places self.entry))
-            × (member_tails_at self.entry at First
-            ≡ drop (value - 2) (places self.entry) ∷ member_tails_at self.entry value AtValue)) }
-        ensures key { IfSome result (λ value. (value ≡ at + 2)
-            × (byte_at (text self.entry) (slice_index (places self.entry) at) ≡ quote)) }
-    {
-        if self.indexes.len() - at < 3 || self.byte(at) != b'"' {
-            return None;
-        }
-        Some(at + 2)
-    }
-
-    // The same of the member after the one whose last token is before this.
-    #[inline(always)]
-    fn member_behind(self, after: usize) -> Option<usize>
-        requires { after ≤ length (places self) }
-        ensures found { MatchOption result (member_tails_at self.entry after AfterValue ≡ [])
-            (λ value. (2 ≤ value) × (value < length (places self.entry))
-            × (member_tails_at self.entry after AfterValue
-            ≡ drop (value - 2) (places self.entry) ∷ member_tails_at self.entry value AtValue)) }
-        ensures inside { IfSome result (StaysInObject self.entry after AfterValue) }
-    {
-        if after == self.indexes.len() || self.byte(after) != b',' {
-            return None;
-        }
-        self.member(after + 1)
-    }
-
-    // The same of the member that a cursor comes to next.
-    #[inline(always)]
-    #[tactic(auto, using(simd_json_check::proofs::Scans::within))]
-    fn next_member(self, at: usize, position: Position) -> Option<usize>
-        requires { at < length (places self) }
-        ensures found { MatchOption result (member_tails_at self.entry at position ≡ [])
-            (λ value. (2 ≤ value) × (value < length (places self.entry))
-            × (member_tails_at self.entry at position
-            ≡ drop (value - 2) (places self.entry) ∷ member_tails_at self.entry value AtValue)) }
-        ensures inside { IfSome result (StaysInObject self.entry at position) }
-    {
-        match position {
-            Position::First => self.member(at),
-            Position::AtValue => self.member_behind(skip(self.input, self.indexes, at)),
-            Position::AfterValue => self.member_behind(at),
-        }
-    }
 }
 
 impl<'d> Iterator for Object<'d> {
@@ -106,44 +47,78 @@ impl<'d> Iterator for Object<'d> {
 impl<'d> FusedIterator for Object<'d> {}
 
 impl<'d> Object<'d> {
-    ghost use Rattle.std.specs.Prelude.{◌≡◌, [], ◌∷◌, Some, MatchOption, IfSome};
-    ghost use Rattle.simd_json_ondemand.specs.Docs.{doc};
-    ghost use Rattle.simd_json_ondemand.specs.IteratedMembers.{members_left, members_of, pair_doc};
+    ghost use Rattle.std.specs.Prelude.{◌≡◌, [], Some, IfOk, IfSome, MatchOption, MatchResult};
+    ghost use Rattle.std.specs.Prelude.{option_map};
     ghost use Rattle.std.specs.Iterator.{YieldsFirstBy};
-    ghost use Rattle.simd_json_ondemand.specs.Walked.{members_ahead};
+    ghost use Rattle.simd_json_ondemand.specs.Docs.{doc};
+    ghost use Rattle.simd_json_ondemand.specs.IteratedMembers.{members_left, pair_doc};
+    ghost use Rattle.simd_json_ondemand.specs.Reached.{key_reached};
+    ghost use Rattle.simd_json_ondemand.specs.Sites.{member_sites, pair_site, site};
+    ghost use Rattle.simd_json_ondemand.specs.Stopped.{error_at, told};
+    ghost use Rattle.simd_json_ondemand.specs.Walked.{members_ahead, members_from_first};
+    ghost use Rattle.simd_json_ondemand.specs.Walks.{stopped, ended, came, items};
+    ghost use Rattle.simd_json_ondemand.specs.Walks.{walk_from, walk_round};
     ghost use Rattle.simd_json_ondemand.specs.Within.{IsInObject, AreInSameObject};
     ghost use Rattle.simd_json_ondemand.specs.Within.{after, after_at, after_last};
     ghost use Rattle.simd_json_ondemand.specs.declared.value.Value.{Value};
-    ghost use Rattle.simd_json_ondemand.specs.Keys.{from_key, from_key_round};
     ghost use Rattle.simd_json_parts.specs.Document.{string};
 
-    /// Returns the next pair of a key and a value, as `next` does. The contract of this function
-    /// says more: that the cursor stays in its object, as [`end`](Object::end) and
-    /// [`pass`](Object::pass) want it.
+    // Goes on to the next member, and returns its key and its value, or `None` at the closing
+    // brace. Where the walk stops the cursor stays where it is.
     #[inline(always)]
-    pub fn next_member(&mut self) -> Option<(Value<'d>, Value<'d>)>
-        ensures steps { YieldsFirstBy pair_doc members_left self.old result self.new }
-        ensures last { IfSome result (λ pair.
-            after_last self.new.document self.new.at self.new.position ≡ Some (after pair.1)) }
+    pub(crate) fn step(&mut self) -> Result<Option<(Value<'d>, Value<'d>)>, Stop<'d>>
+        ensures steps { MatchResult result
+            (λ next. MatchOption next ((members_ahead self.old ≡ ended) × (self.new ≡ self.old))
+            (λ member. members_ahead self.old ≡ came (pair_doc member) (members_ahead self.new)))
+            (λ s. (members_ahead self.old ≡ stopped (error_at s)) × (self.new ≡ self.old)) }
+        ensures sites { MatchResult result
+            (λ next. MatchOption next (member_sites self.old ≡ ended)
+            (λ member. member_sites self.old ≡ came (pair_site member) (member_sites self.new)))
+            (λ s. member_sites self.old ≡ stopped (error_at s)) }
+        ensures last { IfOk result (λ next. IfSome next (λ member.
+            after_last self.new.document self.new.at self.new.position
+            ≡ Some (after member.1))) }
         ensures object { AreInSameObject self.old self.new }
         ensures inside { (v : Value) → IsInObject v self.old → IsInObject v self.new }
     {
         let document = self.document;
         let first = self.first;
-        let at = document.next_member(self.at, self.position)?;
-        *self = Object {
-            document,
-            first,
-            at,
-            position: Position::AtValue,
-        };
-        Some((
-            Value {
-                document,
-                at: at - 2,
-            },
-            Value { document, at },
-        ))
+        match document.member_ahead(self.at, self.position) {
+            Ok(Some(at)) => {
+                *self = Object {
+                    document,
+                    first,
+                    at,
+                    position: Position::AtValue,
+                };
+                let key = Value {
+                    document,
+                    at: at - 2,
+                };
+                Ok(Some((key, Value { document, at })))
+            }
+            Ok(None) => Ok(None),
+            Err(stop) => Err(stop),
+        }
+    }
+
+    /// Returns the next pair of a key and a value, as `next` does. The contract of this function
+    /// says more: where they are, and that the cursor stays in its object, as [`end`](Object::end)
+    /// and [`pass`](Object::pass) want it.
+    ///
+    /// Over bytes that [`Index::check`](crate::Index::check) did not check the members may end
+    /// early without a word; [`try_next`](Object::try_next) tells that.
+    #[inline(always)]
+    pub fn next_member(&mut self) -> Option<(Value<'d>, Value<'d>)>
+        ensures steps { YieldsFirstBy pair_doc members_left self.old result self.new }
+        ensures sites { MatchOption result (items (member_sites self.old) ≡ [])
+            (λ member. member_sites self.old ≡ came (pair_site member) (member_sites self.new)) }
+        ensures last { IfSome result (λ pair.
+            after_last self.new.document self.new.at self.new.position ≡ Some (after pair.1)) }
+        ensures object { AreInSameObject self.old self.new }
+        ensures inside { (v : Value) → IsInObject v self.old → IsInObject v self.new }
+    {
+        found(self.step())
     }
 
     /// Returns the value of the first of the members left that has this key or, if none has it, of
@@ -160,61 +135,103 @@ impl<'d> Object<'d> {
     #[inline(always)]
     pub fn find(&mut self, key: &str) -> Option<Value<'d>>
         ensures found { MatchOption result
-            ((from_key_round key.now (members_left self.old) (members_of self.old) ≡ [])
-            × (self.new ≡ self.old))
-            (λ value. from_key_round key.now (members_left self.old) (members_of self.old)
-            ≡ (Some (string key.now), doc value) ∷ members_left self.new) }
+            ((items (walk_round key.now (members_ahead self.old) (members_from_first self.old))
+            ≡ []) × (self.new ≡ self.old))
+            (λ value. walk_round key.now (members_ahead self.old) (members_from_first self.old)
+            ≡ came (Some (string key.now), doc value) (members_ahead self.new)) }
         ensures last { IfSome result (λ value.
             after_last self.new.document self.new.at self.new.position ≡ Some (after value)) }
+        ensures object { AreInSameObject self.old self.new }
+        ensures inside { (v : Value) → IsInObject v self.old → IsInObject v self.new }
+    {
+        found(self.find_round(key))
+    }
+
+    // Looks for the key among the members left, and then among all.
+    #[inline(always)]
+    pub(crate) fn find_round(&mut self, key: &str) -> Result<Option<Value<'d>>, Stop<'d>>
+        ensures found { MatchResult result
+            (λ found. MatchOption found
+            ((walk_round key.now (members_ahead self.old) (members_from_first self.old) ≡ ended)
+            × (self.new ≡ self.old))
+            (λ value. walk_round key.now (members_ahead self.old) (members_from_first self.old)
+            ≡ came (Some (string key.now), doc value) (members_ahead self.new)))
+            (λ s. (walk_round key.now (members_ahead self.old) (members_from_first self.old)
+            ≡ stopped (error_at s)) × (self.new ≡ self.old)) }
+        ensures last { IfOk result (λ found. IfSome found (λ value.
+            after_last self.new.document self.new.at self.new.position ≡ Some (after value))) }
         ensures object { AreInSameObject self.old self.new }
         ensures inside { (v : Value) → IsInObject v self.old → IsInObject v self.new }
     {
         let wanted = Wanted::new(key);
-        if let Some(value) = self.find_left(wanted) {
-            return Some(value);
+        match self.find_left(wanted) {
+            Ok(None) => {}
+            Ok(Some(value)) => return Ok(Some(value)),
+            Err(stop) => return Err(stop),
         }
-        let (all, value) = self.find_before(wanted)?;
-        *self = all;
-        Some(value)
+        match self.find_before(wanted) {
+            Ok(Some((all, value))) => {
+                *self = all;
+                Ok(Some(value))
+            }
+            Ok(None) => Ok(None),
+            Err(stop) => Err(stop),
+        }
     }
 
     // The same among the members left alone.
     #[inline(always)]
-    pub(crate) fn find_left(&mut self, wanted: Wanted<'_>) -> Option<Value<'d>>
-        ensures found { MatchOption result
-            ((from_key wanted.entry.key.now (members_left self.old) ≡ []) × (self.new ≡ self.old))
-            (λ value. from_key wanted.entry.key.now (members_left self.old)
-            ≡ (Some (string wanted.entry.key.now), doc value) ∷ members_left self.new) }
-        ensures last { IfSome result (λ value.
-            after_last self.new.document self.new.at self.new.position ≡ Some (after value)) }
+    fn find_left(&mut self, wanted: Wanted<'_>) -> Result<Option<Value<'d>>, Stop<'d>>
+        ensures found { MatchResult result
+            (λ found. MatchOption found
+            ((walk_from wanted.entry.key.now (members_ahead self.old) ≡ ended)
+            × (self.new ≡ self.old))
+            (λ value. walk_from wanted.entry.key.now (members_ahead self.old)
+            ≡ came (Some (string wanted.entry.key.now), doc value) (members_ahead self.new)))
+            (λ s. (walk_from wanted.entry.key.now (members_ahead self.old)
+            ≡ stopped (error_at s)) × (self.new ≡ self.old)) }
+        ensures site { told (option_map site) result
+            ≡ key_reached wanted.entry.key.now (member_sites self.old) }
+        ensures last { IfOk result (λ found. IfSome found (λ value.
+            after_last self.new.document self.new.at self.new.position ≡ Some (after value))) }
         ensures object { AreInSameObject self.old self.new }
         ensures inside { (v : Value) → IsInObject v self.old → IsInObject v self.new }
     {
         let mut left = *self;
-        while let Some((name, value)) = left.next_member() {
-            if name.is_key(wanted) {
-                *self = left;
-                return Some(value);
+        loop {
+            match left.step() {
+                Ok(Some((name, value))) => {
+                    if name.is_key(wanted) {
+                        *self = left;
+                        return Ok(Some(value));
+                    }
+                }
+                Ok(None) => return Ok(None),
+                Err(stop) => return Err(stop),
             }
         }
-        None
     }
 
-    // The same among all members, where none of those left has the key: a cursor behind the member,
-    // and its value. The walk from the beginning ends where it comes to this cursor.
+    // The same among all members, where none of those left has the key, and they end: a cursor
+    // behind the member, and its value. The walk from the beginning ends where it comes to this
+    // cursor.
     #[cold]
     #[inline(never)]
-    fn find_before(self, wanted: Wanted<'_>) -> Option<(Object<'d>, Value<'d>)>
-        requires { from_key wanted.key.now (members_left self) ≡ [] }
-        ensures found { MatchOption result
-            (from_key wanted.entry.key.now (members_of self.entry) ≡ [])
-            (λ r. from_key wanted.entry.key.now (members_of self.entry)
-            ≡ (Some (string wanted.entry.key.now), doc r.1) ∷ members_left r.0) }
-        ensures last { IfSome result (λ r.
-            after_last r.0.document r.0.at r.0.position ≡ Some (after r.1)) }
-        ensures object { IfSome result (λ r. AreInSameObject self.entry r.0) }
-        ensures inside { IfSome result (λ r.
-            (v : Value) → IsInObject v self.entry → IsInObject v r.0) }
+    fn find_before(self, wanted: Wanted<'_>) -> Result<Option<(Object<'d>, Value<'d>)>, Stop<'d>>
+        requires { walk_from wanted.key.now (members_ahead self) ≡ ended }
+        ensures found { MatchResult result
+            (λ found. MatchOption found
+            (walk_from wanted.entry.key.now (members_from_first self.entry) ≡ ended)
+            (λ r. walk_from wanted.entry.key.now (members_from_first self.entry)
+            ≡ came (Some (string wanted.entry.key.now), doc r.1) (members_ahead r.0)))
+            (λ s. walk_from wanted.entry.key.now (members_from_first self.entry)
+            ≡ stopped (error_at s)) }
+        ensures last { IfOk result (λ found. IfSome found (λ r.
+            after_last r.0.document r.0.at r.0.position ≡ Some (after r.1))) }
+        ensures object { IfOk result (λ found. IfSome found (λ r.
+            AreInSameObject self.entry r.0)) }
+        ensures inside { IfOk result (λ found. IfSome found (λ r.
+            (v : Value) → IsInObject v self.entry → IsInObject v r.0)) }
     {
         let mut all = Object {
             document: self.document,
@@ -223,15 +240,20 @@ impl<'d> Object<'d> {
             position: Position::First,
         };
         while all.at != self.at || all.position != self.position {
-            let (name, value) = all.next_member()?;
-            if name.is_key(wanted) {
-                return Some((all, value));
-            }
-            if self.position == Position::AfterValue {
-                all.pass(value.end());
+            match all.step() {
+                Ok(Some((name, value))) => {
+                    if name.is_key(wanted) {
+                        return Ok(Some((all, value)));
+                    }
+                    if self.position == Position::AfterValue {
+                        all.pass(value.end());
+                    }
+                }
+                Ok(None) => return Ok(None),
+                Err(stop) => return Err(stop),
             }
         }
-        None
+        Ok(None)
     }
 
     /// Returns where the object ends. Only what is left of it is read.
@@ -285,15 +307,55 @@ impl<'d> Object<'d> {
 }
 
 impl<'d> Value<'d> {
-    ghost use Rattle.std.specs.Prelude.{◌≡◌, true, Some, IfSome, option_map, option_and_then};
+    ghost use Rattle.std.specs.Prelude.{◌≡◌, [], true, Some, IfOk, IfSome, MatchOption};
+    ghost use Rattle.std.specs.Prelude.{MatchResult, option_and_then, option_map};
+    ghost use Rattle.std.specs.Result.{result_ok};
     ghost use Rattle.simd_json_ondemand.specs.Docs.{doc, form};
     ghost use Rattle.simd_json_ondemand.specs.IteratedMembers.{members_left, members_of};
     ghost use Rattle.simd_json_ondemand.specs.IteratedMembers.{all_members};
+    ghost use Rattle.simd_json_ondemand.specs.Keys.{is_key};
+    ghost use Rattle.simd_json_ondemand.specs.Reached.{key_reached};
+    ghost use Rattle.simd_json_ondemand.specs.Sites.{member_sites, object_sites, site};
     ghost use Rattle.simd_json_ondemand.specs.Standing.{opens_object};
+    ghost use Rattle.simd_json_ondemand.specs.Stopped.{error_at, told};
+    ghost use Rattle.simd_json_ondemand.specs.Walked.{first_with, members_ahead};
+    ghost use Rattle.simd_json_ondemand.specs.Walked.{members_from_first, object_walk};
+    ghost use Rattle.simd_json_ondemand.specs.Walks.{found, items, stopped, whole};
+    ghost use Rattle.simd_json_ondemand.specs.Within.{IsInObject};
     ghost use Rattle.simd_json_parts.specs.Document as parts;
     ghost use Rattle.simd_json_parts.specs.Views.{as_object, as_str, get};
-    ghost use Rattle.simd_json_ondemand.specs.Keys.{is_key};
-    ghost use Rattle.simd_json_ondemand.specs.Within.{IsInObject};
+
+    // The members of the object.
+    #[inline(always)]
+    pub(crate) fn members(self) -> Result<Object<'d>, Stop<'d>>
+        ensures walk { MatchResult result (λ object. object_walk self.entry ≡ members_ahead object)
+            (λ s. object_walk self.entry ≡ stopped (error_at s)) }
+        ensures sites { MatchResult result (λ object. object_sites self.entry ≡ member_sites object)
+            (λ s. object_sites self.entry ≡ stopped (error_at s)) }
+        ensures first { IfOk result (λ object.
+            members_ahead object ≡ members_from_first object) }
+        ensures all { (d : parts.Document) → doc self.entry ≡ Some d
+            → option_map members_ahead (result_ok result)
+            ≡ option_map (λ ms. whole (all_members ms)) (as_object d) }
+        ensures inside { (d : parts.Document) → doc self.entry ≡ Some d
+            → IfOk result (IsInObject self.entry) }
+        ensures any { IfOk result (λ object. opens_object (form self.entry) ≡ true) }
+    {
+        let document = self.document;
+        let at = self.at + 1;
+        if self.first() != b'{' {
+            return Err(document.stop(self.at, Expected::Kind(ValueType::Object)));
+        }
+        if at == document.indexes.len() {
+            return Err(document.stop(at, Expected::Key));
+        }
+        Ok(Object {
+            document,
+            first: at,
+            at,
+            position: Position::First,
+        })
+    }
 
     /// Returns the members of the object, or `None` if the value is no object.
     #[inline(always)]
@@ -304,18 +366,29 @@ impl<'d> Value<'d> {
         ensures inside { (d : parts.Document) → doc self.entry ≡ Some d
             → IfSome result (IsInObject self.entry) }
         ensures any { IfSome result (λ object. opens_object (form self.entry) ≡ true) }
+        ensures walk { MatchOption result (items (object_walk self.entry) ≡ [])
+            (λ object. object_walk self.entry ≡ members_ahead object) }
+        ensures sites { MatchOption result (items (object_sites self.entry) ≡ [])
+            (λ object. object_sites self.entry ≡ member_sites object) }
+        ensures from { IfSome result (λ object.
+            members_ahead object ≡ members_from_first object) }
     {
-        let document = self.document;
-        let at = self.at + 1;
-        if self.first() != b'{' || at == document.indexes.len() {
-            return None;
+        self.members().ok()
+    }
+
+    // The value of the first member with the key.
+    #[inline(always)]
+    pub(crate) fn member(self, key: &str) -> Result<Option<Value<'d>>, Stop<'d>>
+        ensures walk { told (option_map doc) result
+            ≡ first_with key.now (object_walk self.entry) }
+        ensures site { told (option_map site) result
+            ≡ key_reached key.now (object_sites self.entry) }
+        ensures any { IfOk result (λ value. opens_object (form self.entry) ≡ true) }
+    {
+        match self.members() {
+            Ok(mut members) => members.find_left(Wanted::new(key)),
+            Err(stop) => Err(stop),
         }
-        Some(Object {
-            document,
-            first: at,
-            at,
-            position: Position::First,
-        })
     }
 
     /// Returns the value of the first member of the object with this key, or `None` if the object
@@ -327,9 +400,12 @@ impl<'d> Value<'d> {
         ensures document { (d : parts.Document) → doc self.entry ≡ Some d → option_map doc result
             ≡ option_map (λ e. Some e) (get key.now d) }
         ensures any { IfSome result (λ value. opens_object (form self.entry) ≡ true) }
+        ensures walk { option_map doc result
+            ≡ found (first_with key.now (object_walk self.entry)) }
+        ensures site { option_map site result
+            ≡ found (key_reached key.now (object_sites self.entry)) }
     {
-        let mut members = self.as_object()?;
-        members.find_left(Wanted::new(key))
+        found(self.member(key))
     }
 
     // Whether the value is a string, and the key.

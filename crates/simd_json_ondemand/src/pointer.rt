@@ -1,27 +1,31 @@
 //! JSON Pointer (RFC 6901): the value at a place within another.
-ghost use Rattle.std.specs.Prelude.{◌≡◌, ◌≤◌, ◌<◌, ◌↔◌, IsTrue, List, None, Some, ℕ};
-ghost use Rattle.std.specs.Prelude.{drop, false, is_some, length, option_map, true};
-ghost use Rattle.std.specs.Result.{result_ok};
-ghost use Rattle.simd_json_ondemand.specs.Docs.{doc};
-ghost use Rattle.simd_json_ondemand.specs.IteratedMembers.{all_members, members_left};
-ghost use Rattle.simd_json_parts.specs.Document.{Document, Members, members};
-ghost use Rattle.simd_json_parts.specs.Followed.{IsPlain, first_step};
-ghost use Rattle.simd_json_parts.specs.Pointed.{member_at, named, pointed, pointed_from, unescaped};
+ghost use Rattle.std.specs.Prelude.{◌≡◌, is_some, option_map, true};
+ghost use Rattle.simd_json_ondemand.specs.Reached.{member_reached, named_at};
+ghost use Rattle.simd_json_ondemand.specs.Sites.{member_sites, site};
+ghost use Rattle.simd_json_ondemand.specs.Stopped.{told};
+ghost use Rattle.simd_json_parts.specs.Followed.{IsPlain};
+ghost use Rattle.simd_json_parts.specs.Pointed.{unescaped};
 
 mod token;
-mod tried;
 
 use crate::object::Object;
+use crate::unexpected::{Expected, Unexpected};
 use crate::value::Value;
+use crate::walk::{Stop, found, told};
 use simd_json_parts::pointer::{Pointer, is_plain, is_well_formed, next_token, read_index};
 use token::is_written;
 
 impl<'d> Value<'d> {
-    ghost use Rattle.std.specs.Prelude.{◌≡◌, ◌↔◌, IsTrue, List, Some, ℕ};
+    ghost use Rattle.std.specs.Prelude.{◌≡◌, IfErr, List, Some, ℕ};
     ghost use Rattle.std.specs.Prelude.{option_and_then, option_map};
     ghost use Rattle.std.specs.Result.{result_ok};
     ghost use Rattle.simd_json_ondemand.specs.Docs.{doc};
     ghost use Rattle.simd_json_ondemand.specs.Keys.{is_key};
+    ghost use Rattle.simd_json_ondemand.specs.Reached.{pointed_at};
+    ghost use Rattle.simd_json_ondemand.specs.Sites.{site};
+    ghost use Rattle.simd_json_ondemand.specs.Stopped.{told};
+    ghost use Rattle.simd_json_ondemand.specs.Walks.{found, ok_map};
+    ghost use Rattle.simd_json_ondemand.specs.declared.unexpected.Expected.TheVariants.{Container};
     ghost use Rattle.simd_json_parts.specs.Document as parts;
     ghost use Rattle.simd_json_parts.specs.Pointed.{pointed, unescaped};
     ghost use Rattle.simd_json_parts.specs.PointedText.{text};
@@ -46,21 +50,79 @@ impl<'d> Value<'d> {
     /// }
     /// ```
     pub fn pointer(self, pointer: &str) -> Option<Value<'d>>
-        ensures { (d : parts.Document) → doc self.entry ≡ Some d → option_map doc result
+        ensures document { (d : parts.Document) → doc self.entry ≡ Some d → option_map doc result
             ≡ option_map (λ e. Some e) (result_ok (pointed pointer.now d)) }
+        ensures walk { option_map site result ≡ found (pointed_at pointer.now (site self.entry)) }
     {
-        let (reached, followed) = walk(self, pointer);
-        if followed < pointer.len() {
-            return None;
+        found(self.follow(pointer))
+    }
+
+    /// Returns the value that a JSON Pointer names (RFC 6901), as [`pointer`](Value::pointer), or
+    /// `None` where it leads nowhere: the pointer is malformed, or an array or an object on its way
+    /// comes to its closing bracket without such a value. A token that is no index names nothing in
+    /// an array, and one with another `~` than `~0` and `~1` nothing in an object, whatever they
+    /// hold: there nothing is walked.
+    ///
+    /// Returns an error that expects `Container` where the pointer leads into a value that is
+    /// neither an array nor an object, and one that names the place where the walk along an array
+    /// or an object stopped before, as [`Array::try_next`](crate::Array::try_next) and
+    /// [`Object::try_next`](crate::Object::try_next) do.
+    ///
+    /// ```
+    /// use simd_json_ondemand::{Unexpected, Value};
+    ///
+    /// fn port(config: Value<'_>) -> std::result::Result<Option<u64>, Unexpected> {
+    ///     match config.try_pointer("/servers/0/port")? {
+    ///         Some(port) => Ok(Some(port.try_as_u64()?)),
+    ///         None => Ok(None),
+    ///     }
+    /// }
+    /// ```
+    pub fn try_pointer(self, pointer: &str) -> Result<Option<Value<'d>>, Unexpected>
+        ensures walk { ok_map (option_map site) result ≡ pointed_at pointer.now (site self.entry) }
+        ensures document { (d : parts.Document) → doc self.entry ≡ Some d
+            → option_map doc (found result)
+            ≡ option_map (λ e. Some e) (result_ok (pointed pointer.now d)) }
+        ensures container { (d : parts.Document) → doc self.entry ≡ Some d
+            → IfErr result (λ e. e.expected ≡ Container) }
+    {
+        told(self.follow(pointer))
+    }
+
+    // The value that a pointer names.
+    fn follow(self, pointer: &str) -> Result<Option<Value<'d>>, Stop<'d>>
+        ensures walk { told (option_map site) result ≡ pointed_at pointer.now (site self.entry) }
+        ensures document { (d : parts.Document) → doc self.entry ≡ Some d
+            → option_map doc (found result)
+            ≡ option_map (λ e. Some e) (result_ok (pointed pointer.now d)) }
+        ensures container { (d : parts.Document) → doc self.entry ≡ Some d
+            → IfErr result (λ s. s.expected ≡ Container) }
+    {
+        let bytes = pointer.as_bytes();
+        let mut reached = self;
+        let mut followed = 0;
+        while let Some(token) = next_token(bytes, followed) {
+            let text = &pointer[followed + 1..token.end];
+            match reached.child(text, token.is_plain) {
+                Ok(Some(next)) => reached = next,
+                Ok(None) => return Ok(None),
+                Err(stop) => return Err(stop),
+            }
+            followed = token.end;
         }
-        Some(reached)
+        if followed < bytes.len() {
+            return Ok(None);
+        }
+        Ok(Some(reached))
     }
 
     /// Returns the value that a split pointer names, or `None` where it leads nowhere, as
     /// [`pointer`](Value::pointer) of its text.
     pub fn at<const N: usize>(self, pointer: &Pointer<'_, N>) -> Option<Value<'d>>
-        ensures { (d : parts.Document) → doc self.entry ≡ Some d → option_map doc result
+        ensures document { (d : parts.Document) → doc self.entry ≡ Some d → option_map doc result
             ≡ option_map (λ e. Some e) (result_ok (pointed (text pointer.now) d)) }
+        ensures walk { option_map site result
+            ≡ found (pointed_at (text pointer.now) (site self.entry)) }
     {
         let text = pointer.as_str();
         let ends = pointer.ends();
@@ -68,79 +130,66 @@ impl<'d> Value<'d> {
         let mut at = 0;
         for end in ends {
             let token = &text[at + 1..*end];
-            reached = child(reached, token, is_plain(token.as_bytes()))?;
+            reached = found(reached.child(token, is_plain(token.as_bytes())))?;
             at = *end;
         }
         Some(reached)
+    }
+
+    // The value that a token names in this one.
+    fn child(self, token: &str, is_plain: bool) -> Result<Option<Value<'d>>, Stop<'d>>
+        requires { is_plain ≡ true → IsPlain token.now }
+        ensures { told (option_map site) result ≡ named_at token.now (site self.entry) }
+    {
+        if self.is_array() {
+            return match read_index(token) {
+                Some(index) => self.element(index),
+                None => Ok(None),
+            };
+        }
+        if !self.is_object() {
+            return Err(self.document.stop(self.at, Expected::Container));
+        }
+        if is_plain {
+            return self.member(token);
+        }
+        let token = token.as_bytes();
+        if !is_well_formed(token) {
+            return Ok(None);
+        }
+        match self.members() {
+            Ok(members) => find_named(members, token),
+            Err(stop) => Err(stop),
+        }
     }
 
     // Whether the value is a string, and the key that a token is.
     #[inline(always)]
     fn is_named(self, token: &[u8]) -> bool
         requires { is_some (unescaped token.now) ≡ true }
-        ensures document { (key : List ℕ) → doc self.entry ≡ Some (parts.string key)
-            → IsTrue result ↔ (unescaped token.now ≡ Some key) }
-        ensures any { (key : List ℕ) → unescaped token.now ≡ Some key
+        ensures { (key : List ℕ) → unescaped token.now ≡ Some key
             → result ≡ is_key key (option_and_then as_str (doc self.entry)) }
     {
         self.first() == b'"' && is_written(self.bytes(), token)
     }
 }
 
-// As far as the pointer leads: the value there, and how many bytes of the pointer were followed.
-fn walk<'d>(value: Value<'d>, pointer: &str) -> (Value<'d>, usize)
-    ensures within { result.1 ≤ length pointer.now }
-    ensures led { (d : Document) → doc value.entry ≡ Some d → (e : Document)
-        × (doc result.0 ≡ Some e)
-        × (pointed pointer.now d ≡ pointed_from result.1 (drop result.1 pointer.now) e) }
-    ensures stopped { result.1 < length pointer.now → (e : Document) → doc result.0 ≡ Some e
-        → result_ok (first_step (drop result.1 pointer.now) e) ≡ None }
-{
-    let bytes = pointer.as_bytes();
-    let mut reached = value;
-    let mut followed = 0;
-    while let Some(token) = next_token(bytes, followed) {
-        let text = &pointer[followed + 1..token.end];
-        let Some(next) = child(reached, text, token.is_plain) else {
-            return (reached, followed);
-        };
-        reached = next;
-        followed = token.end;
-    }
-    (reached, followed)
-}
-
-// The value that a token names in another.
-fn child<'d>(value: Value<'d>, token: &str, is_plain: bool) -> Option<Value<'d>>
-    requires { is_plain ≡ true → IsPlain token.now }
-    ensures { (d : Document) → doc value.entry ≡ Some d → option_map doc result
-        ≡ option_map (λ e. Some e) (result_ok (named token.now d)) }
-{
-    if value.is_array() {
-        return value.get_idx(read_index(token)?);
-    }
-    if is_plain {
-        return value.get(token);
-    }
-    let token = token.as_bytes();
-    if !is_well_formed(token) {
-        return None;
-    }
-    find_named(value.as_object()?, token)
-}
-
 // The value of the first member with the key that a token is.
-fn find_named<'d>(object: Object<'d>, token: &[u8]) -> Option<Value<'d>>
+fn find_named<'d>(object: Object<'d>, token: &[u8]) -> Result<Option<Value<'d>>, Stop<'d>>
     requires { is_some (unescaped token.now) ≡ true }
-    ensures { (ms : Members) → members_left object.entry ≡ all_members (members ms)
-        → option_map doc result
-        ≡ option_map (λ e. Some e) (result_ok (member_at ms (unescaped token.now))) }
+    ensures { told (option_map site) result
+        ≡ member_reached (unescaped token.now) (member_sites object.entry) }
 {
     let mut left = object;
-    while let Some((key, value)) = left.next() {
-        if key.is_named(token) {
-            return Some(value);
+    loop {
+        match left.step() {
+            Ok(Some((key, value))) => {
+                if key.is_named(token) {
+                    return Ok(Some(value));
+                }
+            }
+            Ok(None) => return Ok(None),
+            Err(stop) => return Err(stop),
         }
     }
-    None
 }

@@ -1,9 +1,9 @@
-//! Accessors and look-up with errors: each names the place where it stopped, and what it expected.
-use crate::array::{Array, Position};
-use crate::key::Wanted;
+//! The forms with errors: each names the place where the walk stopped, and what it expected there.
+use crate::array::Array;
 use crate::object::Object;
 use crate::unexpected::{Expected, Unexpected};
 use crate::value::Value;
+use crate::walk::told;
 use simd_json_parts::node::ValueType;
 
 impl<'d> Value<'d> {
@@ -32,7 +32,7 @@ impl<'d> Value<'d> {
     pub fn unexpected(self, expected: Expected) -> Unexpected
         ensures { result ≡ refused expected self.entry }
     {
-        self.document.unexpected(self.at, expected)
+        self.document.stop(self.at, expected).error()
     }
 
     // The result of an accessor, or the error that a value of this kind was expected.
@@ -96,6 +96,7 @@ impl<'d> Value<'d> {
 
     /// Returns the values of the array, or an error that expects `Array`; if the input ends behind
     /// the opening bracket, one that expects a value.
+    #[inline(always)]
     pub fn try_as_array(self) -> Result<Array<'d>, Unexpected>
         ensures walk { MatchResult result (λ array. array_walk self.entry ≡ elements_ahead array)
             (λ e. array_walk self.entry ≡ stopped e) }
@@ -107,23 +108,12 @@ impl<'d> Value<'d> {
             → option_map elements_ahead (result_ok result)
             ≡ option_map (λ ds. whole (all_some ds)) (as_array d) }
     {
-        let document = self.document;
-        let at = self.at + 1;
-        if self.first() != b'[' {
-            return Err(self.unexpected(Expected::Kind(ValueType::Array)));
-        }
-        if at == document.indexes.len() {
-            return Err(document.unexpected(at, Expected::Value));
-        }
-        Ok(Array {
-            document,
-            at,
-            position: Position::First,
-        })
+        told(self.elements())
     }
 
     /// Returns the members of the object, or an error that expects `Object`; if the input ends
     /// behind the opening brace, one that expects a key.
+    #[inline(always)]
     pub fn try_as_object(self) -> Result<Object<'d>, Unexpected>
         ensures walk { MatchResult result (λ object. object_walk self.entry ≡ members_ahead object)
             (λ e. object_walk self.entry ≡ stopped e) }
@@ -137,20 +127,7 @@ impl<'d> Value<'d> {
             → option_map members_ahead (result_ok result)
             ≡ option_map (λ ms. whole (all_members ms)) (as_object d) }
     {
-        let document = self.document;
-        let at = self.at + 1;
-        if self.first() != b'{' {
-            return Err(self.unexpected(Expected::Kind(ValueType::Object)));
-        }
-        if at == document.indexes.len() {
-            return Err(document.unexpected(at, Expected::Key));
-        }
-        Ok(Object {
-            document,
-            first: at,
-            at,
-            position: Position::First,
-        })
+        told(self.members())
     }
 
     /// Returns the value of the first member of the object with this key, or `None` if the members
@@ -170,6 +147,7 @@ impl<'d> Value<'d> {
     ///     }
     /// }
     /// ```
+    #[inline(always)]
     pub fn try_get(self, key: &str) -> Result<Option<Value<'d>>, Unexpected>
         ensures walk { ok_map (option_map doc) result
             ≡ first_with key.now (object_walk self.entry) }
@@ -179,10 +157,7 @@ impl<'d> Value<'d> {
             → result_ok (ok_map (option_map doc) result)
             ≡ option_map (option_map (λ e. Some e)) (result_ok (try_get key.now d)) }
     {
-        match self.try_as_object() {
-            Ok(mut members) => members.try_find_left(Wanted::new(key)),
-            Err(e) => Err(e),
-        }
+        told(self.member(key))
     }
 
     /// Returns the value at an index of the array, or `None` if the values come to the closing
@@ -200,9 +175,91 @@ impl<'d> Value<'d> {
             → result_ok (ok_map (option_map doc) result)
             ≡ option_map (option_map (λ e. Some e)) (result_ok (try_get_idx index d)) }
     {
-        match self.try_as_array() {
-            Ok(elements) => elements.behind(index),
-            Err(e) => Err(e),
-        }
+        told(self.element(index))
+    }
+}
+
+impl<'d> Array<'d> {
+    ghost use Rattle.std.specs.Prelude.{◌≡◌, MatchOption, MatchResult};
+    ghost use Rattle.simd_json_ondemand.specs.Docs.{doc};
+    ghost use Rattle.simd_json_ondemand.specs.Sites.{element_sites, site};
+    ghost use Rattle.simd_json_ondemand.specs.Walked.{elements_ahead};
+    ghost use Rattle.simd_json_ondemand.specs.Walks.{stopped, ended, came};
+
+    /// Returns the next value, or `None` at the end of the array, which is its closing bracket.
+    ///
+    /// Returns an error where the walk stops before: where neither a comma nor the bracket follows
+    /// a value, or no value begins where one is expected. The cursor stays where it is. What is
+    /// inside a value is not tested, but passed over by its brackets.
+    #[inline(always)]
+    pub fn try_next(&mut self) -> Result<Option<Value<'d>>, Unexpected>
+        ensures steps { MatchResult result
+            (λ next. MatchOption next ((elements_ahead self.old ≡ ended) × (self.new ≡ self.old))
+            (λ value. elements_ahead self.old ≡ came (doc value) (elements_ahead self.new)))
+            (λ e. (elements_ahead self.old ≡ stopped e) × (self.new ≡ self.old)) }
+        ensures sites { MatchResult result
+            (λ next. MatchOption next (element_sites self.old ≡ ended)
+            (λ value. element_sites self.old ≡ came (site value) (element_sites self.new)))
+            (λ e. element_sites self.old ≡ stopped e) }
+    {
+        told(self.step())
+    }
+}
+
+impl<'d> Object<'d> {
+    ghost use Rattle.std.specs.Prelude.{◌≡◌, Some, IfOk, IfSome, MatchOption, MatchResult};
+    ghost use Rattle.simd_json_ondemand.specs.Docs.{doc};
+    ghost use Rattle.simd_json_ondemand.specs.IteratedMembers.{pair_doc};
+    ghost use Rattle.simd_json_ondemand.specs.Sites.{member_sites, pair_site};
+    ghost use Rattle.simd_json_ondemand.specs.Walked.{members_ahead, members_from_first};
+    ghost use Rattle.simd_json_ondemand.specs.Walks.{stopped, ended, came, walk_round};
+    ghost use Rattle.simd_json_ondemand.specs.Within.{AreInSameObject, after, after_last};
+    ghost use Rattle.simd_json_parts.specs.Document.{string};
+
+    /// Returns the key and the value of the next member, or `None` at the end of the object, which
+    /// is its closing brace.
+    ///
+    /// Returns an error where the walk stops before: where neither a comma nor the brace follows a
+    /// value, no string is where a key is expected, no colon follows the key, or no value begins
+    /// behind it. The cursor stays where it is. What is inside a value is not tested, but passed
+    /// over by its brackets.
+    #[inline(always)]
+    pub fn try_next(&mut self) -> Result<Option<(Value<'d>, Value<'d>)>, Unexpected>
+        ensures steps { MatchResult result
+            (λ next. MatchOption next ((members_ahead self.old ≡ ended) × (self.new ≡ self.old))
+            (λ member. members_ahead self.old ≡ came (pair_doc member) (members_ahead self.new)))
+            (λ e. (members_ahead self.old ≡ stopped e) × (self.new ≡ self.old)) }
+        ensures sites { MatchResult result
+            (λ next. MatchOption next (member_sites self.old ≡ ended)
+            (λ member. member_sites self.old ≡ came (pair_site member) (member_sites self.new)))
+            (λ e. member_sites self.old ≡ stopped e) }
+        ensures last { IfOk result (λ next. IfSome next (λ member.
+            after_last self.new.document self.new.at self.new.position
+            ≡ Some (after member.1))) }
+        ensures object { AreInSameObject self.old self.new }
+    {
+        told(self.step())
+    }
+
+    /// Returns the value of the first of the members left that has this key or, if these come to
+    /// the closing brace and none has it, of the first of all members that has it, and goes on
+    /// behind that member, as [`find`](Object::find) does. If the object has no such member, it
+    /// returns `None`, and the cursor stays where it is.
+    ///
+    /// Returns an error where the walk stops before, as [`try_next`](Object::try_next): the cursor
+    /// stays where it is.
+    #[inline(always)]
+    pub fn try_find(&mut self, key: &str) -> Result<Option<Value<'d>>, Unexpected>
+        ensures found { MatchResult result
+            (λ found. MatchOption found
+            ((walk_round key.now (members_ahead self.old) (members_from_first self.old) ≡ ended)
+            × (self.new ≡ self.old))
+            (λ value. walk_round key.now (members_ahead self.old) (members_from_first self.old)
+            ≡ came (Some (string key.now), doc value) (members_ahead self.new)))
+            (λ e. (walk_round key.now (members_ahead self.old) (members_from_first self.old)
+            ≡ stopped e) × (self.new ≡ self.old)) }
+        ensures object { AreInSameObject self.old self.new }
+    {
+        told(self.find_round(key))
     }
 }

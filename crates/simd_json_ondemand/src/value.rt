@@ -21,8 +21,9 @@ pub struct Value<'d> {
 }
 
 impl<'d> Document<'d> {
-    ghost use Rattle.std.specs.Prelude.{◌≡◌, slice_index};
+    ghost use Rattle.std.specs.Prelude.{◌≡◌, ◌<◌, length, slice_index};
     ghost use Rattle.simd_json_ondemand.specs.Docs.{doc, form, root, text, places};
+    ghost use Rattle.simd_json_parts.specs.Bytes.{byte_at};
     ghost use Rattle.simd_json_parts.specs.Tokens.{form_at};
 
     // Of an input, and the structural indexes that were found in it.
@@ -32,6 +33,16 @@ impl<'d> Document<'d> {
         ensures indexes { places result ≡ indexes.now }
     {
         Document { input, indexes }
+    }
+
+    // The first byte of the token with this number.
+    #[inline(always)]
+    #[tactic(auto, using(simd_json_check::proofs::Scans::within))]
+    pub(crate) fn byte(self, at: usize) -> u8
+        requires { at < length (places self) }
+        ensures { result ≡ byte_at (text self.entry) (slice_index (places self.entry) at) }
+    {
+        self.input[self.indexes[at] as usize]
     }
 
     /// Returns the root of the document: the value at the first structural index.

@@ -64,16 +64,18 @@ fn elements_are_values(rt: HostRuntime) {
     assert_eq!(rt; last.get_idx(1).and_then(|v| v.as_u64()), Some(5));
 }
 
-// Over bytes that are no document the elements end where no comma follows.
+// Over bytes that are no document the elements end where the walk stops.
 #[test]
-fn other_bytes_have_elements_up_to_a_comma(rt: HostRuntime) {
+fn other_bytes_have_elements_up_to_a_stop(rt: HostRuntime) {
     let mut index = Index::new(rt.alloc(), 0).expect(&rt, MEMORY);
-    let cases: [(&[u8], usize); 5] = [
+    let cases: [(&[u8], usize); 7] = [
         (b"[1 2]", 1),
         (b"[1,2,", 2),
         (b"[[1,2", 1),
         (b"[1,2}}", 2),
-        (b"[,1]", 1),
+        (b"[1,]", 1),
+        (b"[1,:]", 1),
+        (b"[,1]", 0),
     ];
     for (input, wanted) in cases {
         let root = index.find(input).expect(&rt, "it is scanned").as_value();

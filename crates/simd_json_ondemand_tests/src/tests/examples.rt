@@ -1,6 +1,6 @@
 // The examples of the documents.
 use super::MEMORY;
-use simd_json_ondemand::{ErrorType, Index, Result, Value, lines};
+use simd_json_ondemand::{ErrorType, Index, Result, Unexpected, Value, lines};
 
 fn name_len(rt: &impl AllocGlobal, input: &[u8]) -> Result<Option<usize>> {
     let mut index = Index::new(rt.alloc(), input.len())?;
@@ -31,10 +31,9 @@ fn is_json(rt: &impl AllocGlobal, input: &[u8]) -> Result<bool> {
     }
 }
 
-fn status(rt: &impl AllocGlobal, line: &[u8]) -> Result<Option<u64>> {
-    let mut index = Index::new(rt.alloc(), line.len())?;
-    match index.find(line)?.as_value().get("status") {
-        Some(status) => Ok(status.as_u64()),
+fn status(line: Value<'_>) -> std::result::Result<Option<u64>, Unexpected> {
+    match line.try_get("status")? {
+        Some(status) => Ok(Some(status.try_as_u64()?)),
         None => Ok(None),
     }
 }
@@ -61,7 +60,9 @@ fn sum_of(rt: &impl AllocGlobal, log: &[u8], key: &str) -> Result<u64> {
 #[test]
 fn examples_run(rt: HostRuntime) {
     let line = br#"{"level":"info","status":200}"#;
-    assert_eq!(rt; status(&rt, line).expect(&rt, MEMORY), Some(200));
+    let mut index = Index::new(rt.alloc(), 0).expect(&rt, MEMORY);
+    let root = index.find(line).expect(&rt, MEMORY).as_value();
+    assert_eq!(rt; status(root), Ok(Some(200)));
     let len = name_len(&rt, b"\"caf\\u00e9\"").expect(&rt, MEMORY);
     assert_eq!(rt; len, Some(5));
     let sum = sum(&rt, &[b"1", b"\"2\"", b"3"]).expect(&rt, MEMORY);
@@ -71,7 +72,6 @@ fn examples_run(rt: HostRuntime) {
     let log = b"{\"bytes\":1}\n \n{\"other\":2}\r\n{\"bytes\":3}";
     assert_eq!(rt; sum_of(&rt, log, "bytes").expect(&rt, MEMORY), 4);
     let message = br#"{"author":{"id":1,"name":"a","likes":2},"likes":3}"#;
-    let mut index = Index::new(rt.alloc(), 0).expect(&rt, MEMORY);
     let root = index.find(message).expect(&rt, MEMORY).as_value();
     assert_eq!(rt; fields(root), Some(("a", Some(3))));
 }

@@ -191,11 +191,11 @@ fn a_search_goes_once_round(rt: HostRuntime) {
     }
 }
 
-// A key with a bad escape is none, and the members end where no comma follows.
+// A key with a bad escape is none, and the members end where the walk stops.
 #[test]
-fn other_bytes_are_searched_up_to_a_comma(rt: HostRuntime) {
+fn other_bytes_are_searched_up_to_a_stop(rt: HostRuntime) {
     let mut index = Index::new(rt.alloc(), 0).expect(&rt, MEMORY);
-    let cases: [(&[u8], &str, Option<u64>); 7] = [
+    let cases: [(&[u8], &str, Option<u64>); 11] = [
         (b"{\"\\q\":1,\"a\":2}", "q", None),
         (b"{\"\\q\":1,\"a\":2}", "a", Some(2)),
         (b"{\"a\\ud800\":1,\"a\":2}", "a", Some(2)),
@@ -203,6 +203,10 @@ fn other_bytes_are_searched_up_to_a_comma(rt: HostRuntime) {
         (b"{\"b\":1,\"a\":2", "a", Some(2)),
         (b"{\"a\"", "a", None),
         (b"{1:2,\"a\":3}", "a", None),
+        (b"{\"a\" 1 2}", "a", None),
+        (b"{\"a\",1}", "a", None),
+        (b"{\"b\":,\"a\":2}", "a", None),
+        (b"{\"b\":1,\"a\":}", "a", None),
     ];
     for (input, key, wanted) in cases {
         let root = index.find(input).expect(&rt, "it is scanned").as_value();

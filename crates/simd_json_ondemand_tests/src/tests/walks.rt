@@ -125,16 +125,21 @@ fn integer(found: Result<Option<Value<'_>>, Unexpected>) -> Tried {
     integer.map_err(|e| (e.index, e.expected, e.got))
 }
 
+// What the other form returns is what is there, if anything.
 #[test]
 fn a_missing_item_is_no_fault(rt: HostRuntime) {
     let mut index = Index::new(rt.alloc(), 100).expect(&rt, MEMORY);
     for (input, key, wanted) in KEYS {
         let root = index.find(input).expect(&rt, "it is scanned").as_value();
         assert_eq!(rt; integer(root.try_get(key)), *wanted, "{input:?}");
+        let found = root.get(key).and_then(|value| value.as_u64());
+        assert_eq!(rt; found, wanted.ok().unwrap_or(None), "{input:?}");
     }
     for (input, i, wanted) in INDEXES {
         let root = index.find(input).expect(&rt, "it is scanned").as_value();
         assert_eq!(rt; integer(root.try_get_idx(*i)), *wanted, "{input:?}");
+        let found = root.get_idx(*i).and_then(|value| value.as_u64());
+        assert_eq!(rt; found, wanted.ok().unwrap_or(None), "{input:?}");
     }
 }
 

@@ -1,6 +1,7 @@
 use Rattle.std.proofs.Common.{refl, sym, ◌∙◌, arith}
 use Rattle.simd_json_ondemand.specs.Docs.{doc}
 use Rattle.simd_json_ondemand.specs.Sites.{element_sites, site}
+use Rattle.simd_json_ondemand.specs.Stopped.{error_at}
 use Rattle.simd_json_ondemand.specs.Walked.{elements_ahead}
 use Rattle.simd_json_ondemand.proofs.Turns.{when-some, when-none}
 use Rattle.simd_json_ondemand.proofs.Walks.{past-here, past-later, past-end, past-stop}
@@ -25,9 +26,9 @@ loop-value-smaller c = omega (arith, c.if-left-eq0.false)
 pub loop-value-preserved : goal.loop-value-preserved
 loop-value-preserved c =
     let l = c.loop-value in (
-      l.invariant.0 ∙ past-later l.left (elements_ahead l.elements) (doc c.in-Ok-Some.value) (elements_ahead c.try_next.new.self)
+      l.invariant.0 ∙ past-later l.left (elements_ahead l.elements) (doc c.in-Ok-Some.value) (elements_ahead c.step.new.self)
           c.if-left-eq0.false (when-some _ _ c.in-Ok-Some.field-0-is c.in-Ok-Some.ensures.steps),
-      l.invariant.1 ∙ past-later l.left (element_sites l.elements) (site c.in-Ok-Some.value) (element_sites c.try_next.new.self)
+      l.invariant.1 ∙ past-later l.left (element_sites l.elements) (site c.in-Ok-Some.value) (element_sites c.step.new.self)
           c.if-left-eq0.false (when-some _ _ c.in-Ok-Some.field-0-is c.in-Ok-Some.ensures.sites),
     )
 
@@ -43,8 +44,8 @@ returns-in-Ok-None-clause-sites c =
 
 pub returns-in-Err-clause-documents : goal.returns-in-Err-clause-documents
 returns-in-Err-clause-documents c =
-    sym (c.loop-value.invariant.0 ∙ past-stop c.loop-value.left (elements_ahead c.loop-value.elements) c.in-Err.e c.in-Err.ensures.steps.0)
+    sym (c.loop-value.invariant.0 ∙ past-stop c.loop-value.left (elements_ahead c.loop-value.elements) (error_at c.in-Err.stop) c.in-Err.ensures.steps.0)
 
 pub returns-in-Err-clause-sites : goal.returns-in-Err-clause-sites
 returns-in-Err-clause-sites c =
-    sym (c.loop-value.invariant.1 ∙ past-stop c.loop-value.left (element_sites c.loop-value.elements) c.in-Err.e c.in-Err.ensures.sites)
+    sym (c.loop-value.invariant.1 ∙ past-stop c.loop-value.left (element_sites c.loop-value.elements) (error_at c.in-Err.stop) c.in-Err.ensures.sites)

@@ -1,17 +1,22 @@
-use Rattle.std.proofs.Common.{◌≡◌, ◌∙◌, ap, ◌∷◌, ◌+◌, ◌-◌, map, drop, arith}
-use Rattle.std.proofs.lemmas.List.{drop-drop}
-use Rattle.simd_json_ondemand.specs.MemberTails.{pair_along, member_tails_past}
-use Rattle.simd_json_ondemand.specs.Viewed.{read_along}
+use Rattle.std.proofs.Common.{ap, sym, subst, [], ◌∷◌, ◌≡◌}
+use Rattle.std.specs.Prelude.{MatchOption}
+use Rattle.simd_json_ondemand.specs.IteratedMembers.{members_left, pair_doc}
+use Rattle.simd_json_ondemand.specs.Sites.{member_sites, pair_site}
+use Rattle.simd_json_ondemand.specs.Walked.{members_ahead}
+use Rattle.simd_json_ondemand.specs.Walks.{came, items}
+use Rattle.simd_json_ondemand.proofs.Told.{comes, yields}
 use Rattle.simd_json_ondemand.proofs.object.Object.next_member.Goals as goal
 
 pub returns-clause-steps : goal.returns-clause-steps
 returns-clause-steps c =
-    let d = c.args.self.now.document in
-    let b = d.input.now in
-    let is = d.indexes.now in
-    let at = c.in_ok-at.at in
-    let e = c.in_ok-at.ensures.found in
-    let there : at - 2 + 2 ≡ at = (let two = e.0 in omega arith) in
-    ap (map (pair_along b)) e.2
-    ∙ ap (λ js. (read_along b (drop (at - 2) is), read_along b js) ∷ map (pair_along b) (member_tails_past b (drop at is)))
-    (drop-drop 2 (at - 2) is ∙ ap (λ k. drop k is) there)
+    let new = c.step.new.self in
+    subst (λ o. MatchOption o ((members_left c.args.self.now ≡ []) × (members_left new ≡ []))
+    (λ x. members_left c.args.self.now ≡ pair_doc x ∷ members_left new)) (sym c.found.ensures)
+    (yields pair_doc (members_ahead c.args.self.now) (members_ahead new) _ c.step.result (ap members_ahead) c.step.ensures.steps)
+
+pub returns-clause-sites : goal.returns-clause-sites
+returns-clause-sites c =
+    let w = member_sites c.args.self.now in
+    let more = member_sites c.step.new.self in
+    subst (λ o. MatchOption o (items w ≡ []) (λ x. w ≡ came (pair_site x) more)) (sym c.found.ensures)
+    (comes pair_site w more c.step.result c.step.ensures.sites)

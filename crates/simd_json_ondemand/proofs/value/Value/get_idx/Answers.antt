@@ -1,20 +1,16 @@
-use Rattle.std.proofs.Common.{◌∙◌, ap, refl}
-use Rattle.std.proofs.lemmas.Iterator.Consumers.{nth_from_yields_List, YieldsList-from_first}
-use Rattle.std.specs.Prelude.{option_map}
+use Rattle.std.proofs.Common.{◌∙◌}
 use Rattle.simd_json_ondemand.specs.Docs.{doc}
-use Rattle.simd_json_ondemand.specs.Iterated.{elements_left}
-use Rattle.simd_json_ondemand.proofs.ArrayViews.{no-element, element-there}
+use Rattle.simd_json_ondemand.specs.Sites.{site}
+use Rattle.simd_json_ondemand.proofs.Told.{found-is}
+use Rattle.simd_json_ondemand.proofs.WalkViews.{idx-got}
 use Rattle.simd_json_ondemand.proofs.value.Value.get_idx.Goals as goal
 
-pub returns-in_err-as_array : goal.returns-in_err-as_array
-returns-in_err-as_array c = record {
-  document = λ d h.
-      ap (option_map doc) c.from_residual.ensures ∙ no-element c.args.index d (c.in_err-as_array.ensures.document d h);
-}
+pub returns-clause-walk : goal.returns-clause-walk
+returns-clause-walk c = found-is doc c.element.result c.found.result _ c.found.ensures c.element.ensures.walk
 
-pub returns : goal.returns
-returns c = record {
-  document = λ d h.
-      nth_from_yields_List _ c.nth.new.self _ c.nth.ensures.ran (YieldsList-from_first doc elements_left _ refl)
-      ∙ element-there _ c.args.index d (c.in_ok-as_array.ensures.document d h);
-}
+pub returns-clause-site : goal.returns-clause-site
+returns-clause-site c = found-is site c.element.result c.found.result _ c.found.ensures c.element.ensures.site
+
+pub returns-clause-document : goal.returns-clause-document
+returns-clause-document c = λ d h.
+    found-is doc c.element.result c.found.result _ c.found.ensures c.element.ensures.walk ∙ idx-got c.args.index c.args.self d h

@@ -1,79 +1,31 @@
-use Rattle.std.proofs.Common.{◌∙◌, sym, ap, ◌+◌, ◌≤◌, length, arith}
-use Rattle.std.specs.Prelude.{option_map}
-use Rattle.simd_json_ondemand.specs.Iterated.{all_some}
-use Rattle.simd_json_ondemand.specs.Sites.{element_site}
-use Rattle.simd_json_ondemand.specs.Viewed.{read_along}
-use Rattle.simd_json_ondemand.specs.Walks.{whole}
-use Rattle.simd_json_ondemand.proofs.ArrayViews.{no-array, no-end, found-elements}
-use Rattle.simd_json_ondemand.proofs.WalkViews.{array-other, array-inside, array-unended, elements-found}
+use Rattle.std.proofs.Common.{◌≡◌, ◌∙◌, ap, sym, subst}
+use Rattle.std.specs.Prelude.{MatchResult, option_map}
+use Rattle.std.specs.Result.{result_ok}
+use Rattle.simd_json_ondemand.specs.Iterated.{all_some, elements_left}
+use Rattle.simd_json_ondemand.specs.Sites.{element_sites, array_sites}
+use Rattle.simd_json_ondemand.specs.Walked.{array_walk, elements_ahead}
+use Rattle.simd_json_ondemand.specs.Walks.{stopped}
+use Rattle.simd_json_ondemand.proofs.Told.{told-match, told-ok}
+use Rattle.simd_json_ondemand.proofs.WalkViews.{left-of-whole}
 use Rattle.simd_json_ondemand.proofs.value.Value.try_as_array.Goals as goal
-
-pub returns-then-first-ne91-clause-walk : goal.returns-then-first-ne91-clause-walk
-returns-then-first-ne91-clause-walk c =
-    let v = c.args.self in
-    array-other v (read_along v.document.input.now) c.unexpected.result (λ e. c.if-first-ne91.true (c.first.ensures ∙ e))
-    c.unexpected.ensures
-
-pub returns-then-first-ne91-clause-document : goal.returns-then-first-ne91-clause-document
-returns-then-first-ne91-clause-document c = λ d h.
-    let v = c.args.self in
-    ap (option_map all_some)
-    (sym (no-array v.document.input.now v.document.indexes.now v.at v.inside d h (λ e. c.if-first-ne91.true (c.first.ensures ∙ e))))
-
-pub returns-then-first-ne91-clause-all : goal.returns-then-first-ne91-clause-all
-returns-then-first-ne91-clause-all c = λ d h.
-    let v = c.args.self in
-    ap (option_map (λ ds. whole (all_some ds)))
-    (sym (no-array v.document.input.now v.document.indexes.now v.at v.inside d h (λ e. c.if-first-ne91.true (c.first.ensures ∙ e))))
-
-pub returns-then-at-document-clause-walk : goal.returns-then-at-document-clause-walk
-returns-then-at-document-clause-walk c =
-    let v = c.args.self in
-    let end : length v.document.indexes.now ≤ v.at + 1 = (let e = c.if-at-document.true in omega arith) in
-    array-unended v (read_along v.document.input.now) c.unexpected-then-at-document.result
-    (sym c.first.ensures ∙ c.if-first-ne91.false) end c.unexpected-then-at-document.ensures
-
-pub returns-then-at-document-clause-document : goal.returns-then-at-document-clause-document
-returns-then-at-document-clause-document c = λ d h.
-    let v = c.args.self in
-    absurd (no-end v.document.input.now v.document.indexes.now v.at v.inside d h (sym c.first.ensures ∙ c.if-first-ne91.false)
-    (let e = c.if-at-document.true in omega arith))
-
-pub returns-then-at-document-clause-all : goal.returns-then-at-document-clause-all
-returns-then-at-document-clause-all c = λ d h.
-    let v = c.args.self in
-    absurd (no-end v.document.input.now v.document.indexes.now v.at v.inside d h (sym c.first.ensures ∙ c.if-first-ne91.false)
-    (let e = c.if-at-document.true in omega arith))
 
 pub returns-clause-walk : goal.returns-clause-walk
 returns-clause-walk c =
-    let v = c.args.self in
-    array-inside v (read_along v.document.input.now) (sym c.first.ensures ∙ c.if-first-ne91.false)
-
-pub returns-clause-document : goal.returns-clause-document
-returns-clause-document c = λ d h.
-    let v = c.args.self in
-    found-elements v.document.input.now v.document.indexes.now v.at v.inside d h (sym c.first.ensures ∙ c.if-first-ne91.false)
-
-pub returns-clause-all : goal.returns-clause-all
-returns-clause-all c = λ d h.
-    let v = c.args.self in
-    elements-found v.document.input.now v.document.indexes.now v.at v.inside d h (sym c.first.ensures ∙ c.if-first-ne91.false)
-
-pub returns-then-first-ne91-clause-sites : goal.returns-then-first-ne91-clause-sites
-returns-then-first-ne91-clause-sites c =
-    let v = c.args.self in
-    array-other v (element_site v.document.input.now) c.unexpected.result (λ e. c.if-first-ne91.true (c.first.ensures ∙ e))
-    c.unexpected.ensures
-
-pub returns-then-at-document-clause-sites : goal.returns-then-at-document-clause-sites
-returns-then-at-document-clause-sites c =
-    let v = c.args.self in
-    let end : length v.document.indexes.now ≤ v.at + 1 = (let e = c.if-at-document.true in omega arith) in
-    array-unended v (element_site v.document.input.now) c.unexpected-then-at-document.result
-    (sym c.first.ensures ∙ c.if-first-ne91.false) end c.unexpected-then-at-document.ensures
+    let w = array_walk c.args.self in
+    subst (λ r. MatchResult r (λ x. w ≡ elements_ahead x) (λ e. w ≡ stopped e)) (sym c.told.ensures)
+    (told-match _ (λ e. w ≡ stopped e) c.elements.result c.elements.ensures.walk)
 
 pub returns-clause-sites : goal.returns-clause-sites
 returns-clause-sites c =
-    let v = c.args.self in
-    array-inside v (element_site v.document.input.now) (sym c.first.ensures ∙ c.if-first-ne91.false)
+    let w = array_sites c.args.self in
+    subst (λ r. MatchResult r (λ x. w ≡ element_sites x) (λ e. w ≡ stopped e)) (sym c.told.ensures)
+    (told-match _ (λ e. w ≡ stopped e) c.elements.result c.elements.ensures.sites)
+
+pub returns-clause-document : goal.returns-clause-document
+returns-clause-document c = λ d h.
+    ap (option_map elements_left) (ap result_ok c.told.ensures ∙ told-ok c.elements.result)
+    ∙ left-of-whole elements_ahead all_some _ _ (c.elements.ensures.all d h)
+
+pub returns-clause-all : goal.returns-clause-all
+returns-clause-all c = λ d h.
+    ap (option_map elements_ahead) (ap result_ok c.told.ensures ∙ told-ok c.elements.result) ∙ c.elements.ensures.all d h
