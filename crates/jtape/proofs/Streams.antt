@@ -1,11 +1,8 @@
 -- What is put of some pieces of an input, and of one more, and what a port's text ends with.
-use Rattle.std.proofs.Common.{◌≡◌, ◌∙◌, refl, ap, sym, subst, inl, inr, Bool, true, false, ◌&&◌, Option, None, Some}
-use Rattle.std.proofs.Common.{ℕ, List, [], ◌∷◌, ◌++◌, take, drop, length, append-nil, append_assoc}
+use Rattle.std.proofs.Common.{◌≡◌, ◌∙◌, refl, ap, sym, subst, inl, inr, Bool, true, false, ◌&&◌, Option, Some}
+use Rattle.std.proofs.Common.{ℕ, List, [], ◌∷◌, ◌++◌, take, append-nil, append_assoc}
 use Rattle.std.specs.Io.KnownBytes.{Appends}
 use Rattle.std.specs.Prelude.{Result, Ok, Err, OnOk, OnErr, IfOk, IfErr, is_ok, is_some}
-use Rattle.std.proofs.Math.Seq.{take-append_seam}
-use Rattle.std.proofs.lemmas.Bool.{false≢true}
-use Rattle.std.proofs.lemmas.List.{take-append-drop}
 use Rattle.std.proofs.lemmas.List.Concat.{flat_map-append}
 use Rattle.std.proofs.lemmas.List.Folds.{list_all-append}
 use Rattle.jtape.specs.Pieces.{pieces, piece_text, pieces_text, is_clean, all_clean}
@@ -14,9 +11,9 @@ use Rattle.jtape.specs.Streams.{HasPut, StopsWithin}
 use Rattle.jtape.specs.declared.runs.RunFault.{RunFault}
 use Rattle.jtape.specs.declared.runs.RunFault.TheVariants.{Write}
 use Rattle.simd_json_parts.proofs.Pieces.{pieces-some}
-use Rattle.simd_json_print.specs.Texts.{TargetState, IsUnsent, failed_or, HasGiven, Adds, HasEnded}
+use Rattle.simd_json_print.specs.Texts.{TargetState, HasGiven, Adds}
 use Rattle.simd_json_print.specs.declared.text.Text.{Text}
-use Rattle.simd_json_print.proofs.Texts.{appends-none, adds-none, adds-is, adds-then, adds-lost, Ends, ended-sound, ended-failed}
+use Rattle.simd_json_print.proofs.Texts.{adds-none, adds-is, adds-then, adds-lost, Ends, ended-sound, ended-failed}
 use Rattle.simd_json_print.proofs.Texts.{sound-text, take-front}
 
 -- All pieces but the later ones are done: their text was put, and whether they are clean is known.

@@ -12,7 +12,7 @@ use Rattle.simd_json_ondemand.specs.Closing.{is_opening, closed_at, first_bytes,
 use Rattle.simd_json_ondemand.specs.Remaining.{value_at_first, elements_inside, elements_behind, elements_past}
 use Rattle.simd_json_ondemand.specs.Remaining.{members_inside, members_behind, members_past}
 use Rattle.simd_json_ondemand.specs.Viewed.{first_read, read_along}
-use Rattle.simd_json_ondemand.specs.Within.{IsItemAt, StaysInArray, StaysInObject}
+use Rattle.simd_json_ondemand.specs.Within.{IsItemAt, after_at, elements_at, members_at}
 use Rattle.simd_json_ondemand.specs.declared.array.Position.{Position}
 use Rattle.simd_json_ondemand.specs.declared.array.Position.TheVariants.{First, AtValue, AfterValue}
 use Rattle.simd_json_ondemand.specs.declared.value.Document.{Document}
@@ -131,7 +131,16 @@ module _ (b is : List ℕ) where
       let comma = token-counted at 44 l e refl in
       (inside.0, inside.1 ∙ omega arith)
 
--- ---- a cursor that comes to an item
+-- ---- a cursor that comes to a value at `next` is in the same container as before
+
+abbrev pub StaysInArray : Document → ℕ → Position → ℕ → Type 0
+StaysInArray d at position next = (ds : List parts.Document) → elements_at d at position ≡ Some ds
+    → ((left : List parts.Document) × (elements_at d next AtValue ≡ Some left)) × (after_at d next AtValue ≡ after_at d at position)
+
+abbrev pub StaysInObject : Document → ℕ → Position → ℕ → Type 0
+StaysInObject d at position next = (ms : List (List ℕ × parts.Document)) → members_at d at position ≡ Some ms
+    → ((left : List (List ℕ × parts.Document)) × (members_at d next AtValue ≡ Some left))
+    × (after_at d next AtValue ≡ after_at d at position)
 
 module _ (d : Document) (at : ℕ) (l : at < length (places d)) where
   abbrev n : ℕ

@@ -1,5 +1,5 @@
 -- The string at a value, and members looked up by key.
-use Rattle.std.proofs.Common.{◌≡◌, refl, sym, ◌∙◌, ap, ℕ, ◌+◌, List, [], ◌∷◌, length, drop, true, false, cond, ◌==◌}
+use Rattle.std.proofs.Common.{◌≡◌, refl, sym, ◌∙◌, ap, ℕ, ◌+◌, List, [], ◌∷◌, length, drop, true, cond}
 use Rattle.std.specs.Prelude.{Option, Some, None, Result, Ok, Err, option_and_then}
 use Rattle.std.proofs.lemmas.Bool.{false≢true}
 use Rattle.std.proofs.lemmas.List.{drop_more}
@@ -17,15 +17,13 @@ use Rattle.simd_json_parts.specs.declared.error.ErrorType.TheVariants.{Syntax}
 use Rattle.simd_json_scalars.specs.StringRead.{further}
 use Rattle.simd_json_scalars.proofs.Strings.Standalone.{string_at-further}
 use Rattle.simd_json_stages.proofs.Tokens.TokenForms.{quotes}
-use Rattle.simd_json_ondemand.specs.Docs.{text, places, index_of, doc, form}
+use Rattle.simd_json_ondemand.specs.Docs.{text, places, index_of, doc}
 use Rattle.simd_json_ondemand.specs.Keys.{is_key}
 use Rattle.simd_json_ondemand.specs.Viewed.{first_read, read_along}
 use Rattle.simd_json_ondemand.specs.Wanted.{read_string}
 use Rattle.simd_json_ondemand.specs.Within.{AreInSameObject}
 use Rattle.simd_json_ondemand.specs.declared.object.Object.{Object}
 use Rattle.simd_json_ondemand.specs.declared.value.Value.{Value}
-use Rattle.simd_json_ondemand.proofs.Agreement.{begins-at, standing-is}
-use Rattle.simd_json_ondemand.proofs.Standing.{no-string}
 
 -- ---- the string at a value
 
@@ -63,15 +61,6 @@ module _ (v : Value) where
       ∙ string-along b i (drop (v.at + 1) (places v.document)) (string_at b i) (quotes b i first)
       ∙ ap read_string (string_at-further b i first) ∙ read-further i (string_at (drop i b) 0)
       ∙ ap (λ us. read_string (string_at us 0)) (sym is)
-
-  pub string-none : (byte_at (text v.document) (index_of v) == 34) ≡ false → option_and_then as_str (doc v) ≡ None
-  string-none other = go (doc v) refl
-    where
-      go : (o : Option Document) → doc v ≡ o → option_and_then as_str o ≡ None
-      go None e = refl
-      go (Some d) e =
-          sym (standing-is as_str (λ _. refl) (λ _. refl) (form v) d (begins-at (text v.document) (places v.document) v.at v.inside d e))
-          ∙ no-string (text v.document) (index_of v) other
 
 -- ---- members
 

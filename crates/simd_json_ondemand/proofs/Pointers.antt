@@ -16,10 +16,9 @@ use Rattle.simd_json_parts.proofs.Pointers.Keys.{no-bytes}
 use Rattle.simd_json_parts.proofs.Pointers.Pointed.{element-fits, element-past, further, member-here, member-later, member-none}
 use Rattle.simd_json_parts.proofs.Pointers.Pointed.{some-left, stop-of}
 use Rattle.simd_json_parts.proofs.Pointers.Pointed as pointed
-use Rattle.simd_json_ondemand.specs.Docs.{doc, form, index_of, places, text}
+use Rattle.simd_json_ondemand.specs.Docs.{doc, index_of, places, text}
 use Rattle.simd_json_ondemand.specs.Iterated.{all_some}
 use Rattle.simd_json_ondemand.specs.Keys.{is_key}
-use Rattle.simd_json_ondemand.specs.Standing.{opens_array}
 use Rattle.simd_json_ondemand.specs.Viewed.{read_along}
 use Rattle.simd_json_ondemand.specs.Walks.{element_ahead, elements_walk, items, whole}
 use Rattle.simd_json_ondemand.specs.declared.array.Position.TheVariants.{First, AtValue}
@@ -80,10 +79,6 @@ both-empty (c ∷ t) (x ∷ k) is =
 -- ---- elements
 
 module _ (v : Value) (d : Document) (h : doc v ≡ Some d) where
-  pub array-test : (b : Bool) → b ≡ opens_array (form v) → is_array d ≡ b
-  array-test b test =
-      sym (array-is (text v.document) (index_of v) d (begins-at (text v.document) (places v.document) v.at v.inside d h)) ∙ sym test
-
   few-elements : (ds : Elements) → d ≡ array ds → length (elements ds) < 2 ^ 64
   few-elements ds is =
       let b : List ℕ = text v.document in

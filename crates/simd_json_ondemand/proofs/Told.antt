@@ -86,6 +86,11 @@ pub comes : {A B : Type 0} (view : A → B) (w more : Walk B) (r : Result (Optio
     → MatchOption (found r) (items w ≡ []) (λ x. w ≡ came (view x) more)
 comes view w more r = found-match _ _ _ _ r (over-ended w) (λ s. over-stopped w (error_at s))
 
+pub goes : {A B : Type 0} (view : A → B) (w more : Walk B) (P : Type 0) (r : Result (Option A) Stop)
+    → MatchResult r (λ o. MatchOption o ((w ≡ ended) × P) (λ x. w ≡ came (view x) more)) (λ s. (w ≡ stopped (error_at s)) × P)
+    → MatchOption (found r) (items w ≡ []) (λ x. w ≡ came (view x) more)
+goes view w more P r = found-match _ _ _ _ r (λ e. over-ended w e.0) (λ s e. over-stopped w (error_at s) e.0)
+
 -- a search, whose cursor stays where nothing is found
 pub seeks : {A B : Type 0} (w : Walk B) (P : Type 0) (Q : A → Type 0) (r : Result (Option A) Stop)
     → MatchResult r (λ o. MatchOption o ((w ≡ ended) × P) Q) (λ s. (w ≡ stopped (error_at s)) × P)

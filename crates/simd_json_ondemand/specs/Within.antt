@@ -75,14 +75,3 @@ abbrev pub IsItemAt : ℕ → Document → ℕ → Position → ℕ → Type 0
 IsItemAt close d at First next = (byte_at (text d) (slice_index (places d) at) ≢ close) × (next ≡ at)
 IsItemAt close d at AtValue next = IsBehindComma d (after_value d at) next
 IsItemAt close d at AfterValue next = IsBehindComma d at next
-
--- A cursor that comes to a value at `next` is in the same container as before. They serve proofs: only the crate's private clauses
--- cite them.
-abbrev pub StaysInArray : Document → ℕ → Position → ℕ → Type 0
-StaysInArray d at position next = (ds : List parts.Document) → elements_at d at position ≡ Some ds
-    → ((left : List parts.Document) × (elements_at d next AtValue ≡ Some left)) × (after_at d next AtValue ≡ after_at d at position)
-
-abbrev pub StaysInObject : Document → ℕ → Position → ℕ → Type 0
-StaysInObject d at position next = (ms : List (List ℕ × parts.Document)) → members_at d at position ≡ Some ms
-    → ((left : List (List ℕ × parts.Document)) × (members_at d next AtValue ≡ Some left))
-    × (after_at d next AtValue ≡ after_at d at position)

@@ -106,6 +106,8 @@ impl<'d> Array<'d> {
     #[inline(always)]
     pub fn next_value(&mut self) -> Option<Value<'d>>
         ensures steps { YieldsFirstBy doc elements_left self.old result self.new }
+        ensures ahead { MatchOption result (items (elements_ahead self.old) ≡ [])
+            (λ value. elements_ahead self.old ≡ came (doc value) (elements_ahead self.new)) }
         ensures sites { MatchOption result (items (element_sites self.old) ≡ [])
             (λ value. element_sites self.old ≡ came (site value) (element_sites self.new)) }
         ensures last { IfSome result (λ value.
@@ -153,6 +155,8 @@ impl<'d> Array<'d> {
     pub fn pass(&mut self, end: End)
         ensures left { after_last self.old.document self.old.at self.old.position ≡ Some end.after
             → elements_left self.new ≡ elements_left self.old }
+        ensures ahead { after_last self.old.document self.old.at self.old.position
+            ≡ Some end.after → elements_ahead self.new ≡ elements_ahead self.old }
         ensures inside { after_last self.old.document self.old.at self.old.position
             ≡ Some end.after → (v : Value) → IsInArray v self.old → IsInArray v self.new }
     {
@@ -220,8 +224,9 @@ impl<'d> Value<'d> {
         ensures inside { (d : parts.Document) → doc self.entry ≡ Some d
             → IfSome result (IsInArray self.entry) }
         ensures any { IfSome result (λ array. opens_array (form self.entry) ≡ true) }
-        ensures walk { MatchOption result (items (array_walk self.entry) ≡ [])
-            (λ array. array_walk self.entry ≡ elements_ahead array) }
+        ensures all { (d : parts.Document) → doc self.entry ≡ Some d
+            → option_map elements_ahead result
+            ≡ option_map (λ ds. whole (all_some ds)) (as_array d) }
         ensures sites { MatchOption result (items (array_sites self.entry) ≡ [])
             (λ array. array_sites self.entry ≡ element_sites array) }
     {
@@ -248,8 +253,6 @@ impl<'d> Value<'d> {
     pub fn get_idx(self, index: usize) -> Option<Value<'d>>
         ensures document { (d : parts.Document) → doc self.entry ≡ Some d → option_map doc result
             ≡ option_map (λ e. Some e) (get_idx index d) }
-        ensures walk { option_map doc result
-            ≡ found (first (walk_past index (array_walk self.entry))) }
         ensures site { option_map site result
             ≡ found (first (walk_past index (array_sites self.entry))) }
     {

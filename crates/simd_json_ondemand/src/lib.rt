@@ -54,6 +54,7 @@
 mod accessors;
 mod array;
 mod end;
+mod find;
 mod index;
 mod key;
 pub mod laws;

@@ -48,20 +48,17 @@ impl<'d> FusedIterator for Object<'d> {}
 
 impl<'d> Object<'d> {
     ghost use Rattle.std.specs.Prelude.{◌≡◌, [], Some, IfOk, IfSome, MatchOption, MatchResult};
-    ghost use Rattle.std.specs.Prelude.{option_map};
     ghost use Rattle.std.specs.Iterator.{YieldsFirstBy};
-    ghost use Rattle.simd_json_ondemand.specs.Docs.{doc};
+    ghost use Rattle.simd_json_ondemand.specs.Docs.{index_of, text};
+    ghost use Rattle.simd_json_parts.specs.Bytes.{byte_at, quote};
     ghost use Rattle.simd_json_ondemand.specs.IteratedMembers.{members_left, pair_doc};
-    ghost use Rattle.simd_json_ondemand.specs.Reached.{key_reached};
-    ghost use Rattle.simd_json_ondemand.specs.Sites.{member_sites, pair_site, site};
-    ghost use Rattle.simd_json_ondemand.specs.Stopped.{error_at, told};
-    ghost use Rattle.simd_json_ondemand.specs.Walked.{members_ahead, members_from_first};
+    ghost use Rattle.simd_json_ondemand.specs.Sites.{member_sites, pair_site};
+    ghost use Rattle.simd_json_ondemand.specs.Stopped.{error_at};
+    ghost use Rattle.simd_json_ondemand.specs.Walked.{members_ahead};
     ghost use Rattle.simd_json_ondemand.specs.Walks.{stopped, ended, came, items};
-    ghost use Rattle.simd_json_ondemand.specs.Walks.{walk_from, walk_round};
     ghost use Rattle.simd_json_ondemand.specs.Within.{IsInObject, AreInSameObject};
     ghost use Rattle.simd_json_ondemand.specs.Within.{after, after_at, after_last};
     ghost use Rattle.simd_json_ondemand.specs.declared.value.Value.{Value};
-    ghost use Rattle.simd_json_parts.specs.Document.{string};
 
     // Goes on to the next member, and returns its key and its value, or `None` at the closing
     // brace. Where the walk stops the cursor stays where it is.
@@ -78,6 +75,8 @@ impl<'d> Object<'d> {
         ensures last { IfOk result (λ next. IfSome next (λ member.
             after_last self.new.document self.new.at self.new.position
             ≡ Some (after member.1))) }
+        ensures key { IfOk result (λ next. IfSome next (λ member.
+            byte_at (text member.0.document) (index_of member.0) ≡ quote)) }
         ensures object { AreInSameObject self.old self.new }
         ensures inside { (v : Value) → IsInObject v self.old → IsInObject v self.new }
     {
@@ -111,6 +110,8 @@ impl<'d> Object<'d> {
     #[inline(always)]
     pub fn next_member(&mut self) -> Option<(Value<'d>, Value<'d>)>
         ensures steps { YieldsFirstBy pair_doc members_left self.old result self.new }
+        ensures ahead { MatchOption result (items (members_ahead self.old) ≡ [])
+            (λ member. members_ahead self.old ≡ came (pair_doc member) (members_ahead self.new)) }
         ensures sites { MatchOption result (items (member_sites self.old) ≡ [])
             (λ member. member_sites self.old ≡ came (pair_site member) (member_sites self.new)) }
         ensures last { IfSome result (λ pair.
@@ -119,141 +120,6 @@ impl<'d> Object<'d> {
         ensures inside { (v : Value) → IsInObject v self.old → IsInObject v self.new }
     {
         found(self.step())
-    }
-
-    /// Returns the value of the first of the members left that has this key or, if none has it, of
-    /// the first of all members of the object that has it, and goes on behind that member. If the
-    /// object has no such member, it returns `None`, and the cursor stays where it is.
-    ///
-    /// Keys that are asked for in the order of the input take one pass along the object. One that
-    /// is missing, or is before the cursor, is looked for as far as the object ends, and then from
-    /// its beginning up to where the search began. `None` does not tell a missing key from bytes
-    /// that are no object; [`try_find`](Object::try_find) does.
-    ///
-    /// A key in the input may have escapes: `{"\u0061":1}` has the key `a`. One with an invalid
-    /// escape is equal to none.
-    #[inline(always)]
-    pub fn find(&mut self, key: &str) -> Option<Value<'d>>
-        ensures found { MatchOption result
-            ((items (walk_round key.now (members_ahead self.old) (members_from_first self.old))
-            ≡ []) × (self.new ≡ self.old))
-            (λ value. walk_round key.now (members_ahead self.old) (members_from_first self.old)
-            ≡ came (Some (string key.now), doc value) (members_ahead self.new)) }
-        ensures last { IfSome result (λ value.
-            after_last self.new.document self.new.at self.new.position ≡ Some (after value)) }
-        ensures object { AreInSameObject self.old self.new }
-        ensures inside { (v : Value) → IsInObject v self.old → IsInObject v self.new }
-    {
-        found(self.find_round(key))
-    }
-
-    // Looks for the key among the members left, and then among all.
-    #[inline(always)]
-    pub(crate) fn find_round(&mut self, key: &str) -> Result<Option<Value<'d>>, Stop<'d>>
-        ensures found { MatchResult result
-            (λ found. MatchOption found
-            ((walk_round key.now (members_ahead self.old) (members_from_first self.old) ≡ ended)
-            × (self.new ≡ self.old))
-            (λ value. walk_round key.now (members_ahead self.old) (members_from_first self.old)
-            ≡ came (Some (string key.now), doc value) (members_ahead self.new)))
-            (λ s. (walk_round key.now (members_ahead self.old) (members_from_first self.old)
-            ≡ stopped (error_at s)) × (self.new ≡ self.old)) }
-        ensures last { IfOk result (λ found. IfSome found (λ value.
-            after_last self.new.document self.new.at self.new.position ≡ Some (after value))) }
-        ensures object { AreInSameObject self.old self.new }
-        ensures inside { (v : Value) → IsInObject v self.old → IsInObject v self.new }
-    {
-        let wanted = Wanted::new(key);
-        match self.find_left(wanted) {
-            Ok(None) => {}
-            Ok(Some(value)) => return Ok(Some(value)),
-            Err(stop) => return Err(stop),
-        }
-        match self.find_before(wanted) {
-            Ok(Some((all, value))) => {
-                *self = all;
-                Ok(Some(value))
-            }
-            Ok(None) => Ok(None),
-            Err(stop) => Err(stop),
-        }
-    }
-
-    // The same among the members left alone.
-    #[inline(always)]
-    fn find_left(&mut self, wanted: Wanted<'_>) -> Result<Option<Value<'d>>, Stop<'d>>
-        ensures found { MatchResult result
-            (λ found. MatchOption found
-            ((walk_from wanted.entry.key.now (members_ahead self.old) ≡ ended)
-            × (self.new ≡ self.old))
-            (λ value. walk_from wanted.entry.key.now (members_ahead self.old)
-            ≡ came (Some (string wanted.entry.key.now), doc value) (members_ahead self.new)))
-            (λ s. (walk_from wanted.entry.key.now (members_ahead self.old)
-            ≡ stopped (error_at s)) × (self.new ≡ self.old)) }
-        ensures site { told (option_map site) result
-            ≡ key_reached wanted.entry.key.now (member_sites self.old) }
-        ensures last { IfOk result (λ found. IfSome found (λ value.
-            after_last self.new.document self.new.at self.new.position ≡ Some (after value))) }
-        ensures object { AreInSameObject self.old self.new }
-        ensures inside { (v : Value) → IsInObject v self.old → IsInObject v self.new }
-    {
-        let mut left = *self;
-        loop {
-            match left.step() {
-                Ok(Some((name, value))) => {
-                    if name.is_key(wanted) {
-                        *self = left;
-                        return Ok(Some(value));
-                    }
-                }
-                Ok(None) => return Ok(None),
-                Err(stop) => return Err(stop),
-            }
-        }
-    }
-
-    // The same among all members, where none of those left has the key, and they end: a cursor
-    // behind the member, and its value. The walk from the beginning ends where it comes to this
-    // cursor.
-    #[cold]
-    #[inline(never)]
-    fn find_before(self, wanted: Wanted<'_>) -> Result<Option<(Object<'d>, Value<'d>)>, Stop<'d>>
-        requires { walk_from wanted.key.now (members_ahead self) ≡ ended }
-        ensures found { MatchResult result
-            (λ found. MatchOption found
-            (walk_from wanted.entry.key.now (members_from_first self.entry) ≡ ended)
-            (λ r. walk_from wanted.entry.key.now (members_from_first self.entry)
-            ≡ came (Some (string wanted.entry.key.now), doc r.1) (members_ahead r.0)))
-            (λ s. walk_from wanted.entry.key.now (members_from_first self.entry)
-            ≡ stopped (error_at s)) }
-        ensures last { IfOk result (λ found. IfSome found (λ r.
-            after_last r.0.document r.0.at r.0.position ≡ Some (after r.1))) }
-        ensures object { IfOk result (λ found. IfSome found (λ r.
-            AreInSameObject self.entry r.0)) }
-        ensures inside { IfOk result (λ found. IfSome found (λ r.
-            (v : Value) → IsInObject v self.entry → IsInObject v r.0)) }
-    {
-        let mut all = Object {
-            document: self.document,
-            first: self.first,
-            at: self.first,
-            position: Position::First,
-        };
-        while all.at != self.at || all.position != self.position {
-            match all.step() {
-                Ok(Some((name, value))) => {
-                    if name.is_key(wanted) {
-                        return Ok(Some((all, value)));
-                    }
-                    if self.position == Position::AfterValue {
-                        all.pass(value.end());
-                    }
-                }
-                Ok(None) => return Ok(None),
-                Err(stop) => return Err(stop),
-            }
-        }
-        Ok(None)
     }
 
     /// Returns where the object ends. Only what is left of it is read.
@@ -310,7 +176,8 @@ impl<'d> Value<'d> {
     ghost use Rattle.std.specs.Prelude.{◌≡◌, [], true, Some, IfOk, IfSome, MatchOption};
     ghost use Rattle.std.specs.Prelude.{MatchResult, option_and_then, option_map};
     ghost use Rattle.std.specs.Result.{result_ok};
-    ghost use Rattle.simd_json_ondemand.specs.Docs.{doc, form};
+    ghost use Rattle.simd_json_ondemand.specs.Docs.{doc, form, index_of, text};
+    ghost use Rattle.simd_json_parts.specs.Bytes.{byte_at, quote};
     ghost use Rattle.simd_json_ondemand.specs.IteratedMembers.{members_left, members_of};
     ghost use Rattle.simd_json_ondemand.specs.IteratedMembers.{all_members};
     ghost use Rattle.simd_json_ondemand.specs.Keys.{is_key};
@@ -366,8 +233,9 @@ impl<'d> Value<'d> {
         ensures inside { (d : parts.Document) → doc self.entry ≡ Some d
             → IfSome result (IsInObject self.entry) }
         ensures any { IfSome result (λ object. opens_object (form self.entry) ≡ true) }
-        ensures walk { MatchOption result (items (object_walk self.entry) ≡ [])
-            (λ object. object_walk self.entry ≡ members_ahead object) }
+        ensures all { (d : parts.Document) → doc self.entry ≡ Some d
+            → option_map members_ahead result
+            ≡ option_map (λ ms. whole (all_members ms)) (as_object d) }
         ensures sites { MatchOption result (items (object_sites self.entry) ≡ [])
             (λ object. object_sites self.entry ≡ member_sites object) }
         ensures from { IfSome result (λ object.
@@ -400,19 +268,18 @@ impl<'d> Value<'d> {
         ensures document { (d : parts.Document) → doc self.entry ≡ Some d → option_map doc result
             ≡ option_map (λ e. Some e) (get key.now d) }
         ensures any { IfSome result (λ value. opens_object (form self.entry) ≡ true) }
-        ensures walk { option_map doc result
-            ≡ found (first_with key.now (object_walk self.entry)) }
         ensures site { option_map site result
             ≡ found (key_reached key.now (object_sites self.entry)) }
     {
         found(self.member(key))
     }
 
-    // Whether the value is a string, and the key.
+    // Whether the string here is the key.
     #[inline(always)]
     pub(crate) fn is_key(self, wanted: Wanted<'_>) -> bool
+        requires { byte_at (text self.document) (index_of self) ≡ quote }
         ensures { result ≡ is_key wanted.entry.key.now (option_and_then as_str (doc self.entry)) }
     {
-        self.first() == b'"' && wanted.is_at(self.bytes())
+        wanted.is_at(self.bytes())
     }
 }

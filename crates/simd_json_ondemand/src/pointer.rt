@@ -19,7 +19,9 @@ impl<'d> Value<'d> {
     ghost use Rattle.std.specs.Prelude.{◌≡◌, IfErr, List, Some, ℕ};
     ghost use Rattle.std.specs.Prelude.{option_and_then, option_map};
     ghost use Rattle.std.specs.Result.{result_ok};
+    ghost use Rattle.simd_json_ondemand.specs.Docs as docs;
     ghost use Rattle.simd_json_ondemand.specs.Docs.{doc};
+    ghost use Rattle.simd_json_parts.specs.Bytes.{byte_at, quote};
     ghost use Rattle.simd_json_ondemand.specs.Keys.{is_key};
     ghost use Rattle.simd_json_ondemand.specs.Reached.{pointed_at};
     ghost use Rattle.simd_json_ondemand.specs.Sites.{site};
@@ -163,14 +165,15 @@ impl<'d> Value<'d> {
         }
     }
 
-    // Whether the value is a string, and the key that a token is.
+    // Whether the string here is the key that a token is.
     #[inline(always)]
     fn is_named(self, token: &[u8]) -> bool
-        requires { is_some (unescaped token.now) ≡ true }
+        requires opening { byte_at (docs.text self.document) (docs.index_of self) ≡ quote }
+        requires formed { is_some (unescaped token.now) ≡ true }
         ensures { (key : List ℕ) → unescaped token.now ≡ Some key
             → result ≡ is_key key (option_and_then as_str (doc self.entry)) }
     {
-        self.first() == b'"' && is_written(self.bytes(), token)
+        is_written(self.bytes(), token)
     }
 }
 

@@ -74,7 +74,7 @@ pub(crate) fn told<T>(walked: Result<T, Stop<'_>>) -> Result<T, Unexpected>
 
 impl<'d> Document<'d> {
     ghost use Rattle.std.specs.Prelude.{◌≡◌, ◌==◌, ◌<◌, ◌≤◌, ◌+◌, ◌-◌, length, drop};
-    ghost use Rattle.std.specs.Prelude.{IfOk, IfSome, false, option_map};
+    ghost use Rattle.std.specs.Prelude.{IfOk, IfSome, false, option_map, slice_index};
     ghost use Rattle.simd_json_ondemand.specs.Docs.{places, text};
     ghost use Rattle.simd_json_ondemand.specs.Stopped.{error_at, told};
     ghost use Rattle.simd_json_ondemand.specs.Unexpected.{unexpected};
@@ -82,8 +82,8 @@ impl<'d> Document<'d> {
     ghost use Rattle.simd_json_ondemand.specs.Walks.{behind_item, item_ahead};
     ghost use Rattle.simd_json_ondemand.specs.Walks.{element_ahead, member_ahead, member_here};
     ghost use Rattle.simd_json_ondemand.specs.Within.{IsBehindComma, IsItemAt};
-    ghost use Rattle.simd_json_parts.specs.Bytes.{comma};
-    ghost use Rattle.simd_json_ondemand.specs.Within.{StaysInArray, StaysInObject};
+    ghost use Rattle.simd_json_parts.specs.Bytes.{byte_at, comma, quote};
+    ghost use Rattle.simd_json_parts.specs.Bytes.{right_brace, right_bracket};
 
     // Where something else was expected of the token with this number.
     #[inline(always)]
@@ -120,6 +120,8 @@ impl<'d> Document<'d> {
         ensures token { told (λ k. drop k (places self.entry)) result
             ≡ behind_token (text self.entry) byte expected (drop at (places self.entry)) }
         ensures bound { IfOk result (λ k. (k ≡ at + 1) × (k ≤ length (places self.entry))) }
+        ensures byte { IfOk result (λ k.
+            byte_at (text self.entry) (slice_index (places self.entry) at) ≡ byte) }
     {
         if at < self.indexes.len() && self.byte(at) == byte {
             return Ok(at + 1);
@@ -194,7 +196,8 @@ impl<'d> Document<'d> {
         ensures element { told (option_map (λ k. drop k (places self.entry))) result
             ≡ element_ahead (text self.entry) position (drop at (places self.entry)) }
         ensures bound { IfOk result (λ k. IfSome k (λ k. k < length (places self.entry))) }
-        ensures inside { IfOk result (λ k. IfSome k (StaysInArray self.entry at position)) }
+        ensures place { IfOk result (λ k. IfSome k
+            (IsItemAt right_bracket self.entry at position)) }
     {
         match self.item_ahead(at, position, b']', Expected::CommaOrBracket)? {
             Some(next) => Ok(Some(self.value_at(next)?)),
@@ -214,7 +217,10 @@ impl<'d> Document<'d> {
             ≡ member_ahead (text self.entry) position (drop at (places self.entry)) }
         ensures bound { IfOk result (λ k. IfSome k (λ k. (2 ≤ k)
             × (k < length (places self.entry)))) }
-        ensures inside { IfOk result (λ k. IfSome k (StaysInObject self.entry at position)) }
+        ensures place { IfOk result (λ k. IfSome k (λ k.
+            IsItemAt right_brace self.entry at position (k - 2))) }
+        ensures key { IfOk result (λ k. IfSome k (λ k.
+            byte_at (text self.entry) (slice_index (places self.entry) (k - 2)) ≡ quote)) }
     {
         match self.item_ahead(at, position, b'}', Expected::CommaOrBrace)? {
             Some(key) => Ok(Some(self.member_at(key)?)),
@@ -222,33 +228,15 @@ impl<'d> Document<'d> {
         }
     }
 
-    // The number of the value of the member whose key is here: its three first tokens are tested at
-    // once.
+    // The number of the value of the member whose key is here.
     #[inline(always)]
     fn member_at(self, key: usize) -> Result<usize, Stop<'d>>
         requires { key ≤ length (places self) }
         ensures member { told (λ k. drop (k - 2) (places self.entry)) result
             ≡ member_here (text self.entry) (drop key (places self.entry)) }
         ensures bound { IfOk result (λ k. (k ≡ key + 2) × (k < length (places self.entry))) }
-    {
-        if self.indexes.len() - key > 2
-            && self.byte(key) == b'"'
-            && self.byte(key + 1) == b':'
-            && begins_value(self.byte(key + 2))
-        {
-            return Ok(key + 2);
-        }
-        self.member_by_token(key)
-    }
-
-    // The same, one after the other: where one is missing.
-    #[cold]
-    #[inline(never)]
-    fn member_by_token(self, key: usize) -> Result<usize, Stop<'d>>
-        requires { key ≤ length (places self) }
-        ensures member { told (λ k. drop (k - 2) (places self.entry)) result
-            ≡ member_here (text self.entry) (drop key (places self.entry)) }
-        ensures bound { IfOk result (λ k. (k ≡ key + 2) × (k < length (places self.entry))) }
+        ensures key { IfOk result (λ k.
+            byte_at (text self.entry) (slice_index (places self.entry) key) ≡ quote) }
     {
         let colon = self.behind(key, b'"', Expected::Key)?;
         let value = self.behind(colon, b':', Expected::Colon)?;

@@ -33,5 +33,5 @@ returns-in-Ok-None c =
 
 pub returns-in-Err : goal.returns-in-Err
 returns-in-Err c =
-    to-stop c.args.token.now (member_sites c.args.object) (member_sites c.loop-key.left) c.loop-key.invariant c.requires (error_at c.in-Err.stop)
-    c.in-Err.ensures.sites
+    to-stop c.args.token.now (member_sites c.args.object) (member_sites c.loop-key.left) c.loop-key.invariant c.requires
+    (error_at c.in-Err.stop) c.in-Err.ensures.sites

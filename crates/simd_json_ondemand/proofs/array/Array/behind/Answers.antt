@@ -44,8 +44,10 @@ returns-in-Ok-None-clause-sites c =
 
 pub returns-in-Err-clause-documents : goal.returns-in-Err-clause-documents
 returns-in-Err-clause-documents c =
-    sym (c.loop-value.invariant.0 ∙ past-stop c.loop-value.left (elements_ahead c.loop-value.elements) (error_at c.in-Err.stop) c.in-Err.ensures.steps.0)
+    sym (c.loop-value.invariant.0 ∙ past-stop c.loop-value.left (elements_ahead c.loop-value.elements) (error_at c.in-Err.stop)
+    c.in-Err.ensures.steps.0)
 
 pub returns-in-Err-clause-sites : goal.returns-in-Err-clause-sites
 returns-in-Err-clause-sites c =
-    sym (c.loop-value.invariant.1 ∙ past-stop c.loop-value.left (element_sites c.loop-value.elements) (error_at c.in-Err.stop) c.in-Err.ensures.sites)
+    sym (c.loop-value.invariant.1 ∙ past-stop c.loop-value.left (element_sites c.loop-value.elements) (error_at c.in-Err.stop)
+    c.in-Err.ensures.sites)

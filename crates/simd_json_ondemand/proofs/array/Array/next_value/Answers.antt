@@ -5,7 +5,7 @@ use Rattle.simd_json_ondemand.specs.Iterated.{elements_left}
 use Rattle.simd_json_ondemand.specs.Sites.{element_sites, site}
 use Rattle.simd_json_ondemand.specs.Walked.{elements_ahead}
 use Rattle.simd_json_ondemand.specs.Walks.{came, items}
-use Rattle.simd_json_ondemand.proofs.Told.{comes, yields}
+use Rattle.simd_json_ondemand.proofs.Told.{comes, goes, yields}
 use Rattle.simd_json_ondemand.proofs.array.Array.next_value.Goals as goal
 
 pub returns-clause-steps : goal.returns-clause-steps
@@ -14,6 +14,13 @@ returns-clause-steps c =
     subst (λ o. MatchOption o ((elements_left c.args.self.now ≡ []) × (elements_left new ≡ []))
     (λ x. elements_left c.args.self.now ≡ doc x ∷ elements_left new)) (sym c.found.ensures)
     (yields doc (elements_ahead c.args.self.now) (elements_ahead new) _ c.step.result (ap elements_ahead) c.step.ensures.steps)
+
+pub returns-clause-ahead : goal.returns-clause-ahead
+returns-clause-ahead c =
+    let w = elements_ahead c.args.self.now in
+    let more = elements_ahead c.step.new.self in
+    subst (λ o. MatchOption o (items w ≡ []) (λ x. w ≡ came (doc x) more)) (sym c.found.ensures)
+    (goes doc w more _ c.step.result c.step.ensures.steps)
 
 pub returns-clause-sites : goal.returns-clause-sites
 returns-clause-sites c =

@@ -7,3 +7,8 @@ pub returns-then-end-document-clause-left : goal.returns-then-end-document-claus
 returns-then-end-document-clause-left c = λ last.
     let a = c.args.self.now in
     ap items (elements-passed a.document a.at c.args.end.after a.position last)
+
+pub returns-then-end-document-clause-ahead : goal.returns-then-end-document-clause-ahead
+returns-then-end-document-clause-ahead c =
+    let a = c.args.self.now in
+    elements-passed a.document a.at c.args.end.after a.position

@@ -72,4 +72,5 @@ returns-in-Ok-None-clause-found c =
 pub returns-in-Err-clause-found : goal.returns-in-Err-clause-found
 returns-in-Err-clause-found c =
     let key = c.args.wanted.key.now in
-    (c.loop-name.invariant.ahead ∙ ap (walk_from key) c.in-Err.ensures.steps.0 ∙ from-stopped key (error_at c.in-Err.stop), c.loop-name.invariant.same)
+    let stop = error_at c.in-Err.stop in
+    (c.loop-name.invariant.ahead ∙ ap (walk_from key) c.in-Err.ensures.steps.0 ∙ from-stopped key stop, c.loop-name.invariant.same)

@@ -6,6 +6,8 @@ use Rattle.simd_json_ondemand.specs.Sites.{pair_sites}
 use Rattle.simd_json_ondemand.specs.Stopped.{error_at}
 use Rattle.simd_json_ondemand.specs.Walks.{came, members_seen, members_walk}
 use Rattle.simd_json_ondemand.specs.declared.array.Position.TheVariants.{AtValue}
+use Rattle.simd_json_ondemand.specs.Within.{IsItemAt}
+use Rattle.simd_json_ondemand.proofs.Inside.{StaysInObject, stays-in-object}
 use Rattle.simd_json_ondemand.proofs.Turns.{member-comes, members-end, members-stop, member-seen, members-seen-end, members-seen-stop}
 use Rattle.simd_json_ondemand.proofs.object.Object.step.Goals as goal
 
@@ -63,4 +65,19 @@ returns-in-Ok-None-clause-steps c =
 pub returns-in-Err-clause-steps : goal.returns-in-Err-clause-steps
 returns-in-Err-clause-steps c =
     let o = c.args.self.now in
-    (members-stop o.document.input.now o.position (drop o.at o.document.indexes.now) (error_at c.in-Err.stop) (sym c.in-Err.ensures.member), refl)
+    let stop = error_at c.in-Err.stop in
+    (members-stop o.document.input.now o.position (drop o.at o.document.indexes.now) stop (sym c.in-Err.ensures.member), refl)
+
+pub returns-in-Ok-Some-clause-inside : goal.returns-in-Ok-Some-clause-inside
+returns-in-Ok-Some-clause-inside c = λ v h.
+    let o = c.args.self.now in
+    let is = o.document.indexes.now in
+    let at = c.in-Ok-Some.at in
+    let at-least : (2 ≤ at) × (at < length is) =
+    subst (λ o. IfSome o (λ k. (2 ≤ k) × (k < length is))) c.in-Ok-Some.field-0-is c.in-Ok-Some.ensures.bound in
+    let there : at - 2 + 2 ≡ at = (let two = at-least.0 in omega arith) in
+    let place = subst (λ p. IfSome p (λ k. IsItemAt 125 o.document o.at o.position (k - 2))) c.in-Ok-Some.field-0-is
+    c.in-Ok-Some.ensures.place in
+    let stays = subst (StaysInObject o.document o.at o.position) there
+    (stays-in-object o.document o.at o.inside o.position (at - 2) place) h.left h.here in
+    record { left = stays.0.0; here = stays.0.1; ends = stays.1 ∙ h.ends; all = h.all; begins = h.begins; closes = h.closes }

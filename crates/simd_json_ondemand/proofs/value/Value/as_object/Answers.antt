@@ -3,7 +3,7 @@ use Rattle.std.specs.Prelude.{MatchOption, option_map}
 use Rattle.simd_json_ondemand.specs.IteratedMembers.{all_members, members_left}
 use Rattle.simd_json_ondemand.specs.Sites.{member_sites, object_sites}
 use Rattle.simd_json_ondemand.specs.Stopped.{error_at}
-use Rattle.simd_json_ondemand.specs.Walked.{object_walk, members_ahead}
+use Rattle.simd_json_ondemand.specs.Walked.{members_ahead}
 use Rattle.simd_json_ondemand.specs.Walks.{items}
 use Rattle.simd_json_ondemand.proofs.Told.{ok-match, over-stopped}
 use Rattle.simd_json_ondemand.proofs.WalkViews.{left-of-whole}
@@ -13,11 +13,8 @@ pub returns-clause-document : goal.returns-clause-document
 returns-clause-document c = λ d h.
     ap (option_map members_left) c.ok.ensures.value ∙ left-of-whole members_ahead all_members _ _ (c.members.ensures.all d h)
 
-pub returns-clause-walk : goal.returns-clause-walk
-returns-clause-walk c =
-    let w = object_walk c.args.self in
-    subst (λ o. MatchOption o (items w ≡ []) (λ x. w ≡ members_ahead x)) (sym c.ok.ensures.value)
-    (ok-match _ _ _ c.members.result (λ s. over-stopped w (error_at s)) c.members.ensures.walk)
+pub returns-clause-all : goal.returns-clause-all
+returns-clause-all c = λ d h. ap (option_map members_ahead) c.ok.ensures.value ∙ c.members.ensures.all d h
 
 pub returns-clause-sites : goal.returns-clause-sites
 returns-clause-sites c =

@@ -48,7 +48,8 @@ returns-in_err-reached-clause-document g c = λ d h.
     ∙ led-nowhere p c.args.self l.reached l.at l.invariant.led next.at.begins.0
     (λ e r. stuck-at-token p l.at _ e next.at
     (ap (λ t. result_ok (named t e)) (sym c.range-token.ensures.value)
-    ∙ nowhere _ (ap (option_map doc) c.in_err-reached.ensures ∙ (is-step c.range-token.result.now l.reached e r c.child.result c.child.ensures).finds))) d h
+    ∙ nowhere _ (ap (option_map doc) c.in_err-reached.ensures
+    ∙ (is-step c.range-token.result.now l.reached e r c.child.result c.child.ensures).finds))) d h
     ∙ ap (λ t. option_map (λ (e : Document). Some e) (result_ok (pointed t d))) c.as_str-text.ensures
 
 pub returns-in_err-reached-clause-walk : goal.returns-in_err-reached-clause-walk

@@ -5,9 +5,6 @@ use Rattle.simd_json_ondemand.proofs.Told.{found-is}
 use Rattle.simd_json_ondemand.proofs.WalkViews.{got}
 use Rattle.simd_json_ondemand.proofs.value.Value.get.Goals as goal
 
-pub returns-clause-walk : goal.returns-clause-walk
-returns-clause-walk c = found-is doc c.member.result c.found.result _ c.found.ensures c.member.ensures.walk
-
 pub returns-clause-site : goal.returns-clause-site
 returns-clause-site c = found-is site c.member.result c.found.result _ c.found.ensures c.member.ensures.site
 

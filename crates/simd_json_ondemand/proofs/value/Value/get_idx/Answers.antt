@@ -5,9 +5,6 @@ use Rattle.simd_json_ondemand.proofs.Told.{found-is}
 use Rattle.simd_json_ondemand.proofs.WalkViews.{idx-got}
 use Rattle.simd_json_ondemand.proofs.value.Value.get_idx.Goals as goal
 
-pub returns-clause-walk : goal.returns-clause-walk
-returns-clause-walk c = found-is doc c.element.result c.found.result _ c.found.ensures c.element.ensures.walk
-
 pub returns-clause-site : goal.returns-clause-site
 returns-clause-site c = found-is site c.element.result c.found.result _ c.found.ensures c.element.ensures.site
 
