@@ -2,7 +2,7 @@
 # Runs the programs that the gate has built, and compares standard output, standard error and status with what stands here,
 # which was worked out by hand. Silent where all is as it must be; else it says what differs, and ends with status 1.
 #
-# usage: sh tests/statuses.sh [JTAPE [LOG_REPORT [JPICK]]]
+# usage: sh tests/statuses.sh [JTAPE [LOG_REPORT [JPICK [JCHECK]]]]
 set -u
 program=${1:-$(dirname "$0")/../crates/jtape_main/out/jtape_main}
 log_report=${2:-$(dirname "$0")/../crates/log_report_main/out/log_report_main}
@@ -203,7 +203,7 @@ if [ -w /dev/full ]; then
     : > "$room/out"
     echo '{}' | "$program" level > /dev/full 2> "$room/err"
     status=$?
-    wanted 'a report on a full disk' 3 '' 'log_report: writing failed\n'
+    wanted 'a report on a full disk' 3 '' 'log_report: standard output: writing failed\n'
 fi
 : > "$room/out"
 # closed INPUT: counts the lines of the input, a format of printf, for a reader that has closed the report.
@@ -246,15 +246,15 @@ for condition in /a /a= /a=x '/a=1 2'; do
 done
 "$program" /a < / > "$room/out" 2> "$room/err"
 status=$?
-wanted 'a folder as input, fields' 3 '' 'jpick: -: reading failed\n'
+said 'a folder as input, fields' 3 'jpick: -: '
 : > "$room/out"
 echo '[1]' | "$program" /0 >&- 2> "$room/err"
 status=$?
-wanted 'closed output, fields' 3 '' 'jpick: -: writing failed\n'
+wanted 'closed output, fields' 3 '' 'jpick: standard output: writing failed\n'
 if [ -w /dev/full ]; then
     echo '[1]' | "$program" /0 > /dev/full 2> "$room/err"
     status=$?
-    wanted 'a full disk, fields' 3 '' 'jpick: -: writing failed\n'
+    wanted 'a full disk, fields' 3 '' 'jpick: standard output: writing failed\n'
 fi
 echo '[1]' > "$room/one"
 "$program" /0 -- "$room/one" "$room/missing" "$room/one" > "$room/out" 2> "$room/err"
@@ -275,5 +275,44 @@ wanted 'a closed pipe, fields' 0 '12345\n' ''
 { echo '[1,]'; cat "$room/many"; } > "$room/rejected"
 picked "$room/rejected"
 wanted 'a closed pipe, fields, and a rejected line' 1 '12345\n' '-:1:4: expected a value, found `]`\n'
+
+# Of jcheck an input that can't be read is named, and an output that can't be written.
+program=${4:-$(dirname "$0")/../crates/jcheck_main/out/jcheck_main}
+[ -x "$program" ] || { echo "$program is not there: run make test" >&2; exit 1; }
+given '' "$room/missing"
+said 'a file that is missing, checked' 3 "jcheck: $room/missing: "
+for option in --color=never --lines; do
+    "$program" "$option" < / > "$room/out" 2> "$room/err"
+    status=$?
+    said "a folder as input, jcheck $option" 3 'jcheck: -: '
+    if [ -w /dev/full ]; then
+        : > "$room/out"
+        echo '[1,]' | "$program" "$option" > /dev/full 2> "$room/err"
+        status=$?
+        said "a full disk, jcheck $option" 3 'jcheck: standard output: '
+    fi
+    : > "$room/out"
+    { sleep 0.2; echo '[1,]' | "$program" "$option" 2> "$room/err"; echo $? > "$room/status"; } | :
+    status=$(cat "$room/status")
+    wanted "a closed pipe, jcheck $option" 1 '' ''
+done
+
+# Help and version, where they can't be written, and where nobody reads them.
+for word in --help --version; do
+    for program in "$log_report" \
+        "${3:-$(dirname "$0")/../crates/jpick_main/out/jpick_main}" \
+        "${4:-$(dirname "$0")/../crates/jcheck_main/out/jcheck_main}"; do
+        name=$(basename "$program" _main)
+        : > "$room/out"
+        if [ -w /dev/full ]; then
+            "$program" "$word" > /dev/full 2> "$room/err"
+            status=$?
+            said "a full disk, $name $word" 3 "$name: standard output: "
+        fi
+        { sleep 0.2; "$program" "$word" 2> "$room/err"; echo $? > "$room/status"; } | :
+        status=$(cat "$room/status")
+        wanted "a closed pipe, $name $word" 0 '' ''
+    done
+done
 
 exit $different

@@ -1,20 +1,20 @@
 -- The lines of a stream that have ended, and the one that has begun.
-use Rattle.std.proofs.Common.{◌≡◌, ◌∙◌, refl, ap, sym, arith, inr, ℕ, ◌+◌, ◌≤◌, List, [], ◌∷◌, ◌++◌, length, length-append}
+use Rattle.std.proofs.Common.{◌≡◌, ◌∙◌, refl, ap, sym, arith, ℕ, ◌+◌, ◌≤◌, List, [], ◌∷◌, ◌++◌, length, length-append}
 use Rattle.std.proofs.Common.{add-zero}
-use Rattle.std.proofs.Common.{Bool, true, false, ◌&&◌, ◌==◌, cond, Option, subst, append_assoc, append-nil, take, drop, get_or, Some, ◌⊎◌}
-use Rattle.std.proofs.KnownBytes.{Appends-nil, Appends-trans, Consumes-trans}
+use Rattle.std.proofs.Common.{Bool, true, false, ◌&&◌, ◌==◌, cond, Option, subst, append_assoc, append-nil, take, drop, get_or, Some}
+use Rattle.std.proofs.KnownBytes.{Appends-nil, Appends-trans}
 use Rattle.std.proofs.Math.Seq.{take-append-add, take-append_seam}
+use Rattle.std.proofs.lemmas.Bool.{false≢true}
 use Rattle.std.proofs.lemmas.List.{drop-drop, take-append-drop}
-use Rattle.std.specs.Io.KnownBytes.{Appends, Consumes}
-use Rattle.std.specs.IoError.{error_kind}
+use Rattle.std.specs.Io.KnownBytes.{Appends}
 use Rattle.std.specs.List.{list_all}
-use Rattle.std.specs.declared.io.Error.{Error}
-use Rattle.std.specs.declared.io.ErrorKind.TheVariants.{OutOfMemory}
 use Rattle.jcheck.proofs.Checked.{cut-at}
 use Rattle.jcheck.specs.Reports.{is_clean_line, line_text, lines_text}
+use Rattle.jcheck.specs.Failures.{IsShortOfMemory, is_of_output}
 use Rattle.jcheck.specs.Streams.{AreDone, EndsLines, Stops, Takes, bytes_of}
 use Rattle.jcheck.specs.Writings.{HasLeftOff, HasStopped}
 use Rattle.jcheck.specs.declared.excerpt.Style.{Style}
+use Rattle.jcheck.specs.declared.failure.Failure.{Failure}
 use Rattle.jcheck.specs.declared.lines.Lines.{Lines}
 use Rattle.jsonl.specs.Ports.{Watched}
 use Rattle.simd_json_parts.proofs.Pieces.{is-equal, pieces-some}
@@ -134,12 +134,13 @@ module _ {style : Style} {limit : ℕ} {lines : Lines} {input : List ℕ} {held 
   whole-is more = ap (lines_text file style limit 1 0) (d.cut more) ∙ after-done (pieces (lines.begun.items ++ more))
 
   -- a beginning of it was written
-  pub stopped : {now : Option (List ℕ)} (more : List ℕ) (e : Error) (failed : Bool) → HasStopped e failed holds now (text more)
+  pub stopped : {now : Option (List ℕ)} (more : List ℕ) (e : Failure) (failed : Bool) → HasStopped e failed holds now (text more)
       → HasStopped e failed held now (lines_text file style limit 1 0 (pieces (input ++ more)))
   stopped {now} more e failed h =
       let front = lines_text file style limit 1 0 d.done in
       record {
-        reason = h.reason;
+        output = h.output;
+        memory = h.memory;
         count = length front + h.count;
         written =
             subst (Appends held now) (sym (ap (take (length front + h.count)) (whole-is more) ∙ take-append-add front (text more) h.count))
@@ -147,27 +148,32 @@ module _ {style : Style} {limit : ℕ} {lines : Lines} {input : List ℕ} {held 
       }
 
   -- nothing of it was
-  pub stopped-here : (more : List ℕ) (e : Error) (failed : Bool) → failed ≡ false → error_kind e ≡ OutOfMemory
+  pub stopped-here : (more : List ℕ) (e : Failure) (failed : Bool) → failed ≡ false → IsShortOfMemory e
       → HasStopped e failed held holds (lines_text file style limit 1 0 (pieces (input ++ more)))
-  stopped-here more e failed sound kind =
-      stopped more e failed (record { reason = inr (sound, kind); count = 0; written = Appends-nil holds })
+  stopped-here more e failed sound none = stopped more e failed (record {
+    output = none.0 ∙ sym sound;
+    memory = λ h. none;
+    count = 0;
+    written = Appends-nil holds;
+  })
 
   -- no more of that on the bytes read so far than on the lines that have ended
-  pub left-off : (e : Error) (unread failed : Bool)
-      → ((unread ≡ true) × (failed ≡ false)) ⊎ ((unread ≡ false) × ((failed ≡ true) ⊎ ((failed ≡ false) × (error_kind e ≡ OutOfMemory))))
-      → HasLeftOff e unread failed held holds (lines_text file style limit 1 0 (pieces input))
-  left-off e unread failed reason =
+  pub left-off : (e : Failure) (unread failed : Bool) → is_of_output e ≡ false → failed ≡ false
+      → (unread ≡ false → IsShortOfMemory e) → HasLeftOff e unread failed held holds (lines_text file style limit 1 0 (pieces input))
+  left-off e unread failed unwritten sound none =
       let front = lines_text file style limit 1 0 d.done in
       let is : lines_text file style limit 1 0 (pieces input) ≡ front ++ text [] =
       ap (λ b. lines_text file style limit 1 0 (pieces b)) (sym (append-nil input)) ∙ whole-is [] in
       record {
-        reason = reason;
+        output = unwritten ∙ sym sound;
+        one = λ h. sound;
+        memory = λ h sound. none h;
         count = length front;
         written = subst (Appends held holds) (sym (ap (take (length front)) is ∙ take-append_seam front (text []))) d.written;
       }
 
   -- a beginning of that on the last line was
-  pub stopped-last : {now : Option (List ℕ)} (e : Error) (failed : Bool)
+  pub stopped-last : {now : Option (List ℕ)} (e : Failure) (failed : Bool)
       → HasStopped e failed holds now (lines_text file style limit lines.place.line lines.place.byte (pieces lines.begun.items))
       → HasStopped e failed held now (lines_text file style limit 1 0 (pieces input))
   stopped-last {now} e failed h =
@@ -177,7 +183,7 @@ module _ {style : Style} {limit : ℕ} {lines : Lines} {input : List ℕ} {held 
       (sym (append-nil lines.begun.items)) h))
 
   -- a beginning of that on lines which a line feed ends
-  pub stopped-within : {now : Option (List ℕ)} (more : List ℕ) (e : Error) (failed : Bool)
+  pub stopped-within : {now : Option (List ℕ)} (more : List ℕ) (e : Failure) (failed : Bool)
       → HasStopped e failed holds now (lines_text file style limit lines.place.line lines.place.byte (pieces lines.begun.items))
       → HasStopped e failed held now (lines_text file style limit 1 0 (pieces (input ++ line_feed ∷ more)))
   stopped-within {now} more e failed h =
@@ -189,7 +195,8 @@ module _ {style : Style} {limit : ℕ} {lines : Lines} {input : List ℕ} {held 
       ∙ lines-append file style limit lines.place.line lines.place.byte (pieces lines.begun.items) (pieces more) in
       let count = take-front h.count front rest in
       stopped (line_feed ∷ more) e failed (record {
-        reason = h.reason;
+        output = h.output;
+        memory = h.memory;
         count = count.0;
         written = subst (Appends holds now) (count.1 ∙ ap (take count.0) (sym all)) h.written;
       })
@@ -249,16 +256,15 @@ lines-ended {style} {limit} old new {input} {held} {holds} {now} {is} file line 
 
 -- ---- of a reader
 
--- a read gave no byte
-pub none-read : (first before after : Option (List ℕ)) (count : ℕ) (input block : List ℕ) → Consumes first before input
-    → Consumes before after (take count block) → count ≡ 0 → Consumes first after input
-none-read first before after count input block read more none =
-    subst (Consumes first after) (ap (λ n. input ++ take n block) none ∙ append-nil input)
-    (Consumes-trans first before after input (take count block) read more)
-
-pub unread-sound : {e : Error} {unread failed : Bool} {held holds : Option (List ℕ)} {text : List ℕ} → unread ≡ false
+pub unread-sound : {e : Failure} {unread failed : Bool} {held holds : Option (List ℕ)} {text : List ℕ} → unread ≡ false
     → HasStopped e failed held holds text → HasLeftOff e unread failed held holds text
-unread-sound sound h = record { reason = inr (sound, h.reason); count = h.count; written = h.written }
+unread-sound sound h = record {
+  output = h.output;
+  one = λ is. absurd (false≢true (sym sound ∙ is));
+  memory = λ is. h.memory;
+  count = h.count;
+  written = h.written;
+}
 
 -- ---- of any input
 
@@ -278,11 +284,11 @@ module _ {W : Type 0} (contents : W → Option (List ℕ)) (style : Style) (limi
         (append_assoc input front rest ∙ ap (λ b. input ++ b) (sym parts)) (then.1 (input ++ front) held (first.1 input held d)),
   )
 
-  pub stops-here : (e : Error) (lines : Lines) (out : Watched W) (block : List ℕ) → out.failed ≡ false → error_kind e ≡ OutOfMemory
+  pub stops-here : (e : Failure) (lines : Lines) (out : Watched W) (block : List ℕ) → out.failed ≡ false → IsShortOfMemory e
       → Stops contents style limit e lines out out block
-  stops-here e lines out block sound kind = λ input held d. stopped-here d block e out.failed sound kind
+  stops-here e lines out block sound none = λ input held d. stopped-here d block e out.failed sound none
 
-  pub stops-after : (e : Error) (old mid : Lines) (out port outs : Watched W) (front rest block : List ℕ) → block ≡ front ++ rest
+  pub stops-after : (e : Failure) (old mid : Lines) (out port outs : Watched W) (front rest block : List ℕ) → block ≡ front ++ rest
       → Takes contents style limit old mid out port front → Stops contents style limit e mid port outs rest
       → Stops contents style limit e old out outs block
   stops-after e old mid out port outs front rest block parts first stops = λ input held d.
@@ -291,7 +297,7 @@ module _ {W : Type 0} (contents : W → Option (List ℕ)) (style : Style) (limi
       (subst (λ b. HasStopped e outs.failed held (contents outs.inner) (lines_text mid.place.file.now style limit 1 0 (pieces b)))
       (append_assoc input front rest ∙ ap (λ b. input ++ b) (sym parts)) h)
 
-  pub stops-within : (e : Error) (lines : Lines) (out outs : Watched W) (more : List ℕ)
+  pub stops-within : (e : Failure) (lines : Lines) (out outs : Watched W) (more : List ℕ)
       → HasStopped e outs.failed (contents out.inner) (contents outs.inner)
       (lines_text lines.place.file.now style limit lines.place.line lines.place.byte (pieces lines.begun.items))
       → Stops contents style limit e lines out outs (line_feed ∷ more)

@@ -1,9 +1,7 @@
 -- How the program ends, and its status.
 use Rattle.std.specs.Prelude.{◌≡◌, ℕ, List, [], ◌∷◌, Bool, true, false, if◌then◌else◌, Result, Ok, Err}
-use Rattle.std.specs.IoError.{error_kind}
-use Rattle.std.specs.declared.io.Error.{Error}
-use Rattle.std.specs.declared.io.ErrorKind.{ErrorKind}
-use Rattle.std.specs.declared.io.ErrorKind.TheVariants.{BrokenPipe}
+use Rattle.jcheck.specs.Failures.{has_closed}
+use Rattle.jcheck.specs.declared.failure.Failure.{Failure}
 use Rattle.jcheck.specs.declared.report.Ended.{Ended}
 use Rattle.jcheck.specs.declared.report.Ended.TheVariants.{Clean, Rejected, Failed}
 
@@ -19,24 +17,20 @@ worse Rejected Clean = Rejected
 worse Rejected other = other
 worse Failed other = Failed
 
--- ---- what the check of a file returned: whether it is clean, or an error
+-- ---- what the check of a file returned: whether it is clean, or why it ended before
 
--- a closed pipe: nobody reads the output any more
-abbrev pub is_pipe : ErrorKind → Bool
-is_pipe BrokenPipe = true
-is_pipe _ = false
-
-abbrev pub is_closed : Result Bool Error → Bool
+-- nobody reads the output any more
+abbrev pub is_closed : Result Bool Failure → Bool
 is_closed (Ok clean) = false
-is_closed (Err e) = is_pipe (error_kind e)
+is_closed (Err e) = has_closed e
 
-abbrev pub ended_of : Result Bool Error → Ended
+abbrev pub ended_of : Result Bool Failure → Ended
 ended_of (Ok true) = Clean
 ended_of (Ok false) = Rejected
-ended_of (Err e) = if is_pipe (error_kind e) then Rejected else Failed
+ended_of (Err e) = if has_closed e then Rejected else Failed
 
 -- after more checks
-abbrev pub ended_after : Ended → List (Result Bool Error) → Ended
+abbrev pub ended_after : Ended → List (Result Bool Failure) → Ended
 ended_after ended [] = ended
 ended_after ended (r ∷ rs) = ended_after (worse ended (ended_of r)) rs
 
@@ -47,7 +41,7 @@ OnClosed true P Q = P
 OnClosed false P Q = Q
 
 -- the files were checked in turn, and this was returned: up to the first after which nobody reads the output any more
-abbrev pub Checks : {S X : Type 0} → (S → X → Result Bool Error → S → Type 0) → S → List X → List (Result Bool Error) → S → Type 0
+abbrev pub Checks : {S X : Type 0} → (S → X → Result Bool Failure → S → Type 0) → S → List X → List (Result Bool Failure) → S → Type 0
 Checks step s [] [] last = s ≡ last
 Checks step s [] (r ∷ rs) last = ⊥
 Checks step s (x ∷ xs) [] last = ⊥
@@ -55,8 +49,9 @@ Checks {S} step s (x ∷ xs) (r ∷ rs) last =
     (t : S) × step s x r t × OnClosed (is_closed r) ((rs ≡ []) × (t ≡ last)) (Checks step t xs rs last)
 
 -- and the program ends as the worst of them
-pub record HasChecked {S X : Type 0} (step : S → X → Result Bool Error → S → Type 0) (s : S) (files : List X) (ended : Ended) : Type 0 where
-  pub results : List (Result Bool Error)
+pub record HasChecked {S X : Type 0} (step : S → X → Result Bool Failure → S → Type 0) (s : S) (files : List X) (ended : Ended)
+    : Type 0 where
+  pub results : List (Result Bool Failure)
   pub last : S
   pub checks : Checks step s files results last
   pub worst : ended ≡ ended_after Clean results

@@ -1,5 +1,6 @@
 pub mod Endings
 pub mod Excerpts
+pub mod Failures
 pub mod Reports
 pub mod Streams
 pub mod Writings

@@ -2,10 +2,10 @@
 use Rattle.std.specs.Prelude.{◌≡◌, ℕ, ◌+◌, List, [], ◌∷◌, ◌++◌, length, Option}
 use Rattle.std.specs.Io.KnownBytes.{Appends}
 use Rattle.std.specs.List.{list_all}
-use Rattle.std.specs.declared.io.Error.{Error}
 use Rattle.jcheck.specs.Reports.{is_clean_line, lines_text}
 use Rattle.jcheck.specs.Writings.{HasStopped}
 use Rattle.jcheck.specs.declared.excerpt.Style.{Style}
+use Rattle.jcheck.specs.declared.failure.Failure.{Failure}
 use Rattle.jcheck.specs.declared.lines.Lines.{Lines}
 use Rattle.jsonl.specs.Ports.{Watched}
 use Rattle.simd_json_parts.specs.Pieces.{pieces}
@@ -37,7 +37,7 @@ abbrev pub EndsLines : {W : Type 0} → (W → Option (List ℕ)) → Style → 
 EndsLines contents style limit old new out outs = Takes contents style limit old new out outs (line_feed ∷ [])
 
 -- of a call that fails: a beginning of the report on such an input was written
-abbrev pub Stops : {W : Type 0} → (W → Option (List ℕ)) → Style → ℕ → Error → Lines → Watched W → Watched W → List ℕ → Type 0
+abbrev pub Stops : {W : Type 0} → (W → Option (List ℕ)) → Style → ℕ → Failure → Lines → Watched W → Watched W → List ℕ → Type 0
 Stops contents style limit e old out outs bytes =
     (input : List ℕ) (held : Option (List ℕ)) → AreDone style limit old input held (contents out.inner)
     → HasStopped e outs.failed held (contents outs.inner)

@@ -1,22 +1,24 @@
 -- How a report is written: whole, or a beginning of it.
-use Rattle.std.specs.Prelude.{◌≡◌, ◌⊎◌, ◌++◌, ℕ, List, Bool, true, false, Option, take}
+use Rattle.std.specs.Prelude.{◌≡◌, ◌++◌, ℕ, List, Bool, true, false, Option, take}
 use Rattle.std.specs.Io.KnownBytes.{Appends}
-use Rattle.std.specs.IoError.{error_kind}
-use Rattle.std.specs.declared.io.Error.{Error}
-use Rattle.std.specs.declared.io.ErrorKind.TheVariants.{OutOfMemory}
+use Rattle.jcheck.specs.Failures.{IsShortOfMemory, is_of_output}
+use Rattle.jcheck.specs.declared.failure.Failure.{Failure}
 use Rattle.simd_json_print.specs.Texts.{TargetState, Adds}
 use Rattle.simd_json_print.specs.declared.text.Text.{Text}
 
--- Of a writer that held and holds these: a beginning of the bytes was written, and the writer failed, or an allocation did.
-pub record HasStopped (e : Error) (failed : Bool) (held holds : Option (List ℕ)) (bytes : List ℕ) : Type 0 where
-  pub reason : (failed ≡ true) ⊎ ((failed ≡ false) × (error_kind e ≡ OutOfMemory))
+-- Of a writer that held and holds these: a beginning of the bytes was written. The failure is the output's if the writer has failed,
+-- else an allocation failed.
+pub record HasStopped (e : Failure) (failed : Bool) (held holds : Option (List ℕ)) (bytes : List ℕ) : Type 0 where
+  pub output : is_of_output e ≡ failed
+  pub memory : failed ≡ false → IsShortOfMemory e
   pub count : ℕ
   pub written : Appends held holds (take count bytes)
 
 -- Likewise of a writer and a reader that has failed or not: one of them has, or neither, and an allocation failed.
-pub record HasLeftOff (e : Error) (unread failed : Bool) (held holds : Option (List ℕ)) (bytes : List ℕ) : Type 0 where
-  pub reason : ((unread ≡ true) × (failed ≡ false))
-      ⊎ ((unread ≡ false) × ((failed ≡ true) ⊎ ((failed ≡ false) × (error_kind e ≡ OutOfMemory))))
+pub record HasLeftOff (e : Failure) (unread failed : Bool) (held holds : Option (List ℕ)) (bytes : List ℕ) : Type 0 where
+  pub output : is_of_output e ≡ failed
+  pub one : unread ≡ true → failed ≡ false
+  pub memory : unread ≡ false → failed ≡ false → IsShortOfMemory e
   pub count : ℕ
   pub written : Appends held holds (take count bytes)
 

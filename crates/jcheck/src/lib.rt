@@ -3,14 +3,14 @@
 //! - [`check_document`]: of an input that is one document.
 //! - [`check_lines`]: of each line of what a reader gives.
 //! - [`check_each`]: of files one after another; the worst that one of them [`Ended`] with.
+//! - [`Failure`]: why a check ended before the end of its input.
 //! - [`asked`]: what the program's arguments ask for.
 //!
 //! ```
-//! use jcheck::{Checker, Style, check_document};
+//! use jcheck::{Checker, Failure, Style, check_document};
 //! use jsonl::Channel;
-//! use std::io;
 //!
-//! fn report(rt: &impl AllocGlobal, json: &[u8]) -> io::Result<Vec<u8>> {
+//! fn report(rt: &impl AllocGlobal, json: &[u8]) -> Result<Vec<u8>, Failure> {
 //!     let mut checker = Checker::new(rt.alloc(), 1024);
 //!     let mut out = Channel::new(Vec::new(rt.alloc()));
 //!     let style = Style { width: 80, is_colored: false };
@@ -32,12 +32,14 @@
 
 mod checker;
 mod excerpt;
+mod failure;
 mod lines;
 mod options;
 mod report;
 
 pub use checker::Checker;
 pub use excerpt::Style;
+pub use failure::Failure;
 pub use lines::check_lines;
 pub use options::{Options, asked};
 pub use report::{Ended, check_document, check_each, is_closed};

@@ -12,13 +12,14 @@ ghost use Rattle.simd_json_print.specs.Texts.{Adds};
 
 use crate::checker::Checker;
 use crate::excerpt::Style;
+use crate::failure::Failure;
 use crate::report::{FilePlace, PIECE};
 use jsonl::Channel;
 use memchr::{memchr, memrchr};
 use simd_json_parts::charutils::is_blank;
 use simd_json_print::text::{Target, Text};
 use std::alloc::{AllocError, Global};
-use std::io::{self, ErrorKind, Read, Write};
+use std::io::{Read, Write};
 
 // How many bytes are read at a time.
 const BLOCK: usize = 65_536;
@@ -31,15 +32,16 @@ const MOST: usize = 1 << 62;
 /// line that has begun and the block that was read last are kept. Returns whether there is no
 /// error.
 ///
-/// Returns an error exactly if the reader, the writer or an allocation fails, or after 2^62 bytes
-/// (`OutOfMemory`). A beginning of the output of what has been read is written then.
+/// Fails with `Output` exactly if the writer does, and with `Input` if the reader or an allocation
+/// fails, or after 2^62 bytes (`OutOfMemory`). A beginning of the output of what has been read is
+/// written then.
 pub fn check_lines<R: Read, W: Write>(
     checker: &mut Checker,
     reader: &mut Channel<R>,
     out: &mut Channel<W>,
     file: &str,
     style: Style,
-) -> io::Result<bool>
+) -> Result<bool, Failure>
     requires reader { reader.old.failed ≡ false }
     requires out { out.old.failed ≡ false }
     ensures checked { IfOk result (λ clean. (input : List ℕ)
@@ -57,14 +59,14 @@ pub fn check_lines<R: Read, W: Write>(
     let mut lines = Lines::new(checker.alloc(), file);
     let mut block = [0; BLOCK];
     while lines.place.byte < MOST {
-        let count = reader.read(&mut block)?;
+        let count = reader.read(&mut block).map_err(Failure::Input)?;
         if count == 0 {
             let last = check_pieces(checker, out, lines.place, lines.begun.as_slice(), style)?;
             return Ok(lines.clean & last.clean);
         }
         lines.take(checker, out, &block[..count], style)?;
     }
-    Err(io::Error::from(ErrorKind::OutOfMemory))
+    Err(Failure::from(AllocError))
 }
 
 // What has been read of an input of lines: those that have ended, and one that has begun.
@@ -102,7 +104,7 @@ impl<'a> Lines<'a> {
         out: &mut Channel<W>,
         block: &[u8],
         style: Style,
-    ) -> io::Result<()>
+    ) -> Result<(), Failure>
         requires sound { out.old.failed ≡ false }
         requires line { self.old.place.line ≤ self.old.place.byte + 1 }
         requires byte { self.old.place.byte < 2 ^ 62 }
@@ -133,7 +135,7 @@ impl<'a> Lines<'a> {
         checker: &mut Checker,
         out: &mut Channel<W>,
         style: Style,
-    ) -> io::Result<()>
+    ) -> Result<(), Failure>
         requires sound { out.old.failed ≡ false }
         requires line { self.old.place.line ≤ self.old.place.byte + 1 }
         requires byte { self.old.place.byte < 2 ^ 62 }
@@ -172,7 +174,7 @@ fn check_pieces<W: Write>(
     start: FilePlace<'_>,
     input: &[u8],
     style: Style,
-) -> io::Result<Checked>
+) -> Result<Checked, Failure>
     requires sound { out.old.failed ≡ false }
     requires line { start.line + length input.now + 1 < 2 ^ 64 }
     requires byte { start.byte + length input.now + 1 < 2 ^ 64 }
@@ -191,7 +193,7 @@ fn check_pieces<W: Write>(
 {
     let mut text = Text::<Channel<W>, PIECE>::new(out);
     let put = put_lines(checker, &mut text, start, input, style);
-    text.finish()?;
+    text.finish().map_err(Failure::Output)?;
     Ok(put?)
 }
 

@@ -11,11 +11,12 @@ ghost use Rattle.simd_json_print.specs.Texts.{Adds};
 
 use crate::checker::Checker;
 use crate::excerpt::{Style, put_excerpt};
+use crate::failure::Failure;
 use jsonl::Channel;
 use simd_json_check::{ErrorType, Location, Reason};
 use simd_json_print::text::{Target, Text};
 use std::alloc::{AllocError, Global};
-use std::io::{self, ErrorKind, Write};
+use std::io::Write;
 
 /// How many bytes are collected before they are written.
 pub const PIECE: usize = 8192;
@@ -44,13 +45,13 @@ impl Ended {
     }
 
     // How the program ends after a check that returned this.
-    fn of(checked: &io::Result<bool>) -> Ended
+    fn of(checked: &Result<bool, Failure>) -> Ended
         ensures { result ≡ ended_of checked.now }
     {
         match checked {
             Ok(true) => Ended::Clean,
             Ok(false) => Ended::Rejected,
-            Err(e) if e.kind() == ErrorKind::BrokenPipe => Ended::Rejected,
+            Err(e) if e.has_closed() => Ended::Rejected,
             Err(_) => Ended::Failed,
         }
     }
@@ -69,19 +70,19 @@ impl Ended {
 }
 
 /// Returns whether nobody reads the output any more.
-pub fn is_closed(checked: &io::Result<bool>) -> bool
+pub fn is_closed(checked: &Result<bool, Failure>) -> bool
     ensures { result ≡ is_closed checked.now }
 {
     match checked {
         Ok(_) => false,
-        Err(e) => e.kind() == ErrorKind::BrokenPipe,
+        Err(e) => e.has_closed(),
     }
 }
 
 /// Checks the files one after another, and returns the worst of how they ended. An error does not
 /// stop it, unless nobody reads the output any more: that is not a failure, but the other files are
 /// skipped.
-pub fn check_each<'a, F: FnMut(&'a str) -> io::Result<bool>>(
+pub fn check_each<'a, F: FnMut(&'a str) -> Result<bool, Failure>>(
     mut check: F,
     files: &[&'a str],
 ) -> Ended
@@ -102,15 +103,15 @@ pub fn check_each<'a, F: FnMut(&'a str) -> io::Result<bool>>(
 /// Checks an input as one document, and writes the place and the reason of its error, with the text
 /// around it in this style. Returns whether there is none.
 ///
-/// Returns an error if the writer or an allocation fails. A beginning of the output is written
-/// then.
+/// Fails with `Output` exactly if the writer does, and with `Input` if an allocation fails. A
+/// beginning of the output is written then.
 pub fn check_document<W: Write>(
     checker: &mut Checker,
     out: &mut Channel<W>,
     file: &str,
     input: &[u8],
     style: Style,
-) -> io::Result<bool>
+) -> Result<bool, Failure>
     requires { out.old.failed ≡ false }
     ensures clean { IfOk result (λ clean. clean
         ≡ is_none (found_in input.now checker.old.depth)) }
@@ -124,7 +125,7 @@ pub fn check_document<W: Write>(
 {
     let mut text = Text::<Channel<W>, PIECE>::new(out);
     let put = put_whole(checker, &mut text, file, input, style);
-    text.finish()?;
+    text.finish().map_err(Failure::Output)?;
     Ok(put?)
 }
 

@@ -4,9 +4,9 @@
 #![tactic(auto)]
 
 use jcheck::{
-    Checker, Ended, Options, Style, asked, check_document, check_each, check_lines, is_closed,
+    Checker, Ended, Failure, Options, Style, asked, check_document, check_each, check_lines,
 };
-use jsonl::Channel;
+use jsonl::{Channel, arguments, help_status};
 use std::env::VarError;
 use std::io::{IsTerminal, Read};
 use std::process::ExitCode;
@@ -23,17 +23,14 @@ fn main(rt: HostRuntime) -> ExitCode {
     ExitCode::from(code)
 }
 
-fn arguments(rt: &HostRuntime) -> io::Result<Vec<String>> {
-    Ok(env::args(rt)?.collect(rt.alloc())?)
-}
-
 fn program(rt: &HostRuntime, words: &[String]) -> u8 {
     match asked(rt.alloc(), words) {
         Ok(options) => check_files(rt, &options).status(),
-        Err(e) => {
+        Err(e) if e.use_stderr() => {
             let _ = e.print(rt);
-            if e.use_stderr() { 2 } else { 0 }
+            2
         }
+        Err(e) => help_status(rt, "jcheck", &e.print(rt)),
     }
 }
 
@@ -75,11 +72,11 @@ fn check_files(rt: &HostRuntime, options: &Options<'_>) -> Ended {
 }
 
 // Who has closed the output has had enough of it.
-fn print_failure(rt: &HostRuntime, file: &str, checked: &io::Result<bool>) {
-    if let Err(e) = checked
-        && !is_closed(checked)
+fn print_failure(rt: &HostRuntime, file: &str, checked: &Result<bool, Failure>) {
+    if let Err(failure) = checked
+        && !failure.has_closed()
     {
-        let _ = eprintln!(rt; "jcheck: {file}: {e}");
+        let _ = eprintln!(rt; "jcheck: {}: {failure}", failure.what(file));
     }
 }
 
@@ -89,10 +86,10 @@ fn check_file(
     file: &str,
     has_lines: bool,
     style: Style,
-) -> io::Result<bool> {
+) -> Result<bool, Failure> {
     let mut out = Channel::new(io::writer(rt));
     if !has_lines {
-        let input = read_input(rt, file)?;
+        let input = read_input(rt, file).map_err(Failure::Input)?;
         return check_document(checker, &mut out, file, input.as_slice(), style);
     }
     if file == "-" {
@@ -104,7 +101,7 @@ fn check_file(
             style,
         );
     }
-    let reader = fs::File::open(rt, file)?;
+    let reader = fs::File::open(rt, file).map_err(Failure::Input)?;
     check_lines(checker, &mut Channel::new(reader), &mut out, file, style)
 }
 

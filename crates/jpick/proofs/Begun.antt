@@ -1,46 +1,16 @@
--- What was written before an error.
-use Rattle.std.proofs.Common.{◌≡◌, ◌∙◌, ap, refl, sym, subst, ℕ, ◌+◌, List, [], ◌∷◌, ◌++◌, append_assoc, append-nil, length, take, drop}
-use Rattle.std.proofs.Common.{Bool, true, false, cond, ◌==◌, nat_lt, Option, None, Some}
-use Rattle.std.proofs.KnownBytes.{Appends-nil, Appends-trans}
-use Rattle.std.proofs.Math.Seq.{take-append-add, take-append_seam, take-length}
-use Rattle.std.proofs.lemmas.List.{take-append-drop}
-use Rattle.std.specs.Io.KnownBytes.{Appends}
+-- What was picked of lines is in front of what is picked of more.
+use Rattle.std.proofs.Common.{◌≡◌, ◌∙◌, ap, refl, sym, List, ℕ, [], ◌++◌, append_assoc, append-nil, length}
+use Rattle.std.proofs.Common.{Bool, true, false, cond, nat_lt, Option, None, Some}
 use Rattle.std.specs.Prelude.{Result, Ok, Err}
 use Rattle.simd_json_parts.specs.Pieces.{is_blank}
 use Rattle.simd_json_check.specs.Capacities.{default_max_depth}
 use Rattle.simd_json_parts.specs.Answer.{answer}
-use Rattle.simd_json_parts.specs.Bytes.{line_feed}
 use Rattle.simd_json_parts.specs.Document.{Document}
 use Rattle.simd_json_parts.specs.declared.error.Error.{Error}
 use Rattle.jpick.specs.Picked.{Picked, next, rejection_line, row_of, with_answer, with_line, with_rejection}
 use Rattle.jpick.specs.declared.fields.Wanted.{Wanted}
-use Rattle.jpick.specs.Runs.{Begins, State, after}
 
-pub begins-none : (held : Option (List ℕ)) (bytes : List ℕ) → Begins held held bytes
-begins-none held bytes = (0, Appends-nil held)
-
-pub begins-all : (held holds : Option (List ℕ)) (bytes : List ℕ) → Appends held holds bytes → Begins held holds bytes
-begins-all held holds bytes all = (length bytes, subst (Appends held holds) (sym (take-length bytes)) all)
-
-pub begins-then : (a b c : Option (List ℕ)) (us vs : List ℕ) → Appends a b us → Begins b c vs → Begins a c (us ++ vs)
-begins-then a b c us vs all begun =
-    (length us + begun.0, subst (Appends a c) (sym (take-append-add us vs begun.0)) (Appends-trans a b c us (take begun.0 vs) all begun.1))
-
--- a beginning of a beginning
-front-of : (n : ℕ) (front rest : List ℕ) → take (length (take n front)) (front ++ rest) ≡ take n front
-front-of n front rest =
-    let begun = take n front in
-    let all : front ++ rest ≡ begun ++ (drop n front ++ rest) =
-    ap (λ us. us ++ rest) (sym (take-append-drop n front)) ∙ append_assoc begun (drop n front) rest in
-    ap (take (length begun)) all ∙ take-append_seam begun (drop n front ++ rest)
-
-begins-more : (held holds : Option (List ℕ)) (front rest : List ℕ) → Begins held holds front → Begins held holds (front ++ rest)
-begins-more held holds front rest begun =
-    (length (take begun.0 front), subst (Appends held holds) (sym (front-of begun.0 front rest)) begun.1)
-
--- ---- what was picked is in front of what is picked of more lines
-
-pub record Grows (r s : Picked) : Type 0 where
+record Grows (r s : Picked) : Type 0 where
   pub more : List ℕ
   pub all : r.rejections ++ more ≡ s.rejections
   pub more_rows : List ℕ
@@ -79,7 +49,7 @@ grows-answer : (w : Wanted) (file : List ℕ) (r : Picked) (line : List ℕ) (a 
 grows-answer w file r line (Ok d) = record { more = []; all = append-nil r.rejections; more_rows = row_of w d; all_rows = refl }
 grows-answer w file r line (Err e) = grows-rejected w file r line (Some e)
 
-pub grows-line : (w : Wanted) (file : List ℕ) (r : Picked) (line : List ℕ) → Grows r (with_line w file r line)
+grows-line : (w : Wanted) (file : List ℕ) (r : Picked) (line : List ℕ) → Grows r (with_line w file r line)
 grows-line w file r line =
     let n = next r in
     let answered = with_answer w file n line (answer line default_max_depth) in
@@ -89,27 +59,10 @@ grows-line w file r line =
     grows-then r n _ (grows-none r n refl refl)
     (grows-if (nat_lt w.longest (length line)) n (with_rejection w file n line None) _ long taken)
 
-grows-byte : (w : Wanted) (file : List ℕ) (s : State) (x : ℕ) (feed : Bool)
-    → Grows s.0 (cond {A = State} feed (with_line w file s.0 s.1, []) (s.0, s.1 ++ x ∷ [])).0
-grows-byte w file s x true = grows-line w file s.0 s.1
-grows-byte w file s x false = grows-none s.0 s.0 refl refl
+pub rejections-grow : (w : Wanted) (file : List ℕ) (r : Picked) (line : List ℕ)
+    → (more : List ℕ) × (r.rejections ++ more ≡ (with_line w file r line).rejections)
+rejections-grow w file r line = let g = grows-line w file r line in (g.more, g.all)
 
-pub grows-after : (w : Wanted) (file : List ℕ) (s : State) (bytes : List ℕ) → Grows s.0 (after w file s bytes).0
-grows-after w file s [] = grows-none s.0 s.0 refl refl
-grows-after w file s (x ∷ bytes) =
-    let t : State = cond (x == line_feed) (with_line w file s.0 s.1, []) (s.0, s.1 ++ x ∷ []) in
-    grows-then s.0 t.0 _ (grows-byte w file s x (x == line_feed)) (grows-after w file t bytes)
-
-pub begins-grown : (held holds : Option (List ℕ)) (r s : Picked) → Grows r s → Begins held holds r.rejections
-    → Begins held holds s.rejections
-begins-grown held holds r s g begun = subst (Begins held holds) g.all (begins-more held holds r.rejections g.more begun)
-
-pub rows-grown : (held holds : Option (List ℕ)) (r s : Picked) → Grows r s → Begins held holds r.rows → Begins held holds s.rows
-rows-grown held holds r s g begun = subst (Begins held holds) g.all_rows (begins-more held holds r.rows g.more_rows begun)
-
--- of lines that have ended in a block, and of the whole block
-pub begins-block : (held holds : Option (List ℕ)) (w : Wanted) (file : List ℕ) (s t : State) (block rest : List ℕ)
-    → after w file t rest ≡ after w file s block → Begins held holds t.0.rejections
-    → Begins held holds (after w file s block).0.rejections
-begins-block held holds w file s t block rest same begun =
-    subst (λ u. Begins held holds u.0.rejections) same (begins-grown held holds t.0 _ (grows-after w file t rest) begun)
+pub rows-grow : (w : Wanted) (file : List ℕ) (r : Picked) (line : List ℕ)
+    → (more : List ℕ) × (r.rows ++ more ≡ (with_line w file r line).rows)
+rows-grow w file r line = let g = grows-line w file r line in (g.more_rows, g.all_rows)

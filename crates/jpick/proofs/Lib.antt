@@ -2,6 +2,5 @@ mod Answered
 mod Appended
 mod Begun
 mod Ended
-mod Feeds
+mod Picking
 mod Shown
-mod Written

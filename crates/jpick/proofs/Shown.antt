@@ -14,10 +14,14 @@ use Rattle.simd_json_parts.specs.Document.{Document}
 use Rattle.simd_json_parts.specs.declared.error.Error.{Error}
 use Rattle.simd_json_print.proofs.Texts.{appends-then}
 use Rattle.jpick.specs.Picked.{Picked, next, one_more, rejection_line, row_of, with_answer, with_line, with_rejection, with_value}
-use Rattle.jpick.specs.Runs.{Begins, IsRejection, PicksValue, Shows, Writes}
+use Rattle.jpick.specs.Runs.{IsRejection, PicksValue, Shows, Writes}
 use Rattle.jpick.specs.declared.fields.Wanted.{Wanted}
 use Rattle.jpick.specs.declared.lines.Picker.{Picker}
-use Rattle.jpick.proofs.Begun.{begins-all, begins-grown, begins-then, grows-line}
+use Rattle.jpick.proofs.Begun.{rejections-grow}
+use Rattle.jsonl.proofs.Folds.{begins-all, begins-grown, begins-then}
+use Rattle.jsonl.proofs.Kept.{kept-is}
+use Rattle.jsonl.specs.Failures.{Begins}
+use Rattle.jsonl.specs.Lines.{kept}
 
 abbrev rest_of : Wanted → List ℕ → Picked → List ℕ → Bool → Picked
 rest_of w file r line blank = cond blank (next r) (with_answer w file (next r) line (answer line default_max_depth))
@@ -140,4 +144,11 @@ begins-rejected old before held named names w file r line error is shown begun =
 pub begins-line : {A : Type 0} (picker : Picker A) (before : List ℕ) (held holds : Option (List ℕ)) (w : Wanted) (file : List ℕ)
     (r : Picked) (line : List ℕ) → Shows picker before held holds w file r → Begins held holds (with_line w file r line).rejections
 begins-line picker before held holds w file r line shown =
-    begins-grown held holds r _ (grows-line w file r line) (begins-all held holds r.rejections shown.rejections)
+    begins-grown (with_line w file) (λ r. r.rejections) (rejections-grow w file) held holds r line
+    (begins-all held holds r.rejections shown.rejections)
+
+-- of a line that is too long the first bytes are enough
+pub cut-line : (w : Wanted) (file : List ℕ) (r : Picked) (line : List ℕ)
+    → with_line w file r (kept w.longest line) ≡ with_line w file r line
+cut-line w file r line = kept-is (with_line w file r) w.longest line
+    (λ long longer. sym (long-line w file r (kept w.longest line) longer) ∙ long-line w file r line long)

@@ -1,4 +1,3 @@
-pub mod Failures
 pub mod Picked
 pub mod Rows
 pub mod Runs

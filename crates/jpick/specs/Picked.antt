@@ -11,6 +11,7 @@ use Rattle.simd_json_parts.specs.Answer.{answer}
 use Rattle.simd_json_parts.specs.Bytes.{line_feed}
 use Rattle.simd_json_parts.specs.Document.{Document}
 use Rattle.simd_json_parts.specs.declared.error.Error.{Error}
+use Rattle.jsonl.specs.Lines.{folded}
 use Rattle.jpick.specs.Rows.{is_picked, row}
 use Rattle.jpick.specs.declared.fields.Wanted.{Wanted}
 
@@ -68,10 +69,6 @@ with_line w file r line =
     else if is_blank line then next r
     else with_answer w file (next r) line (answer line default_max_depth)
 
-abbrev pub with_lines : Wanted → List ℕ → Picked → List (List ℕ) → Picked
-with_lines w file r [] = r
-with_lines w file r (line ∷ more) = with_lines w file (with_line w file r line) more
-
 -- of the lines of an input: of the pieces between its line feeds
 abbrev pub picked_of : Wanted → List ℕ → List ℕ → Picked
-picked_of w file input = with_lines w file no_line (pieces input)
+picked_of w file input = folded (with_line w file) no_line (pieces input)

@@ -1,7 +1,6 @@
 //! The values at JSON Pointers in each line of JSON Lines.
 //!
 //! - [`run`]: writes a row of them for each line of a reader, and names rejected lines.
-//! - [`ending`]: the exit status, and the line for standard error.
 //! - [`asked`]: what the program's arguments ask for.
 //!
 //! ```
@@ -38,4 +37,4 @@ mod runs;
 
 pub use fields::{Filter, Layout, Wanted};
 pub use options::{Options, Unasked, asked};
-pub use runs::{Failure, ending, run};
+pub use runs::run;

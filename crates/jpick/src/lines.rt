@@ -2,19 +2,19 @@
 ghost use Rattle.std.specs.Prelude.{◌≡◌, IfOk, OnOk};
 ghost use Rattle.simd_json.specs.Viewed.{doc};
 ghost use Rattle.jpick.specs.Picked.{place_text, rejection_line};
-ghost use Rattle.jpick.specs.Runs.{Begins, BeginsBlock, BeginsLine, Ends, EndsRows, IsRejection};
-ghost use Rattle.jpick.specs.Runs.{IsRowsFault, IsStart, PicksValue, TakesBlock, TakesLine, Writes};
+ghost use Rattle.jpick.specs.Runs.{BeginsLine, EndsRows, IsRejection, IsStart, PicksValue};
+ghost use Rattle.jpick.specs.Runs.{TakesLine, Writes};
+ghost use Rattle.jsonl.specs.Failures.{Begins, Ends};
 
 use crate::fields::{Wanted, append_row, is_picked};
-use crate::runs::Failure;
 use arrayvec::ArrayVec;
-use jsonl::Channel;
+use jsonl::{Channel, Failure, put_name};
 use simd_json::tape::Value;
 use simd_json::{Buffers, Error, Location, Tape, refill_tape, reserve};
 use simd_json_parts::charutils::is_blank;
 use simd_json_print::text::Text;
 use std::alloc::{AllocError, Allocator};
-use std::io::{self, ErrorKind, Write};
+use std::io::{self, Write};
 
 type Ended = Result<(), Failure>;
 
@@ -65,37 +65,6 @@ impl<'p, A: Allocator + Copy> Picker<'p, A> {
         self.all_taken
     }
 
-    /// Takes the lines that end in the block, and keeps the one that begins, up to one byte more
-    /// than it may have.
-    pub fn take<E: Write>(
-        &mut self,
-        block: &[u8],
-        line: &mut Vec<u8, A>,
-        err: &mut Channel<E>,
-    ) -> Ended
-        ensures { Ends err.old err.new
-            (TakesBlock E.contents self.old self.new err.old err.new
-            line.old.items line.new.items block.now)
-            (BeginsBlock E.contents self.old err.old err.new line.old.items block.now) result }
-    {
-        let mut rest = block;
-        loop {
-            let (end, more) = rest.split_at(memchr::memchr(b'\n', rest).unwrap_or(rest.len()));
-            let room = self
-                .wanted
-                .longest
-                .saturating_add(1)
-                .saturating_sub(line.len());
-            line.extend_from_slice(&end[..end.len().min(room)])?;
-            let Some((_, next)) = more.split_first() else {
-                return Ok(());
-            };
-            self.take_line(line.as_mut_slice(), err)?;
-            line.clear();
-            rest = next;
-        }
-    }
-
     /// Takes a line. Of one that is too long, the first bytes are enough: one more than it may
     /// have.
     pub fn take_line<E: Write>(&mut self, line: &mut [u8], err: &mut Channel<E>) -> Ended
@@ -144,13 +113,7 @@ impl<'p, A: Allocator + Copy> Picker<'p, A> {
             return Ok(());
         }
         let reason = self.reason(error).map_err(|_| Failure::Resources)?;
-        let mut name = Text::<Channel<E>, 256>::new(err);
-        name.put(self.file.as_bytes());
-        name.put(reason.as_slice());
-        match name.finish() {
-            Ok(()) => Ok(()),
-            Err(_) => Err(Failure::Write),
-        }
+        put_name(err, self.file, reason.as_slice())
     }
 
     // The number of the last line, where it is wrong and why, and a line feed.
@@ -181,19 +144,9 @@ impl<'p, A: Allocator + Copy> Picker<'p, A> {
         let mut text = Text::<Channel<W>, 64>::new(out);
         text.put(self.rows.as_slice());
         if let Err(e) = text.finish() {
-            return Err(rows_failure(&e, self.all_taken));
+            return Err(Failure::of_output(&e, self.all_taken));
         }
         self.rows.clear();
         Ok(())
-    }
-}
-
-// Why rows were not written. Who has closed them has had enough of them.
-fn rows_failure(e: &io::Error, all_taken: bool) -> Failure
-    ensures { IsRowsFault all_taken result }
-{
-    match e.kind() {
-        ErrorKind::BrokenPipe => Failure::Closed(all_taken),
-        _ => Failure::Write,
     }
 }

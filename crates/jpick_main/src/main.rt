@@ -4,11 +4,10 @@
 #![tactic(auto)]
 
 use bumpalo::Bump;
-use jpick::{Failure, Options, Unasked, Wanted, asked, ending, run};
-use jsonl::Channel;
-use std::io::Read;
+use jpick::{Options, Unasked, Wanted, asked, run};
+use jsonl::{Channel, Failure, Source, arguments, ending, help_status};
+use std::io;
 use std::process::ExitCode;
-use std::{env, fs, io};
 
 fn main(rt: HostRuntime) -> ExitCode {
     let code = match arguments(&rt) {
@@ -21,18 +20,15 @@ fn main(rt: HostRuntime) -> ExitCode {
     ExitCode::from(code)
 }
 
-fn arguments(rt: &HostRuntime) -> io::Result<Vec<String>> {
-    Ok(env::args(rt)?.collect(rt.alloc())?)
-}
-
 fn program(rt: &HostRuntime, words: &[String]) -> u8 {
     let arena = Bump::new(rt.alloc());
     match asked(rt.alloc(), &arena, words) {
         Ok(options) => pick_files(rt, &options),
-        Err(Unasked::Text(e)) => {
+        Err(Unasked::Text(e)) if e.use_stderr() => {
             let _ = e.print(rt);
-            if e.use_stderr() { 2 } else { 0 }
+            2
         }
+        Err(Unasked::Text(e)) => help_status(rt, "jpick", &e.print(rt)),
         Err(Unasked::NoPointer(pointer)) => {
             let _ = eprintln!(rt; "jpick: `{pointer}` is not a JSON Pointer");
             2
@@ -72,41 +68,15 @@ struct Outcome {
 }
 
 fn pick_file(rt: &HostRuntime, wanted: &Wanted<'_>, file: &str) -> Outcome {
-    if file == "-" {
-        return pick_reader(rt, wanted, file, rt.reader());
+    let mut reader = Channel::new(Source::new(rt, rt.reader(), file));
+    let (mut out, mut err) = (Channel::new(io::writer(rt)), Channel::new(rt.stderr()));
+    let ended = run(rt.alloc(), wanted, file, &mut reader, &mut out, &mut err);
+    if let Some((file, e)) = reader.into_inner().fault() {
+        let _ = eprintln!(rt; "jpick: {file}: {e}");
     }
-    match fs::File::open(rt, file) {
-        Ok(reader) => pick_reader(rt, wanted, file, reader),
-        Err(e) => {
-            let _ = eprintln!(rt; "jpick: {file}: {e}");
-            Outcome {
-                status: 3,
-                is_closed: false,
-            }
-        }
-    }
-}
-
-fn pick_reader<R: Read + Drop>(
-    rt: &HostRuntime,
-    wanted: &Wanted<'_>,
-    file: &str,
-    reader: R,
-) -> Outcome {
-    let mut out = Channel::new(io::writer(rt));
-    let mut rejections = Channel::new(rt.stderr());
-    let mut reader = Channel::new(reader);
-    let ended = run(
-        rt.alloc(),
-        wanted,
-        file,
-        &mut reader,
-        &mut out,
-        &mut rejections,
-    );
     let (status, line) = ending(&ended);
     if let Some(line) = line {
-        let _ = eprintln!(rt; "jpick: {file}: {line}");
+        let _ = eprintln!(rt; "jpick: {line}");
     }
     Outcome {
         status,

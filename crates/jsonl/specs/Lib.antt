@@ -1,1 +1,4 @@
+pub mod Failures
+pub mod Lines
 pub mod Ports
+pub mod Statuses

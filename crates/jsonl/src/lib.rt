@@ -1,11 +1,42 @@
-//! Readers and writers that record failures, and the lines of an input.
+//! What programs over JSON Lines share: the lines of a reader, and how a run ends.
 //!
 //! - [`Channel`]: a reader or a writer that records whether a call on it failed, and whether it
-//!   ended.
+//!   ended. [`Source`]: a file or standard input, which records why it can't be read.
+//! - [`Lines`]: cuts what a reader gives into lines, in bounded memory. [`put_name`]: writes the
+//!   name of a rejected line.
+//! - [`Failure`]: why a run ended before the end of its input. [`ending`]: the exit status, and the
+//!   line for standard error.
+//! - [`arguments`]: the words of the command line. [`help_status`]: the exit status after help.
 //!
-//! Of lines it has lemmas alone: how a search for a line feed cuts an input (`proofs/Pieces.antt`).
+//! ```
+//! use jsonl::{Channel, Failure, Lines, Step};
+//! use std::io::Read;
+//!
+//! // The number of lines, of at most 100 bytes each, that are empty.
+//! fn empty_lines<R: Read>(rt: &impl AllocGlobal, reader: R) -> Result<u64, Failure> {
+//!     let (mut reader, mut lines) = (Channel::new(reader), Lines::new(100));
+//!     let mut line = Vec::with_capacity(rt.alloc(), 101)?;
+//!     let mut count = 0u64;
+//!     for _ in 0..u64::MAX {
+//!         let step = lines.next(&mut reader, &mut line)?;
+//!         count = count.saturating_add(u64::from(step != Step::Block && line.is_empty()));
+//!         if step == Step::End {
+//!             return Ok(count);
+//!         }
+//!     }
+//!     Err(Failure::Resources)
+//! }
+//! ```
 #![tactic(auto)]
 
 mod channel;
+mod command_line;
+mod failure;
+mod lines;
+mod source;
 
 pub use channel::Channel;
+pub use command_line::{arguments, help_status};
+pub use failure::{Failure, ending, put_name};
+pub use lines::{Lines, Step};
+pub use source::Source;

@@ -1,11 +1,13 @@
 -- Texts that are cut, since a row has no more room.
-use Rattle.std.proofs.Common.{◌≡◌, ◌∙◌, refl, ap, sym, subst, arith, ℕ, zero, suc, ◌+◌, ◌-◌, ◌<◌, ◌≤◌, List, [], ◌∷◌, ◌++◌, append_assoc}
+use Rattle.std.proofs.Common.{◌≡◌, ◌∙◌, refl, ap, sym, subst, arith, ℕ, ◌+◌, ◌-◌, ◌<◌, ◌≤◌, List, [], ◌∷◌, ◌++◌, append_assoc}
 use Rattle.std.proofs.Common.{append-nil, codes, take, drop, length, length-append, flat_map, Bool, true, false, ◌==◌, cond, min, nat_lt}
 use Rattle.std.proofs.Common.{get_or, Option, Some, None, Bor, Result, Ok, Err}
 use Rattle.std.proofs.lemmas.List.Concat.{flat_map-append}
 use Rattle.std.specs.Io.KnownBytes.{WriteAppends}
 use Rattle.std.specs.Prelude.{OnOk, is_some, option_map, unwrap_or}
-use Rattle.std.proofs.Math.Seq.{take-append-add, take-append_seam, take-length}
+use Rattle.jsonl.proofs.Folds.{front-of}
+use Rattle.jsonl.proofs.Kept.{take-all, take-least}
+use Rattle.std.proofs.Math.Seq.{take-append-add, take-length}
 use Rattle.std.proofs.lemmas.Bool.{eqb-false, ltb-false, ltb-true, lt-ltb, le-ltb}
 use Rattle.std.proofs.lemmas.List.{length-take, take-append-drop, take-append-le}
 use Rattle.simd_json_parts.specs.Bytes.{backslash, carriage_return, line_feed, tab}
@@ -16,30 +18,6 @@ use Rattle.simd_json_print.proofs.FlatMaps.{flat_map-more}
 use Rattle.log_report.specs.Rows.{Extends, most_bytes, row_label, row_text, tsv_byte, tsv_escape, tsv_text}
 use Rattle.log_report.specs.Table.{others}
 use Rattle.log_report.specs.declared.rows.Wanted.{Wanted}
-
-pub take-all : (n : ℕ) (b : List ℕ) → length b ≤ n → take n b ≡ b
-take-all zero [] _ = refl
-take-all (suc n) [] _ = refl
-take-all zero (x ∷ b) le = absurd (omega (arith, le))
-take-all (suc n) (x ∷ b) le = ap (λ ys. x ∷ ys) (take-all n b (omega (arith, le)))
-
-least-step : (n k : ℕ) (b : List ℕ) (t : Bool) → nat_lt k (length b) ≡ t → n ≡ min (length b) k → take n b ≡ take k b
-least-step n k b true some is = ap (λ m. take m b) (omega (arith, ltb-true k (length b) some, is))
-least-step n k b false some is =
-    let few : length b ≤ k = ltb-false k (length b) some in
-    take-all n b (omega (arith, few, is)) ∙ sym (take-all k b few)
-
--- no more bytes than there are
-pub take-least : (n k : ℕ) (b : List ℕ) → n ≡ min (length b) k → take n b ≡ take k b
-take-least n k b = least-step n k b (nat_lt k (length b)) refl
-
--- a beginning of a beginning
-pub front-of : (n : ℕ) (front rest : List ℕ) → take (length (take n front)) (front ++ rest) ≡ take n front
-front-of n front rest =
-    let begun = take n front in
-    let all : front ++ rest ≡ begun ++ (drop n front ++ rest) =
-    ap (λ us. us ++ rest) (sym (take-append-drop n front)) ∙ append_assoc begun (drop n front) rest in
-    ap (take (length begun)) all ∙ take-append_seam begun (drop n front ++ rest)
 
 -- ---- rows
 

@@ -1,7 +1,7 @@
 mod Answered
 mod Begun
+mod Counting
 mod Cuts
-mod Feeds
 pub mod Inputs
 mod Orders
 mod Places

@@ -8,7 +8,7 @@ use Rattle.simd_json_parts.specs.Answer.{answer}
 use Rattle.simd_json_parts.specs.declared.error.Error.{Error}
 use Rattle.simd_json_print.proofs.Texts.{appends-then}
 use Rattle.log_report.specs.Report.{Report, next, rejection_line, with_answer, with_line, with_rejection}
-use Rattle.log_report.specs.Runs.{CountsMore, Begins, IsRejection, Shows}
+use Rattle.log_report.specs.Runs.{CountsMore, IsRejection, Shows}
 use Rattle.log_report.specs.Table.{counted, one_more, rejected}
 use Rattle.jsonl.specs.Ports.{Watched}
 use Rattle.simd_json.specs.Capacities.{Capacities}
@@ -16,7 +16,11 @@ use Rattle.simd_json.specs.Reserved.{IsReserved}
 use Rattle.simd_json.specs.Tapes.{Listed}
 use Rattle.log_report.specs.declared.lines.Lines.{Lines}
 use Rattle.log_report.specs.declared.rows.Wanted.{Wanted}
-use Rattle.log_report.proofs.Begun.{begins-all, begins-grown, begins-then, grows-line}
+use Rattle.jsonl.proofs.Folds.{begins-all, begins-grown, begins-then}
+use Rattle.jsonl.proofs.Kept.{kept-is}
+use Rattle.jsonl.specs.Failures.{Begins}
+use Rattle.jsonl.specs.Lines.{kept}
+use Rattle.log_report.proofs.Begun.{rejections-grow}
 
 abbrev rest_of : Wanted → List ℕ → Report → List ℕ → Bool → Report
 rest_of w label r line blank = cond blank (next r) (with_answer w label (next r) (answer line default_max_depth))
@@ -134,4 +138,11 @@ begins-rejected naming old rejections rejects held w label r error shown begun =
 pub begins-line : {A : Type 0} (lines : Lines A) (held holds : Option (List ℕ)) (w : Wanted) (label : List ℕ) (r : Report) (line : List ℕ)
     → Shows lines held holds w label r → Begins held holds (with_line w label r line).rejections
 begins-line lines held holds w label r line shown =
-    begins-grown held holds r _ (grows-line w label r line) (begins-all held holds r.rejections shown.rejections)
+    begins-grown (with_line w label) (λ r. r.rejections) (rejections-grow w label) held holds r line
+    (begins-all held holds r.rejections shown.rejections)
+
+-- of a line that is too long the first bytes are enough
+pub cut-line : (w : Wanted) (label : List ℕ) (r : Report) (line : List ℕ)
+    → with_line w label r (kept w.longest line) ≡ with_line w label r line
+cut-line w label r line = kept-is (with_line w label r) w.longest line
+    (λ long longer. sym (long-line w label r (kept w.longest line) longer) ∙ long-line w label r line long)

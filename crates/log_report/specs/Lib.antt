@@ -1,4 +1,3 @@
-pub mod Failures
 pub mod Report
 pub mod Rows
 pub mod Runs

@@ -9,6 +9,7 @@ use Rattle.simd_json_parts.specs.Bytes.{line_feed}
 use Rattle.simd_json_parts.specs.Document.{Document}
 use Rattle.simd_json_parts.specs.ErrorKinds.{error_text}
 use Rattle.simd_json_parts.specs.declared.error.Error.{Error}
+use Rattle.jsonl.specs.Lines.{folded}
 use Rattle.log_report.specs.Rows.{row_label}
 use Rattle.log_report.specs.Table.{Count, one_more, none_counted, counted, rejected}
 use Rattle.log_report.specs.declared.rows.Wanted.{Wanted}
@@ -59,17 +60,13 @@ with_line w label r line =
     else if is_blank line then next r
     else with_answer w label (next r) (answer line default_max_depth)
 
-abbrev pub with_lines : Wanted → List ℕ → Report → List (List ℕ) → Report
-with_lines w label r [] = r
-with_lines w label r (line ∷ more) = with_lines w label (with_line w label r line) more
-
 -- an input: its label, and its bytes
 abbrev pub Part : Type 0
 Part = List ℕ × List ℕ
 
 -- of the lines of one more input: of the pieces between its line feeds, whose numbers begin again
 abbrev pub with_part : Wanted → Report → Part → Report
-with_part w r part = with_lines w part.0 (record r { number = 0 }) (pieces part.1)
+with_part w r part = folded (with_line w part.0) (record r { number = 0 }) (pieces part.1)
 
 abbrev pub with_parts : Wanted → Report → List Part → Report
 with_parts w r [] = r

@@ -1,18 +1,18 @@
 -- What a run leaves.
-use Rattle.std.specs.Prelude.{◌≡◌, ◌↔◌, ◌||◌, ◌+◌, ◌++◌, ℕ, List, [], ◌∷◌, length, take, map, Bool, true, false, ◌==◌, Option}
-use Rattle.std.specs.Prelude.{OnOk, IfErr, IsErrAnd, Result, Ok, Err, MatchResult, Vec, if◌then◌else◌}
+use Rattle.std.specs.Prelude.{◌≡◌, ◌↔◌, ◌||◌, ℕ, List, [], ◌∷◌, length, map, Bool, true, false, Option}
+use Rattle.std.specs.Prelude.{OnOk, IfErr, IsErrAnd, Result, Ok, Err, MatchResult, Vec}
 use Rattle.std.specs.Io.KnownBytes.{Appends, Consumes, IsAtEnd, Keeps}
+use Rattle.jsonl.specs.Failures.{Begins, IsOutputFault, is_write, name_fault}
 use Rattle.jsonl.specs.Ports.{Watched}
+use Rattle.jsonl.specs.declared.failure.Failure.{Failure}
+use Rattle.jsonl.specs.declared.failure.Failure.TheVariants.{Read, Name, Closed, Resources}
 use Rattle.simd_json_check.specs.Capacities.{default_max_depth}
 use Rattle.simd_json.specs.Reserved.{IsReserved}
 use Rattle.simd_json_parts.specs.Document.{Document}
 use Rattle.simd_json_parts.specs.declared.error.Error.{Error}
-use Rattle.simd_json_parts.specs.Bytes.{line_feed}
 use Rattle.log_report.specs.Report.{Part, Report, no_line, rejection_line, report_of, with_line, with_part}
 use Rattle.log_report.specs.Rows.{row_label}
 use Rattle.log_report.specs.Table.{Count, counted, rejected, report_text}
-use Rattle.log_report.specs.declared.failure.Failure.{Failure}
-use Rattle.log_report.specs.declared.failure.Failure.TheVariants.{Read, Write, Closed, Resources}
 use Rattle.log_report.specs.declared.lines.Lines.{Lines}
 use Rattle.log_report.specs.declared.rows.Wanted.{Wanted}
 use Rattle.log_report.specs.declared.runs.Input.{Input}
@@ -48,10 +48,6 @@ pub record HasReported {R : Type 0} (remaining : R → Option (List ℕ)) (w : W
   pub rejections : Appends named names (report_of w parts).rejections
   pub returned : result ≡ Ok (report_of w parts).all_taken
 
--- of a writer that held and holds these: a beginning of the bytes was written
-abbrev pub Begins : Option (List ℕ) → Option (List ℕ) → List ℕ → Type 0
-Begins held holds bytes = (count : ℕ) × Appends held holds (take count bytes)
-
 -- Of such a run that ended in this error, and whether the report's writer failed: of what was read, a beginning of the report was
 -- written, and a beginning of its rejected lines named. No byte of the report was, unless its writer failed; then all was read.
 -- That its reader has closed it is such a failure, and says whether no line was rejected.
@@ -65,14 +61,8 @@ pub record HasBegun {R : Type 0} (remaining : R → Option (List ℕ)) (w : Want
   pub end : failed ≡ true → AreDone remaining inputs reads parts
   pub closed : (taken : Bool) → failure ≡ Closed taken → (failed ≡ true) × (taken ≡ (report_of w parts).all_taken)
 
--- writing failed, or a reader has closed what is written
-abbrev pub is_write : Failure → Bool
-is_write Write = true
-is_write (Closed taken) = true
-is_write _ = false
-
 -- Of a run over ports, of what is known of their bytes: a report is that of what was read, and reading failed exactly where one of
--- the readers did, writing exactly where one of the writers did.
+-- the readers did, writing exactly where its writer did, naming rejected lines exactly where theirs did.
 pub record Reports {R W E : Type 0} (remaining : R → Option (List ℕ)) (written : W → Option (List ℕ)) (naming : E → Option (List ℕ))
     (w : Wanted) (inputs reads : List (Input R)) (report reports : Watched W) (rejections rejects : Watched E)
     (result : Result Bool Failure) : Type 0 where
@@ -81,19 +71,10 @@ pub record Reports {R W E : Type 0} (remaining : R → Option (List ℕ)) (writt
   pub begun : IfErr result (HasBegun remaining w inputs reads (written report.inner) (written reports.inner)
       (naming rejections.inner) (naming rejects.inner) reports.failed)
   pub read : (result ≡ Err Read) ↔ (has_failed reads ≡ true)
-  pub write : IsErrAnd result (λ failure. is_write failure ≡ true) ↔ ((reports.failed || rejects.failed) ≡ true)
+  pub write : IsErrAnd result (λ failure. is_write failure ≡ true) ↔ (reports.failed ≡ true)
+  pub name : (result ≡ Err Name) ↔ (rejects.failed ≡ true)
 
 -- ---- what private clauses cite
-
--- what a call on a port that had not failed ends in, if its failures come from that port or from want of memory
-abbrev pub fault_of : Bool → Failure
-fault_of true = Write
-fault_of false = Resources
-
--- of such a call: P, and the port has not failed; or a failure, and Q
-abbrev pub Ends : {T : Type 0} → Watched T → Watched T → Type 0 → Type 0 → Result Unit Failure → Type 0
-Ends old new P Q result =
-    old.failed ≡ false → MatchResult result (λ _. (new.failed ≡ false) × P) (λ failure. (failure ≡ fault_of new.failed) × Q)
 
 abbrev pub as_count : {A : Type 0} → Vec ℕ A × ℕ → Count
 as_count entry = (entry.0.items, entry.1)
@@ -112,8 +93,8 @@ AddsValue old new d = CountsMore old new (row_label old.wanted.now d) 1
 
 -- what a call on the report's writer ends in, if its failures come from there or from want of memory
 abbrev pub IsReportFault : Bool → Bool → Failure → Type 0
-IsReportFault taken true (Closed t) = t ≡ taken
-IsReportFault taken failed failure = failure ≡ fault_of failed
+IsReportFault taken true failure = IsOutputFault taken failure
+IsReportFault taken false failure = failure ≡ Resources
 
 -- of such a call: P, and the writer has not failed; or a failure, and Q
 abbrev pub EndsReport : {T : Type 0} → Bool → Watched T → Watched T → Type 0 → Type 0 → Result Unit Failure → Type 0
@@ -165,47 +146,15 @@ BeginsLine naming old rejections rejects line =
     (held : Option (List ℕ)) (w : Wanted) (label : List ℕ) (r : Report)
     → Shows old held (naming rejections.inner) w label r → Begins held (naming rejects.inner) (with_line w label r line).rejections
 
--- a report, and the line that has begun
-abbrev pub State : Type 0
-State = Report × List ℕ
-
--- after more bytes
-abbrev pub after : Wanted → List ℕ → State → List ℕ → State
-after w label s [] = s
-after w label s (x ∷ bytes) =
-    after w label (if x == line_feed then (with_line w label s.0 s.1, []) else (s.0, s.1 ++ x ∷ [])) bytes
-
--- the counts are those of the report, and the line is kept, up to one byte more than it may have
-pub record IsAt {A : Type 0} (lines : Lines A) (kept : List ℕ) (held holds : Option (List ℕ)) (w : Wanted) (label : List ℕ)
-    (s : State) : Type 0 where
-  pub shown : Shows lines held holds w label s.0
-  pub line : kept ≡ take (w.longest + 1) s.1
-
--- any report, and the line that has begun, have become those after this block
-abbrev pub TakesBlock : {A E : Type 0} → (E → Option (List ℕ)) → Lines A → Lines A → Watched E → Watched E → List ℕ → List ℕ → List ℕ
-    → Type 0
-TakesBlock naming old new rejections rejects line kept block =
-    (held : Option (List ℕ)) (w : Wanted) (label : List ℕ) (s : State)
-    → IsAt old line held (naming rejections.inner) w label s
-    → IsAt new kept held (naming rejects.inner) w label (after w label s block)
-
--- of a call that fails: after this block, likewise
-abbrev pub BeginsBlock : {A E : Type 0} → (E → Option (List ℕ)) → Lines A → Watched E → Watched E → List ℕ → List ℕ → Type 0
-BeginsBlock naming old rejections rejects line block =
-    (held : Option (List ℕ)) (w : Wanted) (label : List ℕ) (s : State)
-    → IsAt old line held (naming rejections.inner) w label s
-    → Begins held (naming rejects.inner) (after w label s block).0.rejections
-
 -- what a call on a reader and a writer that had not failed ends in, by whether one of them has
 abbrev pub input_fault : Bool → Bool → Failure
 input_fault true failed = Read
-input_fault false failed = fault_of failed
+input_fault false failed = name_fault failed
 
 -- of such a call: P, and neither has failed; or a failure, at most one of them has, and Q
-abbrev pub EndsInput : {R E : Type 0} → Watched R → Watched R → Watched E → Watched E → Type 0 → Type 0 → Result Unit Failure → Type 0
-EndsInput reader reads rejections rejects P Q result = reader.failed ≡ false → rejections.failed ≡ false
-    → MatchResult result (λ _. (reads.failed ≡ false) × (rejects.failed ≡ false) × P)
-    (λ failure. (failure ≡ input_fault reads.failed rejects.failed) × (reads.failed ≡ true → rejects.failed ≡ false) × Q)
+abbrev pub EndsInput : Bool → Bool → Type 0 → Type 0 → Result Unit Failure → Type 0
+EndsInput reads rejects P Q result = MatchResult result (λ _. (reads ≡ false) × (rejects ≡ false) × P)
+    (λ failure. (failure ≡ input_fault reads rejects) × (reads ≡ true → rejects ≡ false) × Q)
 
 -- the bytes of a reader were read to their end, and any report that was shown has become that with their lines
 pub record TakesInput {A R E : Type 0} (remaining : R → Option (List ℕ)) (naming : E → Option (List ℕ)) (old new : Lines A)

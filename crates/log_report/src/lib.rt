@@ -1,7 +1,6 @@
 //! How many lines of JSON Lines have which values at keys or JSON Pointers.
 //!
 //! - [`run`]: counts the lines of each [`Input`], names rejected lines, and writes the report.
-//! - [`ending`]: the exit status, and the line for standard error.
 //! - [`asked`]: what the program's arguments ask for.
 //!
 //! ```
@@ -30,13 +29,11 @@
 //! The program is a crate of its own, `log_report_main`.
 #![tactic(auto)]
 
-mod failure;
 mod lines;
 mod options;
 mod rows;
 mod runs;
 
-pub use failure::{Failure, ending};
 pub use options::{Options, asked};
 pub use rows::Wanted;
 pub use runs::{Input, run};

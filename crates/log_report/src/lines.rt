@@ -1,30 +1,26 @@
 //! The lines so far, counted in memory that is reserved at the start.
-ghost use Rattle.std.specs.Prelude.{◌≡◌, IfOk, OnOk, true};
+ghost use Rattle.std.specs.Prelude.{◌≡◌, IfOk, OnOk, false};
 ghost use Rattle.log_report.specs.Report.{rejection_line, rejection_words};
-ghost use Rattle.log_report.specs.Runs.{AddsValue, Begins, BeginsBlock, BeginsInput, BeginsLine};
-ghost use Rattle.log_report.specs.Runs.{BeginsReport, CountsMore, Ends, EndsInput, EndsReport};
-ghost use Rattle.log_report.specs.Runs.{IsRejection, IsReportFault, IsStart, Prints, TakesBlock};
-ghost use Rattle.log_report.specs.Runs.{TakesInput, TakesLine};
+ghost use Rattle.jsonl.specs.Failures.{Begins, Ends};
+ghost use Rattle.log_report.specs.Runs.{AddsValue, BeginsInput, BeginsLine, BeginsReport};
+ghost use Rattle.log_report.specs.Runs.{CountsMore, EndsInput, EndsReport, IsRejection, IsStart};
+ghost use Rattle.log_report.specs.Runs.{Prints, TakesInput, TakesLine};
 ghost use Rattle.simd_json.specs.Viewed.{doc};
 
-use crate::failure::Failure;
 use crate::rows::{Row, Wanted, append_row};
 use arrayvec::ArrayVec;
 use indexmap::IndexMap;
-use jsonl::Channel;
+use jsonl::{Channel, Failure, Step, put_name};
 use simd_json::tape::Value;
 use simd_json::{Buffers, Error, StaticNode, Tape, refill_tape, reserve};
 use simd_json_parts::charutils::is_blank;
 use simd_json_print::text::Text;
 use std::alloc::{AllocError, Allocator};
 use std::hash::{BuildHasherDefault, FoldHasher};
-use std::io::{self, ErrorKind, Read, Write};
+use std::io::{self, Read, Write};
 
 // 1,024 rows, and three marks.
 const MOST_TEXTS: usize = 1027;
-
-// How many bytes are read at a time.
-const BLOCK: usize = 65_536;
 
 type Ended = Result<(), Failure>;
 
@@ -79,7 +75,9 @@ impl<'k, A: Allocator + Copy> Lines<'k, A> {
         line: &mut Vec<u8, A>,
         err: &mut Channel<E>,
     ) -> Ended
-        ensures { EndsInput reader.old reader.new err.old err.new
+        requires reader { reader.old.failed ≡ false }
+        requires err { err.old.failed ≡ false }
+        ensures { EndsInput reader.new.failed err.new.failed
             (TakesInput R.remaining E.contents self.old self.new reader.old reader.new
             err.old err.new label.now)
             (BeginsInput R.remaining E.contents self.old reader.old reader.new err.old err.new
@@ -87,47 +85,15 @@ impl<'k, A: Allocator + Copy> Lines<'k, A> {
     {
         self.label = label;
         self.number = 0;
-        line.clear();
-        let mut block = [0; BLOCK];
+        let mut lines = jsonl::Lines::new(self.wanted.longest);
         for _ in 0..u64::MAX {
-            let read = reader.read(&mut block).map_err(|_| Failure::Read)?;
-            if read == 0 {
-                return self.count(line.as_mut_slice(), err);
+            match lines.next(reader, line)? {
+                Step::Line => self.count(line.as_mut_slice(), err)?,
+                Step::Block => {}
+                Step::End => return self.count(line.as_mut_slice(), err),
             }
-            self.take(&block[..read], line, err)?;
         }
         Err(Failure::Resources)
-    }
-
-    /// Counts the lines that end in the block, and keeps the one that begins, up to one byte more
-    /// than it may have.
-    pub fn take<E: Write>(
-        &mut self,
-        block: &[u8],
-        line: &mut Vec<u8, A>,
-        err: &mut Channel<E>,
-    ) -> Ended
-        ensures { Ends err.old err.new
-            (TakesBlock E.contents self.old self.new err.old err.new
-            line.old.items line.new.items block.now)
-            (BeginsBlock E.contents self.old err.old err.new line.old.items block.now) result }
-    {
-        let mut rest = block;
-        loop {
-            let (end, more) = rest.split_at(memchr::memchr(b'\n', rest).unwrap_or(rest.len()));
-            let room = self
-                .wanted
-                .longest
-                .saturating_add(1)
-                .saturating_sub(line.len());
-            line.extend_from_slice(&end[..end.len().min(room)])?;
-            let Some((_, next)) = more.split_first() else {
-                return Ok(());
-            };
-            self.count(line.as_mut_slice(), err)?;
-            line.clear();
-            rest = next;
-        }
     }
 
     /// Counts a line. Of one that is too long, the first bytes are enough: one more than it may
@@ -161,12 +127,7 @@ impl<'k, A: Allocator + Copy> Lines<'k, A> {
             (rejection_line self.old.wanted.now self.old.label.now self.old.number error)) result }
     {
         let words = self.rejection(error).map_err(|_| Failure::Resources)?;
-        let mut name = Text::<Channel<E>, 256>::new(err);
-        name.put(self.label.as_bytes());
-        name.put(words.as_slice());
-        if name.finish().is_err() {
-            return Err(Failure::Write);
-        }
+        put_name(err, self.label, words.as_slice())?;
         self.all_taken = false;
         self.add(self.wanted.rejected(), 1)?;
         Ok(())
@@ -230,17 +191,7 @@ impl<'k, A: Allocator + Copy> Lines<'k, A> {
         }
         match text.finish() {
             Ok(()) => Ok(()),
-            Err(e) => Err(report_failure(&e, self.all_taken)),
+            Err(e) => Err(Failure::of_output(&e, self.all_taken)),
         }
-    }
-}
-
-// Why a report was not written. Who has closed it has had enough of it.
-fn report_failure(e: &io::Error, all_taken: bool) -> Failure
-    ensures { IsReportFault all_taken true result }
-{
-    match e.kind() {
-        ErrorKind::BrokenPipe => Failure::Closed(all_taken),
-        _ => Failure::Write,
     }
 }

@@ -3,14 +3,11 @@
 //! what it prints. The library `log_report` counts; here are files and the status.
 #![tactic(auto)]
 
-mod files;
-
-use files::Source;
-use jsonl::Channel;
-use log_report::{Input, Options, asked, ending, run};
+use jsonl::{Channel, Source, arguments, ending, help_status};
+use log_report::{Input, Options, asked, run};
 use std::alloc::AllocError;
+use std::io;
 use std::process::ExitCode;
-use std::{env, io};
 
 fn main(rt: HostRuntime) -> ExitCode {
     let status = match arguments(&rt) {
@@ -23,10 +20,6 @@ fn main(rt: HostRuntime) -> ExitCode {
     ExitCode::from(status)
 }
 
-fn arguments(rt: &HostRuntime) -> io::Result<Vec<String>> {
-    Ok(env::args(rt)?.collect(rt.alloc())?)
-}
-
 fn program(rt: &HostRuntime, words: &[String]) -> u8 {
     match asked(rt.alloc(), words) {
         Ok(options) => match report(rt, &options) {
@@ -36,10 +29,11 @@ fn program(rt: &HostRuntime, words: &[String]) -> u8 {
                 3
             }
         },
-        Err(e) => {
+        Err(e) if e.use_stderr() => {
             let _ = e.print(rt);
-            if e.use_stderr() { 2 } else { 0 }
+            2
         }
+        Err(e) => help_status(rt, "log_report", &e.print(rt)),
     }
 }
 

@@ -7,6 +7,7 @@ use std::test::Fail;
 
 mod checks;
 mod counts;
+mod lines;
 mod picks;
 
 type Tested = std::result::Result<(), Fail>;

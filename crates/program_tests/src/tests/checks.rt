@@ -1,7 +1,7 @@
 //! Checks of documents and of lines; here is what both share: how an input is read, and what is
 //! written.
 use crate::tests::{Tested, in_blocks};
-use jcheck::{Checker, Style, check_document, check_lines};
+use jcheck::{Checker, Failure, Style, check_document, check_lines};
 use jsonl::Channel;
 use std::io::{self, ErrorKind, Write};
 use std::process::Abort;
@@ -51,7 +51,7 @@ fn check<W: Write>(
     input: &[u8],
     form: Form,
     style: Style,
-) -> io::Result<bool> {
+) -> Result<bool, Failure> {
     let mut checker = Checker::new(rt.alloc(), 4);
     match form {
         Form::Document => check_document(&mut checker, out, "f", input, style),
@@ -116,8 +116,11 @@ fn assert_stopped(
     for room in 0..text.len() {
         let taken = Vec::new(rt.alloc());
         let mut out = Channel::new(Short { taken, room });
-        let kind = check(rt, &mut out, input, form, plain(80)).map_err(|e| e.kind());
-        assert_eq!(rt; kind, Err(ErrorKind::StorageFull));
+        let kind = match check(rt, &mut out, input, form, plain(80)) {
+            Err(Failure::Output(e)) => Some(e.kind()),
+            _ => None,
+        };
+        assert_eq!(rt; kind, Some(ErrorKind::StorageFull));
         assert_eq!(rt;
             Some(out.into_inner().taken.as_slice()),
             text.as_bytes().get(..room)

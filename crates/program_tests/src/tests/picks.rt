@@ -1,7 +1,7 @@
 //! Runs over lines, blocks and failures.
 use crate::tests::{Blocks, FAULTS, Full, Hungry, Tested, failing, in_blocks, many_lines};
-use jpick::{Failure, Filter, Layout, Wanted, run};
-use jsonl::Channel;
+use jpick::{Filter, Layout, Wanted, run};
+use jsonl::{Channel, Failure};
 use linked_list_allocator::LocalHeap;
 use std::alloc::Global;
 use std::io::ErrorKind;
@@ -259,7 +259,7 @@ fn a_failed_rejection_ends_the_run(rt: HostRuntime) {
                 failing(rt.alloc(), 100, fault),
                 rejections,
             );
-            assert_eq!(rt; ran.result, Err(Failure::Write));
+            assert_eq!(rt; ran.result, Err(Failure::Name));
             assert!(rt; ran.rejections.failed() && !ran.out.failed());
             let rejections = ran.rejections.into_inner();
             assert_eq!(rt;

@@ -1,7 +1,7 @@
 // Documents, how their lines are cut, and how checks of several files end.
 use super::{BLANK, Form, MORE, OPEN, Report, VALUE, assert_stopped, assert_written, plain};
 use crate::tests::Tested;
-use jcheck::{Ended, Style, check_each};
+use jcheck::{Ended, Failure, Style, check_each};
 use std::io::{self, ErrorKind};
 
 const REJECTED: [(&[u8], &[Report]); 15] = [
@@ -198,7 +198,7 @@ fn ends_have_statuses(rt: HostRuntime) {
 }
 
 // How many files are checked, and the status of them all, where their checks return these in turn.
-fn checked(results: [io::Result<bool>; 3]) -> (usize, u8) {
+fn checked(results: [Result<bool, Failure>; 3]) -> (usize, u8) {
     let mut count = 0usize;
     let ended = check_each(
         |_file| {
@@ -211,15 +211,30 @@ fn checked(results: [io::Result<bool>; 3]) -> (usize, u8) {
     (count, ended.status())
 }
 
-// A file that can't be read does not keep the others from being checked, but a closed pipe does.
+// A file that can't be read does not keep the others from being checked, nor does an output that
+// fails, unless it is closed.
 #[test]
 fn files_are_checked_in_turn(rt: HostRuntime) {
-    let missing = Err(io::Error::from(ErrorKind::NotFound));
-    let closed = Err(io::Error::from(ErrorKind::BrokenPipe));
+    let missing = Err(Failure::Input(io::Error::from(ErrorKind::NotFound)));
+    let unread = Err(Failure::Input(io::Error::from(ErrorKind::BrokenPipe)));
+    let full = Err(Failure::Output(io::Error::from(ErrorKind::StorageFull)));
+    let closed = Err(Failure::Output(io::Error::from(ErrorKind::BrokenPipe)));
     assert_eq!(rt; checked([Ok(true), Ok(true), Ok(true)]), (3, 0));
     assert_eq!(rt; checked([Ok(true), Ok(false), Ok(true)]), (3, 1));
     assert_eq!(rt; checked([missing, Ok(false), Ok(true)]), (3, 3));
     assert_eq!(rt; checked([Ok(false), Ok(true), missing]), (3, 3));
+    assert_eq!(rt; checked([unread, full, Ok(false)]), (3, 3));
     assert_eq!(rt; checked([Ok(true), closed, missing]), (2, 1));
     assert_eq!(rt; checked([missing, closed, Ok(true)]), (2, 3));
+}
+
+// A failure names the input or the output, and is printed as its error.
+#[test]
+fn failures_name_what_failed(rt: HostRuntime) -> Tested {
+    let error = io::Error::from(ErrorKind::StorageFull);
+    assert_eq!(rt; Failure::Input(error).what("f"), "f");
+    assert_eq!(rt; Failure::Output(error).what("f"), "standard output");
+    let text = format!(in rt.alloc(); "{}", Failure::Output(error))?;
+    assert_eq!(rt; text.as_str(), "no storage space");
+    Ok(())
 }

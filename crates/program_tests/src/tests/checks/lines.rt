@@ -1,7 +1,7 @@
 // Lines in blocks of each size, and readers and writers that fail.
 use super::{Form, MORE, OPEN, Report, VALUE, assert_stopped, assert_written, plain, text_of};
 use crate::tests::{Blocks, Tested};
-use jcheck::{Checker, check_lines};
+use jcheck::{Checker, Failure, check_lines, is_closed};
 use jsonl::Channel;
 use std::io::ErrorKind;
 
@@ -51,7 +51,8 @@ fn lines_have_their_numbers(rt: HostRuntime) -> Tested {
     Ok(())
 }
 
-// The reports on the lines that ended before a read fails are written before it.
+// The reports on the lines that ended before a read fails are written before it. A broken pipe that
+// is read is no output that is closed.
 #[test]
 fn a_failed_read_ends_the_check(rt: HostRuntime) -> Tested {
     let input = b"x\n1\nx\nx".as_slice();
@@ -70,12 +71,16 @@ fn a_failed_read_ends_the_check(rt: HostRuntime) -> Tested {
             let mut reader = Channel::new(Blocks {
                 rest: &input[..len],
                 size,
-                fault: Some(ErrorKind::ConnectionReset),
+                fault: Some(ErrorKind::BrokenPipe),
             });
             let mut out = Channel::new(Vec::new(rt.alloc()));
             let checked = check_lines(&mut checker, &mut reader, &mut out, "f", plain(80));
-            let kind = checked.map_err(|e| e.kind());
-            assert_eq!(rt; kind, Err(ErrorKind::ConnectionReset));
+            let kind = match &checked {
+                Err(Failure::Input(e)) => Some(e.kind()),
+                _ => None,
+            };
+            assert_eq!(rt; kind, Some(ErrorKind::BrokenPipe));
+            assert!(rt; !is_closed(&checked));
             assert!(rt; reader.failed() && !out.failed());
             let text = text_of(&rt, reports)?;
             assert_eq!(rt;

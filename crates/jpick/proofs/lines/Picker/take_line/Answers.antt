@@ -7,13 +7,14 @@ use Rattle.simd_json.specs.Reserved.{IsReserved}
 use Rattle.simd_json.specs.Viewed.{doc}
 use Rattle.simd_json_parts.specs.Answer.{answer}
 use Rattle.jpick.specs.Picked.{Picked, next, with_answer, with_line, with_rejection}
-use Rattle.jpick.specs.Runs.{Begins, Shows, fault_of}
+use Rattle.jpick.specs.Runs.{Shows}
 use Rattle.jpick.specs.declared.fields.Wanted.{Wanted}
 use Rattle.jpick.specs.declared.lines.Picker.{Picker}
 use Rattle.jpick.proofs.Answered.{answered, rejected-line}
 use Rattle.jpick.proofs.Shown.{begins-line, begins-rejected, long-line, named-as, picked-over, rejected-over, short-line}
 use Rattle.jpick.proofs.Shown.{shows-next, shows-picked, shows-rejected}
-use Rattle.jpick.proofs.Written.{handed-on, weaker}
+use Rattle.jsonl.proofs.Calls.{handed-on, weaker}
+use Rattle.jsonl.specs.Failures.{Begins, name_fault}
 use Rattle.jpick.proofs.lines.Picker.take_line.Goals as goal
 use Rattle.jpick.proofs.lines.Picker.take_line.Goals.{in-Ok+in_ok-pick-in-Ok, in-Err+in_ok-reject-in-Err}
 
@@ -42,13 +43,13 @@ returns-then-line-self g c = λ sound.
 
 pub returns-in_err-extend_from_slice : goal.returns-in_err-extend_from_slice
 returns-in_err-extend_from_slice g c = λ sound.
-    handed-on c.from_residual.result _ _ _ _ c.from_residual.ensures.1 (λ e none. none ∙ ap fault_of (sym sound))
+    handed-on c.from_residual.result _ _ _ _ c.from_residual.ensures.1 (λ e none. none ∙ ap name_fault (sym sound))
     (λ before held w file r shown. begins-line c.args.self.now before held _ w file r c.args.line.now shown)
 
 pub returns-in_err-pick-in-Ok : goal.returns-in_err-pick-in-Ok
 returns-in_err-pick-in-Ok g c = λ sound.
     handed-on c.from_residual-in_err-pick-in-Ok.result _ _ _ _ c.from_residual-in_err-pick-in-Ok.ensures.1
-    (λ e none. none ∙ ap fault_of (sym sound))
+    (λ e none. none ∙ ap name_fault (sym sound))
     (λ before held w file r shown. begins-line c.args.self.now before held _ w file r c.args.line.now shown)
 
 pub returns-in_err-reject-in-Err : goal.returns-in_err-reject-in-Err

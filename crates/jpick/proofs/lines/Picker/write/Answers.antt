@@ -3,7 +3,8 @@ use Rattle.std.specs.Io.KnownBytes.{Appends}
 use Rattle.std.specs.Prelude.{Some}
 use Rattle.simd_json_print.specs.Texts.{TargetState}
 use Rattle.simd_json_print.proofs.Texts.{ended-failed, ended-sound}
-use Rattle.jpick.specs.Runs.{Begins, IsRowsFault, Writes}
+use Rattle.jpick.specs.Runs.{Writes}
+use Rattle.jsonl.specs.Failures.{Begins, IsOutputFault}
 use Rattle.jpick.proofs.lines.Picker.write.Goals as goal
 
 pub returns-in-Err : goal.returns-in-Err
@@ -11,10 +12,10 @@ returns-in-Err g c = λ sound.
     let start : TargetState = record { held = g.W.Write.contents c.args.out.now.inner; failed = Some c.args.out.now.failed } in
     let ends = c.finish.ensures start _ (c.put.ensures.given start [] c.new-text.ensures.empty) in
     let failed = ended-failed c.finish.result _ _ _ _ _ ends (search rules) in
-    let fact : (c.finish.new.self.0.failed ≡ true) × IsRowsFault c.args.self.now.all_taken c.rows_failure.result
+    let fact : (c.finish.new.self.0.failed ≡ true) × IsOutputFault c.args.self.now.all_taken c.of_output.result
     × Begins start.held (g.W.Write.contents c.finish.new.self.0.inner) c.args.self.now.rows.items = (
       failed.0,
-      c.rows_failure.ensures,
+      c.of_output.ensures,
       subst (Begins start.held (g.W.Write.contents c.finish.new.self.0.inner)) c.as_slice.ensures.value failed.1,
     ) in
     search rules

@@ -1,4 +1,4 @@
-//! Files that are read one after another.
+//! A file or standard input, by its name.
 ghost use Rattle.std.specs.Io.{ReadsAtMost};
 
 use std::fs::File;

@@ -1,0 +1,54 @@
+//! Why the check of a file ended before its end.
+ghost use Rattle.std.specs.Prelude.{◌≡◌};
+ghost use Rattle.jcheck.specs.Failures.{IsShortOfMemory, has_closed, what_failed};
+
+use std::alloc::AllocError;
+use std::fmt::{self, Display, Formatter, Write};
+use std::io::{self, ErrorKind};
+
+/// Why a check ended before the end of its input. Printed it is the error's own text.
+#[derive(Clone, Copy, Debug)]
+pub enum Failure {
+    /// The input can't be read, or an allocation failed.
+    Input(io::Error),
+    /// The output can't be written.
+    Output(io::Error),
+}
+
+impl Failure {
+    /// Returns whether who reads the output has closed it.
+    pub fn has_closed(&self) -> bool
+        ensures { result ≡ has_closed self.now }
+    {
+        match self {
+            Failure::Input(_) => false,
+            Failure::Output(e) => e.kind() == ErrorKind::BrokenPipe,
+        }
+    }
+
+    /// Returns the name of what failed: that of the input, or `standard output`.
+    pub fn what<'a>(&self, input: &'a str) -> &'a str
+        ensures { result.now ≡ what_failed self.now input.now }
+    {
+        match self {
+            Failure::Input(_) => input,
+            Failure::Output(_) => "standard output",
+        }
+    }
+}
+
+impl From<AllocError> for Failure {
+    ghost from_gives = { λ _ failure. IsShortOfMemory failure };
+
+    fn from(error: AllocError) -> Failure {
+        Failure::Input(io::Error::from(error))
+    }
+}
+
+impl Display for Failure {
+    fn fmt<W: Write>(&self, f: &mut Formatter<W>) -> fmt::Result {
+        match self {
+            Failure::Input(e) | Failure::Output(e) => e.fmt(f),
+        }
+    }
+}

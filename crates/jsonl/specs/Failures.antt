@@ -1,0 +1,52 @@
+-- Why a run over lines ended before the end of its input, and what is said of how it ended: a line on standard error, and a status.
+use Rattle.std.specs.Prelude.{◌≡◌, ℕ, List, codes, take, Option, Some, None, Bool, true, false, Result, Ok, Err, MatchResult}
+use Rattle.std.specs.Io.KnownBytes.{Appends}
+use Rattle.jsonl.specs.Ports.{Watched}
+use Rattle.jsonl.specs.declared.failure.Failure.{Failure}
+use Rattle.jsonl.specs.declared.failure.Failure.TheVariants.{Read, Write, Name, Closed, Resources}
+
+-- whether no line was rejected, or why it ended before the end of its input; who closes the output has had enough of it
+abbrev pub run_status : Result Bool Failure → ℕ
+run_status (Ok true) = 0
+run_status (Ok false) = 1
+run_status (Err (Closed true)) = 0
+run_status (Err (Closed false)) = 1
+run_status (Err _) = 3
+
+-- the line for standard error, without its line feed: which output failed, or that an allocation did; where reading failed, another
+-- names the file
+abbrev pub line_of : Result Bool Failure → Option (List ℕ)
+line_of (Err Write) = Some (codes "standard output: writing failed")
+line_of (Err Name) = Some (codes "standard error: writing failed")
+line_of (Err Resources) = Some (codes "out of memory")
+line_of _ = None
+
+-- writing what was asked for failed, or its reader has closed it
+abbrev pub is_write : Failure → Bool
+is_write Write = true
+is_write (Closed taken) = true
+is_write _ = false
+
+-- what a call ends in that fails to write it, by whether no line was rejected so far
+abbrev pub IsOutputFault : Bool → Failure → Type 0
+IsOutputFault taken (Closed t) = t ≡ taken
+IsOutputFault taken failure = failure ≡ Write
+
+-- what a call on a port that had not failed ends in, if its failures come from that port or from want of memory: of a reader
+abbrev pub read_fault : Bool → Failure
+read_fault true = Read
+read_fault false = Resources
+
+-- and of a writer that names rejected lines
+abbrev pub name_fault : Bool → Failure
+name_fault true = Name
+name_fault false = Resources
+
+-- of such a call: P, and the port has not failed; or a failure, and Q
+abbrev pub Ends : {T : Type 0} → Watched T → Watched T → Type 0 → Type 0 → Result Unit Failure → Type 0
+Ends old new P Q result =
+    old.failed ≡ false → MatchResult result (λ _. (new.failed ≡ false) × P) (λ failure. (failure ≡ name_fault new.failed) × Q)
+
+-- of a writer that held and holds these: a beginning of the bytes was written
+abbrev pub Begins : Option (List ℕ) → Option (List ℕ) → List ℕ → Type 0
+Begins held holds bytes = (count : ℕ) × Appends held holds (take count bytes)

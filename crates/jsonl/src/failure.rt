@@ -1,0 +1,85 @@
+//! Why a run over lines ended before the end of its input, and how its program ends.
+ghost use Rattle.std.specs.Prelude.{◌≡◌, ◌++◌, option_map};
+ghost use Rattle.std.specs.Io.KnownBytes.{Appends};
+ghost use Rattle.jsonl.specs.Failures.{Begins, Ends, IsOutputFault, line_of, run_status};
+ghost use Rattle.jsonl.specs.declared.failure.Failure.TheVariants.{Resources};
+
+use crate::channel::Channel;
+use simd_json_print::text::Text;
+use std::alloc::AllocError;
+use std::io::{self, ErrorKind, Write};
+
+/// Why a run ended before the end of its input.
+#[derive(Clone, Copy, Debug, PartialEq, Eq)]
+pub enum Failure {
+    /// Reading failed.
+    Read,
+    /// Writing what was asked for failed.
+    Write,
+    /// Naming a rejected line failed.
+    Name,
+    /// Who reads the output has closed it. Holds whether no line was rejected so far.
+    Closed(bool),
+    /// An allocation failed, or the input did not end.
+    Resources,
+}
+
+impl Failure {
+    /// Returns why the output was not written, by whether no line was rejected so far. Who has
+    /// closed it has had enough of it.
+    pub fn of_output(e: &io::Error, all_taken: bool) -> Failure
+        ensures { IsOutputFault all_taken result }
+    {
+        match e.kind() {
+            ErrorKind::BrokenPipe => Failure::Closed(all_taken),
+            _ => Failure::Write,
+        }
+    }
+}
+
+impl From<AllocError> for Failure {
+    ghost from_gives = { λ _ failure. failure ≡ Resources };
+
+    fn from(_: AllocError) -> Failure {
+        Failure::Resources
+    }
+}
+
+/// Returns the exit status of a program of one run, and the line for standard error: which output
+/// failed, or that an allocation did. Where reading failed there is none, since it is the input's.
+pub fn ending(ended: &Result<bool, Failure>) -> (u8, Option<&'static str>)
+    ensures { (result.0 ≡ run_status ended.now)
+        × (option_map (λ line. line.now) result.1 ≡ line_of ended.now) }
+{
+    match ended {
+        Ok(true) | Err(Failure::Closed(true)) => (0, None),
+        Ok(false) | Err(Failure::Closed(false)) => (1, None),
+        Err(Failure::Read) => (3, None),
+        Err(Failure::Write) => (3, Some("standard output: writing failed")),
+        Err(Failure::Name) => (3, Some("standard error: writing failed")),
+        Err(Failure::Resources) => (3, Some("out of memory")),
+    }
+}
+
+/// Writes the name of a rejected line: the label, and the words after it.
+///
+/// Fails with `Name` if writing fails. A prefix of the name was written then.
+pub fn put_name<E: Write>(
+    rejections: &mut Channel<E>,
+    label: &str,
+    words: &[u8],
+) -> Result<(), Failure>
+    ensures { Ends rejections.old rejections.new
+        (Appends (E.contents rejections.old.inner) (E.contents rejections.new.inner)
+        (label.now ++ words.now))
+        (Begins (E.contents rejections.old.inner) (E.contents rejections.new.inner)
+        (label.now ++ words.now)) result }
+{
+    let mut name = Text::<Channel<E>, 256>::new(rejections);
+    name.put(label.as_bytes());
+    name.put(words);
+    match name.finish() {
+        Ok(()) => Ok(()),
+        Err(_) => Err(Failure::Name),
+    }
+}

@@ -1,0 +1,72 @@
+//! The lines of a reader, and how a run over them ends.
+use crate::tests::{Blocks, Tested, in_blocks};
+use jsonl::{Channel, Failure, Lines, Step, ending};
+use std::io::ErrorKind;
+
+// An input, and its lines, of at most 3 bytes each: of longer ones the first 4.
+const CUT: [(&[u8], &[&[u8]]); 5] = [
+    (b"", &[b""]),
+    (b"\n", &[b"", b""]),
+    (b"ab\n\r\nabc", &[b"ab", b"\r", b"abc"]),
+    (b"abcd\nabcdefgh\nab\n", &[b"abcd", b"abcd", b"ab", b""]),
+    (b"\n\nabcdefgh", &[b"", b"", b"abcd"]),
+];
+
+// However the input is cut into blocks. A line may be overwritten before the next.
+#[test]
+fn lines_are_cut(rt: HostRuntime) -> Tested {
+    for (input, wanted) in CUT {
+        for size in 1..12 {
+            let mut reader = Channel::new(in_blocks(input, size));
+            let mut lines = Lines::new(3);
+            let mut line = Vec::from_slice(rt.alloc(), b"xyz")?;
+            let mut count = 0usize;
+            for _ in 0..100 {
+                let step = lines.next(&mut reader, &mut line)?;
+                if step != Step::Block {
+                    assert_eq!(rt; Some(line.as_slice()), wanted.get(count).copied());
+                    count = count.saturating_add(1);
+                    line.clear();
+                    line.extend_from_slice(b"overwritten")?;
+                }
+                if step == Step::End {
+                    break;
+                }
+            }
+            assert_eq!(rt; count, wanted.len());
+        }
+    }
+    Ok(())
+}
+
+// Reading fails in mid-line.
+#[test]
+fn a_failed_read_is_no_line(rt: HostRuntime) {
+    let mut reader = Channel::new(Blocks {
+        rest: b"a\nb",
+        size: 10,
+        fault: Some(ErrorKind::BrokenPipe),
+    });
+    let (mut lines, mut line) = (Lines::new(3), Vec::new(rt.alloc()));
+    assert_eq!(rt; lines.next(&mut reader, &mut line), Ok(Step::Line));
+    assert_eq!(rt; lines.next(&mut reader, &mut line), Ok(Step::Block));
+    assert_eq!(rt; lines.next(&mut reader, &mut line), Err(Failure::Read));
+}
+
+// The output that failed is named, and a closed one is no failure.
+#[test]
+fn ends_have_statuses(rt: HostRuntime) {
+    let full = "standard output: writing failed";
+    let unnamed = "standard error: writing failed";
+    assert_eq!(rt; ending(&Ok(true)), (0, None));
+    assert_eq!(rt; ending(&Ok(false)), (1, None));
+    assert_eq!(rt; ending(&Err(Failure::Closed(true))), (0, None));
+    assert_eq!(rt; ending(&Err(Failure::Closed(false))), (1, None));
+    assert_eq!(rt; ending(&Err(Failure::Read)), (3, None));
+    assert_eq!(rt; ending(&Err(Failure::Write)), (3, Some(full)));
+    assert_eq!(rt; ending(&Err(Failure::Name)), (3, Some(unnamed)));
+    assert_eq!(rt;
+        ending(&Err(Failure::Resources)),
+        (3, Some("out of memory"))
+    );
+}
