@@ -10,13 +10,14 @@ use crate::skip::skip;
 use crate::unexpected::{Expected, Found, Unexpected};
 use crate::value::{Document, Value};
 
-/// Where a walk stopped, and what it expected there.
+/// Where a walk stopped, and what it expected there. Its fields lie where those of a value lie in
+/// an `Option<Value>`: else a value that is found is written in pieces, and read at once.
 #[derive(Clone, Copy)]
 pub(crate) struct Stop<'d> {
+    pub(crate) expected: Expected,
     pub(crate) document: Document<'d>,
     // how many structural indexes are before it
     pub(crate) at: usize,
-    pub(crate) expected: Expected,
 }
 
 impl<'d> Stop<'d> {
@@ -93,9 +94,9 @@ impl<'d> Document<'d> {
         ensures expected { result.expected ≡ expected }
     {
         Stop {
+            expected,
             document: self,
             at,
-            expected,
         }
     }
 
