@@ -229,48 +229,32 @@ static void add_refuse(std::vector<Contender> &all, const std::string &level, co
                    })});
 }
 
-// What a call of the library for C writes to.
-struct Lent {
-    std::vector<simd_json_node> nodes;
-    std::vector<uint8_t> text;
-    simd_json_room room;
-    simd_json_place place;
-
-    // As many as are counted, where the call has read the text.
-    template <class Tape> int64_t read(size_t len, Tape tape) {
-        if (text.size() < len) nodes.resize(len), text.resize(len);
-        return tape(nodes.data(), len, text.data(), len, &room, &place) == SIMD_JSON_OK ? int64_t(room.nodes) : -1;
-    }
-};
-
 // The library for C, which makes its buffers at each call, and its parser, which keeps them and is timed as ours in Rust
-// is, without the first copy. There is room for as many nodes and
-// bytes of text as the text has bytes.
+// is, without the first copy.
 static void add_c(std::vector<Contender> &all, const std::string &level, const std::string &path) {
-    auto lent = std::make_shared<Lent>();
     auto add = [&](const char *name, auto one, bool is_kept) {
         all.push_back({Contender::Parse, "simd_json C " + (name + (", " + level)), each(one), is_kept});
     };
 
     auto *check = symbol<decltype(simd_json_check)>(path, "simd_json_check");
-    add("check", [check, lent](uint8_t *text, size_t len) -> int64_t {
-        return check(text, len, 1024, &lent->place) == SIMD_JSON_OK ? 0 : -1;
-    }, false);
-    auto *tape = symbol<decltype(simd_json_tape)>(path, "simd_json_tape");
-    add("tape", [tape, lent](uint8_t *text, size_t len) {
-        return lent->read(len, [&](auto... memory) { return tape(text, len, 1024, memory...); });
+    add("check", [check](uint8_t *text, size_t len) -> int64_t {
+        simd_json_place place;
+        return check(text, len, 1024, &place) == SIMD_JSON_OK ? 0 : -1;
     }, false);
 
     auto *close = symbol<decltype(simd_json_close)>(path, "simd_json_close");
     std::shared_ptr<simd_json_parser> parser(new simd_json_parser{}, [close](simd_json_parser *open) { close(open), delete open; });
     if (symbol<decltype(simd_json_open)>(path, "simd_json_open")(parser.get(), 1024)) stop("the parser for C has no memory");
     auto *kept_check = symbol<decltype(simd_json_parser_check)>(path, "simd_json_parser_check");
-    add("kept check", [kept_check, parser, lent](uint8_t *text, size_t len) -> int64_t {
-        return kept_check(parser.get(), text, len, &lent->place) == SIMD_JSON_OK ? 0 : -1;
+    add("kept check", [kept_check, parser](uint8_t *text, size_t len) -> int64_t {
+        simd_json_place place;
+        return kept_check(parser.get(), text, len, &place) == SIMD_JSON_OK ? 0 : -1;
     }, true);
-    auto *kept_tape = symbol<decltype(simd_json_parser_tape)>(path, "simd_json_parser_tape");
-    add("kept tape", [kept_tape, parser, lent](uint8_t *text, size_t len) {
-        return lent->read(len, [&](auto... memory) { return kept_tape(parser.get(), text, len, memory...); });
+    auto *parse = symbol<decltype(simd_json_parser_parse)>(path, "simd_json_parser_parse");
+    add("kept parse", [parse, parser](uint8_t *text, size_t len) -> int64_t {
+        simd_json_document document;
+        simd_json_place place;
+        return parse(parser.get(), text, len, &document, &place) == SIMD_JSON_OK ? int64_t(document.nodes_len) : -1;
     }, true);
 }
 

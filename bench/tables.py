@@ -17,7 +17,7 @@ FORMS = {"log": "log lines", "twitter": "tweets", "twitterescaped": "escaped twe
 # The sizes of the shapes that are made to be slow.
 SHAPE_BYTES = [10**6, 64 * 10**6]
 # Columns of the first table that a document leaves out; the chart has the last two.
-LEFT_OUT = ["fresh", "C check", "C tape", "C kept tape", "yajl, events alone", "rapidjson in place", "serde_json Value"]
+LEFT_OUT = ["fresh", "C check", "C kept parse", "yajl, events alone", "rapidjson in place", "serde_json Value"]
 
 
 class Results:

@@ -33,12 +33,13 @@
  * Pointers are to memory of the caller, which a call uses until it returns, but for those that simd_json_parser_parse writes.
  * Regions may not overlap. A pointer may be null where its length is 0. Nothing past a length is read or written.
  *
- * INPUT IS OVERWRITTEN, but by simd_json_index and simd_json_parser_index: escapes are decoded in place, and afterwards its
- * contents are unspecified. Pass a copy of what is needed again. It needs no terminator and no padding.
+ * The input needs no terminator and no padding. simd_json_parser_parse and simd_json_parser_print OVERWRITE it: they decode
+ * escapes in place, and afterwards its contents are unspecified. Pass a copy of what is needed again. All other calls take it
+ * as const, and leave it as it is.
  *
- * `max_depth` is how many arrays and objects may be open at a time: 1024 is usual, 0 allows scalars only. The calls that
- * print take about 11 bytes of the stack for each, which no status tells of: 8 MB are enough for 500,000, and a thread
- * with 256 kB for 20,000. All others take the same stack however deep the input is.
+ * `max_depth` is how many arrays and objects may be open at a time: 1024 is usual, 0 allows scalars only. simd_json_parser_print
+ * takes about 11 bytes of the stack for each, which no status tells of: 8 MB are enough for 500,000, and a thread with 256 kB
+ * for 20,000. All others take the same stack however deep the input is.
  */
 #ifndef SIMD_JSON_H
 #define SIMD_JSON_H
@@ -95,8 +96,8 @@ enum {
     /* The parser is not open. The input is not read. */
     SIMD_JSON_PARSER_CLOSED = 20,
 
-    /* The JSON Pointer names no value in the input, which is a document for all calls but simd_json_parser_find; or the pointer
-     * is not UTF-8, and the input is not read. */
+    /* The JSON Pointer names no value: of simd_json_parser_print in the document that the input is, of simd_json_parser_find in
+     * the input that is kept. Or the pointer is not UTF-8, and the input is not read. */
     SIMD_JSON_NO_VALUE = 21
 };
 
@@ -123,7 +124,7 @@ enum {
     SIMD_JSON_OBJECT = 9   /* len pairs, and value nodes beneath */
 };
 
-/* A node of a tape: a scalar, a key, or the header of a container, whose members' nodes follow it; a member of an object
+/* A node of a document: a scalar, a key, or the header of a container, whose members' nodes follow it; a member of an object
  * is its key's node, then its value's (simd_json_next). Fields of which nothing is said are 0. */
 typedef struct {
     uint32_t kind;
@@ -145,33 +146,17 @@ static inline size_t simd_json_next(const simd_json_node *nodes, size_t i) {
     return i + 1 + (nodes[i].kind >= SIMD_JSON_ARRAY ? (size_t)nodes[i].value : 0);
 }
 
-/* How many nodes, and how many bytes of text. */
-typedef struct {
-    size_t nodes;
-    size_t text;
-} simd_json_room;
-
-/* Whether the input is a document. Writes *place. */
-int32_t simd_json_check(void *input, size_t len, size_t max_depth, simd_json_place *place);
-
-/* The nodes of a document, in preorder, and the texts of its strings and literals, one after another. Writes *place.
- *
- * OK: *room is how many of each there are; nothing behind them is written.
- * TOO_LITTLE_ROOM: *room is what is needed; pass a fresh copy of the input with it.
- * Any other status: *room is unchanged.
- * After each status but OK the contents of nodes and text are unspecified: they are written while the input is read.
- *
- * A document has no more nodes than bytes, and its texts together no more bytes than it: with room for `len` of both,
- * TOO_LITTLE_ROOM is never returned. */
-int32_t simd_json_tape(void *input, size_t len, size_t max_depth, simd_json_node *nodes, size_t nodes_len, void *text,
-                       size_t text_len, simd_json_room *room, simd_json_place *place);
+/* Whether the input is a document. It is checked where it is, and left as it is: it may be a string literal, or memory that
+ * cannot be written. Only of one that is rejected at a token, or has more than 64 open containers, a copy is made. Writes
+ * *place. */
+int32_t simd_json_check(const void *input, size_t len, size_t max_depth, simd_json_place *place);
 
 /* The index of the node that a JSON Pointer (RFC 6901) names beneath the value at index `from`, or SIMD_JSON_NO_NODE: the pointer
  * is malformed, or leads nowhere. The empty pointer names the value itself. Each `/` of another begins a reference token: the key
  * of a pair of an object, of equal keys the first, with `~1` for `/` and `~0` for `~`; or the index of an element of an array, in
  * digits without a leading zero.
  *
- * Of other nodes than those of a tape the result is not said, but it is below nodes_len or SIMD_JSON_NO_NODE. */
+ * Of other nodes than those of a document the result is not said, but it is below nodes_len or SIMD_JSON_NO_NODE. */
 #define SIMD_JSON_NO_NODE SIZE_MAX
 size_t simd_json_pointer(const simd_json_node *nodes, size_t nodes_len, const void *text, size_t text_len, size_t from,
                          const void *pointer, size_t pointer_len);
@@ -184,21 +169,6 @@ size_t simd_json_pointer(const simd_json_node *nodes, size_t nodes_len, const vo
  * Of two that are equally near it is the one with the even significand; past the greatest it is infinite.
  * INVALID_NUMBER: the bytes are not a number as a document may hold it, without more; *number is unchanged. */
 int32_t simd_json_double(const void *literal, size_t len, double *number);
-
-/* The document as text, without whitespace. A decimal is its literal, an integer its digits; in strings a quote, a
- * backslash and bytes below 0x20 are escaped. Writes *place.
- *
- * OK: *needed is the length of the text, which is at the front of out; nothing behind it is written. There is no
- * terminator.
- * TOO_LITTLE_ROOM: *needed is the length that is needed, and out is unchanged. `len` bytes of out are always enough.
- * Any other status: *needed and out are unchanged. */
-int32_t simd_json_compact(void *input, size_t len, size_t max_depth, void *out, size_t out_len, size_t *needed,
-                          simd_json_place *place);
-
-/* The same with a line for each member, after two spaces for each container that is open there. It can be much longer than
- * the input. */
-int32_t simd_json_pretty(void *input, size_t len, size_t max_depth, void *out, size_t out_len, size_t *needed,
-                         simd_json_place *place);
 
 /* The structural indexes of the input, in ascending order: the byte offset of the opening quote of each string and, outside
  * strings, of each structural character and of the first byte of each other token. The input is not written. Writes *place.
@@ -220,10 +190,11 @@ typedef struct {
 } simd_json_position;
 
 /* The position and the reason in words of an error, as "expected a value, found `]`": `status` and `place` are what a call has
- * reported, and `input` is the bytes as they were before it. Writes *position: an error with a character is at its index, and
- * one of the whole input at the first byte that begins no UTF-8 character, at the control byte in a string or the opening quote
- * of the string that has no end, at the end, or at the first byte too many. Of OUT_OF_MEMORY it is the first byte, and the
- * reason `out of memory`; of another status that is no error of an input it is zeros, and the reason is empty.
+ * reported, and `input` is the bytes as they were before it. Writes *position: an error with a character is at its index, but
+ * where more text follows the document it is at the first byte of that text; and one of the whole input at the first byte that
+ * begins no UTF-8 character, at the control byte in a string or the opening quote of the string that has no end, at the end, or
+ * at the first byte too many. Of OUT_OF_MEMORY it is the first byte, and the reason `out of memory`; of another status that is
+ * no error of an input it is zeros, and the reason is empty.
  *
  * OK: *needed is the length of the reason, which is at the front of out; there is no terminator.
  * TOO_LITTLE_ROOM: *needed is the length that is needed, at most SIMD_JSON_REASON_MAX, and out is unchanged.
@@ -251,28 +222,12 @@ typedef struct {
  * it closed; there is no other error. */
 int32_t simd_json_open(simd_json_parser *parser, size_t max_depth);
 
-/* As simd_json_check and simd_json_tape, with what the parser keeps. It stays open after each status, and keeps what it has
- * allocated. PARSER_CLOSED: nothing but *place is written. */
-int32_t simd_json_parser_check(simd_json_parser *parser, void *input, size_t len, simd_json_place *place);
-int32_t simd_json_parser_tape(simd_json_parser *parser, void *input, size_t len, simd_json_node *nodes, size_t nodes_len,
-                              void *text, size_t text_len, simd_json_room *room, simd_json_place *place);
+/* As simd_json_check, with what the parser keeps, which stays open after each status. OUT_OF_MEMORY: only where an allocation
+ * fails, and none is made where an earlier check with the parser needed as much. PARSER_CLOSED: nothing but *place is written. */
+int32_t simd_json_parser_check(simd_json_parser *parser, const void *input, size_t len, simd_json_place *place);
 
-/* As simd_json_compact and simd_json_pretty, with what the parser keeps: where that suffices, nothing is allocated.
- * PARSER_CLOSED: nothing but *place is written. */
-int32_t simd_json_parser_compact(simd_json_parser *parser, void *input, size_t len, void *out, size_t out_len, size_t *needed,
-                                 simd_json_place *place);
-int32_t simd_json_parser_pretty(simd_json_parser *parser, void *input, size_t len, void *out, size_t out_len, size_t *needed,
-                                simd_json_place *place);
-
-/* The same of the value that a JSON Pointer names in the document (simd_json_pointer), without the rest. The whole input is
- * parsed, and any error in it is reported. NO_VALUE: *needed and out are unchanged. */
-int32_t simd_json_parser_compact_at(simd_json_parser *parser, void *input, size_t len, const void *pointer, size_t pointer_len,
-                                    void *out, size_t out_len, size_t *needed, simd_json_place *place);
-int32_t simd_json_parser_pretty_at(simd_json_parser *parser, void *input, size_t len, const void *pointer, size_t pointer_len,
-                                   void *out, size_t out_len, size_t *needed, simd_json_place *place);
-
-/* What a parser lends: as many nodes and bytes of text as simd_json_parser_tape writes. They are the library's, must not be
- * written, and are valid until the next call with the parser, simd_json_close included. */
+/* What a parser lends: the nodes of a document, in preorder, and the texts of its strings and literals, one after another. They
+ * are the library's, must not be written, and are valid until the next call with the parser, simd_json_close included. */
 typedef struct {
     const simd_json_node *nodes;
     size_t nodes_len;
@@ -280,10 +235,35 @@ typedef struct {
     size_t text_len;
 } simd_json_document;
 
-/* As simd_json_parser_tape, into memory that the parser keeps: no room has to be guessed, and the input is read once.
- * After each status but OK *document is unchanged, and what was lent before is no longer valid. */
+/* Reads a document into memory that the parser keeps, and lends it. Writes *place. OVERWRITES the input.
+ *
+ * A document has no more nodes than bytes, and its texts together no more bytes than it. After each status but OK *document is
+ * unchanged, and what was lent before is no longer valid. The parser stays open after each status, and keeps what it has
+ * allocated. PARSER_CLOSED: nothing but *place is written. */
 int32_t simd_json_parser_parse(simd_json_parser *parser, void *input, size_t len, simd_json_document *document,
                                simd_json_place *place);
+
+/* How a document is printed: without whitespace, or with a line for each member, after two spaces for each container that is
+ * open there. Pretty text can be much longer than the input. */
+enum {
+    SIMD_JSON_COMPACT = 0,
+    SIMD_JSON_PRETTY = 1 /* as any other number */
+};
+
+/* The text of the value that a JSON Pointer names in a document (simd_json_pointer), without the rest; of the empty pointer, of
+ * the whole document. A decimal is its literal, an integer its digits; in strings a quote, a backslash and bytes below 0x20 are
+ * escaped. The whole input is read, and any error in it is reported. Writes *place. OVERWRITES the input.
+ *
+ * OK: *needed is the length of the text, which is at the front of out; nothing behind it is written. There is no
+ * terminator.
+ * TOO_LITTLE_ROOM: *needed is the length that is needed, and out is unchanged; pass a fresh copy of the input with more. For
+ * compact text `len` bytes of out are always enough.
+ * Any other status: *needed and out are unchanged. The first that fits is returned: PARSER_CLOSED; NO_VALUE of a pointer that
+ * is not UTF-8; the error of the input; NO_VALUE of a pointer that names no value; OUT_OF_MEMORY, where there is none for the
+ * text. By the first two the input is not read and not written. The parser stays open after each status, and where what it
+ * keeps suffices, nothing is allocated. */
+int32_t simd_json_parser_print(simd_json_parser *parser, void *input, size_t len, const void *pointer, size_t pointer_len,
+                               uint32_t layout, void *out, size_t out_len, size_t *needed, simd_json_place *place);
 
 /* Values on demand: an input is kept, and values in it are found by JSON Pointers (simd_json_pointer), without nodes.
  *

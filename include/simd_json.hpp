@@ -67,9 +67,10 @@ public:
         return place_.character;
     }
 
-    /* Where it is for people, also an error of the whole input, whose index is 0: the byte, the
-     * line and the column in characters, both from 1, and the reason, as "expected a value, found
-     * `]`". Zeros and no reason where the text was not given, or no memory was left to look. */
+    /* Where it is for people, also an error of the whole input, whose index is 0, and one of more
+     * text after the document, at its first byte: the byte, the line and the column in characters,
+     * both from 1, and the reason, as "expected a value, found `]`". Zeros and no reason where the
+     * text was not given, or no memory was left to look. */
     size_t byte() const noexcept { return position_.byte; }
     size_t line() const noexcept { return position_.line; }
     size_t column() const noexcept { return position_.column; }

@@ -18,6 +18,7 @@ typedef struct {
     char *input;
     struct open *open;
     size_t input_cap, open_cap;
+    size_t longest; /* of the inputs that it was used for */
     int in_use;
 } memory;
 
@@ -41,6 +42,9 @@ static struct cached cache[1 << CACHED_BITS], *latest = cache;
 
 static memory shared;
 static PyObject *to_error; /* simd_json._error */
+
+/* The interpreter whose objects these are, by its number; -1 before there is one. */
+static int64_t home = -1;
 
 static void release(memory *m) {
     simd_json_close(&m->parser);
@@ -159,42 +163,48 @@ static void *reject(int32_t status, const simd_json_place *place, PyObject *data
     return NULL;
 }
 
-/* Copies an input, which a parse overwrites, unless the library takes no such length. */
-static int copy(memory *m, PyObject *data, const text *of) {
+/* Whether the library takes an input of such a length; else its error is raised. */
+static int is_taken(PyObject *data, const text *of) {
     static const simd_json_place whole = {0, SIMD_JSON_NO_CHARACTER};
-    if (of->len > UINT32_MAX) {
+    if (of->len > UINT32_MAX)
         reject(SIMD_JSON_INPUT_TOO_LARGE, &whole, data);
-        return 0;
-    }
+    return of->len <= UINT32_MAX;
+}
+
+static int copy(memory *m, const text *of) {
     if (!grow(&m->input, &m->input_cap, (size_t)of->len + 1, 1))
         return 0;
     memcpy(m->input, of->bytes, (size_t)of->len);
     return 1;
 }
 
-/* Copies the input, and opens the parser for a depth limit. Returns the length, or -1. */
-static Py_ssize_t prepare(memory *m, PyObject *data, size_t max_depth) {
-    text of;
-    Py_ssize_t len = text_of(data, &of) && copy(m, data, &of) ? of.len : -1;
-    Py_XDECREF(of.owned);
-    if (len >= 0 && (!m->parser.is_open || m->max_depth != max_depth)) {
-        if (simd_json_open(&m->parser, max_depth) != SIMD_JSON_OK) {
-            PyErr_NoMemory();
-            return -1;
-        }
-        m->max_depth = max_depth;
+/* Opens the parser for a depth limit, and an input of such a length. */
+static int prepare(memory *m, size_t max_depth, Py_ssize_t len) {
+    if (m->longest < (size_t)len)
+        m->longest = (size_t)len;
+    if (m->parser.is_open && m->max_depth == max_depth)
+        return 1;
+    if (simd_json_open(&m->parser, max_depth) != SIMD_JSON_OK) {
+        PyErr_NoMemory();
+        return 0;
     }
-    return len;
+    m->max_depth = max_depth;
+    return 1;
 }
 
-/* Parses the input into the document, which the parser lends until its next call. */
+/* While a longer input is read, other threads run. */
+enum { LONG = 1 << 16 };
+
+/* Parses a copy of the input, since that is overwritten, into the document, which the parser lends until its next call. */
 static int parse(memory *m, PyObject *data, size_t max_depth) {
     simd_json_place place;
-    Py_ssize_t len = prepare(m, data, max_depth);
-    if (len < 0)
+    text of;
+    int is_copied = text_of(data, &of) && is_taken(data, &of) && copy(m, &of);
+    Py_XDECREF(of.owned);
+    if (!is_copied || !prepare(m, max_depth, of.len))
         return 0;
-    PyThreadState *others = len > 65536 ? PyEval_SaveThread() : NULL;
-    int32_t status = simd_json_parser_parse(&m->parser, m->input, (size_t)len, &m->document, &place);
+    PyThreadState *others = of.len > LONG ? PyEval_SaveThread() : NULL;
+    int32_t status = simd_json_parser_parse(&m->parser, m->input, (size_t)of.len, &m->document, &place);
     if (others)
         PyEval_RestoreThread(others);
     if (status != SIMD_JSON_OK) {
@@ -514,32 +524,48 @@ static PyObject *loads_in(memory *kept, arguments *given) {
     return value;
 }
 
+/* Checks the input where it is: the library leaves it as it is. While other threads run it must not
+ * change, and bytes and str never do; the bytes of a view are a copy already. A bytearray is copied:
+ * to hold its buffer, for which Python 3.10's stable ABI has no call, would keep its length alone. */
+static int check_text(memory *m, PyObject *data, const text *of) {
+    simd_json_place place;
+    if (PyByteArray_Check(data) && !copy(m, of))
+        return 0;
+    const char *bytes = PyByteArray_Check(data) ? m->input : of->bytes;
+    PyThreadState *others = of->len > LONG ? PyEval_SaveThread() : NULL;
+    int32_t status = simd_json_parser_check(&m->parser, bytes, (size_t)of->len, &place);
+    if (others)
+        PyEval_RestoreThread(others);
+    if (status != SIMD_JSON_OK)
+        reject(status, &place, data);
+    return status == SIMD_JSON_OK;
+}
+
 static PyObject *check_in(memory *kept, arguments *given) {
     memory own = {0};
     memory *m = kept->in_use ? &own : kept;
-    simd_json_place place;
+    PyObject *data = given->data;
+    text of;
     m->in_use = 1;
-    Py_ssize_t len = prepare(m, given->data, (size_t)given->max_depth);
-    int32_t status = SIMD_JSON_OK;
-    if (len >= 0) {
-        PyThreadState *others = len > 65536 ? PyEval_SaveThread() : NULL;
-        status = simd_json_parser_check(&m->parser, m->input, (size_t)len, &place);
-        if (others)
-            PyEval_RestoreThread(others);
-    }
+    int is_right = text_of(data, &of) && is_taken(data, &of) &&
+                   prepare(m, (size_t)given->max_depth, of.len) && check_text(m, data, &of);
+    Py_XDECREF(of.owned);
     m->in_use = 0;
     if (m == &own)
         release(m);
-    if (len < 0)
+    if (!is_right)
         return NULL;
-    if (status != SIMD_JSON_OK)
-        return reject(status, &place, given->data);
     Py_INCREF(Py_None);
     return Py_None;
 }
 
-/* The functions of the module keep memory of at most so many bytes of input. */
+/* The functions of the module keep memory for inputs of at most so many bytes. */
 enum { KEPT = 1 << 20 };
+
+static void keep_little(void) {
+    if (!shared.in_use && shared.longest > KEPT)
+        release(&shared);
+}
 
 static PyObject *loads(PyObject *module, PyObject *args, PyObject *named) {
     (void)module;
@@ -549,8 +575,7 @@ static PyObject *loads(PyObject *module, PyObject *args, PyObject *named) {
         !are_right(&given))
         return NULL;
     PyObject *value = loads_in(&shared, &given);
-    if (!shared.in_use && shared.input_cap > KEPT)
-        release(&shared);
+    keep_little();
     return value;
 }
 
@@ -561,8 +586,7 @@ static PyObject *check(PyObject *module, PyObject *args, PyObject *named) {
     if (!PyArg_ParseTupleAndKeywords(args, named, "O|$n:check", names, &given.data, &given.max_depth) || !are_right(&given))
         return NULL;
     PyObject *none = check_in(&shared, &given);
-    if (!shared.in_use && shared.input_cap > KEPT)
-        release(&shared);
+    keep_little();
     return none;
 }
 
@@ -673,21 +697,51 @@ static PyMethodDef functions[] = {
     {NULL, NULL, 0, NULL},
 };
 
-static struct PyModuleDef definition = {PyModuleDef_HEAD_INIT, "simd_json._native", NULL, -1, functions,
-                                        NULL, NULL, NULL, NULL};
+/* Python ends, and may begin again: the objects are gone. */
+static void forget(void) {
+    if (!shared.in_use) /* by a thread that Python has left behind */
+        release(&shared);
+    memset(cache, 0, sizeof cache);
+    latest = cache;
+    to_error = NULL;
+    home = -1;
+}
+
+/* Whether this is the first interpreter that imports the module, or that one again. No other can:
+ * what is kept are objects of one, which another may not touch. Where each has a lock of its own,
+ * Python itself lets none but the main one import it. */
+static int is_home(void) {
+    int64_t here = PyInterpreterState_GetID(PyInterpreterState_Get());
+    if (home == -1 && here >= 0 && Py_AtExit(forget) == 0)
+        home = here;
+    if (here < 0 || home != here) {
+        PyErr_SetString(PyExc_ImportError,
+                        "simd_json is imported by the first interpreter of a process that does, "
+                        "and by no other");
+        return 0;
+    }
+    return 1;
+}
 
 #define TEXT(number) #number
 #define VERSION(major, minor, patch) TEXT(major) "." TEXT(minor) "." TEXT(patch)
 
-PyMODINIT_FUNC PyInit__native(void) {
+static int begin(PyObject *module) {
     const char *version = VERSION(SIMD_JSON_VERSION_MAJOR, SIMD_JSON_VERSION_MINOR, SIMD_JSON_VERSION_PATCH);
-    PyObject *module = PyModule_Create(&definition);
-    PyObject *type = module ? PyType_FromSpec(&parser_spec) : NULL;
+    PyObject *type = is_home() ? PyType_FromSpec(&parser_spec) : NULL;
     if (!type || PyModule_AddStringConstant(module, "__version__", version) < 0
         || PyModule_AddObject(module, "Parser", type) < 0) {
         Py_XDECREF(type);
-        Py_XDECREF(module);
-        return NULL;
+        return -1;
     }
-    return module;
+    return 0;
+}
+
+static PyModuleDef_Slot slots[] = {{Py_mod_exec, begin}, {0, NULL}};
+
+static struct PyModuleDef definition = {PyModuleDef_HEAD_INIT, "simd_json._native", NULL, 0, functions,
+                                        slots, NULL, NULL, NULL};
+
+PyMODINIT_FUNC PyInit__native(void) {
+    return PyModuleDef_Init(&definition);
 }

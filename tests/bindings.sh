@@ -87,6 +87,15 @@ if python3 -c 'import sysconfig, os; raise SystemExit(not os.path.exists(sysconf
     native_module "$room/failing" -O1 python/native.c python/tests/refuse.c build/libsimd_json.a \
         -Wl,--wrap=malloc,--wrap=realloc,--wrap=free
     run env "PYTHONPATH=$room/failing" python3 python/tests/test_memory.py
+    # Python in a program, with other interpreters beside the first.
+    config=$(python3 -c 'import sysconfig; print(sysconfig.get_config_var("BINDIR") + "/python3-config")')
+    # shellcheck disable=SC2046
+    if [ -x "$config" ] && cc -Wall -Wextra -Werror "-I$include" python/tests/interpreters.c \
+        -o "$room/interpreters" $("$config" --embed --ldflags) 2> "$room/log"; then
+        run "$room/interpreters"
+    else
+        left_out="$left_out Python in a program (no library of it);"
+    fi
     # Where the processor has neither level of the release.
     echo 'void *begin_v2(void) { __builtin_trap(); } void *begin_v3(void) { __builtin_trap(); }' \
         > "$room/levels.c"

@@ -6,13 +6,15 @@
 
 As a program, `python3 simd_json.py LIBRARY < TEXT` prints the text without whitespace.
 """
+import contextlib
 import ctypes
 import sys
-from ctypes import POINTER, byref, c_int32, c_size_t, c_uint32, c_uint64, c_void_p
+from ctypes import POINTER, byref, c_int32, c_size_t, c_uint8, c_uint32, c_uint64, c_void_p
 
 NULL, BOOL, I64, U64, I128, U128, DECIMAL, STRING, ARRAY, OBJECT = range(10)
 TEXTS = I128, U128, DECIMAL, STRING  # the kinds whose nodes have a text
 TOO_LITTLE_ROOM = 19
+COMPACT, PRETTY = range(2)
 
 
 class Place(ctypes.Structure):
@@ -23,8 +25,12 @@ class Node(ctypes.Structure):
     _fields_ = [("kind", c_uint32), ("len", c_uint32), ("value", c_uint64)]
 
 
-class Room(ctypes.Structure):
-    _fields_ = [("nodes", c_size_t), ("text", c_size_t)]
+class Parser(ctypes.Structure):
+    _fields_ = [("at", c_void_p), ("is_open", c_uint8)]
+
+
+class Document(ctypes.Structure):
+    _fields_ = [("nodes", c_void_p), ("nodes_len", c_size_t), ("text", c_void_p), ("text_len", c_size_t)]
 
 
 class Refused(ValueError):
@@ -38,13 +44,14 @@ class Refused(ValueError):
 class Library:
     def __init__(self, path):
         library = ctypes.CDLL(path)
-        given = [c_void_p, c_size_t, c_size_t]
-        self._check = self._export(library, "check", c_int32, given + [POINTER(Place)])
-        self._tape = self._export(library, "tape", c_int32, given + [
-            POINTER(Node), c_size_t, c_void_p, c_size_t, POINTER(Room), POINTER(Place)])
-        printed = given + [c_void_p, c_size_t, POINTER(c_size_t), POINTER(Place)]
-        self._compact = self._export(library, "compact", c_int32, printed)
-        self._pretty = self._export(library, "pretty", c_int32, printed)
+        parser = POINTER(Parser)
+        self._check = self._export(library, "check", c_int32, [c_void_p, c_size_t, c_size_t, POINTER(Place)])
+        self._open = self._export(library, "open", c_int32, [parser, c_size_t])
+        self._close = self._export(library, "close", None, [parser])
+        self._parse = self._export(library, "parser_parse", c_int32, [
+            parser, c_void_p, c_size_t, POINTER(Document), POINTER(Place)])
+        self._print = self._export(library, "parser_print", c_int32, [
+            parser, c_void_p, c_size_t, c_void_p, c_size_t, c_uint32, c_void_p, c_size_t, POINTER(c_size_t), POINTER(Place)])
         self._status_name = self._export(library, "status_name", c_size_t, [c_int32, c_void_p, c_size_t])
         self._kind_name = self._export(library, "kind_name", c_size_t, [c_uint32, c_void_p, c_size_t])
 
@@ -69,25 +76,35 @@ class Library:
     def _refuse(self, status, place):
         raise Refused(self.status_name(status), status, place)
 
+    @contextlib.contextmanager
+    def _parser(self, max_depth):
+        parser, nowhere = Parser(), Place(0, 0)
+        status = self._open(byref(parser), max_depth)
+        if status:
+            self._refuse(status, nowhere)
+        try:
+            yield byref(parser)
+        finally:
+            self._close(byref(parser))
+
     def check(self, data, max_depth=1024):
         """Raises Refused where the bytes are not a document."""
         place = Place()
-        status = self._check(ctypes.create_string_buffer(data, len(data)), len(data), max_depth, byref(place))
+        status = self._check(data, len(data), max_depth, byref(place))
         if status:
             self._refuse(status, place)
 
     def tape(self, data, max_depth=1024):
         """The nodes, and the bytes of their texts."""
-        nodes, text, room, place = (Node * len(data))(), ctypes.create_string_buffer(len(data)), Room(), Place()
-        while True:
-            status = self._tape(ctypes.create_string_buffer(data, len(data)), len(data), max_depth, nodes, len(nodes),
-                                text, len(text), byref(room), byref(place))
-            if status != TOO_LITTLE_ROOM:
-                break
-            nodes, text = (Node * room.nodes)(), ctypes.create_string_buffer(room.text)
-        if status:
-            self._refuse(status, place)
-        return nodes[:room.nodes], text.raw[:room.text]
+        document, place = Document(), Place()
+        with self._parser(max_depth) as parser:
+            # The input is overwritten, and what is lent is the parser's: both are copied.
+            status = self._parse(parser, ctypes.create_string_buffer(data, len(data)), len(data), byref(document), byref(place))
+            if status:
+                self._refuse(status, place)
+            nodes = ctypes.string_at(document.nodes, document.nodes_len * ctypes.sizeof(Node))
+            text = ctypes.string_at(document.text, document.text_len) if document.text_len else b""
+        return list((Node * document.nodes_len).from_buffer_copy(nodes)), text
 
     def loads(self, data, max_depth=1024, decimal=float):
         """The value, as json.loads has it. `decimal` is called with the literal of a fraction or exponent."""
@@ -119,23 +136,25 @@ class Library:
 
         return read(0)[0]
 
-    def _printed(self, call, data, max_depth):
+    def printed(self, data, max_depth=1024, pointer=b"", layout=COMPACT):
+        """The text of the value that a JSON Pointer names, of the empty one of the whole document."""
         out, needed, place = ctypes.create_string_buffer(len(data)), c_size_t(), Place()
-        while True:
-            status = call(ctypes.create_string_buffer(data, len(data)), len(data), max_depth, out, len(out),
-                          byref(needed), byref(place))
-            if status != TOO_LITTLE_ROOM:
-                break
-            out = ctypes.create_string_buffer(needed.value)
+        with self._parser(max_depth) as parser:
+            while True:
+                status = self._print(parser, ctypes.create_string_buffer(data, len(data)), len(data), pointer, len(pointer), layout,
+                                     out, len(out), byref(needed), byref(place))
+                if status != TOO_LITTLE_ROOM:
+                    break
+                out = ctypes.create_string_buffer(needed.value)
         if status:
             self._refuse(status, place)
         return out.raw[:needed.value]
 
     def compact(self, data, max_depth=1024):
-        return self._printed(self._compact, data, max_depth)
+        return self.printed(data, max_depth)
 
     def pretty(self, data, max_depth=1024):
-        return self._printed(self._pretty, data, max_depth)
+        return self.printed(data, max_depth, layout=PRETTY)
 
 
 if __name__ == "__main__":

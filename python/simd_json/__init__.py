@@ -5,6 +5,8 @@
 
 The parse is proved: what is accepted, the nodes, the first error and its place. What makes Python
 values of the nodes is C code that is tested alone.
+
+One interpreter of a process can import it, the first that does; others get ImportError.
 """
 
 from json import JSONDecodeError
@@ -21,7 +23,8 @@ class SimdJsonError(JSONDecodeError):
     msg: the error in words
     doc: the input as it was given: of json's errors it is always a str, for which bytes would have
         to be copied; a memoryview is not pickled
-    pos: the index of the error in doc, in characters of a str, else in bytes
+    pos: the index of the error in doc, in characters of a str, else in bytes; of text that follows
+        a document its first
     reason: its kind, as "InvalidNumber"
     lineno, colno: the line, and the column in characters, both from 1
     """

@@ -158,6 +158,37 @@ class Hostile:
             self.round()
 
 
+class Changing(unittest.TestCase):
+    def test_bytearrays(self):
+        """One that another thread changes while it is checked: what is found is of one moment."""
+        text, other = b'["' + b"\\n" * 2000000 + b'"]', b'["' + b"\\q" * 2000000 + b'"]'
+        data, is_over = bytearray(text), threading.Event()
+        self.addCleanup(sys.setswitchinterval, sys.getswitchinterval())
+        sys.setswitchinterval(1e-5)
+
+        def change():
+            while not is_over.is_set():
+                data[:] = other
+                data[2:] = b""
+                data[:] = text
+
+        thread = threading.Thread(target=change)
+        thread.start()
+        found = set()
+        try:
+            for _ in range(min(ROUNDS // 20, 100)):
+                try:
+                    SHARED.check(data)
+                except simd_json.SimdJsonError as error:
+                    found.add((error.reason, error.pos))
+        finally:
+            is_over.set()
+            thread.join()
+        # The place in words is looked for in what it is by then.
+        self.assertLessEqual({reason for reason, _ in found}, {"InvalidEscape", "Syntax"})
+        self.assertLessEqual({pos for reason, pos in found if reason == "InvalidEscape"}, {2})
+
+
 class Hostility(unittest.TestCase):
     def test_hostile(self):
         self.addCleanup(sys.setswitchinterval, sys.getswitchinterval())

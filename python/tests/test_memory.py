@@ -62,6 +62,28 @@ class Memory(unittest.TestCase):
                 self.assertEqual(simd_json.loads(TEXT), VALUE)
             self.assertGreater(refused, 2)
 
+    def test_check_s(self):
+        """It copies a bytearray alone, which other threads can change, and after a large input the
+        module keeps nothing."""
+        native = ctypes.CDLL(simd_json._native.__file__)
+        try:
+            allowed, held = (ctypes.c_int.in_dll(native, "simd_json_" + name) for name in ("allowed", "held"))
+        except ValueError:
+            self.skipTest("refuse.c is not linked in")
+        text = '["é"' + " " * 100000 + "]"
+        data, parser = text.encode(), simd_json.Parser()
+        parser.check(data)
+        parser.check(text)
+        for given, is_copied in ((data, False), (text, False), (memoryview(data), False), (bytearray(data), True)):
+            allowed.value = 0
+            failed = fails(lambda: parser.check(given))
+            allowed.value = -1
+            self.assertEqual(failed, is_copied)
+        del parser
+        for given in (LARGE, LARGE.decode(), bytearray(LARGE), memoryview(LARGE)):
+            simd_json.check(given)
+            self.assertEqual(held.value, 0)
+
     def test_python_s(self):
         try:
             from _testcapi import remove_mem_hooks, set_nomemory

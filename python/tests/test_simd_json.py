@@ -79,7 +79,11 @@ class Agreement(unittest.TestCase):
                 if answer.startswith("! "):
                     reason, index = answer[2:].split()[0], int(answer.split()[4])
                     self.assertEqual(found.reason, reason, line)
-                    if answer.endswith("')"):  # an error of the whole input has no index there
+                    if found.msg == "more text after the document":
+                        json.loads(data[:found.pos])
+                        self.assertNotIn(data[found.pos], b" \t\n\r", line)
+                        self.assertGreater(found.pos, index, line)
+                    elif answer.endswith("')"):  # an error of the whole input has no index there
                         self.assertEqual(found.pos, index, line)
                 else:
                     self.assertNotIsInstance(found, simd_json.SimdJsonError, line)
@@ -265,6 +269,21 @@ class Errors(unittest.TestCase):
         self.assertEqual(by(simd_json.check, b"\xff").reason, "InvalidUtf8")
         self.assertEqual(by(simd_json.check, "").reason, "Eof")
 
+    def test_more_text(self):
+        """Where text follows a document, the error is at the first character of it."""
+        for text, reason, place in (("[1]\n[2]", "InternalError", (4, 2, 1)), (" 4 5", "TrailingData", (3, 1, 4)),
+                                    ('{"é": 1}\t\n ]', "InternalError", (11, 2, 2)),
+                                    ('"é" ,', "TrailingData", (4, 1, 5)), ("[]\r\n\r\nx", "InternalError", (6, 3, 1))):
+            for call in (simd_json.loads, simd_json.check, simd_json.Parser().loads, simd_json.Parser().check):
+                error = by(call, text)
+                self.assertEqual((error.reason, error.msg), (reason, "more text after the document"))
+                self.assertEqual((error.pos, error.lineno, error.colno), place, text)
+                data = text.encode()
+                for doc in (data, bytearray(data), memoryview(data)):
+                    error = by(call, doc)
+                    self.assertEqual(error.pos, len(text[:place[0]].encode()))
+                    self.assertEqual((error.lineno, error.colno), place[1:], text)
+
     def test_json_s_error(self):
         """Who catches json's errors catches these, with all that those have."""
         text = '{\n "é": 01}'
@@ -312,10 +331,23 @@ class Kept(unittest.TestCase):
         self.assertEqual(list(parser.lines(io.BytesIO(b'{"a":1}\n\n[2]\r\n3'))), [{"a": 1}, [2], 3])
         self.assertEqual(simd_json.Parser(parse_float=str).loads("1.0"), "1.0")
 
+    def test_check_leaves_its_input(self):
+        """Whatever it is, and however long: escapes stay as they are."""
+        for end, reason in ((', "\\\\"]', None), (', "\\\\",]', "InternalError"), (', "\\x"]', "InvalidEscape")):
+            for spaces in (0, 100000):  # while the second is checked, other threads run
+                text = '["\\u0041\\n"' + " " * spaces + end
+                for kind in (str, str.encode, lambda text: bytearray(text.encode()),
+                             lambda text: memoryview(text.encode()), lambda text: memoryview(bytearray(text.encode()))):
+                    for check in (simd_json.check, simd_json.Parser().check):
+                        data = kind(text)
+                        error = by(check, data)
+                        self.assertEqual(error and error.reason, reason)
+                        self.assertEqual(data, kind(text))
+
     def test_lines(self):
         """A rejected line is named by its number, and does not affect the next."""
         log = b'{"a":1}\n\n[2,]\r\n[3]\n\xff\n 4 5\n6'
-        wanted = [("InternalError", 3, 3, 4), ("InvalidUtf8", 0, 5, 1), ("TrailingData", 1, 6, 2)]
+        wanted = [("InternalError", 3, 3, 4), ("InvalidUtf8", 0, 5, 1), ("TrailingData", 3, 6, 4)]
         place = lambda error: (error.reason, error.pos, error.lineno, error.colno)
         parser, errors = simd_json.Parser(), []
         self.assertEqual(list(parser.lines(io.BytesIO(log), on_error=errors.append)), [{"a": 1}, [3], 6])

@@ -13,52 +13,122 @@ static int wrong;
 
 static size_t fresh(char *copy, const char *input) { return strlen(strcpy(copy, input)); }
 
-// Between documents that are longer and shorter, and refused ones; and before it is opened and after it is closed.
-static void parser_kept(void) {
-    static const char *const inputs[] = {"[1,[2,3],4]", "7", "[1,", "{\"a\":[[]]}", "[[[]]]", "\"\\u0041\""};
-    static const int statuses[] = {SIMD_JSON_OK, SIMD_JSON_OK, SIMD_JSON_SYNTAX, SIMD_JSON_DEPTH_LIMIT_EXCEEDED,
-                                   SIMD_JSON_DEPTH_LIMIT_EXCEEDED, SIMD_JSON_OK};
-    static const size_t counts[] = {6, 1, 77, 77, 77, 1};
-    char copy[64], out[8] = "";
-    simd_json_node nodes[8] = {{99, 99, 99}};
+// The whole document, compact.
+static int32_t print_all(simd_json_parser *parser, char *input, size_t len, char *out, size_t *needed, simd_json_place *place) {
+    return simd_json_parser_print(parser, input, len, 0, 0, SIMD_JSON_COMPACT, out, 8, needed, place);
+}
+
+// Of a closed parser, by whatever pointer, nothing but the place is written.
+static void closed(simd_json_parser *parser) {
+    static const char *const pointers[] = {"", "/0", "/9", "\377"};
+    char copy[] = "[1]", out[8] = "";
+    simd_json_node node = {99, 99, 99};
+    simd_json_document lent = {&node, 7, out, 7};
+    simd_json_found found = {77, 77};
     simd_json_place place = {5, 5};
+    size_t needed = 7;
+    WANT(simd_json_parser_check(parser, copy, 3, &place) == SIMD_JSON_PARSER_CLOSED, "closed");
+    WANT(place.index == 0 && place.character == SIMD_JSON_NO_CHARACTER, "closed");
+    place = (simd_json_place){5, 5};
+    WANT(simd_json_parser_parse(parser, copy, 3, &lent, &place) == SIMD_JSON_PARSER_CLOSED, "closed");
+    WANT(place.index == 0 && place.character == SIMD_JSON_NO_CHARACTER, "closed");
+    WANT(lent.nodes == &node && lent.nodes_len == 7 && lent.text == out && lent.text_len == 7, "closed");
+    for (size_t i = 0; i < 2 * sizeof pointers / sizeof *pointers; i++) {
+        const char *pointer = pointers[i / 2];
+        place = (simd_json_place){5, 5};
+        WANT(simd_json_parser_print(parser, copy, 3, pointer, strlen(pointer), i % 2, out, 8, &needed, &place) == SIMD_JSON_PARSER_CLOSED,
+             pointer);
+        WANT(place.index == 0 && place.character == SIMD_JSON_NO_CHARACTER, pointer);
+        WANT(simd_json_parser_find(parser, pointer, strlen(pointer), &found, out, 8) == SIMD_JSON_PARSER_CLOSED, pointer);
+    }
+    WANT(needed == 7 && found.kind == 77 && found.len == 77 && strcmp(copy, "[1]") == 0 && *out == 0, "closed");
+}
+
+// Between documents that are longer and shorter, and rejected ones; and before it is opened and after it is closed.
+static void parser_kept(void) {
+    static const struct {
+        const char *input, *compact;
+        int status;
+        size_t nodes_len;
+    } rows[] = {
+        {"[1,[2,3],4]", "[1,[2,3]", SIMD_JSON_OK, 6}, {"7", "7", SIMD_JSON_OK, 1}, {"[1,", 0, SIMD_JSON_SYNTAX, 77},
+        {"{\"a\":[[]]}", 0, SIMD_JSON_DEPTH_LIMIT_EXCEEDED, 77}, {"[[[]]]", 0, SIMD_JSON_DEPTH_LIMIT_EXCEEDED, 77},
+        {"\"\\u0041\"", "\"A\"", SIMD_JSON_OK, 1},
+    };
+    enum { ROWS = sizeof rows / sizeof *rows };
+    char copy[64], out[8] = "";
+    simd_json_document lent;
+    simd_json_place place;
     simd_json_parser parser = {0};
     for (int opened = 0; opened < 3; opened++) {
         for (int closings = 0; closings < 3; closings++) {
-            simd_json_room room = {7, 7};
-            strcpy(copy, "[1]");
-            nodes[0].kind = 99;
-            place = (simd_json_place){5, 5};
-            WANT(simd_json_parser_check(&parser, copy, 3, &place) == SIMD_JSON_PARSER_CLOSED, "closed");
-            WANT(place.index == 0 && place.character == SIMD_JSON_NO_CHARACTER, "closed");
-            place = (simd_json_place){5, 5};
-            WANT(simd_json_parser_tape(&parser, copy, 3, nodes, 8, out, 8, &room, &place) == SIMD_JSON_PARSER_CLOSED, "closed");
-            WANT(place.index == 0 && place.character == SIMD_JSON_NO_CHARACTER, "closed");
-            WANT(room.nodes == 7 && room.text == 7 && nodes[0].kind == 99 && strcmp(copy, "[1]") == 0, "closed");
-            size_t needed = 7;
-            simd_json_document lent = {nodes, 7, out, 7};
-            WANT(simd_json_parser_compact(&parser, copy, 3, out, 8, &needed, &place) == SIMD_JSON_PARSER_CLOSED, "closed");
-            WANT(simd_json_parser_pretty(&parser, copy, 3, out, 8, &needed, &place) == SIMD_JSON_PARSER_CLOSED, "closed");
-            WANT(simd_json_parser_compact_at(&parser, copy, 3, "/0", 2, out, 8, &needed, &place) == SIMD_JSON_PARSER_CLOSED, "closed");
-            WANT(simd_json_parser_pretty_at(&parser, copy, 3, "/0", 2, out, 8, &needed, &place) == SIMD_JSON_PARSER_CLOSED, "closed");
-            WANT(simd_json_parser_parse(&parser, copy, 3, &lent, &place) == SIMD_JSON_PARSER_CLOSED, "closed");
-            WANT(needed == 7 && lent.nodes == nodes && lent.nodes_len == 7 && lent.text == out && lent.text_len == 7, "closed");
+            closed(&parser);
             simd_json_close(&parser);
         }
         WANT(simd_json_open(&parser, 2) == SIMD_JSON_OK, "opened");
-        for (size_t i = 0; i < 2 * sizeof inputs / sizeof *inputs; i++) {
-            size_t at = i % (sizeof inputs / sizeof *inputs);
-            simd_json_room room = {77, 77};
-            WANT(simd_json_parser_check(&parser, copy, fresh(copy, inputs[at]), &place) == statuses[at], inputs[at]);
-            WANT(simd_json_parser_tape(&parser, copy, fresh(copy, inputs[at]), nodes, 8, out, 8, &room, &place) == statuses[at], inputs[at]);
-            WANT(room.nodes == counts[at], inputs[at]);
+        for (size_t i = 0; i < 2 * ROWS; i++) {
+            const char *input = rows[i % ROWS].input, *compact = rows[i % ROWS].compact;
+            int status = rows[i % ROWS].status, is_long = i % ROWS == 0;
+            size_t needed = 77, len = strlen(input);
+            WANT(simd_json_parser_check(&parser, input, len, &place) == status, input);
+            int printed = print_all(&parser, copy, fresh(copy, input), out, &needed, &place);
+            WANT(printed == (is_long ? SIMD_JSON_TOO_LITTLE_ROOM : status), input);
+            WANT(needed == (!compact ? 77 : is_long ? len : strlen(compact)), input);
+            WANT(!compact || is_long || memcmp(out, compact, needed) == 0, input);
+            lent.nodes_len = 77;
+            WANT(simd_json_parser_parse(&parser, copy, fresh(copy, input), &lent, &place) == status, input);
+            WANT(lent.nodes_len == rows[i % ROWS].nodes_len, input);
         }
-        WANT(nodes[0].kind == SIMD_JSON_STRING && nodes[0].len == 1 && out[0] == 'A', "the last");
-        simd_json_room room = {7, 7};
-        strcpy(copy, "[1,2]");
-        WANT(simd_json_parser_tape(&parser, copy, 5, nodes, 2, out, 8, &room, &place) == SIMD_JSON_TOO_LITTLE_ROOM, copy);
-        WANT(room.nodes == 3 && room.text == 0, copy);
+        WANT(lent.nodes[0].kind == SIMD_JSON_STRING && lent.nodes[0].len == 1 && lent.text[0] == 'A', "the last");
         simd_json_close(&parser);
+    }
+}
+
+// A check leaves its input as it is: string literals, of documents and of inputs that are none.
+static void literals_checked(void) {
+    static const struct {
+        const char *input;
+        int status;
+        size_t index;
+    } rows[] = {
+        {"[\"a\\nb\"]", SIMD_JSON_OK, 0}, {"\"\\u0041\\\\\"", SIMD_JSON_OK, 0}, {"{\"\\u00e9\":[[]]}", SIMD_JSON_OK, 0},
+        {"[[[[1]]]]", SIMD_JSON_DEPTH_LIMIT_EXCEEDED, 3}, {"[\"a\\nb\",]", SIMD_JSON_INTERNAL_ERROR, 8},
+        {"[\"\\n\\x\"]", SIMD_JSON_INVALID_ESCAPE, 4}, {"[\"\\n\",01]", SIMD_JSON_INVALID_NUMBER, 7}, {"\"\\n", SIMD_JSON_SYNTAX, 0},
+        {"\"\\n\377\"", SIMD_JSON_INVALID_UTF8, 0}, {"", SIMD_JSON_EOF, 0},
+    };
+    simd_json_parser parser = {0};
+    WANT(simd_json_open(&parser, 3) == SIMD_JSON_OK, "opened");
+    for (size_t i = 0; i < sizeof rows / sizeof *rows; i++) {
+        const char *input = rows[i].input;
+        simd_json_place place = {5, 5}, again = {5, 5};
+        WANT(simd_json_check(input, strlen(input), 3, &place) == rows[i].status && place.index == rows[i].index, input);
+        WANT(simd_json_parser_check(&parser, input, strlen(input), &again) == rows[i].status, input);
+        WANT(again.index == place.index && again.character == place.character, input);
+    }
+    simd_json_close(&parser);
+}
+
+// Where more text follows a document its position is the first byte of this text, and the error stays at the document's end, or
+// at a root scalar; worked by hand.
+static void more_text_located(void) {
+    static const struct {
+        const char *input;
+        int status;
+        size_t index, byte, line, column;
+    } rows[] = {
+        {"[1]\n[2]", SIMD_JSON_INTERNAL_ERROR, 2, 4, 2, 1}, {" 4 5", SIMD_JSON_TRAILING_DATA, 1, 3, 1, 4},
+        {"{\"\303\251\":1} \n\n \"x\"", SIMD_JSON_INTERNAL_ERROR, 7, 12, 3, 2}, {"\"\303\251\" ,", SIMD_JSON_TRAILING_DATA, 0, 5, 1, 5},
+        {"[]]", SIMD_JSON_INTERNAL_ERROR, 1, 2, 1, 3},
+    };
+    for (size_t i = 0; i < sizeof rows / sizeof *rows; i++) {
+        const char *input = rows[i].input;
+        char words[SIMD_JSON_REASON_MAX];
+        size_t needed, len = strlen(input);
+        simd_json_place place;
+        simd_json_position at = {7, 7, 7};
+        WANT(simd_json_check(input, len, 8, &place) == rows[i].status && place.index == rows[i].index, input);
+        WANT(simd_json_location(input, len, rows[i].status, &place, &at, words, sizeof words, &needed) == SIMD_JSON_OK, input);
+        WANT(at.byte == rows[i].byte && at.line == rows[i].line && at.column == rows[i].column, input);
     }
 }
 
@@ -138,12 +208,14 @@ static void grown(void) {
 // The next sibling of each node of a document, and its members by the loops of the header; by hand.
 static void siblings(void) {
     static const size_t next[] = {10, 2, 8, 4, 7, 6, 7, 8, 9, 10};
-    char copy[64], text[8];
-    simd_json_node nodes[10];
-    simd_json_room room;
+    char copy[64];
+    simd_json_document lent;
     simd_json_place place;
+    simd_json_parser parser = {0};
+    WANT(simd_json_open(&parser, 4) == SIMD_JSON_OK, "siblings");
     size_t len = fresh(copy, "{\"a\":[1,[2,[]],{}],\"b\":\"x\"}");
-    WANT(simd_json_tape(copy, len, 4, nodes, 10, text, 8, &room, &place) == SIMD_JSON_OK && room.nodes == 10, "siblings");
+    WANT(simd_json_parser_parse(&parser, copy, len, &lent, &place) == SIMD_JSON_OK && lent.nodes_len == 10, "siblings");
+    const simd_json_node *nodes = lent.nodes;
     for (size_t i = 0; i < 10; i++) WANT(simd_json_next(nodes, i) == next[i], "siblings");
     size_t at = 3, elements[] = {3, 4, 7}, keys[] = {1, 8};
     for (size_t n = 0; n < nodes[2].len; n++, at = simd_json_next(nodes, at)) WANT(n < 3 && at == elements[n], "elements");
@@ -151,11 +223,11 @@ static void siblings(void) {
     at = 1;
     for (size_t n = 0; n < nodes[0].len; n++, at = simd_json_next(nodes, at + 1)) WANT(n < 2 && at == keys[n], "keys");
     WANT(at == 10, "keys");
+    simd_json_close(&parser);
 }
 
-typedef int32_t print_at(simd_json_parser *, void *, size_t, const void *, size_t, void *, size_t, size_t *, simd_json_place *);
-
-// A value within a document, by pointers that lead to one and that do not. An error before or behind it is reported.
+// A value within a document, by pointers that lead to one and that do not. An error before or behind it is reported, and is
+// before a pointer that names no value, but behind one that is not UTF-8: then the input is not read.
 static void values_printed(void) {
     static const struct {
         const char *input, *pointer, *compact, *pretty;
@@ -171,20 +243,35 @@ static void values_printed(void) {
         {"[7,]", "/0", 0, 0, SIMD_JSON_INTERNAL_ERROR},
         {"[7,]", "/9", 0, 0, SIMD_JSON_INTERNAL_ERROR},
         {"[7,]", "/\377", 0, 0, SIMD_JSON_NO_VALUE},
+        {"[\"\\u0041\"]", "/\377", 0, 0, SIMD_JSON_NO_VALUE},
     };
-    print_at *const calls[] = {simd_json_parser_compact_at, simd_json_parser_pretty_at};
+    static const uint32_t layouts[] = {SIMD_JSON_COMPACT, SIMD_JSON_PRETTY, 2, UINT32_MAX};
+    enum { LAYOUTS = sizeof layouts / sizeof *layouts };
     char copy[64], out[64];
     simd_json_parser parser = {0};
     WANT(simd_json_open(&parser, 8) == SIMD_JSON_OK, "opened");
-    for (size_t i = 0; i < 2 * sizeof rows / sizeof *rows; i++) {
-        const char *pointer = rows[i / 2].pointer, *wanted = i % 2 ? rows[i / 2].pretty : rows[i / 2].compact;
-        size_t needed = 77, len = fresh(copy, rows[i / 2].input);
+    for (size_t i = 0; i < LAYOUTS * sizeof rows / sizeof *rows; i++) {
+        const char *input = rows[i / LAYOUTS].input, *pointer = rows[i / LAYOUTS].pointer;
+        const char *wanted = i % LAYOUTS ? rows[i / LAYOUTS].pretty : rows[i / LAYOUTS].compact;
+        size_t needed = 77, len = fresh(copy, input);
         simd_json_place place = {5, 5};
-        int status = calls[i % 2](&parser, copy, len, pointer, strlen(pointer), out, sizeof out, &needed, &place);
-        WANT(status == rows[i / 2].status, pointer);
+        memset(out, 'x', sizeof out);
+        uint32_t layout = layouts[i % LAYOUTS];
+        int status = simd_json_parser_print(&parser, copy, len, pointer, strlen(pointer), layout, out, sizeof out, &needed, &place);
+        WANT(status == rows[i / LAYOUTS].status, pointer);
         WANT(wanted ? needed == strlen(wanted) && memcmp(out, wanted, needed) == 0 : needed == 77, pointer);
+        WANT(wanted || out[0] == 'x', pointer);
         WANT(place.index == (status == SIMD_JSON_INTERNAL_ERROR ? 3 : 0), pointer);
         WANT((place.character == SIMD_JSON_NO_CHARACTER) == (status != SIMD_JSON_INTERNAL_ERROR), pointer);
+        WANT(strchr(pointer, '\377') == 0 || strcmp(copy, input) == 0, pointer);
+        if (!wanted) continue;
+        for (size_t room = 0; room < strlen(wanted); room++) {
+            needed = 77;
+            len = fresh(copy, input);
+            memset(out, 'x', sizeof out);
+            status = simd_json_parser_print(&parser, copy, len, pointer, strlen(pointer), layout, out, room, &needed, &place);
+            WANT(status == SIMD_JSON_TOO_LITTLE_ROOM && needed == strlen(wanted) && out[0] == 'x', pointer);
+        }
     }
     simd_json_close(&parser);
 }
@@ -260,13 +347,12 @@ static void values_found(void) {
 
 // An input is kept by other calls, and by an error no more.
 static void input_kept(void) {
-    char copy[64], out[64];
+    char out[64];
     simd_json_found found = {77, 77};
     simd_json_place place;
     simd_json_document lent;
     simd_json_parser parser = {0};
     WANT(simd_json_parser_index(&parser, "[1]", 3, &place) == SIMD_JSON_PARSER_CLOSED && place.index == 0, "closed");
-    WANT(simd_json_parser_find(&parser, "/0", 2, &found, out, sizeof out) == SIMD_JSON_PARSER_CLOSED, "closed");
     WANT(simd_json_open(&parser, 8) == SIMD_JSON_OK, "opened");
     WANT(simd_json_parser_find(&parser, "", 0, &found, out, sizeof out) == SIMD_JSON_NO_VALUE, "nothing kept");
     WANT(found.kind == 77 && found.len == 77, "nothing kept");
@@ -274,7 +360,7 @@ static void input_kept(void) {
     WANT(simd_json_parser_find(&parser, "/0", 2, &found, out, sizeof out) == SIMD_JSON_OK && found.len == 8, "kept");
     WANT(simd_json_parser_parse(&parser, out, found.len, &lent, &place) == SIMD_JSON_OK, "kept");
     WANT(lent.nodes_len == 1 && lent.nodes[0].kind == SIMD_JSON_STRING && lent.text_len == 1 && lent.text[0] == 'A', "kept");
-    WANT(simd_json_parser_check(&parser, copy, fresh(copy, "[3"), &place) == SIMD_JSON_SYNTAX, "kept");
+    WANT(simd_json_parser_check(&parser, "[3", 2, &place) == SIMD_JSON_SYNTAX, "kept");
     out[0] = 'x';
     WANT(simd_json_parser_find(&parser, "/1", 2, &found, out, 0) == SIMD_JSON_TOO_LITTLE_ROOM, "kept");
     WANT(found.kind == SIMD_JSON_U64 && found.len == 1 && out[0] == 'x', "kept");
@@ -302,6 +388,8 @@ int main(void) {
     doubles();
     grown();
     parser_kept();
+    literals_checked();
+    more_text_located();
     values_printed();
     tapes_lent();
     values_found();

@@ -45,77 +45,46 @@ static void give_back(lent l, size_t from) {
 static const char document[] = "{\"a\":[1,-2,2.5,\"\\n\\u00e9\",18446744073709551616],\"b\":{\"c\":null,\"d\":true}}";
 static const size_t len = sizeof document - 1;
 // Worked by hand: 14 nodes, with the texts a 2.5 \n\303\251 18446744073709551616 b c d.
-static const simd_json_room need = {14, 30};
+enum { NODES = 14, TEXT = 30 };
 static const char text[] = "a2.5\n\303\251" "18446744073709551616bcd";
 
-static void tapes(void) {
-    for (size_t a = 0; a <= need.nodes + 1; a++)
-        for (size_t b = 0; b <= need.text + 1; b++) {
-            lent input = lend_copy(document, len), nodes = lend(a * sizeof(simd_json_node)), texts = lend(b);
-            simd_json_room room = {0, 0};
-            simd_json_place place;
-            int status = simd_json_tape(input.at, len, 2, nodes.at, a, texts.at, b, &room, &place);
-            int fits = a >= need.nodes && b >= need.text;
-            WANT(status == (fits ? SIMD_JSON_OK : SIMD_JSON_TOO_LITTLE_ROOM));
-            WANT(room.nodes == need.nodes && room.text == need.text);
-            WANT(!fits || memcmp(texts.at, text, need.text) == 0);
-            give_back(input, len);
-            give_back(nodes, (fits ? need.nodes : a) * sizeof(simd_json_node));
-            give_back(texts, fits ? need.text : b);
-        }
-}
-
-typedef int32_t print(void *, size_t, size_t, void *, size_t, size_t *, simd_json_place *);
-
-// The same by a parser, with a limit for the document.
 static simd_json_parser parser;
 
-static int32_t parser_compact(void *input, size_t len, size_t max_depth, void *out, size_t out_len, size_t *needed,
-                              simd_json_place *place) {
-    WANT(max_depth == 2);
-    return simd_json_parser_compact(&parser, input, len, out, out_len, needed, place);
+// Like `lend_copy`, for memory that is only read: the system does not let it be written.
+static lent show(const char *text, size_t len) {
+    lent copy = lend_copy(text, len);
+    WANT(mprotect(copy.page, PAGE, PROT_READ) == 0);
+    return copy;
 }
 
-static int32_t parser_pretty_at(void *input, size_t len, size_t max_depth, void *out, size_t out_len, size_t *needed,
-                                simd_json_place *place) {
-    WANT(max_depth == 2);
-    lent pointer = lend_copy("/b", 2);
-    int32_t status = simd_json_parser_pretty_at(&parser, input, len, pointer.at, 2, out, out_len, needed, place);
-    give_back(pointer, 2);
-    return status;
-}
-
-static void prints(print *call, const char *wanted) {
+// The text of a value, with room for its bytes of each size.
+static void prints(const char *pointer, uint32_t layout, const char *wanted) {
     for (size_t room = 0; room <= strlen(wanted) + 1; room++) {
-        lent input = lend_copy(document, len), out = lend(room);
+        lent input = lend_copy(document, len), name = show(pointer, strlen(pointer)), out = lend(room);
         size_t needed = 0;
         simd_json_place place;
-        int status = call(input.at, len, 2, out.at, room, &needed, &place);
+        int status = simd_json_parser_print(&parser, input.at, len, name.at, name.len, layout, out.at, room, &needed, &place);
         int fits = room >= strlen(wanted);
         WANT(status == (fits ? SIMD_JSON_OK : SIMD_JSON_TOO_LITTLE_ROOM) && needed == strlen(wanted));
         WANT(!fits || memcmp(out.at, wanted, needed) == 0);
         give_back(input, len);
+        give_back(name, name.len);
         give_back(out, fits ? needed : 0);
     }
 }
 
-// What is lent is the caller's tape, and the input before a page that may not be touched is enough.
+// The input before a page that may not be touched is enough, and what is lent stays when it is gone.
 static void lends(void) {
-    simd_json_node nodes[16];
-    char texts[32];
+    static const uint32_t kinds[NODES] = {SIMD_JSON_OBJECT, SIMD_JSON_STRING, SIMD_JSON_ARRAY, SIMD_JSON_U64, SIMD_JSON_I64,
+                                          SIMD_JSON_DECIMAL, SIMD_JSON_STRING, SIMD_JSON_U128, SIMD_JSON_STRING, SIMD_JSON_OBJECT,
+                                          SIMD_JSON_STRING, SIMD_JSON_NULL, SIMD_JSON_STRING, SIMD_JSON_BOOL};
     simd_json_document kept;
-    simd_json_room room;
     simd_json_place place;
-    lent input = lend_copy(document, len), again = lend_copy(document, len);
-    WANT(simd_json_parser_tape(&parser, input.at, len, nodes, 16, texts, 32, &room, &place) == SIMD_JSON_OK);
-    WANT(simd_json_parser_parse(&parser, again.at, len, &kept, &place) == SIMD_JSON_OK);
+    lent input = lend_copy(document, len);
+    WANT(simd_json_parser_parse(&parser, input.at, len, &kept, &place) == SIMD_JSON_OK);
     give_back(input, len);
-    give_back(again, len);
-    WANT(kept.nodes_len == need.nodes && kept.text_len == need.text && memcmp(kept.text, text, need.text) == 0);
-    for (size_t i = 0; i < need.nodes; i++) {
-        const simd_json_node *a = &nodes[i], *b = &kept.nodes[i];
-        WANT(a->kind == b->kind && a->len == b->len && a->value == b->value);
-    }
+    WANT(kept.nodes_len == NODES && kept.text_len == TEXT && memcmp(kept.text, text, TEXT) == 0);
+    for (size_t i = 0; i < NODES; i++) WANT(kept.nodes[i].kind == kinds[i]);
 }
 
 // A value by a pointer, from an input, with room for its bytes of each size.
@@ -203,17 +172,17 @@ static void locations(void) {
 static void pointers(void) {
     static const char pointer[] = "/b/d";
     char copy[sizeof document];
-    simd_json_node all[16];
-    char texts[32];
-    simd_json_room room;
+    simd_json_document kept;
     simd_json_place place;
     memcpy(copy, document, sizeof document);
-    WANT(simd_json_tape(copy, len, 2, all, 16, texts, 32, &room, &place) == SIMD_JSON_OK);
-    for (size_t a = 0; a <= need.nodes; a++)
-        for (size_t b = 0; b <= need.text; b++) {
-            lent nodes = lend_copy((char *)all, a * sizeof *all), text_part = lend_copy(texts, b), path = lend_copy(pointer, 4);
+    WANT(simd_json_parser_parse(&parser, copy, len, &kept, &place) == SIMD_JSON_OK);
+    const simd_json_node *all = kept.nodes;
+    const char *texts = kept.text;
+    for (size_t a = 0; a <= NODES; a++)
+        for (size_t b = 0; b <= TEXT; b++) {
+            lent nodes = lend_copy((const char *)all, a * sizeof *all), text_part = lend_copy(texts, b), path = lend_copy(pointer, 4);
             size_t found = simd_json_pointer(nodes.at, a, text_part.at, b, 0, path.at, 4);
-            if (a == need.nodes && b == need.text) WANT(found == 13);
+            if (a == NODES && b == TEXT) WANT(found == 13);
             WANT(found == SIMD_JSON_NO_NODE || found < a);
             give_back(nodes, a * sizeof *all);
             give_back(text_part, b);
@@ -247,32 +216,58 @@ static void pointers(void) {
     }
 }
 
-// No prefix of the document but the whole is one.
+// Of an input that can't be written: no prefix of the document but the whole is one. By a parser too, and so again where it has
+// kept what that took.
 static void prefixes(void) {
-    for (size_t cut = 0; cut <= len; cut++) {
-        lent input = lend_copy(document, cut);
-        simd_json_place place;
-        WANT((simd_json_check(input.at, cut, 2, &place) == SIMD_JSON_OK) == (cut == len));
-        give_back(input, cut);
-    }
+    for (int round = 0; round < 2; round++)
+        for (size_t cut = 0; cut <= len; cut++) {
+            lent input = show(document, cut);
+            simd_json_place place, again;
+            int status = simd_json_check(input.at, cut, 2, &place);
+            WANT((status == SIMD_JSON_OK) == (cut == len));
+            WANT(simd_json_parser_check(&parser, input.at, cut, &again) == status);
+            WANT(place.index == again.index && place.character == again.character);
+            give_back(input, cut);
+        }
+}
+
+// So it is with others that are copied: nested deeply, and rejected at a token, in each place of a page.
+static void read_only(void) {
+    static const char wrong[] = "{\"\\u00e9\":[\"\\n\",tru]}";
+    enum { DEPTH = 500 };
+    char nested[2 * DEPTH];
+    simd_json_parser deep = {0};
+    simd_json_place place;
+    memset(nested, '[', DEPTH);
+    memset(nested + DEPTH, ']', DEPTH);
+    WANT(simd_json_open(&deep, DEPTH) == SIMD_JSON_OK);
+    lent input = show(nested, 2 * DEPTH), other = show(wrong, sizeof wrong - 1);
+    WANT(simd_json_check(input.at, input.len, DEPTH, &place) == SIMD_JSON_OK);
+    WANT(simd_json_check(input.at, input.len, DEPTH - 1, &place) == SIMD_JSON_DEPTH_LIMIT_EXCEEDED && place.index == DEPTH - 1);
+    WANT(simd_json_parser_check(&deep, input.at, input.len, &place) == SIMD_JSON_OK);
+    WANT(simd_json_check(other.at, other.len, 8, &place) == SIMD_JSON_EXPECTED_TRUE && place.index == 16 && place.character == 't');
+    WANT(simd_json_parser_check(&deep, other.at, other.len, &place) == SIMD_JSON_EXPECTED_TRUE && place.index == 16);
+    give_back(input, input.len);
+    give_back(other, other.len);
+    simd_json_close(&deep);
 }
 
 int main(void) {
-    tapes();
-    prints(simd_json_compact, "{\"a\":[1,-2,2.5,\"\\n\303\251\",18446744073709551616],\"b\":{\"c\":null,\"d\":true}}");
-    prints(simd_json_pretty, "{\n  \"a\": [\n    1,\n    -2,\n    2.5,\n    \"\\n\303\251\",\n    18446744073709551616\n  ],\n"
-                             "  \"b\": {\n    \"c\": null,\n    \"d\": true\n  }\n}");
     WANT(simd_json_open(&parser, 2) == SIMD_JSON_OK);
-    prints(parser_compact, "{\"a\":[1,-2,2.5,\"\\n\303\251\",18446744073709551616],\"b\":{\"c\":null,\"d\":true}}");
-    prints(parser_pretty_at, "{\n  \"c\": null,\n  \"d\": true\n}");
+    prints("", SIMD_JSON_COMPACT, "{\"a\":[1,-2,2.5,\"\\n\303\251\",18446744073709551616],\"b\":{\"c\":null,\"d\":true}}");
+    prints("", SIMD_JSON_PRETTY, "{\n  \"a\": [\n    1,\n    -2,\n    2.5,\n    \"\\n\303\251\",\n    18446744073709551616\n  ],\n"
+                                 "  \"b\": {\n    \"c\": null,\n    \"d\": true\n  }\n}");
+    prints("/b", SIMD_JSON_COMPACT, "{\"c\":null,\"d\":true}");
+    prints("/b", SIMD_JSON_PRETTY, "{\n  \"c\": null,\n  \"d\": true\n}");
     lends();
     finds("", SIMD_JSON_OBJECT, document);
     finds("/a/3", SIMD_JSON_STRING, "\"\\n\\u00e9\"");
     finds("/b/d", SIMD_JSON_BOOL, "true");
-    simd_json_close(&parser);
     indexes();
     names();
     locations();
     pointers();
     prefixes();
+    read_only();
+    simd_json_close(&parser);
 }

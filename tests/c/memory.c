@@ -1,4 +1,4 @@
-// Each allocation of each call fails in turn: the status says so, nothing that was lent is written, and what was allocated
+// Each allocation of each call fails in turn: the status says so, no memory of the caller is written, and what was allocated
 // is freed. Built with -Wl,--wrap=malloc,--wrap=realloc,--wrap=free. Silent where all is well.
 #include <simd_json.h>
 #include <stdio.h>
@@ -41,17 +41,22 @@ void __wrap_free(void *block) {
 }
 
 static const char document[] = "[1,[2,{\"a\":\"\\n\"}],3]";
+static const char wrong[] = "[1,[2,{\"a\":\"\\n\"}],3,]";
+#define TEN(text) text text text text text text text text text text
+static const char deep[] = TEN(TEN("[")) TEN(TEN("]"));
 static char input[sizeof document], out[64];
-static simd_json_node nodes[16];
-static simd_json_room room;
 static simd_json_place place;
 static size_t needed;
 static uint32_t indexes[32];
 
-static int check(void) { return simd_json_check(input, sizeof document - 1, 3, &place); }
-static int tape(void) { return simd_json_tape(input, sizeof document - 1, 3, nodes, 16, out, 64, &room, &place); }
-static int compact(void) { return simd_json_compact(input, sizeof document - 1, 3, out, 64, &needed, &place); }
-static int pretty(void) { return simd_json_pretty(input, sizeof document - 1, 3, out, 64, &needed, &place); }
+// A check of what is copied: of one that is rejected, with its error, and of one with more than 64 open containers.
+static int is_rejected(int status) {
+    WANT(status == SIMD_JSON_OUT_OF_MEMORY || (status == SIMD_JSON_INTERNAL_ERROR && place.index == 20 && place.character == ']'));
+    return status == SIMD_JSON_OUT_OF_MEMORY ? status : SIMD_JSON_OK;
+}
+static int check(void) { return simd_json_check(document, sizeof document - 1, 3, &place); }
+static int check_wrong(void) { return is_rejected(simd_json_check(wrong, sizeof wrong - 1, 3, &place)); }
+static int check_deep(void) { return simd_json_check(deep, sizeof deep - 1, 100, &place); }
 static int location(void) {
     const simd_json_place at = {1, '1'};
     simd_json_position position;
@@ -62,11 +67,14 @@ static int indexed(void) { return simd_json_index(input, sizeof document - 1, in
 static simd_json_parser parser;
 static simd_json_document lent;
 
-static int kept_check(void) { return simd_json_parser_check(&parser, input, sizeof document - 1, &place); }
-static int kept_tape(void) { return simd_json_parser_tape(&parser, input, sizeof document - 1, nodes, 16, out, 64, &room, &place); }
-static int kept_compact(void) { return simd_json_parser_compact(&parser, input, sizeof document - 1, out, 64, &needed, &place); }
-static int kept_pretty_at(void) {
-    return simd_json_parser_pretty_at(&parser, input, sizeof document - 1, "/1/1", 4, out, 64, &needed, &place);
+static int kept_check(void) { return simd_json_parser_check(&parser, document, sizeof document - 1, &place); }
+static int kept_check_wrong(void) { return is_rejected(simd_json_parser_check(&parser, wrong, sizeof wrong - 1, &place)); }
+static int kept_check_deep(void) { return simd_json_parser_check(&parser, deep, sizeof deep - 1, &place); }
+static int kept_print(void) {
+    return simd_json_parser_print(&parser, input, sizeof document - 1, 0, 0, SIMD_JSON_COMPACT, out, 64, &needed, &place);
+}
+static int kept_print_at(void) {
+    return simd_json_parser_print(&parser, input, sizeof document - 1, "/1/1", 4, SIMD_JSON_PRETTY, out, 64, &needed, &place);
 }
 static int kept_parse(void) { return simd_json_parser_parse(&parser, input, sizeof document - 1, &lent, &place); }
 static int kept_index(void) {
@@ -78,18 +86,19 @@ static int kept_index(void) {
     return status;
 }
 
-static int (*const kept_calls[])(void) = {kept_check, kept_tape, kept_compact, kept_pretty_at, kept_parse, kept_index};
+static int (*const kept_calls[])(void) = {kept_check, kept_check_wrong, kept_check_deep, kept_print,
+                                         kept_print_at, kept_parse, kept_index};
 enum { KEPT_CALLS = sizeof kept_calls / sizeof *kept_calls };
 
 // A parser that is opened and closed again, with each call between.
 static int kept(void) {
-    int status = simd_json_open(&parser, 3);
+    int status = simd_json_open(&parser, 100);
     WANT(status == SIMD_JSON_OK ? parser.is_open == 1 : parser.is_open == 0);
     for (int i = 0; status == SIMD_JSON_OK && i < KEPT_CALLS; i++) {
         strcpy(input, document);
         memset(out, 0, sizeof out);
-        memset(nodes, 0, sizeof nodes);
-        room.nodes = needed = 77;
+        memset(&lent, 0, sizeof lent);
+        needed = 77;
         status = kept_calls[i]();
         WANT(parser.is_open == 1);
     }
@@ -100,7 +109,7 @@ static int kept(void) {
 // A call that lacks memory leaves the parser as good as it was; once each has read an input, none allocates more for such.
 static void memory_is_kept(void) {
     int before = held;
-    WANT(simd_json_open(&parser, 3) == SIMD_JSON_OK);
+    WANT(simd_json_open(&parser, 100) == SIMD_JSON_OK);
     WANT(held == before + 1);
     for (int i = 0; i < KEPT_CALLS; i++)
         for (int status = SIMD_JSON_OUT_OF_MEMORY, failures = 0; status != SIMD_JSON_OK;) {
@@ -113,12 +122,13 @@ static void memory_is_kept(void) {
     allowed = 0;
     for (int round = 0; round < 3 * KEPT_CALLS; round++) {
         strcpy(input, document);
-        WANT(kept_calls[round % KEPT_CALLS]() == SIMD_JSON_OK);
-        if (round % KEPT_CALLS == 1)
-            WANT(room.nodes == 8 && nodes[0].kind == SIMD_JSON_ARRAY && nodes[0].len == 3 && memcmp(out, "a\n", 2) == 0);
-        if (round % KEPT_CALLS == 2) WANT(needed == sizeof document - 1 && memcmp(out, document, needed) == 0);
-        if (round % KEPT_CALLS == 3) WANT(needed == 15 && memcmp(out, "{\n  \"a\": \"\\n\"\n}", 15) == 0);
-        if (round % KEPT_CALLS == 4) WANT(lent.nodes_len == 8 && lent.text_len == 2 && memcmp(lent.text, "a\n", 2) == 0);
+        int (*call)(void) = kept_calls[round % KEPT_CALLS];
+        WANT(call() == SIMD_JSON_OK);
+        if (call == kept_print) WANT(needed == sizeof document - 1 && memcmp(out, document, needed) == 0);
+        if (call == kept_print_at) WANT(needed == 15 && memcmp(out, "{\n  \"a\": \"\\n\"\n}", 15) == 0);
+        if (call == kept_parse)
+            WANT(lent.nodes_len == 8 && lent.nodes[0].kind == SIMD_JSON_ARRAY && lent.nodes[0].len == 3 && lent.text_len == 2
+                 && memcmp(lent.text, "a\n", 2) == 0);
     }
     WANT(simd_json_open(&parser, 3) == SIMD_JSON_OUT_OF_MEMORY);
     allowed = -1;
@@ -132,8 +142,8 @@ static void each_fails(int call(void)) {
     do {
         strcpy(input, document);
         memset(out, 0, sizeof out);
-        memset(nodes, 0, sizeof nodes);
-        room.nodes = needed = indexes[0] = 77;
+        memset(&lent, 0, sizeof lent);
+        needed = indexes[0] = 77;
         int before = held;
         allowed = failures++;
         status = call();
@@ -142,7 +152,7 @@ static void each_fails(int call(void)) {
         if (status != SIMD_JSON_OK) {
             WANT(status == SIMD_JSON_OUT_OF_MEMORY);
             WANT(place.index == 0 && place.character == SIMD_JSON_NO_CHARACTER);
-            WANT(room.nodes == 77 && needed == 77 && nodes[0].kind == 0 && out[0] == 0 && indexes[0] == 77);
+            WANT(needed == 77 && lent.nodes_len == 0 && out[0] == 0 && indexes[0] == 77);
         }
     } while (status != SIMD_JSON_OK);
     WANT(failures > 2);
@@ -150,9 +160,8 @@ static void each_fails(int call(void)) {
 
 int main(void) {
     each_fails(check);
-    each_fails(tape);
-    each_fails(compact);
-    each_fails(pretty);
+    each_fails(check_wrong);
+    each_fails(check_deep);
     each_fails(indexed);
     each_fails(location);
     each_fails(kept);

@@ -14,27 +14,26 @@ static size_t bytes_of(const char *digits, unsigned char *bytes) {
 
 int main(int argc, char **argv) {
     static char input[SIZE], text[SIZE], *line = 0;
-    static unsigned char data[SIZE], wanted[SIZE], copy[SIZE], out[SIZE], texts[SIZE];
-    static simd_json_node nodes[SIZE];
+    static unsigned char data[SIZE], wanted[SIZE], copy[SIZE], out[SIZE];
+    simd_json_parser parser = {0};
     size_t room = 0;
     int wrong = 0, lines = 0, documents = 0;
     FILE *file = argc > 1 ? fopen(argv[1], "r") : 0;
-    if (!file) return 2;
+    if (!file || simd_json_open(&parser, DEPTH) != SIMD_JSON_OK) return 2;
     for (; getline(&line, &room, file) > 0; lines++) {
         if (sscanf(line, "%8191s %8191s", input, text) != 2) return 2;
         size_t len = bytes_of(input, data), length = bytes_of(text, wanted), needed = 0;
         int is_document = strcmp(text, "-") != 0;
         simd_json_place place;
-        simd_json_room used;
+        simd_json_document document;
+        int checked = simd_json_check(data, len, DEPTH, &place);
+        int checked_again = simd_json_parser_check(&parser, data, len, &place);
         memcpy(copy, data, len);
-        int checked = simd_json_check(copy, len, DEPTH, &place);
+        int printed = simd_json_parser_print(&parser, copy, len, 0, 0, SIMD_JSON_COMPACT, out, sizeof out, &needed, &place);
         memcpy(copy, data, len);
-        int printed = simd_json_compact(copy, len, DEPTH, out, sizeof out, &needed, &place);
-        // No document has more nodes or more text than bytes.
-        memcpy(copy, data, len);
-        int listed = simd_json_tape(copy, len, DEPTH, nodes, len, texts, len, &used, &place);
+        int listed = simd_json_parser_parse(&parser, copy, len, &document, &place);
         documents += is_document;
-        if (checked != printed || checked != listed || (checked == SIMD_JSON_OK) != is_document
+        if (checked != checked_again || checked != printed || checked != listed || (checked == SIMD_JSON_OK) != is_document
             || (is_document && (needed != length || memcmp(out, wanted, length) != 0))) {
             printf("mutants.c: status %d of %s, wanted %s\n", checked, input, text);
             wrong = 1;
@@ -44,6 +43,7 @@ int main(int argc, char **argv) {
         printf("mutants.c: %d lines with %d documents\n", lines, documents);
         wrong = 1;
     }
+    simd_json_close(&parser);
     free(line);
     fclose(file);
     return wrong;

@@ -23,10 +23,11 @@ struct row {
     size_t limit;
 };
 
+// A copy of what a parser has lent.
 struct tape {
     int status;
     simd_json_place place;
-    simd_json_room room;
+    size_t nodes_len, text_len;
     simd_json_node *nodes;
     unsigned char *text;
 };
@@ -115,31 +116,30 @@ static void decode(const char *text, const char *end, struct bytes *to) {
     }
 }
 
-// A call overwrites its input, so each has a copy, with nothing behind it.
-static void *copy_of(const struct bytes *input) {
-    void *copy = memory(input->len);
-    if (copy) memcpy(copy, input->at, input->len);
+// A copy of the same bytes, with nothing behind it: some calls overwrite their input.
+static void *copy_of(const void *from, size_t len) {
+    void *copy = memory(len);
+    if (copy) memcpy(copy, from, len);
     return copy;
 }
 
-// Of a parser that is open with the row's limit, or without one.
-static int check(simd_json_parser *parser, const struct row *row, simd_json_place *place) {
-    void *copy = copy_of(&row->input);
-    int status = parser ? simd_json_parser_check(parser, copy, row->input.len, place)
-                        : simd_json_check(copy, row->input.len, row->limit, place);
-    free(copy);
-    return status;
+static simd_json_parser unused;
+
+// A parser with the row's limit that keeps nothing yet: opening it again closes the one before.
+static simd_json_parser *new_parser(const struct row *row) {
+    if (simd_json_open(&unused, row->limit) != SIMD_JSON_OK) stop("no parser", "simd_json_open");
+    return &unused;
 }
 
-static int list(simd_json_parser *parser, const struct row *row, simd_json_room room, struct tape *tape) {
-    void *copy = copy_of(&row->input);
-    size_t len = row->input.len;
-    tape->room = (simd_json_room){NOT_WRITTEN, NOT_WRITTEN};
-    tape->place = (simd_json_place){NOT_WRITTEN, NOT_WRITTEN};
-    int status = parser ? simd_json_parser_tape(parser, copy, len, tape->nodes, room.nodes, tape->text, room.text,
-                                                &tape->room, &tape->place)
-                        : simd_json_tape(copy, len, row->limit, tape->nodes, room.nodes, tape->text, room.text,
-                                         &tape->room, &tape->place);
+// Of a parser that is open with the row's limit, or without one. The input stays as it is.
+static int check(simd_json_parser *parser, const struct row *row, simd_json_place *place, struct bytes *wrong) {
+    const struct bytes *input = &row->input;
+    void *copy = copy_of(input->at, input->len);
+    *place = (simd_json_place){NOT_WRITTEN, NOT_WRITTEN};
+    int status = parser ? simd_json_parser_check(parser, copy, input->len, place)
+                        : simd_json_check(copy, input->len, row->limit, place);
+    if (input->len && memcmp(copy, input->at, input->len) != 0)
+        blame(wrong, parser ? "simd_json_parser_check" : "simd_json_check", " changed the input");
     free(copy);
     return status;
 }
@@ -151,42 +151,37 @@ static void free_tape(struct tape *tape) {
 
 static bool is_nowhere(simd_json_place place) { return place.index == 0 && place.character == SIMD_JSON_NO_CHARACTER; }
 
-// Into one node and a few bytes of text, and then, where the input is a document, into just as many as it has.
 static struct tape tape_of(simd_json_parser *parser, const struct row *row, struct bytes *wrong) {
-    const char *call = parser ? "simd_json_parser_tape" : "simd_json_tape";
-    simd_json_room few = {1, FEW};
-    struct tape tape = {.nodes = memory(sizeof *tape.nodes), .text = memory(FEW)};
-    tape.status = list(parser, row, few, &tape);
-    simd_json_room needed = tape.room;
-    if (tape.status != SIMD_JSON_OK && tape.status != SIMD_JSON_TOO_LITTLE_ROOM) {
-        if (needed.nodes != NOT_WRITTEN || needed.text != NOT_WRITTEN) blame(wrong, call, " changed *room");
-        return tape;
+    void *copy = copy_of(row->input.at, row->input.len);
+    simd_json_document lent = {0, NOT_WRITTEN, 0, NOT_WRITTEN};
+    struct tape tape = {.place = {NOT_WRITTEN, NOT_WRITTEN}};
+    tape.status = simd_json_parser_parse(parser, copy, row->input.len, &lent, &tape.place);
+    free(copy);
+    if (tape.status == SIMD_JSON_OK) {
+        tape.nodes_len = lent.nodes_len;
+        tape.text_len = lent.text_len;
+        tape.nodes = copy_of(lent.nodes, lent.nodes_len * sizeof *lent.nodes);
+        tape.text = copy_of(lent.text, lent.text_len);
+        if (tape.nodes_len > row->input.len || tape.text_len > row->input.len) blame(wrong, "simd_json_parser_parse", " lends too much");
+    } else if (lent.nodes || lent.nodes_len != NOT_WRITTEN || lent.text || lent.text_len != NOT_WRITTEN) {
+        blame(wrong, "simd_json_parser_parse", " changed *document");
     }
-    bool is_enough = needed.nodes <= few.nodes && needed.text <= few.text;
-    if ((tape.status == SIMD_JSON_OK) != is_enough || !is_nowhere(tape.place)) blame(wrong, call, " is wrong with little room");
-    free_tape(&tape);
-    tape.nodes = memory(needed.nodes * sizeof *tape.nodes);
-    tape.text = memory(needed.text);
-    tape.status = list(parser, row, needed, &tape);
-    if (tape.room.nodes != needed.nodes || tape.room.text != needed.text) blame(wrong, call, " is wrong with just enough room");
     return tape;
 }
 
-static int print(simd_json_parser *parser, bool is_pretty, const struct row *row, struct print *text, size_t *needed) {
-    void *copy = copy_of(&row->input), *out = text->text.at;
-    size_t len = row->input.len, out_len = text->text.len;
+static int print(simd_json_parser *parser, uint32_t layout, const struct row *row, const struct bytes *pointer, struct print *text,
+                 size_t *needed) {
+    void *copy = copy_of(row->input.at, row->input.len);
     *needed = NOT_WRITTEN;
     text->place = (simd_json_place){NOT_WRITTEN, NOT_WRITTEN};
-    int status = parser ? (is_pretty ? simd_json_parser_pretty : simd_json_parser_compact)(parser, copy, len, out, out_len, needed,
-                                                                                           &text->place)
-                        : (is_pretty ? simd_json_pretty : simd_json_compact)(copy, len, row->limit, out, out_len, needed, &text->place);
+    int status = simd_json_parser_print(parser, copy, row->input.len, pointer->at, pointer->len, layout, text->text.at, text->text.len,
+                                        needed, &text->place);
     free(copy);
     return status;
 }
 
-static const char *print_name(simd_json_parser *parser, bool is_pretty) {
-    if (parser) return is_pretty ? "simd_json_parser_pretty" : "simd_json_parser_compact";
-    return is_pretty ? "simd_json_pretty" : "simd_json_compact";
+static const char *print_name(uint32_t layout) {
+    return layout == SIMD_JSON_COMPACT ? "simd_json_parser_print (compact)" : "simd_json_parser_print (pretty)";
 }
 
 // Whether nothing is written from an index on.
@@ -197,12 +192,13 @@ static bool is_blank(const struct bytes *text, size_t from) {
 }
 
 // Into a few bytes, and then, where the text is longer, into one more than it has.
-static struct print print_of(simd_json_parser *parser, bool is_pretty, const struct row *row, struct bytes *wrong) {
-    const char *call = print_name(parser, is_pretty);
+static struct print print_of(simd_json_parser *parser, uint32_t layout, const struct row *row, const struct bytes *pointer,
+                             struct bytes *wrong) {
+    const char *call = print_name(layout);
     struct print text = {.text = {memory(FEW), FEW, FEW}};
     size_t needed, again;
     memset(text.text.at, NOT_WRITTEN, FEW);
-    text.status = print(parser, is_pretty, row, &text, &needed);
+    text.status = print(parser, layout, row, pointer, &text, &needed);
     bool is_printed = text.status == SIMD_JSON_OK, is_long = text.status == SIMD_JSON_TOO_LITTLE_ROOM;
     if (!is_blank(&text.text, is_printed ? needed : 0)) blame(wrong, call, " changed out");
     if (!is_printed && !is_long && needed != NOT_WRITTEN) blame(wrong, call, " changed *needed");
@@ -212,7 +208,7 @@ static struct print print_of(simd_json_parser *parser, bool is_pretty, const str
         free(text.text.at);
         text.text = (struct bytes){memory(needed + 1), needed + 1, needed + 1};
         memset(text.text.at, NOT_WRITTEN, needed + 1);
-        text.status = print(parser, is_pretty, row, &text, &again);
+        text.status = print(parser, layout, row, pointer, &text, &again);
         if (again != needed || !is_blank(&text.text, needed)) blame(wrong, call, " is wrong with enough room");
     }
     if (needed < text.text.len) text.text.len = needed;
@@ -281,7 +277,7 @@ static void put_tape(struct bytes *to, const struct tape *tape) {
         put_status(to, tape->status, tape->place);
         return;
     }
-    for (size_t i = 0; i < tape->room.nodes; i++) {
+    for (size_t i = 0; i < tape->nodes_len; i++) {
         if (i) put_text(to, ", ");
         put_node(to, &tape->nodes[i], tape->text);
     }
@@ -290,24 +286,24 @@ static void put_tape(struct bytes *to, const struct tape *tape) {
 // Whether the texts follow one another, and the fields of which nothing is said are 0.
 static bool is_tidy(const struct tape *tape) {
     size_t text = 0;
-    for (size_t i = 0; i < tape->room.nodes; i++) {
+    for (size_t i = 0; i < tape->nodes_len; i++) {
         const simd_json_node *node = &tape->nodes[i];
         bool is_text = node->kind >= SIMD_JSON_I128 && node->kind <= SIMD_JSON_STRING;
         bool is_container = node->kind == SIMD_JSON_ARRAY || node->kind == SIMD_JSON_OBJECT;
         if (!is_text && !is_container && node->len != 0) return false;
-        if (is_text && (node->value != text || node->len > tape->room.text - text)) return false;
+        if (is_text && (node->value != text || node->len > tape->text_len - text)) return false;
         if (is_text) text += node->len;
         if (node->kind == SIMD_JSON_NULL && node->value != 0) return false;
         if (node->kind == SIMD_JSON_BOOL && node->value > 1) return false;
     }
-    return text == tape->room.text;
+    return text == tape->text_len;
 }
 
 // Whether two tapes are of equal values: 0 is printed without a sign.
 static bool is_equal(const struct tape *a, const struct tape *b) {
-    if (a->room.nodes != b->room.nodes || a->room.text != b->room.text) return false;
-    if (a->room.text && memcmp(a->text, b->text, a->room.text) != 0) return false;
-    for (size_t i = 0; i < a->room.nodes; i++) {
+    if (a->nodes_len != b->nodes_len || a->text_len != b->text_len) return false;
+    if (a->text_len && memcmp(a->text, b->text, a->text_len) != 0) return false;
+    for (size_t i = 0; i < a->nodes_len; i++) {
         const simd_json_node *m = &a->nodes[i], *n = &b->nodes[i];
         bool is_zero = m->kind == SIMD_JSON_I64 && m->value == 0 && n->kind == SIMD_JSON_U64;
         if (!is_zero && m->kind != n->kind) return false;
@@ -317,8 +313,8 @@ static bool is_equal(const struct tape *a, const struct tape *b) {
 }
 
 static bool is_same_tape(const struct tape *a, const struct tape *b) {
-    if (a->room.nodes != b->room.nodes || !is_equal(a, b)) return false;
-    for (size_t i = 0; i < a->room.nodes; i++)
+    if (!is_equal(a, b)) return false;
+    for (size_t i = 0; i < a->nodes_len; i++)
         if (a->nodes[i].kind != b->nodes[i].kind) return false;
     return true;
 }
@@ -331,14 +327,17 @@ static void compare(struct bytes *wrong, const struct tape *tape, const char *ca
     put_status(wrong, status, place);
 }
 
+// The pointer that names the whole document.
+static const struct bytes whole;
+
 // A document is printed, and read again as an equal value.
-static void compare_print(struct bytes *wrong, const struct tape *tape, const struct row *row, simd_json_parser *parser, bool is_pretty) {
-    const char *call = print_name(parser, is_pretty);
-    struct print text = print_of(parser, is_pretty, row, wrong);
+static void compare_print(struct bytes *wrong, const struct tape *tape, const struct row *row, simd_json_parser *parser, uint32_t layout) {
+    const char *call = print_name(layout);
+    struct print text = print_of(parser, layout, row, &whole, wrong);
     compare(wrong, tape, call, text.status, text.place);
     if (text.status == SIMD_JSON_OK && tape->status == SIMD_JSON_OK) {
         struct row printed = {text.text, row->limit};
-        struct tape again = tape_of(0, &printed, wrong);
+        struct tape again = tape_of(new_parser(&printed), &printed, wrong);
         if (again.status != SIMD_JSON_OK || !is_equal(tape, &again)) {
             blame(wrong, "printed by ", call);
             put_text(wrong, " and read again: ");
@@ -349,58 +348,33 @@ static void compare_print(struct bytes *wrong, const struct tape *tape, const st
     free(text.text.at);
 }
 
-// What the parser lends, which is its own.
-static struct tape lent_of(simd_json_parser *parser, const struct row *row, struct bytes *wrong) {
-    void *copy = copy_of(&row->input);
-    simd_json_document lent = {0, NOT_WRITTEN, 0, NOT_WRITTEN};
-    struct tape tape = {.place = {NOT_WRITTEN, NOT_WRITTEN}};
-    tape.status = simd_json_parser_parse(parser, copy, row->input.len, &lent, &tape.place);
-    free(copy);
-    bool is_same = lent.nodes_len == NOT_WRITTEN && lent.text_len == NOT_WRITTEN && !lent.nodes && !lent.text;
-    if (tape.status != SIMD_JSON_OK && !is_same) blame(wrong, "simd_json_parser_parse", " changed *document");
-    tape.room = (simd_json_room){lent.nodes_len, lent.text_len};
-    tape.nodes = (simd_json_node *)lent.nodes;
-    tape.text = (unsigned char *)lent.text;
-    return tape;
-}
-
+// By each call, of a new parser and of one that is kept.
 static void answer_parse(struct bytes *to, const struct row *row, simd_json_parser *parser) {
-    struct bytes wrong = {0}, by_parser = {0};
-    struct tape tape = tape_of(0, row, &wrong), kept = tape_of(parser, row, &wrong);
-    size_t before = to->len;
+    struct bytes wrong = {0};
+    struct tape tape = tape_of(new_parser(row), row, &wrong), kept = tape_of(parser, row, &wrong);
     put_tape(to, &tape);
-    put_tape(&by_parser, &kept);
-    if (!is_same(&by_parser, &(struct bytes){to->at + before, to->len - before, 0})) {
-        blame(to, "by simd_json_parser_tape: ", "");
-        put(to, by_parser.at, by_parser.len);
-    }
-    if (tape.status == SIMD_JSON_OK && !is_tidy(&tape)) blame(&wrong, "simd_json_tape", " has wrong fields");
-    if (kept.status == SIMD_JSON_OK && !is_tidy(&kept)) blame(&wrong, "simd_json_parser_tape", " has wrong fields");
-    struct tape lent = lent_of(parser, row, &wrong);
-    compare(&wrong, &tape, "simd_json_parser_parse", lent.status, lent.place);
-    if (lent.status == SIMD_JSON_OK && (!is_tidy(&lent) || !is_same_tape(&tape, &lent)))
-        blame(&wrong, "simd_json_parser_parse", " lends another tape");
-    simd_json_place place = {NOT_WRITTEN, NOT_WRITTEN};
-    int status = check(0, row, &place);
+    compare(&wrong, &tape, "simd_json_parser_parse, kept", kept.status, kept.place);
+    if (tape.status == SIMD_JSON_OK && !is_tidy(&tape)) blame(&wrong, "simd_json_parser_parse", " has wrong fields");
+    if (kept.status == SIMD_JSON_OK && !is_same_tape(&tape, &kept)) blame(&wrong, "simd_json_parser_parse", " lends another tape, kept");
+    simd_json_place place;
+    int status = check(0, row, &place, &wrong);
     compare(&wrong, &tape, "simd_json_check", status, place);
-    place = (simd_json_place){NOT_WRITTEN, NOT_WRITTEN};
-    status = check(parser, row, &place);
+    status = check(parser, row, &place, &wrong);
     compare(&wrong, &tape, "simd_json_parser_check", status, place);
-    for (int is_pretty = 0; is_pretty < 2; is_pretty++) {
-        compare_print(&wrong, &tape, row, 0, is_pretty);
-        compare_print(&wrong, &tape, row, parser, is_pretty);
+    for (uint32_t layout = SIMD_JSON_COMPACT; layout <= SIMD_JSON_PRETTY; layout++) {
+        compare_print(&wrong, &tape, row, new_parser(row), layout);
+        compare_print(&wrong, &tape, row, parser, layout);
     }
     put(to, wrong.at, wrong.len);
     free_tape(&tape);
     free_tape(&kept);
     free(wrong.at);
-    free(by_parser.at);
 }
 
-static void answer_print(struct bytes *to, const struct row *row, simd_json_parser *parser, bool is_pretty) {
+static void answer_print(struct bytes *to, const struct row *row, simd_json_parser *parser, uint32_t layout) {
     struct bytes wrong = {0};
-    struct print text = print_of(0, is_pretty, row, &wrong), kept = print_of(parser, is_pretty, row, &wrong);
-    if (kept.status != text.status || !is_same(&kept.text, &text.text)) blame(&wrong, print_name(parser, is_pretty), " differs");
+    struct print text = print_of(new_parser(row), layout, row, &whole, &wrong), kept = print_of(parser, layout, row, &whole, &wrong);
+    if (kept.status != text.status || !is_same(&kept.text, &text.text)) blame(&wrong, print_name(layout), " differs, kept");
     free(kept.text.at);
     if (text.status != SIMD_JSON_OK || !is_nowhere(text.place))
         put_status(to, text.status, text.place);
@@ -415,7 +389,7 @@ static void answer_print(struct bytes *to, const struct row *row, simd_json_pars
 static void answer_indexes(struct bytes *to, const struct row *row) {
     size_t used = NOT_WRITTEN, again = NOT_WRITTEN;
     simd_json_place place = {NOT_WRITTEN, NOT_WRITTEN};
-    void *copy = copy_of(&row->input);
+    void *copy = copy_of(row->input.at, row->input.len);
     int status = simd_json_index(copy, row->input.len, 0, 0, &used, &place);
     if (status != SIMD_JSON_TOO_LITTLE_ROOM) {
         put_text(to, "none");
@@ -440,7 +414,7 @@ static void answer_locate(struct bytes *to, const struct row *row) {
     simd_json_place place;
     simd_json_position position = {NOT_WRITTEN, NOT_WRITTEN, NOT_WRITTEN}, again = position;
     size_t needed = NOT_WRITTEN, same = NOT_WRITTEN;
-    int status = check(0, row, &place);
+    int status = check(0, row, &place, to);
     int found = simd_json_location(row->input.at, row->input.len, status, &place, &position, 0, 0, &needed);
     if (status == SIMD_JSON_OK) {
         put_text(to, "none");
@@ -491,22 +465,16 @@ static void read_document(struct row row) {
     free_tape(&document);
     free(document_row.input.at);
     document_row = row;
-    document = tape_of(0, &row, &wrong);
-    if (document.status != SIMD_JSON_OK || wrong.len) stop("no document", "simd_json_tape");
+    document = tape_of(new_parser(&row), &row, &wrong);
+    if (document.status != SIMD_JSON_OK || wrong.len) stop("no document", "simd_json_parser_parse");
 }
 
 // The same value, or none, is printed by the parser from the bytes.
 static void compare_at(struct bytes *wrong, simd_json_parser *parser, const struct bytes *pointer, const struct bytes *wanted) {
-    void *copy = copy_of(&document_row.input), *out = memory(document_row.input.len);
-    size_t needed = NOT_WRITTEN;
-    simd_json_place place;
-    int status = simd_json_parser_compact_at(parser, copy, document_row.input.len, pointer->at, pointer->len, out,
-                                             document_row.input.len, &needed, &place);
-    bool is_right = wanted ? status == SIMD_JSON_OK && needed == wanted->len && memcmp(out, wanted->at, needed) == 0
-                           : status == SIMD_JSON_NO_VALUE && needed == NOT_WRITTEN;
-    if (!is_right || !is_nowhere(place)) blame(wrong, "simd_json_parser_compact_at", " differs");
-    free(copy);
-    free(out);
+    struct print text = print_of(parser, SIMD_JSON_COMPACT, &document_row, pointer, wrong);
+    bool is_right = wanted ? text.status == SIMD_JSON_OK && is_same(&text.text, wanted) : text.status == SIMD_JSON_NO_VALUE;
+    if (!is_right || !is_nowhere(text.place)) blame(wrong, "simd_json_parser_print", " differs");
+    free(text.text.at);
 }
 
 // The same value, or none, is found by the parser, as an input of its own with the same nodes.
@@ -526,7 +494,7 @@ static void compare_found(struct bytes *wrong, simd_json_parser *parser, const s
     } else {
         struct row row = {{out.at, found.len, found.len}, 1024};
         struct bytes shown = {0}, own = {0};
-        struct tape tape = tape_of(0, &row, wrong);
+        struct tape tape = tape_of(new_parser(&row), &row, wrong);
         put_value(&shown, &document, at);
         if (tape.status == SIMD_JSON_OK) put_value(&own, &tape, 0);
         if (!is_same(&shown, &own)) blame(wrong, "simd_json_parser_find", " differs");
@@ -539,8 +507,7 @@ static void compare_found(struct bytes *wrong, simd_json_parser *parser, const s
 
 // A row that says why a pointer leads nowhere keeps its answer, where none is found.
 static void answer_pointer(struct bytes *to, const struct bytes *pointer, simd_json_parser *parser, const char *wanted) {
-    size_t count = document.room.nodes;
-    size_t found = simd_json_pointer(document.nodes, count, document.text, document.room.text, 0, pointer->at, pointer->len);
+    size_t found = simd_json_pointer(document.nodes, document.nodes_len, document.text, document.text_len, 0, pointer->at, pointer->len);
     if (found != SIMD_JSON_NO_NODE) {
         struct bytes shown = {0}, text = {0};
         put_value(&shown, &document, found);
@@ -594,7 +561,7 @@ static void answer(const char *line, struct bytes *to, simd_json_parser *kept, s
         if (simd_json_open(other, row.limit) != SIMD_JSON_OK) stop("no parser", line);
         answer_parse(to, &row, other);
     } else {
-        answer_print(to, &row, kept, is_pretty);
+        answer_print(to, &row, kept, is_pretty ? SIMD_JSON_PRETTY : SIMD_JSON_COMPACT);
     }
     free(row.input.at);
 }
@@ -617,6 +584,7 @@ int main(void) {
     }
     simd_json_close(&kept);
     simd_json_close(&other);
+    simd_json_close(&unused);
     free_tape(&document);
     free(document_row.input.at);
     free(line);

@@ -137,6 +137,14 @@ static void name_their_place() {
         EXPECT(e.line() == 2 && e.column() == 2 && e.byte() == 3 && e.index() == 0
                && !e.character());
     }
+    try {
+        parser.parse("[1]\n[2]");
+        EXPECT(false);
+    } catch (const simd_json::error &e) {
+        EXPECT(e.line() == 2 && e.column() == 1 && e.byte() == 4 && e.index() == 2
+               && e.character() == ']');
+        EXPECT(e.reason() == "more text after the document");
+    }
     simd_json_place place;
     const int32_t status = parser.try_parse("[01]", place);
     const simd_json::error bare(status, place), located(status, place, "[01]");

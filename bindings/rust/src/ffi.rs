@@ -56,7 +56,7 @@ impl Document {
 extern "C" {
     fn simd_json_open(parser: *mut Parser, max_depth: usize) -> i32;
     fn simd_json_close(parser: *mut Parser);
-    fn simd_json_parser_check(parser: *mut Parser, input: *mut u8, len: usize, place: *mut Place) -> i32;
+    fn simd_json_parser_check(parser: *mut Parser, input: *const u8, len: usize, place: *mut Place) -> i32;
     fn simd_json_parser_parse(
         parser: *mut Parser,
         input: *mut u8,
@@ -158,15 +158,15 @@ impl Buffers {
         }
     }
 
-    /// Checks that the input is a document. It is overwritten.
+    /// Checks that the input is a document, and leaves it as it is.
     ///
     /// # Errors
     ///
     /// The first error of the input, with its kind, index and character.
-    pub fn check(&mut self, input: &mut [u8]) -> Result<(), Error> {
+    pub fn check(&mut self, input: &[u8]) -> Result<(), Error> {
         let mut place = Place { index: 0, character: u32::MAX };
-        // SAFETY: the parser is open, and the input is borrowed for writing until the call returns.
-        let status = unsafe { simd_json_parser_check(&mut self.parser, input.as_mut_ptr(), input.len(), &mut place) };
+        // SAFETY: the parser is open, and the input is borrowed until the call returns, which only reads it.
+        let status = unsafe { simd_json_parser_check(&mut self.parser, input.as_ptr(), input.len(), &mut place) };
         if status == 0 {
             Ok(())
         } else {

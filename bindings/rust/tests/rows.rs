@@ -123,11 +123,13 @@ fn judge_rows() {
             let (word, limit) = word.split_once(':').unwrap_or((word, "1024"));
             if word == "parse" {
                 let mut input = decoded(text.as_bytes());
-                let mut checked = input.clone();
                 let limit = limit.parse().unwrap();
+                let check = Buffers::with_max_depth(limit).unwrap().check(&input);
                 assert_eq!(answer(&mut input, limit), wanted, "{row}");
-                let check = Buffers::with_max_depth(limit).unwrap().check(&mut checked);
-                assert_eq!(check.is_ok(), !wanted.starts_with("! "), "{row}");
+                match check {
+                    Ok(()) => assert!(!wanted.starts_with("! "), "{row}"),
+                    Err(error) => assert_eq!(shown(&format!("! {error}")), wanted, "{row}"),
+                }
                 judged += 1;
             }
             if word == "pointer" {
@@ -219,6 +221,18 @@ fn buffers_are_kept() {
     }
     assert!(buffers.parse(&mut b"[".to_vec()).is_err());
     assert_eq!(buffers.parse(&mut b"[null]".to_vec()).unwrap().node_count(), 2);
+}
+
+#[test]
+fn a_check_leaves_its_input() {
+    // These are in memory that can't be written.
+    const TEXTS: [&[u8]; 3] = [br#"["\u0041\n"]"#, br#"["\u0041\n",]"#, br#"["\x"]"#];
+    let mut buffers = Buffers::new().unwrap();
+    for _ in 0..2 {
+        let found = TEXTS.map(|text| buffers.check(text).err().map(|error| (error.error(), error.index())));
+        let wanted = [None, Some((ErrorType::InternalError, 12)), Some((ErrorType::InvalidEscape, 2))];
+        assert_eq!(found, wanted);
+    }
 }
 
 #[test]
