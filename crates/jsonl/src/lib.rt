@@ -10,16 +10,17 @@
 //!
 //! ```
 //! use jsonl::{Channel, Failure, Lines, Step};
-//! use std::io::Read;
 //!
 //! // The number of lines, of at most 100 bytes each, that are empty.
-//! fn empty_lines<R: Read>(rt: &impl AllocGlobal, reader: R) -> Result<u64, Failure> {
-//!     let (mut reader, mut lines) = (Channel::new(reader), Lines::new(100));
+//! fn empty_lines(rt: &impl AllocGlobal, input: &[u8]) -> Result<u64, Failure> {
+//!     let (mut reader, mut lines) = (Channel::new(input), Lines::new(100));
 //!     let mut line = Vec::with_capacity(rt.alloc(), 101)?;
 //!     let mut count = 0u64;
 //!     for _ in 0..u64::MAX {
 //!         let step = lines.next(&mut reader, &mut line)?;
-//!         count = count.saturating_add(u64::from(step != Step::Block && line.is_empty()));
+//!         if step != Step::Block && line.is_empty() {
+//!             count = count.saturating_add(1);
+//!         }
 //!         if step == Step::End {
 //!             return Ok(count);
 //!         }

@@ -70,3 +70,25 @@ fn ends_have_statuses(rt: HostRuntime) {
         (3, Some("out of memory"))
     );
 }
+
+// The example of the crate's page: the number of lines that are empty.
+fn empty_lines(rt: &impl AllocGlobal, input: &[u8]) -> Result<u64, Failure> {
+    let (mut reader, mut lines) = (Channel::new(input), Lines::new(100));
+    let mut line = Vec::with_capacity(rt.alloc(), 101)?;
+    let mut count = 0u64;
+    for _ in 0..u64::MAX {
+        let step = lines.next(&mut reader, &mut line)?;
+        if step != Step::Block && line.is_empty() {
+            count = count.saturating_add(1);
+        }
+        if step == Step::End {
+            return Ok(count);
+        }
+    }
+    Err(Failure::Resources)
+}
+
+#[test]
+fn empty_lines_are_counted(rt: HostRuntime) {
+    assert_eq!(rt; empty_lines(&rt, b"a\n\n\nb\n"), Ok(3));
+}
