@@ -327,6 +327,8 @@ TASKS = {
 
 
 def main():
+    if len(sys.argv) < 2 or sys.argv[1].startswith("-"):
+        sys.exit("usage: texts.py FOLDER [FILE..]")
     folder = Path(sys.argv[1])
     for name in ("kinds", "varied", "sizes", "lines", "tasks"):
         (folder / name).mkdir(parents=True, exist_ok=True)
