@@ -153,7 +153,8 @@ impl<A: Allocator> Buffers<A> {
     // Empties what is listed, and keeps its capacity.
     pub(crate) fn clear(&mut self)
         ensures { self.new ≡ record self.old {
-            index = record self.old.index { listed = []; escapes = []; }; } }
+          index = record self.old.index { listed = []; escapes = [] };
+        } }
     {
         self.index.clear();
     }

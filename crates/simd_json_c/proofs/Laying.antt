@@ -75,7 +75,6 @@ nodes-set start (n ∷ ns) zero y d node is header same =
 nodes-set start (n ∷ ns) (suc i) y d node is header same =
     ap (λ r. cut_of start n ∷ r) (nodes-set (start + length (text_of n)) ns i y d node is header same)
 
-
 -- ---- the items of texts and headers
 
 pub header_of-header : (c : Container) (len count : ℕ) → is_header (header_of c len count) ≡ true
@@ -84,4 +83,3 @@ header_of-header Object len count = refl
 
 pub header_of-text : (c : Container) (len count : ℕ) → text_of (header_of c len count) ≡ []
 header_of-text c len count = header-text (header_of c len count) (header_of-header c len count)
-

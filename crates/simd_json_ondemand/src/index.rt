@@ -70,8 +70,9 @@ impl<A: Allocator> Index<A> {
     pub fn reserve(&mut self, input_len: usize) -> Result<()>
         ensures reserved { OnOk result (capped input_len ≤ capacity self.new) }
         ensures exact { OnOk result (self.new ≡ record self.old {
-            indexes = max self.old.indexes (capped input_len);
-            blocks = max self.old.blocks (blocks_in (capped input_len)); }) }
+          indexes = max self.old.indexes (capped input_len);
+          blocks = max self.old.blocks (blocks_in (capped input_len));
+        }) }
         ensures kept { KeepsCapacities self.old self.new }
         ensures same { (self.new.listed ≡ self.old.listed)
             × (self.new.escapes ≡ self.old.escapes) }

@@ -42,18 +42,20 @@ impl Route<'_> {
     }
 }
 
-// How far the machine is. The first two fields lie as in `Fault`: a `Result` of both shares
-// registers.
+// How far the machine is. A word and two bytes are first, as in `Fault`: a `Result` of both shares
+// registers. The word is `read`, and not an index, which is loaded from 32 bits: in a `Result` of an
+// enum that holds this, the compiler takes the first word apart, and can put together again only
+// what it has as a whole.
 #[derive(Clone, Copy, Drop)]
 pub(crate) struct Progress {
-    // the byte index of the last token in the input
-    pub(crate) at: usize,
-    // its first byte
+    // how many structural indexes were read: the place of the next one in the list
+    pub(crate) read: usize,
+    // the first byte of the last token
     pub(crate) byte: u8,
     // the kind of the innermost open container; if none is open, `Array`
     pub(crate) container: Container,
-    // how many structural indexes were read: the place of the next one in the list
-    pub(crate) read: usize,
+    // the byte index of that token in the input
+    pub(crate) at: usize,
     // how many containers are open
     pub(crate) depth: usize,
     // how many members of the innermost container were read; if none is open, 1 after the root,
