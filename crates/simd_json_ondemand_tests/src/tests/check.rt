@@ -197,15 +197,29 @@ fn checked_with(rt: &(impl AllocGlobal + Abort), depth: usize, left: usize) -> R
     let heap = LocalHeap::new(rt.alloc(), 1 << 16).expect(rt, MEMORY);
     let mut index = Index::new(&heap, input.len()).expect(rt, MEMORY);
     let full = super::memory::ballast(rt, &heap, left);
-    let used = heap.used();
     let answer = match index.check(&input, 1024) {
         Ok(_document) => Ok(()),
         Err(e) => Err(e),
     };
-    assert_eq!(rt; heap.used(), used);
+    if answer.is_ok() {
+        checks_again(rt, &mut index, &input, &heap);
+    }
     drop(full);
     assert_eq!(rt; index.check(&input, 1024).is_ok(), true);
+    checks_again(rt, &mut index, &input, &heap);
     answer
+}
+
+// What a check has taken is kept: the same input is checked once more without an allocation.
+fn checks_again<'h>(
+    rt: &(impl AllocGlobal + Abort),
+    index: &mut Index<&'h LocalHeap>,
+    input: &[u8],
+    heap: &LocalHeap,
+) {
+    let used = heap.used();
+    assert_eq!(rt; index.check(input, 1024).is_ok(), true);
+    assert_eq!(rt; heap.used(), used);
 }
 
 // With 70 nested arrays the copy takes 140 bytes, and the stack 24 for each of 140 structural
