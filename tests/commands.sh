@@ -56,8 +56,8 @@ grep -oE '(^|`)(rt|make|sh) [a-z][a-z/_.-]*|`crates/simd_json[a-z_/]*[.]rt' "$ro
 [ ! -s "$room/absent" ] || { cat "$room/absent"; different=1; }
 
 # A paragraph of code is one line, without comments and imports. The program of the README's installation is run by install.sh.
-lines() { sed 's/^ *//; /^\/\//d; /^use /d; s/pub(super) //g' | awk -v RS= '{ gsub(/\n/, " "); print }'; }
-(cd "$top" && find crates -path '*/src/*tests/*.rt' -o -path '*/src/main.rt' | xargs cat) | lines > "$room/code"
+lines() { sed 's/^ *//; /^\/\//d; /^use /d; s/pub(super) //g; s/^pub fn /fn /' | awk -v RS= '{ gsub(/\n/, " "); print }'; }
+(cd "$top" && find crates -path '*/src/*tests/*.rt' -o -path '*/src/main.rt' -o -path '*/jsonl/src/command_line.rt' | xargs cat) | lines > "$room/code"
 for page in README.md docs/READING.md; do
     awk '/^```rust/ { inside = 1; next } /^```/ { inside = 0; print "" } inside' "$top/$page" |
         sed '/^\/\/! Prints/,/^}/d' | lines > "$room/blocks"
